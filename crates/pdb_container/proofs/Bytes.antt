@@ -1,0 +1,96 @@
+-- The file's bytes at places: of a slice, and of slices one after the other.
+use Rattle.std.proofs.Common.{◌≡◌, ℕ, zero, suc, ◌+◌, ◌<◌, ◌≤◌, Bool, true, false, cond, ltb, ◌&&◌, List, [], ◌++◌, length, get_or, take, drop, Result, Ok, Err, refl, sym, ap, ◌∙◌, append_assoc, arith}
+use Rattle.std.specs.Prelude.{map}
+use Rattle.std.specs.List.{range_with_len, list_all}
+use Rattle.std.specs.declared.io.ErrorKind.TheVariants.{UnexpectedEof}
+use Rattle.std.proofs.lemmas.Bool.{lt-ltb, le-ltb}
+use Rattle.std.proofs.lemmas.List.{append-nil, drop_more, drop_all, map-append}
+use Rattle.std.proofs.lemmas.List.Folds.{list_all-append}
+use Rattle.pdb_container.specs.Fault.{Fault}
+use Rattle.pdb_container.specs.Fault.{IoError}
+use Rattle.pdb_container.specs.declared.source.SourceSlice.{SourceSlice}
+use Rattle.pdb_container.specs.Fault.{◌>>=◌}
+use Rattle.pdb_container.specs.Places.{slice_places, places_of, bytes_at}
+
+abbrev below : List ℕ → ℕ → Bool
+below file at = ltb at (length file)
+
+abbrev byte : List ℕ → ℕ → ℕ
+byte file at = get_or file at 0
+
+pub and_false : (b : Bool) → (b && false) ≡ false
+and_false true = refl
+and_false false = refl
+
+all_below : (file : List ℕ) (a n : ℕ) → a + n ≤ length file → list_all (below file) (range_with_len a n) ≡ true
+all_below file a zero h = refl
+all_below file a (suc n) h = rw (lt-ltb a (length file) (omega arith), all_below file (a + 1) n (omega arith)) refl
+
+not_all_below : (file : List ℕ) (a n : ℕ) → length file < a + suc n → list_all (below file) (range_with_len a (suc n)) ≡ false
+not_all_below file a zero h = rw (le-ltb a (length file) (omega arith)) refl
+not_all_below file a (suc n) h = rw (not_all_below file (a + 1) n (omega arith)) (and_false (below file a))
+
+bytes_of_range : (file : List ℕ) (a n : ℕ) → a + n ≤ length file → map (byte file) (range_with_len a n) ≡ take n (drop a file)
+bytes_of_range file a zero h = refl
+bytes_of_range file a (suc n) h =
+    let e = drop_more file a 0 (omega arith) in
+    rw (e, bytes_of_range file (a + 1) n (omega arith)) refl
+
+pub bytes_at_none : (file : List ℕ) (a n : ℕ) → n ≡ 0 → bytes_at file (range_with_len a n) ≡ Ok []
+unfolding bytes_at
+bytes_at_none file a zero h = refl
+bytes_at_none file a (suc n) h = absurd cc
+
+pub bytes_at_range : (file : List ℕ) (a n : ℕ) → a + n ≤ length file → bytes_at file (range_with_len a n) ≡ Ok (take n (drop a file))
+unfolding bytes_at
+bytes_at_range file a n h = rw (all_below file a n h, bytes_of_range file a n h) refl
+
+pub bytes_at_past : (file : List ℕ) (a n : ℕ) → 0 < n → length file < a + n → bytes_at file (range_with_len a n) ≡ Err (IoError UnexpectedEof)
+unfolding bytes_at
+bytes_at_past file a zero p h = absurd (omega arith)
+bytes_at_past file a (suc n) p h = rw (not_all_below file a n h) refl
+
+abbrev joined : Result (List ℕ) Fault → Result (List ℕ) Fault → Result (List ℕ) Fault
+joined r s = r >>= λ x. s >>= λ y. Ok (x ++ y)
+
+both : (a b : Bool) (x y : List ℕ) (e : Fault) → cond (a && b) (Ok (x ++ y)) (Err e) ≡ joined (cond a (Ok x) (Err e)) (cond b (Ok y) (Err e))
+both true true x y e = refl
+both true false x y e = refl
+both false b x y e = refl
+
+pub bytes_at_append : (file xs ys : List ℕ) → bytes_at file (xs ++ ys) ≡ joined (bytes_at file xs) (bytes_at file ys)
+unfolding bytes_at
+bytes_at_append file xs ys =
+    rw (list_all-append (below file) xs ys, map-append (byte file) xs ys) (both (list_all (below file) xs) (list_all (below file) ys) (map (byte file) xs) (map (byte file) ys) (IoError UnexpectedEof))
+
+-- what was read before, and what is still read
+abbrev pub with_front : List ℕ → Result (List ℕ) Fault → Result (List ℕ) Fault
+with_front front read = read >>= λ y. Ok (front ++ y)
+
+pub regroup : (front x : List ℕ) (read : Result (List ℕ) Fault) → with_front front (joined (Ok x) read) ≡ with_front (front ++ x) read
+regroup front x (Ok y) = ap (λ (z : List ℕ). Ok z) (sym (append_assoc front x y))
+regroup front x (Err e) = refl
+
+slices_more : (file : List ℕ) (slices : List SourceSlice) (i : ℕ) (d : SourceSlice) → i < length slices
+    → bytes_at file (places_of (drop i slices)) ≡ joined (bytes_at file (slice_places (get_or slices i d))) (bytes_at file (places_of (drop (i + 1) slices)))
+slices_more file slices i d lt =
+    rw (drop_more slices i d lt) (bytes_at_append file (slice_places (get_or slices i d)) (places_of (drop (i + 1) slices)))
+
+pub goes_on : (file front part : List ℕ) (slices : List SourceSlice) (i : ℕ) (d : SourceSlice) → i < length slices
+    → bytes_at file (slice_places (get_or slices i d)) ≡ Ok part
+    → with_front front (bytes_at file (places_of (drop i slices))) ≡ bytes_at file (places_of slices)
+    → with_front (front ++ part) (bytes_at file (places_of (drop (i + 1) slices))) ≡ bytes_at file (places_of slices)
+goes_on file front part slices i d lt h so_far =
+    sym (regroup front part (bytes_at file (places_of (drop (i + 1) slices)))) ∙ sym (rw (slices_more file slices i d lt, h) refl) ∙ so_far
+
+pub ends : (file front : List ℕ) (slices : List SourceSlice) (i : ℕ) (d : SourceSlice) (e : Fault) → i < length slices
+    → bytes_at file (slice_places (get_or slices i d)) ≡ Err e
+    → with_front front (bytes_at file (places_of (drop i slices))) ≡ bytes_at file (places_of slices)
+    → bytes_at file (places_of slices) ≡ Err e
+ends file front slices i d e lt h so_far = sym so_far ∙ rw (slices_more file slices i d lt, h) refl
+
+pub is_done : (file front : List ℕ) (slices : List SourceSlice) (i : ℕ) → length slices ≤ i
+    → with_front front (bytes_at file (places_of (drop i slices))) ≡ bytes_at file (places_of slices)
+    → bytes_at file (places_of slices) ≡ Ok front
+unfolding bytes_at
+is_done file front slices i le so_far = sym so_far ∙ rw (drop_all i slices le) (ap (λ (z : List ℕ). Ok z) (append-nil front))

@@ -1,0 +1,25 @@
+-- What is outside one step is outside the whole.
+use Rattle.std.proofs.Common.{ℕ, ◌≤◌, arith}
+use Rattle.pdb_container.specs.declared.error.Error.{Error}
+use Rattle.pdb_container.specs.declared.error.Error.TheVariants.{OutOfMemory, IoError}
+use Rattle.pdb_container.specs.Fault.{HasRisen, IsOutside}
+
+pub outside_alone : (e : Error) (failed : Type 0) → IsOutside e ⊥ → IsOutside e failed
+outside_alone OutOfMemory failed h = tt
+outside_alone (IoError kind) failed h = absurd h.1
+outside_alone e failed h = absurd h
+
+pub outside_earlier : (e : Error) (a b c : ℕ) → b ≤ c → IsOutside e (HasRisen a b) → IsOutside e (HasRisen a c)
+outside_earlier OutOfMemory a b c le h = tt
+outside_earlier (IoError kind) a b c le h = (h.0, omega arith)
+outside_earlier e a b c le h = absurd h
+
+pub outside_later : (e : Error) (a b c : ℕ) → a ≤ b → IsOutside e (HasRisen b c) → IsOutside e (HasRisen a c)
+outside_later OutOfMemory a b c le h = tt
+outside_later (IoError kind) a b c le h = (h.0, omega arith)
+outside_later e a b c le h = absurd h
+
+pub outside_with : {S : Type 0} (count : S → ℕ) (before after : S) (e : Error) → IsOutside e (HasRisen (count before) (count after)) → IsOutside e ((last : S) × HasRisen (count before) (count last))
+outside_with count before after OutOfMemory h = tt
+outside_with count before after (IoError kind) h = (h.0, (after, h.1))
+outside_with count before after e h = absurd h

@@ -1,0 +1,116 @@
+-- The streams of a container, as a function of the file's bytes.
+use Rattle.std.specs.Prelude.{ℕ, ◌+◌, ◌*◌, ◌/◌, ◌&&◌, Bool, zero, suc, List, [], ◌∷◌, length, take, drop, map, min, slice_index, nat_lt, nat_le, nat_eq, ◌==◌, if◌then◌else◌, Option, Some, None, Result, Ok, Err}
+use Rattle.std.specs.List.{range_with_len, sum_by, starts_with}
+use Rattle.std.specs.Int.{w32, from_le_bytes, is_power_of_two, div_ceil}
+use Rattle.pdb_container.specs.Fault.{Fault}
+use Rattle.pdb_container.specs.Fault.{UnrecognizedFileFormat, InvalidPageSize, PageReferenceOutOfRange, StreamNotFound, UnexpectedEof}
+use Rattle.pdb_container.specs.declared.msf.TheConstants.{MAGIC, ABSENT, HEADER_SIZE, HEADER_VIEW}
+use Rattle.pdb_container.specs.Fault.{◌>>=◌}
+use Rattle.pdb_container.specs.Places.{bytes_at, page_places}
+
+-- an open container: its file, and how often the source failed
+pub record Container : Type 0 where
+  pub file : List ℕ
+  pub failures : ℕ
+
+-- what the header says
+pub record Layout : Type 0 where
+  pub page_size : ℕ
+  pub pages_used : ℕ
+  pub directory_size : ℕ
+  pub list_pages : List ℕ
+
+-- the number in the four bytes from a place on
+abbrev pub word_at : List ℕ → ℕ → ℕ
+word_at bytes at = from_le_bytes w32 (take 4 (drop at bytes))
+
+-- the first numbers that the bytes spell, by four bytes each
+unfoldable pub first_words : List ℕ → ℕ → List ℕ
+first_words bytes n = map (λ i. word_at bytes (4 * i)) (range_with_len 0 n)
+
+-- all of them; fewer than four bytes at the end are none
+abbrev pub words : List ℕ → List ℕ
+words bytes = first_words bytes (length bytes / 4)
+
+abbrev pub guard : Bool → Fault → Result (Unit {0}) Fault
+guard holds fault = if holds then Ok tt else Err fault
+
+abbrev pub refuse : Bool → Fault → Result (Unit {0}) Fault
+refuse wrong fault = if wrong then Err fault else Ok tt
+
+-- the first numbers as pages: the fault is the first that is missing or out of range
+abbrev pub pages_in : ℕ → ℕ → List ℕ → Result (List ℕ) Fault
+pages_in used zero numbers = Ok []
+pages_in used (suc n) [] = Err UnexpectedEof
+pages_in used (suc n) (page ∷ numbers) = do
+  in_range ← guard (nat_le 1 page && nat_le page used) (PageReferenceOutOfRange page)
+  others ← pages_in used n numbers
+  Ok (page ∷ others)
+
+abbrev pub IsPageSize : ℕ → Bool
+IsPageSize size = is_power_of_two size && (nat_le 0x100 size && nat_le size 0x800000)
+
+-- how many pages list those of the directory, by four bytes each
+abbrev pub list_count : ℕ → ℕ → ℕ
+list_count page_size directory_size = div_ceil (4 * div_ceil directory_size page_size) page_size
+
+-- what follows the header's numbers
+unfoldable pub behind_header : List ℕ → List ℕ
+behind_header front = drop HEADER_SIZE front
+
+-- the header, in the first 4096 bytes
+unfoldable pub header_in : List ℕ → Result Layout Fault
+header_in front = do
+  known ← guard (starts_with nat_eq front MAGIC) UnrecognizedFileFormat
+  sized ← guard (IsPageSize (word_at front 32)) (InvalidPageSize (word_at front 32))
+  list ← pages_in (word_at front 40) (list_count (word_at front 32) (word_at front 44)) (words (behind_header front))
+  Ok (record { page_size = word_at front 32; pages_used = word_at front 40; directory_size = word_at front 44; list_pages = list })
+
+-- the first bytes, which have to be there
+unfoldable pub front_in : List ℕ → Result (List ℕ) Fault
+front_in file = if nat_lt (length file) HEADER_VIEW then Err UnrecognizedFileFormat else Ok (take HEADER_VIEW file)
+
+unfoldable pub layout_of : List ℕ → Result Layout Fault
+layout_of file = do
+  front ← front_in file
+  header_in front
+
+-- the directory, as numbers
+unfoldable pub directory_of : Layout → List ℕ → Result (List ℕ) Fault
+directory_of h file = do
+  list ← bytes_at file (page_places h.page_size h.list_pages (4 * div_ceil h.directory_size h.page_size))
+  pages ← pages_in h.pages_used (div_ceil h.directory_size h.page_size) (words list)
+  bytes ← bytes_at file (page_places h.page_size pages h.directory_size)
+  Ok (words bytes)
+
+-- how many pages a stream has: an absent one has none
+abbrev pub page_count : ℕ → ℕ → ℕ
+page_count page_size size = if size == ABSENT then 0 else div_ceil size page_size
+
+-- The size and the pages of stream n, in the directory's numbers: a count, so many sizes, and then the
+-- page numbers of each stream in order.
+unfoldable pub place_in : ℕ → ℕ → ℕ → List ℕ → Result (ℕ × List ℕ) Fault
+place_in page_size used n [] = Err UnexpectedEof
+place_in page_size used n (count ∷ numbers) = do
+  known ← refuse (nat_le count n) (StreamNotFound n)
+  whole ← refuse (nat_lt (length numbers) count) UnexpectedEof
+  present ← refuse (slice_index numbers n == ABSENT) (StreamNotFound n)
+  pages ← pages_in used (page_count page_size (slice_index numbers n)) (drop (count + sum_by (page_count page_size) (take n numbers)) numbers)
+  Ok (slice_index numbers n, pages)
+
+abbrev pub at_most : Option ℕ → ℕ → ℕ
+at_most None size = size
+at_most (Some limit) size = min size limit
+
+-- the first bytes of stream n in a file with this header
+unfoldable pub stream_in : Layout → List ℕ → ℕ → Option ℕ → Result (List ℕ) Fault
+stream_in h file n limit = do
+  directory ← directory_of h file
+  found ← place_in h.page_size h.pages_used n directory
+  bytes_at file (page_places h.page_size found.1 (at_most limit found.0))
+
+-- the first bytes of stream n of a file
+unfoldable pub stream : List ℕ → ℕ → Option ℕ → Result (List ℕ) Fault
+stream file n limit = do
+  h ← layout_of file
+  stream_in h file n limit

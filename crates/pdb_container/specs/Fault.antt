@@ -1,0 +1,90 @@
+-- Faults: what an error of the system counts as, and when an answer is excused.
+use Rattle.std.specs.Prelude.{◌≡◌, ◌≢◌, ℕ, ◌+◌, ◌-◌, ◌^◌, ◌≤◌, ◌⊎◌, min, Result, Ok, Err}
+use Rattle.std.specs.declared.io.ErrorKind.{ErrorKind}
+use Rattle.std.specs.declared.io.ErrorKind.TheVariants as kinds
+use Rattle.std.specs.declared.io.Error as io
+use Rattle.std.specs.IoError.{error_kind}
+use Rattle.pdb_container.specs.declared.error.Error.{Error}
+use Rattle.pdb_container.specs.declared.error.Error.TheVariants as errors
+use Rattle.std.specs.Prelude.{List}
+
+pub data Fault : Type 0 where
+  UnrecognizedFileFormat : Fault
+  InvalidPageSize : ℕ → Fault
+  PageReferenceOutOfRange : ℕ → Fault
+  StreamNotFound : ℕ → Fault
+  InvalidStreamLength : List ℕ → Fault
+  IoError : ErrorKind → Fault
+  UnexpectedEof : Fault
+  TypeNotIndexed : ℕ → ℕ → Fault
+  StreamNameNotFound : Fault
+  UnimplementedFeature : List ℕ → Fault
+  GlobalSymbolsNotFound : Fault
+  SymbolTooShort : Fault
+  UnimplementedSymbolKind : ℕ → Fault
+  InvalidTypeInformationHeader : List ℕ → Fault
+  TypeTooShort : Fault
+  TypeNotFound : ℕ → Fault
+  UnexpectedNumericPrefix : ℕ → Fault
+  UnimplementedTypeKind : ℕ → Fault
+  UnimplementedFileChecksumKind : ℕ → Fault
+  InvalidFileChecksumOffset : ℕ → Fault
+  InvalidCompressedAnnotation : Fault
+  UnknownBinaryAnnotation : ℕ → Fault
+  NotACrossModuleRef : ℕ → Fault
+  CrossModuleRefNotFound : ℕ → Fault
+
+abbrev pub fault_of : Error → Fault
+fault_of errors.UnrecognizedFileFormat = UnrecognizedFileFormat
+fault_of (errors.InvalidPageSize a) = InvalidPageSize a
+fault_of (errors.PageReferenceOutOfRange a) = PageReferenceOutOfRange a
+fault_of (errors.StreamNotFound a) = StreamNotFound a
+fault_of (errors.InvalidStreamLength a) = InvalidStreamLength a.now
+fault_of (errors.IoError a) = IoError a
+fault_of errors.UnexpectedEof = UnexpectedEof
+fault_of (errors.TypeNotIndexed a b) = TypeNotIndexed a b
+fault_of errors.StreamNameNotFound = StreamNameNotFound
+fault_of (errors.UnimplementedFeature a) = UnimplementedFeature a.now
+fault_of errors.GlobalSymbolsNotFound = GlobalSymbolsNotFound
+fault_of errors.SymbolTooShort = SymbolTooShort
+fault_of (errors.UnimplementedSymbolKind a) = UnimplementedSymbolKind a
+fault_of (errors.InvalidTypeInformationHeader a) = InvalidTypeInformationHeader a.now
+fault_of errors.TypeTooShort = TypeTooShort
+fault_of (errors.TypeNotFound a) = TypeNotFound a
+fault_of (errors.UnexpectedNumericPrefix a) = UnexpectedNumericPrefix a
+fault_of (errors.UnimplementedTypeKind a) = UnimplementedTypeKind a
+fault_of (errors.UnimplementedFileChecksumKind a) = UnimplementedFileChecksumKind a
+fault_of (errors.InvalidFileChecksumOffset a) = InvalidFileChecksumOffset a
+fault_of errors.InvalidCompressedAnnotation = InvalidCompressedAnnotation
+fault_of (errors.UnknownBinaryAnnotation a) = UnknownBinaryAnnotation a
+fault_of (errors.NotACrossModuleRef a) = NotACrossModuleRef a
+fault_of (errors.CrossModuleRefNotFound a) = CrossModuleRefNotFound a
+fault_of errors.OutOfMemory = UnexpectedEof
+
+infixl 10 ◌>>=◌
+abbrev pub ◌>>=◌ : {F A B : Type 0} → Result A F → (A → Result B F) → Result B F
+(Ok x) >>= f = f x
+(Err e) >>= f = Err e
+
+-- want of memory is a fault of its own, whichever way it came
+abbrev pub error_of_kind : ErrorKind → Error
+error_of_kind kinds.OutOfMemory = errors.OutOfMemory
+error_of_kind kind = errors.IoError kind
+
+abbrev pub error_of : io.Error → Error
+error_of cause = error_of_kind (error_kind cause)
+
+-- a count of failures was raised, or stands at the end of its range
+abbrev pub HasRisen : ℕ → ℕ → Type 0
+HasRisen old new = min (old + 1) (2 ^ 64 - 1) ≤ new
+
+-- what the file does not decide: that memory was short, or that the source failed, which it has counted
+abbrev pub IsOutside : Error → Type 0 → Type 0
+IsOutside errors.OutOfMemory failed = Unit {0}
+IsOutside (errors.IoError kind) failed = (kind ≢ kinds.UnexpectedEof) × failed
+IsOutside e failed = ⊥
+
+-- What a call returned, seen by view, is what reading gives, unless what is outside stood in the way.
+abbrev pub Gives : {X Y : Type 0} → (X → Y) → Type 0 → Result X Error → Result Y Fault → Type 0
+Gives view failed (Ok x) read = read ≡ Ok (view x)
+Gives view failed (Err e) read = IsOutside e failed ⊎ (read ≡ Err (fault_of e))

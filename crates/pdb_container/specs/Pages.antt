@@ -1,0 +1,19 @@
+-- What a list of pages is seen as.
+use Rattle.std.specs.Prelude.{◌≢◌, ℕ, ◌+◌, ◌*◌, List, [], ◌∷◌}
+use Rattle.std.specs.List.{range_with_len}
+use Rattle.pdb_container.specs.declared.source.SourceSlice.{SourceSlice}
+
+-- the size of a page, and the places of the list's bytes in the file
+pub record Pages : Type 0 where
+  pub page_size : ℕ
+  pub places : List ℕ
+
+-- the places of a page's bytes
+abbrev pub page : ℕ → ℕ → List ℕ
+page size number = range_with_len (number * size) size
+
+-- no slice ends where the next begins
+abbrev pub AreApart : List SourceSlice → Type 0
+AreApart [] = Unit {0}
+AreApart (a ∷ []) = Unit {0}
+AreApart (a ∷ b ∷ slices) = (a.offset + a.size ≢ b.offset) × AreApart (b ∷ slices)

@@ -1,0 +1,422 @@
+//! Streams in the pages of a file.
+
+ghost use Rattle.std.specs.Prelude.{◌≡◌, ◌+◌, ◌*◌, ◌<◌, ◌≤◌, ◌^◌, ◌-◌, List, ℕ, map, length, vec_len, take, drop, IfOk, IfErr, IsOk, ◌⊎◌};
+ghost use Rattle.std.specs.List.{sum_by};
+ghost use Rattle.pdb_container.specs.Container.{words, word_at as word_in, header_in, front_in, behind_header as behind, pages_in, layout_of, directory_of, stream_in, stream, place_in, page_count, at_most, list_count as lists_for};
+ghost use Rattle.pdb_container.specs.Header.{layout, IsSound};
+ghost use Rattle.std.specs.declared.io.ErrorKind.TheVariants.{UnexpectedEof};
+ghost use Rattle.pdb_container.specs.Fault.{error_of, fault_of, IoError, Gives, HasRisen, IsOutside};
+ghost use Rattle.pdb_container.specs.Places.{bytes_at, page_places, IsPaged};
+
+use crate::error::{Error, Result};
+use crate::page_list::PageList;
+use crate::source::{ReadView, Source, SourceSlice};
+use std::alloc::Global;
+use std::io;
+use std::io::ErrorKind;
+use std::marker::{Model, PhantomData};
+
+pub const MAGIC: [u8; 32] = *b"Microsoft C/C++ MSF 7.00\r\n\x1aDS\0\0\0";
+
+/// The size of a stream that is not there.
+pub const ABSENT: u32 = 0xffff_ffff;
+
+/// How many bytes the header has before its list of pages.
+const HEADER_SIZE: usize = 52;
+
+/// How many bytes the header and its list of pages lie in.
+const HEADER_VIEW: usize = 4096;
+
+/// What the header says.
+#[derive(Debug, Drop)]
+pub struct Header {
+    page_size: u32,
+    pages_used: u32,
+    directory_size: u32,
+    list_pages: Vec<u32>,
+}
+
+/// A stream's bytes.
+#[derive(Debug, Drop)]
+pub struct Stream<'s> {
+    view: ReadView,
+    of: PhantomData<&'s ()>,
+}
+
+impl<'s> Model for Stream<'s> {
+    ghost Value = { List ℕ };
+
+    ghost view = { λ s. s.view };
+}
+
+impl<'s> Stream<'s> {
+    pub fn as_slice(&self) -> &[u8]
+        ensures { result.now ≡ self.now }
+    {
+        self.view.as_slice()
+    }
+}
+
+#[tactic(auto, using(crate::proofs::Words::words_none, crate::proofs::Words::words_more))]
+fn words_of(alloc: Global, bytes: &[u8]) -> Result<Vec<u32>>
+    ensures { Gives (λ v. v.items) ⊥ result (Ok (words bytes.now)) }
+{
+    let mut numbers = Vec::with_capacity(alloc, bytes.len() / 4)?;
+    for i in 0..bytes.len() / 4 {
+        numbers.push(word_at(bytes, 4 * i))?;
+    }
+    Ok(numbers)
+}
+
+/// The first `count` numbers, which have to be page numbers.
+#[tactic(auto, using(crate::proofs::Words::pages_start, crate::proofs::Words::pages_more, crate::proofs::Words::pages_missing, crate::proofs::Words::pages_wrong, crate::proofs::Words::pages_done))]
+fn pages_of(alloc: Global, used: u32, count: usize, numbers: &[u32]) -> Result<Vec<u32>>
+    ensures exact { Gives (λ v. v.items) ⊥ result (pages_in used count numbers.now) }
+    ensures len { IfOk result (λ v. vec_len v ≡ count) }
+{
+    let mut pages = Vec::new(alloc);
+    for i in 0..count {
+        if i >= numbers.len() {
+            return Err(Error::UnexpectedEof);
+        }
+        let page = numbers[i];
+        if page < 1 || used < page {
+            return Err(Error::PageReferenceOutOfRange(page));
+        }
+        pages.push(page)?;
+    }
+    Ok(pages)
+}
+
+/// The first `size` bytes of the pages.
+fn read_pages<S: Source>(
+    source: &mut S,
+    alloc: Global,
+    page_size: u32,
+    pages: &[u32],
+    size: usize,
+) -> Result<ReadView>
+    requires page_size { (0 < page_size) × (page_size ≤ 0x800000) }
+    requires enough { size ≤ length pages.now * page_size }
+    requires few { length pages.now < 2 ^ 32 }
+    ensures same { S.bytes source.new ≡ S.bytes source.old }
+    ensures counts { S.failures source.old ≤ S.failures source.new }
+    ensures exact { Gives (λ v. v) (HasRisen (S.failures source.old) (S.failures source.new)) result
+        (bytes_at (S.bytes source.old) (page_places page_size pages.now size)) }
+{
+    let list = list_of(alloc, page_size, pages, size)?;
+    Ok(source.view(alloc, list.source_slices())?)
+}
+
+#[tactic(auto, using(crate::proofs::Paging::page_places_at, crate::proofs::Paging::flat_more, crate::proofs::Paging::flat_front_len))]
+fn list_of(alloc: Global, page_size: u32, pages: &[u32], size: usize) -> Result<PageList>
+    requires page_size { (0 < page_size) × (page_size ≤ 0x800000) }
+    requires enough { size ≤ length pages.now * page_size }
+    requires few { length pages.now < 2 ^ 32 }
+    ensures { Gives (λ l. l) ⊥ result (Ok (record { page_size = page_size; places = page_places page_size pages.now size })) }
+{
+    let mut list = PageList::new(alloc, page_size as usize);
+    for page in pages {
+        list.push(*page)?;
+    }
+    list.truncate(size);
+    Ok(list)
+}
+
+fn pages_for(page_size: u32, size: u32) -> u32
+    requires { 0 < page_size }
+    ensures { result ≡ page_count page_size size }
+{
+    if size == ABSENT {
+        0
+    } else {
+        size.div_ceil(page_size)
+    }
+}
+
+/// The size and the pages of a stream, by the directory's numbers.
+#[tactic(auto, using(crate::proofs::Paging::pages_enough), unfolding(crate::specs::Container::place_in))]
+fn place_of(
+    alloc: Global,
+    page_size: u32,
+    used: u32,
+    directory: &[u32],
+    number: u32,
+) -> Result<(u32, Vec<u32>)>
+    requires { 0 < page_size }
+    ensures exact { Gives (λ found. (found.0, found.1.items)) ⊥ result (place_in page_size used number directory.now) }
+    ensures enough { IfOk result (λ found. found.0 ≤ vec_len found.1 * page_size) }
+    ensures few { IfOk result (λ found. vec_len found.1 < 2 ^ 32) }
+{
+    let Some((count, numbers)) = directory.split_first() else {
+        return Err(Error::UnexpectedEof);
+    };
+    if *count <= number {
+        return Err(Error::StreamNotFound(number));
+    }
+    if numbers.len() < *count as usize {
+        return Err(Error::UnexpectedEof);
+    }
+    let size = numbers[number as usize];
+    if size == ABSENT {
+        return Err(Error::StreamNotFound(number));
+    }
+    let own = numbers_of(page_size, numbers, *count, number);
+    let pages = pages_of(alloc, used, pages_for(page_size, size) as usize, own)?;
+    Ok((size, pages))
+}
+
+/// The page numbers from those of a stream on.
+fn numbers_of(page_size: u32, numbers: &[u32], count: u32, number: u32) -> &[u32]
+    requires size { 0 < page_size }
+    requires stream { number < count }
+    requires whole { count ≤ length numbers.now }
+    ensures { result.now ≡ drop (count + sum_by (page_count page_size) (take number numbers.now)) numbers.now }
+{
+    let before = pages_before(page_size, &numbers[..number as usize]);
+    let start = count as usize + before;
+    if start <= numbers.len() {
+        &numbers[start..]
+    } else {
+        &[]
+    }
+}
+
+/// How many pages these streams have.
+fn pages_before(page_size: u32, sizes: &[u32]) -> usize
+    requires size { 0 < page_size }
+    requires few { length sizes.now < 2 ^ 32 }
+    ensures sum { result ≡ sum_by (page_count page_size) sizes.now }
+    ensures bound { result ≤ 2 ^ 64 - 2 ^ 32 }
+{
+    let mut total = 0;
+    for size in sizes {
+        total += pages_for(page_size, *size) as usize;
+    }
+    total
+}
+
+/// The directory, as numbers.
+#[tactic(auto, using(crate::proofs::Paging::pages_enough, crate::proofs::Outside::outside_alone, crate::proofs::Outside::outside_earlier, crate::proofs::Outside::outside_later), unfolding(crate::specs::Container::directory_of))]
+fn read_directory<S: Source>(source: &mut S, alloc: Global, header: &Header) -> Result<Vec<u32>>
+    requires { IsSound (layout header.now) }
+    ensures same { S.bytes source.new ≡ S.bytes source.old }
+    ensures counts { S.failures source.old ≤ S.failures source.new }
+    ensures exact { Gives (λ v. v.items) (HasRisen (S.failures source.old) (S.failures source.new)) result
+        (directory_of (layout header.now) (S.bytes source.old)) }
+{
+    let count = header.directory_size.div_ceil(header.page_size) as usize;
+    let list = read_pages(
+        source,
+        alloc,
+        header.page_size,
+        header.list_pages.as_slice(),
+        4 * count,
+    )?;
+    let numbers = words_of(alloc, list.as_slice())?;
+    let pages = pages_of(alloc, header.pages_used, count, numbers.as_slice())?;
+    let directory = read_pages(
+        source,
+        alloc,
+        header.page_size,
+        pages.as_slice(),
+        header.directory_size as usize,
+    )?;
+    words_of(alloc, directory.as_slice())
+}
+
+#[tactic(auto, using(crate::proofs::Outside::outside_alone, crate::proofs::Outside::outside_earlier, crate::proofs::Outside::outside_later), unfolding(crate::specs::Container::stream_in))]
+fn read_stream<S: Source>(
+    source: &mut S,
+    alloc: Global,
+    header: &Header,
+    number: u32,
+    limit: Option<usize>,
+) -> Result<ReadView>
+    requires { IsSound (layout header.now) }
+    ensures same { S.bytes source.new ≡ S.bytes source.old }
+    ensures counts { S.failures source.old ≤ S.failures source.new }
+    ensures exact { Gives (λ v. v) (HasRisen (S.failures source.old) (S.failures source.new)) result
+        (stream_in (layout header.now) (S.bytes source.old) number limit) }
+{
+    let directory = read_directory(source, alloc, header)?;
+    let (size, pages) = place_of(
+        alloc,
+        header.page_size,
+        header.pages_used,
+        directory.as_slice(),
+        number,
+    )?;
+    let size = cut(limit, size as usize);
+    read_pages(source, alloc, header.page_size, pages.as_slice(), size)
+}
+
+fn cut(limit: Option<usize>, size: usize) -> usize
+    ensures cut { result ≡ at_most limit size }
+    ensures bound { result ≤ size }
+{
+    match limit {
+        None => size,
+        Some(limit) => limit.min(size),
+    }
+}
+
+#[tactic(auto, using(crate::proofs::Paging::pages_enough, crate::proofs::Outside::outside_alone), unfolding(crate::specs::Container::header_in))]
+fn header_of(alloc: Global, front: &[u8]) -> Result<Header>
+    requires { length front.now ≡ HEADER_VIEW }
+    ensures exact { Gives layout ⊥ result (header_in front.now) }
+    ensures sound { IfOk result (λ h. IsSound (layout h)) }
+{
+    if !front.starts_with(&MAGIC) {
+        return Err(Error::UnrecognizedFileFormat);
+    }
+    let page_size = word_at(front, 32);
+    let pages_used = word_at(front, 40);
+    let directory_size = word_at(front, 44);
+    if !page_size.is_power_of_two() || page_size < 0x100 || page_size > 0x80_0000 {
+        return Err(Error::InvalidPageSize(page_size));
+    }
+    let numbers = words_of(alloc, behind_header(front))?;
+    let count = list_count(page_size, directory_size);
+    let list_pages = pages_of(alloc, pages_used, count, numbers.as_slice())?;
+    Ok(Header {
+        page_size,
+        pages_used,
+        directory_size,
+        list_pages,
+    })
+}
+
+#[tactic(auto, unfolding(crate::specs::Container::behind_header))]
+fn behind_header(front: &[u8]) -> &[u8]
+    requires { HEADER_SIZE ≤ length front.now }
+    ensures { result.now ≡ behind front.now }
+{
+    rest_from(front, HEADER_SIZE)
+}
+
+fn rest_from(bytes: &[u8], at: usize) -> &[u8]
+    requires { at ≤ length bytes.now }
+    ensures { result.now ≡ drop at bytes.now }
+{
+    &bytes[at..]
+}
+
+fn list_count(page_size: u32, directory_size: u32) -> usize
+    requires { 0x100 ≤ page_size }
+    ensures { result ≡ lists_for page_size directory_size }
+{
+    (4 * directory_size.div_ceil(page_size)).div_ceil(page_size) as usize
+}
+
+fn word_at(bytes: &[u8], at: usize) -> u32
+    requires { at + 4 ≤ length bytes.now }
+    ensures { result ≡ word_in bytes.now at }
+{
+    u32::from_le_bytes([bytes[at], bytes[at + 1], bytes[at + 2], bytes[at + 3]])
+}
+
+/// The first bytes of a source.
+#[tactic(auto, using(crate::proofs::First::first_is, crate::proofs::First::first_len, crate::proofs::First::first_on))]
+fn read_first<S: Source>(source: &mut S, alloc: Global, size: usize) -> io::Result<ReadView>
+    requires { 0 < size }
+    ensures same { S.bytes source.new ≡ S.bytes source.old }
+    ensures ok { IfOk result (λ v. (size ≤ length (S.bytes source.old)) × (v ≡ take size (S.bytes source.old))) }
+    ensures len { IfOk result (λ v. length v ≡ size) }
+    ensures counts { S.failures source.old ≤ S.failures source.new }
+    ensures err { IfErr result (λ e. IsOutside (error_of e) (HasRisen (S.failures source.old) (S.failures source.new))
+        ⊎ ((length (S.bytes source.old) < size) × (fault_of (error_of e) ≡ IoError UnexpectedEof))) }
+{
+    let slices = [SourceSlice { offset: 0, size }];
+    source.view(alloc, &slices)
+}
+
+#[tactic(auto, using(crate::proofs::First::not_past), unfolding(crate::specs::Container::front_in))]
+fn read_front<S: Source>(source: &mut S, alloc: Global) -> Result<ReadView>
+    ensures same { S.bytes source.new ≡ S.bytes source.old }
+    ensures counts { S.failures source.old ≤ S.failures source.new }
+    ensures exact { Gives (λ v. v) (HasRisen (S.failures source.old) (S.failures source.new)) result (front_in (S.bytes source.old)) }
+    ensures len { IfOk result (λ v. length v ≡ HEADER_VIEW) }
+{
+    match read_first(source, alloc, HEADER_VIEW) {
+        Ok(front) => Ok(front),
+        Err(cause) => match cause.kind() {
+            ErrorKind::UnexpectedEof => Err(Error::UnrecognizedFileFormat),
+            _ => Err(Error::from(cause)),
+        },
+    }
+}
+
+/// The streams of a container.
+pub trait Msf<'s, S: Source> {
+    ghost use Rattle.pdb_container.specs.Container.{Container};
+
+    /// The container's file, and how often its source failed.
+    ghost container: { Self → Container };
+
+    /// The first bytes of a stream. A call that is refused changes no later answer.
+    fn get(&mut self, alloc: Global, stream_number: u32, limit: Option<usize>) -> Result<Stream<'s>>
+        ensures same { (container self.new).file ≡ (container self.old).file }
+        ensures counts { (container self.old).failures ≤ (container self.new).failures }
+        ensures exact { Gives (λ s. s) (HasRisen (container self.old).failures (container self.new).failures) result
+            (stream (container self.old).file stream_number limit) };
+}
+
+/// An open container in the format with big pages.
+#[derive(Drop)]
+pub struct BigMSF<'s, S: Source> {
+    source: S,
+    header: Header,
+    of: PhantomData<&'s ()>,
+}
+
+impl<'s, S: Source> Model for BigMSF<'s, S> {
+    ghost use Rattle.std.specs.Prelude.{◌≡◌, Ok};
+    ghost use Rattle.pdb_container.specs.Container.{Container, layout_of};
+    ghost use Rattle.pdb_container.specs.Header.{layout, IsSound};
+
+    ghost Value = { Container };
+
+    ghost view = { λ m. record { file = S.bytes m.source; failures = S.failures m.source } };
+
+    ghost invariant = { λ m. (layout_of (S.bytes m.source) ≡ Ok (layout m.header)) × IsSound (layout m.header) };
+}
+
+impl<'s, S: Source> Msf<'s, S> for BigMSF<'s, S> {
+    ghost container = { λ m. m };
+
+    #[tactic(auto, unfolding(crate::specs::Container::stream))]
+    fn get(
+        &mut self,
+        alloc: Global,
+        stream_number: u32,
+        limit: Option<usize>,
+    ) -> Result<Stream<'s>> {
+        let view = read_stream(&mut self.source, alloc, &self.header, stream_number, limit)?;
+        Ok(Stream {
+            view,
+            of: PhantomData,
+        })
+    }
+}
+
+/// Opens a container.
+#[tactic(auto, using(crate::proofs::Outside::outside_alone, crate::proofs::Outside::outside_with), unfolding(crate::specs::Container::layout_of))]
+pub fn open_msf<'s, S: Source + Drop>(alloc: Global, mut source: S) -> Result<BigMSF<'s, S>>
+    ensures file { IfOk result (λ m. (m.file ≡ S.bytes source) × IsOk (layout_of m.file)) }
+    ensures err { IfErr result (λ e. IsOutside e ((after : S) × HasRisen (S.failures source) (S.failures after)) ⊎ (layout_of (S.bytes source) ≡ Err (fault_of e))) }
+{
+    let front = read_front(&mut source, alloc)?;
+    let header = header_of(alloc, front.as_slice())?;
+    Ok(BigMSF {
+        source,
+        header,
+        of: PhantomData,
+    })
+}
+
+/// Byte i of what the pages hold is the file's byte in page number i / size, at i % size.
+
+pub fn paged_law()
+    ensures { (file pages bytes : List ℕ) (size count : ℕ) → bytes_at file (page_places size pages count) ≡ Ok bytes → IsPaged file size pages count bytes }
+{}
