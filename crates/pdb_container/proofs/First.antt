@@ -46,13 +46,13 @@ pub first_len : (file v : List ℕ) (size : ℕ) → 0 < size → bytes_at file 
 first_len file v size pos e = let h = first_is file v size pos e in rw (h.1) (omega (arith, length-take size file, h.0))
 
 pub first_err : (file : List ℕ) (size : ℕ) (e : Error) (failed : Type 0) → 0 < size
-  → (IsOutside e failed ⊎ (bytes_at file (places_of (first size)) ≡ Err (fault_of e)))
-  → (IsOutside e failed ⊎ ((length file < size) × (fault_of e ≡ IoError kinds.UnexpectedEof)))
+    → (IsOutside e failed ⊎ (bytes_at file (places_of (first size)) ≡ Err (fault_of e)))
+    → (IsOutside e failed ⊎ ((length file < size) × (fault_of e ≡ IoError kinds.UnexpectedEof)))
 first_err file size e failed pos (inl h) = inl h
 first_err file size e failed pos (inr h) = inr (first_fault file size (fault_of e) pos h)
 
 pub first_on : {X : Type 0} (file : List ℕ) (size : ℕ) (failed : Type 0) (r : Result X io.Error) → 0 < size
-  → IfErr r (λ e. IsOutside (error_of e) failed ⊎ (bytes_at file (places_of (first size)) ≡ Err (fault_of (error_of e))))
-  → IfErr r (λ e. IsOutside (error_of e) failed ⊎ ((length file < size) × (fault_of (error_of e) ≡ IoError kinds.UnexpectedEof)))
+    → IfErr r (λ e. IsOutside (error_of e) failed ⊎ (bytes_at file (places_of (first size)) ≡ Err (fault_of (error_of e))))
+    → IfErr r (λ e. IsOutside (error_of e) failed ⊎ ((length file < size) × (fault_of (error_of e) ≡ IoError kinds.UnexpectedEof)))
 first_on file size failed (Ok x) pos h = tt
 first_on file size failed (Err e) pos h = first_err file size (error_of e) failed pos h

@@ -7,17 +7,18 @@ use Rattle.std.specs.IoError.{error_kind}
 use Rattle.pdb_container.specs.declared.error.Error.{Error}
 use Rattle.pdb_container.specs.declared.error.Error.TheVariants as errors
 use Rattle.std.specs.Prelude.{List}
+use Rattle.pdb_container.specs.declared.error.ModuleFault.{ModuleFault}
 
+-- a fault of a definition: one for each variant of the crate's error but want of memory, which is in no definition
 pub data Fault : Type 0 where
   UnrecognizedFileFormat : Fault
   InvalidPageSize : ℕ → Fault
   PageReferenceOutOfRange : ℕ → Fault
   StreamNotFound : ℕ → Fault
+  StreamNameNotFound : Fault
   InvalidStreamLength : List ℕ → Fault
   IoError : ErrorKind → Fault
   UnexpectedEof : Fault
-  TypeNotIndexed : ℕ → ℕ → Fault
-  StreamNameNotFound : Fault
   UnimplementedFeature : List ℕ → Fault
   GlobalSymbolsNotFound : Fault
   SymbolTooShort : Fault
@@ -25,6 +26,7 @@ pub data Fault : Type 0 where
   InvalidTypeInformationHeader : List ℕ → Fault
   TypeTooShort : Fault
   TypeNotFound : ℕ → Fault
+  TypeNotIndexed : ℕ → ℕ → Fault
   UnexpectedNumericPrefix : ℕ → Fault
   UnimplementedTypeKind : ℕ → Fault
   UnimplementedFileChecksumKind : ℕ → Fault
@@ -33,17 +35,18 @@ pub data Fault : Type 0 where
   UnknownBinaryAnnotation : ℕ → Fault
   NotACrossModuleRef : ℕ → Fault
   CrossModuleRefNotFound : ℕ → Fault
+  Kept : ModuleFault → Fault
 
+-- what fault an error is; its value at want of memory is never used
 abbrev pub fault_of : Error → Fault
 fault_of errors.UnrecognizedFileFormat = UnrecognizedFileFormat
 fault_of (errors.InvalidPageSize a) = InvalidPageSize a
 fault_of (errors.PageReferenceOutOfRange a) = PageReferenceOutOfRange a
 fault_of (errors.StreamNotFound a) = StreamNotFound a
+fault_of errors.StreamNameNotFound = StreamNameNotFound
 fault_of (errors.InvalidStreamLength a) = InvalidStreamLength a.now
 fault_of (errors.IoError a) = IoError a
 fault_of errors.UnexpectedEof = UnexpectedEof
-fault_of (errors.TypeNotIndexed a b) = TypeNotIndexed a b
-fault_of errors.StreamNameNotFound = StreamNameNotFound
 fault_of (errors.UnimplementedFeature a) = UnimplementedFeature a.now
 fault_of errors.GlobalSymbolsNotFound = GlobalSymbolsNotFound
 fault_of errors.SymbolTooShort = SymbolTooShort
@@ -51,6 +54,7 @@ fault_of (errors.UnimplementedSymbolKind a) = UnimplementedSymbolKind a
 fault_of (errors.InvalidTypeInformationHeader a) = InvalidTypeInformationHeader a.now
 fault_of errors.TypeTooShort = TypeTooShort
 fault_of (errors.TypeNotFound a) = TypeNotFound a
+fault_of (errors.TypeNotIndexed a b) = TypeNotIndexed a b
 fault_of (errors.UnexpectedNumericPrefix a) = UnexpectedNumericPrefix a
 fault_of (errors.UnimplementedTypeKind a) = UnimplementedTypeKind a
 fault_of (errors.UnimplementedFileChecksumKind a) = UnimplementedFileChecksumKind a
@@ -59,6 +63,7 @@ fault_of errors.InvalidCompressedAnnotation = InvalidCompressedAnnotation
 fault_of (errors.UnknownBinaryAnnotation a) = UnknownBinaryAnnotation a
 fault_of (errors.NotACrossModuleRef a) = NotACrossModuleRef a
 fault_of (errors.CrossModuleRefNotFound a) = CrossModuleRefNotFound a
+fault_of (errors.Kept a) = Kept a
 fault_of errors.OutOfMemory = UnexpectedEof
 
 infixl 10 ◌>>=◌

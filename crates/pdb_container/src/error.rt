@@ -11,33 +11,75 @@ use std::{fmt, io};
 
 pub type Result<T> = std::result::Result<T, Error>;
 
+/// Why a call on a program database failed. It prints as its variant's name and, in parentheses, its
+/// values.
 #[derive(Clone, Copy, Debug, PartialEq, Eq)]
 pub enum Error {
+    /// The file's first 4096 bytes are not there, or don't begin with the magic of the format.
     UnrecognizedFileFormat,
+    /// The page size, which is no power of two from 0x100 to 0x800000.
     InvalidPageSize(u32),
+    /// A page number, which is not from 1 to the number of pages used.
     PageReferenceOutOfRange(u32),
+    /// The stream's number, at which the directory has no stream.
     StreamNotFound(u32),
-    InvalidStreamLength(&'static str),
-    IoError(ErrorKind),
-    UnexpectedEof,
-    TypeNotIndexed(u32, u32),
+    /// No stream has the name.
     StreamNameNotFound,
+    /// The stream's length is no multiple of its entries'; the text names the stream.
+    InvalidStreamLength(&'static str),
+    /// The source failed; `UnexpectedEof` where a page lies past its end.
+    IoError(ErrorKind),
+    /// Bytes end where more are needed.
+    UnexpectedEof,
+    /// The file uses what this reader leaves out; the text names it.
     UnimplementedFeature(&'static str),
+    /// The file has no symbol records.
     GlobalSymbolsNotFound,
+    /// A symbol's length leaves no room for its kind.
     SymbolTooShort,
+    /// The symbol's kind is iterated over, and not parsed.
     UnimplementedSymbolKind(u16),
+    /// The header of types or ids contradicts itself; the text says how.
     InvalidTypeInformationHeader(&'static str),
+    /// A type's or an id's length leaves no room for its leaf.
     TypeTooShort,
+    /// No type or id has the index.
     TypeNotFound(u32),
+    /// The index, which lies past the known blocks, and the first index that is not known.
+    TypeNotIndexed(u32, u32),
+    /// The prefix begins no number.
     UnexpectedNumericPrefix(u16),
+    /// The leaf is not parsed.
     UnimplementedTypeKind(u16),
+    /// The kind of a file's checksum is unknown.
     UnimplementedFileChecksumKind(u8),
+    /// The file index, which lies past the checksums.
     InvalidFileChecksumOffset(u32),
+    /// The byte begins no compressed number.
     InvalidCompressedAnnotation,
+    /// The opcode of an annotation is unknown.
     UnknownBinaryAnnotation(u32),
+    /// The index leads to no other module.
     NotACrossModuleRef(u32),
+    /// The module's imports lack the index.
     CrossModuleRefNotFound(u32),
+    /// The fault of a module's stream, which was kept when the module was read.
+    Kept(ModuleFault),
+    /// Memory was refused.
     OutOfMemory,
+}
+
+/// Why a module's stream can't be read, as it is kept for later calls.
+#[derive(Clone, Copy, Debug, PartialEq, Eq)]
+pub enum ModuleFault {
+    /// As the variant of [`Error`] of that name.
+    StreamNotFound(u32),
+    /// As the variant of [`Error`] of that name.
+    PageReferenceOutOfRange(u32),
+    /// As the variant of [`Error`] of that name.
+    IoError(ErrorKind),
+    /// As the variant of [`Error`] of that name.
+    UnexpectedEof,
 }
 
 impl fmt::Display for Error {
@@ -49,24 +91,24 @@ impl fmt::Display for Error {
     fn fmt<W: fmt::Write>(&self, f: &mut fmt::Formatter<W>) -> fmt::Result {
         match self {
             Error::UnrecognizedFileFormat => f.write_str("UnrecognizedFileFormat"),
-            Error::InvalidPageSize(size) => write!(f, "InvalidPageSize({size})"),
-            Error::PageReferenceOutOfRange(page) => write!(f, "PageReferenceOutOfRange({page})"),
-            Error::StreamNotFound(number) => write!(f, "StreamNotFound({number})"),
-            Error::InvalidStreamLength(what) => write!(f, "InvalidStreamLength({what})"),
+            Error::InvalidPageSize(value) => write!(f, "InvalidPageSize({value})"),
+            Error::PageReferenceOutOfRange(value) => write!(f, "PageReferenceOutOfRange({value})"),
+            Error::StreamNotFound(value) => write!(f, "StreamNotFound({value})"),
+            Error::StreamNameNotFound => f.write_str("StreamNameNotFound"),
+            Error::InvalidStreamLength(text) => write!(f, "InvalidStreamLength({text})"),
             Error::IoError(kind) => write!(f, "IoError({})", kind_name(*kind)),
             Error::UnexpectedEof => f.write_str("UnexpectedEof"),
-            Error::TypeNotIndexed(index, first) => write!(f, "TypeNotIndexed({index}, {first})"),
-            Error::StreamNameNotFound => f.write_str("StreamNameNotFound"),
-            Error::UnimplementedFeature(value) => write!(f, "UnimplementedFeature({value})"),
+            Error::UnimplementedFeature(text) => write!(f, "UnimplementedFeature({text})"),
             Error::GlobalSymbolsNotFound => f.write_str("GlobalSymbolsNotFound"),
             Error::SymbolTooShort => f.write_str("SymbolTooShort"),
             Error::UnimplementedSymbolKind(value) => write!(f, "UnimplementedSymbolKind({value})"),
-            Error::InvalidTypeInformationHeader(value) => write!(
+            Error::InvalidTypeInformationHeader(text) => write!(
                 f,
-                "InvalidTypeInformationHeader({value})"
+                "InvalidTypeInformationHeader({text})"
             ),
             Error::TypeTooShort => f.write_str("TypeTooShort"),
             Error::TypeNotFound(value) => write!(f, "TypeNotFound({value})"),
+            Error::TypeNotIndexed(index, first) => write!(f, "TypeNotIndexed({index}, {first})"),
             Error::UnexpectedNumericPrefix(value) => write!(f, "UnexpectedNumericPrefix({value})"),
             Error::UnimplementedTypeKind(value) => write!(f, "UnimplementedTypeKind({value})"),
             Error::UnimplementedFileChecksumKind(value) => write!(
@@ -81,12 +123,33 @@ impl fmt::Display for Error {
             Error::UnknownBinaryAnnotation(value) => write!(f, "UnknownBinaryAnnotation({value})"),
             Error::NotACrossModuleRef(value) => write!(f, "NotACrossModuleRef({value})"),
             Error::CrossModuleRefNotFound(value) => write!(f, "CrossModuleRefNotFound({value})"),
+            Error::Kept(fault) => write!(f, "Kept({fault})"),
             Error::OutOfMemory => f.write_str("OutOfMemory"),
         }
     }
 }
 
-fn kind_name(kind: ErrorKind) -> &'static str
+impl fmt::Display for ModuleFault {
+    ghost use Rattle.std.specs.Prelude.{Some};
+    ghost use Rattle.pdb_container.specs.ErrorText.{module_fault_text};
+
+    ghost output = { λ e. Some (module_fault_text e) };
+
+    fn fmt<W: fmt::Write>(&self, f: &mut fmt::Formatter<W>) -> fmt::Result {
+        match self {
+            ModuleFault::StreamNotFound(value) => write!(f, "StreamNotFound({value})"),
+            ModuleFault::PageReferenceOutOfRange(value) => write!(
+                f,
+                "PageReferenceOutOfRange({value})"
+            ),
+            ModuleFault::IoError(kind) => write!(f, "IoError({})", kind_name(*kind)),
+            ModuleFault::UnexpectedEof => f.write_str("UnexpectedEof"),
+        }
+    }
+}
+
+/// The name of a kind in a printed fault: six kinds have their own, every other is `Other`.
+pub fn kind_name(kind: ErrorKind) -> &'static str
     ensures { result.now ≡ kind_text kind }
 {
     match kind {

@@ -9,7 +9,7 @@ mod page_list;
 mod source;
 
 pub use buffer::ParseBuffer;
-pub use error::{Error, ModuleFault, Result};
+pub use error::{Error, ModuleFault, Result, kind_name};
 pub use msf::{BigMSF, Msf, Stream, open_msf};
 pub use page_list::PageList;
 pub use source::{ReadView, Source, SourceSlice};
