@@ -5,7 +5,7 @@ use Rattle.std.specs.Int.{w32, from_le_bytes, is_power_of_two, div_ceil}
 use Rattle.pdb_container.specs.Fault.{Fault}
 use Rattle.pdb_container.specs.Fault.{UnrecognizedFileFormat, InvalidPageSize, PageReferenceOutOfRange, StreamNotFound, UnexpectedEof}
 use Rattle.pdb_container.specs.declared.msf.TheConstants.{MAGIC, ABSENT, HEADER_SIZE, HEADER_VIEW}
-use Rattle.pdb_container.specs.Fault.{◌>>=◌}
+use Rattle.pdb_container.specs.Fault.{◌>>=◌, guard, refuse}
 use Rattle.pdb_container.specs.Places.{bytes_at, page_places}
 
 -- an open container: its file, and how often the source failed
@@ -31,12 +31,6 @@ first_words bytes n = map (λ i. word_at bytes (4 * i)) (range_with_len 0 n)
 -- all of them; fewer than four bytes at the end are none
 abbrev pub words : List ℕ → List ℕ
 words bytes = first_words bytes (length bytes / 4)
-
-abbrev pub guard : Bool → Fault → Result (Unit {0}) Fault
-guard holds fault = if holds then Ok tt else Err fault
-
-abbrev pub refuse : Bool → Fault → Result (Unit {0}) Fault
-refuse wrong fault = if wrong then Err fault else Ok tt
 
 -- the first numbers as pages: the fault is the first that is missing or out of range
 abbrev pub pages_in : ℕ → ℕ → List ℕ → Result (List ℕ) Fault

@@ -1,5 +1,5 @@
 -- Faults: what an error of the system counts as, and when an answer is excused.
-use Rattle.std.specs.Prelude.{◌≡◌, ◌≢◌, ℕ, ◌+◌, ◌-◌, ◌^◌, ◌≤◌, ◌⊎◌, min, Result, Ok, Err}
+use Rattle.std.specs.Prelude.{◌≡◌, ◌≢◌, ℕ, ◌+◌, ◌-◌, ◌^◌, ◌≤◌, ◌⊎◌, min, Bool, if◌then◌else◌, Result, Ok, Err}
 use Rattle.std.specs.declared.io.ErrorKind.{ErrorKind}
 use Rattle.std.specs.declared.io.ErrorKind.TheVariants as kinds
 use Rattle.std.specs.declared.io.Error as io
@@ -70,6 +70,14 @@ infixl 10 ◌>>=◌
 abbrev pub ◌>>=◌ : {F A B : Type 0} → Result A F → (A → Result B F) → Result B F
 (Ok x) >>= f = f x
 (Err e) >>= f = Err e
+
+-- a condition that has to hold, else the fault
+abbrev pub guard : {F : Type 0} → Bool → F → Result (Unit {0}) F
+guard holds fault = if holds then Ok tt else Err fault
+
+-- a condition that may not hold, else the fault
+abbrev pub refuse : {F : Type 0} → Bool → F → Result (Unit {0}) F
+refuse wrong fault = if wrong then Err fault else Ok tt
 
 -- want of memory is a fault of its own, whichever way it came
 abbrev pub error_of_kind : ErrorKind → Error

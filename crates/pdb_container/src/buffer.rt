@@ -1,119 +1,120 @@
 //! Bytes that are read in order.
 
-ghost use Rattle.std.specs.Prelude.{◌≡◌, ◌+◌, ◌-◌, ◌<◌, ◌≤◌, length, min, position, ◌==◌, IfSome};
+ghost use Rattle.std.specs.Prelude.{◌≡◌, ◌<◌, length, position, ◌==◌, IfSome, IsTrue, ◌↔◌};
 ghost use Rattle.std.specs.Int.{w8, w16, w32};
-ghost use Rattle.pdb_container.specs.Buffer.{Reads, bytes_of, number, cstring, aligned};
+ghost use Rattle.pdb_container.specs.Buffer.{Reads};
+ghost use Rattle.pdb_container.specs.Fields.{bytes_of, number_at, c_string_at, pascal_string_at};
 
 use crate::error::{Error, Result};
 use std::marker::Model;
 
-/// Bytes, and a position in them. A call that is refused keeps the position.
+/// Bytes that are read in order. A call that is refused leaves them as they were.
 #[derive(Debug, Drop)]
 pub struct ParseBuffer<'b> {
-    bytes: &'b [u8],
-    pos: usize,
+    rest: &'b [u8],
 }
 
 impl<'b> Model for ParseBuffer<'b> {
-    ghost use Rattle.std.specs.Prelude.{◌≤◌, length};
-    ghost use Rattle.pdb_container.specs.Buffer.{Buffer};
+    ghost use Rattle.std.specs.Prelude.{ℕ, List};
 
-    ghost Value = { Buffer };
+    ghost Value = { List ℕ };
 
-    ghost view = { λ b. record { bytes = b.bytes.now; pos = b.pos } };
-
-    ghost invariant = { λ b. b.pos ≤ length b.bytes.now };
+    ghost view = { λ b. b.rest.now };
 }
 
 impl<'b> From<&'b [u8]> for ParseBuffer<'b> {
-    ghost from_gives = { λ bytes b. b ≡ record { bytes = bytes.now; pos = 0 } };
+    ghost from_gives = { λ bytes b. b ≡ bytes.now };
 
     fn from(bytes: &'b [u8]) -> ParseBuffer<'b> {
-        ParseBuffer { bytes, pos: 0 }
+        ParseBuffer { rest: bytes }
     }
 }
 
 impl<'b> ParseBuffer<'b> {
-    pub fn pos(&self) -> usize
-        ensures { result ≡ self.now.pos }
-    {
-        self.pos
-    }
-
     /// How many bytes are left.
     pub fn len(&self) -> usize
-        ensures { result + self.now.pos ≡ length self.now.bytes }
+        ensures { result ≡ length self.now }
     {
-        self.bytes.len() - self.pos
+        self.rest.len()
     }
 
-    pub fn seek(&mut self, pos: usize)
-        ensures { self.new ≡ record self.old { pos = min pos (length self.old.bytes) } }
+    /// Whether no byte is left.
+    pub fn is_empty(&self) -> bool
+        ensures { IsTrue result ↔ (length self.now ≡ 0) }
     {
-        self.pos = pos.min(self.bytes.len());
+        self.rest.is_empty()
     }
 
+    /// The next `size` bytes; `UnexpectedEof` where fewer are left.
     pub fn take(&mut self, size: usize) -> Result<&'b [u8]>
-        ensures { Reads (λ part. part.now) result self.old self.new (bytes_of size) }
+        ensures { Reads (λ part. part.now) result self.old self.new (bytes_of size self.old) }
     {
-        if size > self.bytes.len() - self.pos {
+        if self.rest.len() < size {
             return Err(Error::UnexpectedEof);
         }
-        let start = self.pos;
-        self.pos += size;
-        Ok(&self.bytes[start..start + size])
+        let (part, rest) = self.rest.split_at(size);
+        self.rest = rest;
+        Ok(part)
     }
 
-    pub fn align(&mut self, to: usize) -> Result<()>
-        requires { 0 < to }
-        ensures { Reads (λ x. x) result self.old self.new (aligned to) }
-    {
-        let missing = match self.pos % to {
-            0 => 0,
-            past => to - past,
-        };
-        if missing > self.bytes.len() - self.pos {
-            return Err(Error::UnexpectedEof);
-        }
-        self.pos += missing;
-        Ok(())
-    }
-
+    /// The next byte as a number; `UnexpectedEof` where none is left.
     pub fn parse_u8(&mut self) -> Result<u8>
-        ensures { Reads (λ x. x) result self.old self.new (number w8) }
+        ensures { Reads (λ x. x) result self.old self.new (number_at w8 self.old) }
     {
         let part = self.take(1)?;
         Ok(part[0])
     }
 
+    /// The next two bytes as a number, the lowest first; `UnexpectedEof` where fewer are left.
     pub fn parse_u16(&mut self) -> Result<u16>
-        ensures { Reads (λ x. x) result self.old self.new (number w16) }
+        ensures { Reads (λ x. x) result self.old self.new (number_at w16 self.old) }
     {
         let part = self.take(2)?;
         Ok(u16::from_le_bytes([part[0], part[1]]))
     }
 
+    /// The next four bytes as a number, the lowest first; `UnexpectedEof` where fewer are left.
     pub fn parse_u32(&mut self) -> Result<u32>
-        ensures { Reads (λ x. x) result self.old self.new (number w32) }
+        ensures { Reads (λ x. x) result self.old self.new (number_at w32 self.old) }
     {
         let part = self.take(4)?;
         Ok(u32::from_le_bytes([part[0], part[1], part[2], part[3]]))
     }
 
+    /// The bytes before the next NUL, which is read too; `UnexpectedEof` where there is no NUL.
+    #[tactic(auto, unfolding(crate::specs::Fields::c_string_at))]
     pub fn parse_cstring(&mut self) -> Result<&'b [u8]>
-        ensures { Reads (λ text. text.now) result self.old self.new cstring }
+        ensures { Reads (λ text. text.now) result self.old self.new (c_string_at self.old) }
     {
-        let rest = &self.bytes[self.pos..];
+        let rest = self.rest;
         match nul_in(rest) {
+            None => Err(Error::UnexpectedEof),
             Some(end) => {
-                self.pos += end + 1;
+                self.rest = &rest[end + 1..];
                 Ok(&rest[..end])
             }
-            None => Err(Error::UnexpectedEof),
         }
+    }
+
+    /// A length in one byte and so many bytes; `UnexpectedEof` where any is missing.
+    #[tactic(auto, unfolding(crate::specs::Fields::pascal_string_at))]
+    pub fn parse_u8_pascal_string(&mut self) -> Result<&'b [u8]>
+        ensures { Reads (λ text. text.now) result self.old self.new (pascal_string_at self.old) }
+    {
+        let Some((count, bytes)) = self.rest.split_first() else {
+            return Err(Error::UnexpectedEof);
+        };
+        let count = usize::from(*count);
+        if bytes.len() < count {
+            return Err(Error::UnexpectedEof);
+        }
+        let (text, rest) = bytes.split_at(count);
+        self.rest = rest;
+        Ok(text)
     }
 }
 
+/// Where the first NUL is.
 fn nul_in(bytes: &[u8]) -> Option<usize>
     ensures value { result ≡ position (λ byte. byte == 0) bytes.now }
     ensures within { IfSome result (λ n. n < length bytes.now) }
