@@ -1,0 +1,5 @@
+pub mod Address
+pub mod Faults
+pub mod FaultText
+pub mod RunFaults
+pub mod Watched
