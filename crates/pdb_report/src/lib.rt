@@ -3,6 +3,9 @@
 #![tactic(auto)]
 
 pub mod address;
+mod answers;
+mod engine;
 pub mod fault;
+mod line_start;
 pub mod pdb_addr2line;
 pub mod watched;
