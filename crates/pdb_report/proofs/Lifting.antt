@@ -1,0 +1,40 @@
+-- A call that loads passes a fault of the container on.
+use Rattle.std.proofs.Common.{◌≡◌, Result, Ok, Err, ap, inl, inr, arith}
+use Rattle.std.specs.Prelude.{◌⊎◌, IsOk}
+use Rattle.pdb_container.specs.declared.error.Error.{Error}
+use Rattle.pdb_container.specs.declared.error.Error.TheVariants as errors
+use Rattle.pdb_container.specs.Fault.{Fault, fault_of, IsOutside, HasRisen, ◌>>=◌}
+use Rattle.pdb_report.specs.Faults.{load_fault_of, lifted, Fails, LoadingFault}
+
+pub load_fails : {A B : Type 0} (e : Error) (read : Result A Fault) (f : A → Result B LoadingFault)
+    → (IsOutside e ⊥ ⊎ (read ≡ Err (fault_of e))) → Fails (load_fault_of e) (lifted read >>= f)
+load_fails errors.OutOfMemory read f h = tt
+load_fails (errors.IoError kind) read f (inl h) = absurd h.1
+load_fails (errors.IoError kind) read f (inr h) = ap (λ r. lifted r >>= f) h
+load_fails e read f (inl h) = absurd h
+load_fails e read f (inr h) = ap (λ r. lifted r >>= f) h
+
+-- no failure was counted where the count can't rise
+rise : HasRisen 0 0 → ⊥
+rise h = omega (arith, h)
+
+pub opened_fails : (S : Type 0) {A B : Type 0} (e : Error) (read : Result A Fault) (f : A → Result B LoadingFault)
+    → (IsOutside e ((after : S) × HasRisen 0 0) ⊎ (read ≡ Err (fault_of e))) → Fails (load_fault_of e) (lifted read >>= f)
+opened_fails S errors.OutOfMemory read f h = tt
+opened_fails S (errors.IoError kind) read f (inl h) = absurd (rise h.1.1)
+opened_fails S (errors.IoError kind) read f (inr h) = ap (λ r. lifted r >>= f) h
+opened_fails S e read f (inl h) = absurd h
+opened_fails S e read f (inr h) = ap (λ r. lifted r >>= f) h
+
+pub opened_is : {A B : Type 0} (read : Result A Fault) (f : A → Result B LoadingFault) (last : Result B LoadingFault)
+    → IsOk read → ((a : A) → f a ≡ last) → (lifted read >>= f) ≡ last
+opened_is (Ok x) f last ok same = same x
+opened_is (Err e) f last ok same = cc
+
+pub read_fails : {A : Type 0} (e : Error) (read : Result A Fault)
+    → (IsOutside e (HasRisen 0 0) ⊎ (read ≡ Err (fault_of e))) → Fails (load_fault_of e) (lifted read)
+read_fails errors.OutOfMemory read h = tt
+read_fails (errors.IoError kind) read (inl h) = absurd (rise h.1)
+read_fails (errors.IoError kind) read (inr h) = ap lifted h
+read_fails e read (inl h) = absurd h
+read_fails e read (inr h) = ap lifted h

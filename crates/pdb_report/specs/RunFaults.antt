@@ -1,0 +1,64 @@
+-- The faults of a run.
+use Rattle.std.specs.declared.io.ErrorKind.{ErrorKind}
+use Rattle.std.specs.declared.io.ErrorKind.TheVariants as kinds
+use Rattle.pdb_report.specs.declared.fault.LoadFault.{LoadFault}
+use Rattle.pdb_report.specs.declared.fault.LoadFault.TheVariants as faults
+use Rattle.pdb_report.specs.declared.fault.RunFault.{RunFault}
+use Rattle.pdb_report.specs.declared.fault.RunFault.TheVariants.{Load, ReversedRange, Read, Write, InputTooLong, OutOfMemory}
+
+-- how a run ends where loading has the fault
+abbrev pub run_fault_of : LoadFault → RunFault
+run_fault_of faults.OutOfMemory = OutOfMemory
+run_fault_of fault = Load fault
+
+-- how a run ends at a failed read
+abbrev pub read_fault_of : ErrorKind → RunFault
+read_fault_of kinds.OutOfMemory = OutOfMemory
+read_fault_of kind = Read kind
+
+-- how a run ends at a failed write
+abbrev pub write_fault_of : ErrorKind → RunFault
+write_fault_of kinds.OutOfMemory = OutOfMemory
+write_fault_of kind = Write kind
+
+abbrev pub OnRead : RunFault → (ErrorKind → Type 0) → Type 0
+OnRead (Read kind) P = P kind
+OnRead (Load fault) P = Unit {0}
+OnRead ReversedRange P = Unit {0}
+OnRead (Write kind) P = Unit {0}
+OnRead InputTooLong P = Unit {0}
+OnRead OutOfMemory P = Unit {0}
+
+abbrev pub OnWrite : RunFault → (ErrorKind → Type 0) → Type 0
+OnWrite (Write kind) P = P kind
+OnWrite (Load fault) P = Unit {0}
+OnWrite ReversedRange P = Unit {0}
+OnWrite (Read kind) P = Unit {0}
+OnWrite InputTooLong P = Unit {0}
+OnWrite OutOfMemory P = Unit {0}
+
+abbrev pub OnTooLong : RunFault → Type 0 → Type 0
+OnTooLong InputTooLong P = P
+OnTooLong (Load fault) P = Unit {0}
+OnTooLong ReversedRange P = Unit {0}
+OnTooLong (Read kind) P = Unit {0}
+OnTooLong (Write kind) P = Unit {0}
+OnTooLong OutOfMemory P = Unit {0}
+
+-- a fault that writing an answer may have
+abbrev pub IsOfWriting : RunFault → Type 0
+IsOfWriting (Write kind) = Unit {0}
+IsOfWriting OutOfMemory = Unit {0}
+IsOfWriting (Load fault) = ⊥
+IsOfWriting ReversedRange = ⊥
+IsOfWriting (Read kind) = ⊥
+IsOfWriting InputTooLong = ⊥
+
+-- a fault that answering an input may have
+abbrev pub IsOfRunning : RunFault → Type 0
+IsOfRunning (Load fault) = ⊥
+IsOfRunning ReversedRange = ⊥
+IsOfRunning (Read kind) = Unit {0}
+IsOfRunning (Write kind) = Unit {0}
+IsOfRunning InputTooLong = Unit {0}
+IsOfRunning OutOfMemory = Unit {0}

@@ -1,0 +1,196 @@
+//! Reads lines, and writes the answer to each.
+
+ghost use Rattle.std.specs.Prelude.{◌≡◌, ℕ, List, OnOk, OnErr, IfErr, IfSome, [], ◌∷◌, length, ◌<◌, ◌≤◌, take};
+ghost use Rattle.std.specs.List.{flat_map};
+ghost use Rattle.std.specs.Io.KnownBytes.{Appends, Consumes, IsAtEnd};
+ghost use Rattle.pdb_report.specs.Watched.{inner_of, Fails, IsQuiet};
+ghost use Rattle.pdb_report.specs.Lines.{kept_lines, kept_rest, report, report_of_ended, Begins};
+ghost use Rattle.pdb_report.specs.RunFaults.{OnRead, OnWrite, OnTooLong, IsOfWriting, IsOfRunning};
+
+use crate::answers::Answers;
+use crate::fault::{RunFault, read_fault, write_fault};
+use crate::line_start::LineStart;
+use crate::watched::Watched;
+use std::alloc::Global;
+use std::io::{ErrorKind, Read, Write};
+
+
+/// Writes all of the bytes, and stops at the first failure.
+fn write_all<W: Write>(writer: &mut Watched<W>, bytes: &[u8]) -> Result<(), ErrorKind>
+    ensures ok { OnOk result (Appends (W.contents (inner_of writer.old)) (W.contents (inner_of writer.new)) bytes.now) }
+    ensures quiet { OnOk result (IsQuiet writer.old writer.new) }
+    ensures fails { IfErr result (λ kind. Fails writer.old writer.new kind) }
+    ensures part { OnErr result ((out : List ℕ) × Appends (W.contents (inner_of writer.old)) (W.contents (inner_of writer.new)) out × Begins out bytes.now) }
+{
+    let mut rest = bytes;
+    while !rest.is_empty() {
+        match writer.write(rest) {
+            Ok(0) => return Err(ErrorKind::WriteZero),
+            Ok(count) => rest = &rest[count..],
+            Err(error) => return Err(error.kind()),
+        }
+    }
+    Ok(())
+}
+
+/// Answers the lines that the bytes end, and keeps the start of the one behind them.
+fn feed<A: Answers, W: Write>(
+    alloc: Global,
+    answers: &mut A,
+    writer: &mut Watched<W>,
+    start: &mut LineStart,
+    bytes: &[u8],
+) -> Result<(), RunFault>
+    ensures ok { OnOk result (Appends (W.contents (inner_of writer.old)) (W.contents (inner_of writer.new)) (flat_map (A.text answers.old) (kept_lines start.old bytes.now))) }
+    ensures rest { OnOk result (start.new ≡ kept_rest start.old bytes.now) }
+    ensures same { A.text answers.new ≡ A.text answers.old }
+    ensures quiet { OnOk result (IsQuiet writer.old writer.new) }
+    ensures kind { IfErr result IsOfWriting }
+    ensures fails { IfErr result (λ fault. OnWrite fault (λ kind. Fails writer.old writer.new kind)) }
+    ensures part { OnErr result ((out : List ℕ) × Appends (W.contents (inner_of writer.old)) (W.contents (inner_of writer.new)) out × Begins out (flat_map (A.text answers.old) (kept_lines start.old bytes.now))) }
+{
+    for byte in bytes {
+        feed_byte(alloc, answers, writer, start, *byte)?;
+    }
+    Ok(())
+}
+
+/// The same for one byte.
+fn feed_byte<A: Answers, W: Write>(
+    alloc: Global,
+    answers: &mut A,
+    writer: &mut Watched<W>,
+    start: &mut LineStart,
+    byte: u8,
+) -> Result<(), RunFault>
+    ensures ok { OnOk result (Appends (W.contents (inner_of writer.old)) (W.contents (inner_of writer.new)) (flat_map (A.text answers.old) (kept_lines start.old (byte ∷ [])))) }
+    ensures rest { OnOk result (start.new ≡ kept_rest start.old (byte ∷ [])) }
+    ensures same { A.text answers.new ≡ A.text answers.old }
+    ensures quiet { OnOk result (IsQuiet writer.old writer.new) }
+    ensures kind { IfErr result IsOfWriting }
+    ensures fails { IfErr result (λ fault. OnWrite fault (λ kind. Fails writer.old writer.new kind)) }
+    ensures part { OnErr result ((out : List ℕ) × Appends (W.contents (inner_of writer.old)) (W.contents (inner_of writer.new)) out × Begins out (flat_map (A.text answers.old) (kept_lines start.old (byte ∷ [])))) }
+{
+    if byte != b'\n' {
+        start.push(byte);
+        return Ok(());
+    }
+    match answer_line(alloc, answers, writer, start.bytes()) {
+        Ok(()) => {
+            start.clear();
+            Ok(())
+        }
+        Err(fault) => Err(fault),
+    }
+}
+
+/// Writes the answer to a line.
+fn answer_line<A: Answers, W: Write>(
+    alloc: Global,
+    answers: &mut A,
+    writer: &mut Watched<W>,
+    line: &[u8],
+) -> Result<(), RunFault>
+    ensures ok { OnOk result (Appends (W.contents (inner_of writer.old)) (W.contents (inner_of writer.new)) (A.text answers.old line.now)) }
+    ensures same { A.text answers.new ≡ A.text answers.old }
+    ensures quiet { OnOk result (IsQuiet writer.old writer.new) }
+    ensures kind { IfErr result IsOfWriting }
+    ensures fails { IfErr result (λ fault. OnWrite fault (λ kind. Fails writer.old writer.new kind)) }
+    ensures part { OnErr result ((out : List ℕ) × Appends (W.contents (inner_of writer.old)) (W.contents (inner_of writer.new)) out × Begins out (A.text answers.old line.now)) }
+{
+    let Ok(text) = answers.answer(alloc, line) else {
+        return Err(RunFault::OutOfMemory);
+    };
+    match write_all(writer, &text) {
+        Ok(()) => Ok(()),
+        Err(kind) => Err(write_fault(kind)),
+    }
+}
+
+/// Reads to the end, and answers each line that a newline ends.
+fn pump<A: Answers, R: Read, W: Write>(
+    alloc: Global,
+    answers: &mut A,
+    reader: &mut Watched<R>,
+    writer: &mut Watched<W>,
+    start: &mut LineStart,
+    limit: u64,
+) -> Result<(), RunFault>
+    ensures ok { OnOk result ((taken : List ℕ) × Consumes (R.remaining (inner_of reader.old)) (R.remaining (inner_of reader.new)) taken
+        × IsAtEnd (R.remaining (inner_of reader.new)) × (length taken ≤ limit)
+        × Appends (W.contents (inner_of writer.old)) (W.contents (inner_of writer.new)) (flat_map (A.text answers.old) (kept_lines start.old taken))
+        × (start.new ≡ kept_rest start.old taken)) }
+    ensures quiet { OnOk result (IsQuiet reader.old reader.new × IsQuiet writer.old writer.new) }
+    ensures same { A.text answers.new ≡ A.text answers.old }
+    ensures kind { IfErr result IsOfRunning }
+    ensures read_fails { IfErr result (λ fault. OnRead fault (λ kind. Fails reader.old reader.new kind)) }
+    ensures write_fails { IfErr result (λ fault. OnWrite fault (λ kind. Fails writer.old writer.new kind)) }
+    ensures read_out { IfErr result (λ fault. OnRead fault (λ _. (taken : List ℕ) × Consumes (R.remaining (inner_of reader.old)) (R.remaining (inner_of reader.new)) taken
+        × Appends (W.contents (inner_of writer.old)) (W.contents (inner_of writer.new)) (flat_map (A.text answers.old) (kept_lines start.old taken)))) }
+    ensures too_long { IfErr result (λ fault. OnTooLong fault ((taken : List ℕ) × Consumes (R.remaining (inner_of reader.old)) (R.remaining (inner_of reader.new)) taken
+        × (limit < length taken)
+        × Appends (W.contents (inner_of writer.old)) (W.contents (inner_of writer.new)) (flat_map (A.text answers.old) (kept_lines start.old (take limit taken))))) }
+    ensures part { OnErr result ((taken : List ℕ) × (out : List ℕ) × Consumes (R.remaining (inner_of reader.old)) (R.remaining (inner_of reader.new)) taken
+        × Appends (W.contents (inner_of writer.old)) (W.contents (inner_of writer.new)) out
+        × Begins out (flat_map (A.text answers.old) (kept_lines start.old taken))) }
+{
+    let mut chunk = [0u8; 4096];
+    let mut left = limit;
+    'chunks: loop {
+        let count = match reader.read(&mut chunk) {
+            Ok(count) => count,
+            Err(error) => return Err(read_fault(error.kind())),
+        };
+        if count == 0 {
+            return Ok(());
+        }
+        if left < count as u64 {
+            match feed(alloc, answers, writer, start, &chunk[..left as usize]) {
+                Ok(()) => return Err(RunFault::InputTooLong),
+                Err(fault) => return Err(fault),
+            }
+        }
+        match feed(alloc, answers, writer, start, &chunk[..count]) {
+            Ok(()) => {}
+            Err(fault) => return Err(fault),
+        }
+        left -= count as u64;
+    }
+}
+
+/// Answers every line of the reader, and writes nothing else. At most `limit` bytes are read as input.
+pub fn run<A: Answers, R: Read, W: Write>(
+    alloc: Global,
+    answers: &mut A,
+    reader: &mut Watched<R>,
+    writer: &mut Watched<W>,
+    limit: u64,
+) -> Result<(), RunFault>
+    ensures ok { OnOk result (IfSome (R.remaining (inner_of reader.old)) (λ input. (length input ≤ limit)
+        × Appends (W.contents (inner_of writer.old)) (W.contents (inner_of writer.new)) (report (A.text answers.old) input))) }
+    ensures quiet { OnOk result (IsQuiet reader.old reader.new × IsQuiet writer.old writer.new) }
+    ensures same { A.text answers.new ≡ A.text answers.old }
+    ensures kind { IfErr result IsOfRunning }
+    ensures read_fails { IfErr result (λ fault. OnRead fault (λ kind. Fails reader.old reader.new kind)) }
+    ensures write_fails { IfErr result (λ fault. OnWrite fault (λ kind. Fails writer.old writer.new kind)) }
+    // The lines that were read whole before a failed read are answered.
+    ensures read_out { IfErr result (λ fault. OnRead fault (λ _. (taken : List ℕ) × Consumes (R.remaining (inner_of reader.old)) (R.remaining (inner_of reader.new)) taken
+        × Appends (W.contents (inner_of writer.old)) (W.contents (inner_of writer.new)) (report_of_ended (A.text answers.old) taken))) }
+    ensures too_long { IfErr result (λ fault. OnTooLong fault (IfSome (R.remaining (inner_of reader.old)) (λ input. (limit < length input)
+        × Appends (W.contents (inner_of writer.old)) (W.contents (inner_of writer.new)) (report_of_ended (A.text answers.old) (take limit input))))) }
+    ensures part { OnErr result (IfSome (R.remaining (inner_of reader.old)) (λ input. (out : List ℕ)
+        × Appends (W.contents (inner_of writer.old)) (W.contents (inner_of writer.new)) out × Begins out (report (A.text answers.old) input))) }
+{
+    let mut start = LineStart::new();
+    match pump(alloc, answers, reader, writer, &mut start, limit) {
+        Ok(()) => {}
+        Err(fault) => return Err(fault),
+    }
+    if start.bytes().is_empty() {
+        return Ok(());
+    }
+    match answer_line(alloc, answers, writer, start.bytes()) {
+        Ok(()) => Ok(()),
+        Err(fault) => Err(fault),
+    }
+}

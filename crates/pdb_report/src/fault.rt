@@ -1,0 +1,139 @@
+//! Why a program database isn't loaded, and why a run ends early.
+
+ghost use Rattle.std.specs.Prelude.{◌≡◌};
+ghost use Rattle.pdb_report.specs.declared.fault.LoadFault.TheVariants as load_faults;
+ghost use Rattle.pdb_report.specs.RunFaults.{read_fault_of, write_fault_of};
+
+use crate::pdb_addr2line;
+use pdb_container::kind_name;
+use std::alloc::{AllocError, AllocFailed};
+use std::fmt;
+use std::io::ErrorKind;
+
+/// Why a program database isn't loaded. `Pdb` prints what it holds, any other as its name.
+#[derive(Debug, Drop, PartialEq)]
+pub enum LoadFault {
+    /// The file can't be read, for this cause, which is never want of memory.
+    Pdb(pdb_addr2line::Error),
+    /// An address map's sources decrease.
+    AddressTableDecreases,
+    /// The file holds what isn't answered yet.
+    NotYet,
+    /// Memory was refused.
+    OutOfMemory,
+}
+
+/// Why a run ended early. `Load` prints what it holds, any other as its name and, in parentheses, its
+/// values.
+#[derive(Debug, Drop, PartialEq)]
+pub enum RunFault {
+    /// The program database wasn't loaded, for this cause, which is never want of memory.
+    Load(LoadFault),
+    /// The range's start lies above its end.
+    ReversedRange,
+    /// A read failed so.
+    Read(ErrorKind),
+    /// A write failed so.
+    Write(ErrorKind),
+    /// The input has more bytes than a run reads.
+    InputTooLong,
+    /// Memory was refused.
+    OutOfMemory,
+}
+
+impl From<pdb_container::Error> for LoadFault {
+    ghost use Rattle.pdb_report.specs.Faults.{load_fault_of};
+
+    ghost from_gives = { λ cause e. e ≡ load_fault_of cause };
+
+    fn from(cause: pdb_container::Error) -> LoadFault {
+        match cause {
+            pdb_container::Error::OutOfMemory => LoadFault::OutOfMemory,
+            cause => LoadFault::Pdb(pdb_addr2line::Error::PdbError(cause)),
+        }
+    }
+}
+
+impl From<AllocError> for LoadFault {
+    ghost from_gives = { λ _ e. e ≡ load_faults.OutOfMemory };
+
+    fn from(_e: AllocError) -> LoadFault {
+        LoadFault::OutOfMemory
+    }
+}
+
+impl<T: Drop> From<AllocFailed<T>> for LoadFault {
+    ghost from_gives = { λ _ e. e ≡ load_faults.OutOfMemory };
+
+    fn from(_e: AllocFailed<T>) -> LoadFault {
+        LoadFault::OutOfMemory
+    }
+}
+
+impl From<LoadFault> for RunFault {
+    ghost use Rattle.pdb_report.specs.RunFaults.{run_fault_of};
+
+    ghost from_gives = { λ fault e. e ≡ run_fault_of fault };
+
+    fn from(fault: LoadFault) -> RunFault {
+        match fault {
+            LoadFault::OutOfMemory => RunFault::OutOfMemory,
+            fault => RunFault::Load(fault),
+        }
+    }
+}
+
+/// How a run ends where a read failed: want of memory is a fault of its own.
+pub fn read_fault(kind: ErrorKind) -> RunFault
+    ensures { result ≡ read_fault_of kind }
+{
+    match kind {
+        ErrorKind::OutOfMemory => RunFault::OutOfMemory,
+        _ => RunFault::Read(kind),
+    }
+}
+
+/// How a run ends where a write failed: want of memory is a fault of its own.
+pub fn write_fault(kind: ErrorKind) -> RunFault
+    ensures { result ≡ write_fault_of kind }
+{
+    match kind {
+        ErrorKind::OutOfMemory => RunFault::OutOfMemory,
+        _ => RunFault::Write(kind),
+    }
+}
+
+impl fmt::Display for LoadFault {
+    ghost use Rattle.std.specs.Prelude.{Some};
+    ghost use Rattle.pdb_report.specs.FaultText.{load_fault_text};
+
+    ghost output = { λ f. Some (load_fault_text f) };
+
+    fn fmt<W: fmt::Write>(&self, f: &mut fmt::Formatter<W>) -> fmt::Result {
+        match self {
+            LoadFault::Pdb(pdb_addr2line::Error::PdbError(cause)) => write!(f, "{cause}"),
+            LoadFault::Pdb(pdb_addr2line::Error::OutOfMemory) => f.write_str("OutOfMemory"),
+            LoadFault::AddressTableDecreases => f.write_str("AddressTableDecreases"),
+            LoadFault::NotYet => f.write_str("NotYet"),
+            LoadFault::OutOfMemory => f.write_str("OutOfMemory"),
+        }
+    }
+}
+
+impl fmt::Display for RunFault {
+    ghost use Rattle.std.specs.Prelude.{Some};
+    ghost use Rattle.pdb_report.specs.FaultText.{run_fault_text};
+
+    ghost output = { λ f. Some (run_fault_text f) };
+
+    fn fmt<W: fmt::Write>(&self, f: &mut fmt::Formatter<W>) -> fmt::Result {
+        match self {
+            RunFault::Load(fault) => write!(f, "{fault}"),
+            RunFault::ReversedRange => f.write_str("ReversedRange"),
+            RunFault::Read(kind) => write!(f, "Read({})", kind_name(*kind)),
+            RunFault::Write(kind) => write!(f, "Write({})", kind_name(*kind)),
+            RunFault::InputTooLong => f.write_str("InputTooLong"),
+            RunFault::OutOfMemory => f.write_str("OutOfMemory"),
+        }
+    }
+}
