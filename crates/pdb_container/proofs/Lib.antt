@@ -5,3 +5,4 @@ pub mod Paging
 pub mod Outside
 pub mod First
 pub mod Literal
+pub mod Entries

@@ -101,3 +101,8 @@ IsOutside e failed = ⊥
 abbrev pub Gives : {X Y : Type 0} → (X → Y) → Type 0 → Result X Error → Result Y Fault → Type 0
 Gives view failed (Ok x) read = read ≡ Ok (view x)
 Gives view failed (Err e) read = IsOutside e failed ⊎ (read ≡ Err (fault_of e))
+
+-- The same of a call that takes no memory and reads from no source: it always is what reading gives.
+abbrev pub Parses : {X Y : Type 0} → (X → Y) → Result X Error → Result Y Fault → Type 0
+Parses view (Ok x) read = read ≡ Ok (view x)
+Parses view (Err e) read = read ≡ Err (fault_of e)

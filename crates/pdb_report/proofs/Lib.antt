@@ -5,3 +5,4 @@ pub mod LineLemmas
 pub mod Pumped
 pub mod Runs
 pub mod Writes
+pub mod PlaceSteps

@@ -1,20 +1,59 @@
--- Stream 3: its header and the pieces behind it.
+-- Stream 3: its header, and the substreams behind it.
 use Rattle.std.specs.Prelude.{ℕ, ◌+◌, List, length, take, drop, nat_lt, ◌==◌, not, Result, Ok, Err, codes}
 use Rattle.std.specs.Int.{w16, w32}
 use Rattle.pdb_container.specs.Fault.{Fault, UnexpectedEof, UnimplementedFeature, ◌>>=◌, refuse}
-use Rattle.pdb_container.specs.Fields.{Reader, number_at, bytes_of}
-use Rattle.pdb_report.specs.declared.pdb_symbols_modules.dbi.DbiHeader.{DbiHeader}
+use Rattle.pdb_container.specs.Fields.{number_in}
+use Rattle.pdb_report.specs.declared.pdb_symbols_modules.dbi.DBIHeader.{DBIHeader}
 
--- sixteen two-byte and four-byte numbers that no answer depends on stand between those that are kept
-unfoldable pub header_fields_at : Reader DbiHeader
-header_fields_at bytes = do
-  signature ← number_at w32 bytes
-  version ← number_at w32 signature.1
-  age ← number_at w32 version.1
-  global_symbols_stream ← number_at w16 age.1
-  build ← number_at w16 global_symbols_stream.1
-  public_symbols_stream ← number_at w16 build.1
-  dll_version ← number_at w16 public_symbols_stream.1
-  symbol_records_stream ← number_at w16 dll_version.1
-  dll_rebuild ← number_at w16 symbol_records_stream.1
-  Ok (record {}, dll_rebuild.1)
+-- The header: 64 bytes, of which these are the numbers that loading needs, each at its place.
+unfoldable pub header_of : List ℕ → Result DBIHeader Fault
+header_of bytes = do
+  whole ← refuse (nat_lt (length bytes) 64) UnexpectedEof
+  known ← refuse (not (number_in w32 bytes 0 == 0xffffffff)) (UnimplementedFeature (codes "ancient DBI header"))
+  Ok record {
+    symbol_records_stream = number_in w16 bytes 20;
+    module_list_size = number_in w32 bytes 24;
+    section_contribution_size = number_in w32 bytes 28;
+    section_map_size = number_in w32 bytes 32;
+    file_info_size = number_in w32 bytes 36;
+    type_server_map_size = number_in w32 bytes 40;
+    debug_header_size = number_in w32 bytes 48;
+    ec_substream_size = number_in w32 bytes 52;
+  }
+
+-- The substreams lie in this order behind the header: module list, contributions, section map, file info, type
+-- server map, edit and continue, optional header. Here are the places of those that are read.
+abbrev pub contributions_place : DBIHeader → ℕ
+contributions_place h = 64 + h.module_list_size
+
+abbrev pub optional_header_place : DBIHeader → ℕ
+optional_header_place h =
+    contributions_place h + h.section_contribution_size + h.section_map_size + h.file_info_size + h.type_server_map_size + h.ec_substream_size
+
+-- what is read of stream 3
+pub record Dbi : Type 0 where
+  -- the number of the stream of symbol records; 65535 for none
+  pub symbol_records_stream : ℕ
+  pub modules : List ℕ
+  pub contributions : List ℕ
+  pub optional_header : List ℕ
+
+-- so many bytes from a place on
+abbrev pub piece : List ℕ → ℕ → ℕ → List ℕ
+piece bytes place size = take size (drop place bytes)
+
+-- the substreams that a header names, all of which have to be there
+unfoldable pub substreams_of : DBIHeader → List ℕ → Result Dbi Fault
+substreams_of h bytes = do
+  whole ← refuse (nat_lt (length bytes) (optional_header_place h + h.debug_header_size)) UnexpectedEof
+  Ok record {
+    symbol_records_stream = h.symbol_records_stream;
+    modules = piece bytes 64 h.module_list_size;
+    contributions = piece bytes (contributions_place h) h.section_contribution_size;
+    optional_header = piece bytes (optional_header_place h) h.debug_header_size;
+  }
+
+unfoldable pub dbi_of : List ℕ → Result Dbi Fault
+dbi_of bytes = do
+  h ← header_of bytes
+  substreams_of h bytes

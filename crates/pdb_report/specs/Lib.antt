@@ -1,6 +1,12 @@
 pub mod Address
+pub mod Contributions
+pub mod Dbi
 pub mod Faults
 pub mod FaultText
+pub mod Items
 pub mod Lines
+pub mod Modules
 pub mod RunFaults
+pub mod Sections
+pub mod Streams
 pub mod Watched

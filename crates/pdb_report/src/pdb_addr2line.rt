@@ -44,3 +44,12 @@ impl<T: Drop> From<AllocFailed<T>> for Error {
         Error::OutOfMemory
     }
 }
+
+/// What a module holds of a section: from a start to an end, both offsets in bytes, the end not held.
+#[derive(Clone, Copy, Debug)]
+pub struct ModuleSectionContribution {
+    pub section: u16,
+    pub start: u32,
+    pub end: u32,
+    pub module: u16,
+}
