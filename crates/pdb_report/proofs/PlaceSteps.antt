@@ -28,7 +28,7 @@ pub place_goes_on : (sections : List ImageSectionHeader) (i address : ℕ) (d : 
     → place_from (i + 1) (drop i sections) address ≡ all → place_from (i + 1 + 1) (drop (i + 1) sections) address ≡ all
 place_goes_on sections i address d all lt above past so_far =
     sym (at sections i address d lt
-      ∙ rw (le-ltb address (get_or sections i d).virtual_address above, le-ltb (address - (get_or sections i d).virtual_address) (get_or sections i d).virtual_size past) refl) ∙ so_far
+    ∙ rw (le-ltb address (get_or sections i d).virtual_address above, le-ltb (address - (get_or sections i d).virtual_address) (get_or sections i d).virtual_size past) refl) ∙ so_far
 
 pub place_ends : (sections : List ImageSectionHeader) (i address : ℕ) (all : Option PdbInternalSectionOffset) → length sections ≤ i
     → place_from (i + 1) (drop i sections) address ≡ all → all ≡ None

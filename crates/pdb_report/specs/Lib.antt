@@ -9,4 +9,5 @@ pub mod Modules
 pub mod RunFaults
 pub mod Sections
 pub mod Streams
+pub mod Symbols
 pub mod Watched

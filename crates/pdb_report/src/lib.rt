@@ -11,5 +11,6 @@ mod numbers;
 pub mod pdb_addr2line;
 pub mod pdb_container_types;
 pub mod pdb_items;
+pub mod pdb_modules;
 pub mod pdb_symbols_modules;
 pub mod watched;
