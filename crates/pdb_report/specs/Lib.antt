@@ -6,6 +6,7 @@ pub mod FaultText
 pub mod Items
 pub mod Lines
 pub mod Modules
+pub mod Procedures
 pub mod RunFaults
 pub mod Sections
 pub mod Streams

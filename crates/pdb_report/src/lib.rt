@@ -11,6 +11,7 @@ mod numbers;
 pub mod pdb_addr2line;
 pub mod pdb_container_types;
 pub mod pdb_items;
+pub mod pdb_module_data;
 pub mod pdb_modules;
 pub mod pdb_symbols_modules;
 pub mod watched;

@@ -1,0 +1,106 @@
+//! What is read of a module's stream: its procedures.
+
+ghost use Rattle.std.specs.Prelude.{◌≡◌, ℕ, ◌∷◌, [], IfOk, OnOk, Ok, option_map};
+ghost use Rattle.std.specs.HashSet.{contains};
+ghost use Rattle.pdb_container.specs.Fault.{Gives, Parses};
+ghost use Rattle.pdb_report.specs.declared.pdb_container_types.PdbInternalSectionOffset.{PdbInternalSectionOffset};
+ghost use Rattle.pdb_report.specs.Symbols.{procedure_of};
+ghost use Rattle.pdb_report.specs.Procedures.{signed_symbols_of, symbols_in, is_at, has_start, with_code as with_code_of, onto_new, procedures_behind, contains as contains_place, later as later_of, over as over_of, is_other as is_other_symbol, has_other};
+
+use crate::pdb_container_types::PdbInternalSectionOffset;
+use crate::pdb_modules::{
+    ProcedureSymbol, S_SEPCODE, Symbol, is_inline_site, is_procedure, is_thunk, parse_symbols,
+};
+use pdb_container::{Error, ParseBuffer, Result};
+use std::alloc::{AllocError, Global};
+use std::collections::HashSet;
+use std::marker::Model;
+
+/// A procedure: where its code begins, how many bytes it has, and its name.
+#[derive(Debug, Drop)]
+pub struct Procedure {
+    pub offset: PdbInternalSectionOffset,
+    pub len: u32,
+    pub name: Vec<u8>,
+}
+
+impl Model for Procedure {
+    ghost use Rattle.pdb_report.specs.Procedures as procedures;
+
+    ghost Value = { procedures.Procedure };
+
+    ghost view = { λ p. record { offset = p.offset; len = p.len; name = p.name.items } };
+}
+
+/// The symbols behind their signature. `UnimplementedFeature` for another signature, `SymbolTooShort`, `UnexpectedEof`.
+#[tactic(auto, unfolding(crate::specs::Procedures::signed_symbols_of))]
+fn parse_signed_symbols(alloc: Global, bytes: &[u8]) -> Result<Vec<Symbol<'_>>>
+    ensures { Gives (λ v. v.items) ⊥ result (signed_symbols_of bytes.now) }
+{
+    if bytes.is_empty() {
+        return Ok(Vec::new(alloc));
+    }
+    let mut buffer = ParseBuffer::from(bytes);
+    let signature = buffer.parse_u32()?;
+    if signature != 4 {
+        return Err(Error::UnimplementedFeature("symbol signature"));
+    }
+    let rest = buffer.take(buffer.len())?;
+    parse_symbols(alloc, bytes.len(), rest)
+}
+
+/// The symbols of a module's stream, which are its first `symbols_size` bytes. `UnexpectedEof` where these are not
+/// there, and the faults of reading them.
+#[tactic(auto, unfolding(crate::specs::Procedures::symbols_in))]
+pub fn parse_module_symbols(
+    alloc: Global,
+    bytes: &[u8],
+    symbols_size: u32,
+) -> Result<Vec<Symbol<'_>>>
+    ensures { Gives (λ v. v.items) ⊥ result (symbols_in (record { bytes = bytes.now; symbols_size = symbols_size })) }
+{
+    if bytes.len() < symbols_size as usize {
+        return Err(Error::UnexpectedEof);
+    }
+    let (symbols, _) = bytes.split_at(symbols_size as usize);
+    parse_signed_symbols(alloc, symbols)
+}
+
+/// A symbol's procedure, if it can be read and has code.
+fn with_code(
+    alloc: Global,
+    symbol: &Symbol<'_>,
+) -> std::result::Result<Option<Procedure>, AllocError>
+    ensures { IfOk result (λ p. p ≡ with_code_of (procedure_of symbol.now)) }
+{
+    match symbol.parse_procedure() {
+        Err(_) => Ok(None),
+        Ok(symbol) => {
+            if symbol.len == 0 {
+                return Ok(None);
+            }
+            let name = symbol.name.to_vec(alloc)?;
+            Ok(Some(Procedure {
+                offset: symbol.offset,
+                len: symbol.len,
+                name,
+            }))
+        }
+    }
+}
+
+/// One more procedure, unless one begins where it does.
+fn push_new(
+    starts: &mut HashSet<PdbInternalSectionOffset>,
+    procedures: &mut Vec<Procedure>,
+    procedure: Procedure,
+) -> std::result::Result<(), AllocError>
+    requires { (p : PdbInternalSectionOffset) → contains is_at starts.old p ≡ has_start procedures.old.items p }
+    ensures ok { OnOk result (procedures.new.items ≡ onto_new procedures.old.items (Some procedure)) }
+    ensures starts { OnOk result ((p : PdbInternalSectionOffset) → contains is_at starts.new p ≡ has_start procedures.new.items p) }
+{
+    if starts.insert(procedure.offset)? {
+        procedures.push(procedure)?;
+    }
+    Ok(())
+}
