@@ -6,3 +6,4 @@ pub mod Pumped
 pub mod Runs
 pub mod Writes
 pub mod PlaceSteps
+pub mod ProcedureSteps

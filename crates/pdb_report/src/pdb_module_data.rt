@@ -5,7 +5,7 @@ ghost use Rattle.std.specs.HashSet.{contains};
 ghost use Rattle.pdb_container.specs.Fault.{Gives, Parses};
 ghost use Rattle.pdb_report.specs.declared.pdb_container_types.PdbInternalSectionOffset.{PdbInternalSectionOffset};
 ghost use Rattle.pdb_report.specs.Symbols.{procedure_of};
-ghost use Rattle.pdb_report.specs.Procedures.{signed_symbols_of, symbols_in, is_at, has_start, with_code as with_code_of, onto_new, procedures_behind, contains as contains_place, later as later_of, over as over_of, is_other as is_other_symbol, has_other};
+ghost use Rattle.pdb_report.specs.Procedures.{signed_symbols_of, symbols_in, is_at, has_start, with_code as with_code_of, onto_new, procedures_behind, contains as contains_place, later as later_of, over as over_of, is_other as is_other_symbol, has_type as has_type_of, end_in, is_inside as is_inside_of, has_other};
 
 use crate::pdb_container_types::PdbInternalSectionOffset;
 use crate::pdb_modules::{
@@ -103,4 +103,115 @@ fn push_new(
         procedures.push(procedure)?;
     }
     Ok(())
+}
+
+/// The procedures of a module's symbols, in order; of those with one start the first.
+#[tactic(auto, using(crate::proofs::ProcedureSteps::kept_more, crate::proofs::ProcedureSteps::kept_all))]
+pub fn procedures_of(
+    alloc: Global,
+    symbols: &[Symbol<'_>],
+) -> std::result::Result<Vec<Procedure>, AllocError>
+    ensures { IfOk result (λ v. v.items ≡ procedures_behind [] symbols.now) }
+{
+    let mut starts = HashSet::new(alloc);
+    let mut procedures = Vec::new(alloc);
+    for symbol in symbols {
+        if let Some(procedure) = with_code(alloc, symbol)? {
+            push_new(&mut starts, &mut procedures, procedure)?;
+        }
+    }
+    Ok(procedures)
+}
+
+impl Procedure {
+    /// Whether the place lies in it; its end may lie past 32 bits.
+    fn contains(&self, place: PdbInternalSectionOffset) -> bool
+        ensures { result ≡ contains_place self.now place }
+    {
+        self.offset.section == place.section
+            && self.offset.offset <= place.offset
+            && u64::from(place.offset) < u64::from(self.offset.offset) + u64::from(self.len)
+    }
+}
+
+/// The one with the greater start, of equals the first.
+fn later<'p>(best: Option<&'p Procedure>, next: &'p Procedure) -> Option<&'p Procedure>
+    ensures { option_map (λ q. q.now) result ≡ later_of (option_map (λ q. q.now) best.entry) (Some next.now) }
+{
+    match best {
+        None => Some(next),
+        Some(first) => {
+            if first.offset.offset < next.offset.offset {
+                Some(next)
+            } else {
+                Some(first)
+            }
+        }
+    }
+}
+
+/// Of the procedures that contain the place the one with the greatest start.
+#[tactic(auto, using(crate::proofs::ProcedureSteps::over_takes, crate::proofs::ProcedureSteps::over_passes, crate::proofs::ProcedureSteps::over_ends))]
+pub fn over(procedures: &[Procedure], place: PdbInternalSectionOffset) -> Option<&Procedure>
+    ensures { option_map (λ q. q.now) result ≡ over_of procedures.now place }
+{
+    let mut best = None;
+    for procedure in procedures {
+        if procedure.contains(place) {
+            best = later(best, procedure);
+        }
+    }
+    best
+}
+
+/// Whether a symbol is one that isn't answered yet: a thunk, separated code, an inline site, or a procedure with a type.
+fn is_other(symbol: &Symbol<'_>) -> bool
+    ensures { result ≡ is_other_symbol symbol.now }
+{
+    is_thunk(symbol.kind)
+        || symbol.kind == S_SEPCODE
+        || is_inline_site(symbol.kind)
+        || has_type(symbol)
+}
+
+/// Whether it is a procedure with a type.
+fn has_type(symbol: &Symbol<'_>) -> bool
+    ensures { result ≡ has_type_of (procedure_of symbol.now) }
+{
+    match symbol.parse_procedure() {
+        Err(_) => false,
+        Ok(procedure) => procedure.type_index != 0,
+    }
+}
+
+/// The index at which it ends, if it is a procedure that can be read; else 0.
+fn end_of(symbol: &Symbol<'_>) -> u32
+    ensures { result ≡ end_in (procedure_of symbol.now) }
+{
+    match symbol.parse_procedure() {
+        Err(_) => 0,
+        Ok(procedure) => procedure.end,
+    }
+}
+
+/// Whether some symbol isn't answered yet, or is a procedure's between another one and its end.
+pub fn has_other_symbols(symbols: &[Symbol<'_>]) -> bool
+    ensures { result ≡ has_other (Ok symbols.now) }
+{
+    // The greatest end of the procedures so far.
+    let mut end = 0u32;
+    for symbol in symbols {
+        if is_other(symbol) || is_inside(symbol, end) {
+            return true;
+        }
+        end = end.max(end_of(symbol));
+    }
+    false
+}
+
+/// Whether it is a procedure's symbol before an index.
+fn is_inside(symbol: &Symbol<'_>, end: u32) -> bool
+    ensures { result ≡ is_inside_of end symbol.now }
+{
+    is_procedure(symbol.kind) && symbol.index < u64::from(end)
 }

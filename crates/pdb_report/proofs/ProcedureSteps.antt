@@ -1,0 +1,69 @@
+-- The steps of the loops over symbols and procedures.
+use Rattle.std.proofs.Common.{◌≡◌, ℕ, ◌+◌, ◌<◌, ◌≤◌, Bool, true, false, cond, ltb, ◌||◌, ◌&&◌, List, [], ◌∷◌, ◌++◌, length, get_or, drop, Ok, refl, sym, ap, ◌∙◌, arith, inl, inr}
+use Rattle.std.specs.Prelude.{Option, None, Some, nat_lt, max}
+use Rattle.std.specs.List.{list_any}
+use Rattle.std.proofs.lemmas.Bool.{lt-ltb, le-ltb, cases_lt}
+use Rattle.std.proofs.lemmas.List.{drop_more, drop_all}
+use Rattle.pdb_report.specs.declared.pdb_container_types.PdbInternalSectionOffset.{PdbInternalSectionOffset}
+use Rattle.pdb_report.specs.Symbols.{Symbol, is_procedure, procedure_of}
+use Rattle.pdb_report.specs.Procedures.{Procedure, contains, later, over, if_over, is_inside, is_other, end_in, has_inner, has_other, onto_new, with_code, procedures_behind}
+
+-- ---- the procedures that are kept
+
+pub kept_more : (kept : List Procedure) (symbols : List Symbol) (i : ℕ) (d : Symbol) (all : List Procedure) → i < length symbols
+    → procedures_behind kept (drop i symbols) ≡ all → procedures_behind (onto_new kept (with_code (procedure_of (get_or symbols i d)))) (drop (i + 1) symbols) ≡ all
+kept_more kept symbols i d all lt so_far = sym (ap (procedures_behind kept) (drop_more symbols i d lt)) ∙ so_far
+
+pub kept_all : (kept : List Procedure) (symbols : List Symbol) (i : ℕ) (all : List Procedure) → length symbols ≤ i
+    → procedures_behind kept (drop i symbols) ≡ all → kept ≡ all
+kept_all kept symbols i all past so_far = sym (ap (procedures_behind kept) (drop_all i symbols past)) ∙ so_far
+
+-- ---- the procedure over a place
+
+-- of three the later of the first two, and the third
+later_assoc : (a b c : Option Procedure) → later (later a b) c ≡ later a (later b c)
+later_assoc None b c = refl
+later_assoc (Some a) None c = refl
+later_assoc (Some a) (Some b) None =
+    elim (ltb (a.offset).offset (b.offset).offset) as (λ t. later (cond t (Some b) (Some a)) None ≡ cond t (Some b) (Some a)) [ true ↦ refl | false ↦ refl ]
+later_assoc (Some a) (Some b) (Some c) =
+    elim (cases_lt (a.offset).offset (b.offset).offset) [
+      | inl ab ↦ elim (cases_lt (b.offset).offset (c.offset).offset) [
+        | inl bc ↦ rw (lt-ltb (a.offset).offset (b.offset).offset ab, lt-ltb (b.offset).offset (c.offset).offset bc, lt-ltb (a.offset).offset (c.offset).offset (omega arith)) refl
+        | inr bc ↦ rw (lt-ltb (a.offset).offset (b.offset).offset ab, le-ltb (b.offset).offset (c.offset).offset bc, lt-ltb (a.offset).offset (b.offset).offset ab) refl
+      ]
+      | inr ab ↦ elim (cases_lt (b.offset).offset (c.offset).offset) [
+        | inl bc ↦ rw (le-ltb (a.offset).offset (b.offset).offset ab, lt-ltb (b.offset).offset (c.offset).offset bc) refl
+        | inr bc ↦ rw (le-ltb (a.offset).offset (b.offset).offset ab, le-ltb (b.offset).offset (c.offset).offset bc, le-ltb (a.offset).offset (b.offset).offset ab, le-ltb (a.offset).offset (c.offset).offset (omega arith)) refl
+      ]
+    ]
+
+over_at : (procedures : List Procedure) (i : ℕ) (d : Procedure) (place : PdbInternalSectionOffset) → i < length procedures
+    → over (drop i procedures) place ≡ later (if_over (get_or procedures i d) place) (over (drop (i + 1) procedures) place)
+over_at procedures i d place lt = ap (λ (qs : List Procedure). over qs place) (drop_more procedures i d lt)
+
+pub over_takes : (best new : Option Procedure) (procedures : List Procedure) (i : ℕ) (d : Procedure) (place : PdbInternalSectionOffset) (all : Option Procedure) → i < length procedures
+    → contains (get_or procedures i d) place ≡ true → new ≡ later best (Some (get_or procedures i d))
+    → later best (over (drop i procedures) place) ≡ all → later new (over (drop (i + 1) procedures) place) ≡ all
+over_takes best new procedures i d place all lt inside is so_far =
+    let q = get_or procedures i d in
+    let here : if_over q place ≡ Some q = ap (λ t. cond t (Some q) None) inside in
+    rw is (later_assoc best (Some q) (over (drop (i + 1) procedures) place)
+    ∙ ap (later best) (sym (over_at procedures i d place lt ∙ ap (λ o. later o (over (drop (i + 1) procedures) place)) here)) ∙ so_far)
+
+pub over_passes : (best : Option Procedure) (procedures : List Procedure) (i : ℕ) (d : Procedure) (place : PdbInternalSectionOffset) (all : Option Procedure) → i < length procedures
+    → contains (get_or procedures i d) place ≡ false
+    → later best (over (drop i procedures) place) ≡ all → later best (over (drop (i + 1) procedures) place) ≡ all
+over_passes best procedures i d place all lt outside so_far =
+    let q = get_or procedures i d in
+    let here : if_over q place ≡ None = ap (λ t. cond t (Some q) None) outside in
+    ap (later best) (sym (over_at procedures i d place lt ∙ ap (λ o. later o (over (drop (i + 1) procedures) place)) here)) ∙ so_far
+
+best_none : (best : Option Procedure) → later best None ≡ best
+best_none None = refl
+best_none (Some q) = refl
+
+pub over_ends : (best : Option Procedure) (procedures : List Procedure) (i : ℕ) (place : PdbInternalSectionOffset) (all : Option Procedure) → length procedures ≤ i
+    → later best (over (drop i procedures) place) ≡ all → best ≡ all
+over_ends best procedures i place all past so_far =
+    sym (best_none best) ∙ sym (ap (λ (qs : List Procedure). later best (over qs place)) (drop_all i procedures past)) ∙ so_far
