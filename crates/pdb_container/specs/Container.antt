@@ -8,11 +8,6 @@ use Rattle.pdb_container.specs.declared.msf.TheConstants.{MAGIC, ABSENT, HEADER_
 use Rattle.pdb_container.specs.Fault.{◌>>=◌, guard, refuse}
 use Rattle.pdb_container.specs.Places.{bytes_at, page_places}
 
--- an open container: its file, and how often the source failed
-pub record Container : Type 0 where
-  pub file : List ℕ
-  pub failures : ℕ
-
 -- what the header says
 pub record Layout : Type 0 where
   pub page_size : ℕ

@@ -349,20 +349,20 @@ fn read_front<S: Source>(source: &mut S, alloc: Global) -> Result<ReadView>
 
 /// The streams of a container.
 pub trait Msf<'s, S: Source> {
-    ghost use Rattle.pdb_container.specs.Container.{Container};
+    /// The source of the container's bytes.
+    ghost source: { Self → S };
 
-    /// The container's file, and how often its source failed.
-    ghost container: { Self → Container };
-
-    /// The first bytes of a stream. A call that is refused changes no later answer.
+    /// The bytes of a stream, or its first `limit` bytes; the directory is read anew. A call that is refused changes no
+    /// later answer. `StreamNotFound`, `PageReferenceOutOfRange`, `UnexpectedEof`; `IoError` past the file's end, and where
+    /// the source failed.
     fn get(&mut self, alloc: Global, stream_number: u32, limit: Option<usize>) -> Result<Stream<'s>>
-        ensures same { (container self.new).file ≡ (container self.old).file }
-        ensures counts { (container self.old).failures ≤ (container self.new).failures }
-        ensures exact { Gives (λ s. s) (HasRisen (container self.old).failures (container self.new).failures) result
-            (stream (container self.old).file stream_number limit) };
+        ensures same { S.bytes (source self.new) ≡ S.bytes (source self.old) }
+        ensures counts { S.failures (source self.old) ≤ S.failures (source self.new) }
+        ensures exact { Gives (λ s. s) (HasRisen (S.failures (source self.old)) (S.failures (source self.new))) result
+            (stream (S.bytes (source self.old)) stream_number limit) };
 }
 
-/// An open container in the format with big pages.
+/// An open container in the format with big pages, over a source, which is its value in contracts.
 #[derive(Drop)]
 pub struct BigMSF<'s, S: Source> {
     source: S,
@@ -372,18 +372,18 @@ pub struct BigMSF<'s, S: Source> {
 
 impl<'s, S: Source> Model for BigMSF<'s, S> {
     ghost use Rattle.std.specs.Prelude.{◌≡◌, Ok};
-    ghost use Rattle.pdb_container.specs.Container.{Container, layout_of};
+    ghost use Rattle.pdb_container.specs.Container.{layout_of};
     ghost use Rattle.pdb_container.specs.Header.{layout, IsSound};
 
-    ghost Value = { Container };
+    ghost Value = { S };
 
-    ghost view = { λ m. record { file = S.bytes m.source; failures = S.failures m.source } };
+    ghost view = { λ m. m.source };
 
     ghost invariant = { λ m. (layout_of (S.bytes m.source) ≡ Ok (layout m.header)) × IsSound (layout m.header) };
 }
 
 impl<'s, S: Source> Msf<'s, S> for BigMSF<'s, S> {
-    ghost container = { λ m. m };
+    ghost source = { λ m. m };
 
     #[tactic(auto, unfolding(crate::specs::Container::stream))]
     fn get(
@@ -400,10 +400,11 @@ impl<'s, S: Source> Msf<'s, S> for BigMSF<'s, S> {
     }
 }
 
-/// Opens a container.
+/// Opens the container that a source holds: its header and the numbers of its list pages, in the first 4096 bytes.
+/// `UnrecognizedFileFormat`, `InvalidPageSize`, `PageReferenceOutOfRange`, `UnexpectedEof`; `IoError` where the source failed.
 #[tactic(auto, using(crate::proofs::Outside::outside_alone, crate::proofs::Outside::outside_with), unfolding(crate::specs::Container::layout_of))]
 pub fn open_msf<'s, S: Source + Drop>(alloc: Global, mut source: S) -> Result<BigMSF<'s, S>>
-    ensures file { IfOk result (λ m. (m.file ≡ S.bytes source) × IsOk (layout_of m.file)) }
+    ensures file { IfOk result (λ m. (S.bytes m ≡ S.bytes source) × IsOk (layout_of (S.bytes source))) }
     ensures err { IfErr result (λ e. IsOutside e ((after : S) × HasRisen (S.failures source) (S.failures after)) ⊎ (layout_of (S.bytes source) ≡ Err (fault_of e))) }
 {
     let front = read_front(&mut source, alloc)?;
@@ -416,7 +417,6 @@ pub fn open_msf<'s, S: Source + Drop>(alloc: Global, mut source: S) -> Result<Bi
 }
 
 /// Byte i of what the pages hold is the file's byte in page number i / size, at i % size.
-
 pub fn paged_law()
     ensures { (file pages bytes : List ℕ) (size count : ℕ) → bytes_at file (page_places size pages count) ≡ Ok bytes → IsPaged file size pages count bytes }
 {}

@@ -1,9 +1,11 @@
 -- A call that loads passes a fault of the container on.
-use Rattle.std.proofs.Common.{◌≡◌, Result, Ok, Err, ap, inl, inr, arith}
-use Rattle.std.specs.Prelude.{◌⊎◌, IsOk}
+use Rattle.std.proofs.Common.{◌≡◌, Result, Ok, Err, ap, inl, inr, arith, refl}
+use Rattle.std.specs.Prelude.{◌⊎◌, IsOk, None}
 use Rattle.pdb_container.specs.declared.error.Error.{Error}
 use Rattle.pdb_container.specs.declared.error.Error.TheVariants as errors
-use Rattle.pdb_container.specs.Fault.{Fault, fault_of, IsOutside, HasRisen, ◌>>=◌}
+use Rattle.pdb_container.specs.Fault.{Fault, fault_of, IsOutside, HasRisen, Gives, ◌>>=◌}
+use Rattle.pdb_report.specs.Loading.{none_or}
+use Rattle.pdb_report.specs.Streams.{fault_in}
 use Rattle.pdb_report.specs.Faults.{load_fault_of, lifted, Fails, LoadingFault}
 
 pub load_fails : {A B : Type 0} (e : Error) (read : Result A Fault) (f : A → Result B LoadingFault)
@@ -38,3 +40,27 @@ read_fails (errors.IoError kind) read (inl h) = absurd (rise h.1)
 read_fails (errors.IoError kind) read (inr h) = ap lifted h
 read_fails e read (inl h) = absurd h
 read_fails e read (inr h) = ap lifted h
+
+-- nothing outside keeps a file in memory from being read
+pub outside_none : (e : Error) → IsOutside e (HasRisen 0 0) → IsOutside e ⊥
+outside_none errors.OutOfMemory h = tt
+outside_none (errors.IoError kind) h = absurd (rise h.1)
+outside_none e h = absurd h
+
+pub given_in_memory : {X Y : Type 0} (view : X → Y) (r : Result X Error) (read : Result Y Fault) → Gives view (HasRisen 0 0) r read → Gives view ⊥ r read
+given_in_memory view (Ok x) read h = h
+given_in_memory view (Err e) read (inl h) = inl (outside_none e h)
+given_in_memory view (Err e) read (inr h) = inr h
+
+-- why a container in memory isn't opened
+pub opening_fails : (S : Type 0) {A : Type 0} (e : Error) (read : Result A Fault)
+    → (IsOutside e ((after : S) × HasRisen 0 0) ⊎ (read ≡ Err (fault_of e))) → Fails (load_fault_of e) (lifted (none_or (fault_in read)))
+opening_fails S errors.OutOfMemory read h = tt
+opening_fails S (errors.IoError kind) read (inl h) = absurd (rise h.1.1)
+opening_fails S (errors.IoError kind) read (inr h) = ap (λ r. lifted (none_or (fault_in r))) h
+opening_fails S e read (inl h) = absurd h
+opening_fails S e read (inr h) = ap (λ r. lifted (none_or (fault_in r))) h
+
+pub opened_well : {A F : Type 0} (read : Result A F) → IsOk read → fault_in read ≡ None
+opened_well (Ok x) h = refl
+opened_well (Err e) h = absurd cc

@@ -1,14 +1,17 @@
 pub mod Address
+pub mod Answers
 pub mod Contributions
 pub mod Dbi
 pub mod Faults
 pub mod FaultText
 pub mod Items
 pub mod Lines
+pub mod Loading
 pub mod Modules
 pub mod Procedures
 pub mod RunFaults
 pub mod Sections
+pub mod Shared
 pub mod Streams
 pub mod Symbols
 pub mod Watched

@@ -3,3 +3,4 @@
 pub mod contributions;
 pub mod dbi;
 pub mod modules;
+pub mod pdb;

@@ -1,0 +1,89 @@
+-- What is read of a file before any question, and the fault that keeps it from being loaded.
+use Rattle.std.specs.Prelude.{ℕ, Bool, false, ◌||◌, not, List, [], length, ◌==◌, Option, None, Some, if◌then◌else◌, Result, Ok, Err}
+use Rattle.std.specs.List.{list_any, range_with_len}
+use Rattle.pdb_container.specs.Fault.{Fault, GlobalSymbolsNotFound, ◌>>=◌, refuse}
+use Rattle.pdb_report.specs.declared.pdb_container_types.ImageSectionHeader.{ImageSectionHeader}
+use Rattle.pdb_report.specs.declared.pdb_addr2line.ModuleSectionContribution.{ModuleSectionContribution}
+use Rattle.pdb_report.specs.Faults.{LoadingFault, NotYet, lifted}
+use Rattle.pdb_report.specs.Streams.{Streams, fault_in}
+use Rattle.pdb_report.specs.Dbi.{Dbi, dbi_of}
+use Rattle.pdb_report.specs.Modules.{Module, modules_of, has_lines}
+use Rattle.pdb_report.specs.Sections.{optional_at, section_headers_of}
+use Rattle.pdb_report.specs.Items.{item_header_of}
+use Rattle.pdb_report.specs.Symbols.{symbols_of, is_public}
+use Rattle.pdb_report.specs.Contributions.{held_of}
+use Rattle.pdb_report.specs.Procedures.{symbols_in, has_other}
+use Rattle.pdb_report.specs.Shared.{Bytes, Provider, Shared, shared, provider}
+
+-- what every question goes over
+pub record Parts : Type 0 where
+  pub sections : List ImageSectionHeader
+  pub modules : List Module
+  pub contributions : List ModuleSectionContribution
+
+abbrev pub none_or : Option Fault → Result (Unit {0}) Fault
+none_or None = Ok tt
+none_or (Some e) = Err e
+
+-- the symbol records, in the stream that a number names, of which a file has to have one
+unfoldable pub symbol_records_in : ℕ → Bytes → Bytes
+symbol_records_in n symbols = do
+  named ← refuse (n == 65535) GlobalSymbolsNotFound
+  symbols
+
+-- a number that names a stream
+abbrev pub is_named : ℕ → Bool
+is_named n = not (n == 65535)
+
+-- the section headers of the stream that a number names; no stream is no sections
+unfoldable pub sections_in : ℕ → Bytes → Result (List ImageSectionHeader) Fault
+sections_in n headers = if n == 65535 then Ok [] else headers >>= section_headers_of
+
+-- The address tables: the optional header, and the section headers. A file with address maps or the sections before
+-- its code was moved isn't answered yet.
+unfoldable pub address_tables : List ℕ → Bytes → Result (List ImageSectionHeader) LoadingFault
+address_tables optional_header headers = do
+  to_source ← lifted (optional_at 3 optional_header)
+  from_source ← lifted (optional_at 4 optional_header)
+  original ← lifted (optional_at 10 optional_header)
+  unmapped ← refuse (is_named to_source || is_named from_source || is_named original) NotYet
+  image ← lifted (optional_at 5 optional_header)
+  lifted (sections_in image headers)
+
+-- The steps behind stream 3, in their order, and in each step the first fault. Public symbols and line data aren't
+-- answered yet.
+unfoldable pub loaded_behind : Shared → Dbi → Result Parts LoadingFault
+loaded_behind c dbi = do
+  symbol_bytes ← lifted (symbol_records_in dbi.symbol_records_stream c.symbols)
+  types ← lifted (c.types >>= item_header_of)
+  ids ← lifted (c.ids >>= item_header_of)
+  sections ← address_tables dbi.optional_header c.section_headers
+  modules ← lifted (modules_of dbi.modules)
+  symbols ← lifted (symbols_of (length symbol_bytes) symbol_bytes)
+  contributions ← held_of sections dbi.contributions
+  no_publics ← refuse (list_any is_public symbols) NotYet
+  no_lines ← refuse (list_any has_lines modules) NotYet
+  Ok record { sections = sections; modules = modules; contributions = contributions }
+
+-- All steps: the container, stream 3, and those behind it.
+unfoldable pub loaded : Shared → Result Parts LoadingFault
+loaded c = do
+  opened ← lifted (none_or c.open_fault)
+  dbi ← lifted (c.dbi >>= dbi_of)
+  loaded_behind c dbi
+
+-- a module whose symbols can be read has some that aren't answered yet
+abbrev pub has_other_symbols : Provider → ℕ → Bool
+has_other_symbols provided k = has_other (provided k >>= symbols_in)
+
+-- The parts of a file whose modules have no such symbols. That check reads the modules' streams, and so it stands
+-- behind loading and not in it.
+unfoldable pub answerable : Streams → Result Parts LoadingFault
+answerable s = do
+  parts ← loaded (shared s)
+  plain ← refuse (list_any (has_other_symbols (provider s)) (range_with_len 0 (length parts.modules))) NotYet
+  Ok parts
+
+-- why a file isn't loaded
+abbrev pub load_fault : Streams → Option LoadingFault
+load_fault s = fault_in (answerable s)
