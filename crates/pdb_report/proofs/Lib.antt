@@ -7,3 +7,4 @@ pub mod Runs
 pub mod Writes
 pub mod PlaceSteps
 pub mod ProcedureSteps
+pub mod FrameSteps

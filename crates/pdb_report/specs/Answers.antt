@@ -5,6 +5,7 @@ use Rattle.std.specs.Fmt.{decimal, digits, padded_integral, format_spec}
 use Rattle.std.specs.Str.Lossy.{utf8_lossy}
 use Rattle.pdb_container.specs.Fault.{Fault}
 use Rattle.pdb_report.specs.declared.pdb_container_types.PdbInternalSectionOffset.{PdbInternalSectionOffset}
+use Rattle.pdb_report.specs.declared.pdb_container_types.ImageSectionHeader.{ImageSectionHeader}
 use Rattle.pdb_report.specs.Address.{address_of}
 use Rattle.pdb_report.specs.Faults.{LoadingFault}
 use Rattle.pdb_report.specs.Streams.{Streams}
@@ -44,13 +45,14 @@ abbrev pub found_at : Procedure → Option ℕ → Answer
 found_at q None = Nothing
 found_at q (Some start) = Found start (sections.address_in (start + q.len)) (procedure_frame q ∷ [])
 
-abbrev pub found : Parts → Option Procedure → Answer
-found p None = Nothing
-found p (Some q) = found_at q (sections.address p.sections q.offset)
+-- the answer for a procedure
+abbrev pub found : List ImageSectionHeader → Option Procedure → Answer
+found headers None = Nothing
+found headers (Some q) = found_at q (sections.address headers q.offset)
 
 -- the answer in the module that holds the place
 unfoldable pub answer_in : Parts → Scope → PdbInternalSectionOffset → Answer
-answer_in p in_module place = found p (over (procedures in_module.own) place)
+answer_in p in_module place = found p.sections (over (procedures in_module.own) place)
 
 abbrev pub answer_held : Parts → Provider → PdbInternalSectionOffset → Option ℕ → Answer
 answer_held p provided place None = Nothing

@@ -1,13 +1,13 @@
 -- The contributions of stream 3: which module holds which part of a section.
 use Rattle.std.specs.Prelude.{ℕ, ◌+◌, ◌-◌, ◌^◌, Bool, ◌&&◌, min, List, [], ◌∷◌, length, map, nat_lt, nat_le, ◌==◌, Option, None, Some, if◌then◌else◌, Result, Ok, Err, codes}
-use Rattle.std.specs.List.{filter}
+use Rattle.std.specs.List.{filter, find}
 use Rattle.std.specs.Int.{w16, w32}
 use Rattle.pdb_container.specs.Fault.{Fault, UnimplementedFeature, ◌>>=◌, refuse}
 use Rattle.pdb_container.specs.Fields.{Reader, number_at, entries}
 use Rattle.pdb_report.specs.declared.pdb_container_types.ImageSectionHeader.{ImageSectionHeader}
 use Rattle.pdb_report.specs.declared.pdb_container_types.PdbInternalSectionOffset.{PdbInternalSectionOffset}
 use Rattle.pdb_report.specs.declared.pdb_symbols_modules.contributions.DBISectionContribution.{DBISectionContribution}
-use Rattle.pdb_report.specs.declared.pdb_addr2line.ModuleSectionContribution.{ModuleSectionContribution}
+use Rattle.pdb_report.specs.declared.pdb_addr2line.contributions.ModuleSectionContribution.{ModuleSectionContribution}
 use Rattle.pdb_report.specs.declared.pdb_symbols_modules.contributions.TheConstants.{VERSION_60, VERSION_2}
 use Rattle.pdb_report.specs.Faults.{LoadingFault, NotYet, lifted}
 use Rattle.pdb_report.specs.Sections.{is_executable}
@@ -57,18 +57,25 @@ is_kept sections c = nat_lt 0 c.size && is_executable sections (c.offset).sectio
 abbrev pub span_of : DBISectionContribution → ModuleSectionContribution
 span_of c = record { section = (c.offset).section; start = (c.offset).offset; end = min ((c.offset).offset + c.size) (2 ^ 32 - 1); «module» = c.«module» }
 
+-- what the entries that count hold
+abbrev pub spans_of : List ImageSectionHeader → List DBISectionContribution → List ModuleSectionContribution
+spans_of sections all = map span_of (filter (is_kept sections) all)
+
 -- What the modules hold. Consecutive entries of one module and section would be merged, and their order and overlaps
 -- checked: of several entries that count none is answered yet.
 unfoldable pub held_of : List ImageSectionHeader → List ℕ → Result (List ModuleSectionContribution) LoadingFault
 held_of sections bytes = do
   all ← lifted (contributions_of bytes)
-  few ← refuse (nat_lt 1 (length (filter (is_kept sections) all))) NotYet
-  Ok (map span_of (filter (is_kept sections) all))
+  few ← refuse (nat_lt 1 (length (spans_of sections all))) NotYet
+  Ok (spans_of sections all)
 
-abbrev pub holds : ModuleSectionContribution → PdbInternalSectionOffset → Bool
-holds c p = (c.section == p.section) && (nat_le c.start p.offset && nat_lt p.offset c.end)
+abbrev pub holds : PdbInternalSectionOffset → ModuleSectionContribution → Bool
+holds p c = (c.section == p.section) && (nat_le c.start p.offset && nat_lt p.offset c.end)
+
+abbrev pub module_of : Option ModuleSectionContribution → Option ℕ
+module_of None = None
+module_of (Some c) = Some c.«module»
 
 -- the module that holds a place
 abbrev pub holder : List ModuleSectionContribution → PdbInternalSectionOffset → Option ℕ
-holder [] p = None
-holder (c ∷ others) p = if holds c p then Some c.«module» else holder others p
+holder contributions p = module_of (find (holds p) contributions)

@@ -11,6 +11,7 @@ pub mod Modules
 pub mod Procedures
 pub mod RunFaults
 pub mod Sections
+pub mod Seen
 pub mod Shared
 pub mod Streams
 pub mod Symbols

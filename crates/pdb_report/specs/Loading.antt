@@ -3,7 +3,7 @@ use Rattle.std.specs.Prelude.{ℕ, Bool, false, ◌||◌, not, List, [], length,
 use Rattle.std.specs.List.{list_any, range_with_len}
 use Rattle.pdb_container.specs.Fault.{Fault, GlobalSymbolsNotFound, ◌>>=◌, refuse}
 use Rattle.pdb_report.specs.declared.pdb_container_types.ImageSectionHeader.{ImageSectionHeader}
-use Rattle.pdb_report.specs.declared.pdb_addr2line.ModuleSectionContribution.{ModuleSectionContribution}
+use Rattle.pdb_report.specs.declared.pdb_addr2line.contributions.ModuleSectionContribution.{ModuleSectionContribution}
 use Rattle.pdb_report.specs.Faults.{LoadingFault, NotYet, lifted}
 use Rattle.pdb_report.specs.Streams.{Streams, fault_in}
 use Rattle.pdb_report.specs.Dbi.{Dbi, dbi_of}

@@ -5,6 +5,9 @@ ghost use Rattle.pdb_report.specs.declared.pdb_addr2line.Error.TheVariants.{OutO
 
 use std::alloc::{AllocError, AllocFailed};
 
+pub mod contributions;
+pub mod frames;
+
 /// Why a context answers nothing.
 #[derive(Debug, Drop, PartialEq, thiserror::Error)]
 pub enum Error {
@@ -43,13 +46,4 @@ impl<T: Drop> From<AllocFailed<T>> for Error {
     fn from(_e: AllocFailed<T>) -> Error {
         Error::OutOfMemory
     }
-}
-
-/// What a module holds of a section: from a start to an end, both offsets in bytes, the end not held.
-#[derive(Clone, Copy, Debug)]
-pub struct ModuleSectionContribution {
-    pub section: u16,
-    pub start: u32,
-    pub end: u32,
-    pub module: u16,
 }

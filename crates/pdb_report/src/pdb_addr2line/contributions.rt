@@ -1,0 +1,88 @@
+//! Which module holds which part of a section.
+
+ghost use Rattle.std.specs.Prelude.{◌≡◌, IfOk};
+ghost use Rattle.pdb_report.specs.Contributions.{is_kept as is_kept_entry, span_of as span_of_entry, spans_of, held_of, holds as holds_place, holder as holder_of};
+ghost use Rattle.pdb_report.specs.Faults.{Loads};
+
+use crate::fault::LoadFault;
+use crate::pdb_container_types::{ImageSectionHeader, PdbInternalSectionOffset, is_executable};
+use crate::pdb_symbols_modules::contributions::{DBISectionContribution, parse_contributions};
+use std::alloc::{AllocError, Global};
+
+/// What a module holds of a section: from a start to an end, both offsets in bytes, the end not held.
+#[derive(Clone, Copy, Debug)]
+pub struct ModuleSectionContribution {
+    pub section: u16,
+    pub start: u32,
+    pub end: u32,
+    pub module: u16,
+}
+
+/// Whether an entry counts: it has a size, and code may run in its section.
+fn is_kept(sections: &[ImageSectionHeader], entry: DBISectionContribution) -> bool
+    ensures { result ≡ is_kept_entry sections.now entry }
+{
+    entry.size > 0 && is_executable(sections, entry.offset.section)
+}
+
+/// What an entry holds; an end past 32 bits is cut.
+fn span_of(entry: DBISectionContribution) -> ModuleSectionContribution
+    ensures { result ≡ span_of_entry entry }
+{
+    ModuleSectionContribution {
+        section: entry.offset.section,
+        start: entry.offset.offset,
+        end: entry.offset.offset.saturating_add(entry.size),
+        module: entry.module,
+    }
+}
+
+/// What the entries that count hold.
+fn kept_spans(
+    alloc: Global,
+    sections: &[ImageSectionHeader],
+    entries: &[DBISectionContribution],
+) -> Result<Vec<ModuleSectionContribution>, AllocError>
+    ensures { IfOk result (λ v. v.items ≡ spans_of sections.now entries.now) }
+{
+    entries
+        .iter()
+        .filter(|entry| is_kept(sections, **entry))
+        .map(|entry| span_of(*entry))
+        .collect(alloc)
+}
+
+/// What the modules hold, by the contributions of stream 3. `UnexpectedEof`, `UnimplementedFeature`; `NotYet` for more
+/// than one that counts.
+#[tactic(auto, using(crate::proofs::Lifting::load_fails), unfolding(crate::specs::Contributions::held_of))]
+pub fn held_contributions(
+    alloc: Global,
+    sections: &[ImageSectionHeader],
+    bytes: &[u8],
+) -> Result<Vec<ModuleSectionContribution>, LoadFault>
+    ensures { Loads (λ v. v.items) result (held_of sections.now bytes.now) }
+{
+    let entries = parse_contributions(alloc, bytes)?;
+    let spans = kept_spans(alloc, sections, entries.as_slice())?;
+    if spans.len() > 1 {
+        return Err(LoadFault::NotYet);
+    }
+    Ok(spans)
+}
+
+/// Whether a module holds the place by this.
+fn holds(place: PdbInternalSectionOffset, span: ModuleSectionContribution) -> bool
+    ensures { result ≡ holds_place place span }
+{
+    span.section == place.section && span.start <= place.offset && place.offset < span.end
+}
+
+/// The number of the module that holds the place, counted from 0.
+pub fn holder(spans: &[ModuleSectionContribution], place: PdbInternalSectionOffset) -> Option<u16>
+    ensures { result ≡ holder_of spans.now place }
+{
+    match spans.iter().find(|span| holds(place, **span)) {
+        None => None,
+        Some(span) => Some(span.module),
+    }
+}
