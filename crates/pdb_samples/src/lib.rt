@@ -30,3 +30,6 @@ pub use streams::{
     EndlessReader, FailingReader, FailingWriter, OneByteReader, OneByteWriter, StallingWriter,
 };
 pub use symbols::{Procedure, Scope, Symbol, SymbolPlace, symbol_bytes};
+
+#[cfg(test)]
+mod tests;
