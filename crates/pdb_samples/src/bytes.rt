@@ -1,52 +1,56 @@
-use crate::error::SampleError;
-use std::alloc::{AllocError, Global};
+use crate::error::{Result, SampleError};
+use std::alloc::Global;
 
-/// Appends a number of two bytes, the low one first.
-pub fn push_u16(bytes: &mut Vec<u8>, value: u16) -> Result<(), AllocError> {
-    bytes.extend_from_slice(&value.to_le_bytes())
-}
-
-/// Appends a number of four bytes, the low one first.
-pub fn push_u32(bytes: &mut Vec<u8>, value: u32) -> Result<(), AllocError> {
-    bytes.extend_from_slice(&value.to_le_bytes())
-}
-
-/// The bytes of numbers of four bytes each.
-pub fn words(alloc: Global, values: &[u32]) -> Result<Vec<u8>, AllocError> {
-    let mut bytes = Vec::new(alloc);
-    push_words(&mut bytes, values)?;
-    Ok(bytes)
-}
-
-pub(crate) fn push_words(bytes: &mut Vec<u8>, values: &[u32]) -> Result<(), AllocError> {
+/// Appends numbers of two bytes each, the low byte first.
+pub fn push_u16(bytes: &mut Vec<u8>, values: &[u16]) -> Result<()> {
     for value in values {
-        push_u32(bytes, *value)?;
+        bytes.extend_from_slice(&value.to_le_bytes())?;
+    }
+    Ok(())
+}
+
+/// Appends numbers of four bytes each, the low byte first.
+pub fn push_u32(bytes: &mut Vec<u8>, values: &[u32]) -> Result<()> {
+    for value in values {
+        bytes.extend_from_slice(&value.to_le_bytes())?;
     }
     Ok(())
 }
 
 /// Appends a text and the zero byte that ends it.
-pub(crate) fn push_text(bytes: &mut Vec<u8>, text: &[u8]) -> Result<(), AllocError> {
+pub fn push_text(bytes: &mut Vec<u8>, text: &[u8]) -> Result<()> {
     bytes.extend_from_slice(text)?;
-    bytes.extend_from_slice(&[0])
+    bytes.push(0)?;
+    Ok(())
+}
+
+/// The bytes of numbers of four bytes each.
+pub fn words(alloc: Global, values: &[u32]) -> Result<Vec<u8>> {
+    let mut bytes = Vec::new(alloc);
+    push_u32(&mut bytes, values)?;
+    Ok(bytes)
+}
+
+pub(crate) fn copy(alloc: Global, bytes: &Vec<u8>) -> Result<Vec<u8>> {
+    Ok(Vec::from_slice(alloc, bytes.as_slice())?)
 }
 
 /// Appends zero bytes up to the next multiple of four.
-pub(crate) fn pad_to_four(bytes: &mut Vec<u8>) -> Result<(), AllocError> {
+pub(crate) fn pad_to_four(bytes: &mut Vec<u8>) -> Result<()> {
     let over = bytes.len() % 4;
-    if over == 0 {
-        return Ok(());
+    if over != 0 {
+        bytes.extend_from_slice(&[0, 0, 0][..4 - over])?;
     }
-    bytes.extend_from_slice(&[0, 0, 0][..4 - over])
+    Ok(())
 }
 
-/// How many bytes there are, as the format's numbers say it.
-pub(crate) fn size_of_bytes(bytes: &[u8]) -> Result<u32, SampleError> {
-    u32::try_from(bytes.len()).map_err(|_| SampleError::DoesNotFit)
+/// How many bytes there are, as the format says it.
+pub(crate) fn size(bytes: &Vec<u8>) -> Result<u32> {
+    Ok(u32::try_from(bytes.len())?)
 }
 
 /// Writes `part` over the bytes that begin at `at`.
-pub fn overwrite(bytes: &mut [u8], at: usize, part: &[u8]) -> Result<(), SampleError> {
+pub fn overwrite(bytes: &mut [u8], at: usize, part: &[u8]) -> Result<()> {
     if at > bytes.len() || part.len() > bytes.len() - at {
         return Err(SampleError::DoesNotFit);
     }

@@ -1,7 +1,7 @@
 ghost use Rattle.std.specs.Prelude.{◌<◌, IfOk};
 
-use crate::bytes::{overwrite, push_u32, push_words, size_of_bytes, words};
-use crate::error::SampleError;
+use crate::bytes::{overwrite, push_u32, size, words};
+use crate::error::{Result, SampleError};
 use std::alloc::Global;
 
 const MAGIC: &[u8; 32] = b"Microsoft C/C++ MSF 7.00\r\n\x1aDS\0\0\0";
@@ -55,34 +55,33 @@ impl PageNumbers {
 
 impl Container {
     /// The bytes of the file.
-    pub fn bytes(&self, alloc: Global) -> Result<Vec<u8>, SampleError> {
+    pub fn bytes(&self, alloc: Global) -> Result<Vec<u8>> {
         let pages = self.page_numbers(alloc)?;
         self.bytes_at(alloc, &pages)
     }
 
     /// The bytes of the file with its parts at other pages than its order says.
-    pub fn bytes_at(&self, alloc: Global, pages: &PageNumbers) -> Result<Vec<u8>, SampleError> {
+    pub fn bytes_at(&self, alloc: Global, pages: &PageNumbers) -> Result<Vec<u8>> {
         let list = words(alloc, pages.directory.as_slice())?;
         let directory = self.directory(alloc, pages)?;
         let content = self.content(alloc)?;
-        let mut file = self.header(alloc, size_of_bytes(directory.as_slice())?, pages)?;
-        let length = self
-            .page_start(pages.last())?
-            .checked_add(self.page_bytes()?);
-        let length = length.ok_or(SampleError::DoesNotFit)?;
-        file.resize(length.max(FIRST_VIEW), 0)?;
-        self.place(&mut file, pages.list.as_slice(), list.as_slice())?;
-        self.place(&mut file, pages.directory.as_slice(), directory.as_slice())?;
-        self.place(&mut file, pages.streams.as_slice(), content.as_slice())?;
+        let mut file = self.header(alloc, size(&directory)?, pages)?;
+        let end = self
+            .page_start(pages.last())
+            .saturating_add(self.page_bytes()?);
+        file.resize(end.max(FIRST_VIEW), 0)?;
+        self.place(&mut file, &pages.list, &list)?;
+        self.place(&mut file, &pages.directory, &directory)?;
+        self.place(&mut file, &pages.streams, &content)?;
         Ok(file)
     }
 
     /// The pages that the container's order gives to its parts, numbered from 1.
-    pub fn page_numbers(&self, alloc: Global) -> Result<PageNumbers, SampleError> {
+    pub fn page_numbers(&self, alloc: Global) -> Result<PageNumbers> {
         let owners = self.page_owners(alloc)?;
-        let directory_count = self.pages_of(self.directory_size(owners.len())?)?;
-        let list_size = directory_count.checked_mul(4);
-        let list_count = self.pages_of(list_size.ok_or(SampleError::DoesNotFit)?)?;
+        let count = self.streams.len().saturating_add(owners.len());
+        let directory_count = self.pages_of(count.saturating_add(1).saturating_mul(4))?;
+        let list_count = self.pages_of(directory_count.saturating_mul(4))?;
         let mut next = 1;
         let list = numbers(alloc, &mut next, list_count)?;
         let mut directory = numbers(alloc, &mut next, directory_count)?;
@@ -100,7 +99,7 @@ impl Container {
     }
 
     /// Writes over bytes of a stream.
-    pub fn damage(&mut self, stream: usize, at: usize, part: &[u8]) -> Result<(), SampleError> {
+    pub fn damage(&mut self, stream: usize, at: usize, part: &[u8]) -> Result<()> {
         match self.streams.get_mut(stream) {
             Some(Some(bytes)) => overwrite(bytes.as_mut_slice(), at, part),
             _ => Err(SampleError::DoesNotFit),
@@ -108,12 +107,11 @@ impl Container {
     }
 
     /// The first byte of a page.
-    pub fn page_start(&self, number: u32) -> Result<usize, SampleError> {
-        let start = (number as usize).checked_mul(self.page_size as usize);
-        start.ok_or(SampleError::DoesNotFit)
+    pub fn page_start(&self, number: u32) -> usize {
+        (number as usize).saturating_mul(self.page_size as usize)
     }
 
-    fn page_bytes(&self) -> Result<usize, SampleError>
+    fn page_bytes(&self) -> Result<usize>
         ensures { IfOk result (λ size. 0 < size) }
     {
         match self.page_size {
@@ -123,19 +121,12 @@ impl Container {
     }
 
     /// How many pages hold so many bytes.
-    fn pages_of(&self, length: usize) -> Result<usize, SampleError> {
+    fn pages_of(&self, length: usize) -> Result<usize> {
         Ok(length.div_ceil(self.page_bytes()?))
     }
 
-    fn directory_size(&self, stream_pages: usize) -> Result<usize, SampleError> {
-        let numbers = stream_pages.checked_add(self.streams.len());
-        let numbers = numbers.ok_or(SampleError::DoesNotFit)?.checked_add(1);
-        let size = numbers.ok_or(SampleError::DoesNotFit)?.checked_mul(4);
-        size.ok_or(SampleError::DoesNotFit)
-    }
-
     /// The stream of each stream page, in the order in which they are read.
-    fn page_owners(&self, alloc: Global) -> Result<Vec<usize>, SampleError> {
+    fn page_owners(&self, alloc: Global) -> Result<Vec<usize>> {
         let mut owners = Vec::new(alloc);
         for (number, stream) in self.streams.iter().enumerate() {
             if let Some(bytes) = stream {
@@ -147,12 +138,7 @@ impl Container {
         Ok(owners)
     }
 
-    fn stream_numbers(
-        &self,
-        alloc: Global,
-        first: u32,
-        owners: &Vec<usize>,
-    ) -> Result<Vec<u32>, SampleError> {
+    fn stream_numbers(&self, alloc: Global, first: u32, owners: &Vec<usize>) -> Result<Vec<u32>> {
         let last = match self.order {
             PageOrder::StreamLast(stream) => Some(stream),
             _ => None,
@@ -170,16 +156,13 @@ impl Container {
         Ok(pages)
     }
 
-    fn header(
-        &self,
-        alloc: Global,
-        directory_size: u32,
-        pages: &PageNumbers,
-    ) -> Result<Vec<u8>, SampleError> {
+    fn header(&self, alloc: Global, directory: u32, pages: &PageNumbers) -> Result<Vec<u8>> {
         let mut header = Vec::from_slice(alloc, MAGIC)?;
-        let numbers = [self.page_size, 0, pages.last(), directory_size, 0];
-        push_words(&mut header, &numbers)?;
-        push_words(&mut header, pages.list.as_slice())?;
+        push_u32(
+            &mut header,
+            &[self.page_size, 0, pages.last(), directory, 0],
+        )?;
+        push_u32(&mut header, pages.list.as_slice())?;
         if header.len() > self.page_bytes()? {
             return Err(SampleError::DoesNotFit);
         }
@@ -187,23 +170,21 @@ impl Container {
     }
 
     /// The count of the streams, their sizes and the numbers of their pages.
-    fn directory(&self, alloc: Global, pages: &PageNumbers) -> Result<Vec<u8>, SampleError> {
-        let mut directory = Vec::new(alloc);
-        let count = u32::try_from(self.streams.len()).map_err(|_| SampleError::DoesNotFit)?;
-        push_u32(&mut directory, count)?;
+    fn directory(&self, alloc: Global, pages: &PageNumbers) -> Result<Vec<u8>> {
+        let mut directory = words(alloc, &[u32::try_from(self.streams.len())?])?;
         for stream in &self.streams {
             let size = match stream {
-                Some(bytes) => size_of_bytes(bytes.as_slice())?,
+                Some(bytes) => size(bytes)?,
                 None => ABSENT,
             };
-            push_u32(&mut directory, size)?;
+            push_u32(&mut directory, &[size])?;
         }
-        push_words(&mut directory, pages.streams.as_slice())?;
+        push_u32(&mut directory, pages.streams.as_slice())?;
         Ok(directory)
     }
 
     /// The streams' bytes, each filled up to whole pages.
-    fn content(&self, alloc: Global) -> Result<Vec<u8>, SampleError> {
+    fn content(&self, alloc: Global) -> Result<Vec<u8>> {
         let mut content = Vec::new(alloc);
         for bytes in self.streams.iter().flatten() {
             content.extend_from_slice(bytes.as_slice())?;
@@ -214,17 +195,17 @@ impl Container {
     }
 
     /// Writes a part's bytes into the pages of these numbers.
-    fn place(&self, file: &mut Vec<u8>, pages: &[u32], part: &[u8]) -> Result<(), SampleError> {
+    fn place(&self, file: &mut Vec<u8>, pages: &Vec<u32>, part: &Vec<u8>) -> Result<()> {
         let size = self.page_bytes()?;
-        for (page, bytes) in pages.iter().zip(part.chunks(size)) {
-            overwrite(file.as_mut_slice(), self.page_start(*page)?, bytes)?;
+        for (page, bytes) in pages.iter().zip(part.as_slice().chunks(size)) {
+            overwrite(file.as_mut_slice(), self.page_start(*page), bytes)?;
         }
         Ok(())
     }
 }
 
 /// The next page numbers.
-fn numbers(alloc: Global, next: &mut u32, count: usize) -> Result<Vec<u32>, SampleError> {
+fn numbers(alloc: Global, next: &mut u32, count: usize) -> Result<Vec<u32>> {
     let mut pages = Vec::new(alloc);
     for _ in 0..count {
         pages.push(*next)?;

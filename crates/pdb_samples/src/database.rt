@@ -1,8 +1,8 @@
-use crate::bytes::{push_text, push_u16, push_u32, push_words, size_of_bytes};
+use crate::bytes::{copy, push_text, push_u16, push_u32, size, words};
 use crate::container::{Container, PageOrder};
 use crate::debug_information::{DebugInformation, Module, Section};
-use crate::error::SampleError;
-use std::alloc::{AllocError, Global};
+use crate::error::{Result, SampleError};
+use std::alloc::Global;
 
 /// The number of the first module's stream. Ahead of it lie the old directory, the information,
 /// the types, the debug information, the ids, the symbol records and the section headers.
@@ -11,8 +11,6 @@ const FIRST_MODULE_STREAM: u16 = 7;
 const INFORMATION_VERSION: u32 = 20000404;
 
 const ITEM_VERSION: u32 = 20040203;
-
-const ITEM_HEADER: u32 = 56;
 
 const NAMES_SIGNATURE: u32 = 0xeffe_effe;
 
@@ -71,23 +69,18 @@ impl ItemTable {
     }
 
     /// Appends a record of this leaf and payload, and raises the maximum by one.
-    pub fn push(&mut self, leaf: u16, payload: &[u8]) -> Result<(), SampleError> {
-        let length = payload.len().checked_add(2).ok_or(SampleError::DoesNotFit)?;
-        let length = u16::try_from(length).map_err(|_| SampleError::DoesNotFit)?;
+    pub fn push(&mut self, leaf: u16, payload: &[u8]) -> Result<()> {
+        let length = u16::try_from(payload.len().saturating_add(2))?;
         self.maximum = self.maximum.checked_add(1).ok_or(SampleError::DoesNotFit)?;
-        push_u16(&mut self.records, length)?;
-        push_u16(&mut self.records, leaf)?;
+        push_u16(&mut self.records, &[length, leaf])?;
         self.records.extend_from_slice(payload)?;
         Ok(())
     }
 
-    fn bytes(&self, alloc: Global) -> Result<Vec<u8>, SampleError> {
-        let mut bytes = Vec::new(alloc);
-        let size = size_of_bytes(self.records.as_slice())?;
-        let numbers = [ITEM_VERSION, ITEM_HEADER, self.minimum, self.maximum, size];
-        push_words(&mut bytes, &numbers)?;
-        push_words(&mut bytes, &[0xffff_ffff, 4, 0x3_ffff])?;
-        push_words(&mut bytes, &[0, 0, 0, 0, 0, 0])?;
+    fn bytes(&self, alloc: Global) -> Result<Vec<u8>> {
+        let mut bytes = words(alloc, &[ITEM_VERSION, 56, self.minimum, self.maximum])?;
+        push_u32(&mut bytes, &[size(&self.records)?])?;
+        push_u32(&mut bytes, &[0xffff_ffff, 4, 0x3_ffff, 0, 0, 0, 0, 0, 0])?;
         bytes.extend_from_slice(self.records.as_slice())?;
         Ok(bytes)
     }
@@ -95,69 +88,63 @@ impl ItemTable {
 
 impl Information {
     /// The bytes of the stream, with the number of the names table first.
-    fn bytes(&self, alloc: Global, names: Option<u32>) -> Result<Vec<u8>, SampleError> {
+    fn bytes(&self, alloc: Global, names: Option<u32>) -> Result<Vec<u8>> {
         let mut block = Vec::new(alloc);
         let mut pairs = Vec::new(alloc);
         let mut count = 0u32;
-        let mut present = 0u32;
         if let Some(stream) = names {
             push_name(&mut block, &mut pairs, b"/names", stream)?;
-            (count, present) = (1, 1);
+            count = 1;
         }
         for named in &self.named_streams {
             push_name(&mut block, &mut pairs, named.name.as_slice(), named.stream)?;
-            count = count.checked_add(1).ok_or(SampleError::DoesNotFit)?;
-            present = present.checked_mul(2).ok_or(SampleError::DoesNotFit)? | 1;
+            count = count.saturating_add(1);
         }
-        let mut bytes = Vec::new(alloc);
-        push_words(&mut bytes, &[INFORMATION_VERSION, self.signature, self.age])?;
+        let present = 1u32.checked_shl(count).ok_or(SampleError::DoesNotFit)? - 1;
+        let mut bytes = words(alloc, &[INFORMATION_VERSION, self.signature, self.age])?;
         bytes.extend_from_slice(&self.guid)?;
-        push_u32(&mut bytes, size_of_bytes(block.as_slice())?)?;
-        bytes.extend_from_slice(block.as_slice())?;
-        push_words(&mut bytes, &[count, 32, 1, present, 0])?;
-        bytes.extend_from_slice(pairs.as_slice())?;
+        push_u32(&mut bytes, &[size(&block)?])?;
+        bytes.append(&mut block)?;
+        push_u32(&mut bytes, &[count, 32, 1, present, 0])?;
+        bytes.append(&mut pairs)?;
         Ok(bytes)
     }
 }
 
 /// Appends a name to the block of names, and its offset and its stream's number to the pairs.
-fn push_name(
-    block: &mut Vec<u8>,
-    pairs: &mut Vec<u8>,
-    name: &[u8],
-    stream: u32,
-) -> Result<(), SampleError> {
-    push_u32(pairs, size_of_bytes(block.as_slice())?)?;
-    push_u32(pairs, stream)?;
-    push_text(block, name)?;
-    Ok(())
+fn push_name(block: &mut Vec<u8>, pairs: &mut Vec<u8>, name: &[u8], stream: u32) -> Result<()> {
+    push_u32(pairs, &[size(block)?, stream])?;
+    push_text(block, name)
 }
 
 impl ProgramDatabase {
     /// The file's bytes.
-    pub fn bytes(&self, alloc: Global) -> Result<Vec<u8>, SampleError> {
+    pub fn bytes(&self, alloc: Global) -> Result<Vec<u8>> {
         self.container(alloc)?.bytes(alloc)
     }
 
     /// The file's streams.
-    pub fn container(&self, alloc: Global) -> Result<Container, SampleError> {
-        let information = self.information.bytes(alloc, self.names_stream()?)?;
-        let debug = self.debug.bytes(alloc, &self.modules, FIRST_MODULE_STREAM)?;
+    pub fn container(&self, alloc: Global) -> Result<Container> {
+        let names = self.names_stream()?;
+        let mut headers = Vec::new(alloc);
+        for section in &self.sections {
+            section.push(&mut headers)?;
+        }
         let mut streams = Vec::new(alloc);
         streams.push(Some(Vec::new(alloc)))?;
-        streams.push(Some(information))?;
+        streams.push(Some(self.information.bytes(alloc, names)?))?;
         streams.push(Some(self.types.bytes(alloc)?))?;
-        streams.push(Some(debug))?;
+        streams.push(Some(self.debug.bytes(alloc, &self.modules, FIRST_MODULE_STREAM)?))?;
         streams.push(Some(self.ids.bytes(alloc)?))?;
         streams.push(Some(copy(alloc, &self.symbol_records)?))?;
-        streams.push(Some(self.section_headers(alloc)?))?;
-        for module in &self.modules {
-            if module.has_stream {
-                streams.push(Some(module.stream(alloc)?))?;
-            }
+        streams.push(Some(headers))?;
+        for module in self.modules.iter().filter(|module| module.has_stream) {
+            streams.push(Some(module.stream(alloc)?))?;
         }
         if let Some(names) = &self.names {
-            streams.push(Some(names_table(alloc, names)?))?;
+            let mut table = words(alloc, &[NAMES_SIGNATURE, 1, size(names)?])?;
+            table.extend_from_slice(names.as_slice())?;
+            streams.push(Some(table))?;
         }
         for stream in &self.further_streams {
             streams.push(match stream {
@@ -173,36 +160,16 @@ impl ProgramDatabase {
     }
 
     /// The number of the names table's stream.
-    pub fn names_stream(&self) -> Result<Option<u32>, SampleError> {
+    pub fn names_stream(&self) -> Result<Option<u32>> {
         if self.names.is_none() {
             return Ok(None);
         }
-        let mut stream = u32::from(FIRST_MODULE_STREAM);
-        for module in &self.modules {
-            if module.has_stream {
-                stream = stream.checked_add(1).ok_or(SampleError::DoesNotFit)?;
-            }
-        }
-        Ok(Some(stream))
+        let modules = self
+            .modules
+            .iter()
+            .filter(|module| module.has_stream)
+            .count();
+        let stream = modules.saturating_add(FIRST_MODULE_STREAM as usize);
+        Ok(Some(u32::try_from(stream)?))
     }
-
-    fn section_headers(&self, alloc: Global) -> Result<Vec<u8>, SampleError> {
-        let mut bytes = Vec::new(alloc);
-        for section in &self.sections {
-            section.push(&mut bytes)?;
-        }
-        Ok(bytes)
-    }
-}
-
-fn copy(alloc: Global, bytes: &Vec<u8>) -> Result<Vec<u8>, AllocError> {
-    Vec::from_slice(alloc, bytes.as_slice())
-}
-
-fn names_table(alloc: Global, names: &Vec<u8>) -> Result<Vec<u8>, SampleError> {
-    let mut bytes = Vec::new(alloc);
-    let numbers = [NAMES_SIGNATURE, 1, size_of_bytes(names.as_slice())?];
-    push_words(&mut bytes, &numbers)?;
-    bytes.extend_from_slice(names.as_slice())?;
-    Ok(bytes)
 }

@@ -1,5 +1,5 @@
-use crate::bytes::{pad_to_four, push_text, push_u16, push_u32, push_words, size_of_bytes};
-use crate::error::SampleError;
+use crate::bytes::{copy, pad_to_four, push_text, push_u16, push_u32, size, words};
+use crate::error::{Result, SampleError};
 use crate::symbols::{Symbol, symbol_bytes};
 use std::alloc::Global;
 
@@ -8,7 +8,7 @@ const SIGNATURE: u32 = 0xffff_ffff;
 const VERSION: u32 = 19990903;
 
 /// The number that names no stream.
-const NO_STREAM: u16 = 0xffff;
+pub const NO_STREAM: u16 = 0xffff;
 
 /// A section of the image.
 #[derive(Debug, Clone, Copy, PartialEq, Eq)]
@@ -50,7 +50,7 @@ pub enum ModuleSymbols {
     Bytes(Vec<u8>),
 }
 
-/// The debug information's stream, but for the modules and the streams that it names.
+/// The debug information's stream, but for the modules.
 #[derive(Drop)]
 pub struct DebugInformation {
     pub age: u32,
@@ -63,53 +63,42 @@ pub struct DebugInformation {
     pub contributions: Vec<Contribution>,
     /// The streams that the optional header names, by their places.
     pub optional_header: Vec<u16>,
-    pub other: OtherSubstreams,
-}
-
-/// Substreams that are passed over.
-#[derive(Drop)]
-pub struct OtherSubstreams {
     pub section_map: Vec<u8>,
     pub file_info: Vec<u8>,
     pub type_server_map: Vec<u8>,
     pub edit_and_continue: Vec<u8>,
-    /// A number of the header that is no size.
+    /// A number that stands among the sizes and is none.
     pub mfc_index: u32,
 }
 
 impl Section {
     /// Appends the section's header.
-    pub fn push(&self, bytes: &mut Vec<u8>) -> Result<(), SampleError> {
+    pub fn push(&self, bytes: &mut Vec<u8>) -> Result<()> {
         bytes.extend_from_slice(&self.name)?;
-        let addresses = [self.virtual_size, self.virtual_address];
-        push_words(bytes, &addresses)?;
-        push_words(bytes, &[0, 0, 0, 0, 0, self.characteristics])?;
-        Ok(())
+        push_u32(bytes, &[self.virtual_size, self.virtual_address])?;
+        push_u32(bytes, &[0, 0, 0, 0, 0, self.characteristics])
     }
 }
 
 impl Contribution {
-    fn push(&self, bytes: &mut Vec<u8>) -> Result<(), SampleError> {
-        push_u16(bytes, self.section)?;
-        push_u16(bytes, 0)?;
-        push_words(bytes, &[self.offset, self.size, self.characteristics])?;
-        push_u16(bytes, self.module)?;
-        push_u16(bytes, 0)?;
-        push_words(bytes, &[0, 0])?;
-        Ok(())
+    fn push(&self, bytes: &mut Vec<u8>) -> Result<()> {
+        push_u16(bytes, &[self.section, 0])?;
+        push_u32(bytes, &[self.offset, self.size, self.characteristics])?;
+        push_u16(bytes, &[self.module, 0])?;
+        push_u32(bytes, &[0, 0])
     }
 }
 
 impl Module {
-    fn symbol_bytes(&self, alloc: Global) -> Result<Vec<u8>, SampleError> {
+    fn symbol_bytes(&self, alloc: Global) -> Result<Vec<u8>> {
         match &self.symbols {
             ModuleSymbols::List(symbols) => symbol_bytes(alloc, symbols),
-            ModuleSymbols::Bytes(bytes) => Ok(Vec::from_slice(alloc, bytes.as_slice())?),
+            ModuleSymbols::Bytes(bytes) => copy(alloc, bytes),
         }
     }
 
     /// The bytes of the module's stream.
-    pub fn stream(&self, alloc: Global) -> Result<Vec<u8>, SampleError> {
+    pub fn stream(&self, alloc: Global) -> Result<Vec<u8>> {
         let mut bytes = self.symbol_bytes(alloc)?;
         bytes.extend_from_slice(self.c11.as_slice())?;
         bytes.extend_from_slice(self.c13.as_slice())?;
@@ -117,19 +106,18 @@ impl Module {
     }
 
     /// Appends the module's entry, with the number of its stream.
-    fn push(&self, alloc: Global, bytes: &mut Vec<u8>, stream: u16) -> Result<(), SampleError> {
-        push_words(bytes, &[0, 0, 0, 0, 0, 0, 0, 0])?;
-        push_u16(bytes, 0)?;
-        push_u16(bytes, if self.has_stream { stream } else { NO_STREAM })?;
-        let symbols = self.symbol_bytes(alloc)?;
-        for part in [symbols.as_slice(), self.c11.as_slice(), self.c13.as_slice()] {
-            push_u32(bytes, size_of_bytes(part)?)?;
-        }
-        push_words(bytes, &[0, 0, 0, 0])?;
+    fn push(&self, alloc: Global, bytes: &mut Vec<u8>, stream: u16) -> Result<()> {
+        push_u32(bytes, &[0, 0, 0, 0, 0, 0, 0, 0])?;
+        push_u16(
+            bytes,
+            &[0, if self.has_stream { stream } else { NO_STREAM }],
+        )?;
+        let symbols = size(&self.symbol_bytes(alloc)?)?;
+        push_u32(bytes, &[symbols, size(&self.c11)?, size(&self.c13)?])?;
+        push_u32(bytes, &[0, 0, 0, 0])?;
         push_text(bytes, self.name.as_slice())?;
         push_text(bytes, self.object_name.as_slice())?;
-        pad_to_four(bytes)?;
-        Ok(())
+        pad_to_four(bytes)
     }
 }
 
@@ -140,58 +128,41 @@ impl DebugInformation {
         alloc: Global,
         modules: &Vec<Module>,
         first: u16,
-    ) -> Result<Vec<u8>, SampleError> {
+    ) -> Result<Vec<u8>> {
         let modules = module_list(alloc, modules, first)?;
-        let contributions = self.contribution_list(alloc)?;
-        let mut optional = Vec::new(alloc);
-        for number in &self.optional_header {
-            push_u16(&mut optional, *number)?;
-        }
-        let mut bytes = self.header_start(alloc)?;
-        let front = [&modules, &contributions, &self.other.section_map];
-        let middle = [&self.other.file_info, &self.other.type_server_map];
-        for part in front.iter().chain(middle.iter()) {
-            push_u32(&mut bytes, size_of_bytes(part.as_slice())?)?;
-        }
-        push_u32(&mut bytes, self.other.mfc_index)?;
-        let back = [&optional, &self.other.edit_and_continue];
-        for part in back.iter() {
-            push_u32(&mut bytes, size_of_bytes(part.as_slice())?)?;
-        }
-        push_u16(&mut bytes, self.flags)?;
-        push_u16(&mut bytes, self.machine)?;
-        push_u32(&mut bytes, 0)?;
-        for part in front.iter().chain(middle.iter()).chain(back.iter().rev()) {
-            bytes.extend_from_slice(part.as_slice())?;
-        }
-        Ok(bytes)
-    }
-
-    /// The header's numbers ahead of the sizes.
-    fn header_start(&self, alloc: Global) -> Result<Vec<u8>, SampleError> {
-        let mut bytes = Vec::new(alloc);
-        push_words(&mut bytes, &[SIGNATURE, VERSION, self.age])?;
-        push_u16(&mut bytes, self.global_symbols)?;
-        push_u16(&mut bytes, 0)?;
-        push_u16(&mut bytes, self.public_symbols)?;
-        push_u16(&mut bytes, 0)?;
-        push_u16(&mut bytes, self.symbol_records)?;
-        push_u16(&mut bytes, 0)?;
-        Ok(bytes)
-    }
-
-    fn contribution_list(&self, alloc: Global) -> Result<Vec<u8>, SampleError> {
-        let mut bytes = Vec::new(alloc);
-        push_u32(&mut bytes, self.contributions_version)?;
+        let mut contributions = words(alloc, &[self.contributions_version])?;
         for contribution in &self.contributions {
-            contribution.push(&mut bytes)?;
+            contribution.push(&mut contributions)?;
+        }
+        let mut optional = Vec::new(alloc);
+        push_u16(&mut optional, self.optional_header.as_slice())?;
+        let front = [&modules, &contributions, &self.section_map];
+        let middle = [&self.file_info, &self.type_server_map];
+        let mut bytes = words(alloc, &[SIGNATURE, VERSION, self.age])?;
+        push_u16(
+            &mut bytes,
+            &[self.global_symbols, 0, self.public_symbols, 0],
+        )?;
+        push_u16(&mut bytes, &[self.symbol_records, 0])?;
+        for part in front.iter().chain(middle.iter()) {
+            push_u32(&mut bytes, &[size(part)?])?;
+        }
+        push_u32(&mut bytes, &[self.mfc_index])?;
+        push_u32(
+            &mut bytes,
+            &[size(&optional)?, size(&self.edit_and_continue)?],
+        )?;
+        push_u16(&mut bytes, &[self.flags, self.machine, 0, 0])?;
+        let back = [&self.edit_and_continue, &optional];
+        for part in front.iter().chain(middle.iter()).chain(back.iter()) {
+            bytes.extend_from_slice(part.as_slice())?;
         }
         Ok(bytes)
     }
 }
 
 /// The entries of the modules, whose streams are numbered from `first` on.
-fn module_list(alloc: Global, modules: &Vec<Module>, first: u16) -> Result<Vec<u8>, SampleError> {
+fn module_list(alloc: Global, modules: &Vec<Module>, first: u16) -> Result<Vec<u8>> {
     let mut bytes = Vec::new(alloc);
     let mut stream = first;
     for module in modules {

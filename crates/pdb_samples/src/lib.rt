@@ -12,13 +12,13 @@ mod rows;
 mod streams;
 mod symbols;
 
-pub use bytes::{overwrite, push_u16, push_u32, words};
+pub use bytes::{overwrite, push_text, push_u16, push_u32, words};
 pub use container::{Container, PageNumbers, PageOrder};
 pub use database::{Information, ItemTable, NamedStream, ProgramDatabase};
 pub use debug_information::{
-    Contribution, DebugInformation, Module, ModuleSymbols, OtherSubstreams, Section,
+    Contribution, DebugInformation, Module, ModuleSymbols, NO_STREAM, Section,
 };
-pub use error::SampleError;
+pub use error::{Result, SampleError};
 pub use line_data::{LineRow, LineRun, checksums, push_subsection};
 pub use rows::{
     cut_dbi, file_f, file_f0, file_of_symbols, inline_site, line_data_of_f, public_symbol,
@@ -29,7 +29,7 @@ pub use rows::{
 pub use streams::{
     EndlessReader, FailingReader, FailingWriter, OneByteReader, OneByteWriter, StallingWriter,
 };
-pub use symbols::{Procedure, Scope, Symbol, SymbolPlace, symbol_bytes};
+pub use symbols::{Procedure, Scope, Symbol, SymbolPlace, record, symbol_bytes};
 
 #[cfg(test)]
 mod tests;

@@ -1,14 +1,9 @@
-use crate::bytes::{pad_to_four, push_u16, push_u32, push_words, size_of_bytes};
-use crate::error::SampleError;
-use std::alloc::{AllocError, Global};
+use crate::bytes::{pad_to_four, push_u16, push_u32, size, words};
+use crate::error::Result;
+use std::alloc::Global;
 
 /// Marks a row as the start of a statement.
 const STATEMENT: u32 = 0x8000_0000;
-
-/// The header of a block of rows has so many bytes, and each row so many.
-const BLOCK_HEADER: u32 = 12;
-
-const ROW: u32 = 8;
 
 /// The rows of one run of code, all of one file.
 #[derive(Clone, Copy)]
@@ -29,40 +24,32 @@ pub struct LineRow {
 }
 
 /// Appends a subsection of a module's line data, with its kind and length.
-pub fn push_subsection(into: &mut Vec<u8>, kind: u32, bytes: &[u8]) -> Result<(), SampleError> {
-    push_u32(into, kind)?;
-    push_u32(into, size_of_bytes(bytes)?)?;
-    into.extend_from_slice(bytes)?;
-    pad_to_four(into)?;
-    Ok(())
+pub fn push_subsection(into: &mut Vec<u8>, kind: u32, bytes: &Vec<u8>) -> Result<()> {
+    push_u32(into, &[kind, size(bytes)?])?;
+    into.extend_from_slice(bytes.as_slice())?;
+    pad_to_four(into)
 }
 
 /// The bytes of a checksum subsection: an entry without a checksum for each name, which is given
 /// by its offset in the names table. Each entry takes eight bytes.
-pub fn checksums(alloc: Global, names: &[u32]) -> Result<Vec<u8>, AllocError> {
+pub fn checksums(alloc: Global, names: &[u32]) -> Result<Vec<u8>> {
     let mut bytes = Vec::new(alloc);
     for name in names {
-        push_words(&mut bytes, &[*name, 0])?;
+        push_u32(&mut bytes, &[*name, 0])?;
     }
     Ok(bytes)
 }
 
 impl LineRun<'_> {
     /// The bytes of a subsection of lines.
-    pub fn bytes(&self, alloc: Global) -> Result<Vec<u8>, SampleError> {
-        let mut bytes = Vec::new(alloc);
-        push_u32(&mut bytes, self.offset)?;
-        push_u16(&mut bytes, self.section)?;
-        push_u16(&mut bytes, 0)?;
-        push_u32(&mut bytes, self.size)?;
-        let count = u32::try_from(self.rows.len()).map_err(|_| SampleError::DoesNotFit)?;
-        let size = count.checked_mul(ROW).ok_or(SampleError::DoesNotFit)?;
-        let size = size
-            .checked_add(BLOCK_HEADER)
-            .ok_or(SampleError::DoesNotFit)?;
-        push_words(&mut bytes, &[self.file, count, size])?;
+    pub fn bytes(&self, alloc: Global) -> Result<Vec<u8>> {
+        let mut bytes = words(alloc, &[self.offset])?;
+        push_u16(&mut bytes, &[self.section, 0])?;
+        let count = u32::try_from(self.rows.len())?;
+        let block_size = count.saturating_mul(8).saturating_add(12);
+        push_u32(&mut bytes, &[self.size, self.file, count, block_size])?;
         for row in self.rows {
-            push_words(&mut bytes, &[row.offset, row.line | STATEMENT])?;
+            push_u32(&mut bytes, &[row.offset, row.line | STATEMENT])?;
         }
         Ok(bytes)
     }

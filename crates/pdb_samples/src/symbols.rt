@@ -1,6 +1,6 @@
-use crate::bytes::{pad_to_four, push_text, push_u16, push_u32, push_words, size_of_bytes};
-use crate::error::SampleError;
-use std::alloc::{AllocError, Global};
+use crate::bytes::{overwrite, pad_to_four, push_text, push_u16, push_u32, size, words};
+use crate::error::Result;
+use std::alloc::Global;
 
 /// What a module's symbols begin with.
 const SIGNATURE: u32 = 4;
@@ -18,9 +18,8 @@ pub enum SymbolPlace {
 #[derive(Drop)]
 pub enum Symbol {
     Procedure(Procedure),
-    /// A thunk, separated code or an inline site: its payload begins with a parent and an end.
     Scope(Scope),
-    /// Any other: a kind and the whole payload.
+    /// A kind and the whole payload.
     Other(u16, Vec<u8>),
 }
 
@@ -41,7 +40,8 @@ pub struct Procedure {
     pub name: Vec<u8>,
 }
 
-/// A symbol whose payload begins with a parent and an end.
+/// A symbol whose payload begins with a parent and an end, as a thunk, separated code or an
+/// inline site.
 #[derive(Drop)]
 pub struct Scope {
     pub kind: u16,
@@ -52,20 +52,30 @@ pub struct Scope {
 }
 
 /// A module's symbols as its stream begins with them.
-pub fn symbol_bytes(alloc: Global, symbols: &Vec<Symbol>) -> Result<Vec<u8>, SampleError> {
+pub fn symbol_bytes(alloc: Global, symbols: &Vec<Symbol>) -> Result<Vec<u8>> {
     let mut places = Vec::new(alloc);
-    let mut bytes = Vec::new(alloc);
-    push_u32(&mut bytes, SIGNATURE)?;
+    let mut bytes = words(alloc, &[SIGNATURE])?;
     for symbol in symbols {
-        places.push(size_of_bytes(bytes.as_slice())?)?;
-        let none = Vec::new(alloc);
-        bytes.append(&mut symbol.record(alloc, &none)?)?;
+        places.push(size(&bytes)?)?;
+        bytes.append(&mut symbol.record(alloc, &Vec::new(alloc))?)?;
     }
     bytes.truncate(4);
     for symbol in symbols {
         bytes.append(&mut symbol.record(alloc, &places)?)?;
     }
     Ok(bytes)
+}
+
+/// The record of this kind and payload, filled up with zero bytes to a multiple of four. Its
+/// length counts these.
+pub fn record(alloc: Global, kind: u16, payload: &Vec<u8>) -> Result<Vec<u8>> {
+    let mut record = Vec::new(alloc);
+    push_u16(&mut record, &[0, kind])?;
+    record.extend_from_slice(payload.as_slice())?;
+    pad_to_four(&mut record)?;
+    let length = u16::try_from(record.len().saturating_sub(2))?;
+    overwrite(record.as_mut_slice(), 0, &length.to_le_bytes())?;
+    Ok(record)
 }
 
 impl SymbolPlace {
@@ -78,32 +88,20 @@ impl SymbolPlace {
 }
 
 impl Symbol {
-    /// The record, filled up with zero bytes to a multiple of four, which its length counts.
-    fn record(&self, alloc: Global, places: &Vec<u32>) -> Result<Vec<u8>, SampleError> {
-        let mut payload = Vec::new(alloc);
+    fn record(&self, alloc: Global, places: &Vec<u32>) -> Result<Vec<u8>> {
         match self {
-            Symbol::Procedure(procedure) => procedure.push(&mut payload, places)?,
-            Symbol::Scope(scope) => scope.push(&mut payload, places)?,
-            Symbol::Other(kind, bytes) => {
-                push_u16(&mut payload, *kind)?;
-                payload.extend_from_slice(bytes.as_slice())?;
+            Symbol::Procedure(procedure) => {
+                record(alloc, procedure.kind, &procedure.payload(alloc, places)?)
             }
+            Symbol::Scope(scope) => {
+                let ends = [scope.parent.resolve(places), scope.end.resolve(places)];
+                let mut payload = words(alloc, &ends)?;
+                payload.extend_from_slice(scope.rest.as_slice())?;
+                record(alloc, scope.kind, &payload)
+            }
+            Symbol::Other(kind, payload) => record(alloc, *kind, payload),
         }
-        record(alloc, &payload)
     }
-}
-
-/// A record of this kind and payload.
-pub(crate) fn record(alloc: Global, payload: &Vec<u8>) -> Result<Vec<u8>, SampleError> {
-    let mut padded = Vec::from_slice(alloc, &[0, 0])?;
-    padded.extend_from_slice(payload.as_slice())?;
-    pad_to_four(&mut padded)?;
-    let length = padded.len().saturating_sub(2);
-    let length = u16::try_from(length).map_err(|_| SampleError::DoesNotFit)?;
-    let mut record = Vec::new(alloc);
-    push_u16(&mut record, length)?;
-    record.extend_from_slice(padded.as_slice().get(2..).unwrap_or(&[]))?;
-    Ok(record)
 }
 
 impl Procedure {
@@ -125,30 +123,19 @@ impl Procedure {
         }
     }
 
-    fn push(&self, payload: &mut Vec<u8>, places: &Vec<u32>) -> Result<(), AllocError> {
-        push_u16(payload, self.kind)?;
-        let numbers = [
-            self.parent.resolve(places),
-            self.end.resolve(places),
-            self.next.resolve(places),
-            self.length,
-            self.debug_start,
-            self.debug_end,
-            self.type_index,
-            self.offset,
-        ];
-        push_words(payload, &numbers)?;
-        push_u16(payload, self.section)?;
-        payload.extend_from_slice(&[self.flags])?;
-        push_text(payload, self.name.as_slice())
-    }
-}
-
-impl Scope {
-    fn push(&self, payload: &mut Vec<u8>, places: &Vec<u32>) -> Result<(), AllocError> {
-        push_u16(payload, self.kind)?;
-        push_u32(payload, self.parent.resolve(places))?;
-        push_u32(payload, self.end.resolve(places))?;
-        payload.extend_from_slice(self.rest.as_slice())
+    fn payload(&self, alloc: Global, places: &Vec<u32>) -> Result<Vec<u8>> {
+        let mut payload = Vec::new(alloc);
+        for place in [self.parent, self.end, self.next] {
+            push_u32(&mut payload, &[place.resolve(places)])?;
+        }
+        push_u32(
+            &mut payload,
+            &[self.length, self.debug_start, self.debug_end],
+        )?;
+        push_u32(&mut payload, &[self.type_index, self.offset])?;
+        push_u16(&mut payload, &[self.section])?;
+        payload.push(self.flags)?;
+        push_text(&mut payload, self.name.as_slice())?;
+        Ok(payload)
     }
 }
