@@ -8,3 +8,4 @@ pub mod Writes
 pub mod PlaceSteps
 pub mod ProcedureSteps
 pub mod FrameSteps
+pub mod LoadingSteps

@@ -4,6 +4,8 @@ use Rattle.std.specs.Prelude.{◌⊎◌, IsOk, None}
 use Rattle.pdb_container.specs.declared.error.Error.{Error}
 use Rattle.pdb_container.specs.declared.error.Error.TheVariants as errors
 use Rattle.pdb_container.specs.Fault.{Fault, fault_of, IsOutside, HasRisen, Gives, ◌>>=◌}
+use Rattle.pdb_report.specs.declared.fault.LoadFault.{LoadFault}
+use Rattle.pdb_report.specs.declared.fault.LoadFault.TheVariants as faults
 use Rattle.pdb_report.specs.Loading.{none_or}
 use Rattle.pdb_report.specs.Streams.{fault_in}
 use Rattle.pdb_report.specs.Faults.{load_fault_of, lifted, Fails, LoadingFault}
@@ -64,3 +66,21 @@ opening_fails S e read (inr h) = ap (λ r. lifted (none_or (fault_in r))) h
 pub opened_well : {A F : Type 0} (read : Result A F) → IsOk read → fault_in read ≡ None
 opened_well (Ok x) h = refl
 opened_well (Err e) h = absurd cc
+
+-- ---- what a call answers, in the middle of a load and at its end
+
+pub parse_fails : {A B : Type 0} (e : Error) (read : Result A Fault) (f : A → Result B LoadingFault) → read ≡ Err (fault_of e) → Fails (load_fault_of e) (lifted read >>= f)
+parse_fails errors.OutOfMemory read f h = tt
+parse_fails e read f h = ap (λ r. lifted r >>= f) h
+
+pub load_fails_last : {A : Type 0} (e : Error) (read : Result A Fault) → (IsOutside e ⊥ ⊎ (read ≡ Err (fault_of e))) → Fails (load_fault_of e) (lifted read)
+load_fails_last errors.OutOfMemory read h = tt
+load_fails_last (errors.IoError kind) read (inl h) = absurd h.1
+load_fails_last (errors.IoError kind) read (inr h) = ap lifted h
+load_fails_last e read (inl h) = absurd h
+load_fails_last e read (inr h) = ap lifted h
+
+-- a step that has failed is the end
+pub fails_on : {A B : Type 0} (e : LoadFault) (read : Result A LoadingFault) (f : A → Result B LoadingFault) → Fails e read → Fails e (read >>= f)
+fails_on faults.OutOfMemory read f h = tt
+fails_on e read f h = ap (λ r. r >>= f) h

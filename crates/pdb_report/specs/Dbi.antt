@@ -4,6 +4,7 @@ use Rattle.std.specs.Int.{w16, w32}
 use Rattle.pdb_container.specs.Fault.{Fault, UnexpectedEof, UnimplementedFeature, ◌>>=◌, refuse}
 use Rattle.pdb_container.specs.Fields.{number_in}
 use Rattle.pdb_report.specs.declared.pdb_symbols_modules.dbi.DBIHeader.{DBIHeader}
+use Rattle.pdb_report.specs.declared.pdb_symbols_modules.dbi.DebugInformation.{DebugInformation}
 
 -- The header: 64 bytes, of which these are the numbers that loading needs, each at its place.
 unfoldable pub header_of : List ℕ → Result DBIHeader Fault
@@ -37,6 +38,10 @@ pub record Dbi : Type 0 where
   pub modules : List ℕ
   pub contributions : List ℕ
   pub optional_header : List ℕ
+
+-- what the code has read of it
+abbrev pub dbi_seen : DebugInformation → Dbi
+dbi_seen d = record { symbol_records_stream = d.symbol_records_stream; modules = d.modules.now; contributions = d.contributions.now; optional_header = d.optional_header.now }
 
 -- so many bytes from a place on
 abbrev pub piece : List ℕ → ℕ → ℕ → List ℕ

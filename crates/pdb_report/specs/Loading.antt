@@ -21,6 +21,10 @@ pub record Parts : Type 0 where
   pub modules : List Module
   pub contributions : List ModuleSectionContribution
 
+-- a reading behind another one
+abbrev pub behind : {A B : Type 0} → Result A Fault → (A → Result B Fault) → Result B Fault
+behind read next = read >>= next
+
 abbrev pub none_or : Option Fault → Result (Unit {0}) Fault
 none_or None = Ok tt
 none_or (Some e) = Err e

@@ -7,6 +7,7 @@ mod answers;
 mod engine;
 pub mod fault;
 mod line_start;
+mod loading;
 mod numbers;
 pub mod pdb_addr2line;
 pub mod pdb_container_types;

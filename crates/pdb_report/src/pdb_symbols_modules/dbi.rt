@@ -2,11 +2,10 @@
 
 ghost use Rattle.std.specs.Prelude.{◌≡◌, ◌+◌, ◌≤◌, length};
 ghost use Rattle.pdb_container.specs.Fault.{Parses};
-ghost use Rattle.pdb_report.specs.Dbi.{header_of, substreams_of, dbi_of, piece as piece_of};
+ghost use Rattle.pdb_report.specs.Dbi.{header_of, substreams_of, dbi_of, dbi_seen, piece as piece_of};
 
 use crate::numbers::{u16_in, u32_in};
 use pdb_container::{Error, Result};
-use std::marker::Model;
 
 /// How many bytes the header has.
 const HEADER_SIZE: usize = 64;
@@ -26,20 +25,12 @@ pub struct DBIHeader {
 
 /// What is read of stream 3: the number of the stream of symbol records (65535 for none), and the bytes of the module
 /// list, of the contributions and of the optional header.
-#[derive(Debug, Drop)]
+#[derive(Clone, Copy, Debug)]
 pub struct DebugInformation<'b> {
     pub symbol_records_stream: u16,
     pub modules: &'b [u8],
     pub contributions: &'b [u8],
     pub optional_header: &'b [u8],
-}
-
-impl<'b> Model for DebugInformation<'b> {
-    ghost use Rattle.pdb_report.specs.Dbi.{Dbi};
-
-    ghost Value = { Dbi };
-
-    ghost view = { λ d. record { symbol_records_stream = d.symbol_records_stream; modules = d.modules.now; contributions = d.contributions.now; optional_header = d.optional_header.now } };
 }
 
 /// The header of stream 3. `UnexpectedEof` where it is short, `UnimplementedFeature` where it has another signature.
@@ -77,7 +68,7 @@ fn piece(bytes: &[u8], place: usize, size: usize) -> &[u8]
 /// The substreams that the header names. `UnexpectedEof` where they reach past the stream's end.
 #[tactic(auto, unfolding(crate::specs::Dbi::substreams_of))]
 fn substreams(header: DBIHeader, bytes: &[u8]) -> Result<DebugInformation<'_>>
-    ensures { Parses (λ d. d) result (substreams_of header bytes.now) }
+    ensures { Parses dbi_seen result (substreams_of header bytes.now) }
 {
     let modules_size = header.module_list_size as usize;
     let contributions_size = header.section_contribution_size as usize;
@@ -103,7 +94,7 @@ fn substreams(header: DBIHeader, bytes: &[u8]) -> Result<DebugInformation<'_>>
 /// What is read of stream 3. `UnexpectedEof`, `UnimplementedFeature`.
 #[tactic(auto, unfolding(crate::specs::Dbi::dbi_of))]
 pub fn parse_debug_information(bytes: &[u8]) -> Result<DebugInformation<'_>>
-    ensures { Parses (λ d. d) result (dbi_of bytes.now) }
+    ensures { Parses dbi_seen result (dbi_of bytes.now) }
 {
     let header = parse_header(bytes)?;
     substreams(header, bytes)
