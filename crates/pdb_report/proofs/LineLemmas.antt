@@ -1,9 +1,8 @@
 -- The lines that the engine keeps are those of the definition.
-use Rattle.std.proofs.Common.{◌≡◌, ◌≢◌, ℕ, zero, suc, ◌+◌, ◌≤◌, ◌<◌, Bool, true, false, cond, List, [], ◌∷◌, ◌++◌, refl, sym, ap, subst, ◌∙◌, append_assoc, append-nil, length, take, drop, get_or, arith, rules, length-append, take-append-drop}
+use Rattle.std.proofs.Common.{◌≡◌, ℕ, zero, suc, ◌+◌, ◌<◌, true, false, cond, List, [], ◌∷◌, ◌++◌, refl, sym, ap, subst, ◌∙◌, append_assoc, append-nil, length, take, drop, get_or, take-append-drop}
 use Rattle.std.specs.Prelude.{◌==◌, Option, Result, Ok, Err, OnErr}
 use Rattle.std.specs.Io.KnownBytes.{Appends}
 use Rattle.std.proofs.KnownBytes.{Appends-trans}
-use Rattle.std.proofs.lemmas.Bool.Decides.{nat_tests}
 use Rattle.std.specs.List.{flat_map}
 use Rattle.std.proofs.lemmas.Grind.{flat_map-append}
 use Rattle.std.proofs.lemmas.List.{take_more}
@@ -14,7 +13,7 @@ pub kept_lines-append : (kept xs ys : List ℕ) → kept_lines kept (xs ++ ys) �
 kept_lines-append kept [] ys = refl
 kept_lines-append kept (x ∷ xs) ys =
     elim (x == 10) as (λ b. cond b (kept ∷ kept_lines [] (xs ++ ys)) (kept_lines (take 12 (kept ++ x ∷ [])) (xs ++ ys))
-      ≡ cond b (kept ∷ kept_lines [] xs) (kept_lines (take 12 (kept ++ x ∷ [])) xs) ++ kept_lines (cond b (kept_rest [] xs) (kept_rest (take 12 (kept ++ x ∷ [])) xs)) ys) [
+    ≡ cond b (kept ∷ kept_lines [] xs) (kept_lines (take 12 (kept ++ x ∷ [])) xs) ++ kept_lines (cond b (kept_rest [] xs) (kept_rest (take 12 (kept ++ x ∷ [])) xs)) ys) [
       | true ↦ ap (λ l. kept ∷ l) (kept_lines-append [] xs ys)
       | false ↦ kept_lines-append (take 12 (kept ++ x ∷ [])) xs ys
     ]
@@ -146,8 +145,8 @@ pub out_more : (text text' : List ℕ → List ℕ) (a b c : Option (List ℕ)) 
     → Appends a b (flat_map text (kept_lines kept (take i bytes))) → Appends b c (flat_map text' (kept_lines kept' (get_or bytes i 0 ∷ []))) → Appends a c (flat_map text (kept_lines kept (take (i + 1) bytes)))
 out_more text text' a b c kept kept' bytes i h et ek p q =
     let now : Appends b c (flat_map text (kept_lines (kept_rest kept (take i bytes)) (get_or bytes i 0 ∷ []))) =
-      subst (λ (t : List ℕ → List ℕ). Appends b c (flat_map t (kept_lines (kept_rest kept (take i bytes)) (get_or bytes i 0 ∷ [])))) et
-        (subst (λ (k : List ℕ). Appends b c (flat_map text' (kept_lines k (get_or bytes i 0 ∷ [])))) ek q) in
+    subst (λ (t : List ℕ → List ℕ). Appends b c (flat_map t (kept_lines (kept_rest kept (take i bytes)) (get_or bytes i 0 ∷ [])))) et
+    (subst (λ (k : List ℕ). Appends b c (flat_map text' (kept_lines k (get_or bytes i 0 ∷ [])))) ek q) in
     let joined = ap (flat_map text) (kept_lines-more kept bytes i h) ∙ flat_map-append text (kept_lines kept (take i bytes)) (kept_lines (kept_rest kept (take i bytes)) (get_or bytes i 0 ∷ [])) in
     subst (λ (l : List ℕ). Appends a c l) (sym joined) (Appends-trans a b c _ _ p now)
 
@@ -159,14 +158,15 @@ begins_more : (text : List ℕ → List ℕ) (kept bytes : List ℕ) (i : ℕ) (
     → Begins (flat_map text (kept_lines kept (take i bytes)) ++ out) (flat_map text (kept_lines kept bytes))
 begins_more text kept bytes i out h (more, p) =
     let done = flat_map text (kept_lines kept (take i bytes)) in
-    let rest = flat_map text (kept_lines (kept_rest kept (take (i + 1) bytes)) (drop (i + 1) bytes)) in
-    (more ++ rest,
+    let rest = flat_map text (kept_lines (kept_rest kept (take (i + 1) bytes)) (drop (i + 1) bytes)) in (
+      more ++ rest,
       ap (λ l. flat_map text (kept_lines kept l)) (sym (take-append-drop (i + 1) bytes))
-      ∙ ap (flat_map text) (kept_lines-append kept (take (i + 1) bytes) (drop (i + 1) bytes))
-      ∙ flat_map-append text (kept_lines kept (take (i + 1) bytes)) _
-      ∙ ap (λ l. l ++ rest) (ap (flat_map text) (kept_lines-more kept bytes i h) ∙ flat_map-append text (kept_lines kept (take i bytes)) _ ∙ ap (λ l. done ++ l) p)
-      ∙ ap (λ l. l ++ rest) (sym (append_assoc done out more))
-      ∙ append_assoc (done ++ out) more rest)
+          ∙ ap (flat_map text) (kept_lines-append kept (take (i + 1) bytes) (drop (i + 1) bytes))
+          ∙ flat_map-append text (kept_lines kept (take (i + 1) bytes)) _
+          ∙ ap (λ l. l ++ rest) (ap (flat_map text) (kept_lines-more kept bytes i h) ∙ flat_map-append text (kept_lines kept (take i bytes)) _ ∙ ap (λ l. done ++ l) p)
+          ∙ ap (λ l. l ++ rest) (sym (append_assoc done out more))
+          ∙ append_assoc (done ++ out) more rest,
+    )
 
 pub part_more : (text text' : List ℕ → List ℕ) (a b c : Option (List ℕ)) (kept kept' bytes : List ℕ) (i : ℕ) → i < length bytes → text' ≡ text → kept' ≡ kept_rest kept (take i bytes)
     → Appends a b (flat_map text (kept_lines kept (take i bytes)))
@@ -174,8 +174,8 @@ pub part_more : (text text' : List ℕ → List ℕ) (a b c : Option (List ℕ))
     → (out : List ℕ) × Appends a c out × Begins out (flat_map text (kept_lines kept bytes))
 part_more text text' a b c kept kept' bytes i h et ek p (out, q, begins) =
     let now : Begins out (flat_map text (kept_lines (kept_rest kept (take i bytes)) (get_or bytes i 0 ∷ []))) =
-      subst (λ (t : List ℕ → List ℕ). Begins out (flat_map t (kept_lines (kept_rest kept (take i bytes)) (get_or bytes i 0 ∷ [])))) et
-        (subst (λ (k : List ℕ). Begins out (flat_map text' (kept_lines k (get_or bytes i 0 ∷ [])))) ek begins) in
+    subst (λ (t : List ℕ → List ℕ). Begins out (flat_map t (kept_lines (kept_rest kept (take i bytes)) (get_or bytes i 0 ∷ [])))) et
+    (subst (λ (k : List ℕ). Begins out (flat_map text' (kept_lines k (get_or bytes i 0 ∷ [])))) ek begins) in
     (flat_map text (kept_lines kept (take i bytes)) ++ out, Appends-trans a b c _ out p q, begins_more text kept bytes i out h now)
 
 pub on_err : {T E P : Type 0} (r : Result T E) → P → OnErr r P

@@ -1,6 +1,6 @@
 -- One more piece of the input.
-use Rattle.std.proofs.Common.{◌≡◌, ℕ, zero, suc, ◌∷◌, ◌+◌, ◌-◌, ◌≤◌, ◌<◌, List, [], ◌++◌, refl, sym, ap, subst, ◌∙◌, append_assoc, append-nil, length, take, drop, arith, length-append, take-append-drop}
-use Rattle.std.specs.Prelude.{Option, min}
+use Rattle.std.proofs.Common.{◌≡◌, ℕ, zero, suc, ◌∷◌, ◌+◌, ◌-◌, ◌≤◌, ◌<◌, List, [], ◌++◌, refl, sym, ap, subst, ◌∙◌, append_assoc, length, take, drop, arith, length-append, take-append-drop}
+use Rattle.std.specs.Prelude.{Option}
 use Rattle.std.specs.List.{flat_map}
 use Rattle.std.specs.Io.KnownBytes.{Appends, Consumes}
 use Rattle.std.proofs.KnownBytes.{Appends-trans, Consumes-trans}
@@ -31,27 +31,29 @@ pub taken_more : (text text' : List ℕ → List ℕ) (ra rb rc wa wb wc : Optio
     → text' ≡ text → n ≤ length chunk → n ≤ left → piece ≡ take n chunk → Consumes rb rc (take n chunk) → Appends wb wc (flat_map text' (kept_lines start piece)) → start' ≡ kept_rest start piece
     → Taken text ra rc wa wc kept start' (left - n) limit
 taken_more text text' ra rb rc wa wb wc kept start start' chunk piece n left limit (taken, consumed, counted, done, behind) et inside room is read written rest =
-    let e = sym (joined text kept taken (take n chunk)) in
-    (taken ++ take n chunk,
+    let e = sym (joined text kept taken (take n chunk)) in (
+      taken ++ take n chunk,
       Consumes-trans ra rb rc taken (take n chunk) consumed read,
       omega (arith, length-append taken (take n chunk), length-take n chunk),
       subst (λ (l : List ℕ). Appends wa wc l) (ap (λ l. flat_map text (kept_lines kept taken) ++ l) (same_answers text text' start (kept_rest kept taken) piece et behind ∙ ap (λ l. flat_map text (kept_lines (kept_rest kept taken) l)) is) ∙ e)
-        (Appends-trans wa wb wc _ _ done written),
-      rest ∙ ap (λ k. kept_rest k piece) behind ∙ ap (kept_rest (kept_rest kept taken)) is ∙ sym (kept_rest-append kept taken (take n chunk)))
+          (Appends-trans wa wb wc _ _ done written),
+      rest ∙ ap (λ k. kept_rest k piece) behind ∙ ap (kept_rest (kept_rest kept taken)) is ∙ sym (kept_rest-append kept taken (take n chunk)),
+    )
 
 pub taken_too_long : (text text' : List ℕ → List ℕ) (ra rb rc wa wb wc : Option (List ℕ)) (kept start chunk piece : List ℕ) (n left limit : ℕ) → Taken text ra rb wa wb kept start left limit
     → text' ≡ text → n ≤ length chunk → left < n → piece ≡ take left chunk → Consumes rb rc (take n chunk) → Appends wb wc (flat_map text' (kept_lines start piece))
     → (taken : List ℕ) × Consumes ra rc taken × (limit < length taken) × Appends wa wc (flat_map text (kept_lines kept (take limit taken)))
 taken_too_long text text' ra rb rc wa wb wc kept start chunk piece n left limit (taken, consumed, counted, done, behind) et inside past is read written =
     let cut : take limit (taken ++ take n chunk) ≡ taken ++ take left chunk =
-      ap (λ k. take k (taken ++ take n chunk)) (sym counted) ∙ take-append-add taken (take n chunk) left ∙ ap (λ l. taken ++ l) (take_take left n chunk (omega arith)) in
-    (taken ++ take n chunk,
+    ap (λ k. take k (taken ++ take n chunk)) (sym counted) ∙ take-append-add taken (take n chunk) left ∙ ap (λ l. taken ++ l) (take_take left n chunk (omega arith)) in (
+      taken ++ take n chunk,
       Consumes-trans ra rb rc taken (take n chunk) consumed read,
       omega (arith, length-append taken (take n chunk), length-take n chunk),
       subst (λ (l : List ℕ). Appends wa wc l)
-        (ap (λ l. flat_map text (kept_lines kept taken) ++ l) (same_answers text text' start (kept_rest kept taken) piece et behind ∙ ap (λ l. flat_map text (kept_lines (kept_rest kept taken) l)) is)
+          (ap (λ l. flat_map text (kept_lines kept taken) ++ l) (same_answers text text' start (kept_rest kept taken) piece et behind ∙ ap (λ l. flat_map text (kept_lines (kept_rest kept taken) l)) is)
           ∙ sym (joined text kept taken (take left chunk)) ∙ ap (λ l. flat_map text (kept_lines kept l)) (sym cut))
-        (Appends-trans wa wb wc _ _ done written))
+          (Appends-trans wa wb wc _ _ done written),
+    )
 
 pub taken_part : (text text' : List ℕ → List ℕ) (ra rb rc wa wb wc : Option (List ℕ)) (kept start chunk piece : List ℕ) (n m left limit : ℕ) → Taken text ra rb wa wb kept start left limit
     → text' ≡ text → m ≤ n → piece ≡ take m chunk → Consumes rb rc (take n chunk) → ((out : List ℕ) × Appends wb wc out × Begins out (flat_map text' (kept_lines start piece)))
@@ -61,13 +63,17 @@ taken_part text text' ra rb rc wa wb wc kept start chunk piece n m left limit (t
     let tail = drop m (take n chunk) in
     let whole : take n chunk ≡ piece ++ tail = sym (take-append-drop m (take n chunk)) ∙ ap (λ l. l ++ tail) (take_take m n chunk short ∙ sym is) in
     let k = kept_rest kept taken in
-    let rest = flat_map text (kept_lines (kept_rest k piece) tail) in
-    (taken ++ take n chunk, before ++ out,
+    let rest = flat_map text (kept_lines (kept_rest k piece) tail) in (
+      taken ++ take n chunk,
+      before ++ out,
       Consumes-trans ra rb rc taken (take n chunk) consumed read,
       Appends-trans wa wb wc _ out done written,
-      (more ++ rest,
+      (
+        more ++ rest,
         joined text kept taken (take n chunk) ∙ ap (λ l. before ++ l) (
-          ap (λ l. flat_map text (kept_lines k l)) whole ∙ joined text k piece tail
-          ∙ ap (λ l. l ++ rest) (sym (same_answers text text' start k piece et behind) ∙ begins)
-          ∙ append_assoc out more rest)
-        ∙ sym (append_assoc before out (more ++ rest))))
+            ap (λ l. flat_map text (kept_lines k l)) whole ∙ joined text k piece tail
+            ∙ ap (λ l. l ++ rest) (sym (same_answers text text' start k piece et behind) ∙ begins)
+            ∙ append_assoc out more rest)
+            ∙ sym (append_assoc before out (more ++ rest)),
+      ),
+    )

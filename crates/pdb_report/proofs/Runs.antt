@@ -1,5 +1,5 @@
 -- What a run has written, from what was read.
-use Rattle.std.proofs.Common.{◌≡◌, ◌≢◌, ℕ, ◌+◌, ◌≤◌, ◌<◌, List, [], ◌∷◌, ◌++◌, refl, sym, ap, subst, ◌∙◌, append_assoc, append-nil, length, take, arith, length-append}
+use Rattle.std.proofs.Common.{◌≡◌, ◌≢◌, ℕ, ◌≤◌, ◌<◌, List, [], ◌∷◌, ◌++◌, refl, sym, ap, subst, ◌∙◌, append_assoc, append-nil, length, take, arith, length-append}
 use Rattle.std.specs.Prelude.{Option, None, Some, IfSome}
 use Rattle.std.specs.List.{flat_map}
 use Rattle.std.specs.Io.KnownBytes.{Appends, Consumes, IsAtEnd}
@@ -47,20 +47,26 @@ module _ (text : List ℕ → List ℕ) (short : (line : List ℕ) → text (tak
   report_begins : (taken rest : List ℕ) → (more : List ℕ) × (report text (taken ++ rest) ≡ flat_map text (kept_lines [] taken) ++ more)
   report_begins taken rest =
       let later = flat_map text (kept_lines (kept_rest [] taken) rest) in
-      let last = flat_map text (last_line (kept_rest [] (taken ++ rest))) in
-      (later ++ last,
+      let last = flat_map text (last_line (kept_rest [] (taken ++ rest))) in (
+        later ++ last,
         report_is text short (taken ++ rest)
-        ∙ ap (λ l. l ++ last) (ap (flat_map text) (kept_lines-append [] taken rest) ∙ flat_map-append text (kept_lines [] taken) (kept_lines (kept_rest [] taken) rest))
-        ∙ append_assoc (flat_map text (kept_lines [] taken)) later last)
+            ∙ ap (λ l. l ++ last) (ap (flat_map text) (kept_lines-append [] taken rest) ∙ flat_map-append text (kept_lines [] taken) (kept_lines (kept_rest [] taken) rest))
+            ∙ append_assoc (flat_map text (kept_lines [] taken)) later last,
+      )
 
   pub run_part : (ra rb wa wb : Option (List ℕ)) (s : List ℕ) → s ≡ [] → ((taken : List ℕ) × (out : List ℕ) × Consumes ra rb taken × Appends wa wb out × Begins out (flat_map text (kept_lines s taken)))
       → IfSome ra (λ input. (out : List ℕ) × Appends wa wb out × Begins out (report text input))
   run_part None rb wa wb s e h = tt
   run_part (Some input) None wa wb s e h = absurd h.2
   run_part (Some input) (Some rest) wa wb s e (taken, out, consumed, written, (more, begins)) =
-      let later = report_begins taken rest in
-      (out, written, (more ++ later.0,
-        ap (report text) consumed ∙ later.1 ∙ ap (λ l. l ++ later.0) (ap (λ k. flat_map text (kept_lines k taken)) (sym e) ∙ begins) ∙ append_assoc out more later.0))
+      let later = report_begins taken rest in (
+        out,
+        written,
+        (
+          more ++ later.0,
+          ap (report text) consumed ∙ later.1 ∙ ap (λ l. l ++ later.0) (ap (λ k. flat_map text (kept_lines k taken)) (sym e) ∙ begins) ∙ append_assoc out more later.0,
+        ),
+      )
 
   abbrev pub Whole : Option (List ℕ) → Option (List ℕ) → Option (List ℕ) → Option (List ℕ) → ℕ → List ℕ → List ℕ → Type 0
   Whole ra rb wa wb limit s line =
@@ -73,8 +79,8 @@ module _ (text : List ℕ → List ℕ) (short : (line : List ℕ) → text (tak
       let all : input ≡ taken = consumed ∙ ap (λ l. taken ++ l) end ∙ append-nil taken in
       let nothing : kept_rest [] taken ≡ [] = ap (λ k. kept_rest k taken) (sym e) ∙ sym is ∙ none in
       let whole : report text input ≡ flat_map text (kept_lines s taken) =
-        ap (report text) all ∙ report_is text short taken ∙ ap (λ l. flat_map text (kept_lines [] taken) ++ flat_map text (last_line l)) nothing
-        ∙ append-nil (flat_map text (kept_lines [] taken)) ∙ ap (λ k. flat_map text (kept_lines k taken)) (sym e) in
+      ap (report text) all ∙ report_is text short taken ∙ ap (λ l. flat_map text (kept_lines [] taken) ++ flat_map text (last_line l)) nothing
+      ∙ append-nil (flat_map text (kept_lines [] taken)) ∙ ap (λ k. flat_map text (kept_lines k taken)) (sym e) in
       (omega (arith, ap length all), subst (λ (l : List ℕ). Appends wa wb l) (sym whole) out)
 
   last_answer : (line : List ℕ) → line ≢ [] → flat_map text (last_line line) ≡ text line
@@ -85,11 +91,13 @@ module _ (text : List ℕ → List ℕ) (short : (line : List ℕ) → text (tak
   report_last : (input taken rest s line : List ℕ) → s ≡ [] → line ≢ [] → input ≡ taken ++ rest → rest ≡ [] → line ≡ kept_rest s taken → (report text input ≡ flat_map text (kept_lines s taken) ++ text line) × (input ≡ taken)
   report_last input taken rest s line e some consumed end is =
       let all : input ≡ taken = consumed ∙ ap (λ l. taken ++ l) end ∙ append-nil taken in
-      let same : kept_rest [] taken ≡ line = ap (λ k. kept_rest k taken) (sym e) ∙ sym is in
-      (ap (report text) all ∙ report_is text short taken
-        ∙ ap (λ l. flat_map text (kept_lines [] taken) ++ flat_map text (last_line l)) same
-        ∙ ap (λ k. flat_map text (kept_lines k taken) ++ flat_map text (last_line line)) (sym e)
-        ∙ ap (λ l. flat_map text (kept_lines s taken) ++ l) (last_answer line some), all)
+      let same : kept_rest [] taken ≡ line = ap (λ k. kept_rest k taken) (sym e) ∙ sym is in (
+        ap (report text) all ∙ report_is text short taken
+            ∙ ap (λ l. flat_map text (kept_lines [] taken) ++ flat_map text (last_line l)) same
+            ∙ ap (λ k. flat_map text (kept_lines k taken) ++ flat_map text (last_line line)) (sym e)
+            ∙ ap (λ l. flat_map text (kept_lines s taken) ++ l) (last_answer line some),
+        all,
+      )
 
   pub run_last : (text' : List ℕ → List ℕ) (ra rb wa wb wc : Option (List ℕ)) (limit : ℕ) (s line : List ℕ) → text' ≡ text → s ≡ [] → line ≢ [] → Whole ra rb wa wb limit s line → Appends wb wc (text' line)
       → IfSome ra (λ input. (length input ≤ limit) × Appends wa wc (report text input))
@@ -107,6 +115,8 @@ module _ (text : List ℕ → List ℕ) (short : (line : List ℕ) → text (tak
   run_last_part text' (Some input) None wa wb wc limit s line et e some h q = absurd h.1
   run_last_part text' (Some input) (Some rest) wa wb wc limit s line et e some (taken, consumed, end, within, done, is) (out, written, (more, begins)) =
       let p = report_last input taken rest s line e some consumed end is in
-      let now : text line ≡ out ++ more = ap (λ (t : List ℕ → List ℕ). t line) (sym et) ∙ begins in
-      (flat_map text (kept_lines s taken) ++ out, Appends-trans wa wb wc _ out done written,
-        (more, p.0 ∙ ap (λ l. flat_map text (kept_lines s taken) ++ l) now ∙ sym (append_assoc _ out more)))
+      let now : text line ≡ out ++ more = ap (λ (t : List ℕ → List ℕ). t line) (sym et) ∙ begins in (
+        flat_map text (kept_lines s taken) ++ out,
+        Appends-trans wa wb wc _ out done written,
+        (more, p.0 ∙ ap (λ l. flat_map text (kept_lines s taken) ++ l) now ∙ sym (append_assoc _ out more)),
+      )

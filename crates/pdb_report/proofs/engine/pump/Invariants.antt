@@ -13,7 +13,7 @@ invariant-chunks g l =
     let text = g.A.Answers.text in
     record {
       out : (taken : List ℕ) × Consumes (remaining (inner_of l.fn.reader)) (remaining (inner_of l.reader)) taken × (length taken + l.left ≡ l.limit)
-        × Appends (contents (inner_of l.fn.writer)) (contents (inner_of l.writer)) (flat_map (text l.fn.answers) (kept_lines l.fn.start taken)) × (l.start ≡ kept_rest l.fn.start taken);
+          × Appends (contents (inner_of l.fn.writer)) (contents (inner_of l.writer)) (flat_map (text l.fn.answers) (kept_lines l.fn.start taken)) × (l.start ≡ kept_rest l.fn.start taken);
       same : text l.answers ≡ text l.fn.answers;
       quiet_reader : IsQuiet l.fn.reader l.reader;
       quiet_writer : IsQuiet l.fn.writer l.writer;
