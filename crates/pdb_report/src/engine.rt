@@ -14,99 +14,56 @@ use crate::watched::Watched;
 use std::alloc::Global;
 use std::io::{ErrorKind, Read, Write};
 
-/// Writes all of the bytes, and stops at the first failure.
-fn write_all<W: Write>(writer: &mut Watched<W>, bytes: &[u8]) -> Result<(), ErrorKind>
-    ensures ok { OnOk result (Appends (W.contents (inner_of writer.old)) (W.contents (inner_of writer.new)) bytes.now) }
-    ensures quiet { OnOk result (IsQuiet writer.old writer.new) }
-    ensures fails { IfErr result (λ kind. Fails writer.old writer.new kind) }
-    ensures part { OnErr result ((out : List ℕ) × Appends (W.contents (inner_of writer.old)) (W.contents (inner_of writer.new)) out × Begins out bytes.now) }
-{
-    let mut rest = bytes;
-    while !rest.is_empty() {
-        match writer.write(rest) {
-            Ok(0) => return Err(ErrorKind::WriteZero),
-            Ok(count) => rest = &rest[count..],
-            Err(error) => return Err(error.kind()),
-        }
-    }
-    Ok(())
-}
-
-/// Answers the lines that the bytes end, and keeps the start of the one behind them.
-fn feed<A: Answers, W: Write>(
+/// Answers every line of the reader's input, of which at most `limit` bytes are read, and writes
+/// nothing else. A last line that no newline ends counts if it has a byte.
+///
+/// # Errors
+/// `Read` and `Write` at the first call that failed, and `InputTooLong` past `limit` bytes. At `Read`,
+/// and at `InputTooLong` for the first `limit` bytes, the lines that newlines end are answered. Want of
+/// memory, in whichever call, is `OutOfMemory`.
+pub fn run<A: Answers, R: Read, W: Write>(
     alloc: Global,
     answers: &mut A,
+    reader: &mut Watched<R>,
     writer: &mut Watched<W>,
-    start: &mut LineStart,
-    bytes: &[u8],
+    limit: u64,
 ) -> Result<(), RunFault>
-    ensures ok { OnOk result (Appends (W.contents (inner_of writer.old)) (W.contents (inner_of writer.new)) (flat_map (A.text answers.old) (kept_lines start.old bytes.now))) }
-    ensures rest { OnOk result (start.new ≡ kept_rest start.old bytes.now) }
+    // Every line is answered, and nothing else is written.
+    ensures ok { OnOk result (IfSome (R.remaining (inner_of reader.old)) (λ input. (length input ≤ limit)
+        × Appends (W.contents (inner_of writer.old)) (W.contents (inner_of writer.new)) (report (A.text answers.old) input))) }
+    // No call failed unnoticed, and no fault is made up.
+    ensures quiet { OnOk result (IsQuiet reader.old reader.new × IsQuiet writer.old writer.new) }
     ensures same { A.text answers.new ≡ A.text answers.old }
-    ensures quiet { OnOk result (IsQuiet writer.old writer.new) }
-    ensures kind { IfErr result IsOfWriting }
-    ensures fails { IfErr result (λ fault. OnWrite fault (λ kind. Fails writer.old writer.new kind)) }
-    ensures part { OnErr result ((out : List ℕ) × Appends (W.contents (inner_of writer.old)) (W.contents (inner_of writer.new)) out × Begins out (flat_map (A.text answers.old) (kept_lines start.old bytes.now))) }
+    ensures kind { IfErr result IsOfRunning }
+    ensures read_fails { IfErr result (λ fault. OnRead fault (λ kind. Fails reader.old reader.new kind)) }
+    ensures write_fails { IfErr result (λ fault. OnWrite fault (λ kind. Fails writer.old writer.new kind)) }
+    // The lines that were read whole before a failed read are answered.
+    ensures read_out { IfErr result (λ fault. OnRead fault (λ _. (taken : List ℕ) × Consumes (R.remaining (inner_of reader.old)) (R.remaining (inner_of reader.new)) taken
+        × Appends (W.contents (inner_of writer.old)) (W.contents (inner_of writer.new)) (report_of_ended (A.text answers.old) taken))) }
+    ensures too_long { IfErr result (λ fault. OnTooLong fault (IfSome (R.remaining (inner_of reader.old)) (λ input. (limit < length input)
+        × Appends (W.contents (inner_of writer.old)) (W.contents (inner_of writer.new)) (report_of_ended (A.text answers.old) (take limit input))))) }
+    // At each fault a front of the report is out.
+    ensures part { OnErr result (IfSome (R.remaining (inner_of reader.old)) (λ input. (out : List ℕ)
+        × Appends (W.contents (inner_of writer.old)) (W.contents (inner_of writer.new)) out × Begins out (report (A.text answers.old) input))) }
 {
-    for byte in bytes {
-        feed_byte(alloc, answers, writer, start, *byte)?;
+    let mut start = LineStart::new();
+    match pump(alloc, answers, reader, writer, &mut start, limit) {
+        Ok(()) => {}
+        Err(fault) => return Err(fault),
     }
-    Ok(())
-}
-
-/// The same for one byte.
-fn feed_byte<A: Answers, W: Write>(
-    alloc: Global,
-    answers: &mut A,
-    writer: &mut Watched<W>,
-    start: &mut LineStart,
-    byte: u8,
-) -> Result<(), RunFault>
-    ensures ok { OnOk result (Appends (W.contents (inner_of writer.old)) (W.contents (inner_of writer.new)) (flat_map (A.text answers.old) (kept_lines start.old (byte ∷ [])))) }
-    ensures rest { OnOk result (start.new ≡ kept_rest start.old (byte ∷ [])) }
-    ensures same { A.text answers.new ≡ A.text answers.old }
-    ensures quiet { OnOk result (IsQuiet writer.old writer.new) }
-    ensures kind { IfErr result IsOfWriting }
-    ensures fails { IfErr result (λ fault. OnWrite fault (λ kind. Fails writer.old writer.new kind)) }
-    ensures part { OnErr result ((out : List ℕ) × Appends (W.contents (inner_of writer.old)) (W.contents (inner_of writer.new)) out × Begins out (flat_map (A.text answers.old) (kept_lines start.old (byte ∷ [])))) }
-{
-    if byte != b'\n' {
-        start.push(byte);
+    if start.bytes().is_empty() {
         return Ok(());
     }
     match answer_line(alloc, answers, writer, start.bytes()) {
-        Ok(()) => {
-            start.clear();
-            Ok(())
-        }
+        Ok(()) => Ok(()),
         Err(fault) => Err(fault),
     }
 }
 
-/// Writes the answer to a line.
-fn answer_line<A: Answers, W: Write>(
-    alloc: Global,
-    answers: &mut A,
-    writer: &mut Watched<W>,
-    line: &[u8],
-) -> Result<(), RunFault>
-    ensures ok { OnOk result (Appends (W.contents (inner_of writer.old)) (W.contents (inner_of writer.new)) (A.text answers.old line.now)) }
-    ensures same { A.text answers.new ≡ A.text answers.old }
-    ensures quiet { OnOk result (IsQuiet writer.old writer.new) }
-    ensures kind { IfErr result IsOfWriting }
-    ensures fails { IfErr result (λ fault. OnWrite fault (λ kind. Fails writer.old writer.new kind)) }
-    ensures part { OnErr result ((out : List ℕ) × Appends (W.contents (inner_of writer.old)) (W.contents (inner_of writer.new)) out × Begins out (A.text answers.old line.now)) }
-{
-    let Ok(text) = answers.answer(alloc, line) else {
-        return Err(RunFault::OutOfMemory);
-    };
-    match write_all(writer, &text) {
-        Ok(()) => Ok(()),
-        Err(kind) => Err(write_fault(kind)),
-    }
-}
-
 /// Reads to the end, and answers each line that a newline ends.
+///
+/// # Errors
+/// As [`run`].
 fn pump<A: Answers, R: Read, W: Write>(
     alloc: Global,
     answers: &mut A,
@@ -157,39 +114,106 @@ fn pump<A: Answers, R: Read, W: Write>(
     }
 }
 
-/// Answers every line of the reader, and writes nothing else. At most `limit` bytes are read as input.
-pub fn run<A: Answers, R: Read, W: Write>(
+/// Answers the lines that the bytes end, and keeps the start of the one behind them.
+///
+/// # Errors
+/// As [`answer_line`].
+fn feed<A: Answers, W: Write>(
     alloc: Global,
     answers: &mut A,
-    reader: &mut Watched<R>,
     writer: &mut Watched<W>,
-    limit: u64,
+    start: &mut LineStart,
+    bytes: &[u8],
 ) -> Result<(), RunFault>
-    ensures ok { OnOk result (IfSome (R.remaining (inner_of reader.old)) (λ input. (length input ≤ limit)
-        × Appends (W.contents (inner_of writer.old)) (W.contents (inner_of writer.new)) (report (A.text answers.old) input))) }
-    ensures quiet { OnOk result (IsQuiet reader.old reader.new × IsQuiet writer.old writer.new) }
+    ensures ok { OnOk result (Appends (W.contents (inner_of writer.old)) (W.contents (inner_of writer.new)) (flat_map (A.text answers.old) (kept_lines start.old bytes.now))) }
+    ensures rest { OnOk result (start.new ≡ kept_rest start.old bytes.now) }
     ensures same { A.text answers.new ≡ A.text answers.old }
-    ensures kind { IfErr result IsOfRunning }
-    ensures read_fails { IfErr result (λ fault. OnRead fault (λ kind. Fails reader.old reader.new kind)) }
-    ensures write_fails { IfErr result (λ fault. OnWrite fault (λ kind. Fails writer.old writer.new kind)) }
-    // The lines that were read whole before a failed read are answered.
-    ensures read_out { IfErr result (λ fault. OnRead fault (λ _. (taken : List ℕ) × Consumes (R.remaining (inner_of reader.old)) (R.remaining (inner_of reader.new)) taken
-        × Appends (W.contents (inner_of writer.old)) (W.contents (inner_of writer.new)) (report_of_ended (A.text answers.old) taken))) }
-    ensures too_long { IfErr result (λ fault. OnTooLong fault (IfSome (R.remaining (inner_of reader.old)) (λ input. (limit < length input)
-        × Appends (W.contents (inner_of writer.old)) (W.contents (inner_of writer.new)) (report_of_ended (A.text answers.old) (take limit input))))) }
-    ensures part { OnErr result (IfSome (R.remaining (inner_of reader.old)) (λ input. (out : List ℕ)
-        × Appends (W.contents (inner_of writer.old)) (W.contents (inner_of writer.new)) out × Begins out (report (A.text answers.old) input))) }
+    ensures quiet { OnOk result (IsQuiet writer.old writer.new) }
+    ensures kind { IfErr result IsOfWriting }
+    ensures fails { IfErr result (λ fault. OnWrite fault (λ kind. Fails writer.old writer.new kind)) }
+    ensures part { OnErr result ((out : List ℕ) × Appends (W.contents (inner_of writer.old)) (W.contents (inner_of writer.new)) out × Begins out (flat_map (A.text answers.old) (kept_lines start.old bytes.now))) }
 {
-    let mut start = LineStart::new();
-    match pump(alloc, answers, reader, writer, &mut start, limit) {
-        Ok(()) => {}
-        Err(fault) => return Err(fault),
+    for byte in bytes {
+        feed_byte(alloc, answers, writer, start, *byte)?;
     }
-    if start.bytes().is_empty() {
+    Ok(())
+}
+
+/// Does so for one byte.
+///
+/// # Errors
+/// As [`answer_line`].
+fn feed_byte<A: Answers, W: Write>(
+    alloc: Global,
+    answers: &mut A,
+    writer: &mut Watched<W>,
+    start: &mut LineStart,
+    byte: u8,
+) -> Result<(), RunFault>
+    ensures ok { OnOk result (Appends (W.contents (inner_of writer.old)) (W.contents (inner_of writer.new)) (flat_map (A.text answers.old) (kept_lines start.old (byte ∷ [])))) }
+    ensures rest { OnOk result (start.new ≡ kept_rest start.old (byte ∷ [])) }
+    ensures same { A.text answers.new ≡ A.text answers.old }
+    ensures quiet { OnOk result (IsQuiet writer.old writer.new) }
+    ensures kind { IfErr result IsOfWriting }
+    ensures fails { IfErr result (λ fault. OnWrite fault (λ kind. Fails writer.old writer.new kind)) }
+    ensures part { OnErr result ((out : List ℕ) × Appends (W.contents (inner_of writer.old)) (W.contents (inner_of writer.new)) out × Begins out (flat_map (A.text answers.old) (kept_lines start.old (byte ∷ [])))) }
+{
+    if byte != b'\n' {
+        start.push(byte);
         return Ok(());
     }
     match answer_line(alloc, answers, writer, start.bytes()) {
-        Ok(()) => Ok(()),
+        Ok(()) => {
+            start.clear();
+            Ok(())
+        }
         Err(fault) => Err(fault),
     }
+}
+
+/// Writes the answer to a line.
+///
+/// # Errors
+/// `Write` where a write failed, and `OutOfMemory`.
+fn answer_line<A: Answers, W: Write>(
+    alloc: Global,
+    answers: &mut A,
+    writer: &mut Watched<W>,
+    line: &[u8],
+) -> Result<(), RunFault>
+    ensures ok { OnOk result (Appends (W.contents (inner_of writer.old)) (W.contents (inner_of writer.new)) (A.text answers.old line.now)) }
+    ensures same { A.text answers.new ≡ A.text answers.old }
+    ensures quiet { OnOk result (IsQuiet writer.old writer.new) }
+    ensures kind { IfErr result IsOfWriting }
+    ensures fails { IfErr result (λ fault. OnWrite fault (λ kind. Fails writer.old writer.new kind)) }
+    ensures part { OnErr result ((out : List ℕ) × Appends (W.contents (inner_of writer.old)) (W.contents (inner_of writer.new)) out × Begins out (A.text answers.old line.now)) }
+{
+    let Ok(text) = answers.answer(alloc, line) else {
+        return Err(RunFault::OutOfMemory);
+    };
+    match write_all(writer, &text) {
+        Ok(()) => Ok(()),
+        Err(kind) => Err(write_fault(kind)),
+    }
+}
+
+/// Writes all of the bytes, and stops at the first failure.
+///
+/// # Errors
+/// The kind of that failure.
+fn write_all<W: Write>(writer: &mut Watched<W>, bytes: &[u8]) -> Result<(), ErrorKind>
+    ensures ok { OnOk result (Appends (W.contents (inner_of writer.old)) (W.contents (inner_of writer.new)) bytes.now) }
+    ensures quiet { OnOk result (IsQuiet writer.old writer.new) }
+    ensures fails { IfErr result (λ kind. Fails writer.old writer.new kind) }
+    ensures part { OnErr result ((out : List ℕ) × Appends (W.contents (inner_of writer.old)) (W.contents (inner_of writer.new)) out × Begins out bytes.now) }
+{
+    let mut rest = bytes;
+    while !rest.is_empty() {
+        match writer.write(rest) {
+            Ok(0) => return Err(ErrorKind::WriteZero),
+            Ok(count) => rest = &rest[count..],
+            Err(error) => return Err(error.kind()),
+        }
+    }
+    Ok(())
 }

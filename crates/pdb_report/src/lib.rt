@@ -6,6 +6,7 @@ pub mod address;
 mod answers;
 mod engine;
 pub mod fault;
+pub mod finish;
 mod line_start;
 mod loading;
 mod numbers;

@@ -1,4 +1,4 @@
-use Rattle.std.proofs.Common.{rules, arith, ◌∙◌}
+use Rattle.std.proofs.Common.{rules, ◌∙◌}
 use Rattle.pdb_report.proofs.LineLemmas.{out_more, rest_more, part_more, on_err}
 use Rattle.pdb_report.proofs.engine.feed.Goals as goal
 

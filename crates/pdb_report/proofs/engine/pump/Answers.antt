@@ -1,4 +1,4 @@
-use Rattle.std.proofs.Common.{rules, arith, ◌∙◌, ◌≡◌, ◌++◌, take, ◌-◌, [], append-nil, sym, refl}
+use Rattle.std.proofs.Common.{rules, arith, ◌∙◌, take, [], append-nil, sym, refl}
 use Rattle.pdb_report.proofs.Pumped.{taken_more, taken_too_long, taken_part}
 use Rattle.pdb_report.proofs.engine.pump.Goals as goal
 

@@ -1,4 +1,4 @@
-use Rattle.std.proofs.Common.{rules, arith}
+use Rattle.std.proofs.Common.{rules}
 use Rattle.pdb_report.proofs.Writes.{more_out}
 use Rattle.pdb_report.proofs.engine.write_all.Goals as goal
 
