@@ -9,3 +9,4 @@ pub mod PlaceSteps
 pub mod ProcedureSteps
 pub mod FrameSteps
 pub mod LoadingSteps
+pub mod ModuleSteps

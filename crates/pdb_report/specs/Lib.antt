@@ -5,6 +5,7 @@ pub mod Dbi
 pub mod Faults
 pub mod FaultText
 pub mod Items
+pub mod Kept
 pub mod Lines
 pub mod Loading
 pub mod Modules

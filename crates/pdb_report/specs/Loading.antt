@@ -1,6 +1,6 @@
 -- What is read of a file before any question, and the fault that keeps it from being loaded.
 use Rattle.std.specs.Prelude.{ℕ, Bool, false, ◌||◌, not, List, [], length, ◌==◌, Option, None, Some, if◌then◌else◌, Result, Ok, Err}
-use Rattle.std.specs.List.{list_any, range_with_len}
+use Rattle.std.specs.List.{list_any}
 use Rattle.pdb_container.specs.Fault.{Fault, GlobalSymbolsNotFound, ◌>>=◌, refuse}
 use Rattle.pdb_report.specs.declared.pdb_container_types.ImageSectionHeader.{ImageSectionHeader}
 use Rattle.pdb_report.specs.declared.pdb_addr2line.contributions.ModuleSectionContribution.{ModuleSectionContribution}
@@ -12,8 +12,8 @@ use Rattle.pdb_report.specs.Sections.{optional_at, section_headers_of}
 use Rattle.pdb_report.specs.Items.{item_header_of}
 use Rattle.pdb_report.specs.Symbols.{symbols_of, is_public}
 use Rattle.pdb_report.specs.Contributions.{held_of}
-use Rattle.pdb_report.specs.Procedures.{symbols_in, has_other}
-use Rattle.pdb_report.specs.Shared.{Bytes, Provider, Shared, shared, provider}
+use Rattle.pdb_report.specs.Procedures.{Info, symbols_in, has_other}
+use Rattle.pdb_report.specs.Shared.{Bytes, number, Shared, shared}
 
 -- what every question goes over
 pub record Parts : Type 0 where
@@ -76,16 +76,23 @@ loaded c = do
   dbi ← lifted (c.dbi >>= dbi_of)
   loaded_behind c dbi
 
+-- a module by its entry: its stream, if one is named
+unfoldable pub module_info : Streams → Module → Result Info Fault
+module_info s m = do
+  n ← number m.stream
+  bytes ← s.at n
+  Ok record { bytes = bytes; symbols_size = m.symbols_size }
+
 -- a module whose symbols can be read has some that aren't answered yet
-abbrev pub has_other_symbols : Provider → ℕ → Bool
-has_other_symbols provided k = has_other (provided k >>= symbols_in)
+abbrev pub has_other_symbols : Streams → Module → Bool
+has_other_symbols s m = has_other (module_info s m >>= symbols_in)
 
 -- The parts of a file whose modules have no such symbols. That check reads the modules' streams, and so it stands
 -- behind loading and not in it.
 unfoldable pub answerable : Streams → Result Parts LoadingFault
 answerable s = do
   parts ← loaded (shared s)
-  plain ← refuse (list_any (has_other_symbols (provider s)) (range_with_len 0 (length parts.modules))) NotYet
+  plain ← refuse (list_any (has_other_symbols s) parts.modules) NotYet
   Ok parts
 
 -- why a file isn't loaded

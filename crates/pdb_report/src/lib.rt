@@ -9,6 +9,7 @@ pub mod fault;
 pub mod finish;
 mod line_start;
 mod loading;
+mod modules;
 mod numbers;
 pub mod pdb_addr2line;
 pub mod pdb_container_types;

@@ -1,0 +1,53 @@
+-- The procedures of all modules, and those of the module of a number.
+use Rattle.std.proofs.Common.{◌≡◌, ℕ, zero, suc, ◌+◌, ◌<◌, ◌≤◌, Bool, true, false, cond, ◌||◌, List, [], ◌∷◌, ◌++◌, length, get_or, take, drop, Result, Ok, Err, refl, sym, ap, ◌∙◌}
+use Rattle.std.specs.Prelude.{Option, None, Some, map, slice_get}
+use Rattle.std.specs.List.{list_any}
+use Rattle.std.proofs.lemmas.List.{take_more, take_all, drop_more, map-append}
+use Rattle.pdb_container.specs.Fault.{Fault, ◌>>=◌}
+use Rattle.pdb_report.specs.Faults.{LoadingFault, NotYet}
+use Rattle.pdb_report.specs.Streams.{Streams}
+use Rattle.pdb_report.specs.Dbi.{Dbi, dbi_of}
+use Rattle.pdb_report.specs.Modules.{Module, modules_of}
+use Rattle.pdb_report.specs.Procedures.{Info, Procedure, symbols_in, procedures, has_other}
+use Rattle.pdb_report.specs.Shared.{Bytes, number, named, module_in, module_of, module_number, module_stream, info_from, provider}
+use Rattle.pdb_report.specs.Loading.{module_info, has_other_symbols}
+use Rattle.pdb_report.specs.Kept.{plain_procedures, module_procedures, all_procedures, list_or_none, procedures_at}
+
+-- ---- one module more
+
+or_false : (b : Bool) → (b || false) ≡ b
+or_false true = refl
+or_false false = refl
+
+any_append : {X : Type 0} (test : X → Bool) (xs : List X) (y : X) → list_any test (xs ++ y ∷ []) ≡ (list_any test xs || test y)
+any_append test [] y = or_false (test y)
+any_append test (x ∷ xs) y = rw (any_append test xs y) (elim (test x) as (λ b. (b || (list_any test xs || test y)) ≡ ((b || list_any test xs) || test y)) [ true ↦ refl | false ↦ refl ])
+
+-- a module that was read has no other symbols, and these procedures
+read_well : (other : Bool) (own all : List Procedure) → cond other (Err NotYet) (Ok own) ≡ Ok all → (other ≡ false) × (own ≡ all)
+read_well true own all h = absurd cc
+read_well false own all h = (refl, cc)
+
+opened : (s : Streams) (m : Module) → plain_procedures (module_info s m >>= symbols_in) ≡ cond (has_other_symbols s m) (Err NotYet) (Ok (module_procedures s m))
+unfolding plain_procedures
+opened s m = elim (has_other_symbols s m) as (λ b. (cond b (Err NotYet) (Ok tt) >>= λ plain. Ok (module_procedures s m)) ≡ cond b (Err NotYet) (Ok (module_procedures s m))) [ true ↦ refl | false ↦ refl ]
+
+pub modules_more : (s : Streams) (modules : List Module) (i : ℕ) (m : Module) (front : List (List Procedure)) (own : List Procedure) → i < length modules → m ≡ get_or modules i m
+    → plain_procedures (module_info s m >>= symbols_in) ≡ Ok own
+    → front ≡ map (module_procedures s) (take i modules) → list_any (has_other_symbols s) (take i modules) ≡ false
+    → (front ++ own ∷ [] ≡ map (module_procedures s) (take (i + 1) modules)) × (list_any (has_other_symbols s) (take (i + 1) modules) ≡ false)
+modules_more s modules i m front own lt is read so_far plain =
+    let here = read_well (has_other_symbols s m) (module_procedures s m) own (sym (opened s m) ∙ read) in
+    let more : take (i + 1) modules ≡ take i modules ++ m ∷ [] = take_more modules i m lt ∙ ap (λ x. take i modules ++ x ∷ []) (sym is) in
+    (ap (λ xs. xs ++ own ∷ []) so_far ∙ ap (λ x. map (module_procedures s) (take i modules) ++ x ∷ []) (sym here.1)
+      ∙ sym (map-append (module_procedures s) (take i modules) (m ∷ [])) ∙ sym (ap (map (module_procedures s)) more),
+     ap (list_any (has_other_symbols s)) more ∙ any_append (has_other_symbols s) (take i modules) m ∙ ap (λ b. b || has_other_symbols s m) plain ∙ here.0)
+
+pub modules_all : (s : Streams) (modules : List Module) (i : ℕ) (front : List (List Procedure)) → length modules ≤ i
+    → front ≡ map (module_procedures s) (take i modules) → list_any (has_other_symbols s) (take i modules) ≡ false
+    → all_procedures s modules ≡ Ok front
+unfolding all_procedures
+modules_all s modules i front past so_far plain =
+    let whole : take i modules ≡ modules = take_all i modules past in
+    let none : list_any (has_other_symbols s) modules ≡ false = sym (ap (list_any (has_other_symbols s)) whole) ∙ plain in
+    rw none (ap Ok (sym (so_far ∙ ap (map (module_procedures s)) whole)))
