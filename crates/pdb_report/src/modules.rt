@@ -104,3 +104,22 @@ fn read_module(
         }),
     }
 }
+
+/// The procedures of all modules, in their order. `NotYet` where some module whose symbols can be read has one that
+/// isn't answered yet.
+#[tactic(auto, using(crate::proofs::ModuleSteps::modules_more, crate::proofs::ModuleSteps::modules_all, crate::proofs::ModuleSteps::modules_fail))]
+pub fn read_modules(
+    pdb: &mut PDB,
+    alloc: Global,
+    entries: &[Module<'_>],
+) -> std::result::Result<Vec<ModuleProcedures>, LoadFault>
+    ensures same { pdb.new ≡ pdb.old }
+    ensures exact { Loads (λ v. v.items) result (all_procedures (streams pdb.old) entries.now) }
+{
+    let mut modules = Vec::new(alloc);
+    for entry in entries {
+        let procedures = read_module(pdb, alloc, entry)?;
+        modules.push(procedures)?;
+    }
+    Ok(modules)
+}
