@@ -10,3 +10,4 @@ pub mod ProcedureSteps
 pub mod FrameSteps
 pub mod LoadingSteps
 pub mod ModuleSteps
+pub mod OpeningSteps

@@ -17,4 +17,5 @@ pub mod pdb_items;
 pub mod pdb_module_data;
 pub mod pdb_modules;
 pub mod pdb_symbols_modules;
+pub mod symbolizer;
 pub mod watched;

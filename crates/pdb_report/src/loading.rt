@@ -1,12 +1,12 @@
 //! What is read of a file before any question.
 
-ghost use Rattle.std.specs.Prelude.{◌≡◌, Ok};
+ghost use Rattle.std.specs.Prelude.{◌≡◌, Ok, IfOk};
 ghost use Rattle.pdb_container.specs.Fault.{Gives};
 ghost use Rattle.pdb_report.specs.Dbi.{dbi_of, dbi_seen};
 ghost use Rattle.pdb_report.specs.Faults.{Loads};
 ghost use Rattle.pdb_report.specs.Items.{item_header_of};
 ghost use Rattle.pdb_report.specs.Loading.{behind, symbol_records_in, sections_in, address_tables, loaded_behind};
-ghost use Rattle.pdb_report.specs.Modules.{has_lines as has_lines_of};
+ghost use Rattle.pdb_report.specs.Modules.{has_lines as has_lines_of, modules_of};
 ghost use Rattle.std.specs.List.{list_any};
 ghost use Rattle.pdb_report.specs.Symbols.{is_public};
 ghost use Rattle.pdb_report.specs.Sections.{optional_at};
@@ -131,6 +131,7 @@ pub fn load_parts<'m>(
     requires { behind ((streams pdb.old).at 3) dbi_of ≡ Ok (dbi_seen dbi) }
     ensures same { pdb.new ≡ pdb.old }
     ensures exact { Loads (λ p. p) result (loaded_behind (shared (streams pdb.old)) (dbi_seen dbi.entry)) }
+    ensures modules { IfOk result (λ p. modules_of (dbi.entry).modules.now ≡ Ok p.modules) }
 {
     let symbol_records = read_symbol_records(pdb, alloc, dbi.symbol_records_stream)?;
     read_item_header(pdb, alloc, 2)?;

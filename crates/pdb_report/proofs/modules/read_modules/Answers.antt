@@ -8,7 +8,7 @@ loop-entry-preserved c =
     let now = c.loop-entry.invariant in
     let read = rw now.same at c.in_ok-procedures.ensures.exact in
     let more = modules_more (streams c.args.pdb.now) c.args.entries.now c.loop-entry.entry-index c.entry-item.result c.loop-entry.modules.items c.in_ok-procedures.procedures c.loop-entry-test.true c.entry-item.is
-      read now.so_far now.plain in
+    read now.so_far now.plain in
     record {
       same = c.read_module.ensures.same ∙ now.same;
       so_far = c.in_ok-push.ensures.items ∙ more.0;
