@@ -11,3 +11,5 @@ pub mod FrameSteps
 pub mod LoadingSteps
 pub mod ModuleSteps
 pub mod OpeningSteps
+pub mod KeptSteps
+pub mod ShortLines

@@ -15,7 +15,7 @@ use Rattle.pdb_report.specs.Dbi.{Dbi, dbi_of}
 use Rattle.pdb_report.specs.Modules.{Module, modules_of}
 use Rattle.pdb_report.specs.Procedures.{Info, Procedure, symbols_in, procedures, procedures_of}
 use Rattle.pdb_report.specs.Shared.{Bytes, number, named, module_in, module_of, module_number, module_stream, info_from, shared, provider}
-use Rattle.pdb_report.specs.Loading.{Parts, none_or, loaded_behind, loaded, module_info, has_other_symbols, answerable}
+use Rattle.pdb_report.specs.Loading.{load_fault, Refuses, Parts, none_or, loaded_behind, loaded, module_info, has_other_symbols, answerable}
 use Rattle.pdb_report.specs.Kept.{module_procedures, all_procedures, list_or_none, procedures_at, tables, IsKept}
 use Rattle.pdb_report.proofs.Lifting.{fails_on, load_fails, parse_fails}
 
@@ -117,3 +117,8 @@ is_kept file dbi parts all h read load listed found =
 pub kept_loads : (file : List ℕ) (sections : List ImageSectionHeader) (contributions : List ModuleSectionContribution) (all : List (List Procedure))
     → IsKept file sections contributions all → fault_in (answerable (streams file)) ≡ None
 kept_loads file sections contributions all kept = no_fault (answerable (streams file)) (sections, contributions) kept.tables_are
+
+-- a failed load is a load fault
+pub refuses : (e : LoadFault) (s : Streams) → Fails e (answerable s) → Refuses e (load_fault s)
+refuses faults.OutOfMemory s h = tt
+refuses e s h = ap fault_in h

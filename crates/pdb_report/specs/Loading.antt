@@ -1,10 +1,12 @@
 -- What is read of a file before any question, and the fault that keeps it from being loaded.
-use Rattle.std.specs.Prelude.{ℕ, Bool, false, ◌||◌, not, List, [], length, ◌==◌, Option, None, Some, if◌then◌else◌, Result, Ok, Err}
+use Rattle.std.specs.Prelude.{◌≡◌, ℕ, Bool, false, ◌||◌, not, List, [], length, ◌==◌, Option, None, Some, if◌then◌else◌, Result, Ok, Err}
 use Rattle.std.specs.List.{list_any}
 use Rattle.pdb_container.specs.Fault.{Fault, GlobalSymbolsNotFound, ◌>>=◌, refuse}
 use Rattle.pdb_report.specs.declared.pdb_container_types.ImageSectionHeader.{ImageSectionHeader}
 use Rattle.pdb_report.specs.declared.pdb_addr2line.contributions.ModuleSectionContribution.{ModuleSectionContribution}
-use Rattle.pdb_report.specs.Faults.{LoadingFault, NotYet, lifted}
+use Rattle.pdb_report.specs.declared.fault.LoadFault.{LoadFault}
+use Rattle.pdb_report.specs.declared.fault.LoadFault.TheVariants as faults
+use Rattle.pdb_report.specs.Faults.{LoadingFault, NotYet, lifted, loading_fault_of}
 use Rattle.pdb_report.specs.Streams.{Streams, fault_in}
 use Rattle.pdb_report.specs.Dbi.{Dbi, dbi_of}
 use Rattle.pdb_report.specs.Modules.{Module, modules_of, has_lines}
@@ -98,3 +100,8 @@ answerable s = do
 -- why a file isn't loaded
 abbrev pub load_fault : Streams → Option LoadingFault
 load_fault s = fault_in (answerable s)
+
+-- A file is refused with the fault, which is want of memory or the file's.
+abbrev pub Refuses : LoadFault → Option LoadingFault → Type 0
+Refuses faults.OutOfMemory fault = Unit {0}
+Refuses e fault = fault ≡ Some (loading_fault_of e)

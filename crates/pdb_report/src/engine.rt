@@ -29,6 +29,7 @@ pub fn run<A: Answers, R: Read, W: Write>(
     limit: u64,
 ) -> Result<(), RunFault>
     // Every line is answered, and nothing else is written.
+    requires { (line : List ℕ) → A.text answers.old (take 12 line) ≡ A.text answers.old line }
     ensures ok { OnOk result (IfSome (R.remaining (inner_of reader.old)) (λ input. (length input ≤ limit)
         × Appends (W.contents (inner_of writer.old)) (W.contents (inner_of writer.new)) (report (A.text answers.old) input))) }
     // No call failed unnoticed, and no fault is made up.
