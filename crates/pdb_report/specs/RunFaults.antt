@@ -1,4 +1,5 @@
 -- The faults of a run.
+use Rattle.std.specs.Prelude.{Result, Ok, Err}
 use Rattle.std.specs.declared.io.ErrorKind.{ErrorKind}
 use Rattle.std.specs.declared.io.ErrorKind.TheVariants as kinds
 use Rattle.pdb_report.specs.declared.fault.LoadFault.{LoadFault}
@@ -62,3 +63,31 @@ IsOfRunning (Read kind) = Unit {0}
 IsOfRunning (Write kind) = Unit {0}
 IsOfRunning InputTooLong = Unit {0}
 IsOfRunning OutOfMemory = Unit {0}
+
+-- at a loading fault
+abbrev pub OnLoad : RunFault → (LoadFault → Type 0) → Type 0
+OnLoad (Load fault) P = P fault
+OnLoad ReversedRange P = Unit {0}
+OnLoad (Read kind) P = Unit {0}
+OnLoad (Write kind) P = Unit {0}
+OnLoad InputTooLong P = Unit {0}
+OnLoad OutOfMemory P = Unit {0}
+
+-- at every end that is neither a loading fault nor want of memory
+abbrev pub UnlessLoad : Result (Unit {0}) RunFault → Type 0 → Type 0
+UnlessLoad (Ok done) P = P
+UnlessLoad (Err (Load fault)) P = Unit {0}
+UnlessLoad (Err OutOfMemory) P = Unit {0}
+UnlessLoad (Err ReversedRange) P = P
+UnlessLoad (Err (Read kind)) P = P
+UnlessLoad (Err (Write kind)) P = P
+UnlessLoad (Err InputTooLong) P = P
+
+-- a fault that a report on lines may have
+abbrev pub IsOfFrames : RunFault → Type 0
+IsOfFrames ReversedRange = ⊥
+IsOfFrames (Load fault) = Unit {0}
+IsOfFrames (Read kind) = Unit {0}
+IsOfFrames (Write kind) = Unit {0}
+IsOfFrames InputTooLong = Unit {0}
+IsOfFrames OutOfMemory = Unit {0}

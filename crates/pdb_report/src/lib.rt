@@ -2,20 +2,30 @@
 //! input is written.
 #![tactic(auto)]
 
-pub mod address;
+mod address;
 mod answers;
 mod engine;
-pub mod fault;
-pub mod finish;
+mod fault;
+mod finish;
 mod line_start;
 mod loading;
 mod modules;
 mod numbers;
-pub mod pdb_addr2line;
-pub mod pdb_container_types;
-pub mod pdb_items;
-pub mod pdb_module_data;
-pub mod pdb_modules;
-pub mod pdb_symbols_modules;
-pub mod symbolizer;
-pub mod watched;
+mod pdb_addr2line;
+mod pdb_container_types;
+mod pdb_items;
+mod pdb_module_data;
+mod pdb_modules;
+mod pdb_symbols_modules;
+mod report;
+mod symbolizer;
+mod watched;
+
+pub use address::parse_address;
+pub use fault::{LoadFault, RunFault};
+pub use finish::finish_run;
+pub use pdb_addr2line::Error;
+pub use pdb_addr2line::frames::{Frame, FunctionFrames};
+pub use report::run_frames;
+pub use symbolizer::Symbolizer;
+pub use watched::Watched;

@@ -1,0 +1,61 @@
+//! The report on an input.
+
+ghost use Rattle.std.specs.Prelude.{◌≡◌, ℕ, List, OnOk, OnErr, IfErr, IfSome, None, Some, length, take, ◌<◌, ◌≤◌};
+ghost use Rattle.std.specs.Io.KnownBytes.{Appends, Consumes};
+ghost use Rattle.pdb_report.specs.Answers.{line_text};
+ghost use Rattle.pdb_report.specs.Faults.{loading_fault_of};
+ghost use Rattle.pdb_report.specs.Lines.{report, report_of_ended, Begins};
+ghost use Rattle.pdb_report.specs.Loading.{load_fault};
+ghost use Rattle.pdb_report.specs.RunFaults.{OnLoad, OnRead, OnWrite, OnTooLong, UnlessLoad, IsOfFrames};
+ghost use Rattle.pdb_report.specs.Streams.{streams};
+ghost use Rattle.pdb_report.specs.Watched.{inner_of, Fails, IsQuiet};
+
+use crate::engine::run;
+use crate::fault::RunFault;
+use crate::symbolizer::Symbolizer;
+use crate::watched::Watched;
+use std::alloc::Global;
+use std::io::{Read, Write};
+
+/// The most bytes of input that a run reads.
+const INPUT_LIMIT: u64 = 1 << 30;
+
+/// Writes the report on the lines of the reader: for each line the answer for its address in the program database of
+/// the bytes, and nothing else.
+///
+/// # Errors
+/// `Load` where the file has a loading fault, and then nothing was read and nothing written; `Read` and `Write` where
+/// that end failed in this call; `InputTooLong` past 2^30 bytes of input; `OutOfMemory`.
+#[tactic(auto, using(crate::proofs::ShortLines::line_short))]
+pub fn run_frames<R: Read, W: Write>(
+    alloc: Global,
+    bytes: Vec<u8>,
+    reader: &mut Watched<R>,
+    writer: &mut Watched<W>,
+) -> Result<(), RunFault>
+    // The loading fault is answered where the file has one, with both ends untouched; every other end but want of
+    // memory says that there is none.
+    ensures load { IfErr result (λ fault. OnLoad fault (λ cause. (load_fault (streams bytes.items) ≡ Some (loading_fault_of cause)) × (reader.new ≡ reader.old) × (writer.new ≡ writer.old))) }
+    ensures loaded { UnlessLoad result (load_fault (streams bytes.items) ≡ None) }
+    ensures kind { IfErr result IsOfFrames }
+    // Where the run ends well, the report on the whole input is out, and neither end failed.
+    ensures ok { OnOk result (IfSome (R.remaining (inner_of reader.old)) (λ input. (length input ≤ INPUT_LIMIT)
+        × Appends (W.contents (inner_of writer.old)) (W.contents (inner_of writer.new)) (report (line_text (streams bytes.items)) input))) }
+    ensures quiet { OnOk result (IsQuiet reader.old reader.new × IsQuiet writer.old writer.new) }
+    // A failed read or write is one of this call, with its kind.
+    ensures read_fails { IfErr result (λ fault. OnRead fault (λ kind. Fails reader.old reader.new kind)) }
+    ensures write_fails { IfErr result (λ fault. OnWrite fault (λ kind. Fails writer.old writer.new kind)) }
+    // The complete lines before a failed read, and those of a too long input, are answered.
+    ensures read_out { IfErr result (λ fault. OnRead fault (λ _. (taken : List ℕ) × Consumes (R.remaining (inner_of reader.old)) (R.remaining (inner_of reader.new)) taken
+        × Appends (W.contents (inner_of writer.old)) (W.contents (inner_of writer.new)) (report_of_ended (line_text (streams bytes.items)) taken))) }
+    ensures too_long { IfErr result (λ fault. OnTooLong fault (IfSome (R.remaining (inner_of reader.old)) (λ input. (INPUT_LIMIT < length input)
+        × Appends (W.contents (inner_of writer.old)) (W.contents (inner_of writer.new)) (report_of_ended (line_text (streams bytes.items)) (take INPUT_LIMIT input))))) }
+    // At every fault what is out is the front of the report.
+    ensures part { OnErr result (IfSome (R.remaining (inner_of reader.old)) (λ input. (out : List ℕ)
+        × Appends (W.contents (inner_of writer.old)) (W.contents (inner_of writer.new)) out × Begins out (report (line_text (streams bytes.items)) input))) }
+{
+    match Symbolizer::open(alloc, bytes) {
+        Ok(mut symbolizer) => run(alloc, &mut symbolizer, reader, writer, INPUT_LIMIT),
+        Err(fault) => Err(RunFault::from(fault)),
+    }
+}
