@@ -7,6 +7,10 @@ use Rattle.std.proofs.lemmas.List.{length-map}
 use Rattle.std.proofs.lemmas.List.FromFn.{length-map-range_with_len, get_or-map-range_with_len}
 use Rattle.pdb_container.specs.Fault.{Fault}
 use Rattle.pdb_container.specs.Fault.{IoError}
+use Rattle.pdb_container.specs.Fault.{◌>>=◌}
+use Rattle.std.specs.Prelude.{Option, Result}
+use Rattle.pdb_container.specs.Container.{layout_of, directory_of, place_in, at_most, stream_in, stream}
+use Rattle.pdb_container.specs.Paged.{IsStream}
 use Rattle.pdb_container.specs.Places.{bytes_at, page_places, IsPaged}
 
 chosen : (b : Bool) (e : Fault) (x y : List ℕ) → cond b (Ok x) (Err e) ≡ Ok y → x ≡ y
@@ -28,4 +32,24 @@ is_paged file pages v size count h =
       len = ap length (sym e) ∙ length-map places (λ at. get_or file at 0) ∙ len;
       byte = λ i lt. ap (λ (xs : List ℕ). get_or xs i 0) (sym e) ∙ get_or-map (λ at. get_or file at 0) places i (omega arith)
           ∙ ap (λ at. get_or file at 0) (get_or-map-range_with_len (λ k. get_or pages (k / size) 0 * size + k % size) 0 count i i 0 lt (omega arith));
+    }
+
+bind_ok : {A B : Type 0} (r : Result A Fault) (f : A → Result B Fault) (y : B) → (r >>= f) ≡ Ok y → (x : A) × (r ≡ Ok x) × (f x ≡ Ok y)
+bind_ok (Ok x) f y h = (x, refl, h)
+bind_ok (Err e) f y h = absurd cc
+
+pub is_stream : (file : List ℕ) (n : ℕ) (limit : Option ℕ) (bytes : List ℕ) → stream file n limit ≡ Ok bytes → IsStream file n limit bytes
+unfolding stream stream_in
+is_stream file n limit bytes h =
+    let a = bind_ok (layout_of file) (λ l. stream_in l file n limit) bytes h in
+    let b = bind_ok (directory_of a.0 file) (λ d. place_in a.0.page_size a.0.pages_used n d >>= λ found. bytes_at file (page_places a.0.page_size found.1 (at_most limit found.0))) bytes a.2 in
+    let c = bind_ok (place_in a.0.page_size a.0.pages_used n b.0) (λ found. bytes_at file (page_places a.0.page_size found.1 (at_most limit found.0))) bytes b.2 in
+    record {
+      layout = a.0;
+      opens = a.1;
+      numbers = b.0;
+      directory = b.1;
+      found = c.0;
+      place = c.1;
+      paged = is_paged file c.0.1 bytes a.0.page_size (at_most limit c.0.0) c.2;
     }

@@ -4,5 +4,6 @@ pub mod ErrorText
 pub mod Fault
 pub mod Fields
 pub mod Header
+pub mod Paged
 pub mod Pages
 pub mod Places

@@ -4,6 +4,7 @@
 
 mod buffer;
 mod error;
+pub mod laws;
 mod msf;
 mod page_list;
 mod source;

@@ -415,8 +415,3 @@ pub fn open_msf<'s, S: Source + Drop>(alloc: Global, mut source: S) -> Result<Bi
         of: PhantomData,
     })
 }
-
-/// Byte i of what the pages hold is the file's byte in page number i / size, at i % size.
-pub fn paged_law()
-    ensures { (file pages bytes : List ℕ) (size count : ℕ) → bytes_at file (page_places size pages count) ≡ Ok bytes → IsPaged file size pages count bytes }
-{}
