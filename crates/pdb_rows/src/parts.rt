@@ -3,7 +3,9 @@
 use crate::files::File;
 use crate::runs::line_buffer;
 use pdb_container::Error as Cause;
-use pdb_report::{Error, FunctionFrames, LoadFault, RunFault, Symbolizer, Watched, finish_run, parse_address};
+use pdb_report::{
+    Error, FunctionFrames, LoadFault, RunFault, Symbolizer, Watched, finish_run, parse_address,
+};
 use pdb_samples::{FailingReader, SampleError, StallingWriter};
 use std::alloc::{AllocError, Global};
 use std::fmt::Display;

@@ -60,7 +60,7 @@ fn one_byte_at_a_time(rt: HostRuntime) -> Result<(), Fail> {
 
 #[test]
 fn failed_reads(rt: HostRuntime) -> Result<(), Fail> {
-    let rows: [(&[u8], &[u8]); 3] = [
+    let rows: [(&'static [u8], &'static [u8]); 3] = [
         (b"", b""),
         (
             b"1014\n1050\n10",
@@ -76,7 +76,7 @@ fn failed_reads(rt: HostRuntime) -> Result<(), Fail> {
         for (bytes, report) in rows {
             let run = read_input(
                 rt.alloc(),
-                || FailingReader {
+                move || FailingReader {
                     bytes,
                     piece: 3,
                     kind,
