@@ -1,0 +1,10 @@
+-- What the program's words ask for.
+use Rattle.std.specs.Prelude.{ℕ, List, [], ◌∷◌, Option, Some, None, codes, if◌then◌else◌}
+use Rattle.std.specs.Str.{bytes_eq}
+
+-- the file by which addresses are answered: the second of two words of which the first is `frames`
+abbrev pub file_of : List (List ℕ) → Option (List ℕ)
+file_of [] = None
+file_of (task ∷ []) = None
+file_of (task ∷ file ∷ []) = if bytes_eq task (codes "frames") then Some file else None
+file_of (task ∷ file ∷ more ∷ rest) = None
