@@ -6,7 +6,6 @@ use Rattle.std.proofs.lemmas.Bool.{cases_lt}
 use Rattle.std.proofs.lemmas.List.{append-nil, length-take}
 use Rattle.pdb_container.specs.Fault.{Fault}
 use Rattle.pdb_container.specs.Fault.{IoError}
-use Rattle.pdb_container.specs.declared.error.Error.TheVariants as errors
 use Rattle.pdb_container.specs.declared.source.SourceSlice.{SourceSlice}
 use Rattle.pdb_container.specs.Fault.{error_of_kind, error_of, fault_of, IsOutside}
 use Rattle.std.specs.declared.io.Error as io
