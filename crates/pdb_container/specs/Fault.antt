@@ -37,7 +37,7 @@ pub data Fault : Type 0 where
   CrossModuleRefNotFound : ℕ → Fault
   Kept : ModuleFault → Fault
 
--- what fault an error is; its value at want of memory is never used
+-- what fault an error is; want of memory is none, and its value there stands in no promise
 abbrev pub fault_of : Error → Fault
 fault_of errors.UnrecognizedFileFormat = UnrecognizedFileFormat
 fault_of (errors.InvalidPageSize a) = InvalidPageSize a
@@ -102,7 +102,12 @@ abbrev pub Gives : {X Y : Type 0} → (X → Y) → Type 0 → Result X Error �
 Gives view failed (Ok x) read = read ≡ Ok (view x)
 Gives view failed (Err e) read = IsOutside e failed ⊎ (read ≡ Err (fault_of e))
 
+-- a fault of the file or of the bytes, and not want of memory
+abbrev pub IsOfBytes : Error → Type 0
+IsOfBytes errors.OutOfMemory = ⊥
+IsOfBytes e = Unit {0}
+
 -- The same of a call that takes no memory and reads from no source: it always is what reading gives.
 abbrev pub Parses : {X Y : Type 0} → (X → Y) → Result X Error → Result Y Fault → Type 0
 Parses view (Ok x) read = read ≡ Ok (view x)
-Parses view (Err e) read = read ≡ Err (fault_of e)
+Parses view (Err e) read = IsOfBytes e × (read ≡ Err (fault_of e))

@@ -6,6 +6,7 @@ use Rattle.pdb_container.specs.declared.error.Error.TheVariants as errors
 use Rattle.pdb_container.specs.Fault.{Fault, fault_of, IsOutside, HasRisen, Gives, ◌>>=◌}
 use Rattle.pdb_report.specs.declared.fault.LoadFault.{LoadFault}
 use Rattle.pdb_report.specs.declared.fault.LoadFault.TheVariants as faults
+use Rattle.pdb_report.specs.declared.pdb_addr2line.Error.TheVariants as contexts
 use Rattle.pdb_report.specs.Loading.{none_or}
 use Rattle.pdb_report.specs.Streams.{fault_in}
 use Rattle.pdb_report.specs.Faults.{load_fault_of, lifted, Fails, LoadingFault}
@@ -83,4 +84,6 @@ load_fails_last e read (inr h) = ap lifted h
 -- a step that has failed is the end
 pub fails_on : {A B : Type 0} (e : LoadFault) (read : Result A LoadingFault) (f : A → Result B LoadingFault) → Fails e read → Fails e (read >>= f)
 fails_on faults.OutOfMemory read f h = tt
+fails_on (faults.Pdb contexts.OutOfMemory) read f h = h
+fails_on (faults.Pdb (contexts.PdbError errors.OutOfMemory)) read f h = h
 fails_on e read f h = ap (λ r. r >>= f) h

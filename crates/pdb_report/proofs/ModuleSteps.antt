@@ -6,6 +6,8 @@ use Rattle.std.proofs.lemmas.List.{take_more, take_all, drop_more, map-append}
 use Rattle.pdb_container.specs.Fault.{Fault, refuse, ◌>>=◌}
 use Rattle.pdb_report.specs.declared.fault.LoadFault.{LoadFault}
 use Rattle.pdb_report.specs.declared.fault.LoadFault.TheVariants as faults
+use Rattle.pdb_report.specs.declared.pdb_addr2line.Error.TheVariants as contexts
+use Rattle.pdb_container.specs.declared.error.Error.TheVariants as errors
 use Rattle.pdb_report.specs.Faults.{LoadingFault, NotYet, Fails, loading_fault_of}
 use Rattle.pdb_report.specs.Streams.{Streams}
 use Rattle.pdb_report.specs.Dbi.{Dbi, dbi_of}
@@ -77,4 +79,6 @@ refused s modules i m f lt is read =
 pub modules_fail : (s : Streams) (modules : List Module) (i : ℕ) (m : Module) (e : LoadFault) → i < length modules → m ≡ get_or modules i m
     → Fails e (plain_procedures (module_info s m >>= symbols_in)) → Fails e (all_procedures s modules)
 modules_fail s modules i m faults.OutOfMemory lt is h = tt
+modules_fail s modules i m (faults.Pdb contexts.OutOfMemory) lt is h = h
+modules_fail s modules i m (faults.Pdb (contexts.PdbError errors.OutOfMemory)) lt is h = h
 modules_fail s modules i m e lt is h = refused s modules i m (loading_fault_of e) lt is h

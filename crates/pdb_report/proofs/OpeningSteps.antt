@@ -7,15 +7,17 @@ use Rattle.pdb_container.specs.declared.error.Error.TheVariants as errors
 use Rattle.pdb_container.specs.Fault.{Fault, fault_of, IsOutside, refuse, ◌>>=◌}
 use Rattle.pdb_report.specs.declared.fault.LoadFault.{LoadFault}
 use Rattle.pdb_report.specs.declared.fault.LoadFault.TheVariants as faults
+use Rattle.pdb_report.specs.declared.pdb_addr2line.Error.TheVariants as contexts
 use Rattle.pdb_report.specs.declared.pdb_container_types.ImageSectionHeader.{ImageSectionHeader}
 use Rattle.pdb_report.specs.declared.pdb_addr2line.contributions.ModuleSectionContribution.{ModuleSectionContribution}
 use Rattle.pdb_report.specs.Faults.{LoadingFault, NotYet, lifted, load_fault_of, loading_fault_of, Fails}
+use Rattle.pdb_report.specs.RunFaults.{OnLoad, run_fault_of}
 use Rattle.pdb_report.specs.Streams.{Streams, streams, fault_in}
 use Rattle.pdb_report.specs.Dbi.{Dbi, dbi_of}
 use Rattle.pdb_report.specs.Modules.{Module, modules_of}
 use Rattle.pdb_report.specs.Procedures.{Info, Procedure, symbols_in, procedures, procedures_of}
 use Rattle.pdb_report.specs.Shared.{Bytes, number, named, module_in, module_of, module_number, module_stream, info_from, shared, provider}
-use Rattle.pdb_report.specs.Loading.{load_fault, Refuses, Parts, none_or, loaded_behind, loaded, module_info, has_other_symbols, answerable}
+use Rattle.pdb_report.specs.Loading.{load_fault, Refuses, IsFileFault, Parts, none_or, loaded_behind, loaded, module_info, has_other_symbols, answerable}
 use Rattle.pdb_report.specs.Kept.{module_procedures, all_procedures, list_or_none, procedures_at, tables, IsKept}
 use Rattle.pdb_report.proofs.Lifting.{fails_on, load_fails, parse_fails}
 
@@ -66,6 +68,8 @@ check_fails s parts f h = checks_alike (list_any (has_other_symbols s) parts.mod
 pub modules_are_ill : (s : Streams) (e : LoadFault) (dbi : Dbi) (parts : Parts) → s.open_fault ≡ None → (s.at 3 >>= dbi_of) ≡ Ok dbi → loaded_behind (shared s) dbi ≡ Ok parts
     → Fails e (all_procedures s parts.modules) → Fails e (answerable s)
 modules_are_ill s faults.OutOfMemory dbi parts h read load failed = tt
+modules_are_ill s (faults.Pdb contexts.OutOfMemory) dbi parts h read load failed = failed
+modules_are_ill s (faults.Pdb (contexts.PdbError errors.OutOfMemory)) dbi parts h read load failed = failed
 modules_are_ill s e dbi parts h read load failed = behind_dbi s dbi h read ∙ ap (λ r. r >>= checked s) load ∙ check_fails s parts (loading_fault_of e) failed
 
 -- ---- what is kept
@@ -121,4 +125,11 @@ kept_loads file sections contributions all kept = no_fault (answerable (streams 
 -- a failed load is a load fault
 pub refuses : (e : LoadFault) (s : Streams) → Fails e (answerable s) → Refuses e (load_fault s)
 refuses faults.OutOfMemory s h = tt
+refuses (faults.Pdb contexts.OutOfMemory) s h = h
+refuses (faults.Pdb (contexts.PdbError errors.OutOfMemory)) s h = h
 refuses e s h = ap fault_in h
+
+-- how a run ends where the file is refused
+pub run_refused : (e : LoadFault) (fault : Option LoadingFault) (quiet : Type 0) → Refuses e fault → quiet → OnLoad (run_fault_of e) (λ cause. IsFileFault cause fault × quiet)
+run_refused faults.OutOfMemory fault quiet h q = tt
+run_refused e fault quiet h q = (h, q)

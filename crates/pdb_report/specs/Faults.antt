@@ -27,7 +27,7 @@ abbrev pub load_fault_of : container.Error → LoadFault
 load_fault_of errors.OutOfMemory = faults.OutOfMemory
 load_fault_of e = faults.Pdb (contexts.PdbError e)
 
--- what fault a fault of the code is; its value at want of memory is never used
+-- what fault a fault of the code is; want of memory is none, and its value there stands in no promise
 abbrev pub loading_fault_of : LoadFault → LoadingFault
 loading_fault_of (faults.Pdb (contexts.PdbError e)) = Pdb (PdbError (fault_of e))
 loading_fault_of (faults.Pdb contexts.OutOfMemory) = NotYet
@@ -43,6 +43,8 @@ lifted (Err e) = Err (Pdb (PdbError e))
 -- A call answers the fault: memory was short, or reading has that fault.
 abbrev pub Fails : {Y : Type 0} → LoadFault → Result Y LoadingFault → Type 0
 Fails faults.OutOfMemory read = Unit {0}
+Fails (faults.Pdb contexts.OutOfMemory) read = ⊥
+Fails (faults.Pdb (contexts.PdbError errors.OutOfMemory)) read = ⊥
 Fails e read = read ≡ Err (loading_fault_of e)
 
 -- What a call returned, seen by view, is what reading gives, unless memory was short.

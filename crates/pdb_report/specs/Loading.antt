@@ -6,6 +6,8 @@ use Rattle.pdb_report.specs.declared.pdb_container_types.ImageSectionHeader.{Ima
 use Rattle.pdb_report.specs.declared.pdb_addr2line.contributions.ModuleSectionContribution.{ModuleSectionContribution}
 use Rattle.pdb_report.specs.declared.fault.LoadFault.{LoadFault}
 use Rattle.pdb_report.specs.declared.fault.LoadFault.TheVariants as faults
+use Rattle.pdb_report.specs.declared.pdb_addr2line.Error.TheVariants as contexts
+use Rattle.pdb_container.specs.declared.error.Error.TheVariants as errors
 use Rattle.pdb_report.specs.Faults.{LoadingFault, NotYet, lifted, loading_fault_of}
 use Rattle.pdb_report.specs.Streams.{Streams, fault_in}
 use Rattle.pdb_report.specs.Dbi.{Dbi, dbi_of}
@@ -101,7 +103,14 @@ answerable s = do
 abbrev pub load_fault : Streams → Option LoadingFault
 load_fault s = fault_in (answerable s)
 
--- A file is refused with the fault, which is want of memory or the file's.
+-- The fault is the file's, and not want of memory.
+abbrev pub IsFileFault : LoadFault → Option LoadingFault → Type 0
+IsFileFault faults.OutOfMemory fault = ⊥
+IsFileFault (faults.Pdb contexts.OutOfMemory) fault = ⊥
+IsFileFault (faults.Pdb (contexts.PdbError errors.OutOfMemory)) fault = ⊥
+IsFileFault e fault = fault ≡ Some (loading_fault_of e)
+
+-- A file is refused for want of memory, or with its fault.
 abbrev pub Refuses : LoadFault → Option LoadingFault → Type 0
 Refuses faults.OutOfMemory fault = Unit {0}
-Refuses e fault = fault ≡ Some (loading_fault_of e)
+Refuses e fault = IsFileFault e fault

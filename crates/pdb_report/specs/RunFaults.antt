@@ -1,5 +1,5 @@
 -- The faults of a run.
-use Rattle.std.specs.Prelude.{Result, Ok, Err}
+use Rattle.std.specs.Prelude.{◌≢◌, Result, Ok, Err}
 use Rattle.std.specs.declared.io.ErrorKind.{ErrorKind}
 use Rattle.std.specs.declared.io.ErrorKind.TheVariants as kinds
 use Rattle.pdb_report.specs.declared.fault.LoadFault.{LoadFault}
@@ -46,9 +46,9 @@ OnTooLong (Read kind) P = Unit {0}
 OnTooLong (Write kind) P = Unit {0}
 OnTooLong OutOfMemory P = Unit {0}
 
--- a fault that writing an answer may have
+-- a fault that writing an answer may have; want of memory has one name
 abbrev pub IsOfWriting : RunFault → Type 0
-IsOfWriting (Write kind) = Unit {0}
+IsOfWriting (Write kind) = kind ≢ kinds.OutOfMemory
 IsOfWriting OutOfMemory = Unit {0}
 IsOfWriting (Load fault) = ⊥
 IsOfWriting ReversedRange = ⊥
@@ -59,8 +59,8 @@ IsOfWriting InputTooLong = ⊥
 abbrev pub IsOfRunning : RunFault → Type 0
 IsOfRunning (Load fault) = ⊥
 IsOfRunning ReversedRange = ⊥
-IsOfRunning (Read kind) = Unit {0}
-IsOfRunning (Write kind) = Unit {0}
+IsOfRunning (Read kind) = kind ≢ kinds.OutOfMemory
+IsOfRunning (Write kind) = kind ≢ kinds.OutOfMemory
 IsOfRunning InputTooLong = Unit {0}
 IsOfRunning OutOfMemory = Unit {0}
 
@@ -87,7 +87,16 @@ UnlessLoad (Err InputTooLong) P = P
 abbrev pub IsOfFrames : RunFault → Type 0
 IsOfFrames ReversedRange = ⊥
 IsOfFrames (Load fault) = Unit {0}
-IsOfFrames (Read kind) = Unit {0}
-IsOfFrames (Write kind) = Unit {0}
+IsOfFrames (Read kind) = kind ≢ kinds.OutOfMemory
+IsOfFrames (Write kind) = kind ≢ kinds.OutOfMemory
 IsOfFrames InputTooLong = Unit {0}
 IsOfFrames OutOfMemory = Unit {0}
+
+-- at want of memory
+abbrev pub OnMemory : RunFault → Type 0 → Type 0
+OnMemory OutOfMemory P = P
+OnMemory (Load fault) P = Unit {0}
+OnMemory ReversedRange P = Unit {0}
+OnMemory (Read kind) P = Unit {0}
+OnMemory (Write kind) P = Unit {0}
+OnMemory InputTooLong P = Unit {0}

@@ -2,7 +2,7 @@
 
 ghost use Rattle.std.specs.Prelude.{◌≡◌};
 ghost use Rattle.pdb_report.specs.declared.fault.LoadFault.TheVariants as load_faults;
-ghost use Rattle.pdb_report.specs.RunFaults.{read_fault_of, write_fault_of};
+ghost use Rattle.pdb_report.specs.RunFaults.{read_fault_of, write_fault_of, IsOfRunning, IsOfWriting};
 
 use crate::pdb_addr2line;
 use pdb_container::kind_name;
@@ -85,7 +85,8 @@ impl From<LoadFault> for RunFault {
 
 /// How a run ends where a read failed: want of memory is a fault of its own.
 pub fn read_fault(kind: ErrorKind) -> RunFault
-    ensures { result ≡ read_fault_of kind }
+    ensures value { result ≡ read_fault_of kind }
+    ensures kind { IsOfRunning result }
 {
     match kind {
         ErrorKind::OutOfMemory => RunFault::OutOfMemory,
@@ -95,7 +96,8 @@ pub fn read_fault(kind: ErrorKind) -> RunFault
 
 /// How a run ends where a write failed: want of memory is a fault of its own.
 pub fn write_fault(kind: ErrorKind) -> RunFault
-    ensures { result ≡ write_fault_of kind }
+    ensures value { result ≡ write_fault_of kind }
+    ensures kind { IsOfWriting result }
 {
     match kind {
         ErrorKind::OutOfMemory => RunFault::OutOfMemory,

@@ -1,12 +1,11 @@
 //! The report on an input.
 
-ghost use Rattle.std.specs.Prelude.{◌≡◌, ℕ, List, OnOk, OnErr, IfErr, IfSome, None, Some, length, take, ◌<◌, ◌≤◌};
+ghost use Rattle.std.specs.Prelude.{◌≡◌, ℕ, List, OnOk, OnErr, IfErr, IfSome, None, ◌⊎◌, length, take, ◌<◌, ◌≤◌};
 ghost use Rattle.std.specs.Io.KnownBytes.{Appends, Consumes};
 ghost use Rattle.pdb_report.specs.Answers.{line_text};
-ghost use Rattle.pdb_report.specs.Faults.{loading_fault_of};
 ghost use Rattle.pdb_report.specs.Lines.{report, report_of_ended, Begins};
-ghost use Rattle.pdb_report.specs.Loading.{load_fault};
-ghost use Rattle.pdb_report.specs.RunFaults.{OnLoad, OnRead, OnWrite, OnTooLong, UnlessLoad, IsOfFrames};
+ghost use Rattle.pdb_report.specs.Loading.{load_fault, IsFileFault};
+ghost use Rattle.pdb_report.specs.RunFaults.{OnLoad, OnRead, OnWrite, OnTooLong, OnMemory, UnlessLoad, IsOfFrames};
 ghost use Rattle.pdb_report.specs.Streams.{streams};
 ghost use Rattle.pdb_report.specs.Watched.{inner_of, Fails, IsQuiet};
 
@@ -26,7 +25,7 @@ const INPUT_LIMIT: u64 = 1 << 30;
 /// # Errors
 /// `Load` where the file has a loading fault, and then nothing was read and nothing written; `Read` and `Write` where
 /// that end failed in this call; `InputTooLong` past 2^30 bytes of input; `OutOfMemory`.
-#[tactic(auto, using(crate::proofs::ShortLines::line_short))]
+#[tactic(auto, using(crate::proofs::ShortLines::line_short, crate::proofs::OpeningSteps::run_refused))]
 pub fn run_frames<R: Read, W: Write>(
     alloc: Global,
     bytes: Vec<u8>,
@@ -35,9 +34,11 @@ pub fn run_frames<R: Read, W: Write>(
 ) -> Result<(), RunFault>
     // The loading fault is answered where the file has one, with both ends untouched; every other end but want of
     // memory says that there is none.
-    ensures load { IfErr result (λ fault. OnLoad fault (λ cause. (load_fault (streams bytes.items) ≡ Some (loading_fault_of cause)) × (reader.new ≡ reader.old) × (writer.new ≡ writer.old))) }
+    ensures load { IfErr result (λ fault. OnLoad fault (λ cause. IsFileFault cause (load_fault (streams bytes.items)) × ((reader.new ≡ reader.old) × (writer.new ≡ writer.old)))) }
     ensures loaded { UnlessLoad result (load_fault (streams bytes.items) ≡ None) }
     ensures kind { IfErr result IsOfFrames }
+    // Want of memory is answered with both ends untouched, or where there is none.
+    ensures memory { IfErr result (λ fault. OnMemory fault ((load_fault (streams bytes.items) ≡ None) ⊎ ((reader.new ≡ reader.old) × (writer.new ≡ writer.old)))) }
     // Where the run ends well, the report on the whole input is out, and neither end failed.
     ensures ok { OnOk result (IfSome (R.remaining (inner_of reader.old)) (λ input. (length input ≤ INPUT_LIMIT)
         × Appends (W.contents (inner_of writer.old)) (W.contents (inner_of writer.new)) (report (line_text (streams bytes.items)) input))) }

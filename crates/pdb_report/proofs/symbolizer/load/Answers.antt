@@ -15,7 +15,7 @@ pub returns-in_err-dbi-clause-err : goal.returns-in_err-dbi-clause-err
 returns-in_err-dbi-clause-err c =
     let p = err_from_is_err_and c.from_residual-in_err-dbi.result c.from_residual-in_err-dbi.ensures.1 in
     let parsed = rw c.as_slice.ensures at c.in_err-dbi.ensures in
-    rw (p.1, p.2) (header_fails (streams c.args.pdb) c.in_err-dbi.field-0.0 c.in_ok-stream.stream c.requires c.in_ok-stream.ensures.exact parsed)
+    rw (p.1, p.2) (header_fails (streams c.args.pdb) c.in_err-dbi.field-0.0 c.in_ok-stream.stream c.requires c.in_ok-stream.ensures.exact parsed.1)
 
 pub returns-in_err-parts-clause-err : goal.returns-in_err-parts-clause-err
 returns-in_err-parts-clause-err c =
