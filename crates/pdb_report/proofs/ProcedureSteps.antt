@@ -2,11 +2,16 @@
 use Rattle.std.proofs.Common.{◌≡◌, ℕ, ◌+◌, ◌<◌, ◌≤◌, Bool, true, false, cond, ltb, ◌||◌, ◌&&◌, List, [], ◌∷◌, ◌++◌, length, get_or, drop, Ok, refl, sym, ap, ◌∙◌, arith, inl, inr}
 use Rattle.std.specs.Prelude.{Option, None, Some, nat_lt, max}
 use Rattle.std.specs.List.{list_any}
+use Rattle.std.specs.Prelude.{◌==◌}
+use Rattle.std.specs.declared.cmp.Ordering.{Ordering}
+use Rattle.std.specs.declared.cmp.Ordering.TheVariants.{Less, Equal, Greater}
+use Rattle.std.specs.Ordering.{nat_cmp, ordering_then, is_eq}
+use Rattle.std.proofs.lemmas.Bool.Decides.{nat_tests}
 use Rattle.std.proofs.lemmas.Bool.{lt-ltb, le-ltb, cases_lt}
 use Rattle.std.proofs.lemmas.List.{drop_more, drop_all}
 use Rattle.pdb_report.specs.declared.pdb_container_types.PdbInternalSectionOffset.{PdbInternalSectionOffset}
 use Rattle.pdb_report.specs.Symbols.{Symbol, is_procedure, procedure_of}
-use Rattle.pdb_report.specs.Procedures.{Procedure, contains, later, over, if_over, is_inside, is_other, end_in, has_inner, has_other, onto_new, with_code, procedures_behind}
+use Rattle.pdb_report.specs.Procedures.{Procedure, is_at, place_cmp, has_start, contains, later, over, if_over, is_inside, is_other, end_in, has_inner, has_other, onto_new, with_code, procedures_behind}
 
 -- ---- the procedures that are kept
 
@@ -17,6 +22,31 @@ kept_more kept symbols i d all lt so_far = sym (ap (procedures_behind kept) (dro
 pub kept_all : (kept : List Procedure) (symbols : List Symbol) (i : ℕ) (all : List Procedure) → length symbols ≤ i
     → procedures_behind kept (drop i symbols) ≡ all → kept ≡ all
 kept_all kept symbols i all past so_far = sym (ap (procedures_behind kept) (drop_all i symbols past)) ∙ so_far
+
+-- equal places are those that compare so
+cmp_number : (x y : ℕ) → is_eq (nat_cmp x y) ≡ (x == y)
+cmp_number x y = grind (arith, nat_tests)
+
+cmp_then : (o p : Ordering) → is_eq (ordering_then o p) ≡ (is_eq o && is_eq p)
+cmp_then Less p = refl
+cmp_then Equal p = refl
+cmp_then Greater p = refl
+
+cmp_place : (a b : PdbInternalSectionOffset) → is_eq (place_cmp a b) ≡ is_at a b
+cmp_place a b = cmp_then (nat_cmp a.section b.section) (nat_cmp a.offset b.offset) ∙ ap (λ t. t && is_eq (nat_cmp a.offset b.offset)) (cmp_number a.section b.section) ∙ ap (λ t. (a.section == b.section) && t) (cmp_number a.offset b.offset)
+
+start_added : (kept : List Procedure) (p : Procedure) (q : PdbInternalSectionOffset) → has_start (kept ++ p ∷ []) q ≡ cond (is_at p.offset q) true (has_start kept q)
+start_added [] p q = elim (is_at p.offset q) as (λ b. (b || false) ≡ cond b true false) [ true ↦ refl | false ↦ refl ]
+start_added (k ∷ kept) p q =
+    rw (start_added kept p q) (elim (is_at k.offset q) as (λ b. (b || cond (is_at p.offset q) true (has_start kept q)) ≡ cond (is_at p.offset q) true (b || has_start kept q)) [
+      | true ↦ elim (is_at p.offset q) as (λ t. true ≡ cond t true true) [ true ↦ refl | false ↦ refl ]
+      | false ↦ refl
+    ])
+
+-- one more start in the set is one more procedure that is kept
+pub starts_more : (kept : List Procedure) (p : Procedure) (q : PdbInternalSectionOffset) (before now : Bool) → now ≡ cond (is_eq (place_cmp p.offset q)) true before → before ≡ has_start kept q → now ≡ has_start (kept ++ p ∷ []) q
+starts_more kept p q before now added same =
+    added ∙ ap (λ t. cond t true before) (cmp_place p.offset q) ∙ ap (λ t. cond (is_at p.offset q) true t) same ∙ sym (start_added kept p q)
 
 -- ---- the procedure over a place
 

@@ -1,6 +1,8 @@
 -- What is read of a module's stream: its symbols, and its procedures.
 use Rattle.std.specs.Prelude.{ℕ, ◌+◌, ◌-◌, Bool, true, false, ◌||◌, ◌&&◌, not, List, [], ◌∷◌, ◌++◌, length, take, nat_lt, nat_le, ◌==◌, Option, None, Some, if◌then◌else◌, Result, Ok, Err, codes}
 use Rattle.std.specs.List.{list_any}
+use Rattle.std.specs.declared.cmp.Ordering.{Ordering}
+use Rattle.std.specs.Ordering.{nat_cmp, ordering_then}
 use Rattle.std.specs.Int.{w32}
 use Rattle.pdb_container.specs.Fault.{Fault, UnexpectedEof, UnimplementedFeature, ◌>>=◌, refuse}
 use Rattle.pdb_container.specs.Fields.{number_at}
@@ -37,6 +39,10 @@ pub record Procedure : Type 0 where
 
 abbrev pub is_at : PdbInternalSectionOffset → PdbInternalSectionOffset → Bool
 is_at a b = (a.section == b.section) && (a.offset == b.offset)
+
+-- places by section and then by offset
+abbrev pub place_cmp : PdbInternalSectionOffset → PdbInternalSectionOffset → Ordering
+place_cmp a b = ordering_then (nat_cmp a.section b.section) (nat_cmp a.offset b.offset)
 
 -- a procedure begins there
 abbrev pub has_start : List Procedure → PdbInternalSectionOffset → Bool

@@ -10,7 +10,7 @@ use pdb_container::{Error, ParseBuffer, Result};
 use std::alloc::Global;
 
 /// A place: a section's number, counted from 1, and an offset in it in bytes.
-#[derive(Clone, Copy, Debug, PartialEq, Eq, Hash)]
+#[derive(Clone, Copy, Debug, PartialEq, Eq, PartialOrd, Ord)]
 pub struct PdbInternalSectionOffset {
     pub section: u16,
     pub offset: u32,

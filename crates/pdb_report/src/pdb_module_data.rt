@@ -1,11 +1,11 @@
 //! What is read of a module's stream: its procedures.
 
 ghost use Rattle.std.specs.Prelude.{◌≡◌, ℕ, ◌∷◌, [], IfOk, OnOk, Ok, option_map};
-ghost use Rattle.std.specs.HashSet.{contains};
+ghost use Rattle.std.specs.BTreeSet.{contains};
 ghost use Rattle.pdb_container.specs.Fault.{Gives, Parses};
 ghost use Rattle.pdb_report.specs.declared.pdb_container_types.PdbInternalSectionOffset.{PdbInternalSectionOffset};
 ghost use Rattle.pdb_report.specs.Symbols.{procedure_of};
-ghost use Rattle.pdb_report.specs.Procedures.{signed_symbols_of, symbols_in, is_at, has_start, with_code as with_code_of, onto_new, procedures_behind, contains as contains_place, later as later_of, over as over_of, is_other as is_other_symbol, has_type as has_type_of, end_in, is_inside as is_inside_of, has_other};
+ghost use Rattle.pdb_report.specs.Procedures.{signed_symbols_of, symbols_in, place_cmp, has_start, with_code as with_code_of, onto_new, procedures_behind, contains as contains_place, later as later_of, over as over_of, is_other as is_other_symbol, has_type as has_type_of, end_in, is_inside as is_inside_of, has_other};
 
 use crate::pdb_container_types::PdbInternalSectionOffset;
 use crate::pdb_modules::{
@@ -13,7 +13,7 @@ use crate::pdb_modules::{
 };
 use pdb_container::{Error, ParseBuffer, Result};
 use std::alloc::{AllocError, Global};
-use std::collections::HashSet;
+use std::collections::BTreeSet;
 use std::marker::Model;
 
 /// A procedure: where its code begins, how many bytes it has, and its name.
@@ -90,14 +90,15 @@ fn with_code(
 }
 
 /// One more procedure, unless one begins where it does.
+#[tactic(auto, using(crate::proofs::ProcedureSteps::starts_more))]
 fn push_new(
-    starts: &mut HashSet<PdbInternalSectionOffset>,
+    starts: &mut BTreeSet<PdbInternalSectionOffset>,
     procedures: &mut Vec<Procedure>,
     procedure: Procedure,
 ) -> std::result::Result<(), AllocError>
-    requires { (p : PdbInternalSectionOffset) → contains is_at starts.old p ≡ has_start procedures.old.items p }
+    requires { (p : PdbInternalSectionOffset) → contains place_cmp starts.old p ≡ has_start procedures.old.items p }
     ensures ok { OnOk result (procedures.new.items ≡ onto_new procedures.old.items (Some procedure)) }
-    ensures starts { OnOk result ((p : PdbInternalSectionOffset) → contains is_at starts.new p ≡ has_start procedures.new.items p) }
+    ensures starts { OnOk result ((p : PdbInternalSectionOffset) → contains place_cmp starts.new p ≡ has_start procedures.new.items p) }
 {
     if starts.insert(procedure.offset)? {
         procedures.push(procedure)?;
@@ -113,7 +114,7 @@ pub fn procedures_of(
 ) -> std::result::Result<Vec<Procedure>, AllocError>
     ensures { IfOk result (λ v. v.items ≡ procedures_behind [] symbols.now) }
 {
-    let mut starts = HashSet::new(alloc);
+    let mut starts = BTreeSet::new(alloc);
     let mut procedures = Vec::new(alloc);
     for symbol in symbols {
         if let Some(procedure) = with_code(alloc, symbol)? {
