@@ -1,5 +1,5 @@
 -- What is outside one step is outside the whole.
-use Rattle.std.proofs.Common.{ℕ, ◌≤◌, arith}
+use Rattle.std.proofs.Common.{◌≡◌, ℕ, ◌≤◌, List, arith}
 use Rattle.pdb_container.specs.declared.error.Error.{Error}
 use Rattle.pdb_container.specs.declared.error.Error.TheVariants.{OutOfMemory, IoError}
 use Rattle.pdb_container.specs.Fault.{HasRisen, IsOutside}
@@ -19,7 +19,8 @@ outside_later OutOfMemory a b c le h = tt
 outside_later (IoError kind) a b c le h = (h.0, omega arith)
 outside_later e a b c le h = absurd h
 
-pub outside_with : {S : Type 0} (count : S → ℕ) (before after : S) (e : Error) → IsOutside e (HasRisen (count before) (count after)) → IsOutside e ((last : S) × HasRisen (count before) (count last))
-outside_with count before after OutOfMemory h = tt
-outside_with count before after (IoError kind) h = (h.0, (after, h.1))
-outside_with count before after e h = absurd h
+pub outside_with : {S : Type 0} (bytes : S → List ℕ) (count : S → ℕ) (before after : S) (e : Error) → bytes after ≡ bytes before → IsOutside e (HasRisen (count before) (count after))
+    → IsOutside e ((last : S) × (bytes last ≡ bytes before) × HasRisen (count before) (count last))
+outside_with bytes count before after OutOfMemory same h = tt
+outside_with bytes count before after (IoError kind) same h = (h.0, (after, same, h.1))
+outside_with bytes count before after e same h = absurd h

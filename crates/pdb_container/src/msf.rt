@@ -404,8 +404,8 @@ impl<'s, S: Source> Msf<'s, S> for BigMSF<'s, S> {
 /// `UnrecognizedFileFormat`, `InvalidPageSize`, `PageReferenceOutOfRange`, `UnexpectedEof`; `IoError` where the source failed.
 #[tactic(auto, using(crate::proofs::Outside::outside_alone, crate::proofs::Outside::outside_with), unfolding(crate::specs::Container::layout_of))]
 pub fn open_msf<'s, S: Source + Drop>(alloc: Global, mut source: S) -> Result<BigMSF<'s, S>>
-    ensures file { IfOk result (λ m. (S.bytes m ≡ S.bytes source) × IsOk (layout_of (S.bytes source))) }
-    ensures err { IfErr result (λ e. IsOutside e ((after : S) × HasRisen (S.failures source) (S.failures after)) ⊎ (layout_of (S.bytes source) ≡ Err (fault_of e))) }
+    ensures file { IfOk result (λ m. (S.bytes m ≡ S.bytes source) × (S.failures source ≤ S.failures m) × IsOk (layout_of (S.bytes source))) }
+    ensures err { IfErr result (λ e. IsOutside e ((after : S) × (S.bytes after ≡ S.bytes source) × HasRisen (S.failures source) (S.failures after)) ⊎ (layout_of (S.bytes source) ≡ Err (fault_of e))) }
 {
     let front = read_front(&mut source, alloc)?;
     let header = header_of(alloc, front.as_slice())?;

@@ -1,5 +1,5 @@
 -- A call that loads passes a fault of the container on.
-use Rattle.std.proofs.Common.{◌≡◌, Result, Ok, Err, ap, inl, inr, arith, refl}
+use Rattle.std.proofs.Common.{◌≡◌, ℕ, List, Result, Ok, Err, ap, inl, inr, arith, refl}
 use Rattle.std.specs.Prelude.{◌⊎◌, IsOk, None}
 use Rattle.pdb_container.specs.declared.error.Error.{Error}
 use Rattle.pdb_container.specs.declared.error.Error.TheVariants as errors
@@ -23,19 +23,6 @@ load_fails e read f (inr h) = ap (λ r. lifted r >>= f) h
 rise : HasRisen 0 0 → ⊥
 rise h = omega (arith, h)
 
-pub opened_fails : (S : Type 0) {A B : Type 0} (e : Error) (read : Result A Fault) (f : A → Result B LoadingFault)
-    → (IsOutside e ((after : S) × HasRisen 0 0) ⊎ (read ≡ Err (fault_of e))) → Fails (load_fault_of e) (lifted read >>= f)
-opened_fails S errors.OutOfMemory read f h = tt
-opened_fails S (errors.IoError kind) read f (inl h) = absurd (rise h.1.1)
-opened_fails S (errors.IoError kind) read f (inr h) = ap (λ r. lifted r >>= f) h
-opened_fails S e read f (inl h) = absurd h
-opened_fails S e read f (inr h) = ap (λ r. lifted r >>= f) h
-
-pub opened_is : {A B : Type 0} (read : Result A Fault) (f : A → Result B LoadingFault) (last : Result B LoadingFault)
-    → IsOk read → ((a : A) → f a ≡ last) → (lifted read >>= f) ≡ last
-opened_is (Ok x) f last ok same = same x
-opened_is (Err e) f last ok same = cc
-
 pub read_fails : {A : Type 0} (e : Error) (read : Result A Fault)
     → (IsOutside e (HasRisen 0 0) ⊎ (read ≡ Err (fault_of e))) → Fails (load_fault_of e) (lifted read)
 read_fails errors.OutOfMemory read h = tt
@@ -56,13 +43,13 @@ given_in_memory view (Err e) read (inl h) = inl (outside_none e h)
 given_in_memory view (Err e) read (inr h) = inr h
 
 -- why a container in memory isn't opened
-pub opening_fails : (S : Type 0) {A : Type 0} (e : Error) (read : Result A Fault)
-    → (IsOutside e ((after : S) × HasRisen 0 0) ⊎ (read ≡ Err (fault_of e))) → Fails (load_fault_of e) (lifted (none_or (fault_in read)))
-opening_fails S errors.OutOfMemory read h = tt
-opening_fails S (errors.IoError kind) read (inl h) = absurd (rise h.1.1)
-opening_fails S (errors.IoError kind) read (inr h) = ap (λ r. lifted (none_or (fault_in r))) h
-opening_fails S e read (inl h) = absurd h
-opening_fails S e read (inr h) = ap (λ r. lifted (none_or (fault_in r))) h
+pub opening_fails : {S A : Type 0} (bytes : S → List ℕ) (before : S) (e : Error) (read : Result A Fault)
+    → (IsOutside e ((after : S) × (bytes after ≡ bytes before) × HasRisen 0 0) ⊎ (read ≡ Err (fault_of e))) → Fails (load_fault_of e) (lifted (none_or (fault_in read)))
+opening_fails bytes before errors.OutOfMemory read h = tt
+opening_fails bytes before (errors.IoError kind) read (inl h) = absurd (rise h.1.2)
+opening_fails bytes before (errors.IoError kind) read (inr h) = ap (λ r. lifted (none_or (fault_in r))) h
+opening_fails bytes before e read (inl h) = absurd h
+opening_fails bytes before e read (inr h) = ap (λ r. lifted (none_or (fault_in r))) h
 
 pub opened_well : {A F : Type 0} (read : Result A F) → IsOk read → fault_in read ≡ None
 opened_well (Ok x) h = refl

@@ -25,7 +25,6 @@ pub use address::parse_address;
 pub use fault::{LoadFault, RunFault};
 pub use finish::finish_run;
 pub use pdb_addr2line::Error;
-pub use pdb_addr2line::frames::{Frame, FunctionFrames};
 pub use report::run_frames;
 pub use symbolizer::Symbolizer;
 pub use watched::Watched;

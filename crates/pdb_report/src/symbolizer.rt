@@ -112,7 +112,7 @@ impl Symbolizer {
 
     /// The function at an address of the image, with its frames; none where no function is known.
     #[tactic(auto, using(crate::proofs::KeptSteps::answer_kept))]
-    pub fn find_frames(
+    fn find_frames(
         &self,
         alloc: Global,
         address: u32,
