@@ -62,7 +62,8 @@ impl File {
         }
     }
 
-    fn made(self, alloc: Global) -> Result<Vec<u8>> {
+    /// The file's bytes.
+    pub fn made(self, alloc: Global) -> Result<Vec<u8>> {
         match self {
             File::Elf => Ok(Vec::from_slice(alloc, b"\x7fELF")?),
             File::CutDbi => cut_dbi(alloc),

@@ -1,7 +1,7 @@
 //! What is reported on a file.
 
 use crate::files::File;
-use crate::runs::{assert_row, run_on};
+use crate::runs::{assert_row, run_on, run_over};
 use pdb_container::Error as Cause;
 use pdb_report::{Error, LoadFault, RunFault};
 use std::test::Fail;
@@ -112,5 +112,14 @@ fn outcomes(rt: HostRuntime) -> Result<(), Fail> {
     }
     let run = run_on(&rt, File::F0, b"1014\n", IN_F)?;
     assert_eq!(rt; run.outcome, Ok(()));
+    Ok(())
+}
+
+// The only test that fails where some allocation is refused, and the others ask again.
+#[test]
+fn first_call_in_ample_memory(rt: HostRuntime) -> Result<(), Fail> {
+    let bytes = File::F0.made(rt.alloc())?;
+    let run = run_over(rt.alloc(), bytes, b"1014\n".as_slice());
+    run.outcome?;
     Ok(())
 }
