@@ -1,6 +1,6 @@
 //! Bytes that are read in order.
 
-ghost use Rattle.std.specs.Prelude.{◌≡◌, ◌<◌, length, position, ◌==◌, IfSome, IsTrue, ◌↔◌};
+ghost use Rattle.std.specs.Prelude.{◌≡◌, ◌<◌, length, position, ◌==◌, IfSome};
 ghost use Rattle.std.specs.Int.{w8, w16, w32};
 ghost use Rattle.pdb_container.specs.Buffer.{Reads};
 ghost use Rattle.pdb_container.specs.Fields.{bytes_of, number_at, c_string_at, pascal_string_at};
@@ -40,7 +40,7 @@ impl<'b> ParseBuffer<'b> {
 
     /// Whether no byte is left.
     pub fn is_empty(&self) -> bool
-        ensures { IsTrue result ↔ (length self.now ≡ 0) }
+        ensures { result ≡ (length self.now == 0) }
     {
         self.rest.is_empty()
     }

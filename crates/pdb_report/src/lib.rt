@@ -29,3 +29,6 @@ pub use pdb_addr2line::frames::{Frame, FunctionFrames};
 pub use report::run_frames;
 pub use symbolizer::Symbolizer;
 pub use watched::Watched;
+
+#[cfg(test)]
+mod tests;

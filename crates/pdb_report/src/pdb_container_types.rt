@@ -78,7 +78,7 @@ pub fn parse_section_headers(alloc: Global, bytes: &[u8]) -> Result<Vec<ImageSec
     let mut buffer = ParseBuffer::from(bytes);
     let mut sections = Vec::new(alloc);
     for _ in 0..bytes.len() {
-        if buffer.len() == 0 {
+        if buffer.is_empty() {
             break;
         }
         sections.push(parse_section_header(&mut buffer)?)?;

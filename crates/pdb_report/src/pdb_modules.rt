@@ -210,7 +210,7 @@ fn parse_entries(alloc: Global, whole: usize, bytes: &[u8]) -> Result<Vec<Symbol
     let mut buffer = ParseBuffer::from(bytes);
     let mut symbols = Vec::new(alloc);
     for _ in 0..bytes.len() {
-        if buffer.len() == 0 {
+        if buffer.is_empty() {
             break;
         }
         symbols.push(parse_symbol(whole, &mut buffer)?)?;

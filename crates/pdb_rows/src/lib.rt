@@ -1,5 +1,8 @@
-//! Reports on files that are made byte by byte, beside what they are to be.
+//! Worked rows: what is answered for program databases whose bytes are known, by the definitions and by the program's
+//! calls.
 #![tactic(auto)]
+
+pub mod definitions;
 
 #[cfg(test)]
 mod damage;

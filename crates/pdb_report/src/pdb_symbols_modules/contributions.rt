@@ -63,7 +63,7 @@ fn parse_entries(alloc: Global, bytes: &[u8]) -> Result<Vec<DBISectionContributi
     let mut buffer = ParseBuffer::from(bytes);
     let mut contributions = Vec::new(alloc);
     for _ in 0..bytes.len() {
-        if buffer.len() == 0 {
+        if buffer.is_empty() {
             break;
         }
         contributions.push(parse_contribution(&mut buffer)?)?;
@@ -79,7 +79,7 @@ fn parse_long_entries(alloc: Global, bytes: &[u8]) -> Result<Vec<DBISectionContr
     let mut buffer = ParseBuffer::from(bytes);
     let mut contributions = Vec::new(alloc);
     for _ in 0..bytes.len() {
-        if buffer.len() == 0 {
+        if buffer.is_empty() {
             break;
         }
         contributions.push(parse_long_contribution(&mut buffer)?)?;

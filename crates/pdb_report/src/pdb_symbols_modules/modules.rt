@@ -86,7 +86,7 @@ pub fn parse_modules(alloc: Global, bytes: &[u8]) -> Result<Vec<Module<'_>>>
     let mut buffer = ParseBuffer::from(bytes);
     let mut modules = Vec::new(alloc);
     for _ in 0..bytes.len() {
-        if buffer.len() == 0 {
+        if buffer.is_empty() {
             break;
         }
         modules.push(parse_module(&mut buffer)?)?;

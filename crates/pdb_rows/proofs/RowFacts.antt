@@ -1,0 +1,43 @@
+-- The rows, by computing the definitions on the files' bytes.
+use Rattle.std.specs.Prelude.{◌≡◌, None, Some, codes, refl}
+use Rattle.std.specs.Int.RustNames.{count_ones}
+use Rattle.std.specs.Fmt.{digits, padded_integral, char_count}
+use Rattle.std.specs.Str.{is_utf8, chars}
+use Rattle.std.specs.Char.{encode_utf8}
+use Rattle.std.specs.Str.Lossy.{utf8_valid_len, utf8_lossy}
+use Rattle.std.specs.declared.io.ErrorKind.TheVariants.{UnexpectedEof}
+use Rattle.pdb_container.specs.Container.{first_words, behind_header, header_in, front_in, layout_of, directory_of, place_in, stream_in, stream}
+use Rattle.pdb_container.specs.Places.{bytes_at, page_places}
+use Rattle.pdb_container.specs.Fields.{c_string_at, entries_within}
+use Rattle.pdb_container.specs.Fault.{IoError, UnrecognizedFileFormat}
+use Rattle.pdb_report.specs.Streams.{streams}
+use Rattle.pdb_report.specs.Dbi.{header_of, substreams_of, dbi_of}
+use Rattle.pdb_report.specs.Modules.{module_at}
+use Rattle.pdb_report.specs.Sections.{optional_at, section_header_at}
+use Rattle.pdb_report.specs.Items.{full_item_header_of, item_header_of}
+use Rattle.pdb_report.specs.Symbols.{symbol_at, symbols_of, procedure_at, procedure_of}
+use Rattle.pdb_report.specs.Contributions.{contribution_at, contributions_of, held_of}
+use Rattle.pdb_report.specs.Procedures.{signed_symbols_of, symbols_in}
+use Rattle.pdb_report.specs.Shared.{named, symbols_number, optional_number, shared, module_of, module_number, module_stream, info_from, provider}
+use Rattle.pdb_report.specs.Loading.{symbol_records_in, sections_in, address_tables, loaded_behind, loaded, module_info, answerable, load_fault}
+use Rattle.pdb_report.specs.Answers.{scope, answer_in, answer_of, answer, answer_text, line_text}
+use Rattle.pdb_report.specs.Faults.{Pdb, PdbError}
+use Rattle.pdb_report.specs.Lines.{report}
+use Rattle.pdb_rows.specs.Samples as samples
+use Rattle.pdb_rows.specs.Samples.{file_f0}
+
+pub elf : load_fault (streams samples.elf) ≡ Some (Pdb (PdbError UnrecognizedFileFormat))
+unfolding samples.elf front_in layout_of streams shared loaded answerable
+elf = refl
+
+pub cut_dbi : load_fault (streams samples.cut_dbi) ≡ Some (Pdb (PdbError (IoError UnexpectedEof)))
+unfolding samples.cut_dbi count_ones first_words behind_header header_in front_in layout_of directory_of place_in stream_in stream bytes_at page_places streams shared loaded answerable
+cut_dbi = refl
+
+pub no_lines_loads : load_fault (streams file_f0) ≡ None
+unfolding file_f0 count_ones first_words behind_header header_in front_in layout_of directory_of place_in stream_in stream bytes_at page_places c_string_at entries_within streams header_of substreams_of dbi_of module_at optional_at section_header_at full_item_header_of item_header_of symbol_at symbols_of procedure_at procedure_of contribution_at contributions_of held_of signed_symbols_of symbols_in named symbols_number optional_number shared symbol_records_in sections_in address_tables loaded_behind loaded module_info answerable
+no_lines_loads = refl
+
+pub no_lines_answers : report (line_text (streams file_f0)) (codes "1014\n") ≡ codes "0x00001014\n  f at ??:??\n"
+unfolding file_f0 count_ones first_words behind_header header_in front_in layout_of directory_of place_in stream_in stream bytes_at page_places c_string_at entries_within streams header_of substreams_of dbi_of module_at optional_at section_header_at full_item_header_of item_header_of symbol_at symbols_of procedure_at procedure_of contribution_at contributions_of held_of signed_symbols_of symbols_in named symbols_number optional_number shared symbol_records_in sections_in address_tables loaded_behind loaded module_info answerable module_of module_number module_stream info_from provider scope answer_in answer_of answer answer_text line_text digits padded_integral char_count chars is_utf8 encode_utf8 utf8_valid_len utf8_lossy
+no_lines_answers = refl
