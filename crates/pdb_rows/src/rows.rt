@@ -78,6 +78,7 @@ fn files_that_report_alike(rt: HostRuntime) -> Result<(), Fail> {
         File::DamagedModule,
         File::MissingModule,
         File::AddressMap(9),
+        File::Long,
     ];
     for file in files {
         assert_row(&rt, file, b"1014\n", IN_F, "")?;
