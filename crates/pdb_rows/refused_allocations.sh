@@ -1,6 +1,6 @@
 #!/usr/bin/env bash
 # Runs the tests with each allocation refused in turn: in run N each test's Nth allocation fails. The test
-# first_call_in_ample_memory then fails by an error, as long as a row of file F0 has an Nth allocation; all other
+# first_call_in_ample_memory then fails by an error, as long as a run over file F0 has an Nth allocation; all other
 # tests ask again and pass. It ends well once that test passes too, and fails at another test's failure or at a
 # failed assertion. It proves nothing, no other check runs it, and each N takes half a minute. In this folder:
 #
