@@ -18,7 +18,7 @@ for number in $(seq "${1:-1}" "${2:-100000}"); do
         exit 1
     fi
     if grep -qi 'assertion' <<< "$output" \
-        || grep '^test .* FAILED' <<< "$output" | grep -qv "^test $canary "; then
+        || grep '^test .* \.\.\. FAILED' <<< "$output" | grep -qv "^test $canary "; then
         echo "$output"
         echo "allocation $number: a test failed"
         exit 1
