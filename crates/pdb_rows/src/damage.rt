@@ -10,9 +10,6 @@ use std::test::Fail;
 
 const INPUT: &[u8] = b"1014\n";
 
-/// How many of the file's first bytes are damaged in turn.
-const DAMAGED: usize = 0x100;
-
 /// A copy of the bytes. The second call's where the first finds no memory.
 fn copy(alloc: Global, bytes: &[u8]) -> Result<Vec<u8>, SampleError> {
     Ok(Vec::from_slice(alloc, bytes).or_else(|_| Vec::from_slice(alloc, bytes))?)
@@ -36,7 +33,7 @@ fn assert_total(rt: &(impl Abort + AllocGlobal), bytes: &[u8]) -> Result<(), Fai
 #[test]
 fn damaged_bytes(rt: HostRuntime) -> Result<(), Fail> {
     let mut bytes = File::F0.bytes(rt.alloc())?;
-    for place in 0..DAMAGED {
+    for place in 0..bytes.len() {
         if let Some(byte) = bytes.get_mut(place) {
             *byte ^= 0xff;
         }
@@ -50,10 +47,12 @@ fn damaged_bytes(rt: HostRuntime) -> Result<(), Fail> {
 
 #[test]
 fn prefixes(rt: HostRuntime) -> Result<(), Fail> {
-    let mut bytes = File::F0.bytes(rt.alloc())?;
-    for length in (0..bytes.len()).rev() {
-        bytes.truncate(length);
-        assert_total(&rt, bytes.as_slice())?;
+    for file in [File::F0, File::Long] {
+        let mut bytes = file.bytes(rt.alloc())?;
+        for length in (0..bytes.len()).rev() {
+            bytes.truncate(length);
+            assert_total(&rt, bytes.as_slice())?;
+        }
     }
     Ok(())
 }

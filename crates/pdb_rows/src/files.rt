@@ -1,8 +1,8 @@
 //! The files that the tests report on.
 
 use pdb_samples::{
-    Module, ModuleSymbols, Procedure, ProgramDatabase, Result, SampleError, Scope, Symbol,
-    SymbolPlace, cut_dbi, file_f, file_f0, file_of_symbols, scope_end, symbols_of_f,
+    Module, ModuleSymbols, PageOrder, Procedure, ProgramDatabase, Result, SampleError, Scope,
+    Symbol, SymbolPlace, cut_dbi, file_f, file_f0, file_of_symbols, scope_end, symbols_of_f,
     with_address_map_number, with_c11, with_directory_reordered, with_inline_site,
     with_nested_procedure, with_permuted_pages, with_public_symbol, with_thunk,
     with_two_contributions, with_typed_procedure,
@@ -49,6 +49,8 @@ pub enum File {
     DamagedModule,
     /// A second module whose stream isn't there.
     MissingModule,
+    /// Its streams' pages lie last to first, behind a further stream of 4096 bytes.
+    Long,
     /// Its procedure has this name.
     Named(&'static [u8]),
 }
@@ -62,7 +64,8 @@ impl File {
         }
     }
 
-    fn made(self, alloc: Global) -> Result<Vec<u8>> {
+    /// The file's bytes.
+    pub fn made(self, alloc: Global) -> Result<Vec<u8>> {
         match self {
             File::Elf => Ok(Vec::from_slice(alloc, b"\x7fELF")?),
             File::CutDbi => cut_dbi(alloc),
@@ -87,6 +90,7 @@ impl File {
             File::NestedProcedure => with_nested_procedure(alloc),
             File::DamagedModule => with_second_module(alloc, true),
             File::MissingModule => with_second_module(alloc, false),
+            File::Long => long(alloc),
             File::Named(name) => with_name(alloc, name),
             _ => file_f0(alloc),
         }
@@ -117,6 +121,16 @@ fn with_second_module(alloc: Global, has_stream: bool) -> Result<ProgramDatabase
         c13: Vec::new(alloc),
         has_stream,
     })?;
+    Ok(database)
+}
+
+/// File F0 with all that a reader needs past its first 4096 bytes.
+fn long(alloc: Global) -> Result<ProgramDatabase> {
+    let mut database = file_f0(alloc)?;
+    database
+        .further_streams
+        .push(Some(vec![in alloc; 0u8; 4096]?))?;
+    database.order = PageOrder::StreamsReversed;
     Ok(database)
 }
 

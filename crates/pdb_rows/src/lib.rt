@@ -2,10 +2,9 @@
 //! calls.
 #![tactic(auto)]
 
-pub mod definitions;
-
 #[cfg(test)]
 mod damage;
+pub mod definitions;
 #[cfg(test)]
 mod files;
 #[cfg(test)]

@@ -1,7 +1,7 @@
 //! What is reported on a file.
 
 use crate::files::File;
-use crate::runs::{assert_row, run_on};
+use crate::runs::{assert_row, run_on, run_over};
 use pdb_container::Error as Cause;
 use pdb_report::{Error, LoadFault, RunFault};
 use std::test::Fail;
@@ -12,16 +12,16 @@ const IN_F: &str = "0x00001014\n  f at ??:??\n";
 #[test]
 fn addresses_of_f0(rt: HostRuntime) -> Result<(), Fail> {
     let rows = [
-        // Row no-lines.
+        // An address in `f`.
         ("1014\n", IN_F),
-        // Row empty-input.
+        // No input.
         ("", ""),
-        // Row no-lines-odd-input.
+        // An address outside `f`, no address, an empty line, and a last line without a newline.
         (
             "1050\nzz\n\n1014",
             "0x00001050\n  ??\nnot an address\nnot an address\n0x00001014\n  f at ??:??\n",
         ),
-        // Row address-limits.
+        // The last address, and one past it.
         (
             "ffffffff\n100000000\n",
             "0xffffffff\n  ??\nnot an address\n",
@@ -31,7 +31,7 @@ fn addresses_of_f0(rt: HostRuntime) -> Result<(), Fail> {
             "100f\n1010\n102f\n1030\n",
             "0x0000100f\n  ??\n0x00001010\n  f at ??:??\n0x0000102f\n  f at ??:??\n0x00001030\n  ??\n",
         ),
-        // A prefix, a carriage return, and a line that only begins with an address.
+        // A prefix and a carriage return, and too many digits.
         (
             "0X1014\r\n00000000000000001014\n",
             "0x00001014\n  f at ??:??\nnot an address\n",
@@ -46,11 +46,11 @@ fn addresses_of_f0(rt: HostRuntime) -> Result<(), Fail> {
 #[test]
 fn refused_files(rt: HostRuntime) -> Result<(), Fail> {
     let rows = [
-        // Row elf.
+        // Another format.
         (File::Elf, "fault: UnrecognizedFileFormat\n"),
-        // Row cut-dbi.
+        // A file that ends too early.
         (File::CutDbi, "fault: IoError(UnexpectedEof)\n"),
-        // Row not-yet.
+        // What is not answered yet.
         (File::F, "fault: NotYet\n"),
         (File::AddressMap(3), "fault: NotYet\n"),
         (File::AddressMap(4), "fault: NotYet\n"),
@@ -78,6 +78,7 @@ fn files_that_report_alike(rt: HostRuntime) -> Result<(), Fail> {
         File::DamagedModule,
         File::MissingModule,
         File::AddressMap(9),
+        File::Long,
     ];
     for file in files {
         assert_row(&rt, file, b"1014\n", IN_F, "")?;
@@ -112,5 +113,14 @@ fn outcomes(rt: HostRuntime) -> Result<(), Fail> {
     }
     let run = run_on(&rt, File::F0, b"1014\n", IN_F)?;
     assert_eq!(rt; run.outcome, Ok(()));
+    Ok(())
+}
+
+// The only test that fails where some allocation is refused, and the others ask again.
+#[test]
+fn first_call_in_ample_memory(rt: HostRuntime) -> Result<(), Fail> {
+    let bytes = File::F0.made(rt.alloc())?;
+    let run = run_over(rt.alloc(), bytes, b"1014\n".as_slice());
+    run.outcome?;
     Ok(())
 }
