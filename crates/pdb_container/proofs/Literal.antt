@@ -1,8 +1,9 @@
 -- What the bytes of pages are, byte by byte.
-use Rattle.std.proofs.Common.{◌≡◌, ℕ, ◌+◌, ◌*◌, ◌/◌, ◌%◌, ◌<◌, Bool, true, false, cond, ltb, List, [], ◌∷◌, zero, suc, length, get_or, Ok, Err, refl, sym, ap, ◌∙◌, arith}
+use Rattle.std.proofs.Common.{◌≡◌, ℕ, ◌+◌, ◌*◌, ◌/◌, ◌%◌, ◌<◌, Bool, true, false, cond, ltb, List, [], ◌∷◌, zero, suc, length, get_or, ◌&&◌, Ok, Err, refl, sym, ap, ◌∙◌, arith}
 use Rattle.std.specs.Prelude.{map}
 use Rattle.std.specs.List.{range_with_len, list_all}
 use Rattle.std.specs.declared.io.ErrorKind.TheVariants.{UnexpectedEof}
+use Rattle.std.proofs.lemmas.Bool.{ltb-true}
 use Rattle.std.proofs.lemmas.List.{length-map}
 use Rattle.std.proofs.lemmas.List.FromFn.{length-map-range_with_len, get_or-map-range_with_len}
 use Rattle.pdb_container.specs.Fault.{Fault}
@@ -22,13 +23,29 @@ get_or-map f [] i h = absurd (omega arith)
 get_or-map f (x ∷ xs) zero h = refl
 get_or-map f (x ∷ xs) (suc i) h = get_or-map f xs i (omega arith)
 
+chosen_true : (b : Bool) (e : Fault) (x y : List ℕ) → cond b (Ok x) (Err e) ≡ Ok y → b ≡ true
+chosen_true true e x y h = refl
+chosen_true false e x y h = absurd cc
+
+both_true : (a b : Bool) → (a && b) ≡ true → (a ≡ true) × (b ≡ true)
+both_true true b h = (refl, h)
+both_true false b h = absurd cc
+
+all_at : (test : ℕ → Bool) (xs : List ℕ) (i : ℕ) → list_all test xs ≡ true → i < length xs → test (get_or xs i 0) ≡ true
+all_at test [] i h lt = absurd (omega arith)
+all_at test (x ∷ xs) zero h lt = (both_true (test x) (list_all test xs) h).0
+all_at test (x ∷ xs) (suc i) h lt = all_at test xs i (both_true (test x) (list_all test xs) h).1 (omega arith)
+
 pub is_paged : (file pages v : List ℕ) (size count : ℕ) → bytes_at file (page_places size pages count) ≡ Ok v → IsPaged file size pages count v
 unfolding bytes_at page_places
 is_paged file pages v size count h =
     let places = map (λ i. get_or pages (i / size) 0 * size + i % size) (range_with_len 0 count) in
     let e : map (λ at. get_or file at 0) places ≡ v = chosen (list_all (λ at. ltb at (length file)) places) (IoError UnexpectedEof) (map (λ at. get_or file at 0) places) v h in
     let len : length places ≡ count = length-map-range_with_len (λ i. get_or pages (i / size) 0 * size + i % size) 0 count in
+    let all : list_all (λ at. ltb at (length file)) places ≡ true = chosen_true (list_all (λ at. ltb at (length file)) places) (IoError UnexpectedEof) (map (λ at. get_or file at 0) places) v h in
+    let place : (i : ℕ) → i < count → get_or places i 0 ≡ get_or pages (i / size) 0 * size + i % size = λ i lt. get_or-map-range_with_len (λ k. get_or pages (k / size) 0 * size + k % size) 0 count i i 0 lt (omega arith) in
     record {
+      there = λ i lt. rw (← place i lt) (ltb-true (get_or places i 0) (length file) (all_at (λ at. ltb at (length file)) places i all (omega arith)));
       len = ap length (sym e) ∙ length-map places (λ at. get_or file at 0) ∙ len;
       byte = λ i lt. ap (λ (xs : List ℕ). get_or xs i 0) (sym e) ∙ get_or-map (λ at. get_or file at 0) places i (omega arith)
           ∙ ap (λ at. get_or file at 0) (get_or-map-range_with_len (λ k. get_or pages (k / size) 0 * size + k % size) 0 count i i 0 lt (omega arith));

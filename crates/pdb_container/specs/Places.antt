@@ -22,7 +22,8 @@ bytes_at file places =
 unfoldable pub page_places : ℕ → List ℕ → ℕ → List ℕ
 page_places size pages count = map (λ i. slice_index pages (i / size) * size + i % size) (range_with_len 0 count)
 
--- so many bytes, byte i being the file's byte in page number i / size, at i % size
+-- so many bytes, byte i being the file's byte in page number i / size, at i % size, which is there
 pub record IsPaged (file : List ℕ) (size : ℕ) (pages : List ℕ) (count : ℕ) (bytes : List ℕ) : Type 0 where
   pub len : length bytes ≡ count
   pub byte : (i : ℕ) → i < count → slice_index bytes i ≡ slice_index file (slice_index pages (i / size) * size + i % size)
+  pub there : (i : ℕ) → i < count → slice_index pages (i / size) * size + i % size < length file

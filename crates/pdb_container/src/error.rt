@@ -9,6 +9,7 @@ use std::alloc::{AllocError, AllocFailed};
 use std::io::ErrorKind;
 use std::{fmt, io};
 
+/// What a call on a program database answers.
 pub type Result<T> = std::result::Result<T, Error>;
 
 /// Why a call on a program database failed. It prints as its variant's name and, in parentheses, its

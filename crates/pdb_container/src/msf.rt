@@ -16,6 +16,7 @@ use std::io;
 use std::io::ErrorKind;
 use std::marker::{Model, PhantomData};
 
+/// How the header begins.
 pub const MAGIC: [u8; 32] = *b"Microsoft C/C++ MSF 7.00\r\n\x1aDS\0\0\0";
 
 /// The size of a stream that is not there.
@@ -50,6 +51,7 @@ impl<'s> Model for Stream<'s> {
 }
 
 impl<'s> Stream<'s> {
+    /// The bytes.
     pub fn as_slice(&self) -> &[u8]
         ensures { result.now ≡ self.now }
     {

@@ -30,6 +30,7 @@ impl Model for PageList {
 }
 
 impl PageList {
+    /// No pages of so many bytes each, 1 to 0x800000.
     pub fn new(alloc: Global, page_size: usize) -> PageList
         requires { (0 < page_size) × (page_size ≤ 0x800000) }
         ensures { result ≡ record { page_size = page_size; places = [] } }
@@ -41,12 +42,17 @@ impl PageList {
         }
     }
 
+    /// How many bytes the pages have, or were cut to.
     pub fn len(&self) -> usize
         ensures { result ≡ length self.now.places }
     {
         self.len
     }
 
+    /// One more page by its number, to a list of fewer than 2^62 bytes. Adjacent pages join into one slice.
+    ///
+    /// # Errors
+    /// `OutOfMemory` alone, with the list as before.
     #[tactic(auto, using(crate::proofs::Slices::length_pushed))]
     pub fn push(&mut self, number: u32) -> Result<()>
         requires { length self.old.places < 2 ^ 62 }
@@ -64,6 +70,7 @@ impl PageList {
         Ok(())
     }
 
+    /// Keeps the first bytes alone.
     pub fn truncate(&mut self, bytes: usize)
         ensures { self.new ≡ record self.old { places = take bytes self.old.places } }
     {

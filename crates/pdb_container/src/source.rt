@@ -14,7 +14,9 @@ use std::marker::Model;
 /// Some bytes of a source, one after the other.
 #[derive(Clone, Copy, Debug, PartialEq, Eq)]
 pub struct SourceSlice {
+    /// Where they begin, in bytes from the source's beginning.
     pub offset: u64,
+    /// How many bytes.
     pub size: usize,
 }
 
@@ -31,12 +33,14 @@ impl Model for ReadView {
 }
 
 impl ReadView {
+    /// A view of these bytes.
     pub fn new(bytes: Vec<u8>) -> ReadView
         ensures { result ≡ bytes.items }
     {
         ReadView { bytes }
     }
 
+    /// The bytes.
     pub fn as_slice(&self) -> &[u8]
         ensures { result.now ≡ self.now }
     {
@@ -52,6 +56,10 @@ pub trait Source {
     /// How often a view failed otherwise than by memory or past the end.
     ghost failures: { Self → ℕ };
 
+    /// The bytes at the slices, joined.
+    ///
+    /// # Errors
+    /// `UnexpectedEof` past the end, and only there. Any other failure but want of memory raises the count of failures.
     fn view(&mut self, alloc: Global, slices: &[SourceSlice]) -> io::Result<ReadView>
         ensures same { bytes self.new ≡ bytes self.old }
         ensures counts { failures self.old ≤ failures self.new }
@@ -59,6 +67,7 @@ pub trait Source {
         ensures err { IfErr result (λ e. IsOutside (error_of e) (HasRisen (failures self.old) (failures self.new))
             ⊎ (bytes_at (bytes self.old) (places_of slices.now) ≡ Err (fault_of (error_of e)))) };
 
+    /// How often a view failed otherwise than by memory or past the end; at `u64::MAX` it stays.
     fn failures(&self) -> u64
         ensures { result ≡ failures self.now };
 }

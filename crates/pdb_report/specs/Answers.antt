@@ -21,7 +21,9 @@ pub record Frame : Type 0 where
   pub file : Option (List ℕ)
   pub line : Option ℕ
 
--- Nothing; or where the function begins and ends, and its frames, the innermost first.
+-- Nothing; or where the function begins and ends, and its frames, the innermost first. An answer that says that a
+-- module's data are unreadable, and one by the list of public symbols, can't come yet: neither line data nor public
+-- symbols are accepted, and at the sections' ends no place is held.
 pub data Answer : Type 0 where
   Nothing : Answer
   Found : ℕ → Option ℕ → List Frame → Answer

@@ -98,8 +98,9 @@ impl Symbolizer {
     ///
     /// # Errors
     /// The first fault, in the order in which a file is read: the container; stream 3 and its header; symbol records,
-    /// types and ids; section headers; the list of modules, the list of symbols, the contributions. `NotYet` for what
-    /// isn't answered yet.
+    /// types and ids; section headers; the list of modules, the list of symbols, the contributions; the modules' symbols.
+    /// `NotYet` for address maps, several contributions, public symbols, line data, and symbols of modules other than
+    /// plain procedures.
     #[tactic(auto, using(crate::proofs::OpeningSteps::container_fails, crate::proofs::OpeningSteps::refuses, crate::proofs::OpeningSteps::kept_loads))]
     pub fn open(alloc: Global, bytes: Vec<u8>) -> Result<Symbolizer, LoadFault>
         ensures ok { IfOk result (λ s. s ≡ bytes.items) }
@@ -112,11 +113,7 @@ impl Symbolizer {
 
     /// The function at an address of the image, with its frames; none where no function is known.
     #[tactic(auto, using(crate::proofs::KeptSteps::answer_kept))]
-    fn find_frames(
-        &self,
-        alloc: Global,
-        address: u32,
-    ) -> Result<Option<FunctionFrames>, AllocError>
+    fn find_frames(&self, alloc: Global, address: u32) -> Result<Option<FunctionFrames>, AllocError>
         ensures { IfOk result (λ f. answer_seen f ≡ answer (streams self.now) address) }
     {
         frames_at(

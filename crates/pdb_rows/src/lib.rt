@@ -1,4 +1,4 @@
-//! Worked rows: what is answered for program databases whose bytes are known, by the definitions and by the program's
+//! What is answered for program databases whose bytes are known, by the definitions and by the program's
 //! calls.
 #![tactic(auto)]
 
@@ -13,5 +13,7 @@ mod parts;
 mod rows;
 #[cfg(test)]
 mod runs;
+#[cfg(test)]
+mod sources;
 #[cfg(test)]
 mod streams;

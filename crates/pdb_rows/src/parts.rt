@@ -3,9 +3,7 @@
 use crate::files::File;
 use crate::runs::line_buffer;
 use pdb_container::Error as Cause;
-use pdb_report::{
-    Error, FunctionFrames, LoadFault, RunFault, Symbolizer, Watched, finish_run, parse_address,
-};
+use pdb_report::{Error, LoadFault, RunFault, Symbolizer, Watched, finish_run, parse_address};
 use pdb_samples::{FailingReader, SampleError, StallingWriter};
 use std::alloc::{AllocError, Global};
 use std::fmt::Display;
@@ -104,36 +102,6 @@ fn opened_files(rt: HostRuntime) -> Result<(), Fail> {
         assert_eq!(rt; open(rt.alloc(), file)?.err(), fault, "at {file:?}");
     }
     Ok(())
-}
-
-#[test]
-fn found_frames(rt: HostRuntime) -> Result<(), Fail> {
-    let symbolizer = open(rt.alloc(), File::F0)??;
-    for _ in 0..2 {
-        assert!(rt; found(rt.alloc(), &symbolizer, 0x100f)?.is_none());
-        let Some(answer) = found(rt.alloc(), &symbolizer, 0x1014)? else {
-            panic!(rt; "nothing is found");
-        };
-        assert_eq!(rt; (answer.start_rva, answer.end_rva), (0x1010, Some(0x1030)));
-        let [frame] = answer.frames.as_slice() else {
-            panic!(rt; "not one frame");
-        };
-        assert_eq!(rt; frame.function.as_deref(), Some("f"));
-        assert!(rt; frame.file.is_none());
-        assert_eq!(rt; frame.line, None);
-    }
-    Ok(())
-}
-
-/// The frames at an address. The second call's answer where the first finds no memory.
-fn found(
-    alloc: Global,
-    symbolizer: &Symbolizer,
-    address: u32,
-) -> Result<Option<FunctionFrames>, AllocError> {
-    symbolizer
-        .find_frames(alloc, address)
-        .or_else(|_| symbolizer.find_frames(alloc, address))
 }
 
 #[test]

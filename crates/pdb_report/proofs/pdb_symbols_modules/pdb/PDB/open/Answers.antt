@@ -6,4 +6,4 @@ use Rattle.pdb_report.proofs.pdb_symbols_modules.pdb.PDB.open.Goals as goal
 
 pub returns-in-Err-clause-err : goal.returns-in-Err-clause-err
 unfolding streams
-returns-in-Err-clause-err c = rw c.from.ensures (opening_fails (λ (v : Vec ℕ). v.items) _ _ _ c.in-Err.ensures.err)
+returns-in-Err-clause-err c = rw c.from.ensures (opening_fails (λ (v : Vec ℕ). v.items) c.args.bytes _ _ c.in-Err.ensures.err)
