@@ -1,6 +1,6 @@
 -- What the numbers and modules of a file are, where stream 3 was read.
-use Rattle.std.proofs.Common.{◌≡◌, ℕ, List, Result, Ok, Err, refl, sym, ap, ◌∙◌}
-use Rattle.pdb_container.specs.Fault.{Fault, ◌>>=◌}
+use Rattle.std.proofs.Common.{◌≡◌, ℕ, Ok, Err, refl}
+use Rattle.pdb_container.specs.Fault.{◌>>=◌}
 use Rattle.pdb_report.specs.Dbi.{Dbi, dbi_of}
 use Rattle.pdb_report.specs.Sections.{optional_at}
 use Rattle.pdb_report.specs.Shared.{Bytes, number, named, symbols_number, optional_number}

@@ -1,21 +1,19 @@
 -- The procedures of all modules, and those of the module of a number.
-use Rattle.std.proofs.Common.{◌≡◌, ℕ, zero, suc, ◌+◌, ◌<◌, ◌≤◌, Bool, true, false, cond, ◌||◌, List, [], ◌∷◌, ◌++◌, length, get_or, take, drop, Result, Ok, Err, refl, sym, ap, ◌∙◌, arith}
-use Rattle.std.specs.Prelude.{Option, None, Some, map, slice_get}
+use Rattle.std.proofs.Common.{◌≡◌, ℕ, zero, suc, ◌+◌, ◌<◌, ◌≤◌, Bool, true, false, cond, ◌||◌, List, [], ◌∷◌, ◌++◌, length, get_or, take, Ok, Err, refl, sym, ap, ◌∙◌, arith}
+use Rattle.std.specs.Prelude.{map}
 use Rattle.std.specs.List.{list_any}
-use Rattle.std.proofs.lemmas.List.{take_more, take_all, drop_more, map-append}
-use Rattle.pdb_container.specs.Fault.{Fault, refuse, ◌>>=◌}
+use Rattle.std.proofs.lemmas.List.{take_more, take_all, map-append}
+use Rattle.pdb_container.specs.Fault.{refuse, ◌>>=◌}
 use Rattle.pdb_report.specs.declared.fault.LoadFault.{LoadFault}
 use Rattle.pdb_report.specs.declared.fault.LoadFault.TheVariants as faults
 use Rattle.pdb_report.specs.declared.pdb_addr2line.Error.TheVariants as contexts
 use Rattle.pdb_container.specs.declared.error.Error.TheVariants as errors
 use Rattle.pdb_report.specs.Faults.{LoadingFault, NotYet, Fails, loading_fault_of}
 use Rattle.pdb_report.specs.Streams.{Streams}
-use Rattle.pdb_report.specs.Dbi.{Dbi, dbi_of}
-use Rattle.pdb_report.specs.Modules.{Module, modules_of}
-use Rattle.pdb_report.specs.Procedures.{Info, Procedure, symbols_in, procedures, has_other}
-use Rattle.pdb_report.specs.Shared.{Bytes, number, named, module_in, module_of, module_number, module_stream, info_from, provider}
+use Rattle.pdb_report.specs.Modules.{Module}
+use Rattle.pdb_report.specs.Procedures.{Procedure, symbols_in}
 use Rattle.pdb_report.specs.Loading.{module_info, has_other_symbols}
-use Rattle.pdb_report.specs.Kept.{plain_procedures, module_procedures, all_procedures, list_or_none, procedures_at}
+use Rattle.pdb_report.specs.Kept.{plain_procedures, module_procedures, all_procedures}
 
 -- ---- one module more
 

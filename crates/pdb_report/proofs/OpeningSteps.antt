@@ -15,7 +15,7 @@ use Rattle.pdb_report.specs.RunFaults.{OnLoad, run_fault_of}
 use Rattle.pdb_report.specs.Streams.{Streams, streams, fault_in}
 use Rattle.pdb_report.specs.Dbi.{Dbi, dbi_of}
 use Rattle.pdb_report.specs.Modules.{Module, modules_of}
-use Rattle.pdb_report.specs.Procedures.{Info, Procedure, symbols_in, procedures, procedures_of}
+use Rattle.pdb_report.specs.Procedures.{Procedure, symbols_in, procedures, procedures_of}
 use Rattle.pdb_report.specs.Shared.{Bytes, number, named, module_in, module_of, module_number, module_stream, info_from, shared, provider}
 use Rattle.pdb_report.specs.Loading.{load_fault, Refuses, IsFileFault, Parts, none_or, loaded_behind, loaded, module_info, has_other_symbols, answerable}
 use Rattle.pdb_report.specs.Kept.{module_procedures, all_procedures, list_or_none, procedures_at, tables, IsKept}

@@ -1,5 +1,5 @@
 -- The answer for an address, its text, and the report on an input.
-use Rattle.std.specs.Prelude.{ℕ, false, ◌+◌, ◌-◌, ◌^◌, ◌++◌, List, [], ◌∷◌, length, nat_lt, Option, None, Some, option_and_then, if◌then◌else◌, Result, Ok, Err, codes, ◌==◌}
+use Rattle.std.specs.Prelude.{ℕ, false, ◌+◌, ◌-◌, ◌^◌, ◌++◌, List, [], ◌∷◌, length, Option, None, Some, if◌then◌else◌, Result, Ok, Err, codes, ◌==◌}
 use Rattle.std.specs.List.{flat_map}
 use Rattle.std.specs.Fmt.{decimal, digits, padded_integral, format_spec}
 use Rattle.std.specs.Str.Lossy.{utf8_lossy}

@@ -1,5 +1,5 @@
 -- Stream 3: its header, and the substreams behind it.
-use Rattle.std.specs.Prelude.{ℕ, ◌+◌, List, length, take, drop, nat_lt, ◌==◌, not, Result, Ok, Err, codes}
+use Rattle.std.specs.Prelude.{ℕ, ◌+◌, List, length, take, drop, nat_lt, ◌==◌, not, Result, Ok, codes}
 use Rattle.std.specs.Int.{w16, w32}
 use Rattle.pdb_container.specs.Fault.{Fault, UnexpectedEof, UnimplementedFeature, ◌>>=◌, refuse}
 use Rattle.pdb_container.specs.Fields.{number_in}

@@ -1,5 +1,5 @@
 -- The header of types (stream 2) and of ids (stream 4).
-use Rattle.std.specs.Prelude.{ℕ, List, [], ◌∷◌, length, nat_lt, Result, Ok, Err, codes}
+use Rattle.std.specs.Prelude.{ℕ, List, [], ◌∷◌, length, nat_lt, Result, Ok, codes}
 use Rattle.std.specs.Int.{w32}
 use Rattle.pdb_container.specs.Fault.{Fault, UnexpectedEof, InvalidTypeInformationHeader, ◌>>=◌, refuse}
 use Rattle.pdb_container.specs.Fields.{number_in}

@@ -12,7 +12,7 @@ use Rattle.pdb_report.specs.Sections.{place}
 use Rattle.pdb_report.specs.Contributions.{holder}
 use Rattle.pdb_report.specs.Symbols.{Symbol}
 use Rattle.pdb_container.specs.Fault.{Fault}
-use Rattle.pdb_report.specs.Procedures.{Procedure, procedures_of, procedures, over, has_other, symbols_in}
+use Rattle.pdb_report.specs.Procedures.{Procedure, procedures_of, procedures, over, has_other}
 use Rattle.pdb_report.specs.Shared.{provider}
 use Rattle.pdb_report.specs.Loading.{Parts, module_info, has_other_symbols, answerable}
 use Rattle.pdb_report.specs.Answers.{Answer, Nothing, found}

@@ -1,5 +1,5 @@
 -- The optional header of stream 3, and the section headers to which it leads.
-use Rattle.std.specs.Prelude.{ℕ, ◌+◌, ◌-◌, ◌*◌, ◌%◌, ◌^◌, Bool, true, false, ◌||◌, ◌&&◌, not, List, [], ◌∷◌, length, nat_lt, nat_le, ◌==◌, Option, None, Some, if◌then◌else◌, slice_get, Result, Ok, Err, codes, bit_and}
+use Rattle.std.specs.Prelude.{ℕ, ◌+◌, ◌-◌, ◌*◌, ◌%◌, ◌^◌, Bool, false, not, List, [], ◌∷◌, length, nat_lt, nat_le, ◌==◌, Option, None, Some, if◌then◌else◌, slice_get, Result, Ok, codes, bit_and}
 use Rattle.std.specs.Int.{w16, w32}
 use Rattle.pdb_container.specs.Fault.{Fault, InvalidStreamLength, ◌>>=◌, refuse}
 use Rattle.pdb_container.specs.Fields.{Reader, number_at, number_in, bytes_of, entries}

@@ -1,4 +1,4 @@
-use Rattle.std.proofs.Common.{◌≡◌, ◌∙◌, ap, subst}
+use Rattle.std.proofs.Common.{◌∙◌}
 use Rattle.pdb_report.specs.Streams.{streams}
 use Rattle.pdb_report.proofs.ModuleSteps.{modules_more, modules_all}
 use Rattle.pdb_report.proofs.modules.read_modules.Goals as goal
