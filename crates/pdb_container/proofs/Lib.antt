@@ -1,8 +1,9 @@
 pub mod Bytes
-pub mod Slices
-pub mod Words
-pub mod Paging
-pub mod Outside
+pub mod Entries
 pub mod First
 pub mod Literal
-pub mod Entries
+pub mod Outside
+pub mod Paging
+pub mod Slices
+pub mod Taking
+pub mod Words

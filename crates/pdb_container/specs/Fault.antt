@@ -8,6 +8,7 @@ use Rattle.pdb_container.specs.declared.error.Error.{Error}
 use Rattle.pdb_container.specs.declared.error.Error.TheVariants as errors
 use Rattle.std.specs.Prelude.{List}
 use Rattle.pdb_container.specs.declared.error.ModuleFault.{ModuleFault}
+use Rattle.pdb_container.specs.declared.error.ModuleFault.TheVariants as kept
 
 -- a fault of a definition: one for each variant of the crate's error but want of memory, which is in no definition
 pub data Fault : Type 0 where
@@ -65,6 +66,14 @@ fault_of (errors.NotACrossModuleRef a) = NotACrossModuleRef a
 fault_of (errors.CrossModuleRefNotFound a) = CrossModuleRefNotFound a
 fault_of (errors.Kept a) = Kept a
 fault_of errors.OutOfMemory = UnexpectedEof
+
+-- an error as the fault that is kept of a module's stream; any other error stays as it is
+abbrev pub kept_of : Error → Result ModuleFault Error
+kept_of (errors.StreamNotFound a) = Ok (kept.StreamNotFound a)
+kept_of (errors.PageReferenceOutOfRange a) = Ok (kept.PageReferenceOutOfRange a)
+kept_of (errors.IoError a) = Ok (kept.IoError a)
+kept_of errors.UnexpectedEof = Ok kept.UnexpectedEof
+kept_of e = Err e
 
 infixl 10 ◌>>=◌
 abbrev pub ◌>>=◌ : {F A B : Type 0} → Result A F → (A → Result B F) → Result B F

@@ -1,6 +1,6 @@
 -- Fields of bytes that are read in order: a field is a value and the bytes behind it, or the fault of what is missing.
-use Rattle.std.specs.Prelude.{ℕ, zero, suc, ◌+◌, List, [], ◌∷◌, length, take, drop, Option, Some, None, Result, Ok, Err, nat_lt, ◌==◌, if◌then◌else◌, position}
-use Rattle.std.specs.Int.{Width, byte_len, from_le_bytes}
+use Rattle.std.specs.Prelude.{ℕ, ℤ, zero, suc, ◌+◌, List, [], ◌∷◌, length, take, drop, Option, Some, None, Result, Ok, Err, nat_lt, ◌==◌, if◌then◌else◌, position}
+use Rattle.std.specs.Int.{Width, byte_len, from_le_bytes, cast_signed}
 use Rattle.pdb_container.specs.Fault.{Fault, UnexpectedEof, ◌>>=◌}
 
 abbrev pub Reader : Type 0 → Type 0
@@ -9,6 +9,10 @@ Reader A = List ℕ → Result (A × List ℕ) Fault
 -- an unsigned number, its lowest byte first
 abbrev pub number_at : Width → Reader ℕ
 number_at w bytes = if nat_lt (length bytes) (byte_len w) then Err UnexpectedEof else Ok (from_le_bytes w (take (byte_len w) bytes), drop (byte_len w) bytes)
+
+-- a number in two's complement, its lowest byte first
+abbrev pub signed_at : Width → Reader ℤ
+signed_at w bytes = number_at w bytes >>= λ x. Ok (cast_signed w x.0, x.1)
 
 -- the next n bytes
 abbrev pub bytes_of : ℕ → Reader (List ℕ)

@@ -7,3 +7,4 @@ pub mod Header
 pub mod Paged
 pub mod Pages
 pub mod Places
+pub mod RawString

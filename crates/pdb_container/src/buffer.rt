@@ -1,65 +1,145 @@
 //! Bytes that are read in order.
 
-ghost use Rattle.std.specs.Prelude.{◌≡◌, ◌<◌, length, position, ◌==◌, IfSome};
-ghost use Rattle.std.specs.Int.{w8, w16, w32};
-ghost use Rattle.pdb_container.specs.Buffer.{Reads};
-ghost use Rattle.pdb_container.specs.Fields.{bytes_of, number_at, c_string_at, pascal_string_at};
+ghost use Rattle.std.specs.Prelude.{◌≡◌, ◌<◌, ◌-◌, length, min, position, ◌==◌, IfSome};
+ghost use Rattle.std.specs.Int.{w8, w16, w32, w64};
+ghost use Rattle.pdb_container.specs.Buffer.{rest, Reads, ReadsOn, Moves, peeked, truncated, aligned};
+ghost use Rattle.pdb_container.specs.Fault.{Parses};
+ghost use Rattle.pdb_container.specs.Fields.{Reader, bytes_of, number_at, signed_at, c_string_at, pascal_string_at};
+ghost use Rattle.pdb_container.specs.RawString.{raw_bytes};
 
 use crate::error::{Error, Result};
+use crate::raw_string::RawString;
 use std::marker::Model;
 
-/// Bytes that are read in order. A call that is refused leaves them as they were.
+/// Bytes that are read in order. A call that is refused leaves them and the place in them as they were.
 #[derive(Debug, Drop)]
 pub struct ParseBuffer<'b> {
-    rest: &'b [u8],
+    bytes: &'b [u8],
+    pos: usize,
 }
 
 impl<'b> Model for ParseBuffer<'b> {
-    ghost use Rattle.std.specs.Prelude.{ℕ, List};
+    ghost use Rattle.std.specs.Prelude.{◌≤◌, length};
+    ghost use Rattle.pdb_container.specs.Buffer.{Buffer};
 
-    ghost Value = { List ℕ };
+    ghost Value = { Buffer };
 
-    ghost view = { λ b. b.rest.now };
+    ghost view = { λ b. record { bytes = b.bytes.now; pos = b.pos } };
+
+    ghost invariant = { λ b. b.pos ≤ length b.bytes.now };
 }
 
 impl<'b> From<&'b [u8]> for ParseBuffer<'b> {
-    ghost from_gives = { λ bytes b. b ≡ bytes.now };
+    ghost use Rattle.pdb_container.specs.Buffer.{rest};
 
+    ghost from_gives = { λ bytes b. (b ≡ record { bytes = bytes.now; pos = 0 }) × (rest b ≡ bytes.now) };
+
+    #[tactic(auto, unfolding(crate::specs::Buffer::rest))]
     fn from(bytes: &'b [u8]) -> ParseBuffer<'b> {
-        ParseBuffer { rest: bytes }
+        ParseBuffer { bytes, pos: 0 }
     }
+}
+
+/// What can be read of bytes that are read in order.
+pub trait FromBuffer {
+    /// What the bytes that are left say: a value and the bytes behind it, or the fault.
+    ghost read: { Reader Self };
+
+    /// The value at the buffer's place. Where it is refused, the place may have moved.
+    fn from_buffer(buffer: &mut ParseBuffer<'_>) -> Result<Self>
+        ensures { ReadsOn (λ x. x) result buffer.old buffer.new read };
 }
 
 impl<'b> ParseBuffer<'b> {
     /// How many bytes are left.
+    #[tactic(auto, unfolding(crate::specs::Buffer::rest))]
     pub fn len(&self) -> usize
-        ensures { result ≡ length self.now }
+        ensures { result ≡ length (rest self.now) }
     {
-        self.rest.len()
+        self.bytes.len() - self.pos
     }
 
     /// Whether no byte is left.
     pub fn is_empty(&self) -> bool
-        ensures { result ≡ (length self.now == 0) }
+        ensures { result ≡ (length (rest self.now) == 0) }
     {
-        self.rest.is_empty()
+        self.len() == 0
+    }
+
+    /// The place of the next byte, counted from 0.
+    #[tactic(auto, unfolding(crate::specs::Buffer::rest))]
+    pub fn pos(&self) -> usize
+        ensures pos { result ≡ self.now.pos }
+        ensures left { result ≡ length self.now.bytes - length (rest self.now) }
+    {
+        self.pos
+    }
+
+    /// Goes to a place, or to the end where the place lies past it.
+    pub fn seek(&mut self, pos: usize)
+        ensures { self.new ≡ record { bytes = self.old.bytes; pos = min pos (length self.old.bytes) } }
+    {
+        self.pos = pos.min(self.bytes.len());
+    }
+
+    /// Keeps the first `len` bytes alone; `UnexpectedEof` where the place lies behind them, or fewer are there.
+    #[tactic(auto, unfolding(crate::specs::Buffer::truncated))]
+    pub fn truncate(&mut self, len: usize) -> Result<()>
+        ensures { Moves result self.old self.new (truncated len self.old) }
+    {
+        if len < self.pos || self.bytes.len() < len {
+            return Err(Error::UnexpectedEof);
+        }
+        self.bytes = &self.bytes[..len];
+        Ok(())
+    }
+
+    /// Goes to the least multiple of `alignment`, which is at least 1, at or past the place; `UnexpectedEof` past the end.
+    #[tactic(auto, unfolding(crate::specs::Buffer::aligned))]
+    pub fn align(&mut self, alignment: usize) -> Result<()>
+        requires { 0 < alignment }
+        ensures { Moves result self.old self.new (aligned alignment self.old) }
+    {
+        let Some(pos) = self.pos.checked_next_multiple_of(alignment) else {
+            return Err(Error::UnexpectedEof);
+        };
+        if self.bytes.len() < pos {
+            return Err(Error::UnexpectedEof);
+        }
+        self.pos = pos;
+        Ok(())
     }
 
     /// The next `size` bytes; `UnexpectedEof` where fewer are left.
+    #[tactic(auto, unfolding(crate::specs::Buffer::rest))]
     pub fn take(&mut self, size: usize) -> Result<&'b [u8]>
-        ensures { Reads (λ part. part.now) result self.old self.new (bytes_of size self.old) }
+        ensures { Reads (λ part. part.now) result self.old self.new (bytes_of size) }
     {
-        if self.rest.len() < size {
+        if self.len() < size {
             return Err(Error::UnexpectedEof);
         }
-        let (part, rest) = self.rest.split_at(size);
-        self.rest = rest;
-        Ok(part)
+        let start = self.pos;
+        self.pos = start + size;
+        Ok(&self.bytes[start..start + size])
+    }
+
+    /// The value that a type reads here, or its fault.
+    pub fn parse<T: FromBuffer>(&mut self) -> Result<T>
+        ensures { Reads (λ x. x) result self.old self.new T.read }
+    {
+        let start = self.pos;
+        match T::from_buffer(self) {
+            Ok(value) => Ok(value),
+            Err(fault) => {
+                self.pos = start;
+                Err(fault)
+            }
+        }
     }
 
     /// The next byte as a number; `UnexpectedEof` where none is left.
     pub fn parse_u8(&mut self) -> Result<u8>
-        ensures { Reads (λ x. x) result self.old self.new (number_at w8 self.old) }
+        ensures { Reads (λ x. x) result self.old self.new (number_at w8) }
     {
         let part = self.take(1)?;
         Ok(part[0])
@@ -67,7 +147,7 @@ impl<'b> ParseBuffer<'b> {
 
     /// The next two bytes as a number, the lowest first; `UnexpectedEof` where fewer are left.
     pub fn parse_u16(&mut self) -> Result<u16>
-        ensures { Reads (λ x. x) result self.old self.new (number_at w16 self.old) }
+        ensures { Reads (λ x. x) result self.old self.new (number_at w16) }
     {
         let part = self.take(2)?;
         Ok(u16::from_le_bytes([part[0], part[1]]))
@@ -75,42 +155,108 @@ impl<'b> ParseBuffer<'b> {
 
     /// The next four bytes as a number, the lowest first; `UnexpectedEof` where fewer are left.
     pub fn parse_u32(&mut self) -> Result<u32>
-        ensures { Reads (λ x. x) result self.old self.new (number_at w32 self.old) }
+        ensures { Reads (λ x. x) result self.old self.new (number_at w32) }
     {
         let part = self.take(4)?;
         Ok(u32::from_le_bytes([part[0], part[1], part[2], part[3]]))
     }
 
-    /// The bytes before the next NUL, which is read too; `UnexpectedEof` where there is no NUL.
-    #[tactic(auto, unfolding(crate::specs::Fields::c_string_at))]
-    pub fn parse_cstring(&mut self) -> Result<&'b [u8]>
-        ensures { Reads (λ text. text.now) result self.old self.new (c_string_at self.old) }
+    /// The next eight bytes as a number, the lowest first; `UnexpectedEof` where fewer are left.
+    pub fn parse_u64(&mut self) -> Result<u64>
+        ensures { Reads (λ x. x) result self.old self.new (number_at w64) }
     {
-        let rest = self.rest;
-        match nul_in(rest) {
-            None => Err(Error::UnexpectedEof),
-            Some(end) => {
-                self.rest = &rest[end + 1..];
-                Ok(&rest[..end])
-            }
+        let part = self.take(8)?;
+        Ok(u64::from_le_bytes([
+            part[0], part[1], part[2], part[3], part[4], part[5], part[6], part[7],
+        ]))
+    }
+
+    /// The next byte in two's complement; `UnexpectedEof` where none is left.
+    pub fn parse_i8(&mut self) -> Result<i8>
+        ensures { Reads (λ x. x) result self.old self.new (signed_at w8) }
+    {
+        Ok(self.parse_u8()?.cast_signed())
+    }
+
+    /// The next two bytes in two's complement, the lowest first; `UnexpectedEof` where fewer are left.
+    pub fn parse_i16(&mut self) -> Result<i16>
+        ensures { Reads (λ x. x) result self.old self.new (signed_at w16) }
+    {
+        Ok(self.parse_u16()?.cast_signed())
+    }
+
+    /// The next four bytes in two's complement, the lowest first; `UnexpectedEof` where fewer are left.
+    pub fn parse_i32(&mut self) -> Result<i32>
+        ensures { Reads (λ x. x) result self.old self.new (signed_at w32) }
+    {
+        Ok(self.parse_u32()?.cast_signed())
+    }
+
+    /// The next eight bytes in two's complement, the lowest first; `UnexpectedEof` where fewer are left.
+    pub fn parse_i64(&mut self) -> Result<i64>
+        ensures { Reads (λ x. x) result self.old self.new (signed_at w64) }
+    {
+        Ok(self.parse_u64()?.cast_signed())
+    }
+
+    /// The next byte, which isn't taken; `UnexpectedEof` where none is left.
+    pub fn peek_u8(&self) -> Result<u8>
+        ensures { Parses (λ x. x) result (peeked (number_at w8) (rest self.now)) }
+    {
+        self.ahead().parse_u8()
+    }
+
+    /// The next two bytes as a number, the lowest first, which aren't taken; `UnexpectedEof` where fewer are left.
+    pub fn peek_u16(&self) -> Result<u16>
+        ensures { Parses (λ x. x) result (peeked (number_at w16) (rest self.now)) }
+    {
+        self.ahead().parse_u16()
+    }
+
+    /// The bytes that are left.
+    #[tactic(auto, unfolding(crate::specs::Buffer::rest))]
+    fn left(&self) -> &'b [u8]
+        ensures { result.now ≡ rest self.now }
+    {
+        &self.bytes[self.pos..]
+    }
+
+    /// The same bytes at the same place, to be read on their own.
+    fn ahead(&self) -> ParseBuffer<'b>
+        ensures { result ≡ self.now }
+    {
+        ParseBuffer {
+            bytes: self.bytes,
+            pos: self.pos,
         }
+    }
+
+    /// The bytes before the next NUL, which is read too; `UnexpectedEof` where there is no NUL.
+    #[tactic(auto, using(crate::proofs::Taking::text_read, crate::proofs::Taking::text_missing), unfolding(crate::specs::Fields::c_string_at))]
+    pub fn parse_cstring(&mut self) -> Result<RawString<'b>>
+        ensures { Reads raw_bytes result self.old self.new c_string_at }
+    {
+        let Some(end) = nul_in(self.left()) else {
+            return Err(Error::UnexpectedEof);
+        };
+        let text = self.take(end + 1)?;
+        Ok(RawString::from(&text[..end]))
     }
 
     /// A length in one byte and so many bytes; `UnexpectedEof` where any is missing.
     #[tactic(auto, unfolding(crate::specs::Fields::pascal_string_at))]
-    pub fn parse_u8_pascal_string(&mut self) -> Result<&'b [u8]>
-        ensures { Reads (λ text. text.now) result self.old self.new (pascal_string_at self.old) }
+    pub fn parse_u8_pascal_string(&mut self) -> Result<RawString<'b>>
+        ensures { Reads raw_bytes result self.old self.new pascal_string_at }
     {
-        let Some((count, bytes)) = self.rest.split_first() else {
-            return Err(Error::UnexpectedEof);
-        };
-        let count = usize::from(*count);
-        if bytes.len() < count {
-            return Err(Error::UnexpectedEof);
+        let start = self.pos;
+        let size = self.parse_u8()?;
+        match self.take(usize::from(size)) {
+            Ok(text) => Ok(RawString::from(text)),
+            Err(fault) => {
+                self.pos = start;
+                Err(fault)
+            }
         }
-        let (text, rest) = bytes.split_at(count);
-        self.rest = rest;
-        Ok(text)
     }
 }
 

@@ -3,7 +3,8 @@
 ghost use Rattle.std.specs.Prelude.{◌≡◌};
 ghost use Rattle.pdb_container.specs.declared.error.Error.TheVariants.{OutOfMemory};
 ghost use Rattle.pdb_container.specs.ErrorText.{kind_text};
-ghost use Rattle.pdb_container.specs.Fault.{error_of};
+ghost use Rattle.pdb_container.specs.declared.error.Error.TheVariants as errors;
+ghost use Rattle.pdb_container.specs.Fault.{error_of, kept_of};
 
 use std::alloc::{AllocError, AllocFailed};
 use std::io::ErrorKind;
@@ -189,6 +190,31 @@ impl From<io::Error> for Error {
         match cause.kind() {
             ErrorKind::OutOfMemory => Error::OutOfMemory,
             kind => Error::IoError(kind),
+        }
+    }
+}
+
+impl From<ModuleFault> for Error {
+    ghost from_gives = { λ fault e. e ≡ errors.Kept fault };
+
+    fn from(fault: ModuleFault) -> Error {
+        Error::Kept(fault)
+    }
+}
+
+/// The fault of a module's stream, as it is kept. Want of memory, and whatever else no stream answers, stays an error.
+impl TryFrom<Error> for ModuleFault {
+    type Error = Error;
+
+    ghost try_from_gives = { λ cause kept. kept ≡ kept_of cause };
+
+    fn try_from(cause: Error) -> Result<ModuleFault> {
+        match cause {
+            Error::StreamNotFound(number) => Ok(ModuleFault::StreamNotFound(number)),
+            Error::PageReferenceOutOfRange(page) => Ok(ModuleFault::PageReferenceOutOfRange(page)),
+            Error::IoError(kind) => Ok(ModuleFault::IoError(kind)),
+            Error::UnexpectedEof => Ok(ModuleFault::UnexpectedEof),
+            other => Err(other),
         }
     }
 }

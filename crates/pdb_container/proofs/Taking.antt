@@ -1,0 +1,26 @@
+-- A C string, as the bytes before its NUL of those with it.
+use Rattle.std.proofs.Common.{◌≡◌, ℕ, ◌+◌, ◌<◌, List, length, take, drop, position, Some, Ok, Err, sym, ◌∙◌, ap, refl, arith}
+use Rattle.std.specs.Prelude.{◌==◌}
+use Rattle.std.proofs.lemmas.Bool.{le-ltb}
+use Rattle.std.proofs.lemmas.List.{take-take}
+use Rattle.pdb_container.specs.Fault.{Fault}
+use Rattle.pdb_container.specs.Fields.{bytes_of, cut_at, c_string_at}
+
+there : (bytes : List ℕ) (end : ℕ) → end < length bytes → bytes_of (end + 1) bytes ≡ Ok (take (end + 1) bytes, drop (end + 1) bytes)
+there bytes end within = rw (le-ltb (length bytes) (end + 1) (omega arith)) refl
+
+pub text_missing : (bytes : List ℕ) (end : ℕ) (e : Fault) → end < length bytes → bytes_of (end + 1) bytes ≡ Err e → ⊥
+text_missing bytes end e within h = let wrong = sym h ∙ there bytes end within in absurd cc
+
+pub text_read : (bytes text left : List ℕ) (end : ℕ) → end < length bytes → position (λ byte. byte == 0) bytes ≡ Some end → bytes_of (end + 1) bytes ≡ Ok (text, left)
+    → c_string_at bytes ≡ Ok (take end text, left)
+unfolding c_string_at
+text_read bytes text left end within h read =
+    let same = sym (there bytes end within) ∙ read in
+    let front : take end (take (end + 1) bytes) ≡ take end bytes = take-take end (end + 1) bytes (omega arith) in
+    let found : List ℕ × List ℕ = (text, left) in
+    let wanted : List ℕ × List ℕ = (take (end + 1) bytes, drop (end + 1) bytes) in
+    let pair : found ≡ wanted = cc in
+    let t : text ≡ take (end + 1) bytes = ap (λ x. x.0) pair in
+    let l : left ≡ drop (end + 1) bytes = ap (λ x. x.1) pair in
+    rw (h, t, l, front) refl

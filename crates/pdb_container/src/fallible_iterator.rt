@@ -1,0 +1,21 @@
+//! Iterators whose steps may fail.
+
+ghost use Rattle.std.specs.Prelude.{◌≡◌, Option, Result, Ok, None, IfErr, ⊤};
+
+/// An iterator whose steps may fail. After an error it answers `None`.
+pub trait FallibleIterator {
+    type Item;
+    type Error;
+
+    /// Whether it answers nothing more: it does so from its first error on.
+    ghost has_ended: { Self → Type 0 };
+
+    /// What may be answered at a state, and the state behind it.
+    ghost next_gives: { Self → Result (Option Self.Item) Self.Error → Self → Type 0 };
+
+    /// The next item; `None` at the end, and after an error.
+    fn next(&mut self) -> std::result::Result<Option<Self::Item>, Self::Error>
+        ensures step { next_gives self.old result self.new }
+        ensures fails { IfErr result (λ _. has_ended self.new) }
+        ensures ended { has_ended self.old → (result ≡ Ok None) × has_ended self.new };
+}
