@@ -6,3 +6,5 @@ pub mod Outside
 pub mod First
 pub mod Literal
 pub mod Entries
+pub mod Limits
+pub mod Alike
