@@ -1,6 +1,8 @@
+pub mod Alike
 pub mod Bytes
 pub mod Entries
 pub mod First
+pub mod Limits
 pub mod Literal
 pub mod Outside
 pub mod Paging

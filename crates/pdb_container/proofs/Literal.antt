@@ -3,8 +3,8 @@ use Rattle.std.proofs.Common.{◌≡◌, ℕ, ◌+◌, ◌*◌, ◌/◌, ◌%◌
 use Rattle.std.specs.Prelude.{map}
 use Rattle.std.specs.List.{range_with_len, list_all}
 use Rattle.std.specs.declared.io.ErrorKind.TheVariants.{UnexpectedEof}
-use Rattle.std.proofs.lemmas.Bool.{ltb-true}
-use Rattle.std.proofs.lemmas.List.{length-map}
+use Rattle.std.proofs.lemmas.Bool.{ltb-true, lt-ltb}
+use Rattle.std.proofs.lemmas.List.{length-map, ext_get_or}
 use Rattle.std.proofs.lemmas.List.FromFn.{length-map-range_with_len, get_or-map-range_with_len}
 use Rattle.pdb_container.specs.Fault.{Fault}
 use Rattle.pdb_container.specs.Fault.{IoError}
@@ -51,6 +51,24 @@ is_paged file pages v size count h =
           ∙ ap (λ at. get_or file at 0) (get_or-map-range_with_len (λ k. get_or pages (k / size) 0 * size + k % size) 0 count i i 0 lt (omega arith));
     }
 
+all_from : (test : ℕ → Bool) (xs : List ℕ) → ((i : ℕ) → i < length xs → test (get_or xs i 0) ≡ true) → list_all test xs ≡ true
+all_from test [] h = refl
+all_from test (x ∷ xs) h = rw (h 0 (omega arith), all_from test xs (λ i lt. h (suc i) (omega arith))) refl
+
+-- bytes of which this is true are what the pages hold
+pub from_paged : (file pages v : List ℕ) (size count : ℕ) → IsPaged file size pages count v → bytes_at file (page_places size pages count) ≡ Ok v
+unfolding bytes_at page_places
+from_paged file pages v size count h =
+    let place = λ (i : ℕ). get_or pages (i / size) 0 * size + i % size in
+    let places = map place (range_with_len 0 count) in
+    let len : length places ≡ count = length-map-range_with_len place 0 count in
+    let at : (i : ℕ) → i < count → get_or places i 0 ≡ place i = λ i lt. get_or-map-range_with_len place 0 count i i 0 lt (omega arith) in
+    let all : list_all (λ at. ltb at (length file)) places ≡ true = all_from (λ at. ltb at (length file)) places (λ i lt. rw (at i (omega arith)) (lt-ltb (place i) (length file) (h.there i (omega arith)))) in
+    let read : map (λ at. get_or file at 0) places ≡ v = ext_get_or 0 (map (λ at. get_or file at 0) places) v (length-map places (λ at. get_or file at 0) ∙ len ∙ sym h.len)
+    (λ i lt. let in_count : i < count = omega (arith, length-map places (λ at. get_or file at 0)) in
+    get_or-map (λ at. get_or file at 0) places i (omega arith) ∙ ap (λ at. get_or file at 0) (at i in_count) ∙ sym (h.byte i in_count)) in
+    rw all (ap (λ (xs : List ℕ). Ok xs) read)
+
 bind_ok : {A B : Type 0} (r : Result A Fault) (f : A → Result B Fault) (y : B) → (r >>= f) ≡ Ok y → (x : A) × (r ≡ Ok x) × (f x ≡ Ok y)
 bind_ok (Ok x) f y h = (x, refl, h)
 bind_ok (Err e) f y h = absurd cc
@@ -70,3 +88,9 @@ is_stream file n limit bytes h =
       place = c.1;
       paged = is_paged file c.0.1 bytes a.0.page_size (at_most limit c.0.0) c.2;
     }
+
+-- and bytes of which that is true are the stream
+pub from_stream : (file : List ℕ) (n : ℕ) (limit : Option ℕ) (bytes : List ℕ) → IsStream file n limit bytes → stream file n limit ≡ Ok bytes
+unfolding stream stream_in
+from_stream file n limit bytes s =
+    rw (s.opens, s.directory, s.place) (from_paged file s.found.1 bytes s.layout.page_size (at_most limit s.found.0) s.paged)

@@ -1,3 +1,4 @@
+pub mod Alike
 pub mod Buffer
 pub mod Container
 pub mod ErrorText

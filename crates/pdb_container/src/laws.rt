@@ -1,17 +1,34 @@
 //! Laws of the definitions: functions that do nothing, whose contracts are proved.
 
-ghost use Rattle.std.specs.Prelude.{◌≡◌, ℕ, List, Option, Ok};
+ghost use Rattle.std.specs.Prelude.{◌≡◌, ◌↔◌, ℕ, List, Option, Ok};
+ghost use Rattle.pdb_container.specs.Alike.{ReadAlike, AreAlike, HaveSameStream, HaveSameStreams};
 ghost use Rattle.pdb_container.specs.Container.{stream};
-ghost use Rattle.pdb_container.specs.Paged.{IsStream};
+ghost use Rattle.pdb_container.specs.Paged.{IsStream, IsLimited};
 ghost use Rattle.pdb_container.specs.Places.{bytes_at, page_places, IsPaged};
 
-/// What pages hold is so many bytes, and byte i is the file's byte in page number i / size, at i % size.
+/// What pages hold is so many bytes, and byte i is the file's byte in page number i / size, at i % size; and bytes of
+/// which this is true are what the pages hold.
 pub fn paged()
-    ensures { (file pages bytes : List ℕ) (size count : ℕ) → bytes_at file (page_places size pages count) ≡ Ok bytes → IsPaged file size pages count bytes }
+    ensures { (file pages bytes : List ℕ) (size count : ℕ)
+        → (bytes_at file (page_places size pages count) ≡ Ok bytes) ↔ IsPaged file size pages count bytes }
 {}
 
 /// A stream has the length that the directory says, or the limit, and byte i of it is the file's byte in the stream's
-/// page number i / P, at i % P, where P is the size of a page.
+/// page number i / P, at i % P, where P is the size of a page; and bytes of which this is true are the stream.
 pub fn stream_byte_by_byte()
-    ensures { (file : List ℕ) (n : ℕ) (limit : Option ℕ) (bytes : List ℕ) → stream file n limit ≡ Ok bytes → IsStream file n limit bytes }
+    ensures { (file : List ℕ) (n : ℕ) (limit : Option ℕ) (bytes : List ℕ)
+        → (stream file n limit ≡ Ok bytes) ↔ IsStream file n limit bytes }
+{}
+
+/// A limit cuts a stream that is there to its first bytes. The directory, the stream's number and all its page numbers
+/// are checked before it cuts, and each fault under a limit is the whole stream's.
+pub fn limited()
+    ensures { (file : List ℕ) (n : ℕ) → IsLimited file n }
+{}
+
+/// Two files that read alike at a number have the same stream there. Two that open alike, and read alike at every
+/// number, have the same fault in opening, or none, and the same streams, however their pages lie.
+pub fn page_layout()
+    ensures at_one_number { (a b : List ℕ) (n : ℕ) → ReadAlike a b n → HaveSameStream a b n }
+    ensures at_every_number { (a b : List ℕ) → AreAlike a b → HaveSameStreams a b }
 {}

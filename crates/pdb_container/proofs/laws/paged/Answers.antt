@@ -1,5 +1,5 @@
-use Rattle.pdb_container.proofs.Literal.{is_paged}
+use Rattle.pdb_container.proofs.Literal.{is_paged, from_paged}
 use Rattle.pdb_container.proofs.laws.paged.Goals as goal
 
 pub returns : goal.returns
-returns c = λ file pages bytes size count h. is_paged file pages bytes size count h
+returns c = λ file pages bytes size count. (is_paged file pages bytes size count, from_paged file pages bytes size count)
