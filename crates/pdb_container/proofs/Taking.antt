@@ -1,13 +1,20 @@
--- A C string, as the bytes before its NUL of those with it.
-use Rattle.std.proofs.Common.{◌≡◌, ℕ, ◌+◌, ◌<◌, List, length, take, drop, position, Some, Ok, Err, sym, ◌∙◌, ap, refl, arith}
+-- Places in bytes, and a C string as the bytes before its NUL of those with it.
+use Rattle.std.proofs.Common.{◌≡◌, ℕ, ◌+◌, ◌<◌, inl, inr, min, List, length, take, drop, position, Some, Ok, Err, sym, ◌∙◌, ap, refl, arith}
 use Rattle.std.specs.Prelude.{◌==◌}
-use Rattle.std.proofs.lemmas.Bool.{le-ltb}
-use Rattle.std.proofs.lemmas.List.{take-take}
+use Rattle.std.proofs.lemmas.Bool.{cases_lt, le-ltb}
+use Rattle.std.proofs.lemmas.List.{take-take, drop_all}
 use Rattle.pdb_container.specs.Fault.{Fault}
 use Rattle.pdb_container.specs.Fields.{bytes_of, cut_at, c_string_at}
 
 there : (bytes : List ℕ) (end : ℕ) → end < length bytes → bytes_of (end + 1) bytes ≡ Ok (take (end + 1) bytes, drop (end + 1) bytes)
 there bytes end within = rw (le-ltb (length bytes) (end + 1) (omega arith)) refl
+
+pub drop_within : (n : ℕ) (bytes : List ℕ) → drop (min n (length bytes)) bytes ≡ drop n bytes
+drop_within n bytes =
+    elim (cases_lt (length bytes) n) [
+      | inl h ↦ let e : min n (length bytes) ≡ length bytes = omega arith in rw (e, drop_all (length bytes) bytes (omega arith)) (sym (drop_all n bytes (omega arith)))
+      | inr h ↦ let e : min n (length bytes) ≡ n = omega arith in rw e refl
+    ]
 
 pub text_missing : (bytes : List ℕ) (end : ℕ) (e : Fault) → end < length bytes → bytes_of (end + 1) bytes ≡ Err e → ⊥
 text_missing bytes end e within h = let wrong = sym h ∙ there bytes end within in absurd cc

@@ -44,7 +44,3 @@ entries_within one (suc steps) (b ∷ bytes) = do
 -- Entries one behind the other, to the end of the bytes. Each takes a byte at least, so there are no more of them than bytes.
 abbrev pub entries : {A : Type 0} → Reader A → List ℕ → Result (List A) Fault
 entries one bytes = entries_within one (length bytes) bytes
-
--- the number in the bytes from a place on, which have to be there
-abbrev pub number_in : Width → List ℕ → ℕ → ℕ
-number_in w bytes place = from_le_bytes w (take (byte_len w) (drop place bytes))

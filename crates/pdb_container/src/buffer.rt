@@ -1,6 +1,6 @@
 //! Bytes that are read in order.
 
-ghost use Rattle.std.specs.Prelude.{◌≡◌, ◌<◌, ◌-◌, length, min, position, ◌==◌, IfSome};
+ghost use Rattle.std.specs.Prelude.{◌≡◌, ◌<◌, ◌-◌, drop, length, min, position, ◌==◌, IfSome};
 ghost use Rattle.std.specs.Int.{w8, w16, w32, w64};
 ghost use Rattle.pdb_container.specs.Buffer.{rest, Reads, ReadsOn, Moves, peeked, truncated, aligned};
 ghost use Rattle.pdb_container.specs.Fault.{Parses};
@@ -76,8 +76,10 @@ impl<'b> ParseBuffer<'b> {
     }
 
     /// Goes to a place, or to the end where the place lies past it.
+    #[tactic(auto, using(crate::proofs::Taking::drop_within), unfolding(crate::specs::Buffer::rest))]
     pub fn seek(&mut self, pos: usize)
-        ensures { self.new ≡ record { bytes = self.old.bytes; pos = min pos (length self.old.bytes) } }
+        ensures place { self.new ≡ record { bytes = self.old.bytes; pos = min pos (length self.old.bytes) } }
+        ensures left { rest self.new ≡ drop pos self.old.bytes }
     {
         self.pos = pos.min(self.bytes.len());
     }

@@ -2,24 +2,37 @@
 use Rattle.std.specs.Prelude.{ℕ, ◌+◌, List, length, take, drop, nat_lt, ◌==◌, not, Result, Ok, codes}
 use Rattle.std.specs.Int.{w16, w32}
 use Rattle.pdb_container.specs.Fault.{Fault, UnexpectedEof, UnimplementedFeature, ◌>>=◌, refuse}
-use Rattle.pdb_container.specs.Fields.{number_in}
+use Rattle.pdb_container.specs.Fields.{number_at, bytes_of}
 use Rattle.pdb_report.specs.declared.pdb_symbols_modules.dbi.DBIHeader.{DBIHeader}
 use Rattle.pdb_report.specs.declared.pdb_symbols_modules.dbi.DebugInformation.{DebugInformation}
 
--- The header: 64 bytes, of which these are the numbers that loading needs, each at its place.
+-- The header: 64 bytes, which are all there, with a signature and the numbers that loading needs. Between these lie version
+-- and age, three numbers of streams and three of versions, and the number of a compiler's own index.
 unfoldable pub header_of : List ℕ → Result DBIHeader Fault
 header_of bytes = do
-  whole ← refuse (nat_lt (length bytes) 64) UnexpectedEof
-  known ← refuse (not (number_in w32 bytes 0 == 0xffffffff)) (UnimplementedFeature (codes "ancient DBI header"))
+  whole ← bytes_of 64 bytes
+  signature ← number_at w32 whole.0
+  known ← refuse (not (signature.0 == 0xffffffff)) (UnimplementedFeature (codes "ancient DBI header"))
+  versions ← bytes_of 16 signature.1
+  symbol_records_stream ← number_at w16 versions.1
+  rebuild ← bytes_of 2 symbol_records_stream.1
+  module_list_size ← number_at w32 rebuild.1
+  section_contribution_size ← number_at w32 module_list_size.1
+  section_map_size ← number_at w32 section_contribution_size.1
+  file_info_size ← number_at w32 section_map_size.1
+  type_server_map_size ← number_at w32 file_info_size.1
+  index ← bytes_of 4 type_server_map_size.1
+  debug_header_size ← number_at w32 index.1
+  ec_substream_size ← number_at w32 debug_header_size.1
   Ok record {
-    symbol_records_stream = number_in w16 bytes 20;
-    module_list_size = number_in w32 bytes 24;
-    section_contribution_size = number_in w32 bytes 28;
-    section_map_size = number_in w32 bytes 32;
-    file_info_size = number_in w32 bytes 36;
-    type_server_map_size = number_in w32 bytes 40;
-    debug_header_size = number_in w32 bytes 48;
-    ec_substream_size = number_in w32 bytes 52;
+    symbol_records_stream = symbol_records_stream.0;
+    module_list_size = module_list_size.0;
+    section_contribution_size = section_contribution_size.0;
+    section_map_size = section_map_size.0;
+    file_info_size = file_info_size.0;
+    type_server_map_size = type_server_map_size.0;
+    debug_header_size = debug_header_size.0;
+    ec_substream_size = ec_substream_size.0;
   }
 
 -- The substreams lie in this order behind the header: module list, contributions, section map, file info, type

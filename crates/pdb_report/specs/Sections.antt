@@ -1,17 +1,22 @@
 -- The optional header of stream 3, and the section headers to which it leads.
-use Rattle.std.specs.Prelude.{ℕ, ◌+◌, ◌-◌, ◌*◌, ◌%◌, ◌^◌, Bool, false, not, List, [], ◌∷◌, length, nat_lt, nat_le, ◌==◌, Option, None, Some, if◌then◌else◌, slice_get, Result, Ok, codes, bit_and}
+use Rattle.std.specs.Prelude.{ℕ, ◌+◌, ◌-◌, ◌*◌, ◌%◌, ◌^◌, Bool, false, not, List, [], ◌∷◌, length, drop, nat_lt, nat_le, ◌==◌, Option, None, Some, if◌then◌else◌, slice_get, Result, Ok, Err, codes, bit_and}
 use Rattle.std.specs.Int.{w16, w32}
 use Rattle.pdb_container.specs.Fault.{Fault, InvalidStreamLength, ◌>>=◌, refuse}
-use Rattle.pdb_container.specs.Fields.{Reader, number_at, number_in, bytes_of, entries}
+use Rattle.pdb_container.specs.Fields.{Reader, number_at, bytes_of, entries}
 use Rattle.pdb_report.specs.declared.pdb_container_types.ImageSectionHeader.{ImageSectionHeader}
 use Rattle.pdb_report.specs.declared.pdb_container_types.SectionCharacteristics.{SectionCharacteristics}
 use Rattle.pdb_report.specs.declared.pdb_container_types.PdbInternalSectionOffset.{PdbInternalSectionOffset}
+
+-- what is read, or another number where it isn't there
+abbrev pub value_or : ℕ → Result (ℕ × List ℕ) Fault → ℕ
+value_or other (Ok read) = read.0
+value_or other (Err missing) = other
 
 -- the number at a place of the optional header, counted from 0; a missing one is 65535, as one that names no stream
 unfoldable pub optional_at : ℕ → List ℕ → Result ℕ Fault
 optional_at place bytes = do
   even ← refuse (not (length bytes % 2 == 0)) (InvalidStreamLength (codes "DbgDataHdr"))
-  Ok (if nat_lt (length bytes) (2 * place + 2) then 65535 else number_in w16 bytes (2 * place))
+  Ok (value_or 65535 (number_at w16 (drop (2 * place) bytes)))
 
 -- a section header, 40 bytes
 unfoldable pub section_header_at : Reader ImageSectionHeader

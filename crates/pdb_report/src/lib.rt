@@ -10,7 +10,6 @@ mod finish;
 mod line_start;
 mod loading;
 mod modules;
-mod numbers;
 mod pdb_addr2line;
 mod pdb_container_types;
 mod pdb_items;

@@ -1,11 +1,12 @@
 //! Sections of an image, and places in them.
 
-ghost use Rattle.std.specs.Prelude.{◌≡◌, ◌*◌, ◌+◌, ◌<◌, option_map, slice_get};
-ghost use Rattle.pdb_container.specs.Buffer.{ReadsAll};
+ghost use Rattle.std.specs.Prelude.{◌≡◌, drop, ◌*◌, ◌+◌, ◌<◌, option_map, slice_get};
+ghost use Rattle.pdb_container.specs.Buffer.{rest, ReadsAll};
 ghost use Rattle.pdb_container.specs.Fault.{Gives, Parses};
-ghost use Rattle.pdb_report.specs.Sections.{optional_at, section_header_at, section_headers_of, may_execute, is_executable as is_executable_at, place_in, place as place_of, address as address_of_place};
+ghost use Rattle.pdb_container.specs.Fields.{number_at};
+ghost use Rattle.std.specs.Int.{w16};
+ghost use Rattle.pdb_report.specs.Sections.{optional_at, value_or, section_header_at, section_headers_of, may_execute, is_executable as is_executable_at, place_in, place as place_of, address as address_of_place};
 
-use crate::numbers::u16_in;
 use pdb_container::{Error, ParseBuffer, Result};
 use std::alloc::Global;
 
@@ -47,16 +48,22 @@ pub fn optional_stream(optional_header: &[u8], place: usize) -> Result<u16>
     if optional_header.len() % 2 != 0 {
         return Err(Error::InvalidStreamLength("DbgDataHdr"));
     }
-    if optional_header.len() < 2 * place + 2 {
-        return Ok(0xffff);
-    }
-    Ok(u16_in(optional_header, 2 * place))
+    Ok(number_or_none(optional_header, 2 * place))
+}
+
+/// The number in the two bytes from a place on; 65535 where these aren't there.
+fn number_or_none(bytes: &[u8], place: usize) -> u16
+    ensures { result ≡ value_or 65535 (number_at w16 (drop place bytes.now)) }
+{
+    let mut buffer = ParseBuffer::from(bytes);
+    buffer.seek(place);
+    buffer.parse_u16().unwrap_or(0xffff)
 }
 
 /// A section header. `UnexpectedEof`.
 #[tactic(auto, unfolding(crate::specs::Sections::section_header_at))]
 fn parse_section_header(buffer: &mut ParseBuffer<'_>) -> Result<ImageSectionHeader>
-    ensures { ReadsAll (λ s. s) result buffer.new (section_header_at buffer.old) }
+    ensures { ReadsAll (λ s. s) result (rest buffer.new) (section_header_at (rest buffer.old)) }
 {
     buffer.take(8)?;
     let virtual_size = buffer.parse_u32()?;

@@ -4,8 +4,10 @@ ghost use Rattle.std.specs.Prelude.{◌≡◌};
 ghost use Rattle.pdb_container.specs.Fault.{Parses};
 ghost use Rattle.pdb_report.specs.Items.{full_item_header_of, item_header_of};
 
-use crate::numbers::u32_in;
-use pdb_container::{Error, Result};
+use pdb_container::{Error, ParseBuffer, Result};
+
+/// How many bytes the header has at least.
+const HEADER_SIZE: usize = 56;
 
 /// Its own size in bytes, the first index of the table, and the first past the table.
 #[derive(Clone, Copy, Debug)]
@@ -35,13 +37,12 @@ pub fn parse_header(bytes: &[u8]) -> Result<Header>
 fn parse_full_header(bytes: &[u8]) -> Result<Header>
     ensures { Parses (λ h. h) result (full_item_header_of bytes.now) }
 {
-    if bytes.len() < 56 {
-        return Err(Error::UnexpectedEof);
-    }
-    let header_size = u32_in(bytes, 4);
-    let minimum_index = u32_in(bytes, 8);
-    let maximum_index = u32_in(bytes, 12);
-    if header_size < 56 {
+    let mut buffer = ParseBuffer::from(ParseBuffer::from(bytes).take(HEADER_SIZE)?);
+    buffer.parse_u32()?;
+    let header_size = buffer.parse_u32()?;
+    let minimum_index = buffer.parse_u32()?;
+    let maximum_index = buffer.parse_u32()?;
+    if header_size < HEADER_SIZE as u32 {
         return Err(Error::InvalidTypeInformationHeader("header size is impossibly small"));
     }
     if header_size > 1024 {

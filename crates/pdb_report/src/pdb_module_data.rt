@@ -79,7 +79,7 @@ fn with_code(
             if symbol.len == 0 {
                 return Ok(None);
             }
-            let name = symbol.name.to_vec(alloc)?;
+            let name = symbol.name.as_bytes().to_vec(alloc)?;
             Ok(Some(Procedure {
                 offset: symbol.offset,
                 len: symbol.len,

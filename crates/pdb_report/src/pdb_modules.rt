@@ -1,14 +1,15 @@
 //! Symbols of a module, and of the program's own list.
 
 ghost use Rattle.std.specs.Prelude.{◌≡◌, ◌-◌, ◌≤◌, length};
-ghost use Rattle.pdb_container.specs.Buffer.{ReadsAll};
+ghost use Rattle.pdb_container.specs.Buffer.{rest, ReadsAll};
 ghost use Rattle.pdb_container.specs.Fault.{Gives, Parses};
 ghost use Rattle.std.specs.Int.{w16};
 ghost use Rattle.pdb_container.specs.Fields.{entries, number_at};
+ghost use Rattle.pdb_container.specs.RawString.{raw_bytes};
 ghost use Rattle.pdb_report.specs.Symbols.{symbol_at, symbols_of, is_symbol, is_public as is_public_symbol, is_procedure as is_procedure_kind, is_thunk as is_thunk_kind, is_inline_site as is_inline_site_kind, name_at, procedure_at, procedure_of};
 
 use crate::pdb_container_types::PdbInternalSectionOffset;
-use pdb_container::{Error, ParseBuffer, Result};
+use pdb_container::{Error, ParseBuffer, RawString, Result};
 use std::alloc::Global;
 use std::marker::Model;
 
@@ -99,15 +100,16 @@ pub struct ProcedureSymbol<'t> {
     pub len: u32,
     pub type_index: u32,
     pub offset: PdbInternalSectionOffset,
-    pub name: &'t [u8],
+    pub name: RawString<'t>,
 }
 
 impl<'t> Model for ProcedureSymbol<'t> {
+    ghost use Rattle.pdb_container.specs.RawString.{raw_bytes};
     ghost use Rattle.pdb_report.specs.Symbols as symbols;
 
     ghost Value = { symbols.ProcedureSymbol };
 
-    ghost view = { λ p. record { end = p.end; len = p.len; type_index = p.type_index; offset = p.offset; name = p.name.now } };
+    ghost view = { λ p. record { end = p.end; len = p.len; type_index = p.type_index; offset = p.offset; name = raw_bytes p.name } };
 }
 
 /// Whether the kind is a procedure's.
@@ -139,8 +141,8 @@ pub fn is_inline_site(kind: u16) -> bool
 }
 
 /// A symbol's name: kinds below 0x1100 have Pascal strings, the others C strings. `UnexpectedEof`.
-fn parse_name<'t>(kind: u16, buffer: &mut ParseBuffer<'t>) -> Result<&'t [u8]>
-    ensures { ReadsAll (λ text. text.now) result buffer.new (name_at kind buffer.old) }
+fn parse_name<'t>(kind: u16, buffer: &mut ParseBuffer<'t>) -> Result<RawString<'t>>
+    ensures { ReadsAll raw_bytes result (rest buffer.new) (name_at kind (rest buffer.old)) }
 {
     if kind < 0x1100 {
         buffer.parse_u8_pascal_string()
@@ -176,7 +178,7 @@ fn parse_procedure(kind: u16, payload: &[u8]) -> Result<ProcedureSymbol<'_>>
 /// A symbol in a stream of `whole` bytes. `SymbolTooShort`, `UnexpectedEof`.
 #[tactic(auto, unfolding(crate::specs::Symbols::symbol_at))]
 fn parse_symbol<'t>(whole: usize, buffer: &mut ParseBuffer<'t>) -> Result<Symbol<'t>>
-    ensures { ReadsAll (λ s. s) result buffer.new (symbol_at whole buffer.old) }
+    ensures { ReadsAll (λ s. s) result (rest buffer.new) (symbol_at whole (rest buffer.old)) }
 {
     let index = whole.saturating_sub(buffer.len()) as u64;
     let size = buffer.parse_u16()?;

@@ -1,7 +1,7 @@
 //! The contributions of modules to sections.
 
 ghost use Rattle.std.specs.Prelude.{◌≡◌};
-ghost use Rattle.pdb_container.specs.Buffer.{ReadsAll};
+ghost use Rattle.pdb_container.specs.Buffer.{rest, ReadsAll};
 ghost use Rattle.pdb_container.specs.Fault.{Gives};
 ghost use Rattle.pdb_container.specs.Fields.{entries};
 ghost use Rattle.pdb_report.specs.Contributions.{contribution_at, long_contribution_at, contributions_of};
@@ -27,7 +27,7 @@ pub struct DBISectionContribution {
 /// An entry of the older version. `UnexpectedEof`.
 #[tactic(auto, unfolding(crate::specs::Contributions::contribution_at))]
 fn parse_contribution(buffer: &mut ParseBuffer<'_>) -> Result<DBISectionContribution>
-    ensures { ReadsAll (λ c. c) result buffer.new (contribution_at buffer.old) }
+    ensures { ReadsAll (λ c. c) result (rest buffer.new) (contribution_at (rest buffer.old)) }
 {
     let section = buffer.parse_u16()?;
     buffer.parse_u16()?;
@@ -48,7 +48,7 @@ fn parse_contribution(buffer: &mut ParseBuffer<'_>) -> Result<DBISectionContribu
 /// An entry of the newer version. `UnexpectedEof`.
 #[tactic(auto, unfolding(crate::specs::Contributions::long_contribution_at))]
 fn parse_long_contribution(buffer: &mut ParseBuffer<'_>) -> Result<DBISectionContribution>
-    ensures { ReadsAll (λ c. c) result buffer.new (long_contribution_at buffer.old) }
+    ensures { ReadsAll (λ c. c) result (rest buffer.new) (long_contribution_at (rest buffer.old)) }
 {
     let contribution = parse_contribution(buffer)?;
     buffer.parse_u32()?;

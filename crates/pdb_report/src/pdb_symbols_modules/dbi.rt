@@ -4,8 +4,7 @@ ghost use Rattle.std.specs.Prelude.{◌≡◌, ◌+◌, ◌≤◌, length};
 ghost use Rattle.pdb_container.specs.Fault.{Parses};
 ghost use Rattle.pdb_report.specs.Dbi.{header_of, substreams_of, dbi_of, dbi_seen, piece as piece_of};
 
-use crate::numbers::{u16_in, u32_in};
-use pdb_container::{Error, Result};
+use pdb_container::{Error, ParseBuffer, Result};
 
 /// How many bytes the header has.
 const HEADER_SIZE: usize = 64;
@@ -38,21 +37,30 @@ pub struct DebugInformation<'b> {
 fn parse_header(bytes: &[u8]) -> Result<DBIHeader>
     ensures { Parses (λ h. h) result (header_of bytes.now) }
 {
-    if bytes.len() < HEADER_SIZE {
-        return Err(Error::UnexpectedEof);
-    }
-    if u32_in(bytes, 0) != 0xffff_ffff {
+    let mut buffer = ParseBuffer::from(ParseBuffer::from(bytes).take(HEADER_SIZE)?);
+    if buffer.parse_u32()? != 0xffff_ffff {
         return Err(Error::UnimplementedFeature("ancient DBI header"));
     }
+    buffer.take(16)?;
+    let symbol_records_stream = buffer.parse_u16()?;
+    buffer.take(2)?;
+    let module_list_size = buffer.parse_u32()?;
+    let section_contribution_size = buffer.parse_u32()?;
+    let section_map_size = buffer.parse_u32()?;
+    let file_info_size = buffer.parse_u32()?;
+    let type_server_map_size = buffer.parse_u32()?;
+    buffer.take(4)?;
+    let debug_header_size = buffer.parse_u32()?;
+    let ec_substream_size = buffer.parse_u32()?;
     Ok(DBIHeader {
-        symbol_records_stream: u16_in(bytes, 20),
-        module_list_size: u32_in(bytes, 24),
-        section_contribution_size: u32_in(bytes, 28),
-        section_map_size: u32_in(bytes, 32),
-        file_info_size: u32_in(bytes, 36),
-        type_server_map_size: u32_in(bytes, 40),
-        debug_header_size: u32_in(bytes, 48),
-        ec_substream_size: u32_in(bytes, 52),
+        symbol_records_stream,
+        module_list_size,
+        section_contribution_size,
+        section_map_size,
+        file_info_size,
+        type_server_map_size,
+        debug_header_size,
+        ec_substream_size,
     })
 }
 

@@ -1,11 +1,11 @@
 //! The list of modules.
 
 ghost use Rattle.std.specs.Prelude.{◌≡◌, drop};
-ghost use Rattle.pdb_container.specs.Buffer.{ReadsAll};
+ghost use Rattle.pdb_container.specs.Buffer.{rest, ReadsAll};
 ghost use Rattle.pdb_container.specs.Fault.{Gives};
 ghost use Rattle.pdb_report.specs.Modules.{module_at, modules_of, padding as padding_of, has_lines as has_lines_of};
 
-use pdb_container::{ParseBuffer, Result};
+use pdb_container::{ParseBuffer, RawString, Result};
 use std::alloc::Global;
 use std::marker::Model;
 
@@ -16,16 +16,17 @@ pub struct Module<'m> {
     pub symbols_size: u32,
     pub c11_lines_size: u32,
     pub c13_lines_size: u32,
-    pub module_name: &'m [u8],
-    pub object_file_name: &'m [u8],
+    pub module_name: RawString<'m>,
+    pub object_file_name: RawString<'m>,
 }
 
 impl<'m> Model for Module<'m> {
+    ghost use Rattle.pdb_container.specs.RawString.{raw_bytes};
     ghost use Rattle.pdb_report.specs.Modules as modules;
 
     ghost Value = { modules.Module };
 
-    ghost view = { λ m. record { stream = m.stream; symbols_size = m.symbols_size; c11_lines_size = m.c11_lines_size; c13_lines_size = m.c13_lines_size; module_name = m.module_name.now; object_file_name = m.object_file_name.now } };
+    ghost view = { λ m. record { stream = m.stream; symbols_size = m.symbols_size; c11_lines_size = m.c11_lines_size; c13_lines_size = m.c13_lines_size; module_name = raw_bytes m.module_name; object_file_name = raw_bytes m.object_file_name } };
 }
 
 impl Module<'_> {
@@ -46,7 +47,7 @@ fn padding(size: usize) -> usize
 
 /// Goes from `size` bytes to the next multiple of four, or to the end.
 fn skip_padding(buffer: &mut ParseBuffer<'_>, size: usize)
-    ensures { buffer.new ≡ drop (padding_of size) buffer.old }
+    ensures { rest buffer.new ≡ drop (padding_of size) (rest buffer.old) }
 {
     let missing = padding(size).min(buffer.len());
     let _ = buffer.take(missing);
@@ -55,7 +56,7 @@ fn skip_padding(buffer: &mut ParseBuffer<'_>, size: usize)
 /// One entry of the list. `UnexpectedEof`.
 #[tactic(auto, unfolding(crate::specs::Modules::module_at))]
 fn parse_module<'m>(buffer: &mut ParseBuffer<'m>) -> Result<Module<'m>>
-    ensures { ReadsAll (λ m. m) result buffer.new (module_at buffer.old) }
+    ensures { ReadsAll (λ m. m) result (rest buffer.new) (module_at (rest buffer.old)) }
 {
     let whole = buffer.len();
     buffer.take(34)?;
