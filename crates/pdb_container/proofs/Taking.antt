@@ -4,7 +4,7 @@ use Rattle.std.specs.Prelude.{◌==◌}
 use Rattle.std.proofs.lemmas.Bool.{cases_lt, le-ltb}
 use Rattle.std.proofs.lemmas.List.{take-take, drop_all}
 use Rattle.pdb_container.specs.Fault.{Fault}
-use Rattle.pdb_container.specs.Fields.{bytes_of, cut_at, c_string_at}
+use Rattle.pdb_container.specs.Fields.{bytes_of, c_string_at}
 
 there : (bytes : List ℕ) (end : ℕ) → end < length bytes → bytes_of (end + 1) bytes ≡ Ok (take (end + 1) bytes, drop (end + 1) bytes)
 there bytes end within = rw (le-ltb (length bytes) (end + 1) (omega arith)) refl

@@ -5,6 +5,7 @@ ghost use Rattle.std.specs.Prelude.{◌≡◌, Option, Result, Ok, None, IfErr, 
 /// An iterator whose steps may fail. After an error it answers `None`.
 pub trait FallibleIterator {
     type Item;
+
     type Error;
 
     /// Whether it answers nothing more: it does so from its first error on.

@@ -1,10 +1,15 @@
 //! Laws of the definitions: functions that do nothing, whose contracts are proved.
 
-ghost use Rattle.std.specs.Prelude.{◌≡◌, ◌↔◌, ℕ, List, Option, Ok};
+ghost use Rattle.std.specs.Prelude.{◌≡◌, ◌↔◌, ℕ, List, Option, Ok, true};
 ghost use Rattle.pdb_container.specs.Alike.{ReadAlike, AreAlike, HaveSameStream, HaveSameStreams};
 ghost use Rattle.pdb_container.specs.Container.{stream};
 ghost use Rattle.pdb_container.specs.Paged.{IsStream, IsLimited};
 ghost use Rattle.pdb_container.specs.Places.{bytes_at, page_places, IsPaged};
+ghost use Rattle.pdb_container.specs.RawString.{raw_bytes};
+ghost use Rattle.pdb_container.specs.declared.raw_string.RawString.{RawString as Text};
+
+use crate::raw_string::RawString;
+use std::hash::Hash;
 
 /// What pages hold is so many bytes, and byte i is the file's byte in page number i / size, at i % size; and bytes of
 /// which this is true are what the pages hold.
@@ -31,4 +36,10 @@ pub fn limited()
 pub fn page_layout()
     ensures at_one_number { (a b : List ℕ) (n : ℕ) → ReadAlike a b n → HaveSameStream a b n }
     ensures at_every_number { (a b : List ℕ) → AreAlike a b → HaveSameStreams a b }
+{}
+
+/// Raw strings are equal exactly where their bytes are, and equal ones hash alike.
+pub fn equal_texts_hash_alike()
+    ensures equal { (a b : Text) → (⟦<RawString<'static> as PartialEq>⟧.eq a b ≡ true) ↔ (raw_bytes a ≡ raw_bytes b) }
+    ensures hash { (a b : Text) → raw_bytes a ≡ raw_bytes b → ⟦<RawString<'static> as Hash>⟧.hash_input a ≡ ⟦<RawString<'static> as Hash>⟧.hash_input b }
 {}

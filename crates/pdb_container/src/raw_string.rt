@@ -6,8 +6,7 @@ ghost use Rattle.std.specs.Str.{IsUtf8};
 ghost use Rattle.std.specs.Str.Lossy.{utf8_lossy};
 ghost use Rattle.pdb_container.specs.RawString.{raw_bytes};
 
-use crate::error::Error;
-use crate::error::Result;
+use crate::error::{Error, Result};
 use bstr::{BStr, ByteSlice};
 use std::alloc::Global;
 use std::borrow::CowStr;
@@ -23,6 +22,14 @@ impl<'b> From<&'b [u8]> for RawString<'b> {
 
     fn from(bytes: &'b [u8]) -> RawString<'b> {
         RawString(bytes)
+    }
+}
+
+impl<'b> From<&'b str> for RawString<'b> {
+    ghost from_gives = { λ text raw. raw_bytes raw ≡ text.now };
+
+    fn from(text: &'b str) -> RawString<'b> {
+        RawString(text.as_bytes())
     }
 }
 

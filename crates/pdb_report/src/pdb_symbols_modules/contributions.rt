@@ -4,7 +4,7 @@ ghost use Rattle.std.specs.Prelude.{◌≡◌};
 ghost use Rattle.pdb_container.specs.Buffer.{rest, ReadsAll};
 ghost use Rattle.pdb_container.specs.Fault.{Gives};
 ghost use Rattle.pdb_container.specs.Fields.{entries};
-ghost use Rattle.pdb_report.specs.Contributions.{contribution_at, long_contribution_at, contributions_of};
+ghost use Rattle.pdb_report.specs.Contributions.{contribution_at, long_contribution_at, contributions_of_version, contributions_of};
 
 use crate::pdb_container_types::PdbInternalSectionOffset;
 use pdb_container::{Error, ParseBuffer, Result};
@@ -98,10 +98,17 @@ pub fn parse_contributions(alloc: Global, bytes: &[u8]) -> Result<Vec<DBISection
     }
     let mut buffer = ParseBuffer::from(bytes);
     let version = buffer.parse_u32()?;
-    let rest = buffer.take(buffer.len())?;
+    let entries = buffer.take(buffer.len())?;
+    parse_versioned(alloc, version, entries)
+}
+
+/// The entries behind a version. `UnexpectedEof`, `UnimplementedFeature`.
+fn parse_versioned(alloc: Global, version: u32, bytes: &[u8]) -> Result<Vec<DBISectionContribution>>
+    ensures { Gives (λ v. v.items) ⊥ result (contributions_of_version version bytes.now) }
+{
     match version {
-        VERSION_60 => parse_entries(alloc, rest),
-        VERSION_2 => parse_long_entries(alloc, rest),
+        VERSION_60 => parse_entries(alloc, bytes),
+        VERSION_2 => parse_long_entries(alloc, bytes),
         _ => Err(Error::UnimplementedFeature("section contribution version")),
     }
 }
