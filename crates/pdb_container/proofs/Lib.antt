@@ -4,6 +4,7 @@ pub mod Entries
 pub mod First
 pub mod Limits
 pub mod Literal
+pub mod Names
 pub mod Outside
 pub mod Paging
 pub mod Slices

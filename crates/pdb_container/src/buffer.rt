@@ -217,7 +217,7 @@ impl<'b> ParseBuffer<'b> {
 
     /// The bytes that are left.
     #[tactic(auto, unfolding(crate::specs::Buffer::rest))]
-    fn left(&self) -> &'b [u8]
+    pub(crate) fn left(&self) -> &'b [u8]
         ensures { result.now ≡ rest self.now }
     {
         &self.bytes[self.pos..]

@@ -11,6 +11,7 @@ mod numbers;
 mod page_list;
 mod raw_string;
 mod source;
+mod string_table;
 
 pub use buffer::{FromBuffer, ParseBuffer};
 pub use error::{Error, ModuleFault, Result, kind_name};
@@ -19,3 +20,4 @@ pub use msf::{BigMSF, Msf, Stream, open_msf};
 pub use page_list::PageList;
 pub use raw_string::RawString;
 pub use source::{ReadView, Source, SourceSlice};
+pub use string_table::{StringRef, StringTable};

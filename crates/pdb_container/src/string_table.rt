@@ -1,0 +1,109 @@
+//! The table of names that lines and modules refer to.
+
+ghost use Rattle.std.specs.Prelude.{◌≡◌, ◌≤◌, length, take, drop, IfOk};
+ghost use Rattle.std.specs.Cow.{cow_str_bytes};
+ghost use Rattle.pdb_container.specs.Fault.{Gives, Parses};
+ghost use Rattle.pdb_container.specs.Names.{names_of, name_in, text_in};
+ghost use Rattle.pdb_container.specs.RawString.{raw_bytes};
+
+use crate::buffer::ParseBuffer;
+use crate::error::{Error, Result};
+use crate::msf::Stream;
+use crate::raw_string::RawString;
+use std::alloc::Global;
+use std::borrow::CowStr;
+use std::marker::Model;
+
+/// How the table's stream begins.
+const SIGNATURE: u32 = 0xeffe_effe;
+
+/// How many bytes lie before the names.
+const HEADER_SIZE: usize = 12;
+
+/// Where a name begins among a table's names, in bytes.
+#[derive(Clone, Copy, Debug, PartialEq, Eq, PartialOrd, Ord, Hash)]
+pub struct StringRef(pub u32);
+
+/// A table of names, in a stream of its own.
+#[derive(Debug, Drop)]
+pub struct StringTable<'s> {
+    stream: Stream<'s>,
+    size: usize,
+}
+
+impl<'s> Model for StringTable<'s> {
+    ghost use Rattle.std.specs.Prelude.{ℕ, List, take, drop, ◌≤◌, length};
+    ghost use Rattle.pdb_container.specs.declared.string_table.TheConstants.{HEADER_SIZE};
+
+    ghost Value = { List ℕ };
+
+    ghost view = { λ t. take t.size (drop HEADER_SIZE t.stream) };
+
+    ghost invariant = { λ t. t.size ≤ length (drop HEADER_SIZE t.stream) };
+}
+
+impl<'s> StringTable<'s> {
+    /// The table in a stream. `UnexpectedEof`; `UnimplementedFeature` for another signature or version than 1 and 2.
+    pub fn parse(stream: Stream<'s>) -> Result<StringTable<'s>>
+        ensures { Parses (λ t. t) result (names_of stream.entry) }
+    {
+        let size = names_in(stream.as_slice())?.len();
+        Ok(StringTable { stream, size })
+    }
+
+    /// The name at a place among the names; `UnexpectedEof` outside them, and where no NUL among them ends it.
+    #[tactic(auto, unfolding(crate::specs::Names::name_in))]
+    pub fn get(&self, offset: StringRef) -> Result<RawString<'_>>
+        ensures { Parses raw_bytes result (name_in self.now offset.0) }
+    {
+        let mut buffer = ParseBuffer::from(self.names());
+        buffer.seek(offset.0 as usize);
+        buffer.parse_cstring()
+    }
+
+    fn names(&self) -> &[u8]
+        ensures { result.now ≡ self.now }
+    {
+        let mut buffer = ParseBuffer::from(self.stream.as_slice());
+        buffer.seek(HEADER_SIZE);
+        &buffer.left()[..self.size]
+    }
+}
+
+impl StringRef {
+    /// The name in a table, as [`StringTable::get`].
+    pub fn to_raw_string<'t>(self, strings: &'t StringTable<'_>) -> Result<RawString<'t>>
+        ensures { Parses raw_bytes result (name_in strings.now self.0) }
+    {
+        strings.get(self)
+    }
+
+    /// The name in a table as text, with U+FFFD for what is no character. `UnexpectedEof` as [`StringTable::get`], and
+    /// `OutOfMemory`.
+    pub fn to_string_lossy<'t>(
+        self,
+        alloc: Global,
+        strings: &'t StringTable<'_>,
+    ) -> Result<CowStr<'t>>
+        ensures { Gives cow_str_bytes ⊥ result (text_in strings.now self.0) }
+    {
+        strings.get(self)?.to_string(alloc)
+    }
+}
+
+/// The names of a table that these bytes are.
+#[tactic(auto, using(crate::proofs::Names::names_behind), unfolding(crate::specs::Names::names_of))]
+fn names_in(bytes: &[u8]) -> Result<&[u8]>
+    ensures value { Parses (λ names. names.now) result (names_of bytes.now) }
+    ensures place { IfOk result (λ names. names.now ≡ take (length names.now) (drop HEADER_SIZE bytes.now)) }
+    ensures within { IfOk result (λ names. length names.now ≤ length (drop HEADER_SIZE bytes.now)) }
+{
+    let mut buffer = ParseBuffer::from(bytes);
+    let signature = buffer.parse_u32()?;
+    let version = buffer.parse_u32()?;
+    let size = buffer.parse_u32()? as usize;
+    if signature != SIGNATURE || version < 1 || version > 2 {
+        return Err(Error::UnimplementedFeature("string table"));
+    }
+    buffer.take(size)
+}
