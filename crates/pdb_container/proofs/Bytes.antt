@@ -1,9 +1,10 @@
 -- The file's bytes at places: of a slice, and of slices one after the other.
-use Rattle.std.proofs.Common.{◌≡◌, ℕ, zero, suc, ◌+◌, ◌<◌, ◌≤◌, Bool, true, false, cond, ltb, ◌&&◌, List, [], ◌++◌, length, get_or, take, drop, Result, Ok, Err, refl, sym, ap, ◌∙◌, append_assoc, arith}
+use Rattle.std.proofs.Common.{◌≡◌, ℕ, zero, suc, ◌+◌, ◌<◌, ◌≤◌, Bool, true, false, cond, ltb, ◌&&◌, List, [], ◌∷◌, ◌++◌, length, get_or, take, drop, Result, Ok, Err, inl, inr, refl, sym, ap, ◌∙◌, append_assoc, arith}
 use Rattle.std.specs.Prelude.{map}
 use Rattle.std.specs.List.{range_with_len, list_all}
 use Rattle.std.specs.declared.io.ErrorKind.TheVariants.{UnexpectedEof}
-use Rattle.std.proofs.lemmas.Bool.{lt-ltb, le-ltb}
+use Rattle.std.proofs.lemmas.Bool.{lt-ltb, le-ltb, cases_lt, and_parts, false≢true}
+use Rattle.std.specs.Result.{is_ok}
 use Rattle.std.proofs.lemmas.List.{append-nil, drop_more, drop_all, map-append}
 use Rattle.std.proofs.lemmas.List.Folds.{list_all-append}
 use Rattle.pdb_container.specs.Fault.{Fault}
@@ -50,6 +51,32 @@ unfolding bytes_at
 bytes_at_past file a zero p h = absurd (omega arith)
 bytes_at_past file a (suc n) p h = rw (not_all_below file a n h) refl
 
+-- ---- whether slices lie within the file
+
+pub ok_none : (file : List ℕ) (a n : ℕ) → n ≡ 0 → is_ok (bytes_at file (range_with_len a n)) ≡ true
+ok_none file a n h = ap is_ok (bytes_at_none file a n h)
+
+pub ok_range : (file : List ℕ) (a n : ℕ) → a + n ≤ length file → is_ok (bytes_at file (range_with_len a n)) ≡ true
+ok_range file a n h = ap is_ok (bytes_at_range file a n h)
+
+pub ok_past : (file : List ℕ) (a n : ℕ) → 0 < n → length file < a + n → is_ok (bytes_at file (range_with_len a n)) ≡ false
+ok_past file a n p h = ap is_ok (bytes_at_past file a n p h)
+
+pub ok_fits : (file : List ℕ) (a n : ℕ) → is_ok (bytes_at file (range_with_len a n)) ≡ true → 0 < n → a + n ≤ length file
+ok_fits file a n h p =
+    elim (cases_lt (length file) (a + n)) [
+      | inl lt ↦ absurd (false≢true (sym (ok_past file a n p lt) ∙ h))
+      | inr le ↦ le
+    ]
+
+ended : (b : Bool) (x : List ℕ) (e : Fault) → is_ok (cond b (Ok x) (Err e)) ≡ false → cond b (Ok x) (Err e) ≡ Err e
+ended true x e h = absurd (false≢true (sym h))
+ended false x e h = refl
+
+not_ok_ends : (file places : List ℕ) → is_ok (bytes_at file places) ≡ false → bytes_at file places ≡ Err (IoError UnexpectedEof)
+unfolding bytes_at
+not_ok_ends file places h = ended (list_all (below file) places) (map (byte file) places) (IoError UnexpectedEof) h
+
 abbrev joined : Result (List ℕ) Fault → Result (List ℕ) Fault → Result (List ℕ) Fault
 joined r s = r >>= λ x. s >>= λ y. Ok (x ++ y)
 
@@ -76,18 +103,52 @@ slices_more : (file : List ℕ) (slices : List SourceSlice) (i : ℕ) (d : Sourc
 slices_more file slices i d lt =
     rw (drop_more slices i d lt) (bytes_at_append file (slice_places (get_or slices i d)) (places_of (drop (i + 1) slices)))
 
+both_ok : (r s : Result (List ℕ) Fault) → is_ok (joined r s) ≡ (is_ok r && is_ok s)
+both_ok (Ok x) (Ok y) = refl
+both_ok (Ok x) (Err e) = refl
+both_ok (Err e) s = refl
+
+ok_append : (file xs ys : List ℕ) → is_ok (bytes_at file (xs ++ ys)) ≡ (is_ok (bytes_at file xs) && is_ok (bytes_at file ys))
+ok_append file xs ys = ap is_ok (bytes_at_append file xs ys) ∙ both_ok (bytes_at file xs) (bytes_at file ys)
+
+one_ok : (file : List ℕ) (slices : List SourceSlice) (i : ℕ) (d : SourceSlice) → i < length slices
+    → is_ok (bytes_at file (places_of (drop i slices))) ≡ (is_ok (bytes_at file (slice_places (get_or slices i d))) && is_ok (bytes_at file (places_of (drop (i + 1) slices))))
+one_ok file slices i d lt = rw (drop_more slices i d lt) (ok_append file (slice_places (get_or slices i d)) (places_of (drop (i + 1) slices)))
+
+pub within_more : (file : List ℕ) (slices : List SourceSlice) (i : ℕ) (d : SourceSlice) → i < length slices
+    → is_ok (bytes_at file (slice_places (get_or slices i d))) ≡ true
+    → is_ok (bytes_at file (places_of (drop i slices))) ≡ is_ok (bytes_at file (places_of slices))
+    → is_ok (bytes_at file (places_of (drop (i + 1) slices))) ≡ is_ok (bytes_at file (places_of slices))
+within_more file slices i d lt h so_far = sym (one_ok file slices i d lt ∙ ap (λ b. b && is_ok (bytes_at file (places_of (drop (i + 1) slices)))) h) ∙ so_far
+
+pub within_fail : (file : List ℕ) (slices : List SourceSlice) (i : ℕ) (d : SourceSlice) → i < length slices
+    → is_ok (bytes_at file (slice_places (get_or slices i d))) ≡ false
+    → is_ok (bytes_at file (places_of (drop i slices))) ≡ is_ok (bytes_at file (places_of slices))
+    → bytes_at file (places_of slices) ≡ Err (IoError UnexpectedEof)
+within_fail file slices i d lt h so_far =
+    not_ok_ends file (places_of slices) (sym so_far ∙ one_ok file slices i d lt ∙ ap (λ b. b && is_ok (bytes_at file (places_of (drop (i + 1) slices)))) h)
+
+pub within_done : (file : List ℕ) (slices : List SourceSlice) (i : ℕ) → length slices ≤ i
+    → is_ok (bytes_at file (places_of (drop i slices))) ≡ is_ok (bytes_at file (places_of slices))
+    → is_ok (bytes_at file (places_of slices)) ≡ true
+unfolding bytes_at
+within_done file slices i le so_far = sym so_far ∙ rw (drop_all i slices le) refl
+
+-- each slice of those that lie within the file lies within it
+pub one_within : (file : List ℕ) (slices : List SourceSlice) (i : ℕ) (d : SourceSlice) → i < length slices
+    → is_ok (bytes_at file (places_of slices)) ≡ true
+    → is_ok (bytes_at file (slice_places (get_or slices i d))) ≡ true
+one_within file [] i d lt h = absurd (omega arith)
+one_within file (s ∷ slices) zero d lt h = (and_parts _ _ (sym (ok_append file (slice_places s) (places_of slices)) ∙ h)).0
+one_within file (s ∷ slices) (suc i) d lt h =
+    one_within file slices i d (omega arith) (and_parts _ _ (sym (ok_append file (slice_places s) (places_of slices)) ∙ h)).1
+
 pub goes_on : (file front part : List ℕ) (slices : List SourceSlice) (i : ℕ) (d : SourceSlice) → i < length slices
     → bytes_at file (slice_places (get_or slices i d)) ≡ Ok part
     → with_front front (bytes_at file (places_of (drop i slices))) ≡ bytes_at file (places_of slices)
     → with_front (front ++ part) (bytes_at file (places_of (drop (i + 1) slices))) ≡ bytes_at file (places_of slices)
 goes_on file front part slices i d lt h so_far =
     sym (regroup front part (bytes_at file (places_of (drop (i + 1) slices)))) ∙ sym (rw (slices_more file slices i d lt, h) refl) ∙ so_far
-
-pub ends : (file front : List ℕ) (slices : List SourceSlice) (i : ℕ) (d : SourceSlice) (e : Fault) → i < length slices
-    → bytes_at file (slice_places (get_or slices i d)) ≡ Err e
-    → with_front front (bytes_at file (places_of (drop i slices))) ≡ bytes_at file (places_of slices)
-    → bytes_at file (places_of slices) ≡ Err e
-ends file front slices i d e lt h so_far = sym so_far ∙ rw (slices_more file slices i d lt, h) refl
 
 pub is_done : (file front : List ℕ) (slices : List SourceSlice) (i : ℕ) → length slices ≤ i
     → with_front front (bytes_at file (places_of (drop i slices))) ≡ bytes_at file (places_of slices)

@@ -76,7 +76,7 @@ fn pages_of(alloc: Global, used: u32, count: usize, numbers: &[u32]) -> Result<V
     ensures exact { Gives (λ v. v.items) ⊥ result (pages_in used count numbers.now) }
     ensures len { IfOk result (λ v. vec_len v ≡ count) }
 {
-    let mut pages = Vec::new(alloc);
+    let mut pages = Vec::with_capacity(alloc, count.min(numbers.len()))?;
     for i in 0..count {
         if i >= numbers.len() {
             return Err(Error::UnexpectedEof);

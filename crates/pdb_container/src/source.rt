@@ -1,6 +1,6 @@
 //! Where a container's bytes come from.
 
-ghost use Rattle.std.specs.Prelude.{◌≡◌, ℕ, ◌+◌, ◌≤◌, List, IfOk, IfErr, MatchOption, ◌⊎◌};
+ghost use Rattle.std.specs.Prelude.{◌≡◌, ℕ, ◌+◌, ◌≤◌, ◌-◌, ◌^◌, List, length, min, is_ok, IsOk, IfSome, IfOk, IfErr, MatchOption, ◌⊎◌};
 ghost use Rattle.std.specs.declared.io.ErrorKind.TheVariants.{UnexpectedEof};
 ghost use Rattle.pdb_container.specs.Fault.{error_of, fault_of, IoError, HasRisen, IsOutside};
 ghost use Rattle.pdb_container.specs.Places.{slice_places, places_of, bytes_at};
@@ -80,12 +80,13 @@ impl Source for Vec<u8> {
     ghost failures = { λ _. 0 };
 
     fn view(&mut self, alloc: Global, slices: &[SourceSlice]) -> io::Result<ReadView> {
-        let mut bytes = Vec::new(alloc);
+        // Memory is taken only for bytes that are there, once and for all of them.
+        let Some(size) = size_within(self, slices) else {
+            return Err(ErrorKind::UnexpectedEof.into());
+        };
+        let mut bytes = Vec::with_capacity(alloc, size)?;
         for slice in slices {
-            let Some(part) = part_of(self, *slice) else {
-                return Err(ErrorKind::UnexpectedEof.into());
-            };
-            bytes.extend_from_slice(part)?;
+            bytes.extend_from_slice(part_of(self, *slice))?;
         }
         Ok(ReadView::new(bytes))
     }
@@ -95,18 +96,41 @@ impl Source for Vec<u8> {
     }
 }
 
-#[tactic(auto, using(crate::proofs::Bytes::bytes_at_none, crate::proofs::Bytes::bytes_at_range, crate::proofs::Bytes::bytes_at_past))]
-fn part_of(file: &[u8], slice: SourceSlice) -> Option<&[u8]>
-    ensures { MatchOption result (bytes_at file.now (slice_places slice) ≡ Err (IoError UnexpectedEof))
-        (λ part. bytes_at file.now (slice_places slice) ≡ Ok part.now) }
+/// How many bytes the slices have, at most `usize::MAX`; `None` where one doesn't lie within the file.
+#[tactic(auto, using(crate::proofs::Bytes::within_more, crate::proofs::Bytes::within_fail, crate::proofs::Bytes::within_done, crate::proofs::Slices::places_len_more))]
+fn size_within(file: &[u8], slices: &[SourceSlice]) -> Option<usize>
+    ensures within { MatchOption result (bytes_at file.now (places_of slices.now) ≡ Err (IoError UnexpectedEof))
+        (λ _. IsOk (bytes_at file.now (places_of slices.now))) }
+    ensures size { IfSome result (λ size. size ≡ min (length (places_of slices.now)) (2 ^ 64 - 1)) }
+{
+    let mut size = 0usize;
+    for slice in slices {
+        if !is_within(file, *slice) {
+            return None;
+        }
+        size = size.saturating_add(slice.size);
+    }
+    Some(size)
+}
+
+/// Whether the slice lies within the file; one with no bytes lies within any.
+#[tactic(auto, using(crate::proofs::Bytes::ok_none, crate::proofs::Bytes::ok_range, crate::proofs::Bytes::ok_past))]
+fn is_within(file: &[u8], slice: SourceSlice) -> bool
+    ensures { result ≡ is_ok (bytes_at file.now (slice_places slice)) }
+{
+    let len = file.len() as u64;
+    slice.size == 0 || slice.offset <= len && slice.size as u64 <= len - slice.offset
+}
+
+/// The bytes of a slice that lies within the file.
+#[tactic(auto, using(crate::proofs::Bytes::bytes_at_none, crate::proofs::Bytes::bytes_at_range, crate::proofs::Bytes::ok_fits))]
+fn part_of(file: &[u8], slice: SourceSlice) -> &[u8]
+    requires { IsOk (bytes_at file.now (slice_places slice)) }
+    ensures { bytes_at file.now (slice_places slice) ≡ Ok result.now }
 {
     if slice.size == 0 {
-        return Some(&file[..0]);
-    }
-    let len = file.len() as u64;
-    if slice.offset > len || slice.size as u64 > len - slice.offset {
-        return None;
+        return &file[..0];
     }
     let start = slice.offset as usize;
-    Some(&file[start..start + slice.size])
+    &file[start..start + slice.size]
 }

@@ -1,0 +1,149 @@
+//! A container in memory: streams of a megabyte each, and the pages that tell where they lie.
+
+ghost use Rattle.std.specs.Prelude.{◌≡◌, ◌+◌, ◌*◌, ◌-◌, ◌^◌, ◌<◌, ◌≤◌};
+
+use std::alloc::{AllocError, Global};
+
+/// How many streams a container has at most.
+pub const MOST_STREAMS: u32 = 1024;
+
+/// How a container begins.
+const MAGIC: [u8; 32] = *b"Microsoft C/C++ MSF 7.00\r\n\x1aDS\0\0\0";
+
+/// The size of a page, in bytes.
+const PAGE_SIZE: usize = 4096;
+
+/// How many pages a stream has.
+const STREAM_PAGES: u32 = 256;
+
+/// How many pages lie in one direction: a stream's first from the first to the last, its others from the last to the first.
+const RUN_PAGES: u32 = 128;
+
+/// The page that lists those of the directory. Before it lie the header and two pages that a reader passes over.
+const LIST_PAGE: u32 = 3;
+
+/// The first page of the directory, behind which come the streams.
+const DIRECTORY_PAGE: u32 = 4;
+
+/// The bytes of a container with so many streams.
+pub fn container_of(alloc: Global, streams: u32) -> Result<Vec<u8>, AllocError>
+    requires { streams ≤ MOST_STREAMS }
+{
+    let first = first_stream_page(streams);
+    let mut file = Vec::with_capacity(alloc, end_of(first + STREAM_PAGES * streams))?;
+    push_header(&mut file, streams)?;
+    file.resize(end_of(LIST_PAGE), 0)?;
+    push_list(&mut file, streams)?;
+    file.resize(end_of(DIRECTORY_PAGE), 0)?;
+    push_directory(&mut file, streams)?;
+    file.resize(end_of(first), 0)?;
+    push_content(&mut file, streams)?;
+    Ok(file)
+}
+
+/// Where so many pages end, in bytes.
+fn end_of(pages: u32) -> usize
+    ensures { result ≡ PAGE_SIZE * pages }
+{
+    PAGE_SIZE * pages as usize
+}
+
+/// The size of the directory: the count of the streams, their sizes and the numbers of their pages.
+fn directory_size(streams: u32) -> u32
+    requires { streams ≤ MOST_STREAMS }
+    ensures { result ≡ 4 * (1 + streams + STREAM_PAGES * streams) }
+{
+    4 * (1 + streams + STREAM_PAGES * streams)
+}
+
+fn directory_pages(streams: u32) -> u32
+    requires { streams ≤ MOST_STREAMS }
+    ensures { result ≤ STREAM_PAGES + 2 }
+{
+    directory_size(streams).div_ceil(PAGE_SIZE as u32)
+}
+
+fn first_stream_page(streams: u32) -> u32
+    requires { streams ≤ MOST_STREAMS }
+    ensures { result ≤ DIRECTORY_PAGE + STREAM_PAGES + 2 }
+{
+    DIRECTORY_PAGE + directory_pages(streams)
+}
+
+fn push_number(file: &mut Vec<u8>, number: u32) -> Result<(), AllocError> {
+    file.extend_from_slice(&number.to_le_bytes())
+}
+
+/// The magic, the size of a page, the free page map, the pages used, the directory's size, a reserved number, and
+/// the page of the list.
+fn push_header(file: &mut Vec<u8>, streams: u32) -> Result<(), AllocError>
+    requires { streams ≤ MOST_STREAMS }
+{
+    file.extend_from_slice(&MAGIC)?;
+    push_number(file, PAGE_SIZE as u32)?;
+    push_number(file, 1)?;
+    push_number(file, first_stream_page(streams) + STREAM_PAGES * streams)?;
+    push_number(file, directory_size(streams))?;
+    push_number(file, 0)?;
+    push_number(file, LIST_PAGE)
+}
+
+fn push_list(file: &mut Vec<u8>, streams: u32) -> Result<(), AllocError>
+    requires { streams ≤ MOST_STREAMS }
+{
+    for page in 0..directory_pages(streams) {
+        push_number(file, DIRECTORY_PAGE + page)?;
+    }
+    Ok(())
+}
+
+fn push_directory(file: &mut Vec<u8>, streams: u32) -> Result<(), AllocError>
+    requires { streams ≤ MOST_STREAMS }
+{
+    push_number(file, streams)?;
+    for _ in 0..streams {
+        push_number(file, STREAM_PAGES * PAGE_SIZE as u32)?;
+    }
+    push_page_numbers(file, first_stream_page(streams), STREAM_PAGES * streams)
+}
+
+fn push_page_numbers(file: &mut Vec<u8>, first: u32, count: u32) -> Result<(), AllocError>
+    requires { first + count + RUN_PAGES < 2 ^ 32 }
+{
+    for place in 0..count {
+        push_number(file, first + page_at(place))?;
+    }
+    Ok(())
+}
+
+/// Which of the streams' pages is read at a place among them, from 0.
+fn page_at(place: u32) -> u32
+    requires { place + RUN_PAGES < 2 ^ 32 }
+    ensures { result < place + RUN_PAGES }
+{
+    let index = place % RUN_PAGES;
+    if place / RUN_PAGES % 2 == 0 {
+        place
+    } else {
+        place - index + (RUN_PAGES - 1 - index)
+    }
+}
+
+fn push_content(file: &mut Vec<u8>, streams: u32) -> Result<(), AllocError>
+    requires { streams ≤ MOST_STREAMS }
+{
+    for page in 0..STREAM_PAGES * streams {
+        push_page(file, page)?;
+    }
+    Ok(())
+}
+
+/// A page of bytes that differ from those of any other page.
+fn push_page(file: &mut Vec<u8>, seed: u32) -> Result<(), AllocError> {
+    let mut number = seed;
+    for _ in 0..PAGE_SIZE / 4 {
+        push_number(file, number)?;
+        number = number.wrapping_mul(1_664_525).wrapping_add(1_013_904_223);
+    }
+    Ok(())
+}

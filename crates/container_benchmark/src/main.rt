@@ -1,0 +1,117 @@
+//! Times how the streams of a container in memory are read, beside one copy of its bytes:
+//! `container_benchmark [MEGABYTES]`.
+//!
+//! It makes a container with as many streams of a megabyte each, 64 where no number is given. A copy of the container's
+//! bytes is timed, and then the opening of that copy and the reading of all its streams, which are kept until the time
+//! is taken. Both are done once untimed before. The output says what was read, and the error output how long it took.
+#![tactic(auto)]
+
+ghost use Rattle.std.specs.Prelude.{◌≡◌, ◌≤◌, IfOk};
+ghost use Rattle.container_benchmark.specs.Streams.{AreFirst};
+
+mod file;
+
+use anyhow::{Context, Result, ensure};
+use file::{MOST_STREAMS, container_of};
+use pdb_container::{BigMSF, Msf, Stream, open_msf};
+use std::alloc::Global;
+use std::rt::{Clock, Env};
+use std::time::{Duration, Instant};
+use std::{env, io};
+
+fn main(rt: HostRuntime) -> Result<()> {
+    let count = streams_asked(&rt)?;
+    let file = container_of(rt.alloc(), count)?;
+    read_copy(&rt, file.as_slice(), count)?;
+    let reading = read_copy(&rt, file.as_slice(), count)?;
+    print_streams(&rt, reading.streams.as_slice())?;
+    print_times(&rt, reading.copied, reading.read)?;
+    Ok(())
+}
+
+/// How many streams to read, 1 to `MOST_STREAMS`: the program's first word, or 64.
+fn streams_asked(rt: &(impl Env + AllocGlobal)) -> Result<u32>
+    ensures { IfOk result (λ count. count ≤ MOST_STREAMS) }
+{
+    let Some(word) = env::args(rt)?.nth(1) else {
+        return Ok(64);
+    };
+    let count = word.parse::<u32>().context("megabytes")?;
+    ensure!(
+        1 <= count && count <= MOST_STREAMS,
+        "from 1 to {MOST_STREAMS} megabytes"
+    );
+    Ok(count)
+}
+
+/// What was read, and how long it took.
+#[derive(Drop)]
+struct Reading<'s> {
+    streams: Vec<Stream<'s>>,
+    copied: Duration,
+    read: Duration,
+}
+
+/// Copies a container, and reads so many streams of the copy.
+fn read_copy<'s>(rt: &(impl Clock + AllocGlobal), file: &[u8], count: u32) -> Result<Reading<'s>>
+    ensures { IfOk result (λ r. AreFirst file.now count r.streams.items) }
+{
+    let start = Instant::now(rt)?;
+    let copy = Vec::from_slice(rt.alloc(), file)?;
+    let copied = start.elapsed(rt)?;
+    let start = Instant::now(rt)?;
+    let mut container = open_msf(rt.alloc(), copy)?;
+    let streams = all_streams(rt.alloc(), &mut container, count)?;
+    let read = start.elapsed(rt)?;
+    Ok(Reading {
+        streams,
+        copied,
+        read,
+    })
+}
+
+/// The first so many streams.
+#[tactic(auto, using(crate::proofs::First::first_none, crate::proofs::First::first_more))]
+fn all_streams<'s>(
+    alloc: Global,
+    container: &mut BigMSF<'s, Vec<u8>>,
+    count: u32,
+) -> pdb_container::Result<Vec<Stream<'s>>>
+    ensures { IfOk result (λ streams. AreFirst container.old.items count streams.items) }
+{
+    let mut streams = Vec::with_capacity(alloc, count as usize)?;
+    for number in 0..count {
+        streams.push(container.get(alloc, number, None)?)?;
+    }
+    Ok(streams)
+}
+
+/// Prints how many streams there are, how many bytes they have, and a number that stands for all of the bytes.
+fn print_streams(rt: &impl Print, streams: &[Stream]) -> io::Result<()> {
+    let mut size = 0u64;
+    let mut sum = 0u64;
+    for stream in streams {
+        size = size.saturating_add(stream.as_slice().len() as u64);
+        sum = checksum_on(sum, stream.as_slice());
+    }
+    println!(rt; "streams: {}", streams.len())?;
+    println!(rt; "bytes: {size}, checksum: {sum:016x}")
+}
+
+/// The checksum that goes on from one over more bytes: 31 times it and a byte, for each byte, modulo 2^64.
+fn checksum_on(sum: u64, bytes: &[u8]) -> u64 {
+    let mut sum = sum;
+    for byte in bytes {
+        sum = sum.wrapping_mul(31).wrapping_add(u64::from(*byte));
+    }
+    sum
+}
+
+/// Prints both times and their ratio, to the error output.
+fn print_times(rt: &impl Eprint, copied: Duration, read: Duration) -> io::Result<()> {
+    let copied = copied.as_secs_f64() * 1000.0;
+    let read = read.as_secs_f64() * 1000.0;
+    eprintln!(rt; "copied the file in {copied:.3} ms")?;
+    eprintln!(rt; "opened it and read all streams in {read:.3} ms")?;
+    eprintln!(rt; "ratio: {:.3}", read / copied)
+}
