@@ -14,6 +14,4 @@ mod rows;
 #[cfg(test)]
 mod runs;
 #[cfg(test)]
-mod sources;
-#[cfg(test)]
 mod streams;

@@ -1,0 +1,32 @@
+#!/usr/bin/env bash
+# Runs the tests with each allocation refused in turn: in run N each test's Nth allocation fails. The test
+# first_calls_in_ample_memory then fails by an error, as long as its calls have an Nth allocation; all other tests ask
+# again and pass. It ends well once that test passes too, and fails at another test's failure or at a failed assertion.
+# It proves nothing, no other check runs it, and each N takes about a minute. In this folder:
+#
+#   ./refused_allocations.sh [FIRST [LAST]]
+#
+# FIRST and LAST are the first and the last N, 1 and 100000 if left out.
+set -u
+cd "$(dirname "$0")"
+canary=layouts::first_calls_in_ample_memory
+for number in $(seq "${1:-1}" "${2:-100000}"); do
+    output=$(rt try --test --fail-alloc "$number" 2>&1)
+    if ! grep -q '^test result' <<< "$output"; then
+        echo "$output"
+        echo "allocation $number: the tests did not run"
+        exit 1
+    fi
+    if grep -qi 'assertion' <<< "$output" \
+        || grep '^test .* \.\.\. FAILED' <<< "$output" | grep -qv "^test $canary "; then
+        echo "$output"
+        echo "allocation $number: a test failed"
+        exit 1
+    fi
+    if grep -q "^test $canary \.\.\. ok" <<< "$output"; then
+        echo "allocation $number: not reached, all is well"
+        exit 0
+    fi
+    echo "allocation $number: refused, and asked again"
+done
+echo "not every allocation was refused"
