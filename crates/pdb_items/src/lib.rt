@@ -1,6 +1,12 @@
 //! Records of types and ids: their tables, and what each record says.
 #![tactic(auto)]
 
+mod header;
 mod index;
+mod item;
+mod item_iter;
+mod item_list;
 
-pub use index::{IdIndex, Local, TypeIndex};
+pub use index::{IdIndex, ItemIndex, Local, TypeIndex};
+pub use item::Item;
+pub use item_iter::ItemIter;

@@ -1,0 +1,80 @@
+-- What is known of an iterator and of a finder, and what they answer.
+use Rattle.std.specs.Prelude.{◌≡◌, ℕ, ◌+◌, ◌-◌, ◌*◌, ◌^◌, ◌<◌, ◌≤◌, List, length, drop, min, Bool, true, false, nat_lt, ◌==◌, ◌||◌, if◌then◌else◌, Option, Some, None, Result, Ok, Err}
+use Rattle.std.specs.List.{slice_index}
+use Rattle.pdb_container.specs.Fault.{Fault, TypeNotIndexed}
+use Rattle.pdb_items.specs.Items.{Table, item_number, items_of, item_at, past_list}
+use Rattle.pdb_items.specs.declared.item_iter.Progress.{Progress}
+use Rattle.pdb_items.specs.declared.item_iter.Progress.TheVariants as progress
+
+-- ---- an iterator
+
+-- a table that is gone over: the index of the next item, and whether an end was answered
+pub record Iteration : Type 0 where
+  pub table : Table
+  pub index : ℕ
+  pub progress : Progress
+
+-- what is answered next; after an end nothing
+abbrev pub answer_at : Progress → Table → ℕ → Result (Option (List ℕ)) Fault
+answer_at progress.Reading t index = item_number (items_of t) (index - t.minimum)
+answer_at progress.Ended t index = Ok None
+answer_at progress.Failed t index = Ok None
+
+abbrev pub next_answer : Iteration → Result (Option (List ℕ)) Fault
+next_answer it = answer_at it.progress it.table it.index
+
+-- an end that is answered, where none was before
+abbrev pub at_end : Progress → Progress
+at_end progress.Reading = progress.Ended
+at_end progress.Ended = progress.Ended
+at_end progress.Failed = progress.Failed
+
+-- what is known behind an answer
+abbrev pub behind_answer : Iteration → Result (Option (List ℕ)) Fault → Iteration
+behind_answer it (Ok (Some item)) = record it { index = it.index + 1 }
+behind_answer it (Ok None) = record it { progress = at_end it.progress }
+behind_answer it (Err e) = record it { progress = progress.Failed }
+
+-- whether nothing more is answered
+abbrev pub HasEnded : Progress → Type 0
+HasEnded progress.Reading = ⊥
+HasEnded progress.Ended = Unit {0}
+HasEnded progress.Failed = Unit {0}
+
+-- whether the list ended well
+abbrev pub ended_well : Progress → Bool
+ended_well progress.Reading = false
+ended_well progress.Ended = true
+ended_well progress.Failed = false
+
+-- ---- a finder
+
+-- a table, how many of its blocks of eight indices are known, and whether the end of its list is known
+pub record Finding : Type 0 where
+  pub table : Table
+  pub blocks : ℕ
+  pub is_end_known : Bool
+
+-- the first index past the known blocks; below it lie these blocks and all indices below the table's
+abbrev pub first_unknown : Finding → ℕ
+first_unknown f = f.table.minimum + 8 * f.blocks
+
+-- the last index of the known blocks
+abbrev pub last_known : Finding → ℕ
+last_known f = min (first_unknown f - 1) (2 ^ 32 - 1)
+
+-- the first index past the list, where it is known
+abbrev pub known_end : Finding → Option ℕ
+known_end f = if f.is_end_known then Some (past_list f.table) else None
+
+-- what is known once an iterator was shown
+abbrev pub shown : Iteration → Finding → Finding
+shown it f = record {
+    table = f.table;
+    blocks = if it.index == first_unknown f then f.blocks + 1 else f.blocks;
+    is_end_known = f.is_end_known || ended_well it.progress;
+  }
+
+-- the bytes of the item of an index, or the fault
+unfoldable pub find_in : Finding → ℕ → Result (List ℕ) Fault
+find_in f index = if nat_lt index (first_unknown f) then item_at f.table index else Err (TypeNotIndexed index (first_unknown f))
