@@ -14,6 +14,9 @@ pub record Iteration : Type 0 where
   pub index : ℕ
   pub progress : Progress
 
+abbrev pub fresh_iteration : Table → Iteration
+fresh_iteration t = record { table = t; index = t.minimum; progress = progress.Reading }
+
 -- what is answered next; after an end nothing
 abbrev pub answer_at : Progress → Table → ℕ → Result (Option (List ℕ)) Fault
 answer_at progress.Reading t index = item_number (items_of t) (index - t.minimum)
@@ -47,6 +50,10 @@ ended_well progress.Reading = false
 ended_well progress.Ended = true
 ended_well progress.Failed = false
 
+-- the first index past the list, where a good end was answered
+abbrev pub end_of : Iteration → Option ℕ
+end_of it = if ended_well it.progress then Some (past_list it.table) else None
+
 -- ---- a finder
 
 -- a table, how many of its blocks of eight indices are known, and whether the end of its list is known
@@ -54,6 +61,10 @@ pub record Finding : Type 0 where
   pub table : Table
   pub blocks : ℕ
   pub is_end_known : Bool
+
+-- the first block is known at once
+abbrev pub fresh_finding : Table → Finding
+fresh_finding t = record { table = t; blocks = 1; is_end_known = false }
 
 -- the first index past the known blocks; below it lie these blocks and all indices below the table's
 abbrev pub first_unknown : Finding → ℕ

@@ -1,5 +1,5 @@
 -- How items are reached: what the code keeps of a table, and what one step gives.
-use Rattle.std.specs.Prelude.{◌≡◌, ℕ, ◌+◌, ◌-◌, ◌*◌, ◌^◌, ◌<◌, ◌≤◌, List, length, drop, Bool, true, false, Option, Some, None, Result, Ok, Err, IfSome}
+use Rattle.std.specs.Prelude.{◌≡◌, ℕ, ◌+◌, ◌-◌, ◌*◌, ◌/◌, ◌^◌, ◌<◌, ◌≤◌, List, length, drop, Bool, true, false, Option, Some, None, Result, Ok, Err, IfSome}
 use Rattle.std.specs.List.{slice_index}
 use Rattle.pdb_container.specs.Buffer.{Buffer, rest}
 use Rattle.pdb_container.specs.Fault.{fault_of, IsOfBytes}
@@ -31,10 +31,28 @@ abbrev pub IsRightEnd : Bool → ℕ → Table → Type 0
 IsRightEnd true index t = index ≡ past_list t
 IsRightEnd false index t = Unit {0}
 
--- A block's place in the bytes is before its first item.
-abbrev pub IsPlace : Table → ℕ → ℕ → Type 0
-IsPlace t block place = (place ≤ length t.bytes) × IsBefore t (t.minimum + 8 * block) (drop place t.bytes)
+-- A place in the bytes is before the item of an index.
+abbrev pub IsPlaceAt : Table → ℕ → ℕ → Type 0
+IsPlaceAt t index place = (place ≤ length t.bytes) × IsBefore t index (drop place t.bytes)
 
 -- Places of the known blocks.
 abbrev pub ArePlaces : Table → List ℕ → ℕ → Type 0
-ArePlaces t places blocks = (k : ℕ) → k < blocks → IsPlace t k (slice_index places k)
+ArePlaces t places blocks = (k : ℕ) → k < blocks → IsPlaceAt t (t.minimum + 8 * k) (slice_index places k)
+
+-- An end that is known is the list's.
+abbrev pub IsEnd : Table → Option ℕ → Type 0
+IsEnd t (Some end) = end ≡ past_list t
+IsEnd t None = Unit {0}
+
+-- what a finder keeps of its table: places, with room for those of all blocks, and the end
+pub record IsKept (t : Table) (places : List ℕ) (blocks : ℕ) (end : Option ℕ) : Type 0 where
+  pub some : 1 ≤ blocks
+  pub room : length places ≡ length t.bytes / 32 + 1
+  pub within : blocks ≤ length places
+  pub known : ArePlaces t places blocks
+  pub right : IsEnd t end
+
+-- what is seen of an item that may be there
+abbrev pub seen : {X : Type 0} → (X → List ℕ) → Option X → Option (List ℕ)
+seen view (Some x) = Some (view x)
+seen view None = None

@@ -4,7 +4,9 @@ ghost use Rattle.std.specs.Prelude.{◌≡◌, length};
 ghost use Rattle.pdb_container.specs.Fault.{Parses};
 ghost use Rattle.pdb_container.specs.Buffer.{rest};
 ghost use Rattle.pdb_items.specs.Item.{found_bytes, HasIndex};
-ghost use Rattle.pdb_items.specs.Tables.{HasEnded, next_answer, behind_answer};
+ghost use Rattle.pdb_items.specs.Items.{table_in};
+ghost use Rattle.pdb_items.specs.Walking.{IsPlaceAt};
+ghost use Rattle.pdb_items.specs.Tables.{fresh_iteration, end_of, HasEnded, next_answer, behind_answer};
 
 use crate::header::Header;
 use crate::index::ItemIndex;
@@ -47,6 +49,48 @@ impl<'t, I> Model for ItemIter<'t, I> {
 
     ghost invariant = { λ it. IsBefore (table_in it.header it.buffer.bytes) it.index (rest it.buffer)
         × IsRightEnd (ended_well it.progress) it.index (table_in it.header it.buffer.bytes) };
+}
+
+impl<'t, I> ItemIter<'t, I> {
+    /// The items that these bytes hold, by this header.
+    #[tactic(auto, using(crate::proofs::Walks::before_first))]
+    pub(crate) fn over(header: Header, items: &'t [u8]) -> ItemIter<'t, I>
+        ensures { result ≡ fresh_iteration (table_in header items.now) }
+    {
+        let index = header.minimum_index;
+        ItemIter {
+            header,
+            buffer: ParseBuffer::from(items),
+            index,
+            progress: Progress::Reading,
+            of: PhantomData,
+        }
+    }
+
+    /// The index of the next item.
+    pub(crate) fn next_index(&self) -> u32
+        ensures { result ≡ self.now.index }
+    {
+        self.index
+    }
+
+    /// The place of the next item in the bytes of the items.
+    #[tactic(auto, unfolding(pdb_container::specs::Buffer::rest))]
+    pub(crate) fn place(&self) -> usize
+        ensures { IsPlaceAt self.now.table self.now.index result }
+    {
+        self.buffer.pos()
+    }
+
+    /// The first index past the list, once `None` was answered at a good end.
+    pub(crate) fn end(&self) -> Option<u32>
+        ensures { result ≡ end_of self.now }
+    {
+        match self.progress {
+            Progress::Ended => Some(self.index),
+            _ => None,
+        }
+    }
 }
 
 impl<'t, I: ItemIndex> FallibleIterator for ItemIter<'t, I> {

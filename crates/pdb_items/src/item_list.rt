@@ -1,9 +1,10 @@
 //! Items, one behind the other.
 
-ghost use Rattle.std.specs.Prelude.{◌≡◌, ◌+◌, ◌^◌, ◌<◌, ◌≤◌, length, IfOk};
+ghost use Rattle.std.specs.Prelude.{◌≡◌, ◌+◌, ◌^◌, ◌<◌, ◌≤◌, length, drop};
 ghost use Rattle.pdb_container.specs.Buffer.{rest, ReadsOn};
-ghost use Rattle.pdb_items.specs.Items.{piece_at};
-ghost use Rattle.pdb_items.specs.Walking.{Steps};
+ghost use Rattle.pdb_container.specs.Fault.{Parses};
+ghost use Rattle.pdb_items.specs.Items.{piece_at, items_from, item_number};
+ghost use Rattle.pdb_items.specs.Walking.{Steps, seen};
 
 use pdb_container::{Error, ParseBuffer, Result};
 
@@ -38,4 +39,32 @@ pub fn next_piece<'b>(buffer: &mut ParseBuffer<'b>, index: u32) -> Result<Option
             Err(fault)
         }
     }
+}
+
+/// The item so many items behind the first, whose index is `first`, and how many lengths were read for it.
+#[tactic(auto, using(crate::proofs::Walks::walk_start, crate::proofs::Walks::walk_more, crate::proofs::Walks::walk_end, crate::proofs::Walks::walk_fault, crate::proofs::Walks::walk_last))]
+pub fn walk<'b>(bytes: &'b [u8], first: u32, skip: u32) -> (Result<Option<&'b [u8]>>, u32)
+    requires fits { first + skip < 2 ^ 32 }
+    requires short { skip < 8 }
+    ensures item { Parses (seen (λ piece. piece.now)) result.0 (item_number (items_from first bytes.now) skip) }
+    ensures lengths { result.1 ≤ skip + 1 }
+    ensures few { result.1 ≤ 8 }
+{
+    let mut buffer = ParseBuffer::from(bytes);
+    for passed in 0..skip {
+        match next_piece(&mut buffer, first + passed) {
+            Ok(Some(_)) => {}
+            Ok(None) => return (Ok(None), passed + 1),
+            Err(fault) => return (Err(fault), passed + 1),
+        }
+    }
+    (next_piece(&mut buffer, first + skip), skip + 1)
+}
+
+/// The bytes from a place on.
+pub fn behind(bytes: &[u8], place: usize) -> &[u8]
+    requires { place ≤ length bytes.now }
+    ensures { result.now ≡ drop place bytes.now }
+{
+    &bytes[place..]
 }
