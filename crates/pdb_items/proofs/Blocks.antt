@@ -17,12 +17,12 @@ first_place t fits k place none start =
 
 pub kept_start : (t : Table) (n : ℕ) → t.minimum < 2 ^ 32 → n ≡ length t.bytes / 32 + 1 → IsKept t (replicate n 0) 1 None
 kept_start t n fits size = record {
-    some = omega arith;
-    room = length-replicate {A = ℕ} n 0 ∙ size;
-    within = rw (length-replicate {A = ℕ} n 0) (omega arith);
-    known = λ k lt. first_place t fits k (get_or (replicate n 0) k 0) (omega arith) (get_or-replicate n k 0 0 (omega arith));
-    right = tt;
-  }
+  some = omega arith;
+  room = length-replicate {A = ℕ} n 0 ∙ size;
+  within = rw (length-replicate {A = ℕ} n 0) (omega arith);
+  known = λ k lt. first_place t fits k (get_or (replicate n 0) k 0) (omega arith) (get_or-replicate n k 0 0 (omega arith));
+  right = tt;
+}
 
 -- each item takes four bytes, so that a block that is behind the known ones has room
 pub room_left : (t : Table) (places : List ℕ) (blocks place : ℕ) (end : Option ℕ) → IsKept t places blocks end → IsPlaceAt t (t.minimum + 8 * blocks) place → blocks < length places
@@ -35,13 +35,13 @@ pub kept_more : (t : Table) (places : List ℕ) (blocks place : ℕ) (end : Opti
 kept_more t places blocks place end kept here =
     let lt = room_left t places blocks place end kept here in
     record {
-        some = omega arith;
-        room = length-set places blocks place ∙ kept.room;
-        within = rw (length-set places blocks place) (omega arith);
-        known = below_more (λ (k : ℕ). IsPlaceAt t (t.minimum + 8 * k) (get_or (set places blocks place) k 0)) blocks
-        (λ k h. let ne : k ≢ blocks = omega arith in rw (get_or-set_other places blocks k place 0 ne) (kept.known k h))
-        (rw (get_or-set_same places blocks place 0 lt) here);
-        right = kept.right;
+      some = omega arith;
+      room = length-set places blocks place ∙ kept.room;
+      within = rw (length-set places blocks place) (omega arith);
+      known = below_more (λ (k : ℕ). IsPlaceAt t (t.minimum + 8 * k) (get_or (set places blocks place) k 0)) blocks
+          (λ k h. let ne : k ≢ blocks = omega arith in rw (get_or-set_other places blocks k place 0 ne) (kept.known k h))
+          (rw (get_or-set_same places blocks place 0 lt) here);
+      right = kept.right;
     }
 
 -- ---- an item of a known block

@@ -54,6 +54,7 @@ in_full bytes left item n others read more =
 pub piece_takes : (bytes left item : List ℕ) → piece_at bytes ≡ Ok (item, left) → 4 + length left ≤ length bytes
 unfolding piece_at
 piece_takes bytes left item =
-    elim (number_at w16 bytes) as (λ (r : Result (ℕ × List ℕ) Fault). number_at w16 bytes ≡ r → (r >>= λ size. refuse (nat_lt size.0 2) TypeTooShort >>= λ long. bytes_of size.0 size.1) ≡ Ok (item, left) → 4 + length left ≤ length bytes)
-    [ Ok size ↦ λ read more. in_full bytes left item size.0 size.1 read more
-    | Err e ↦ λ read more. absurd (cc) ] refl
+    elim (number_at w16 bytes) as (λ (r : Result (ℕ × List ℕ) Fault). number_at w16 bytes ≡ r → (r >>= λ size. refuse (nat_lt size.0 2) TypeTooShort >>= λ long. bytes_of size.0 size.1) ≡ Ok (item, left) → 4 + length left ≤ length bytes) [
+      | Ok size ↦ λ read more. in_full bytes left item size.0 size.1 read more
+      | Err e ↦ λ read more. absurd (cc)
+    ] refl

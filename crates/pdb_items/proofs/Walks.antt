@@ -69,11 +69,11 @@ before_next t index left others item here first free takes =
     let f = ap (λ (l : ItemList). l.fault) (here.list ∙ first) in
     let some = e.1 in
     record {
-        low = omega arith;
-        high = free;
-        within = omega arith;
-        far = omega arith;
-        list = rw (next, e.0, f) refl;
+      low = omega arith;
+      high = free;
+      within = omega arith;
+      far = omega arith;
+      list = rw (next, e.0, f) refl;
     }
 
 -- the same place in the same bytes

@@ -32,11 +32,21 @@ at_end progress.Reading = progress.Ended
 at_end progress.Ended = progress.Ended
 at_end progress.Failed = progress.Failed
 
+-- the index of the next item behind an answer
+abbrev pub index_behind : ℕ → Result (Option (List ℕ)) Fault → ℕ
+index_behind index (Ok (Some item)) = index + 1
+index_behind index (Ok None) = index
+index_behind index (Err e) = index
+
+-- the progress behind an answer
+abbrev pub progress_behind : Progress → Result (Option (List ℕ)) Fault → Progress
+progress_behind p (Ok (Some item)) = p
+progress_behind p (Ok None) = at_end p
+progress_behind p (Err e) = progress.Failed
+
 -- what is known behind an answer
 abbrev pub behind_answer : Iteration → Result (Option (List ℕ)) Fault → Iteration
-behind_answer it (Ok (Some item)) = record it { index = it.index + 1 }
-behind_answer it (Ok None) = record it { progress = at_end it.progress }
-behind_answer it (Err e) = record it { progress = progress.Failed }
+behind_answer it answer = record { table = it.table; index = index_behind it.index answer; progress = progress_behind it.progress answer }
 
 -- whether nothing more is answered
 abbrev pub HasEnded : Progress → Type 0
@@ -81,10 +91,10 @@ known_end f = if f.is_end_known then Some (past_list f.table) else None
 -- what is known once an iterator was shown
 abbrev pub shown : Iteration → Finding → Finding
 shown it f = record {
-    table = f.table;
-    blocks = if it.index == first_unknown f then f.blocks + 1 else f.blocks;
-    is_end_known = f.is_end_known || ended_well it.progress;
-  }
+  table = f.table;
+  blocks = if it.index == first_unknown f then f.blocks + 1 else f.blocks;
+  is_end_known = f.is_end_known || ended_well it.progress;
+}
 
 -- the bytes of the item of an index, or the fault
 unfoldable pub find_in : Finding → ℕ → Result (List ℕ) Fault

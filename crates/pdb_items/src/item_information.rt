@@ -106,7 +106,10 @@ impl<'s, I: ItemIndex> ItemInformation<'s, I> {
     pub fn iter(&self) -> ItemIter<'_, I>
         ensures { result ≡ fresh_iteration self.now }
     {
-        ItemIter::over(self.header, &self.stream.as_slice()[self.header.header_size as usize..])
+        ItemIter::over(
+            self.header,
+            &self.stream.as_slice()[self.header.header_size as usize..],
+        )
     }
 
     /// A finder of the items by their indices, with room for all that it will know.
@@ -117,6 +120,10 @@ impl<'s, I: ItemIndex> ItemInformation<'s, I> {
         ensures fresh { IfOk result (λ f. f ≡ fresh_finding self.now) }
         ensures memory { IsOkUnless result Error.OutOfMemory }
     {
-        ItemFinder::over(alloc, self.header, &self.stream.as_slice()[self.header.header_size as usize..])
+        ItemFinder::over(
+            alloc,
+            self.header,
+            &self.stream.as_slice()[self.header.header_size as usize..],
+        )
     }
 }

@@ -95,6 +95,7 @@ impl<'t, I> ItemIter<'t, I> {
 
 impl<'t, I: ItemIndex> FallibleIterator for ItemIter<'t, I> {
     type Item = Item<'t, I>;
+
     type Error = Error;
 
     ghost has_ended = { λ it. HasEnded it.progress };

@@ -8,6 +8,8 @@ mod item_finder;
 mod item_information;
 mod item_iter;
 mod item_list;
+#[cfg(test)]
+mod item_tests;
 
 pub use index::{IdIndex, ItemIndex, Local, TypeIndex};
 pub use item::Item;
