@@ -1,12 +1,11 @@
 -- Blocks of eight indices, whose places a finder keeps.
-use Rattle.std.proofs.Common.{◌≡◌, ◌≢◌, ℕ, zero, suc, ◌+◌, ◌-◌, ◌*◌, ◌/◌, ◌%◌, ◌^◌, ◌<◌, ◌≤◌, List, [], ◌∷◌, length, drop, get_or, Option, Some, None, Result, Ok, Err, refl, sym, subst, ap, ◌∙◌, arith, rules, below_more, get_or-set_other, get_or-set_same, length-set}
+use Rattle.std.proofs.Common.{◌≡◌, ◌≢◌, ℕ, zero, suc, ◌+◌, ◌-◌, ◌*◌, ◌/◌, ◌%◌, ◌^◌, ◌<◌, ◌≤◌, List, [], ◌∷◌, length, drop, get_or, Option, None, refl, sym, ap, ◌∙◌, arith, below_more, get_or-set_other, get_or-set_same, length-set}
 use Rattle.std.proofs.Math.ListN.{replicate, set, length-replicate}
-use Rattle.std.proofs.lemmas.List.{length-drop, get_or-replicate}
+use Rattle.std.proofs.lemmas.List.{get_or-replicate}
 use Rattle.std.proofs.lemmas.Grind.{get_or_default_zero}
 use Rattle.std.specs.List.{slice_get}
-use Rattle.pdb_container.specs.Fault.{Fault}
-use Rattle.pdb_items.specs.Items.{Table, ItemList, items_from, items_of, item_number, item_or_end, past_list}
-use Rattle.pdb_items.specs.Walking.{items_behind, IsBefore, IsPlaceAt, ArePlaces, IsEnd, IsKept}
+use Rattle.pdb_items.specs.Items.{Table, ItemList, items_from, items_of, item_number, item_or_end}
+use Rattle.pdb_items.specs.Walking.{items_behind, IsPlaceAt, IsKept}
 use Rattle.pdb_items.proofs.Walks.{before_start}
 
 -- the first block's place is 0

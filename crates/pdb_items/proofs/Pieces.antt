@@ -1,10 +1,10 @@
 -- Items, one behind the other, as they are read.
-use Rattle.std.proofs.Common.{◌≡◌, ◌≢◌, ℕ, zero, suc, ◌+◌, ◌-◌, ◌^◌, ◌<◌, ◌≤◌, List, [], ◌∷◌, length, drop, take, Option, Some, None, Result, Ok, Err, refl, sym, ap, ◌∙◌, arith, length-drop, ltb}
-use Rattle.std.specs.Prelude.{codes, nat_lt, cond, true, false, Bool}
-use Rattle.std.specs.Int.{w16, from_le_bytes, byte_len}
-use Rattle.pdb_container.specs.Fault.{Fault, InvalidTypeInformationHeader, UnexpectedEof, TypeTooShort, ◌>>=◌, refuse}
+use Rattle.std.proofs.Common.{◌≡◌, ◌≢◌, ℕ, suc, ◌+◌, ◌-◌, ◌^◌, ◌<◌, ◌≤◌, List, [], ◌∷◌, length, Some, None, Result, Ok, Err, refl, ap, ◌∙◌, arith, length-drop}
+use Rattle.std.specs.Prelude.{codes, nat_lt}
+use Rattle.std.specs.Int.{w16}
+use Rattle.pdb_container.specs.Fault.{Fault, InvalidTypeInformationHeader, TypeTooShort, ◌>>=◌, refuse}
 use Rattle.pdb_container.specs.Fields.{number_at, bytes_of}
-use Rattle.pdb_items.specs.Items.{ItemList, piece_at, followed, before, ending, items_within, items_from}
+use Rattle.pdb_items.specs.Items.{piece_at, followed, before, ending, items_within, items_from}
 
 pub items_end : (index : ℕ) (bytes : List ℕ) → length bytes ≡ 0 → items_from index bytes ≡ ending None
 unfolding items_from items_within

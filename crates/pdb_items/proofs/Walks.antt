@@ -1,5 +1,5 @@
 -- A place in the bytes of a table, and the items from there on.
-use Rattle.std.proofs.Common.{◌≡◌, ◌≢◌, ℕ, zero, suc, ◌+◌, ◌-◌, ◌*◌, ◌^◌, ◌<◌, ◌≤◌, List, [], ◌∷◌, length, drop, Option, Some, None, Result, Ok, Err, refl, sym, subst, ap, ◌∙◌, arith, rules}
+use Rattle.std.proofs.Common.{◌≡◌, ℕ, zero, suc, ◌+◌, ◌-◌, ◌^◌, ◌<◌, ◌≤◌, List, [], ◌∷◌, length, drop, Option, Some, None, Result, Ok, Err, refl, sym, subst, ap, ◌∙◌, arith}
 use Rattle.std.proofs.lemmas.List.{length-drop, drop_more}
 use Rattle.std.specs.List.{slice_get}
 use Rattle.pdb_container.specs.Fault.{Fault, Parses, fault_of}
@@ -7,7 +7,7 @@ use Rattle.pdb_container.specs.Buffer.{Buffer, rest}
 use Rattle.pdb_container.specs.declared.error.Error.{Error}
 use Rattle.pdb_items.specs.Items.{Table, table_in, ItemList, before, ending, items_from, items_of, item_number, item_or_end, past_list}
 use Rattle.pdb_items.specs.declared.header.Header.{Header}
-use Rattle.pdb_items.specs.Walking.{items_behind, IsBefore, Steps, seen}
+use Rattle.pdb_items.specs.Walking.{IsBefore, Steps, seen}
 
 number_behind : (xs : List (List ℕ)) (n : ℕ) → slice_get xs n ≡ slice_get (drop n xs) 0
 number_behind [] zero = refl

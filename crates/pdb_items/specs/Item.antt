@@ -1,5 +1,5 @@
 -- An item as the definitions see it.
-use Rattle.std.specs.Prelude.{◌≡◌, ℕ, List, Option, Some, None, Result, Ok, Err, IfOk, IfSome, option_map}
+use Rattle.std.specs.Prelude.{◌≡◌, ℕ, List, Option, Some, None, Result, IfOk, IfSome}
 use Rattle.pdb_container.specs.declared.error.Error.{Error}
 use Rattle.pdb_items.specs.declared.item.Item.{Item}
 

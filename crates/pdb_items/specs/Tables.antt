@@ -1,6 +1,5 @@
 -- What is known of an iterator and of a finder, and what they answer.
-use Rattle.std.specs.Prelude.{◌≡◌, ℕ, ◌+◌, ◌-◌, ◌*◌, ◌^◌, ◌<◌, ◌≤◌, List, length, drop, min, Bool, true, false, nat_lt, ◌==◌, ◌||◌, if◌then◌else◌, Option, Some, None, Result, Ok, Err}
-use Rattle.std.specs.List.{slice_index}
+use Rattle.std.specs.Prelude.{ℕ, ◌+◌, ◌-◌, ◌*◌, ◌^◌, List, min, Bool, true, false, nat_lt, ◌==◌, ◌||◌, if◌then◌else◌, Option, Some, None, Result, Ok, Err}
 use Rattle.pdb_container.specs.Fault.{Fault, TypeNotIndexed}
 use Rattle.pdb_items.specs.Items.{Table, item_number, items_of, item_at, past_list}
 use Rattle.pdb_items.specs.declared.item_iter.Progress.{Progress}

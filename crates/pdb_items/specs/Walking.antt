@@ -1,11 +1,10 @@
 -- How items are reached: what the code keeps of a table, and what one step gives.
-use Rattle.std.specs.Prelude.{◌≡◌, ℕ, ◌+◌, ◌-◌, ◌*◌, ◌/◌, ◌^◌, ◌<◌, ◌≤◌, List, length, drop, Bool, true, false, Option, Some, None, Result, Ok, Err, IfSome}
+use Rattle.std.specs.Prelude.{◌≡◌, ℕ, ◌+◌, ◌-◌, ◌*◌, ◌/◌, ◌^◌, ◌<◌, ◌≤◌, List, length, drop, Bool, true, false, Option, Some, None, Result, Ok, Err}
 use Rattle.std.specs.List.{slice_index}
 use Rattle.pdb_container.specs.Buffer.{Buffer, rest}
 use Rattle.pdb_container.specs.Fault.{fault_of, IsOfBytes}
 use Rattle.pdb_container.specs.declared.error.Error.{Error}
 use Rattle.pdb_items.specs.Items.{Table, ItemList, items_from, items_of, before, ending, past_list}
-use Rattle.pdb_items.specs.Tables.{Iteration, ended_well}
 
 -- the list behind so many items
 abbrev pub items_behind : ℕ → ItemList → ItemList

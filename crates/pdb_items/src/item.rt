@@ -29,14 +29,14 @@ impl<'t, I: ItemIndex> Item<'t, I> {
     pub fn len(&self) -> usize
         ensures { result ≡ length (item_bytes self.now) }
     {
-        self.bytes.len()
+        self.raw_bytes().len()
     }
 
     /// Whether there is no byte.
     pub fn is_empty(&self) -> bool
         ensures { result ≡ (length (item_bytes self.now) == 0) }
     {
-        self.bytes.is_empty()
+        self.raw_bytes().is_empty()
     }
 
     /// The bytes.
@@ -50,6 +50,6 @@ impl<'t, I: ItemIndex> Item<'t, I> {
     pub fn raw_kind(&self) -> Result<u16>
         ensures { Parses (λ leaf. leaf) result (peeked (number_at w16) (item_bytes self.now)) }
     {
-        ParseBuffer::from(self.bytes).peek_u16()
+        ParseBuffer::from(self.raw_bytes()).peek_u16()
     }
 }

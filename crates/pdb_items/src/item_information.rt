@@ -10,6 +10,7 @@ use crate::index::{IdIndex, ItemIndex, TypeIndex};
 use crate::item::Item;
 use crate::item_finder::ItemFinder;
 use crate::item_iter::ItemIter;
+use crate::item_list::behind;
 use pdb_container::{Error, Result, Stream};
 use std::alloc::Global;
 use std::marker::{Model, PhantomData};
@@ -106,10 +107,7 @@ impl<'s, I: ItemIndex> ItemInformation<'s, I> {
     pub fn iter(&self) -> ItemIter<'_, I>
         ensures { result ≡ fresh_iteration self.now }
     {
-        ItemIter::over(
-            self.header,
-            &self.stream.as_slice()[self.header.header_size as usize..],
-        )
+        ItemIter::over(self.header, self.items())
     }
 
     /// A finder of the items by their indices, with room for all that it will know.
@@ -120,10 +118,13 @@ impl<'s, I: ItemIndex> ItemInformation<'s, I> {
         ensures fresh { IfOk result (λ f. f ≡ fresh_finding self.now) }
         ensures memory { IsOkUnless result Error.OutOfMemory }
     {
-        ItemFinder::over(
-            alloc,
-            self.header,
-            &self.stream.as_slice()[self.header.header_size as usize..],
-        )
+        ItemFinder::over(alloc, self.header, self.items())
+    }
+
+    /// The bytes behind the header.
+    fn items(&self) -> &[u8]
+        ensures { result.now ≡ self.now.bytes }
+    {
+        behind(self.stream.as_slice(), self.header.header_size as usize)
     }
 }

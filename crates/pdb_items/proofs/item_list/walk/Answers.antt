@@ -1,4 +1,4 @@
-use Rattle.std.proofs.Common.{◌≡◌, ◌<◌, sym, ◌∙◌, arith}
+use Rattle.std.proofs.Common.{◌<◌, sym, ◌∙◌, arith}
 use Rattle.pdb_items.proofs.Walks.{walk_more, walk_fault}
 use Rattle.pdb_items.proofs.item_list.walk.Goals as goal
 

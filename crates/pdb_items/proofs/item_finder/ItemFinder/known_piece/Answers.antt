@@ -1,4 +1,4 @@
-use Rattle.std.proofs.Common.{◌≡◌, List, ℕ, Option, Result, subst}
+use Rattle.std.proofs.Common.{List, ℕ, Option, Result, subst}
 use Rattle.pdb_container.specs.Fault.{Fault, Parses}
 use Rattle.pdb_items.specs.Walking.{seen}
 use Rattle.pdb_items.proofs.Blocks.{known_number}

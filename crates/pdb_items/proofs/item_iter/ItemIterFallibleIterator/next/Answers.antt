@@ -1,4 +1,4 @@
-use Rattle.std.proofs.Common.{rules, ◌≡◌, refl, arith}
+use Rattle.std.proofs.Common.{refl, arith}
 use Rattle.pdb_items.proofs.Walks.{before_next, before_in, end_here, number_here, number_fault}
 use Rattle.pdb_items.proofs.item_iter.ItemIterFallibleIterator.next.Goals as goal
 
