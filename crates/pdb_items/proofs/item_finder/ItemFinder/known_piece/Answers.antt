@@ -1,0 +1,12 @@
+use Rattle.std.proofs.Common.{List, ℕ, Option, Result, subst}
+use Rattle.pdb_container.specs.Fault.{Fault, Parses}
+use Rattle.pdb_items.specs.Walking.{seen}
+use Rattle.pdb_items.proofs.Blocks.{known_number}
+use Rattle.pdb_items.proofs.item_finder.ItemFinder.known_piece.Goals as goal
+
+pub returns : goal.returns
+returns g c =
+    let low = rw (← c.self.view_is) at c.requires.low in
+    let known = rw (← c.self.view_is) at c.requires.known in
+    let e = known_number _ _ _ _ c.args.index c.index-place.result.now c.self.invariant low known c.index-place.ensures in
+    rw (← c.self.view_is) (subst (λ (read : Result (Option (List ℕ)) Fault). Parses (seen (λ piece. piece.now)) c.walk.result.0 read) e (rw c.behind.ensures at c.walk.ensures.item))

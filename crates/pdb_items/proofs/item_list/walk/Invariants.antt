@@ -1,0 +1,7 @@
+use Rattle.std.proofs.Common.{◌≡◌, ◌+◌, ◌-◌}
+use Rattle.pdb_container.specs.Buffer.{rest}
+use Rattle.pdb_items.specs.Items.{item_number, items_from}
+use Rattle.pdb_items.proofs.item_list.walk.Given as goal
+
+abbrev pub invariant-loop-passed : goal.invariant-loop-passed
+invariant-loop-passed l = item_number (items_from (l.first + l.passed) (rest l.buffer)) (l.skip - l.passed) ≡ item_number (items_from l.first l.bytes) l.skip

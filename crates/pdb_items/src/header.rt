@@ -1,0 +1,78 @@
+//! The header of types and of ids.
+
+ghost use Rattle.std.specs.Prelude.{◌≡◌, ◌≤◌, length, IfOk};
+ghost use Rattle.pdb_container.specs.Buffer.{ReadsOn};
+ghost use Rattle.pdb_container.specs.Fault.{Parses};
+ghost use Rattle.pdb_items.specs.Items.{header_at, fitting_header, item_header_of};
+
+use pdb_container::{Error, ParseBuffer, Result};
+
+/// The header's own size in bytes, the first index of the table, and the first past the table.
+#[derive(Clone, Copy, Debug)]
+pub struct Header {
+    pub header_size: u32,
+    pub minimum_index: u32,
+    pub maximum_index: u32,
+}
+
+/// The header of a stream of items; an empty stream is a table without indices. `UnexpectedEof`,
+/// `InvalidTypeInformationHeader`.
+#[tactic(auto, unfolding(crate::specs::Items::item_header_of))]
+pub fn parse_header(bytes: &[u8]) -> Result<Header>
+    ensures header { Parses (λ h. h) result (item_header_of bytes.now) }
+    ensures there { IfOk result (λ h. h.header_size ≤ length bytes.now) }
+    ensures ordered { IfOk result (λ h. h.minimum_index ≤ h.maximum_index) }
+{
+    if bytes.is_empty() {
+        return Ok(Header {
+            header_size: 0,
+            minimum_index: 0,
+            maximum_index: 0,
+        });
+    }
+    let header = read_fields(&mut ParseBuffer::from(bytes))?;
+    fit(bytes.len(), header)
+}
+
+#[tactic(auto, unfolding(crate::specs::Items::header_at))]
+fn read_fields(buffer: &mut ParseBuffer<'_>) -> Result<Header>
+    ensures { ReadsOn (λ h. h) result buffer.old buffer.new header_at }
+{
+    let _version = buffer.parse_u32()?;
+    let header_size = buffer.parse_u32()?;
+    let minimum_index = buffer.parse_u32()?;
+    let maximum_index = buffer.parse_u32()?;
+    buffer.take(40)?;
+    Ok(Header {
+        header_size,
+        minimum_index,
+        maximum_index,
+    })
+}
+
+/// The header, if it fits a stream of `len` bytes.
+#[tactic(auto, unfolding(crate::specs::Items::fitting_header))]
+fn fit(len: usize, header: Header) -> Result<Header>
+    ensures header { Parses (λ h. h) result (fitting_header len header) }
+    ensures there { IfOk result (λ h. h.header_size ≤ len) }
+    ensures ordered { IfOk result (λ h. h.minimum_index ≤ h.maximum_index) }
+{
+    if header.header_size < 56 {
+        return Err(Error::InvalidTypeInformationHeader("header size is impossibly small"));
+    }
+    if header.header_size > 1024 {
+        return Err(Error::InvalidTypeInformationHeader("header size is unreasonably large"));
+    }
+    if len < header.header_size as usize {
+        return Err(Error::UnexpectedEof);
+    }
+    if header.minimum_index < 4096 {
+        return Err(Error::InvalidTypeInformationHeader("minimum type index is < 4096"));
+    }
+    if header.maximum_index < header.minimum_index {
+        return Err(Error::InvalidTypeInformationHeader(
+            "maximum type index is < minimum type index",
+        ));
+    }
+    Ok(header)
+}

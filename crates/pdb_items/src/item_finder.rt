@@ -1,0 +1,177 @@
+//! Items by their indices.
+
+ghost use Rattle.std.specs.Prelude.{◌≡◌, ◌+◌, ◌-◌, ◌*◌, ◌<◌, ◌≤◌, ◌^◌, length, drop, option_map, is_some, ◌||◌, IfOk, IsOkUnless};
+ghost use Rattle.pdb_container.specs.Fault.{Parses};
+ghost use Rattle.pdb_items.specs.Item.{item_bytes};
+ghost use Rattle.pdb_items.specs.Items.{table_in, items_of, item_number, found};
+ghost use Rattle.pdb_items.specs.Tables.{fresh_finding, first_unknown, last_known, known_end, shown, find_in};
+ghost use Rattle.pdb_items.specs.Walking.{IsPlaceAt, IsEnd, seen};
+
+use crate::header::Header;
+use crate::index::ItemIndex;
+use crate::item::Item;
+use crate::item_iter::ItemIter;
+use crate::item_list::{behind, walk};
+use pdb_container::{Error, Result};
+use std::alloc::Global;
+use std::marker::{Model, PhantomData};
+
+/// Finds items by their indices. It knows the places of blocks of eight indices, of the first at once and of each further
+/// one from an iterator that is shown to it as it goes over the table.
+#[derive(Drop)]
+pub struct ItemFinder<'t, I> {
+    header: Header,
+    items: &'t [u8],
+    places: Vec<usize>,
+    blocks: usize,
+    end: Option<u32>,
+    of: PhantomData<I>,
+}
+
+impl<'t, I> Model for ItemFinder<'t, I> {
+    ghost use Rattle.std.specs.Prelude.{is_some};
+    ghost use Rattle.pdb_items.specs.Items.{table_in};
+    ghost use Rattle.pdb_items.specs.Tables.{Finding};
+    ghost use Rattle.pdb_items.specs.Walking.{IsKept};
+
+    ghost Value = { Finding };
+
+    ghost view = { λ f. record { table = table_in f.header f.items.now; blocks = f.blocks; is_end_known = is_some f.end } };
+
+    ghost invariant = { λ f. IsKept (table_in f.header f.items.now) f.places.items f.blocks f.end };
+}
+
+impl<'t, I: ItemIndex> ItemFinder<'t, I> {
+    /// A finder in the items that these bytes hold, by this header.
+    #[tactic(auto, using(crate::proofs::Blocks::kept_start))]
+    pub(crate) fn over(alloc: Global, header: Header, items: &'t [u8]) -> Result<ItemFinder<'t, I>>
+        ensures fresh { IfOk result (λ f. f ≡ fresh_finding (table_in header items.now)) }
+        ensures memory { IsOkUnless result Error.OutOfMemory }
+    {
+        let places = vec![in alloc; 0usize; items.len() / 32 + 1]?;
+        Ok(ItemFinder {
+            header,
+            items,
+            places,
+            blocks: 1,
+            end: None,
+            of: PhantomData,
+        })
+    }
+
+    /// The last index of the known blocks.
+    pub fn max_index(&self) -> I
+        ensures { result ≡ I.index (last_known self.now) }
+    {
+        let last = self.first_unknown() - 1;
+        I::from(last.min(u64::from(u32::MAX)) as u32)
+    }
+
+    /// The first index past the list, once an iterator was shown that had answered `None` at a good end.
+    pub fn end_index(&self) -> Option<I>
+        ensures { result ≡ option_map I.index (known_end self.now) }
+    {
+        match self.end {
+            Some(end) => Some(I::from(end)),
+            None => None,
+        }
+    }
+
+    /// Learns from an iterator of the same table: the place of the block behind the known ones, where the iterator stands at
+    /// its first index, and the end of the list, where it answered that.
+    pub fn update(&mut self, iterator: &ItemIter<'_, I>)
+        requires { iterator.now.table ≡ self.old.table }
+        ensures { self.new ≡ shown iterator.now self.old }
+    {
+        if u64::from(iterator.next_index()) == self.first_unknown() {
+            self.add_block(iterator.place());
+        }
+        self.add_end(iterator.end());
+    }
+
+    /// The item of an index.
+    ///
+    /// # Errors
+    /// `TypeNotIndexed` past the known blocks, `TypeNotFound` at or past the table's maximum and past a good end of its
+    /// list, and past a bad end the list's own fault.
+    pub fn find(&self, index: I) -> Result<Item<'t, I>>
+        ensures item { Parses item_bytes result (find_in self.now (I.number index)) }
+        ensures index { IfOk result (λ item. item.index ≡ index) }
+    {
+        let number: u32 = index.into();
+        let bytes = self.piece_of(number)?;
+        Ok(Item { index, bytes })
+    }
+
+    /// The bytes of the item of an index.
+    #[tactic(auto, unfolding(crate::specs::Tables::find_in, crate::specs::Items::item_at))]
+    fn piece_of(&self, index: u32) -> Result<&'t [u8]>
+        ensures { Parses (λ piece. piece.now) result (find_in self.now index) }
+    {
+        let unknown = self.first_unknown();
+        if u64::from(index) >= unknown {
+            return Err(Error::TypeNotIndexed(index, unknown as u32));
+        }
+        if index >= self.header.maximum_index {
+            return Err(Error::TypeNotFound(index));
+        }
+        if index < self.header.minimum_index {
+            return Ok(&self.items[..0]);
+        }
+        self.known_item(index)
+    }
+
+    /// The bytes of an index of the known blocks; `TypeNotFound` past a good end, past a bad one its fault.
+    fn known_item(&self, index: u32) -> Result<&'t [u8]>
+        requires low { self.now.table.minimum ≤ index }
+        requires known { index < first_unknown self.now }
+        ensures { Parses (λ piece. piece.now) result (found index (item_number (items_of self.now.table) (index - self.now.table.minimum))) }
+    {
+        match self.known_piece(index) {
+            Ok(Some(piece)) => Ok(piece),
+            Ok(None) => Err(Error::TypeNotFound(index)),
+            Err(fault) => Err(fault),
+        }
+    }
+
+    /// The bytes of an index of the known blocks, if there is an item.
+    #[tactic(auto, using(crate::proofs::Blocks::known_number))]
+    fn known_piece(&self, index: u32) -> Result<Option<&'t [u8]>>
+        requires low { self.now.table.minimum ≤ index }
+        requires known { index < first_unknown self.now }
+        ensures { Parses (seen (λ piece. piece.now)) result (item_number (items_of self.now.table) (index - self.now.table.minimum)) }
+    {
+        let number = index - self.header.minimum_index;
+        let skip = number % 8;
+        let place = self.places[(number / 8) as usize];
+        walk(behind(self.items, place), index - skip, skip).0
+    }
+
+    /// The first index past the known blocks; it may have more than 32 bits.
+    fn first_unknown(&self) -> u64
+        ensures index { result ≡ first_unknown self.now }
+        ensures some { 8 ≤ result }
+    {
+        u64::from(self.header.minimum_index) + 8 * self.blocks as u64
+    }
+
+    /// Keeps the place of the block behind the known ones.
+    #[tactic(auto, using(crate::proofs::Blocks::kept_more, crate::proofs::Blocks::room_left))]
+    fn add_block(&mut self, place: usize)
+        requires { IsPlaceAt self.old.table (first_unknown self.old) place }
+        ensures { self.new ≡ record self.old { blocks = self.old.blocks + 1 } }
+    {
+        self.places[self.blocks] = place;
+        self.blocks += 1;
+    }
+
+    /// Keeps the end of the list, if it is given.
+    fn add_end(&mut self, end: Option<u32>)
+        requires { IsEnd self.old.table end }
+        ensures { self.new ≡ record self.old { is_end_known = self.old.is_end_known || is_some end } }
+    {
+        if let Some(index) = end {
+            self.end = Some(index);
+        }
+    }
+}

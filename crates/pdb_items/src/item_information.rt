@@ -1,0 +1,130 @@
+//! Tables of types and of ids.
+
+ghost use Rattle.std.specs.Prelude.{◌≡◌, ◌-◌, ◌==◌, IfOk, IsOkUnless};
+ghost use Rattle.pdb_container.specs.Fault.{Parses};
+ghost use Rattle.pdb_items.specs.Items.{table_of};
+ghost use Rattle.pdb_items.specs.Tables.{fresh_iteration, fresh_finding};
+
+use crate::header::{Header, parse_header};
+use crate::index::{IdIndex, ItemIndex, TypeIndex};
+use crate::item::Item;
+use crate::item_finder::ItemFinder;
+use crate::item_iter::ItemIter;
+use crate::item_list::behind;
+use pdb_container::{Error, Result, Stream};
+use std::alloc::Global;
+use std::marker::{Model, PhantomData};
+
+/// The table of types.
+pub type TypeInformation<'s> = ItemInformation<'s, TypeIndex>;
+
+/// The table of ids.
+pub type IdInformation<'s> = ItemInformation<'s, IdIndex>;
+
+/// A finder of types.
+pub type TypeFinder<'t> = ItemFinder<'t, TypeIndex>;
+
+/// A finder of ids.
+pub type IdFinder<'t> = ItemFinder<'t, IdIndex>;
+
+/// An iterator over types.
+pub type TypeIter<'t> = ItemIter<'t, TypeIndex>;
+
+/// An iterator over ids.
+pub type IdIter<'t> = ItemIter<'t, IdIndex>;
+
+/// A type of a table.
+pub type Type<'t> = Item<'t, TypeIndex>;
+
+/// An id of a table.
+pub type Id<'t> = Item<'t, IdIndex>;
+
+/// A table of types or of ids.
+#[derive(Drop)]
+pub struct ItemInformation<'s, I> {
+    stream: Stream<'s>,
+    header: Header,
+    of: PhantomData<I>,
+}
+
+impl<'s, I> Model for ItemInformation<'s, I> {
+    ghost use Rattle.std.specs.Prelude.{◌≤◌, length, drop};
+    ghost use Rattle.pdb_items.specs.Items.{Table, table_in};
+
+    ghost Value = { Table };
+
+    ghost view = { λ t. table_in t.header (drop t.header.header_size t.stream) };
+
+    ghost invariant = { λ t. (t.header.header_size ≤ length t.stream) × (t.header.minimum_index ≤ t.header.maximum_index) };
+}
+
+impl<'s, I: ItemIndex> ItemInformation<'s, I> {
+    /// The table that a stream holds; an empty stream is a table without indices.
+    ///
+    /// # Errors
+    /// `UnexpectedEof` where the header isn't there, `InvalidTypeInformationHeader` where it contradicts itself.
+    #[tactic(auto, unfolding(crate::specs::Items::table_of))]
+    pub fn parse(stream: Stream<'s>) -> Result<ItemInformation<'s, I>>
+        ensures { Parses (λ t. t) result (table_of stream.entry) }
+    {
+        let header = parse_header(stream.as_slice())?;
+        Ok(ItemInformation {
+            stream,
+            header,
+            of: PhantomData,
+        })
+    }
+
+    /// The first index of the table.
+    pub fn minimum_index(&self) -> I
+        ensures { result ≡ I.index self.now.minimum }
+    {
+        I::from(self.header.minimum_index)
+    }
+
+    /// The first index past the table, by its header.
+    pub fn maximum_index(&self) -> I
+        ensures { result ≡ I.index self.now.maximum }
+    {
+        I::from(self.header.maximum_index)
+    }
+
+    /// How many indices the table has, by its header.
+    pub fn len(&self) -> usize
+        ensures { result ≡ self.now.maximum - self.now.minimum }
+    {
+        (self.header.maximum_index - self.header.minimum_index) as usize
+    }
+
+    /// Whether the table has no index, by its header.
+    pub fn is_empty(&self) -> bool
+        ensures { result ≡ (self.now.maximum - self.now.minimum == 0) }
+    {
+        self.len() == 0
+    }
+
+    /// The items in their order.
+    pub fn iter(&self) -> ItemIter<'_, I>
+        ensures { result ≡ fresh_iteration self.now }
+    {
+        ItemIter::over(self.header, self.items())
+    }
+
+    /// A finder of the items by their indices, with room for all that it will know.
+    ///
+    /// # Errors
+    /// `OutOfMemory` alone.
+    pub fn finder(&self, alloc: Global) -> Result<ItemFinder<'_, I>>
+        ensures fresh { IfOk result (λ f. f ≡ fresh_finding self.now) }
+        ensures memory { IsOkUnless result Error.OutOfMemory }
+    {
+        ItemFinder::over(alloc, self.header, self.items())
+    }
+
+    /// The bytes behind the header.
+    fn items(&self) -> &[u8]
+        ensures { result.now ≡ self.now.bytes }
+    {
+        behind(self.stream.as_slice(), self.header.header_size as usize)
+    }
+}
