@@ -1,6 +1,27 @@
 //! Records of types and ids: their tables, and what each record says.
 #![tactic(auto)]
 
+mod id_data;
 mod index;
+mod primitive;
+mod type_attributes;
+mod type_data;
+mod variant;
 
+pub use id_data::{
+    BuildInfoId, FunctionId, IdData, MemberFunctionId, StringId, StringListId, StringRef,
+    UserDefinedTypeSourceFileRef, UserDefinedTypeSourceId,
+};
 pub use index::{IdIndex, Local, TypeIndex};
+pub use primitive::{Indirection, PrimitiveKind, PrimitiveType};
+pub use type_attributes::{
+    FieldAttributes, FunctionAttributes, PointerAttributes, PointerKind, PointerMode,
+    TypeProperties,
+};
+pub use type_data::{
+    ArgumentList, ArrayType, BaseClassType, BitfieldType, ClassKind, ClassType, EnumerateType,
+    EnumerationType, FieldList, MemberFunctionType, MemberType, MethodList, MethodListEntry,
+    MethodType, ModifierType, NestedType, OverloadedMethodType, PointerType, ProcedureType,
+    StaticMemberType, TypeData, UnionType, VirtualBaseClassType, VirtualFunctionTablePointerType,
+};
+pub use variant::Variant;
