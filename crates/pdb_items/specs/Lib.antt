@@ -1,1 +1,6 @@
 pub mod Attributes
+pub mod Forms
+pub mod IdForms
+pub mod RecordFields
+pub mod Shapes
+pub mod TypeRecords

@@ -73,3 +73,4 @@ pub struct UserDefinedTypeSourceId {
     /// Counted from 1.
     pub line: u32,
 }
+

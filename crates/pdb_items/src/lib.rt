@@ -3,7 +3,10 @@
 
 mod id_data;
 mod index;
+mod parse_member;
+mod parse_type;
 mod primitive;
+mod record_fields;
 mod type_attributes;
 mod type_data;
 mod variant;
