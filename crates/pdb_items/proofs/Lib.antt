@@ -1,1 +1,3 @@
+pub mod Dimensions
+pub mod FieldLists
 pub mod Many

@@ -3,4 +3,5 @@ pub mod Forms
 pub mod IdForms
 pub mod RecordFields
 pub mod Shapes
+pub mod TypeLeaves
 pub mod TypeRecords

@@ -21,7 +21,7 @@ use Rattle.pdb_items.specs.declared.type_data.BitfieldType.{BitfieldType}
 use Rattle.pdb_items.specs.declared.type_data.MethodListEntry.{MethodListEntry}
 use Rattle.pdb_items.specs.Attributes.{has_bit, introduces, is_known_pointer, is_to_member}
 use Rattle.pdb_items.specs.Forms.{ClassForm, MemberForm, OverloadedMethodForm, MethodForm, StaticMemberForm, NestedForm, EnumerationForm, EnumerateForm, ArrayForm, UnionForm}
-use Rattle.pdb_items.specs.RecordFields.{type_index_at, optional_type_index_at, numeric_at, variant_at, name_at, unique_name_at, as_value}
+use Rattle.pdb_items.specs.RecordFields.{type_index_at, optional_type_index_at, numeric_at, variant_at, name_at, unique_name_at, as_value, many_at}
 
 -- ---- attributes
 
@@ -278,3 +278,54 @@ virtual_function_table_pointer_at bytes = do
   unused ← number_at w16 bytes
   table ← type_index_at unused.1
   Ok (record { table = table.0 }, table.1)
+
+-- ---- lists
+
+unfoldable pub argument_list_at : Reader (List TypeIndex)
+argument_list_at bytes = do
+  count ← number_at w32 bytes
+  many_at type_index_at count.0 count.1
+
+unfoldable pub method_list_entry_at : Reader MethodListEntry
+method_list_entry_at bytes = do
+  attributes ← number_at w16 bytes
+  unused ← number_at w16 attributes.1
+  type ← type_index_at unused.1
+  offset ← vtable_offset_at record { 0 = attributes.0 } type.1
+  Ok (record { attributes = record { 0 = attributes.0 }; method_type = type.0; vtable_offset = offset.0 }, offset.1)
+
+-- methods one behind the other, to the end
+unfoldable pub method_list_at : Reader (List MethodListEntry)
+method_list_at bytes = do
+  all ← bytes_of (length bytes) bytes
+  methods ← entries method_list_entry_at all.0
+  Ok (methods, all.1)
+
+-- a size in bytes, below 2^32
+unfoldable pub dimension_at : Reader ℕ
+dimension_at bytes = do
+  size ← numeric_at bytes
+  large ← refuse (nat_lt (2 ^ 32 - 1) size.0) (UnimplementedFeature (codes "u64 array sizes"))
+  Ok size
+
+-- Sizes, one at least, and the first zero byte behind one. Each takes two bytes at least, so there are fewer of them than bytes.
+unfoldable pub dimensions_within : ℕ → Reader (List ℕ)
+dimensions_within zero bytes = Err UnexpectedEof
+dimensions_within (suc steps) bytes = do
+  first ← dimension_at bytes
+  next ← number_at w8 first.1
+  if next.0 == 0 then Ok (first.0 ∷ [], next.1) else (dimensions_within steps first.1 >>= λ others. Ok (first.0 ∷ others.0, others.1))
+
+abbrev pub dimensions_at : Reader (List ℕ)
+dimensions_at bytes = dimensions_within (length bytes) bytes
+
+unfoldable pub stride_at : Bool → Reader (Option ℕ)
+stride_at strided bytes = if strided then as_value Some (number_at w32 bytes) else Ok (None, bytes)
+
+unfoldable pub array_at : Bool → Reader ArrayForm
+array_at strided bytes = do
+  element ← type_index_at bytes
+  indexing ← type_index_at element.1
+  stride ← stride_at strided indexing.1
+  dimensions ← dimensions_at stride.1
+  Ok (record { element_type = element.0; indexing_type = indexing.0; stride = stride.0; dimensions = dimensions.0 }, dimensions.1)

@@ -3,6 +3,7 @@
 
 mod id_data;
 mod index;
+mod parse_list;
 mod parse_member;
 mod parse_type;
 mod primitive;
