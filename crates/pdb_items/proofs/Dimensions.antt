@@ -27,13 +27,22 @@ dimensions_more front count i bytes rest after x next total lt read byte not so_
     rw (k, read, byte, other) (regroup front x (dimensions_within (count - (i + 1)) rest)) in
     sym now ∙ so_far
 
-pub dimensions_end : (front : List ℕ) (count i : ℕ) (bytes rest after : List ℕ) (x : ℕ) (total : Result (List ℕ × List ℕ) Fault) → i < count
-    → dimension_at bytes ≡ Ok (x, rest) → number_at w8 rest ≡ Ok (0, after)
+same_ok : (y n : ℕ) (r : Result ℕ Fault) → r ≡ Ok y → r ≡ Ok n → y ≡ n
+same_ok y n r a b = cc
+
+-- the byte that was seen is the byte that is read
+seen : (rest after : List ℕ) (y n : ℕ) → (number_at w8 rest >>= λ byte. Ok byte.0) ≡ Ok n → n ≡ 0 → number_at w8 rest ≡ Ok (y, after) → number_at w8 rest ≡ Ok (0, after)
+seen rest after y n peek none byte =
+    let same : y ≡ n = same_ok y n (number_at w8 rest >>= λ b. Ok b.0) (ap (λ (r : Result (ℕ × List ℕ) Fault). r >>= λ b. Ok b.0) byte) peek in
+    byte ∙ ap (λ (m : ℕ). Ok (m, after)) (same ∙ none)
+
+pub dimensions_end : (front : List ℕ) (count i : ℕ) (bytes rest after : List ℕ) (x y n : ℕ) (total : Result (List ℕ × List ℕ) Fault) → i < count
+    → dimension_at bytes ≡ Ok (x, rest) → (number_at w8 rest >>= λ byte. Ok byte.0) ≡ Ok n → n ≡ 0 → number_at w8 rest ≡ Ok (y, after)
     → many_front front (dimensions_within (count - i) bytes) ≡ total → total ≡ Ok (front ++ x ∷ [], after)
 unfolding dimensions_within
-dimensions_end front count i bytes rest after x total lt read byte so_far =
+dimensions_end front count i bytes rest after x y n total lt read peek none byte so_far =
     let k : count - i ≡ suc (count - (i + 1)) = omega arith in
-    let now : many_front front (dimensions_within (count - i) bytes) ≡ Ok (front ++ x ∷ [], after) = rw (k, read, byte) refl in
+    let now : many_front front (dimensions_within (count - i) bytes) ≡ Ok (front ++ x ∷ [], after) = rw (k, read, seen rest after y n peek none byte) refl in
     sym so_far ∙ now
 
 pub dimensions_fail : (front : List ℕ) (count i : ℕ) (bytes : List ℕ) (e : Fault) (total : Result (List ℕ × List ℕ) Fault) → i < count → dimension_at bytes ≡ Err e

@@ -14,6 +14,9 @@ use Rattle.pdb_items.specs.declared.type_data.UnionType.{UnionType}
 use Rattle.pdb_items.specs.declared.type_data.FieldList as field_list
 use Rattle.pdb_items.specs.declared.type_data.TypeData.{TypeData, TypeData-F, out-TypeData}
 use Rattle.pdb_items.specs.declared.type_data.TypeData.TheOpen as open_data
+use Rattle.pdb_items.specs.declared.parse_record.FieldEntry.{FieldEntry}
+use Rattle.pdb_items.specs.declared.parse_record.FieldEntry.TheVariants as entries
+use Rattle.pdb_items.specs.TypeLeaves.{FieldForm, Field, Continuation, Padding}
 use Rattle.pdb_items.specs.Forms as forms
 use Rattle.pdb_items.specs.Forms.{PlainForm, TypeForm}
 
@@ -112,3 +115,10 @@ level t = forms.Plain (plain_level t)
 
 abbrev pub shape : TypeData → TypeForm
 shape t = level (out-TypeData t)
+
+-- ---- what stands in a list of members
+
+abbrev pub field_form : FieldEntry → FieldForm
+field_form (entries.Field t) = Field (plain_shape t)
+field_form (entries.Continuation index) = Continuation index
+field_form entries.Padding = Padding

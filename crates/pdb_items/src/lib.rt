@@ -3,9 +3,11 @@
 
 mod id_data;
 mod index;
+mod leaves;
 mod parse_list;
 mod parse_member;
 mod parse_type;
+mod parse_record;
 mod primitive;
 mod record_fields;
 mod type_attributes;
@@ -17,6 +19,7 @@ pub use id_data::{
     UserDefinedTypeSourceFileRef, UserDefinedTypeSourceId,
 };
 pub use index::{IdIndex, Local, TypeIndex};
+pub use parse_record::parse_type_data;
 pub use primitive::{Indirection, PrimitiveKind, PrimitiveType};
 pub use type_attributes::{
     FieldAttributes, FunctionAttributes, PointerAttributes, PointerKind, PointerMode,
