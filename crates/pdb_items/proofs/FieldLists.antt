@@ -1,6 +1,7 @@
 -- The members in a list, as a loop reads them.
-use Rattle.std.proofs.Common.{◌≡◌, ◌≢◌, ℕ, suc, ◌-◌, ◌+◌, ◌≤◌, ◌<◌, List, [], ◌∷◌, ◌++◌, Option, None, Result, Ok, Err, refl, sym, ap, ◌∙◌, arith, length}
-use Rattle.pdb_container.specs.Fault.{Fault, ◌>>=◌}
+use Rattle.std.proofs.Common.{◌≡◌, ◌≢◌, ◌⊎◌, inl, inr, ℕ, suc, ◌-◌, ◌+◌, ◌≤◌, ◌<◌, List, [], ◌∷◌, ◌++◌, Option, None, Result, Ok, Err, refl, sym, ap, ◌∙◌, arith, length}
+use Rattle.pdb_container.specs.declared.error.Error.{Error}
+use Rattle.pdb_container.specs.Fault.{Fault, ◌>>=◌, IsOutside, fault_of}
 use Rattle.pdb_items.specs.declared.index.TypeIndex.{TypeIndex}
 use Rattle.pdb_items.specs.Forms as forms
 use Rattle.pdb_items.specs.Forms.{PlainForm, TypeForm}
@@ -33,6 +34,11 @@ fields_fail fields continuation count i bytes e total lt some read so_far =
     let k : count - i ≡ suc (count - (i + 1)) = omega arith in
     let now : fields_within (count - i) fields continuation bytes ≡ Err e = rw (k, step (count - (i + 1)) fields continuation bytes some, read) refl in
     sym so_far ∙ now
+
+pub fields_refused : (fields : List PlainForm) (continuation : Option TypeIndex) (count i : ℕ) (bytes : List ℕ) (e : Error) (total : Result TypeForm Fault) → i < count → length bytes ≢ 0
+    → (IsOutside e ⊥ ⊎ (field_at bytes ≡ Err (fault_of e))) → fields_within (count - i) fields continuation bytes ≡ total → IsOutside e ⊥ ⊎ (total ≡ Err (fault_of e))
+fields_refused fields continuation count i bytes e total lt some (inl outside) so_far = inl outside
+fields_refused fields continuation count i bytes e total lt some (inr read) so_far = inr (fields_fail fields continuation count i bytes (fault_of e) total lt some read so_far)
 
 nothing_left : (n : ℕ) (fields : List PlainForm) (continuation : Option TypeIndex) (bytes : List ℕ) → length bytes ≡ 0 → fields_within n fields continuation bytes ≡ Ok (forms.FieldList fields continuation)
 unfolding fields_within
