@@ -4,6 +4,9 @@ use Rattle.pdb_items.specs.declared.index.TypeIndex.{TypeIndex}
 use Rattle.pdb_items.specs.declared.index.IdIndex.{IdIndex}
 use Rattle.pdb_items.specs.declared.id_data.IdData.{IdData}
 use Rattle.pdb_items.specs.declared.id_data.IdData.TheVariants as ids
+use Rattle.pdb_items.specs.declared.id_data.FunctionId.{FunctionId}
+use Rattle.pdb_items.specs.declared.id_data.MemberFunctionId.{MemberFunctionId}
+use Rattle.pdb_items.specs.declared.id_data.StringId.{StringId}
 use Rattle.pdb_items.specs.declared.id_data.UserDefinedTypeSourceId.{UserDefinedTypeSourceId}
 use Rattle.pdb_container.specs.RawString.{raw_bytes}
 
@@ -29,10 +32,20 @@ pub data IdForm : Type 0 where
   String : StringForm → IdForm
   UserDefinedTypeSource : UserDefinedTypeSourceId → IdForm
 
+abbrev pub function_form : FunctionId → FunctionForm
+function_form t = record { scope = t.scope; function_type = t.function_type; name = raw_bytes t.name }
+
+abbrev pub member_function_form : MemberFunctionId → MemberFunctionForm
+member_function_form t = record { parent = t.parent; function_type = t.function_type; name = raw_bytes t.name }
+
+abbrev pub string_form : StringId → StringForm
+string_form t = record { substrings = t.substrings; name = raw_bytes t.name }
+
+-- what an id's value says
 abbrev pub id_shape : IdData → IdForm
-id_shape (ids.Function t) = Function record { scope = t.scope; function_type = t.function_type; name = raw_bytes t.name }
-id_shape (ids.MemberFunction t) = MemberFunction record { parent = t.parent; function_type = t.function_type; name = raw_bytes t.name }
+id_shape (ids.Function t) = Function (function_form t)
+id_shape (ids.MemberFunction t) = MemberFunction (member_function_form t)
 id_shape (ids.BuildInfo t) = BuildInfo t.arguments.items
 id_shape (ids.StringList t) = StringList t.substrings.items
-id_shape (ids.String t) = String record { substrings = t.substrings; name = raw_bytes t.name }
+id_shape (ids.String t) = String (string_form t)
 id_shape (ids.UserDefinedTypeSource t) = UserDefinedTypeSource t

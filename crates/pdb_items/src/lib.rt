@@ -4,6 +4,7 @@
 mod id_data;
 mod index;
 mod leaves;
+mod parse_id;
 mod parse_list;
 mod parse_member;
 mod parse_type;
@@ -19,8 +20,9 @@ pub use id_data::{
     UserDefinedTypeSourceFileRef, UserDefinedTypeSourceId,
 };
 pub use index::{IdIndex, Local, TypeIndex};
+pub use parse_id::parse_id_data;
 pub use parse_record::parse_type_data;
-pub use primitive::{Indirection, PrimitiveKind, PrimitiveType};
+pub use primitive::{Indirection, PrimitiveKind, PrimitiveType, type_data_for_primitive};
 pub use type_attributes::{
     FieldAttributes, FunctionAttributes, PointerAttributes, PointerKind, PointerMode,
     TypeProperties,
