@@ -1,6 +1,6 @@
 //! Records that are lists, or hold one.
 
-ghost use Rattle.std.specs.Prelude.{◌≡◌, length};
+ghost use Rattle.std.specs.Prelude.{◌≡◌, ◌<◌, length, IfOk};
 ghost use Rattle.pdb_container.specs.Buffer.{rest, ReadsAll};
 ghost use Rattle.pdb_container.specs.Fault.{Gives};
 ghost use Rattle.pdb_container.specs.Fields.{entries};
@@ -80,7 +80,8 @@ fn parse_dimension(buffer: &mut ParseBuffer<'_>) -> Result<u32>
 /// The sizes of an array, one at least, and the zero byte behind them.
 #[tactic(auto, using(crate::proofs::Dimensions::dimensions_start, crate::proofs::Dimensions::dimensions_more, crate::proofs::Dimensions::dimensions_end, crate::proofs::Dimensions::dimensions_fail, crate::proofs::Dimensions::dimensions_unended, crate::proofs::Dimensions::dimensions_missing))]
 fn parse_dimensions(alloc: Global, buffer: &mut ParseBuffer<'_>) -> Result<Vec<u32>>
-    ensures { GivesAll (λ v. v.items) result (rest buffer.new) (dimensions_at (rest buffer.old)) }
+    ensures dimensions { GivesAll (λ v. v.items) result (rest buffer.new) (dimensions_at (rest buffer.old)) }
+    ensures some { IfOk result (λ v. 0 < length v.items) }
 {
     let mut dimensions = Vec::new(alloc);
     let count = buffer.len();

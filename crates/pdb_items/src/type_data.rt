@@ -1,5 +1,7 @@
 //! What a record of a type says.
 
+ghost use Rattle.std.specs.Prelude.{◌<◌, length};
+
 use crate::index::TypeIndex;
 use crate::primitive::PrimitiveType;
 use crate::type_attributes::{
@@ -205,6 +207,7 @@ pub struct ArrayType {
     pub stride: Option<u32>,
     /// Sizes in bytes, the last that of the whole array; there is one at least.
     pub dimensions: Vec<u32>,
+    ghost some_dimension: { 0 < length dimensions.items },
 }
 
 /// A union.
