@@ -73,4 +73,3 @@ pub struct UserDefinedTypeSourceId {
     /// Counted from 1.
     pub line: u32,
 }
-

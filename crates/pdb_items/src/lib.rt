@@ -7,10 +7,12 @@ mod leaves;
 mod parse_id;
 mod parse_list;
 mod parse_member;
-mod parse_type;
 mod parse_record;
+mod parse_type;
 mod primitive;
 mod record_fields;
+#[cfg(test)]
+mod tests;
 mod type_attributes;
 mod type_data;
 mod variant;

@@ -32,7 +32,11 @@ fn parse_aggregate<'t>(buffer: &mut ParseBuffer<'t>, leaf: u16) -> Result<TypeDa
 {
     match leaf {
         LF_CLASS | LF_CLASS_ST => Ok(TypeData::Class(parse_class(buffer, leaf, ClassKind::Class)?)),
-        LF_STRUCTURE | LF_STRUCTURE_ST => Ok(TypeData::Class(parse_class(buffer, leaf, ClassKind::Struct)?)),
+        LF_STRUCTURE | LF_STRUCTURE_ST => Ok(TypeData::Class(parse_class(
+            buffer,
+            leaf,
+            ClassKind::Struct,
+        )?)),
         LF_INTERFACE => Ok(TypeData::Class(parse_class(buffer, leaf, ClassKind::Interface)?)),
         LF_STRUCTURE19 => Ok(TypeData::Class(parse_newer_struct(buffer, leaf)?)),
         LF_UNION | LF_UNION_ST => Ok(TypeData::Union(parse_union(buffer, leaf)?)),
@@ -72,7 +76,9 @@ fn parse_base<'t>(alloc: Global, buffer: &mut ParseBuffer<'t>, leaf: u16) -> Res
         LF_BINTERFACE => Ok(TypeData::BaseClass(parse_base_class(buffer, ClassKind::Interface)?)),
         LF_VBCLASS => Ok(TypeData::VirtualBaseClass(parse_virtual_base_class(buffer, true)?)),
         LF_IVBCLASS => Ok(TypeData::VirtualBaseClass(parse_virtual_base_class(buffer, false)?)),
-        LF_VFUNCTAB => Ok(TypeData::VirtualFunctionTablePointer(parse_virtual_function_table_pointer(buffer)?)),
+        LF_VFUNCTAB => Ok(TypeData::VirtualFunctionTablePointer(
+            parse_virtual_function_table_pointer(buffer)?,
+        )),
         _ => parse_type(alloc, buffer, leaf),
     }
 }
@@ -86,10 +92,16 @@ fn parse_plain<'t>(alloc: Global, buffer: &mut ParseBuffer<'t>, leaf: u16) -> Re
     match leaf {
         LF_ENUMERATE | LF_ENUMERATE_ST => Ok(TypeData::Enumerate(parse_enumerate(buffer, leaf)?)),
         LF_MEMBER | LF_MEMBER_ST => Ok(TypeData::Member(parse_data_member(buffer, leaf)?)),
-        LF_STMEMBER | LF_STMEMBER_ST => Ok(TypeData::StaticMember(parse_static_member(buffer, leaf)?)),
-        LF_METHOD | LF_METHOD_ST => Ok(TypeData::OverloadedMethod(parse_overloaded_method(buffer, leaf)?)),
+        LF_STMEMBER | LF_STMEMBER_ST => Ok(TypeData::StaticMember(parse_static_member(
+            buffer, leaf,
+        )?)),
+        LF_METHOD | LF_METHOD_ST => Ok(TypeData::OverloadedMethod(parse_overloaded_method(
+            buffer, leaf,
+        )?)),
         LF_ONEMETHOD | LF_ONEMETHOD_ST => Ok(TypeData::Method(parse_method(buffer, leaf)?)),
-        LF_NESTTYPE | LF_NESTTYPEEX | LF_NESTTYPE_ST | LF_NESTTYPEEX_ST => Ok(TypeData::Nested(parse_nested(buffer, leaf)?)),
+        LF_NESTTYPE | LF_NESTTYPEEX | LF_NESTTYPE_ST | LF_NESTTYPEEX_ST => Ok(TypeData::Nested(
+            parse_nested(buffer, leaf)?,
+        )),
         _ => parse_base(alloc, buffer, leaf),
     }
 }

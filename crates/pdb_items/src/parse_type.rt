@@ -208,10 +208,7 @@ pub fn parse_union<'t>(buffer: &mut ParseBuffer<'t>, leaf: u16) -> Result<UnionT
 }
 
 #[tactic(auto, unfolding(crate::specs::TypeRecords::enumeration_at))]
-pub fn parse_enumeration<'t>(
-    buffer: &mut ParseBuffer<'t>,
-    leaf: u16,
-) -> Result<EnumerationType<'t>>
+pub fn parse_enumeration<'t>(buffer: &mut ParseBuffer<'t>, leaf: u16) -> Result<EnumerationType<'t>>
     ensures { ReadsAll enumeration_form result (rest buffer.new) (enumeration_at leaf (rest buffer.old)) }
 {
     let count = buffer.parse_u16()?;
