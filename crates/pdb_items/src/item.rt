@@ -3,12 +3,25 @@
 ghost use Rattle.std.specs.Prelude.{◌≡◌, ◌==◌, length};
 ghost use Rattle.std.specs.Int.{w16};
 ghost use Rattle.pdb_container.specs.Buffer.{peeked};
-ghost use Rattle.pdb_container.specs.Fault.{Parses};
+ghost use Rattle.pdb_container.specs.Fault.{Gives, Parses};
 ghost use Rattle.pdb_container.specs.Fields.{number_at};
+ghost use Rattle.pdb_items.specs.IdForms.{id_shape};
+ghost use Rattle.pdb_items.specs.IdRecords.{id_form_of};
 ghost use Rattle.pdb_items.specs.Item.{item_bytes};
+ghost use Rattle.pdb_items.specs.Parsing.{type_of_item};
+ghost use Rattle.pdb_items.specs.Shapes.{shape};
 
-use crate::index::ItemIndex;
+use crate::id_data::IdData;
+use crate::index::{IdIndex, ItemIndex, TypeIndex};
+use crate::parse_id::parse_id_data;
+use crate::parse_record::parse_type_data;
+use crate::primitive::type_data_for_primitive;
+use crate::type_data::TypeData;
 use pdb_container::{ParseBuffer, Result};
+use std::alloc::Global;
+
+/// The first index of a type that has a record.
+const FIRST_RECORD: u32 = 0x1000;
 
 /// A type or an id of a table: its index, and its bytes, which begin with the leaf. An index below the table's has no bytes.
 #[derive(Clone, Copy, Debug)]
@@ -51,5 +64,34 @@ impl<'t, I: ItemIndex> Item<'t, I> {
         ensures { Parses (λ leaf. leaf) result (peeked (number_at w16) (item_bytes self.now)) }
     {
         ParseBuffer::from(self.raw_bytes()).peek_u16()
+    }
+}
+
+impl<'t> Item<'t, TypeIndex> {
+    /// What the type is: below index 0x1000 by the index alone, and else by the record.
+    ///
+    /// # Errors
+    /// `TypeNotFound` below 0x1000, `UnimplementedTypeKind` for a leaf without a form, `UnexpectedEof` and others for a record
+    /// that can't be read; `OutOfMemory`.
+    pub fn parse(&self, alloc: Global) -> Result<TypeData<'t>>
+        ensures { Gives shape ⊥ result (type_of_item self.now.index.0 (item_bytes self.now)) }
+    {
+        if self.index.0 < FIRST_RECORD {
+            type_data_for_primitive(self.index)
+        } else {
+            parse_type_data(alloc, self.bytes)
+        }
+    }
+}
+
+impl<'t> Item<'t, IdIndex> {
+    /// What the id is, by its record.
+    ///
+    /// # Errors
+    /// `UnimplementedTypeKind` for a leaf without a form, `UnexpectedEof` for a record that can't be read; `OutOfMemory`.
+    pub fn parse(&self, alloc: Global) -> Result<IdData<'t>>
+        ensures { Gives id_shape ⊥ result (id_form_of (item_bytes self.now)) }
+    {
+        parse_id_data(alloc, self.bytes)
     }
 }
