@@ -1,6 +1,6 @@
 -- Fields of records: each is a value and the bytes behind it, or the fault of what is missing.
-use Rattle.std.specs.Prelude.{ℕ, ℤ, ◌||◌, List, Option, Some, None, Ok, Err, nat_lt, ◌==◌, if◌then◌else◌, Result, zero, suc, [], ◌∷◌}
-use Rattle.std.specs.Int.{Width, w8, w16, w32, w64}
+use Rattle.std.specs.Prelude.{ℕ, ◌||◌, List, Option, Some, None, Ok, Err, nat_lt, ◌==◌, if◌then◌else◌, Result, zero, suc, [], ◌∷◌}
+use Rattle.std.specs.Int.{w8, w16, w32, w64}
 use Rattle.pdb_container.specs.declared.error.Error.{Error}
 use Rattle.pdb_container.specs.Fault.{Fault, UnexpectedNumericPrefix, ◌>>=◌, Gives}
 use Rattle.pdb_container.specs.Fields.{Reader, number_at, signed_at, c_string_at, pascal_string_at}

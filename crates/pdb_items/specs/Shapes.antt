@@ -1,5 +1,5 @@
 -- What a type's value says, as a form.
-use Rattle.std.specs.Prelude.{List, map, option_map}
+use Rattle.std.specs.Prelude.{map, option_map}
 use Rattle.pdb_container.specs.RawString.{raw_bytes}
 use Rattle.pdb_items.specs.declared.type_data.ClassType.{ClassType}
 use Rattle.pdb_items.specs.declared.type_data.MemberType.{MemberType}

@@ -1,7 +1,7 @@
 -- Which record a leaf begins, and what the bytes of a type's record say.
 use Rattle.std.specs.Prelude.{ℕ, zero, suc, ◌-◌, true, false, max, ◌||◌, List, [], ◌∷◌, ◌++◌, length, Option, Some, None, Result, Ok, Err, nat_le, ◌==◌, if◌then◌else◌}
 use Rattle.std.specs.Int.{w8, w16}
-use Rattle.pdb_container.specs.Fault.{Fault, UnexpectedEof, UnimplementedTypeKind, ◌>>=◌}
+use Rattle.pdb_container.specs.Fault.{Fault, UnimplementedTypeKind, ◌>>=◌}
 use Rattle.pdb_container.specs.Fields.{Reader, number_at, bytes_of}
 use Rattle.pdb_items.specs.declared.index.TypeIndex.{TypeIndex}
 use Rattle.pdb_items.specs.declared.type_data.ClassKind.TheVariants as kinds

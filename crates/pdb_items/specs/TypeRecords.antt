@@ -1,12 +1,10 @@
 -- Records of types, by their leaves: fields in order, and the fault of the first that can't be read.
-use Rattle.std.specs.Prelude.{ℕ, zero, suc, ◌+◌, ◌-◌, ◌^◌, Bool, true, false, not, max, ◌||◌, List, [], ◌∷◌, ◌++◌, length, Option, Some, None, Result, Ok, Err, nat_lt, nat_le, ◌==◌, if◌then◌else◌, codes}
+use Rattle.std.specs.Prelude.{ℕ, zero, suc, ◌-◌, ◌^◌, Bool, not, List, [], ◌∷◌, length, Option, Some, None, Ok, Err, nat_lt, ◌==◌, if◌then◌else◌, codes}
 use Rattle.std.specs.Int.{w8, w16, w32}
-use Rattle.pdb_container.specs.Fault.{Fault, UnexpectedEof, UnimplementedTypeKind, UnimplementedFeature, ◌>>=◌, refuse}
+use Rattle.pdb_container.specs.Fault.{UnexpectedEof, UnimplementedFeature, ◌>>=◌, refuse}
 use Rattle.pdb_container.specs.Fields.{Reader, number_at, bytes_of, entries}
 use Rattle.pdb_items.specs.declared.index.TypeIndex.{TypeIndex}
-use Rattle.pdb_items.specs.declared.type_attributes.TypeProperties.{TypeProperties}
 use Rattle.pdb_items.specs.declared.type_attributes.FieldAttributes.{FieldAttributes}
-use Rattle.pdb_items.specs.declared.type_attributes.FunctionAttributes.{FunctionAttributes}
 use Rattle.pdb_items.specs.declared.type_attributes.PointerAttributes.{PointerAttributes}
 use Rattle.pdb_items.specs.declared.type_data.ClassKind.{ClassKind}
 use Rattle.pdb_items.specs.declared.type_data.ClassKind.TheVariants as kinds

@@ -1,4 +1,4 @@
-use Rattle.std.proofs.Common.{rules, ◌≡◌, ◌≢◌, ◌-◌, [], ◌∷◌, map, length}
+use Rattle.std.proofs.Common.{rules, ◌≢◌, ◌-◌, [], ◌∷◌, map, length}
 use Rattle.std.proofs.lemmas.List.{map-append}
 use Rattle.std.proofs.lemmas.Result.{err_from_is_err_and}
 use Rattle.pdb_container.specs.Buffer.{rest}

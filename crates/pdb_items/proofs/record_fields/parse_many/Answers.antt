@@ -1,4 +1,3 @@
-use Rattle.std.proofs.Common.{length}
 use Rattle.pdb_container.specs.Buffer.{rest}
 use Rattle.pdb_items.specs.RecordFields.{many_at}
 use Rattle.pdb_items.proofs.Many.{many_more}
