@@ -1,3 +1,6 @@
-pub mod Numbers
-pub mod Places
+pub mod Addresses
 pub mod ComparedLaws
+pub mod Numbers
+pub mod Omap
+pub mod Places
+pub mod Sections

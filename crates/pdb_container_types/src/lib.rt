@@ -1,11 +1,16 @@
 //! What a program database is made of: its container, the records of types and ids, and the addresses of its image.
 #![tactic(auto)]
 
+mod address_map;
 mod numbers;
+mod omap;
 mod rva;
 mod section_offset;
+mod sections;
 
+pub use address_map::AddressMap;
 pub use numbers::{FileIndex, SymbolIndex};
+pub use omap::{OMAPRecord, parse_omap};
 pub use pdb_container::{
     BigMSF, Error, FallibleIterator, FromBuffer, ModuleFault, Msf, PageList, ParseBuffer, RawString,
     ReadView, Result, Source, SourceSlice, Stream, open_msf,
@@ -13,3 +18,4 @@ pub use pdb_container::{
 pub use pdb_items::{IdIndex, Local, TypeIndex};
 pub use rva::{PdbInternalRva, Rva};
 pub use section_offset::{PdbInternalSectionOffset, SectionOffset};
+pub use sections::{ImageSectionHeader, SectionCharacteristics, parse_section_headers};

@@ -1,0 +1,2 @@
+pub mod OmapLemmas
+pub mod PlaceSteps
