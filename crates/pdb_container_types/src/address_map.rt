@@ -113,7 +113,7 @@ impl<'s> AddressMap<'s> {
 
 /// Whether no source of a map lies below the one before it.
 fn is_in_order(omap: Option<&[OMAPRecord]>) -> bool
-    ensures { Decides result (IsInOrder (records_of omap)) }
+    ensures { Decides result (IsInOrder (records_of omap.entry)) }
 {
     match omap {
         None => true,
@@ -124,7 +124,7 @@ fn is_in_order(omap: Option<&[OMAPRecord]>) -> bool
 /// What an address becomes; itself without a map.
 fn translate(omap: Option<&[OMAPRecord]>, address: u32) -> Option<u32>
     requires { IsInOrder (records_of omap) }
-    ensures { result ≡ translated (records_of omap) address }
+    ensures { result ≡ translated (records_of omap.entry) address }
 {
     match omap {
         None => Some(address),

@@ -1,7 +1,14 @@
 //! Addresses relative to an image's start.
 
 ghost use Rattle.std.specs.Prelude.{◌≡◌, ◌+◌, ◌-◌, ◌%◌, ◌^◌, min, option_map};
+ghost use Rattle.pdb_container_types.specs.Addresses.{IsOrdered, inner, outer, inner_place, outer_place};
 ghost use Rattle.pdb_container_types.specs.Numbers.{in_32_bits, distance, distance_around, image_address, internal_address};
+ghost use Rattle.pdb_container_types.specs.Places.{image_place, internal_place as in_internal_space};
+ghost use Rattle.pdb_container_types.specs.Sections.{place as place_of};
+
+use crate::address_map::AddressMap;
+use crate::section_offset::{PdbInternalSectionOffset, SectionOffset};
+use crate::sections::{internal_place, place};
 
 /// An address in the image as it was loaded, in bytes from its start.
 #[derive(Clone, Copy, Debug, Default, PartialEq, Eq, PartialOrd, Ord, Hash)]
@@ -13,6 +20,29 @@ pub struct Rva(pub u32);
 pub struct PdbInternalRva(pub u32);
 
 impl Rva {
+    /// Its internal address; `None` where the map sends it nowhere.
+    pub fn to_internal_rva(self, map: &AddressMap<'_>) -> Option<PdbInternalRva>
+        requires { IsOrdered map.now }
+        ensures { result ≡ option_map internal_address (inner map.now self.0) }
+    {
+        map.inner(self.0).map(PdbInternalRva)
+    }
+
+    /// Its place among the image's sections; `None` where none holds it.
+    pub fn to_section_offset(self, map: &AddressMap<'_>) -> Option<SectionOffset>
+        ensures { result ≡ option_map image_place (place_of map.now.image self.0) }
+    {
+        place(map.image_sections(), self.0)
+    }
+
+    /// The internal place of its internal address; `None` where there is no such address, or no section holds it.
+    pub fn to_internal_offset(self, map: &AddressMap<'_>) -> Option<PdbInternalSectionOffset>
+        requires { IsOrdered map.now }
+        ensures { result ≡ option_map in_internal_space (inner_place map.now self.0) }
+    {
+        self.to_internal_rva(map)?.to_internal_offset(map)
+    }
+
     /// The address so many bytes on; `None` past 32 bits.
     pub fn checked_add(self, offset: u32) -> Option<Rva>
         ensures { result ≡ option_map image_address (in_32_bits (self.0 + offset)) }
@@ -57,6 +87,29 @@ impl Rva {
 }
 
 impl PdbInternalRva {
+    /// Its address in the image; `None` where the map sends it nowhere.
+    pub fn to_rva(self, map: &AddressMap<'_>) -> Option<Rva>
+        requires { IsOrdered map.now }
+        ensures { result ≡ option_map image_address (outer map.now self.0) }
+    {
+        map.outer(self.0).map(Rva)
+    }
+
+    /// The image's place of its address in the image; `None` where there is no such address, or no section holds it.
+    pub fn to_section_offset(self, map: &AddressMap<'_>) -> Option<SectionOffset>
+        requires { IsOrdered map.now }
+        ensures { result ≡ option_map image_place (outer_place map.now self.0) }
+    {
+        self.to_rva(map)?.to_section_offset(map)
+    }
+
+    /// Its place among the internal sections; `None` where none holds it.
+    pub fn to_internal_offset(self, map: &AddressMap<'_>) -> Option<PdbInternalSectionOffset>
+        ensures { result ≡ option_map in_internal_space (place_of map.now.internal self.0) }
+    {
+        internal_place(map.internal_sections(), self.0)
+    }
+
     /// The address so many bytes on; `None` past 32 bits.
     pub fn checked_add(self, offset: u32) -> Option<PdbInternalRva>
         ensures { result ≡ option_map internal_address (in_32_bits (self.0 + offset)) }

@@ -1,9 +1,14 @@
 //! Places in the sections of an image.
 
 ghost use Rattle.std.specs.Prelude.{◌≡◌, ◌+◌, ◌-◌, ◌%◌, ◌^◌, min, option_map};
-ghost use Rattle.pdb_container_types.specs.Numbers.{in_32_bits};
-ghost use Rattle.pdb_container_types.specs.Places.{compared, image_place_at, internal_place_at};
+ghost use Rattle.pdb_container_types.specs.Addresses.{IsOrdered, inner_of_place, outer_of_place, place_inside, place_outside};
+ghost use Rattle.pdb_container_types.specs.Numbers.{in_32_bits, image_address, internal_address};
+ghost use Rattle.pdb_container_types.specs.Places.{compared, image_place, internal_place, image_place_at, internal_place_at};
+ghost use Rattle.pdb_container_types.specs.Sections.{address as address_of};
 
+use crate::address_map::AddressMap;
+use crate::rva::{PdbInternalRva, Rva};
+use crate::sections::address;
 use std::cmp::Ordering;
 
 /// A place in the image as it was loaded: a section's number, counted from 1, and an offset in it in bytes.
@@ -34,6 +39,30 @@ impl PartialOrd for SectionOffset {
 }
 
 impl SectionOffset {
+    /// Its address in the image; `None` past 32 bits, and for a section that isn't there.
+    pub fn to_rva(self, map: &AddressMap<'_>) -> Option<Rva>
+        ensures { result ≡ option_map image_address (address_of map.now.image self.section self.offset) }
+    {
+        address(map.image_sections(), self.section, self.offset).map(Rva)
+    }
+
+    /// The internal address of its address; `None` where there is no such address, or the map sends it nowhere.
+    pub fn to_internal_rva(self, map: &AddressMap<'_>) -> Option<PdbInternalRva>
+        requires { IsOrdered map.now }
+        ensures { result ≡ option_map internal_address (inner_of_place map.now self.section self.offset) }
+    {
+        self.to_rva(map)?.to_internal_rva(map)
+    }
+
+    /// The internal place of its address; `None` where there is no such address, the map sends it nowhere, or no section
+    /// holds what it becomes.
+    pub fn to_internal_offset(self, map: &AddressMap<'_>) -> Option<PdbInternalSectionOffset>
+        requires { IsOrdered map.now }
+        ensures { result ≡ option_map internal_place (place_inside map.now self.section self.offset) }
+    {
+        self.to_rva(map)?.to_internal_offset(map)
+    }
+
     /// The place so many bytes on, in the same section; `None` past 32 bits.
     pub fn checked_add(self, offset: u32) -> Option<SectionOffset>
         ensures { result ≡ option_map (image_place_at self) (in_32_bits (self.offset + offset)) }
@@ -92,6 +121,31 @@ impl PartialOrd for PdbInternalSectionOffset {
 }
 
 impl PdbInternalSectionOffset {
+    /// The address in the image of its internal address; `None` where there is no such address, or the map sends it
+    /// nowhere.
+    pub fn to_rva(self, map: &AddressMap<'_>) -> Option<Rva>
+        requires { IsOrdered map.now }
+        ensures { result ≡ option_map image_address (outer_of_place map.now self.section self.offset) }
+    {
+        self.to_internal_rva(map)?.to_rva(map)
+    }
+
+    /// Its internal address; `None` past 32 bits, and for a section that isn't there.
+    pub fn to_internal_rva(self, map: &AddressMap<'_>) -> Option<PdbInternalRva>
+        ensures { result ≡ option_map internal_address (address_of map.now.internal self.section self.offset) }
+    {
+        address(map.internal_sections(), self.section, self.offset).map(PdbInternalRva)
+    }
+
+    /// The image's place of its address; `None` where there is no such address, the map sends it nowhere, or no section
+    /// holds what it becomes.
+    pub fn to_section_offset(self, map: &AddressMap<'_>) -> Option<SectionOffset>
+        requires { IsOrdered map.now }
+        ensures { result ≡ option_map image_place (place_outside map.now self.section self.offset) }
+    {
+        self.to_internal_rva(map)?.to_section_offset(map)
+    }
+
     /// The place so many bytes on, in the same section; `None` past 32 bits.
     pub fn checked_add(self, offset: u32) -> Option<PdbInternalSectionOffset>
         ensures { result ≡ option_map (internal_place_at self) (in_32_bits (self.offset + offset)) }

@@ -5,10 +5,10 @@ ghost use Rattle.std.specs.Str.{IsUtf8};
 ghost use Rattle.pdb_container.specs.Buffer.{Reads};
 ghost use Rattle.pdb_container.specs.Fault.{Gives};
 ghost use Rattle.pdb_container.specs.Fields.{bytes_of};
-ghost use Rattle.pdb_container_types.specs.Places.{image_place};
+ghost use Rattle.pdb_container_types.specs.Places.{image_place, internal_place as in_internal_space};
 ghost use Rattle.pdb_container_types.specs.Sections.{section_headers_of, text_before_nul, may_execute, place_in, place as place_of, address as address_of};
 
-use crate::section_offset::SectionOffset;
+use crate::section_offset::{PdbInternalSectionOffset, SectionOffset};
 use pdb_container::{FromBuffer, ParseBuffer, Result};
 use std::alloc::Global;
 
@@ -52,7 +52,7 @@ pub struct ImageSectionHeader {
 
 /// A section header, 40 bytes; `UnexpectedEof` where fewer are left.
 impl FromBuffer for ImageSectionHeader {
-    ghost use Rattle.pdb_container_types.specs.Places.{image_place};
+    ghost use Rattle.pdb_container_types.specs.Places.{image_place, internal_place as in_internal_space};
 ghost use Rattle.pdb_container_types.specs.Sections.{section_header_at};
 
     ghost read = { section_header_at };
@@ -131,7 +131,7 @@ pub fn parse_section_headers(alloc: Global, bytes: &[u8]) -> Result<Vec<ImageSec
     Ok(sections)
 }
 
-/// The place of an address, by the definition's number and offset: that of the first section that holds it, all before
+/// The image's place of an address: that of the first section that holds it, all before
 /// it and itself beginning at or below it. `None` without such a section, and past section 65535.
 #[tactic(auto, using(crate::proofs::PlaceSteps::place_stops, crate::proofs::PlaceSteps::place_holds, crate::proofs::PlaceSteps::place_goes_on, crate::proofs::PlaceSteps::place_ends))]
 pub(crate) fn place(sections: &[ImageSectionHeader], address: u32) -> Option<SectionOffset>
@@ -147,6 +147,19 @@ pub(crate) fn place(sections: &[ImageSectionHeader], address: u32) -> Option<Sec
         }
     }
     None
+}
+
+/// The internal place of an address, in the same way among the internal sections.
+pub(crate) fn internal_place(
+    sections: &[ImageSectionHeader],
+    address: u32,
+) -> Option<PdbInternalSectionOffset>
+    ensures { result ≡ option_map in_internal_space (place_of sections.now address) }
+{
+    match place(sections, address) {
+        None => None,
+        Some(SectionOffset { offset, section }) => Some(PdbInternalSectionOffset { offset, section }),
+    }
 }
 
 /// The place at an offset of the section with that index, counted from 0.
