@@ -1,2 +1,3 @@
 pub mod OmapLemmas
 pub mod PlaceSteps
+pub mod RunSteps

@@ -3,4 +3,5 @@ pub mod ComparedLaws
 pub mod Numbers
 pub mod Omap
 pub mod Places
+pub mod SectionRun
 pub mod Sections

@@ -6,6 +6,7 @@ mod numbers;
 mod omap;
 mod rva;
 mod section_offset;
+mod section_run;
 mod sections;
 
 pub use address_map::AddressMap;
