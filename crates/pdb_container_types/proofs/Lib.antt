@@ -1,3 +1,5 @@
 pub mod OmapLemmas
 pub mod PlaceSteps
+pub mod RangeSteps
+pub mod RunLemmas
 pub mod RunSteps

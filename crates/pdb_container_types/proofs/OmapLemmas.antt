@@ -63,13 +63,13 @@ number_is records a (suc i) le at =
 
 -- ---- where a map sends an address
 
-abbrev goes : List OMAPRecord → ℕ → ℕ → Option ℕ
+abbrev pub goes : List OMAPRecord → ℕ → ℕ → Option ℕ
 goes records a n = option_and_then (sent_by a) (record_at records n)
 
-no_first : (records : List OMAPRecord) (a n : ℕ) → n ≡ 0 → goes records a n ≡ None
+pub no_first : (records : List OMAPRecord) (a n : ℕ) → n ≡ 0 → goes records a n ≡ None
 no_first records a n none = rw none refl
 
-record_before : (records : List OMAPRecord) (a n : ℕ) (d : OMAPRecord) → n ≢ 0 → n ≤ length records → goes records a n ≡ sent_by a (get_or records (n - 1) d)
+pub record_before : (records : List OMAPRecord) (a n : ℕ) (d : OMAPRecord) → n ≢ 0 → n ≤ length records → goes records a n ≡ sent_by a (get_or records (n - 1) d)
 record_before records a n d some le =
     rw (ne_eqb n 0 some, slice_get-get_or records (n - 1) d (omega arith)) refl
 

@@ -4,6 +4,7 @@
 mod address_map;
 mod numbers;
 mod omap;
+mod ranges;
 mod rva;
 mod section_offset;
 mod section_run;
@@ -17,6 +18,7 @@ pub use pdb_container::{
     ReadView, Result, Source, SourceSlice, Stream, open_msf,
 };
 pub use pdb_items::{IdIndex, Local, TypeIndex};
+pub use ranges::{PdbInternalRvaRangeIter, RvaRangeIter};
 pub use rva::{PdbInternalRva, Rva};
 pub use section_offset::{PdbInternalSectionOffset, SectionOffset};
 pub use sections::{ImageSectionHeader, SectionCharacteristics, parse_section_headers};

@@ -81,6 +81,7 @@ pub(crate) fn last_number(records: &[OMAPRecord], address: u32) -> usize
     ensures number { result ≡ number_of_last records.now address }
     ensures bound { result ≤ length records.now }
     ensures low { AllWithin (λ r. r.source_address ≤ address) records.now 0 result }
+    ensures high { AllWithin (λ r. address < r.source_address) records.now result (length records.now) }
 {
     records.partition_point(|record| record.source_address <= address)
 }
