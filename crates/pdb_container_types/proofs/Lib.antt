@@ -1,4 +1,5 @@
 pub mod OmapLemmas
+pub mod PlaceBack
 pub mod PlaceSteps
 pub mod RangeSteps
 pub mod RunLemmas

@@ -2,6 +2,7 @@
 #![tactic(auto)]
 
 mod address_map;
+pub mod laws;
 mod numbers;
 mod omap;
 mod ranges;
