@@ -10,6 +10,8 @@ mod rva;
 mod section_offset;
 mod section_run;
 mod sections;
+#[cfg(test)]
+mod tests;
 
 pub use address_map::AddressMap;
 pub use numbers::{FileIndex, SymbolIndex};
