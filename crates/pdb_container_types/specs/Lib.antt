@@ -1,0 +1,9 @@
+pub mod Addresses
+pub mod ComparedLaws
+pub mod Cursor
+pub mod Numbers
+pub mod Omap
+pub mod Places
+pub mod Ranges
+pub mod SectionRun
+pub mod Sections

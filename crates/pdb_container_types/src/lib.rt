@@ -1,8 +1,27 @@
 //! What a program database is made of: its container, the records of types and ids, and the addresses of its image.
 #![tactic(auto)]
 
+mod address_map;
+pub mod laws;
+mod numbers;
+mod omap;
+mod ranges;
+mod rva;
+mod section_offset;
+mod section_run;
+mod sections;
+#[cfg(test)]
+mod tests;
+
+pub use address_map::AddressMap;
+pub use numbers::{FileIndex, SymbolIndex};
+pub use omap::{OMAPRecord, parse_omap};
 pub use pdb_container::{
     BigMSF, Error, FallibleIterator, FromBuffer, ModuleFault, Msf, PageList, ParseBuffer, RawString,
     ReadView, Result, Source, SourceSlice, Stream, open_msf,
 };
 pub use pdb_items::{IdIndex, Local, TypeIndex};
+pub use ranges::{PdbInternalRvaRangeIter, RvaRangeIter};
+pub use rva::{PdbInternalRva, Rva};
+pub use section_offset::{PdbInternalSectionOffset, SectionOffset};
+pub use sections::{ImageSectionHeader, SectionCharacteristics, parse_section_headers};

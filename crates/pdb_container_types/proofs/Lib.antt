@@ -1,0 +1,6 @@
+pub mod OmapLemmas
+pub mod PlaceBack
+pub mod PlaceSteps
+pub mod RangeSteps
+pub mod RunLemmas
+pub mod RunSteps

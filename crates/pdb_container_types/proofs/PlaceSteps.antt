@@ -1,0 +1,35 @@
+-- A step of the walk over the sections.
+use Rattle.std.proofs.Common.{◌≡◌, ℕ, ◌+◌, ◌-◌, ◌<◌, ◌≤◌, List, ◌∷◌, length, get_or, drop, refl, sym, ap, ◌∙◌}
+use Rattle.std.specs.Prelude.{Option, None}
+use Rattle.std.proofs.lemmas.Bool.{lt-ltb, le-ltb}
+use Rattle.std.proofs.lemmas.List.{drop_more, drop_all}
+use Rattle.pdb_container_types.specs.declared.sections.ImageSectionHeader.{ImageSectionHeader}
+use Rattle.pdb_container_types.specs.Places.{Place}
+use Rattle.pdb_container_types.specs.Sections.{place_in, place_from}
+
+at : (sections : List ImageSectionHeader) (i address : ℕ) (d : ImageSectionHeader) → i < length sections
+    → place_from (i + 1) (drop i sections) address ≡ place_from (i + 1) (get_or sections i d ∷ drop (i + 1) sections) address
+at sections i address d lt = ap (λ (xs : List ImageSectionHeader). place_from (i + 1) xs address) (drop_more sections i d lt)
+
+pub place_stops : (sections : List ImageSectionHeader) (i address : ℕ) (d : ImageSectionHeader) (all : Option Place) → i < length sections
+    → address < (get_or sections i d).virtual_address → place_from (i + 1) (drop i sections) address ≡ all → all ≡ None
+place_stops sections i address d all lt below so_far =
+    sym so_far ∙ at sections i address d lt ∙ rw (lt-ltb address (get_or sections i d).virtual_address below) refl
+
+pub place_holds : (sections : List ImageSectionHeader) (i address : ℕ) (d : ImageSectionHeader) (all : Option Place) → i < length sections
+    → (get_or sections i d).virtual_address ≤ address → address - (get_or sections i d).virtual_address < (get_or sections i d).virtual_size
+    → place_from (i + 1) (drop i sections) address ≡ all → all ≡ place_in (i + 1) (address - (get_or sections i d).virtual_address)
+place_holds sections i address d all lt above inside so_far =
+    sym so_far ∙ at sections i address d lt
+    ∙ rw (le-ltb address (get_or sections i d).virtual_address above, lt-ltb (address - (get_or sections i d).virtual_address) (get_or sections i d).virtual_size inside) refl
+
+pub place_goes_on : (sections : List ImageSectionHeader) (i address : ℕ) (d : ImageSectionHeader) (all : Option Place) → i < length sections
+    → (get_or sections i d).virtual_address ≤ address → (get_or sections i d).virtual_size ≤ address - (get_or sections i d).virtual_address
+    → place_from (i + 1) (drop i sections) address ≡ all → place_from (i + 1 + 1) (drop (i + 1) sections) address ≡ all
+place_goes_on sections i address d all lt above past so_far =
+    sym (at sections i address d lt
+    ∙ rw (le-ltb address (get_or sections i d).virtual_address above, le-ltb (address - (get_or sections i d).virtual_address) (get_or sections i d).virtual_size past) refl) ∙ so_far
+
+pub place_ends : (sections : List ImageSectionHeader) (i address : ℕ) (all : Option Place) → length sections ≤ i
+    → place_from (i + 1) (drop i sections) address ≡ all → all ≡ None
+place_ends sections i address all past so_far = sym so_far ∙ ap (λ (xs : List ImageSectionHeader). place_from (i + 1) xs address) (drop_all i sections past)

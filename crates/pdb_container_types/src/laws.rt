@@ -1,0 +1,48 @@
+//! Laws of the definitions: functions that do nothing, whose contracts are proved.
+
+ghost use Rattle.std.specs.Prelude.{◌≡◌, ◌≢◌, ◌↔◌, ◌<◌, ◌^◌, ℕ, List, None, Some, true};
+ghost use Rattle.std.specs.declared.cmp.Ordering.TheVariants.{Equal};
+ghost use Rattle.pdb_container_types.specs.Addresses.{Map, inner, outer};
+ghost use Rattle.pdb_container_types.specs.Places.{Place};
+ghost use Rattle.pdb_container_types.specs.Sections.{place, address};
+ghost use Rattle.pdb_container_types.specs.declared.numbers.FileIndex.{FileIndex as FileNumber};
+ghost use Rattle.pdb_container_types.specs.declared.numbers.SymbolIndex.{SymbolIndex as SymbolNumber};
+ghost use Rattle.pdb_container_types.specs.declared.rva.Rva.{Rva as ImageAddress};
+ghost use Rattle.pdb_container_types.specs.declared.rva.PdbInternalRva.{PdbInternalRva as InternalAddress};
+ghost use Rattle.pdb_container_types.specs.declared.section_offset.SectionOffset.{SectionOffset as ImagePlace};
+ghost use Rattle.pdb_container_types.specs.declared.section_offset.PdbInternalSectionOffset.{PdbInternalSectionOffset as InternalPlace};
+ghost use Rattle.pdb_container_types.specs.declared.sections.ImageSectionHeader.{ImageSectionHeader as Header};
+
+use crate::numbers::{FileIndex, SymbolIndex};
+use crate::rva::{PdbInternalRva, Rva};
+use crate::section_offset::{PdbInternalSectionOffset, SectionOffset};
+use std::hash::Hash;
+
+/// Where there is no map in a direction, addresses keep their numbers that way.
+pub fn without_maps()
+    ensures inward { (m : Map) (a : ℕ) → m.to_internal ≡ None → inner m a ≡ Some a }
+    ensures outward { (m : Map) (a : ℕ) → m.to_image ≡ None → outer m a ≡ Some a }
+{}
+
+/// The place of an address has that address, in every list of sections.
+pub fn place_and_back()
+    ensures { (sections : List Header) (a : ℕ) (p : Place) → a < 2 ^ 32 → place sections a ≡ Some p → address sections p.section p.offset ≡ Some a }
+{}
+
+/// Two places compare as equal exactly where they are equal, and don't compare exactly where their sections differ.
+pub fn compared_places()
+    ensures image_equal { (a b : ImagePlace) → (⟦<SectionOffset as PartialOrd>⟧.partial_cmp a b ≡ Some Equal) ↔ (a ≡ b) }
+    ensures image_none { (a b : ImagePlace) → (⟦<SectionOffset as PartialOrd>⟧.partial_cmp a b ≡ None) ↔ (a.section ≢ b.section) }
+    ensures internal_equal { (a b : InternalPlace) → (⟦<PdbInternalSectionOffset as PartialOrd>⟧.partial_cmp a b ≡ Some Equal) ↔ (a ≡ b) }
+    ensures internal_none { (a b : InternalPlace) → (⟦<PdbInternalSectionOffset as PartialOrd>⟧.partial_cmp a b ≡ None) ↔ (a.section ≢ b.section) }
+{}
+
+/// `==` of addresses, places and indices answers true exactly for one and the same value, and equal values hash alike.
+pub fn equal_hash_alike()
+    ensures image_address { (a b : ImageAddress) → ((⟦<Rva as PartialEq>⟧.eq a b ≡ true) ↔ (a ≡ b)) × (a ≡ b → ⟦<Rva as Hash>⟧.hash_input a ≡ ⟦<Rva as Hash>⟧.hash_input b) }
+    ensures internal_address { (a b : InternalAddress) → ((⟦<PdbInternalRva as PartialEq>⟧.eq a b ≡ true) ↔ (a ≡ b)) × (a ≡ b → ⟦<PdbInternalRva as Hash>⟧.hash_input a ≡ ⟦<PdbInternalRva as Hash>⟧.hash_input b) }
+    ensures image_place { (a b : ImagePlace) → ((⟦<SectionOffset as PartialEq>⟧.eq a b ≡ true) ↔ (a ≡ b)) × (a ≡ b → ⟦<SectionOffset as Hash>⟧.hash_input a ≡ ⟦<SectionOffset as Hash>⟧.hash_input b) }
+    ensures internal_place { (a b : InternalPlace) → ((⟦<PdbInternalSectionOffset as PartialEq>⟧.eq a b ≡ true) ↔ (a ≡ b)) × (a ≡ b → ⟦<PdbInternalSectionOffset as Hash>⟧.hash_input a ≡ ⟦<PdbInternalSectionOffset as Hash>⟧.hash_input b) }
+    ensures file { (a b : FileNumber) → ((⟦<FileIndex as PartialEq>⟧.eq a b ≡ true) ↔ (a ≡ b)) × (a ≡ b → ⟦<FileIndex as Hash>⟧.hash_input a ≡ ⟦<FileIndex as Hash>⟧.hash_input b) }
+    ensures symbol { (a b : SymbolNumber) → ((⟦<SymbolIndex as PartialEq>⟧.eq a b ≡ true) ↔ (a ≡ b)) × (a ≡ b → ⟦<SymbolIndex as Hash>⟧.hash_input a ≡ ⟦<SymbolIndex as Hash>⟧.hash_input b) }
+{}
