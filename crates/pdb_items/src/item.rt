@@ -76,10 +76,11 @@ impl<'t> Item<'t, TypeIndex> {
     pub fn parse(&self, alloc: Global) -> Result<TypeData<'t>>
         ensures { Gives shape ⊥ result (type_of_item self.now.index.0 (item_bytes self.now)) }
     {
-        if self.index.0 < FIRST_RECORD {
-            type_data_for_primitive(self.index)
+        let index = self.index();
+        if index.0 < FIRST_RECORD {
+            type_data_for_primitive(index)
         } else {
-            parse_type_data(alloc, self.bytes)
+            parse_type_data(alloc, self.raw_bytes())
         }
     }
 }
@@ -92,6 +93,6 @@ impl<'t> Item<'t, IdIndex> {
     pub fn parse(&self, alloc: Global) -> Result<IdData<'t>>
         ensures { Gives id_shape ⊥ result (id_form_of (item_bytes self.now)) }
     {
-        parse_id_data(alloc, self.bytes)
+        parse_id_data(alloc, self.raw_bytes())
     }
 }
