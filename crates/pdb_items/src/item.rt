@@ -76,7 +76,7 @@ impl<'t> Item<'t, TypeIndex> {
     pub fn parse(&self, alloc: Global) -> Result<TypeData<'t>>
         ensures { Gives shape ⊥ result (type_of_item self.now.index.0 (item_bytes self.now)) }
     {
-        let index = self.index();
+        let index = Item::index(self);
         if index.0 < FIRST_RECORD {
             type_data_for_primitive(index)
         } else {
