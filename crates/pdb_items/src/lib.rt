@@ -10,6 +10,7 @@ mod item_iter;
 mod item_list;
 #[cfg(test)]
 mod item_tests;
+pub mod laws;
 
 pub use index::{IdIndex, ItemIndex, Local, TypeIndex};
 pub use item::Item;
