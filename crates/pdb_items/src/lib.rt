@@ -11,6 +11,7 @@ mod item_iter;
 mod item_list;
 #[cfg(test)]
 mod item_tests;
+pub mod laws;
 mod leaves;
 mod parse_id;
 mod parse_list;
