@@ -1,7 +1,7 @@
 -- Numbers that are addresses: of 32 bits.
 use Rattle.std.specs.Prelude.{ℕ, ◌+◌, ◌-◌, ◌^◌, ◌%◌, nat_lt, Option, None, Some, if◌then◌else◌}
 use Rattle.pdb_container_types.specs.declared.rva.Rva.{Rva}
-use Rattle.pdb_container_types.specs.declared.rva.PdbInternalRva.{PdbInternalRva}
+use Rattle.pdb_container_types.specs.declared.internal_rva.PdbInternalRva.{PdbInternalRva}
 
 -- a number, if it fits 32 bits
 abbrev pub in_32_bits : ℕ → Option ℕ

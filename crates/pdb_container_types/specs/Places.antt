@@ -3,7 +3,7 @@ use Rattle.std.specs.Prelude.{ℕ, ◌==◌, Option, None, Some, if◌then◌els
 use Rattle.std.specs.declared.cmp.Ordering.{Ordering}
 use Rattle.std.specs.Ordering.{nat_cmp}
 use Rattle.pdb_container_types.specs.declared.section_offset.SectionOffset.{SectionOffset}
-use Rattle.pdb_container_types.specs.declared.section_offset.PdbInternalSectionOffset.{PdbInternalSectionOffset}
+use Rattle.pdb_container_types.specs.declared.internal_section_offset.PdbInternalSectionOffset.{PdbInternalSectionOffset}
 
 -- a section's number, counted from 1, and an offset in it
 pub record Place : Type 0 where

@@ -3,7 +3,7 @@ use Rattle.std.specs.Prelude.{◌≡◌, ℕ, zero, suc, ◌+◌, ◌-◌, ◌^�
 use Rattle.std.specs.declared.ops.Range.{Range}
 use Rattle.pdb_container_types.specs.declared.omap.OMAPRecord.{OMAPRecord}
 use Rattle.pdb_container_types.specs.declared.rva.Rva.{Rva}
-use Rattle.pdb_container_types.specs.declared.rva.PdbInternalRva.{PdbInternalRva}
+use Rattle.pdb_container_types.specs.declared.internal_rva.PdbInternalRva.{PdbInternalRva}
 use Rattle.pdb_container_types.specs.Numbers.{image_address, internal_address}
 use Rattle.pdb_container_types.specs.Omap.{last_number, translated}
 

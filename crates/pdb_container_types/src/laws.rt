@@ -8,14 +8,16 @@ ghost use Rattle.pdb_container_types.specs.Sections.{place, address};
 ghost use Rattle.pdb_container_types.specs.declared.numbers.FileIndex.{FileIndex as FileNumber};
 ghost use Rattle.pdb_container_types.specs.declared.numbers.SymbolIndex.{SymbolIndex as SymbolNumber};
 ghost use Rattle.pdb_container_types.specs.declared.rva.Rva.{Rva as ImageAddress};
-ghost use Rattle.pdb_container_types.specs.declared.rva.PdbInternalRva.{PdbInternalRva as InternalAddress};
+ghost use Rattle.pdb_container_types.specs.declared.internal_rva.PdbInternalRva.{PdbInternalRva as InternalAddress};
 ghost use Rattle.pdb_container_types.specs.declared.section_offset.SectionOffset.{SectionOffset as ImagePlace};
-ghost use Rattle.pdb_container_types.specs.declared.section_offset.PdbInternalSectionOffset.{PdbInternalSectionOffset as InternalPlace};
+ghost use Rattle.pdb_container_types.specs.declared.internal_section_offset.PdbInternalSectionOffset.{PdbInternalSectionOffset as InternalPlace};
 ghost use Rattle.pdb_container_types.specs.declared.sections.ImageSectionHeader.{ImageSectionHeader as Header};
 
 use crate::numbers::{FileIndex, SymbolIndex};
-use crate::rva::{PdbInternalRva, Rva};
-use crate::section_offset::{PdbInternalSectionOffset, SectionOffset};
+use crate::internal_rva::PdbInternalRva;
+use crate::rva::Rva;
+use crate::internal_section_offset::PdbInternalSectionOffset;
+use crate::section_offset::SectionOffset;
 use std::hash::Hash;
 
 /// Where there is no map in a direction, addresses keep their numbers that way.

@@ -2,6 +2,8 @@
 #![tactic(auto)]
 
 mod address_map;
+mod internal_rva;
+mod internal_section_offset;
 pub mod laws;
 mod numbers;
 mod omap;
@@ -14,6 +16,8 @@ mod sections;
 mod tests;
 
 pub use address_map::AddressMap;
+pub use internal_rva::PdbInternalRva;
+pub use internal_section_offset::PdbInternalSectionOffset;
 pub use numbers::{FileIndex, SymbolIndex};
 pub use omap::{OMAPRecord, parse_omap};
 pub use pdb_container::{
@@ -22,6 +26,6 @@ pub use pdb_container::{
 };
 pub use pdb_items::{IdIndex, Local, TypeIndex};
 pub use ranges::{PdbInternalRvaRangeIter, RvaRangeIter};
-pub use rva::{PdbInternalRva, Rva};
-pub use section_offset::{PdbInternalSectionOffset, SectionOffset};
+pub use rva::Rva;
+pub use section_offset::SectionOffset;
 pub use sections::{ImageSectionHeader, SectionCharacteristics, parse_section_headers};

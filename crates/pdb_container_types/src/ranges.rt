@@ -9,7 +9,8 @@ ghost use Rattle.pdb_container_types.specs.Ranges.{runs, image_ranges, internal_
 
 use crate::address_map::AddressMap;
 use crate::omap::{OMAPRecord, last_number, sent_by};
-use crate::rva::{PdbInternalRva, Rva};
+use crate::internal_rva::PdbInternalRva;
+use crate::rva::Rva;
 use std::marker::Model;
 use std::ops::Range;
 
@@ -222,7 +223,7 @@ pub struct PdbInternalRvaRangeIter<'t>(RangeIter<'t>);
 impl<'t> Model for PdbInternalRvaRangeIter<'t> {
     ghost use Rattle.std.specs.Prelude.{List, map};
     ghost use Rattle.std.specs.declared.ops.Range.{Range as Between};
-    ghost use Rattle.pdb_container_types.specs.declared.rva.PdbInternalRva.{PdbInternalRva as Address};
+    ghost use Rattle.pdb_container_types.specs.declared.internal_rva.PdbInternalRva.{PdbInternalRva as Address};
     ghost use Rattle.pdb_container_types.specs.Ranges.{internal_range};
 
     ghost Value = { List (Between Address) };

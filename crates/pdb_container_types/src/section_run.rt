@@ -6,8 +6,8 @@ ghost use Rattle.pdb_container_types.specs.SectionRun.{bounds, nearer as nearer_
 ghost use Rattle.pdb_container_types.specs.Sections.{place as place_of};
 
 use crate::address_map::AddressMap;
-use crate::rva::PdbInternalRva;
-use crate::section_offset::PdbInternalSectionOffset;
+use crate::internal_rva::PdbInternalRva;
+use crate::internal_section_offset::PdbInternalSectionOffset;
 use crate::sections::{ImageSectionHeader, internal_place};
 
 impl<'s> AddressMap<'s> {

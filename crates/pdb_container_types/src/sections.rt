@@ -8,7 +8,8 @@ ghost use Rattle.pdb_container.specs.Fields.{bytes_of};
 ghost use Rattle.pdb_container_types.specs.Places.{image_place, internal_place as in_internal_space};
 ghost use Rattle.pdb_container_types.specs.Sections.{section_headers_of, text_before_nul, may_execute, place_in, place as place_of, address as address_of};
 
-use crate::section_offset::{PdbInternalSectionOffset, SectionOffset};
+use crate::internal_section_offset::PdbInternalSectionOffset;
+use crate::section_offset::SectionOffset;
 use pdb_container::{FromBuffer, ParseBuffer, Result};
 use std::alloc::Global;
 
