@@ -57,7 +57,7 @@ impl ItemIndex for TypeIndex {
     ghost index = { type_index };
 
     fn is_cross_module(self) -> bool {
-        self.0 & 0x8000_0000 != 0
+        has_bit_31(self.0)
     }
 
     ghost there_and_back = { λ n h. refl };
@@ -98,7 +98,7 @@ impl ItemIndex for IdIndex {
     ghost index = { id_index };
 
     fn is_cross_module(self) -> bool {
-        self.0 & 0x8000_0000 != 0
+        has_bit_31(self.0)
     }
 
     ghost there_and_back = { λ n h. refl };
@@ -113,3 +113,9 @@ impl ItemIndex for IdIndex {
 /// An index as one module names it, which leads into another module where bit 31 is set.
 #[derive(Clone, Copy, Debug, Default, PartialEq, Eq, PartialOrd, Ord, Hash)]
 pub struct Local<I>(pub I);
+
+fn has_bit_31(number: u32) -> bool
+    ensures { result ≡ is_cross_module number }
+{
+    number & 0x8000_0000 != 0
+}

@@ -1,18 +1,21 @@
-//! Laws of finders.
+//! Laws of finders and of indices.
 
-ghost use Rattle.std.specs.Prelude.{◌≡◌, ◌<◌, IfOk, IsOkUnless};
+ghost use Rattle.std.specs.Prelude.{◌≡◌, ◌↔◌, ◌<◌, true, IfOk, IsOkUnless};
 ghost use Rattle.pdb_container.specs.Fault.{Parses};
 ghost use Rattle.pdb_items.specs.Item.{item_bytes};
 ghost use Rattle.pdb_items.specs.Items.{item_at};
 ghost use Rattle.pdb_items.specs.Tables.{first_unknown};
+ghost use Rattle.pdb_items.specs.declared.index.IdIndex.{IdIndex as IdNumber};
+ghost use Rattle.pdb_items.specs.declared.index.TypeIndex.{TypeIndex as TypeNumber};
 
-use crate::index::ItemIndex;
+use crate::index::{IdIndex, ItemIndex, TypeIndex};
 use crate::item::Item;
 use crate::item_finder::ItemFinder;
 use crate::item_information::ItemInformation;
 use crate::item_iter::ItemIter;
 use pdb_container::{Error, Result};
 use std::alloc::Global;
+use std::hash::Hash;
 
 /// An index that a finder knows has one answer, by the whole table, whatever is shown to the finder in between.
 #[tactic(auto, unfolding(crate::specs::Tables::find_in))]
@@ -47,3 +50,9 @@ pub fn two_finders<'t, I: ItemIndex>(
     other.update(&second.iter());
     Ok((finder, other))
 }
+
+/// `==` of indices answers true exactly for one and the same index, and equal ones hash alike.
+pub fn equal_indices_hash_alike()
+    ensures types { (a b : TypeNumber) → ((⟦<TypeIndex as PartialEq>⟧.eq a b ≡ true) ↔ (a ≡ b)) × (a ≡ b → ⟦<TypeIndex as Hash>⟧.hash_input a ≡ ⟦<TypeIndex as Hash>⟧.hash_input b) }
+    ensures ids { (a b : IdNumber) → ((⟦<IdIndex as PartialEq>⟧.eq a b ≡ true) ↔ (a ≡ b)) × (a ≡ b → ⟦<IdIndex as Hash>⟧.hash_input a ≡ ⟦<IdIndex as Hash>⟧.hash_input b) }
+{}
