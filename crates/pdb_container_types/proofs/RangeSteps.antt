@@ -27,7 +27,7 @@ along_sum big top s k le = elim (cases_lt s big) [
     ]
 ]
 
-along_record : (r : OMAPRecord) (a k : ℕ) → source r ≤ a → option_and_then (below (2 ^ 32 - 1)) (sent_by (a + k) r) ≡ going (2 ^ 32 - 1) (sent_by a r) k
+pub along_record : (r : OMAPRecord) (a k : ℕ) → source r ≤ a → option_and_then (below (2 ^ 32 - 1)) (sent_by (a + k) r) ≡ going (2 ^ 32 - 1) (sent_by a r) k
 along_record r a k le = elim (cases_eq r.target_address 0) [
   | inl e ↦ rw (eq-eqb r.target_address 0 e) refl
   | inr other ↦
