@@ -1,7 +1,6 @@
 -- Runs laid end to end are what their addresses become one by one.
-use Rattle.std.proofs.Common.{◌≡◌, ◌≢◌, ℕ, zero, suc, ◌+◌, ◌-◌, ◌^◌, ◌<◌, ◌≤◌, inl, inr, List, [], ◌∷◌, ◌++◌, length, get_or, cond, leb, refl, sym, ap, ◌∙◌, subst, arith}
+use Rattle.std.proofs.Common.{◌≡◌, ◌≢◌, ℕ, zero, suc, ◌+◌, ◌-◌, ◌^◌, ◌<◌, ◌≤◌, inl, inr, List, [], ◌∷◌, length, get_or, cond, leb, refl, sym, ap, ◌∙◌, subst, arith}
 use Rattle.std.specs.Prelude.{Option, None, Some, option_and_then}
-use Rattle.std.specs.List.{range_with_len}
 use Rattle.std.proofs.lemmas.Bool.{lt-ltb, le-ltb, le-leb, lt-leb, eq-eqb, ne_eqb, cases_lt, cases_eq}
 use Rattle.pdb_container_types.specs.declared.omap.OMAPRecord.{OMAPRecord}
 use Rattle.pdb_container_types.specs.Laid.{laid_out, with_first, each_for_itself, one_by_one, ArePartedFrom, AreParted}
@@ -65,11 +64,11 @@ module _ (number : ℕ → ℕ) (becomes : ℕ → Option ℕ) where
         let next : becomes (a + 1) ≡ Some (x + 1) = on a h.away x r.start e (h.by ∙ sym same) h.first in
         let zero_on : a + 1 + 0 ≡ a + 1 = omega arith in
         elim (cases_eq h.away 0) [
-        | inl none ↦
-            let there : becomes (a + 1) ≡ Some r.start = subst (λ i. becomes i ≡ Some r.start) zero_on (subst (λ k. becomes (a + 1 + k) ≡ Some r.start) none h.first) in
-            let equal : r.start ≡ x + 1 = cc in
-            (equal, h.some)
-        | inr some ↦ some_is_not_none (becomes (a + 1)) (x + 1) next (subst (λ i. becomes i ≡ None) zero_on (h.before 0 (omega arith)))
+          | inl none ↦
+              let there : becomes (a + 1) ≡ Some r.start = subst (λ i. becomes i ≡ Some r.start) zero_on (subst (λ k. becomes (a + 1 + k) ≡ Some r.start) none h.first) in
+              let equal : r.start ≡ x + 1 = cc in
+              (equal, h.some)
+          | inr some ↦ some_is_not_none (becomes (a + 1)) (x + 1) next (subst (λ i. becomes i ≡ None) zero_on (h.before 0 (omega arith)))
         ]
 
     before_more : (a away : ℕ) → becomes a ≡ None → ((j : ℕ) → j < away → becomes (a + 1 + j) ≡ None) → (j : ℕ) → j < suc away → becomes (a + j) ≡ None
@@ -85,7 +84,7 @@ module _ (number : ℕ → ℕ) (becomes : ℕ → Option ℕ) where
           by = let g : a + suc h.away ≡ a + 1 + h.away = omega arith in rw g h.by;
           first = let g : a + suc h.away ≡ a + 1 + h.away = omega arith in rw g h.first;
           before = before_more a (h.away) is h.before;
-          some = h.some
+          some = h.some;
         }
     head_step a (Some x) [] r others is heads e =
         let same : record { number = number a; start = x; end = x + 1 } ≡ r = cc in
@@ -94,15 +93,15 @@ module _ (number : ℕ → ℕ) (becomes : ℕ → Option ℕ) where
     head_step a (Some x) (s ∷ more) r others is heads e =
         let at : a + 0 ≡ a = omega arith in
         elim (cases_eq (number a) s.number) [
-        | inl alike ↦
-            let next = next_of a x s (heads s more refl) is alike in
-            let merged : with_address (number a) (Some x) (s ∷ more) ≡ record { number = number a; start = x; end = s.end } ∷ more = rw (eq-eqb (number a) s.number alike) refl in
-            let same : record { number = number a; start = x; end = s.end } ≡ r = cc in
-            subst (Head a) same (record { away = 0; by = ap number at; first = ap becomes at ∙ is; before = λ j lt. absurd (omega arith); some = let p = next.0 in let q = next.1 in omega arith })
-        | inr other ↦
-            let apart : with_address (number a) (Some x) (s ∷ more) ≡ record { number = number a; start = x; end = x + 1 } ∷ s ∷ more = rw (ne_eqb (number a) s.number other) refl in
-            let same : record { number = number a; start = x; end = x + 1 } ≡ r = cc in
-            subst (Head a) same (record { away = 0; by = ap number at; first = ap becomes at ∙ is; before = λ j lt. absurd (omega arith); some = omega arith })
+          | inl alike ↦
+              let next = next_of a x s (heads s more refl) is alike in
+              let merged : with_address (number a) (Some x) (s ∷ more) ≡ record { number = number a; start = x; end = s.end } ∷ more = rw (eq-eqb (number a) s.number alike) refl in
+              let same : record { number = number a; start = x; end = s.end } ≡ r = cc in
+              subst (Head a) same (record { away = 0; by = ap number at; first = ap becomes at ∙ is; before = λ j lt. absurd (omega arith); some = let p = next.0 in let q = next.1 in omega arith })
+          | inr other ↦
+              let apart : with_address (number a) (Some x) (s ∷ more) ≡ record { number = number a; start = x; end = x + 1 } ∷ s ∷ more = rw (ne_eqb (number a) s.number other) refl in
+              let same : record { number = number a; start = x; end = x + 1 } ≡ r = cc in
+              subst (Head a) same (record { away = 0; by = ap number at; first = ap becomes at ∙ is; before = λ j lt. absurd (omega arith); some = omega arith })
         ]
 
     head_of : (n a : ℕ) (r : Run) (others : List Run) → runs_by number becomes a n ≡ r ∷ others → Head a r
@@ -115,7 +114,7 @@ module _ (number : ℕ → ℕ) (becomes : ℕ → Option ℕ) where
     laid zero a = refl
     laid (suc n) a =
         one_more (number a) (becomes a) (runs_by number becomes (a + 1) n)
-          (λ r others x inner e same. next_of a x r (head_of n (a + 1) r others inner) e same)
+        (λ r others x inner e same. next_of a x r (head_of n (a + 1) r others inner) e same)
         ∙ ap (with_first (becomes a)) (laid n (a + 1))
 
 -- ---- the numbers of records, however the sources lie
@@ -138,21 +137,21 @@ number_holds (r ∷ records) a n d e =
     let m = last_number records a in
     let first = first_of r a in
     elim (cases_eq m 0) [
-    | inl none ↦
-        let e' : first ≡ suc n = sym (few first m none) ∙ e in
-        elim (cases_lt a r.source_address) [
-        | inl past ↦ let z : first ≡ 0 = rw (lt-leb r.source_address a past) refl in absurd (omega arith)
-        | inr low ↦
-            let one : first ≡ 1 = rw (le-leb r.source_address a low) refl in
-            let z : 0 ≡ n = omega arith in
-            (omega arith, subst (λ i. source (get_or (r ∷ records) i d) ≤ a) z low)
-        ]
-    | inr some ↦
-        let e' : suc m ≡ suc n = sym (many first m some) ∙ e in
-        let before : m ≡ suc (m - 1) = omega arith in
-        let h = number_holds records a (m - 1) d before in
-        let z : suc (m - 1) ≡ n = omega arith in
-        (let p = h.0 in omega arith, subst (λ i. source (get_or (r ∷ records) i d) ≤ a) z h.1)
+      | inl none ↦
+          let e' : first ≡ suc n = sym (few first m none) ∙ e in
+          elim (cases_lt a r.source_address) [
+            | inl past ↦ let z : first ≡ 0 = rw (lt-leb r.source_address a past) refl in absurd (omega arith)
+            | inr low ↦
+                let one : first ≡ 1 = rw (le-leb r.source_address a low) refl in
+                let z : 0 ≡ n = omega arith in
+                (omega arith, subst (λ i. source (get_or (r ∷ records) i d) ≤ a) z low)
+          ]
+      | inr some ↦
+          let e' : suc m ≡ suc n = sym (many first m some) ∙ e in
+          let before : m ≡ suc (m - 1) = omega arith in
+          let h = number_holds records a (m - 1) d before in
+          let z : suc (m - 1) ≡ n = omega arith in
+          (let p = h.0 in omega arith, subst (λ i. source (get_or (r ∷ records) i d) ≤ a) z h.1)
     ]
 
 number_rises : (records : List OMAPRecord) (a b : ℕ) → a ≤ b → last_number records a ≤ last_number records b
@@ -166,13 +165,13 @@ number_rises (r ∷ records) a b le =
     let firsts : (first ≤ first') × (first ≤ 1) = elim (cases_lt a r.source_address) [
       | inl past ↦ let z : first ≡ 0 = rw (lt-leb r.source_address a past) refl in (omega arith, omega arith)
       | inr low ↦ let z : first ≡ 1 = rw (le-leb r.source_address a low) refl in let z' : first' ≡ 1 = rw (le-leb r.source_address b (omega arith)) refl in (omega arith, omega arith)
-      ] in
+    ] in
     elim (cases_eq m 0) [
-    | inl none ↦ elim (cases_eq m' 0) [
-      | inl none' ↦ rw (few first m none, few first' m' none') firsts.0
-      | inr some' ↦ rw (few first m none, many first' m' some') (let p = firsts.1 in omega arith)
+      | inl none ↦ elim (cases_eq m' 0) [
+        | inl none' ↦ rw (few first m none, few first' m' none') firsts.0
+        | inr some' ↦ rw (few first m none, many first' m' some') (let p = firsts.1 in omega arith)
       ]
-    | inr some ↦ rw (many first m some, many first' m' (λ z. omega arith)) (omega arith)
+      | inr some ↦ rw (many first m some, many first' m' (λ z. omega arith)) (omega arith)
     ]
 
 -- ---- the addresses of a map
@@ -185,8 +184,8 @@ going_on top k x y (Some s) e f = elim (cases_lt s top) [
       let here : below top s ≡ Some s = rw (lt-ltb s top low) refl in
       let same : s ≡ x = cc in
       elim (cases_lt (s + (1 + k)) top) [
-      | inr past ↦ some_is_not_none (below top (s + (1 + k))) y f (rw (le-ltb (s + (1 + k)) top past) refl)
-      | inl far ↦ rw (lt-ltb (s + 1) top (omega arith)) (ap (λ n. Some (n + 1)) same)
+        | inr past ↦ some_is_not_none (below top (s + (1 + k))) y f (rw (le-ltb (s + (1 + k)) top past) refl)
+        | inl far ↦ rw (lt-ltb (s + 1) top (omega arith)) (ap (λ n. Some (n + 1)) same)
       ]
 ]
 
@@ -202,7 +201,7 @@ kept_by records a k n at there =
     let h = number_holds records a n no_such at in
     let back : suc n - 1 ≡ n = omega arith in
     let by : goes records (a + k) (suc n) ≡ sent_by (a + k) (get_or records n no_such) =
-      subst (λ i. goes records (a + k) (suc n) ≡ sent_by (a + k) (get_or records i no_such)) back (record_before records (a + k) (suc n) no_such (λ z. omega arith) (let p = h.0 in omega arith)) in
+    subst (λ i. goes records (a + k) (suc n) ≡ sent_by (a + k) (get_or records i no_such)) back (record_before records (a + k) (suc n) no_such (λ z. omega arith) (let p = h.0 in omega arith)) in
     ap (λ i. option_and_then (below (2 ^ 32 - 1)) (goes records (a + k) i)) there
     ∙ ap (option_and_then (below (2 ^ 32 - 1))) by ∙ along_record (get_or records n no_such) a k h.1
 
@@ -211,20 +210,20 @@ goes_on_some records a k x y e same f =
     let n = last_number records a in
     let top = 2 ^ 32 - 1 in
     elim (cases_eq n 0) [
-    | inl none ↦ some_is_not_none (kept (Some records) a) x e (ap (option_and_then (below top)) (no_first records a n none))
-    | inr some ↦
-        let number : n ≡ suc (n - 1) = omega arith in
-        let r = get_or records (n - 1) no_such in
-        let g : a + 1 + k ≡ a + (1 + k) = omega arith in
-        let at : a + 0 ≡ a = omega arith in
-        let up = number_rises records a (a + 1) (omega arith) in
-        let down = number_rises records (a + 1) (a + 1 + k) (omega arith) in
-        let same_next : last_number records (a + 1) ≡ suc (n - 1) = omega arith in
-        let far : last_number records (a + (1 + k)) ≡ suc (n - 1) = ap (last_number records) (sym g) ∙ same ∙ number in
-        let here : option_and_then (below top) (sent_by a r) ≡ Some x =
+      | inl none ↦ some_is_not_none (kept (Some records) a) x e (ap (option_and_then (below top)) (no_first records a n none))
+      | inr some ↦
+          let number : n ≡ suc (n - 1) = omega arith in
+          let r = get_or records (n - 1) no_such in
+          let g : a + 1 + k ≡ a + (1 + k) = omega arith in
+          let at : a + 0 ≡ a = omega arith in
+          let up = number_rises records a (a + 1) (omega arith) in
+          let down = number_rises records (a + 1) (a + 1 + k) (omega arith) in
+          let same_next : last_number records (a + 1) ≡ suc (n - 1) = omega arith in
+          let far : last_number records (a + (1 + k)) ≡ suc (n - 1) = ap (last_number records) (sym g) ∙ same ∙ number in
+          let here : option_and_then (below top) (sent_by a r) ≡ Some x =
           sym (ap (option_and_then (below top)) (record_before records a n no_such some (let h = number_holds records a (n - 1) no_such number in let p = h.0 in omega arith))) ∙ e in
-        kept_by records a 1 (n - 1) number same_next
-        ∙ going_on top k x y (sent_by a r) here (sym (kept_by records a (1 + k) (n - 1) number far) ∙ ap (kept (Some records)) (sym g) ∙ f)
+          kept_by records a 1 (n - 1) number same_next
+          ∙ going_on top k x y (sent_by a r) here (sym (kept_by records a (1 + k) (n - 1) number far) ∙ ap (kept (Some records)) (sym g) ∙ f)
     ]
 
 pub goes_on : (omap : Option (List OMAPRecord)) → GoesOn (number_for omap) (kept omap)

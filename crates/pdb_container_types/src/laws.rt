@@ -16,10 +16,10 @@ ghost use Rattle.pdb_container_types.specs.declared.section_offset.SectionOffset
 ghost use Rattle.pdb_container_types.specs.declared.internal_section_offset.PdbInternalSectionOffset.{PdbInternalSectionOffset as InternalPlace};
 ghost use Rattle.pdb_container_types.specs.declared.sections.ImageSectionHeader.{ImageSectionHeader as Header};
 
-use crate::numbers::{FileIndex, SymbolIndex};
 use crate::internal_rva::PdbInternalRva;
-use crate::rva::Rva;
 use crate::internal_section_offset::PdbInternalSectionOffset;
+use crate::numbers::{FileIndex, SymbolIndex};
+use crate::rva::Rva;
 use crate::section_offset::SectionOffset;
 use std::hash::Hash;
 

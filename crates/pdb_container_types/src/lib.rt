@@ -21,8 +21,8 @@ pub use internal_section_offset::PdbInternalSectionOffset;
 pub use numbers::{FileIndex, SymbolIndex};
 pub use omap::{OMAPRecord, parse_omap};
 pub use pdb_container::{
-    BigMSF, Error, FallibleIterator, FromBuffer, ModuleFault, Msf, PageList, ParseBuffer, RawString,
-    ReadView, Result, Source, SourceSlice, Stream, open_msf,
+    BigMSF, Error, FallibleIterator, FromBuffer, ModuleFault, Msf, PageList, ParseBuffer,
+    RawString, ReadView, Result, Source, SourceSlice, Stream, open_msf,
 };
 pub use pdb_items::{IdIndex, Local, TypeIndex};
 pub use ranges::{PdbInternalRvaRangeIter, RvaRangeIter};
