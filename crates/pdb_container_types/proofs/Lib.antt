@@ -1,3 +1,4 @@
+pub mod LaidLemmas
 pub mod OmapLemmas
 pub mod PlaceBack
 pub mod PlaceSteps

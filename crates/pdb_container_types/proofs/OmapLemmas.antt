@@ -93,7 +93,7 @@ pub in_order_more : (records : List OMAPRecord) (i : ℕ) (d : OMAPRecord) → i
 in_order_more records i d lt le so_far = record {
   some = omega arith;
   each = all_adjacent_more records (λ x y. source x ≤ source y) i so_far.some so_far.each
-    (λ e. rw (get_or_default records (i - 1) e d (omega arith), get_or_default records i e d lt) le)
+      (λ e. rw (get_or_default records (i - 1) e d (omega arith), get_or_default records i e d lt) le);
 }
 
 pub in_order_done : (records : List OMAPRecord) (i : ℕ) → length records ≤ i → IsInOrderTo records i → Decides true (AreSourcesInOrder records)

@@ -1,11 +1,10 @@
 -- The place of an address has that address.
-use Rattle.std.proofs.Common.{◌≡◌, ◌≢◌, ℕ, zero, suc, ◌+◌, ◌-◌, ◌^◌, ◌<◌, ◌≤◌, inl, inr, List, [], ◌∷◌, refl, sym, ap, ◌∙◌, subst, arith}
-use Rattle.std.specs.Prelude.{Option, None, Some, nat_le, slice_get}
+use Rattle.std.proofs.Common.{◌≡◌, ◌≢◌, ℕ, suc, ◌+◌, ◌-◌, ◌^◌, ◌<◌, ◌≤◌, inl, inr, List, [], ◌∷◌, refl, sym, ap, ◌∙◌, arith}
+use Rattle.std.specs.Prelude.{None, Some, slice_get}
 use Rattle.std.proofs.lemmas.Bool.{lt-ltb, le-ltb, le-leb, lt-leb, ne_eqb, cases_lt}
 use Rattle.pdb_container_types.specs.declared.sections.ImageSectionHeader.{ImageSectionHeader}
-use Rattle.pdb_container_types.specs.Numbers.{in_32_bits}
 use Rattle.pdb_container_types.specs.Places.{Place}
-use Rattle.pdb_container_types.specs.Sections.{section_at, place_in, place_from, place, address, address_behind}
+use Rattle.pdb_container_types.specs.Sections.{place_in, place_from, place, address}
 
 -- the section of a place, at an index of the list
 record Found (sections : List ImageSectionHeader) (number a : ℕ) (p : Place) : Type 0 where
@@ -38,7 +37,7 @@ found (s ∷ sections) number a p e = elim (cases_lt a s.virtual_address) [
         let on : place_from number (s ∷ sections) a ≡ place_from (number + 1) sections a = rw (le-ltb a s.virtual_address low, le-ltb (a - s.virtual_address) s.virtual_size past) refl in
         let f = found sections (number + 1) a p (sym on ∙ e) in
         record { index = suc f.index; section = f.section; there = f.there; numbered = f.numbered ∙ omega arith; low = f.low; offset = f.offset }
-    ]
+  ]
 ]
 
 back : (sections : List ImageSectionHeader) (a section offset index : ℕ) (s : ImageSectionHeader) → slice_get sections index ≡ Some s → section ≡ 1 + index → s.virtual_address ≤ a

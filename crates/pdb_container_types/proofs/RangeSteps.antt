@@ -1,5 +1,5 @@
 -- Steps of the walk over a map.
-use Rattle.std.proofs.Common.{◌≡◌, ◌≢◌, ℕ, zero, suc, ◌+◌, ◌-◌, ◌^◌, ◌<◌, ◌≤◌, min, inl, inr, List, [], ◌∷◌, length, get_or, refl, sym, ap, ◌∙◌, subst, arith}
+use Rattle.std.proofs.Common.{◌≡◌, ℕ, ◌+◌, ◌-◌, ◌^◌, ◌<◌, ◌≤◌, inl, inr, List, [], length, get_or, refl, sym, ap, ◌∙◌, subst, arith}
 use Rattle.std.specs.Prelude.{Option, None, Some, option_map, option_and_then, slice_get}
 use Rattle.std.specs.List.{AllWithin}
 use Rattle.std.proofs.lemmas.Option.{slice_get-get_or, slice_get_past}
@@ -7,9 +7,9 @@ use Rattle.std.proofs.lemmas.List.{get_or_default}
 use Rattle.std.proofs.lemmas.Bool.{lt-ltb, le-ltb, eq-eqb, ne_eqb, cases_lt, cases_eq}
 use Rattle.pdb_container_types.specs.declared.omap.OMAPRecord.{OMAPRecord}
 use Rattle.pdb_container_types.specs.Addresses.{IsInOrder}
-use Rattle.pdb_container_types.specs.Omap.{AreSourcesInOrder, source, record_at, last_number, sent_by, translated}
-use Rattle.pdb_container_types.specs.Ranges.{Run, below, kept, number_for, runs, runs_by}
-use Rattle.pdb_container_types.specs.Cursor.{IsAtIn, IsAt, left_of, source_before, sent_by_number, cut_run, run_between, in_front, GivesRun}
+use Rattle.pdb_container_types.specs.Omap.{AreSourcesInOrder, source, last_number, sent_by}
+use Rattle.pdb_container_types.specs.Ranges.{below, kept, number_for, runs, runs_by}
+use Rattle.pdb_container_types.specs.Cursor.{IsAtIn, IsAt, left_of, source_before, run_between, in_front}
 use Rattle.pdb_container_types.proofs.OmapLemmas.{number_stops, number_reaches, goes, no_first, record_before}
 use Rattle.pdb_container_types.proofs.RunLemmas.{HeadIsNot, going, along, head_is_not}
 
@@ -24,10 +24,10 @@ along_sum big top s k le = elim (cases_lt s big) [
   | inl low ↦ elim (cases_lt (s + k) big) [
     | inl far ↦ rw (lt-ltb s big low, lt-ltb (s + k) big far) refl
     | inr past ↦ rw (lt-ltb s big low, le-ltb (s + k) big past, le-ltb (s + k) top (omega arith)) refl
-    ]
+  ]
 ]
 
-along_record : (r : OMAPRecord) (a k : ℕ) → source r ≤ a → option_and_then (below (2 ^ 32 - 1)) (sent_by (a + k) r) ≡ going (2 ^ 32 - 1) (sent_by a r) k
+pub along_record : (r : OMAPRecord) (a k : ℕ) → source r ≤ a → option_and_then (below (2 ^ 32 - 1)) (sent_by (a + k) r) ≡ going (2 ^ 32 - 1) (sent_by a r) k
 along_record r a k le = elim (cases_eq r.target_address 0) [
   | inl e ↦ rw (eq-eqb r.target_address 0 e) refl
   | inr other ↦
@@ -70,11 +70,11 @@ segment records n a stop end at le le' behind other =
     let low : (k : ℕ) → AllWithin (λ r. source r ≤ a + k) records 0 n = λ k j d p q. let b = at.before j d p q in omega arith in
     let numbers : (k : ℕ) → k < stop - a → f (a + k) ≡ n = λ k lt. number_at records (a + k) n at.within (low k) (λ j p q. let b = behind j p q in omega arith) in
     let becoming : (k : ℕ) → k < stop - a → g (a + k) ≡ going (2 ^ 32 - 1) (goes records a n) k =
-      λ k lt. rw (numbers k lt) (along_number records n a k at.within at.before) in
+    λ k lt. rw (numbers k lt) (along_number records n a k at.within at.before) in
     ap (runs_by f g a) count
     ∙ subst (λ x. runs_by f g a (stop - a + (end - stop)) ≡ in_front n (run_between (Some records) n a stop) (runs_by f g x (end - stop))) there
-      (along f g (2 ^ 32 - 1) n (end - stop) (stop - a) a (goes records a n) numbers becoming
-        (subst (λ x. HeadIsNot n (runs_by f g x (end - stop))) (sym there) other))
+    (along f g (2 ^ 32 - 1) n (end - stop) (stop - a) a (goes records a n) numbers becoming
+    (subst (λ x. HeadIsNot n (runs_by f g x (end - stop))) (sym there) other))
 
 -- ---- the next source
 
@@ -84,11 +84,11 @@ source_found records n end s e = elim (cases_lt n (length records)) [
       let r = get_or records n none_such in
       let e' : below end (source r) ≡ Some s = subst (λ o. option_and_then (below end) (option_map source o) ≡ Some s) (slice_get-get_or records n none_such there) e in
       elim (cases_lt (source r) end) [
-      | inl low ↦
-          let some : below end (source r) ≡ Some (source r) = rw (lt-ltb (source r) end low) refl in
-          let same : source r ≡ s = cc in
-          (there, same, subst (λ x. x < end) same low)
-      | inr past ↦ let none : below end (source r) ≡ None = rw (le-ltb (source r) end past) refl in absurd cc
+        | inl low ↦
+            let some : below end (source r) ≡ Some (source r) = rw (lt-ltb (source r) end low) refl in
+            let same : source r ≡ s = cc in
+            (there, same, subst (λ x. x < end) same low)
+        | inr past ↦ let none : below end (source r) ≡ None = rw (le-ltb (source r) end past) refl in absurd cc
       ]
   | inr past ↦
       let none : slice_get records n ≡ None = slice_get_past records n past in
@@ -104,8 +104,8 @@ sources_past records n end order e j le lt =
     let rise : source r ≤ source (get_or records j none_such) = order n j none_such le lt in
     let e' : below end (source r) ≡ None = subst (λ o. option_and_then (below end) (option_map source o) ≡ None) (slice_get-get_or records n none_such there) e in
     elim (cases_lt (source r) end) [
-    | inl low ↦ let some : below end (source r) ≡ Some (source r) = rw (lt-ltb (source r) end low) refl in absurd cc
-    | inr past ↦ omega arith
+      | inl low ↦ let some : below end (source r) ≡ Some (source r) = rw (lt-ltb (source r) end low) refl in absurd cc
+      | inr past ↦ omega arith
     ]
 
 nothing_behind : (number : ℕ → ℕ) (becomes : ℕ → Option ℕ) (a : ℕ) → runs_by number becomes a (a - a) ≡ []
@@ -127,7 +127,7 @@ up_to_source (Some records) n a end s order at e =
     segment records n a s end at le (omega arith)
     (λ j p q. subst (λ x. x ≤ source (get_or records j none_such)) found.1 (order n j none_such p q))
     (head_is_not (number_for (Some records)) (kept (Some records)) n (end - s) s
-      (λ k lt same. let more = number_reaches records (s + k) n none_such found.0 (subst (λ x. x ≤ s + k) (sym found.1) (omega arith)) in omega arith))
+    (λ k lt same. let more = number_reaches records (s + k) n none_such found.0 (subst (λ x. x ≤ s + k) (sym found.1) (omega arith)) in omega arith))
 
 pub at_source : (omap : Option (List OMAPRecord)) (n a end s : ℕ) → IsInOrder omap → IsAt omap n a → source_before omap n end ≡ Some s → IsAt omap (n + 1) s
 at_source None n a end s order at e = absurd cc
@@ -136,7 +136,7 @@ at_source (Some records) n a end s order at e =
     record {
       within = omega arith;
       before = λ k d p q. subst (λ x. source (get_or records k d) ≤ x) found.1 (subst (λ y. source (get_or records k d) ≤ source y) (get_or_default records n d none_such found.0) (order k n d (omega arith) found.0));
-      behind = λ k d p q. subst (λ x. x ≤ source (get_or records k d)) found.1 (subst (λ y. source y ≤ source (get_or records k d)) (get_or_default records n d none_such found.0) (order n k d (omega arith) q))
+      behind = λ k d p q. subst (λ x. x ≤ source (get_or records k d)) found.1 (subst (λ y. source y ≤ source (get_or records k d)) (get_or_default records n d none_such found.0) (order n k d (omega arith) q));
     }
 
 pub on_to_source : (omap : Option (List OMAPRecord)) (n a end s : ℕ) → IsAt omap n a → source_before omap n end ≡ Some s
@@ -158,15 +158,15 @@ up_to_end None n a end order at lt e =
     let there : a + (end - a) ≡ end = omega arith in
     ap (runs_by f g a) count
     ∙ subst (λ x. runs_by f g a (end - a + (end - end)) ≡ in_front n (run_between None n a end) (runs_by f g x (end - end))) there
-      (along f g (2 ^ 32 - 1) n (end - end) (end - a) a (Some a) (λ k l. sym at) (λ k l. refl)
-        (subst (λ x. HeadIsNot n (runs_by f g x (end - end))) (sym there) (subst (HeadIsNot n) (sym (nothing_behind f g end)) tt)))
+    (along f g (2 ^ 32 - 1) n (end - end) (end - a) a (Some a) (λ k l. sym at) (λ k l. refl)
+    (subst (λ x. HeadIsNot n (runs_by f g x (end - end))) (sym there) (subst (HeadIsNot n) (sym (nothing_behind f g end)) tt)))
 
 pub at_end : (omap : Option (List OMAPRecord)) (n a end : ℕ) → IsInOrder omap → IsAt omap n a → a < end → source_before omap n end ≡ None → IsAt omap n end
 at_end None n a end order at lt e = at
 at_end (Some records) n a end order at lt e = record {
   within = at.within;
   before = λ k d p q. let b = at.before k d p q in omega arith;
-  behind = λ k d p q. subst (λ y. end ≤ source y) (get_or_default records k none_such d q) (sources_past records n end order e k p q)
+  behind = λ k d p q. subst (λ y. end ≤ source y) (get_or_default records k none_such d q) (sources_past records n end order e k p q);
 }
 
 -- ---- where the walk begins

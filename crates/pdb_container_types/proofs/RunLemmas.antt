@@ -1,5 +1,5 @@
 -- Runs of addresses that go by one record.
-use Rattle.std.proofs.Common.{◌≡◌, ◌≢◌, ℕ, zero, suc, ◌+◌, ◌-◌, ◌<◌, ◌≤◌, min, inl, inr, List, [], ◌∷◌, refl, sym, ap, ◌∙◌, subst, arith}
+use Rattle.std.proofs.Common.{◌≡◌, ◌≢◌, ℕ, zero, suc, ◌+◌, ◌<◌, min, inl, inr, List, [], ◌∷◌, refl, sym, subst, arith}
 use Rattle.std.specs.Prelude.{Option, None, Some, option_and_then}
 use Rattle.std.proofs.lemmas.Bool.{lt-ltb, le-ltb, eq-eqb, ne_eqb, cases_lt, cases_eq}
 use Rattle.pdb_container_types.specs.Ranges.{Run, below, with_address, runs_by}
@@ -26,7 +26,7 @@ put top number s n runs h = elim (cases_lt s top) [
     | inr last ↦
         let same : min (s + suc n) top ≡ s + 1 = omega arith in
         rw (lt-ltb s top low, le-ltb (s + 1) (min (s + 1 + n) top) last, lt-ltb s (min (s + suc n) top) (omega arith), same) (alone number s runs h)
-    ]
+  ]
 ]
 
 -- what is sent from a start on, below a bound
@@ -72,11 +72,11 @@ module _ (number : ℕ → ℕ) (becomes : ℕ → Option ℕ) where
       let first_number : number a ≡ by = subst (λ x. number x ≡ by) at (numbers 0 (omega arith)) in
       let first : becomes a ≡ below top s = subst (λ x. becomes x ≡ below top s) at (subst (λ y. becomes (a + 0) ≡ below top y) from (becoming 0 (omega arith))) in
       let others : runs_by number becomes (a + 1) (n + m) ≡ in_front by (cut_run top n (s + 1)) (runs_by number becomes (a + suc n) m) =
-        subst (λ x. runs_by number becomes (a + 1) (n + m) ≡ in_front by (cut_run top n (s + 1)) (runs_by number becomes x m)) f
-        (along_some top by m n (a + 1) (s + 1)
-          (λ k lt. let g : a + 1 + k ≡ a + suc k = omega arith in rw g (numbers (suc k) (omega arith)))
-          (λ k lt. let g : a + 1 + k ≡ a + suc k = omega arith in let j : s + 1 + k ≡ s + suc k = omega arith in rw (g, j) (becoming (suc k) (omega arith)))
-          (subst (λ x. HeadIsNot by (runs_by number becomes x m)) (sym f) h)) in
+      subst (λ x. runs_by number becomes (a + 1) (n + m) ≡ in_front by (cut_run top n (s + 1)) (runs_by number becomes x m)) f
+      (along_some top by m n (a + 1) (s + 1)
+      (λ k lt. let g : a + 1 + k ≡ a + suc k = omega arith in rw g (numbers (suc k) (omega arith)))
+      (λ k lt. let g : a + 1 + k ≡ a + suc k = omega arith in let j : s + 1 + k ≡ s + suc k = omega arith in rw (g, j) (becoming (suc k) (omega arith)))
+      (subst (λ x. HeadIsNot by (runs_by number becomes x m)) (sym f) h)) in
       rw (e, first_number, first, others) (put top by s n (runs_by number becomes (a + suc n) m) h)
 
   pub head_is_not : (by m a : ℕ) → ((k : ℕ) → k < m → by ≢ number (a + k)) → HeadIsNot by (runs_by number becomes a m)

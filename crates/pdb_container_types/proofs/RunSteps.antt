@@ -1,10 +1,9 @@
 -- The distance to the next bound of a section, and the places up to it.
 use Rattle.std.proofs.Common.{◌≡◌, ℕ, ◌+◌, ◌-◌, ◌<◌, ◌≤◌, min, inl, inr, List, [], ◌∷◌, length, get_or, drop, refl, sym, ap, ◌∙◌, arith}
-use Rattle.std.specs.Prelude.{Option, None, Some, nat_le}
+use Rattle.std.specs.Prelude.{nat_le}
 use Rattle.std.proofs.lemmas.Bool.{lt-ltb, le-ltb, cases_lt, cases_Bool}
 use Rattle.std.proofs.lemmas.List.{drop_more, drop_all}
 use Rattle.pdb_container_types.specs.declared.sections.ImageSectionHeader.{ImageSectionHeader}
-use Rattle.pdb_container_types.specs.Places.{Place}
 use Rattle.pdb_container_types.specs.SectionRun.{bounds, nearer, up_to_next, moved}
 use Rattle.pdb_container_types.specs.Sections.{place_in, place_from}
 
@@ -33,7 +32,7 @@ run_more sections a i count total d lt so_far =
     let end = s.virtual_address + s.virtual_size in
     let now : up_to_next (bounds (drop i sections)) a count ≡ nearer a s.virtual_address (nearer a end (up_to_next others a count)) = ap (λ xs. up_to_next (bounds xs) a count) (drop_more sections i d lt) in
     let moved_in : nearer a s.virtual_address (nearer a end (up_to_next others a count)) ≡ up_to_next others a (nearer a end (nearer a s.virtual_address count)) =
-      ap (nearer a s.virtual_address) (into others a end count) ∙ into others a s.virtual_address (nearer a end count) ∙ ap (up_to_next others a) (commute a s.virtual_address end count) in
+    ap (nearer a s.virtual_address) (into others a end count) ∙ into others a s.virtual_address (nearer a end count) ∙ ap (up_to_next others a) (commute a s.virtual_address end count) in
     sym (now ∙ moved_in) ∙ so_far
 
 pub run_done : (sections : List ImageSectionHeader) (a i count total : ℕ) → length sections ≤ i → up_to_next (bounds (drop i sections)) a count ≡ total → count ≡ total

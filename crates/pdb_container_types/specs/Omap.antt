@@ -1,5 +1,5 @@
 -- Maps that tell where a tool has moved an image's code: lists of a source and a target.
-use Rattle.std.specs.Prelude.{ℕ, zero, suc, ◌+◌, ◌-◌, ◌%◌, Bool, not, List, [], ◌∷◌, length, nat_le, ◌==◌, Option, None, Some, if◌then◌else◌, slice_get, option_and_then, option_map, Result, Ok, Err, codes}
+use Rattle.std.specs.Prelude.{ℕ, zero, suc, ◌+◌, ◌-◌, ◌%◌, not, List, [], ◌∷◌, length, nat_le, ◌==◌, Option, None, Some, if◌then◌else◌, slice_get, option_and_then, option_map, Result, Ok, codes}
 use Rattle.std.specs.Borrow.{Bor}
 use Rattle.std.specs.Int.{w32}
 use Rattle.std.specs.List.Sorted.{IsNonDecreasingBy}

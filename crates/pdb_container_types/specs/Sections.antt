@@ -1,7 +1,6 @@
 -- Section headers, the places of addresses, and the addresses of places.
-use Rattle.std.specs.Prelude.{ℕ, ◌+◌, ◌-◌, ◌*◌, ◌^◌, Bool, not, List, [], ◌∷◌, nat_lt, nat_le, ◌==◌, Option, None, Some, if◌then◌else◌, slice_get, position, take, Result, Ok, Err, bit_and, length}
+use Rattle.std.specs.Prelude.{ℕ, ◌+◌, ◌-◌, Bool, not, List, [], ◌∷◌, nat_lt, nat_le, ◌==◌, Option, None, Some, if◌then◌else◌, slice_get, position, take, Result, Ok, bit_and}
 use Rattle.std.specs.Int.{w16, w32}
-use Rattle.std.specs.Str.Lossy.{utf8_lossy}
 use Rattle.pdb_container.specs.Fault.{Fault, ◌>>=◌}
 use Rattle.pdb_container.specs.Fields.{Reader, number_at, bytes_of, entries}
 use Rattle.pdb_container_types.specs.declared.sections.ImageSectionHeader.{ImageSectionHeader}
@@ -22,18 +21,21 @@ section_header_at bytes = do
   number_of_relocations ← number_at w16 pointer_to_line_numbers.1
   number_of_line_numbers ← number_at w16 number_of_relocations.1
   characteristics ← number_at w32 number_of_line_numbers.1
-  Ok (record {
-    name = name.0;
-    virtual_size = virtual_size.0;
-    virtual_address = virtual_address.0;
-    size_of_raw_data = size_of_raw_data.0;
-    pointer_to_raw_data = pointer_to_raw_data.0;
-    pointer_to_relocations = pointer_to_relocations.0;
-    pointer_to_line_numbers = pointer_to_line_numbers.0;
-    number_of_relocations = number_of_relocations.0;
-    number_of_line_numbers = number_of_line_numbers.0;
-    characteristics = record { 0 = characteristics.0 }
-  }, characteristics.1)
+  Ok (
+    record {
+      name = name.0;
+      virtual_size = virtual_size.0;
+      virtual_address = virtual_address.0;
+      size_of_raw_data = size_of_raw_data.0;
+      pointer_to_raw_data = pointer_to_raw_data.0;
+      pointer_to_relocations = pointer_to_relocations.0;
+      pointer_to_line_numbers = pointer_to_line_numbers.0;
+      number_of_relocations = number_of_relocations.0;
+      number_of_line_numbers = number_of_line_numbers.0;
+      characteristics = record { 0 = characteristics.0 };
+    },
+    characteristics.1,
+  )
 
 -- the section headers of a stream, to its end
 abbrev pub section_headers_of : List ℕ → Result (List ImageSectionHeader) Fault

@@ -1,10 +1,13 @@
 //! Laws of the definitions: functions that do nothing, whose contracts are proved.
 
-ghost use Rattle.std.specs.Prelude.{◌≡◌, ◌≢◌, ◌↔◌, ◌<◌, ◌^◌, ℕ, List, None, Some, true};
+ghost use Rattle.std.specs.Prelude.{◌≡◌, ◌≢◌, ◌↔◌, ◌<◌, ◌^◌, ℕ, List, Option, None, Some, true};
 ghost use Rattle.std.specs.declared.cmp.Ordering.TheVariants.{Equal};
 ghost use Rattle.pdb_container_types.specs.Addresses.{Map, inner, outer};
+ghost use Rattle.pdb_container_types.specs.Laid.{laid_out, one_by_one, AreParted};
 ghost use Rattle.pdb_container_types.specs.Places.{Place};
+ghost use Rattle.pdb_container_types.specs.Ranges.{runs};
 ghost use Rattle.pdb_container_types.specs.Sections.{place, address};
+ghost use Rattle.pdb_container_types.specs.declared.omap.OMAPRecord.{OMAPRecord as Record};
 ghost use Rattle.pdb_container_types.specs.declared.numbers.FileIndex.{FileIndex as FileNumber};
 ghost use Rattle.pdb_container_types.specs.declared.numbers.SymbolIndex.{SymbolIndex as SymbolNumber};
 ghost use Rattle.pdb_container_types.specs.declared.rva.Rva.{Rva as ImageAddress};
@@ -13,10 +16,10 @@ ghost use Rattle.pdb_container_types.specs.declared.section_offset.SectionOffset
 ghost use Rattle.pdb_container_types.specs.declared.internal_section_offset.PdbInternalSectionOffset.{PdbInternalSectionOffset as InternalPlace};
 ghost use Rattle.pdb_container_types.specs.declared.sections.ImageSectionHeader.{ImageSectionHeader as Header};
 
-use crate::numbers::{FileIndex, SymbolIndex};
 use crate::internal_rva::PdbInternalRva;
-use crate::rva::Rva;
 use crate::internal_section_offset::PdbInternalSectionOffset;
+use crate::numbers::{FileIndex, SymbolIndex};
+use crate::rva::Rva;
 use crate::section_offset::SectionOffset;
 use std::hash::Hash;
 
@@ -29,6 +32,14 @@ pub fn without_maps()
 /// The place of an address has that address, in every list of sections.
 pub fn place_and_back()
     ensures { (sections : List Header) (a : ℕ) (p : Place) → a < 2 ^ 32 → place sections a ≡ Some p → address sections p.section p.offset ≡ Some a }
+{}
+
+/// The ranges that a range becomes, laid end to end, are what its addresses become one by one, in order, without those
+/// that become nothing or 0xffffffff; and no two neighbors among them came by one record. It holds of every map, and
+/// where there is none.
+pub fn ranges_laid_end_to_end()
+    ensures one_by_one { (omap : Option (List Record)) (start end : ℕ) → laid_out (runs omap start end) ≡ one_by_one omap start end }
+    ensures parted { (omap : Option (List Record)) (start end : ℕ) → AreParted (runs omap start end) }
 {}
 
 /// Two places compare as equal exactly where they are equal, and don't compare exactly where their sections differ.

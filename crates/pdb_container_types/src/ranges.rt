@@ -8,8 +8,8 @@ ghost use Rattle.pdb_container_types.specs.Omap.{source, record_at, records_of, 
 ghost use Rattle.pdb_container_types.specs.Ranges.{runs, image_ranges, internal_ranges, GivesNext};
 
 use crate::address_map::AddressMap;
-use crate::omap::{OMAPRecord, last_number, sent_by};
 use crate::internal_rva::PdbInternalRva;
+use crate::omap::{OMAPRecord, last_number, sent_by};
 use crate::rva::Rva;
 use std::marker::Model;
 use std::ops::Range;
@@ -250,10 +250,7 @@ impl<'s> AddressMap<'s> {
         requires { IsOrdered self.now }
         ensures { result ≡ image_ranges self.now.to_image range.start.0 range.end.0 }
     {
-        RvaRangeIter(RangeIter::new(
-            self.to_image(),
-            range.start.0..range.end.0,
-        ))
+        RvaRangeIter(RangeIter::new(self.to_image(), range.start.0..range.end.0))
     }
 
     /// What a range of addresses of the image becomes among the internal ones.
@@ -261,9 +258,6 @@ impl<'s> AddressMap<'s> {
         requires { IsOrdered self.now }
         ensures { result ≡ internal_ranges self.now.to_internal range.start.0 range.end.0 }
     {
-        PdbInternalRvaRangeIter(RangeIter::new(
-            self.to_internal(),
-            range.start.0..range.end.0,
-        ))
+        PdbInternalRvaRangeIter(RangeIter::new(self.to_internal(), range.start.0..range.end.0))
     }
 }

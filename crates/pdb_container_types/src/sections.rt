@@ -53,8 +53,7 @@ pub struct ImageSectionHeader {
 
 /// A section header, 40 bytes; `UnexpectedEof` where fewer are left.
 impl FromBuffer for ImageSectionHeader {
-    ghost use Rattle.pdb_container_types.specs.Places.{image_place, internal_place as in_internal_space};
-ghost use Rattle.pdb_container_types.specs.Sections.{section_header_at};
+    ghost use Rattle.pdb_container_types.specs.Sections.{section_header_at};
 
     ghost read = { section_header_at };
 
@@ -159,7 +158,10 @@ pub(crate) fn internal_place(
 {
     match place(sections, address) {
         None => None,
-        Some(SectionOffset { offset, section }) => Some(PdbInternalSectionOffset { offset, section }),
+        Some(SectionOffset { offset, section }) => Some(PdbInternalSectionOffset {
+            offset,
+            section,
+        }),
     }
 }
 

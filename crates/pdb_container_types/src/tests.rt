@@ -1,8 +1,8 @@
 //! Translations of worked maps, and of two maps against a plain scan.
 
 use crate::{
-    AddressMap, Error, ImageSectionHeader, OMAPRecord, PdbInternalRva, PdbInternalSectionOffset, Rva,
-    SectionCharacteristics, SectionOffset, parse_omap, parse_section_headers,
+    AddressMap, Error, ImageSectionHeader, OMAPRecord, PdbInternalRva, PdbInternalSectionOffset,
+    Rva, SectionCharacteristics, SectionOffset, parse_omap, parse_section_headers,
 };
 use std::alloc::{AllocError, Global};
 use std::ops::Range;
@@ -188,7 +188,11 @@ fn without_a_map_ranges_stay(rt: HostRuntime) -> Result<(), Fail> {
 
 #[test]
 fn a_map_with_a_hole(rt: HostRuntime) -> Result<(), Fail> {
-    let map = mapped(rt.alloc(), &[(0x2000, 0x1010), (0x2008, 0)], &[(0x1010, 0x2000)])?;
+    let map = mapped(
+        rt.alloc(),
+        &[(0x2000, 0x1010), (0x2008, 0)],
+        &[(0x1010, 0x2000)],
+    )?;
     let ranges = inner_ranges(rt.alloc(), &map, 0x2000..0x2010)?;
     assert_eq!(rt; ranges.as_slice(), [(0x1010, 0x1018)].as_slice());
     assert_eq!(rt; outer(&map, 0x1014), Some(0x2004));
@@ -203,7 +207,10 @@ fn places_go_on_up_to_the_next_bound(rt: HostRuntime) -> Result<(), Fail> {
         section: 1,
     };
     assert_eq!(rt; map.section_run(PdbInternalRva(0xff0), 0x40), (None, 0x10));
-    assert_eq!(rt; map.section_run(PdbInternalRva(0x1000), 0x200), (Some(start), 0x100));
+    assert_eq!(rt;
+        map.section_run(PdbInternalRva(0x1000), 0x200),
+        (Some(start), 0x100)
+    );
     assert_eq!(rt; map.section_run(PdbInternalRva(0x1100), 5), (None, 5));
     Ok(())
 }
@@ -223,7 +230,10 @@ fn places_and_addresses(rt: HostRuntime) -> Result<(), Fail> {
     assert_eq!(rt; Rva(0x1004).to_section_offset(&map), Some(at));
     assert_eq!(rt; Rva(0x1004).to_internal_offset(&map), Some(moved));
     assert_eq!(rt; PdbInternalRva(0x1084).to_section_offset(&map), Some(at));
-    assert_eq!(rt; PdbInternalRva(0x1084).to_internal_offset(&map), Some(moved));
+    assert_eq!(rt;
+        PdbInternalRva(0x1084).to_internal_offset(&map),
+        Some(moved)
+    );
     assert_eq!(rt; at.to_rva(&map), Some(Rva(0x1004)));
     assert_eq!(rt; at.to_internal_rva(&map), Some(PdbInternalRva(0x1084)));
     assert_eq!(rt; at.to_internal_offset(&map), Some(moved));
@@ -238,8 +248,16 @@ fn maps_against_a_scan(rt: HostRuntime) -> Result<(), Fail> {
     let map = mapped(rt.alloc(), &TIES, &REPEATED)?;
     assert!(rt; map.is_ordered());
     for address in 0..30 {
-        assert_eq!(rt; inner(&map, address), scanned(&TIES, address), "at {address}");
-        assert_eq!(rt; outer(&map, address), scanned(&REPEATED, address), "at {address}");
+        assert_eq!(rt;
+            inner(&map, address),
+            scanned(&TIES, address),
+            "at {address}"
+        );
+        assert_eq!(rt;
+            outer(&map, address),
+            scanned(&REPEATED, address),
+            "at {address}"
+        );
     }
     for start in 0..26 {
         for end in start..26 {
@@ -267,19 +285,32 @@ fn order_of_sources(rt: HostRuntime) -> Result<(), Fail> {
 
 #[test]
 fn streams_are_read(rt: HostRuntime) -> Result<(), Fail> {
-    let bytes = *b".text\0\0\0\0\x01\0\0\0\x10\0\0\x01\0\0\0\x02\0\0\0\x03\0\0\0\x04\0\0\0\x05\0\x06\0\x20\0\0\x60";
+    let bytes =
+        *b".text\0\0\0\0\x01\0\0\0\x10\0\0\x01\0\0\0\x02\0\0\0\x03\0\0\0\x04\0\0\0\x05\0\x06\0\x20\0\0\x60";
     let sections = parse_section_headers(rt.alloc(), &bytes)?;
     assert_eq!(rt; sections.len(), 1);
     let section = sections[0];
     assert_eq!(rt; section.name(), ".text");
     assert!(rt; section.characteristics.execute());
     assert!(rt; !SectionCharacteristics(0x4000_0000).execute());
-    assert_eq!(rt; (section.virtual_size, section.virtual_address), (0x100, 0x1000));
-    assert_eq!(rt; parse_section_headers(rt.alloc(), &bytes[..39]).err(), Some(Error::UnexpectedEof));
+    assert_eq!(rt;
+        (section.virtual_size, section.virtual_address),
+        (0x100, 0x1000)
+    );
+    assert_eq!(rt;
+        parse_section_headers(rt.alloc(), &bytes[..39]).err(),
+        Some(Error::UnexpectedEof)
+    );
     let records = parse_omap(rt.alloc(), &[4, 0, 0, 0, 0, 1, 0, 0])?;
     assert_eq!(rt; records.len(), 1);
-    assert_eq!(rt; (records[0].source_address, records[0].target_address), (4, 0x100));
-    assert_eq!(rt; parse_omap(rt.alloc(), &[4, 0, 0]).err(), Some(Error::InvalidStreamLength("OMAP")));
+    assert_eq!(rt;
+        (records[0].source_address, records[0].target_address),
+        (4, 0x100)
+    );
+    assert_eq!(rt;
+        parse_omap(rt.alloc(), &[4, 0, 0]).err(),
+        Some(Error::InvalidStreamLength("OMAP"))
+    );
     Ok(())
 }
 

@@ -1,4 +1,4 @@
-use Rattle.std.proofs.Common.{◌≡◌, ℕ, ◌+◌, ◌-◌}
+use Rattle.std.proofs.Common.{◌≡◌, ◌+◌, ◌-◌}
 use Rattle.pdb_container_types.specs.Cursor.{IsAt, left_of}
 use Rattle.pdb_container_types.specs.Omap.{records_of}
 use Rattle.pdb_container_types.specs.Ranges.{runs}
