@@ -4,7 +4,8 @@ ghost use Rattle.std.specs.Prelude.{◌≡◌};
 
 use crate::item_list::walk;
 use crate::{
-    IdIndex, IdInformation, ItemIndex, Local, TypeFinder, TypeIndex, TypeInformation, TypeIter,
+    IdData, IdIndex, IdInformation, ItemIndex, Local, PrimitiveKind, TypeData, TypeFinder,
+    TypeIndex, TypeInformation, TypeIter,
 };
 use pdb_container::{Error, FallibleIterator, Msf, Result, Stream, open_msf};
 use std::alloc::Global;
@@ -21,9 +22,9 @@ fn items(alloc: Global, count: u16, end: &[u8]) -> Result<Vec<u8>> {
     Ok(bytes)
 }
 
-/// A table of these items, as stream 0 of a file with pages of 4096 bytes: its list of pages on page 1, its directory on
-/// page 2.
-fn table(alloc: Global, minimum: u32, maximum: u32, items: &[u8]) -> Result<Stream<'static>> {
+/// A stream of these bytes, at most 4096, as stream 0 of a file with pages of 4096 bytes: its list of pages on page 1, its
+/// directory on page 2.
+fn stream(alloc: Global, bytes: &[u8]) -> Result<Stream<'static>> {
     let mut file = Vec::new(alloc);
     file.extend_from_slice(b"Microsoft C/C++ MSF 7.00\r\n\x1aDS\0\0\0")?;
     for number in [4096u32, 1, 4, 12, 0, 1] {
@@ -32,18 +33,30 @@ fn table(alloc: Global, minimum: u32, maximum: u32, items: &[u8]) -> Result<Stre
     file.resize(4096, 0)?;
     file.extend_from_slice(&2u32.to_le_bytes())?;
     file.resize(2 * 4096, 0)?;
-    let size = u32::try_from(items.len()).unwrap_or(0).saturating_add(56);
-    for number in [1, size, 3] {
+    for number in [1, u32::try_from(bytes.len()).unwrap_or(0), 3] {
         file.extend_from_slice(&number.to_le_bytes())?;
     }
     file.resize(3 * 4096, 0)?;
-    for number in [20040203, 56, minimum, maximum] {
-        file.extend_from_slice(&number.to_le_bytes())?;
-    }
-    file.extend_from_slice(&[0; 40])?;
-    file.extend_from_slice(items)?;
+    file.extend_from_slice(bytes)?;
     file.resize(4 * 4096, 0)?;
     open_msf(alloc, file)?.get(alloc, 0, None)
+}
+
+/// A header that says of itself and of its table this.
+fn header(alloc: Global, size: u32, minimum: u32, maximum: u32) -> Result<Vec<u8>> {
+    let mut bytes = Vec::new(alloc);
+    for number in [20040203, size, minimum, maximum] {
+        bytes.extend_from_slice(&number.to_le_bytes())?;
+    }
+    bytes.extend_from_slice(&[0; 40])?;
+    Ok(bytes)
+}
+
+/// A table of these items.
+fn table(alloc: Global, minimum: u32, maximum: u32, items: &[u8]) -> Result<Stream<'static>> {
+    let mut bytes = header(alloc, 56, minimum, maximum)?;
+    bytes.extend_from_slice(items)?;
+    stream(alloc, &bytes)
 }
 
 /// Goes over so many items, and shows the iterator to the finder behind each.
@@ -154,4 +167,53 @@ fn indices(rt: HostRuntime) {
     assert_eq!(rt; u32::from(TypeIndex(7)), 7);
     assert_eq!(rt; u32::from(IdIndex(8)), 8);
     assert_eq!(rt; Local(IdIndex(9)).0, IdIndex(9));
+}
+
+#[test]
+fn headers_are_refused(rt: HostRuntime) -> std::result::Result<(), Fail> {
+    let small = Error::InvalidTypeInformationHeader("header size is impossibly small");
+    let large = Error::InvalidTypeInformationHeader("header size is unreasonably large");
+    let low = Error::InvalidTypeInformationHeader("minimum type index is < 4096");
+    let turned = Error::InvalidTypeInformationHeader("maximum type index is < minimum type index");
+    for (size, minimum, maximum, length, fault) in [
+        (0, 0, 0, 0, None),
+        (55, 0, 0, 1, Some(Error::UnexpectedEof)),
+        (55, 0, 0, 55, Some(Error::UnexpectedEof)),
+        (55, 4095, 0, 56, Some(small)),
+        (1025, 4095, 0, 56, Some(large)),
+        (1024, 4095, 0, 56, Some(Error::UnexpectedEof)),
+        (56, 4095, 0, 56, Some(low)),
+        (56, 4097, 4096, 56, Some(turned)),
+        (56, 4097, 4097, 56, None),
+    ] {
+        let mut bytes = header(rt.alloc(), size, minimum, maximum)?;
+        bytes.truncate(length);
+        let types = TypeInformation::parse(stream(rt.alloc(), &bytes)?);
+        assert_eq!(rt;
+            types.err(),
+            fault,
+            "at {size} {minimum} {maximum} {length}"
+        );
+    }
+    Ok(())
+}
+
+#[test]
+fn items_are_parsed(rt: HostRuntime) -> std::result::Result<(), Fail> {
+    // A constant number, and a function without a scope.
+    let bytes =
+        b"\x08\x00\x01\x10\x74\x00\x00\x00\x01\x00\x0c\x00\x01\x16\x00\x00\x00\x00\x00\x10\x00\x00f\x00";
+    let types = TypeInformation::parse(table(rt.alloc(), 0x1000, 0x1002, bytes)?)?;
+    let finder = types.finder(rt.alloc())?;
+    let modifier = finder.find(TypeIndex(0x1000))?.parse(rt.alloc())?;
+    assert!(rt; matches!(modifier, TypeData::Modifier(data) if data.constant));
+    let number = finder.find(TypeIndex(0x74))?.parse(rt.alloc())?;
+    assert!(rt; matches!(number, TypeData::Primitive(data) if data.kind == PrimitiveKind::I32));
+    let ids = IdInformation::parse(table(rt.alloc(), 0x1000, 0x1002, bytes)?)?;
+    let function = ids
+        .finder(rt.alloc())?
+        .find(IdIndex(0x1001))?
+        .parse(rt.alloc())?;
+    assert!(rt; matches!(function, IdData::Function(data) if data.scope.is_none()));
+    Ok(())
 }

@@ -50,6 +50,9 @@ impl FieldAttributes {
     }
 }
 
+/// The bit of a function's attributes that marks a constructor.
+const CONSTRUCTOR: u16 = 0x200;
+
 /// Attributes of a function.
 #[derive(Clone, Copy, Debug, Default, PartialEq, Eq, Hash)]
 pub struct FunctionAttributes(u16);
@@ -66,7 +69,7 @@ impl FunctionAttributes {
     pub fn is_constructor(self) -> bool
         ensures { result ≡ constructs self }
     {
-        self.0 & 0x200 != 0
+        self.0 & CONSTRUCTOR != 0
     }
 }
 
