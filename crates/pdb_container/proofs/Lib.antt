@@ -3,6 +3,7 @@ pub mod Bytes
 pub mod Entries
 pub mod First
 pub mod Limits
+pub mod Listings
 pub mod Literal
 pub mod Names
 pub mod Outside

@@ -1,15 +1,15 @@
 -- The places of pages, one after the other, by the place in the stream.
-use Rattle.std.proofs.Common.{◌≡◌, ℕ, ◌+◌, ◌*◌, ◌/◌, ◌%◌, ◌<◌, ◌≤◌, ◌-◌, List, [], ◌∷◌, ◌++◌, length, get_or, take, refl, ◌∙◌, inl, inr, arith, add-one}
+use Rattle.std.proofs.Common.{◌≡◌, ℕ, ◌+◌, ◌*◌, ◌/◌, ◌%◌, ◌<◌, ◌≤◌, ◌-◌, List, [], ◌∷◌, ◌++◌, length, get_or, take, map, ltb, Ok, refl, sym, ◌∙◌, inl, inr, arith, add-one}
 use Rattle.std.specs.Int.{div_ceil}
 use Rattle.std.proofs.lemmas.Grind.{common_steps}
-use Rattle.std.specs.List.{flat_map}
-use Rattle.std.proofs.lemmas.Bool.{cases_lt}
-use Rattle.std.proofs.lemmas.List.{length-append, length-take, get_or_append_left, get_or-append_right, get_or-take, take_more, append-nil, length-take-le, take_all}
+use Rattle.std.specs.List.{flat_map, list_all, range_with_len}
+use Rattle.std.proofs.lemmas.Bool.{cases_lt, cases_Bool}
+use Rattle.std.proofs.lemmas.List.{length-append, length-map, length-take, get_or_append_left, get_or-append_right, get_or-take, take_more, append-nil, length-take-le, take_all}
 use Rattle.std.proofs.lemmas.List.Concat.{flat_map-append}
 use Rattle.std.proofs.lemmas.List.FromFn.{length-range_with_len, get_or-range_with_len, fill_by_all}
 use Rattle.std.proofs.Math.Nat.{add-div_right, add-mod_right, div-eq_of_lt, mod-eq_of_lt}
 use Rattle.pdb_container.specs.Pages.{page}
-use Rattle.pdb_container.specs.Places.{page_places}
+use Rattle.pdb_container.specs.Places.{bytes_at, page_places}
 
 far_at : (size p : ℕ) (pages : List ℕ) (k : ℕ) → 0 < size
     → get_or (flat_map (page size) pages) k 0 ≡ get_or pages (k / size) 0 * size + k % size
@@ -53,3 +53,17 @@ page_places_at size pages i count whole pos le = rw (take_all i pages whole) (pa
 
 pub pages_enough : (size pages : ℕ) → 0 < pages → size ≤ div_ceil size pages * pages
 pages_enough size pages pos = grind (arith, common_steps)
+
+-- ---- how many bytes are read
+
+at_len : (file places v : List ℕ) → bytes_at file places ≡ Ok v → length v ≡ length places
+unfolding bytes_at
+at_len file places v read = elim (cases_Bool (list_all (λ at. ltb at (length file)) places)) [
+  | inl all ↦ let e = rw all at read in let v_is : map (λ at. get_or file at 0) places ≡ v = cc in rw (sym v_is) (length-map places (λ at. get_or file at 0))
+  | inr some ↦ let e = rw some at read in absurd cc
+]
+
+pub paged_len : (file : List ℕ) (size : ℕ) (pages : List ℕ) (count : ℕ) (v : List ℕ) → bytes_at file (page_places size pages count) ≡ Ok v → length v ≡ count
+unfolding page_places
+paged_len file size pages count v read =
+    at_len file (page_places size pages count) v read ∙ length-map (range_with_len 0 count) (λ i. get_or pages (i / size) 0 * size + i % size) ∙ length-range_with_len 0 count

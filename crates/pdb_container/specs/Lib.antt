@@ -5,6 +5,7 @@ pub mod ErrorText
 pub mod Fault
 pub mod Fields
 pub mod Header
+pub mod Listing
 pub mod Names
 pub mod Paged
 pub mod Pages

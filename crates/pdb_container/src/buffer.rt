@@ -1,6 +1,6 @@
 //! Bytes that are read in order.
 
-ghost use Rattle.std.specs.Prelude.{◌≡◌, ◌<◌, ◌-◌, drop, length, min, position, ◌==◌, IfSome};
+ghost use Rattle.std.specs.Prelude.{◌≡◌, ◌<◌, ◌-◌, drop, length, min, position, ◌==◌, ◌+◌, IfOk, IfSome};
 ghost use Rattle.std.specs.Int.{w8, w16, w32, w64};
 ghost use Rattle.pdb_container.specs.Buffer.{rest, Reads, ReadsOn, Moves, peeked, truncated, aligned};
 ghost use Rattle.pdb_container.specs.Fault.{Parses};
@@ -115,7 +115,8 @@ impl<'b> ParseBuffer<'b> {
     /// The next `size` bytes; `UnexpectedEof` where fewer are left.
     #[tactic(auto, unfolding(crate::specs::Buffer::rest))]
     pub fn take(&mut self, size: usize) -> Result<&'b [u8]>
-        ensures { Reads (λ part. part.now) result self.old self.new (bytes_of size) }
+        ensures value { Reads (λ part. part.now) result self.old self.new (bytes_of size) }
+        ensures taken { IfOk result (λ _. length (rest self.new) + size ≡ length (rest self.old)) }
     {
         if self.len() < size {
             return Err(Error::UnexpectedEof);
@@ -141,7 +142,8 @@ impl<'b> ParseBuffer<'b> {
 
     /// The next byte as a number; `UnexpectedEof` where none is left.
     pub fn parse_u8(&mut self) -> Result<u8>
-        ensures { Reads (λ x. x) result self.old self.new (number_at w8) }
+        ensures value { Reads (λ x. x) result self.old self.new (number_at w8) }
+        ensures taken { IfOk result (λ _. length (rest self.new) + 1 ≡ length (rest self.old)) }
     {
         let part = self.take(1)?;
         Ok(part[0])
@@ -149,7 +151,8 @@ impl<'b> ParseBuffer<'b> {
 
     /// The next two bytes as a number, the lowest first; `UnexpectedEof` where fewer are left.
     pub fn parse_u16(&mut self) -> Result<u16>
-        ensures { Reads (λ x. x) result self.old self.new (number_at w16) }
+        ensures value { Reads (λ x. x) result self.old self.new (number_at w16) }
+        ensures taken { IfOk result (λ _. length (rest self.new) + 2 ≡ length (rest self.old)) }
     {
         let part = self.take(2)?;
         Ok(u16::from_le_bytes([part[0], part[1]]))
@@ -157,7 +160,8 @@ impl<'b> ParseBuffer<'b> {
 
     /// The next four bytes as a number, the lowest first; `UnexpectedEof` where fewer are left.
     pub fn parse_u32(&mut self) -> Result<u32>
-        ensures { Reads (λ x. x) result self.old self.new (number_at w32) }
+        ensures value { Reads (λ x. x) result self.old self.new (number_at w32) }
+        ensures taken { IfOk result (λ _. length (rest self.new) + 4 ≡ length (rest self.old)) }
     {
         let part = self.take(4)?;
         Ok(u32::from_le_bytes([part[0], part[1], part[2], part[3]]))
@@ -165,7 +169,8 @@ impl<'b> ParseBuffer<'b> {
 
     /// The next eight bytes as a number, the lowest first; `UnexpectedEof` where fewer are left.
     pub fn parse_u64(&mut self) -> Result<u64>
-        ensures { Reads (λ x. x) result self.old self.new (number_at w64) }
+        ensures value { Reads (λ x. x) result self.old self.new (number_at w64) }
+        ensures taken { IfOk result (λ _. length (rest self.new) + 8 ≡ length (rest self.old)) }
     {
         let part = self.take(8)?;
         Ok(u64::from_le_bytes([
@@ -175,28 +180,32 @@ impl<'b> ParseBuffer<'b> {
 
     /// The next byte in two's complement; `UnexpectedEof` where none is left.
     pub fn parse_i8(&mut self) -> Result<i8>
-        ensures { Reads (λ x. x) result self.old self.new (signed_at w8) }
+        ensures value { Reads (λ x. x) result self.old self.new (signed_at w8) }
+        ensures taken { IfOk result (λ _. length (rest self.new) + 1 ≡ length (rest self.old)) }
     {
         Ok(self.parse_u8()?.cast_signed())
     }
 
     /// The next two bytes in two's complement, the lowest first; `UnexpectedEof` where fewer are left.
     pub fn parse_i16(&mut self) -> Result<i16>
-        ensures { Reads (λ x. x) result self.old self.new (signed_at w16) }
+        ensures value { Reads (λ x. x) result self.old self.new (signed_at w16) }
+        ensures taken { IfOk result (λ _. length (rest self.new) + 2 ≡ length (rest self.old)) }
     {
         Ok(self.parse_u16()?.cast_signed())
     }
 
     /// The next four bytes in two's complement, the lowest first; `UnexpectedEof` where fewer are left.
     pub fn parse_i32(&mut self) -> Result<i32>
-        ensures { Reads (λ x. x) result self.old self.new (signed_at w32) }
+        ensures value { Reads (λ x. x) result self.old self.new (signed_at w32) }
+        ensures taken { IfOk result (λ _. length (rest self.new) + 4 ≡ length (rest self.old)) }
     {
         Ok(self.parse_u32()?.cast_signed())
     }
 
     /// The next eight bytes in two's complement, the lowest first; `UnexpectedEof` where fewer are left.
     pub fn parse_i64(&mut self) -> Result<i64>
-        ensures { Reads (λ x. x) result self.old self.new (signed_at w64) }
+        ensures value { Reads (λ x. x) result self.old self.new (signed_at w64) }
+        ensures taken { IfOk result (λ _. length (rest self.new) + 8 ≡ length (rest self.old)) }
     {
         Ok(self.parse_u64()?.cast_signed())
     }
@@ -236,7 +245,8 @@ impl<'b> ParseBuffer<'b> {
     /// The bytes before the next NUL, which is read too; `UnexpectedEof` where there is no NUL.
     #[tactic(auto, using(crate::proofs::Taking::text_read, crate::proofs::Taking::text_missing), unfolding(crate::specs::Fields::c_string_at))]
     pub fn parse_cstring(&mut self) -> Result<RawString<'b>>
-        ensures { Reads raw_bytes result self.old self.new c_string_at }
+        ensures value { Reads raw_bytes result self.old self.new c_string_at }
+        ensures taken { IfOk result (λ _. length (rest self.new) < length (rest self.old)) }
     {
         let Some(end) = nul_in(self.left()) else {
             return Err(Error::UnexpectedEof);
@@ -248,7 +258,8 @@ impl<'b> ParseBuffer<'b> {
     /// A length in one byte and so many bytes; `UnexpectedEof` where any is missing.
     #[tactic(auto, unfolding(crate::specs::Fields::pascal_string_at))]
     pub fn parse_u8_pascal_string(&mut self) -> Result<RawString<'b>>
-        ensures { Reads raw_bytes result self.old self.new pascal_string_at }
+        ensures value { Reads raw_bytes result self.old self.new pascal_string_at }
+        ensures taken { IfOk result (λ _. length (rest self.new) < length (rest self.old)) }
     {
         let start = self.pos;
         let size = self.parse_u8()?;

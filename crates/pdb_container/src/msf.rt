@@ -45,15 +45,20 @@ pub struct Stream<'s> {
 }
 
 impl<'s> Model for Stream<'s> {
+    ghost use Rattle.std.specs.Prelude.{ℕ, List, ◌<◌, ◌^◌, length};
+
     ghost Value = { List ℕ };
 
     ghost view = { λ s. s.view };
+
+    ghost invariant = { λ s. length s.view < 2 ^ 32 };
 }
 
 impl<'s> Stream<'s> {
     /// The bytes.
     pub fn as_slice(&self) -> &[u8]
-        ensures { result.now ≡ self.now }
+        ensures bytes { result.now ≡ self.now }
+        ensures few { length result.now < 2 ^ 32 }
     {
         self.view.as_slice()
     }
@@ -91,6 +96,7 @@ fn pages_of(alloc: Global, used: u32, count: usize, numbers: &[u32]) -> Result<V
 }
 
 /// The first `size` bytes of the pages.
+#[tactic(auto, using(crate::proofs::Paging::paged_len))]
 fn read_pages<S: Source>(
     source: &mut S,
     alloc: Global,
@@ -105,6 +111,7 @@ fn read_pages<S: Source>(
     ensures counts { S.failures source.old ≤ S.failures source.new }
     ensures exact { Gives (λ v. v) (HasRisen (S.failures source.old) (S.failures source.new)) result
         (bytes_at (S.bytes source.old) (page_places page_size pages.now size)) }
+    ensures len { IfOk result (λ v. length v ≡ size) }
 {
     let list = list_of(alloc, page_size, pages, size)?;
     Ok(source.view(alloc, list.source_slices())?)
@@ -240,6 +247,7 @@ fn read_stream<S: Source>(
     ensures counts { S.failures source.old ≤ S.failures source.new }
     ensures exact { Gives (λ v. v) (HasRisen (S.failures source.old) (S.failures source.new)) result
         (stream_in (layout header.now) (S.bytes source.old) number limit) }
+    ensures few { IfOk result (λ v. length v < 2 ^ 32) }
 {
     let directory = read_directory(source, alloc, header)?;
     let (size, pages) = place_of(
