@@ -14,20 +14,20 @@ returns-in_err-stream-clause-err c =
 pub returns-in_err-dbi-clause-err : goal.returns-in_err-dbi-clause-err
 returns-in_err-dbi-clause-err c =
     let p = err_from_is_err_and c.from_residual-in_err-dbi.result c.from_residual-in_err-dbi.ensures.1 in
-    let parsed = rw c.as_slice.ensures at c.in_err-dbi.ensures in
+    let parsed = rw c.as_slice.ensures.bytes at c.in_err-dbi.ensures in
     rw (p.1, p.2) (header_fails (streams c.args.pdb) c.in_err-dbi.field-0.0 c.in_ok-stream.stream c.requires c.in_ok-stream.ensures.exact parsed.1)
 
 pub returns-in_err-parts-clause-err : goal.returns-in_err-parts-clause-err
 returns-in_err-parts-clause-err c =
     let p = err_from_is_err_and c.from_residual-in_err-parts.result c.from_residual-in_err-parts.ensures.1 in
-    let parsed = rw c.as_slice.ensures at c.in_ok-dbi.ensures in
+    let parsed = rw c.as_slice.ensures.bytes at c.in_ok-dbi.ensures in
     let failed = rw c.stream.ensures.same at c.in_err-parts.ensures.exact in
     rw (p.1, p.2) (parts_fail (streams c.args.pdb) c.in_err-parts.field-0.0 (dbi_seen c.in_ok-dbi.dbi) c.requires (ap (λ r. r >>= dbi_of) c.in_ok-stream.ensures.exact ∙ parsed) failed)
 
 pub returns-in_err-modules-clause-err : goal.returns-in_err-modules-clause-err
 returns-in_err-modules-clause-err c =
     let p = err_from_is_err_and c.from_residual-in_err-modules.result c.from_residual-in_err-modules.ensures.1 in
-    let parsed = rw c.as_slice.ensures at c.in_ok-dbi.ensures in
+    let parsed = rw c.as_slice.ensures.bytes at c.in_ok-dbi.ensures in
     let load = rw c.stream.ensures.same at c.in_ok-parts.ensures.exact in
     let same = c.load_parts.ensures.same ∙ c.stream.ensures.same in
     let entries = c.as_slice-2.ensures.value ∙ ap (λ q. q.modules) c.parts.view_is in
@@ -36,7 +36,7 @@ returns-in_err-modules-clause-err c =
 
 pub invariant_of-result : goal.invariant_of-result
 invariant_of-result c =
-    let parsed = rw c.as_slice.ensures at c.in_ok-dbi.ensures in
+    let parsed = rw c.as_slice.ensures.bytes at c.in_ok-dbi.ensures in
     let load = rw c.stream.ensures.same at c.in_ok-parts.ensures.exact in
     let same = c.load_parts.ensures.same ∙ c.stream.ensures.same in
     let entries = c.as_slice-2.ensures.value ∙ ap (λ q. q.modules) c.parts.view_is in
