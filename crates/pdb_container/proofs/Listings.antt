@@ -29,6 +29,12 @@ module _ {A : Type 0} (one : Reader A) where
   listing_next [] left x read lt = absurd (omega arith)
   listing_next (b ∷ bytes) left x read lt = rw (read, lt-ltb (length left) (length (b ∷ bytes)) lt) (ap (before x) (same_steps (length bytes) (length left) left (omega arith) (omega arith)))
 
+  -- where a value is still to come, the end isn't reached
+  pub listing_goes_on : (bytes left : List ℕ) (x : A) → one bytes ≡ Ok (x, left) → length left < length bytes → listing one bytes ≡ ending None → ⊥
+  listing_goes_on bytes left x read lt ended =
+      let e : length (before x (listing one left)).items ≡ 0 = ap (λ (l : Listing A). length l.items) (sym (listing_next bytes left x read lt) ∙ ended) in
+      absurd (omega arith)
+
   pub listing_fault : (bytes : List ℕ) (e : Fault) → length bytes ≢ 0 → one bytes ≡ Err e → listing one bytes ≡ ending (Some e)
   unfolding listing_within
   listing_fault [] e some read = absurd (some refl)

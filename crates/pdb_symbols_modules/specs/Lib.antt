@@ -1,0 +1,10 @@
+pub mod AddressTables
+pub mod Contributions
+pub mod Dbi
+pub mod Information
+pub mod Machine
+pub mod Modules
+pub mod Opened
+pub mod OptionalHeader
+pub mod NamesSeen
+pub mod Streams

@@ -1,0 +1,10 @@
+-- Machines by their numbers.
+use Rattle.std.specs.Prelude.{ℕ, ◌==◌, if◌then◌else◌}
+use Rattle.pdb_symbols_modules.specs.declared.machine.MachineType.{MachineType}
+use Rattle.pdb_symbols_modules.specs.declared.machine.MachineType.TheVariants as machines
+
+abbrev pub machine_of : ℕ → MachineType
+machine_of n =
+    if n == 0x8664 then machines.Amd64 else (if n == 0xaa64 then machines.Arm64
+    else (if n == 0x200 then machines.Ia64 else (if n == 0x5064 then machines.RiscV64
+    else (if n == 0x5128 then machines.RiscV128 else machines.Other n))))

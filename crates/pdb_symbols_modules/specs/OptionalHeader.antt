@@ -1,0 +1,24 @@
+-- The optional header of stream 3: numbers of further streams.
+use Rattle.std.specs.Prelude.{ℕ, ◌*◌, ◌%◌, List, length, drop, ◌==◌, not, Option, Result, Ok, Err, codes}
+use Rattle.std.specs.Int.{w16}
+use Rattle.pdb_container.specs.Fault.{Fault, InvalidStreamLength, ◌>>=◌, refuse}
+use Rattle.pdb_container.specs.Fields.{number_at}
+use Rattle.pdb_symbols_modules.specs.Dbi.{Dbi}
+use Rattle.pdb_symbols_modules.specs.Streams.{Streams, stream_if_named}
+
+-- what is read, or another number where it isn't there
+abbrev pub value_or : ℕ → Result (ℕ × List ℕ) Fault → ℕ
+value_or other (Ok read) = read.0
+value_or other (Err missing) = other
+
+-- the number at a place of the optional header, counted from 0; a missing one is 65535, as one that names no stream
+unfoldable pub optional_at : ℕ → List ℕ → Result ℕ Fault
+optional_at place bytes = do
+  even ← refuse (not (length bytes % 2 == 0)) (InvalidStreamLength (codes "DbgDataHdr"))
+  Ok (value_or 65535 (number_at w16 (drop (2 * place) bytes)))
+
+-- the stream at a place, where one is named
+unfoldable pub optional_stream : Streams → Dbi → ℕ → Result (Option (List ℕ)) Fault
+optional_stream s d place = do
+  n ← optional_at place d.optional_header
+  stream_if_named s n

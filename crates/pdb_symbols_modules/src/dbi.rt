@@ -1,0 +1,200 @@
+//! The header of stream 3, and its substreams.
+
+ghost use Rattle.std.specs.Prelude.{◌≡◌, ◌+◌, ◌≤◌, ◌<◌, ◌^◌, ◌==◌, length, if◌then◌else◌, None, Some};
+ghost use Rattle.pdb_container.specs.Fault.{Parses};
+ghost use Rattle.pdb_container.specs.Listing.{Listing};
+ghost use Rattle.pdb_symbols_modules.specs.Contributions.{contributions_of};
+ghost use Rattle.pdb_symbols_modules.specs.Dbi.{header_of, dbi_of, contributions_place, optional_header_place, substreams_end, piece as piece_of};
+ghost use Rattle.pdb_symbols_modules.specs.Machine.{machine_of};
+ghost use Rattle.pdb_symbols_modules.specs.Modules.{modules_of};
+ghost use Rattle.pdb_symbols_modules.specs.OptionalHeader.{optional_at};
+
+use crate::contributions::DBISectionContributionIter;
+use crate::machine::MachineType;
+use crate::modules::ModuleIter;
+use crate::optional_header::number_at_place;
+use crate::stream_index::StreamIndex;
+use pdb_container::{Error, ParseBuffer, Result, Stream};
+use std::marker::Model;
+
+/// How many bytes the header has.
+const HEADER_SIZE: usize = 64;
+
+/// What the header says, as far as it is used: the age, the number of a stream (65535 for none), sizes in bytes, and the
+/// machine's number.
+#[derive(Clone, Copy, Debug)]
+pub struct DBIHeader {
+    age: u32,
+    symbol_records_stream: u16,
+    module_list_size: u32,
+    section_contribution_size: u32,
+    section_map_size: u32,
+    file_info_size: u32,
+    type_server_map_size: u32,
+    debug_header_size: u32,
+    ec_substream_size: u32,
+    machine: u16,
+}
+
+/// What a database says of an image: stream 3.
+#[derive(Debug, Drop)]
+pub struct DebugInformation<'s> {
+    stream: Stream<'s>,
+    header: DBIHeader,
+}
+
+impl<'s> Model for DebugInformation<'s> {
+    ghost use Rattle.std.specs.Prelude.{◌≤◌, length};
+    ghost use Rattle.pdb_symbols_modules.specs.Dbi.{Dbi, dbi_in, substreams_end};
+
+    ghost Value = { Dbi };
+
+    ghost view = { λ d. dbi_in d.header d.stream };
+
+    ghost invariant = { λ d. substreams_end d.header ≤ length d.stream };
+}
+
+impl<'s> DebugInformation<'s> {
+    /// What a stream says. `UnexpectedEof` where the header or a substream isn't whole, `UnimplementedFeature` for a header
+    /// without signature.
+    #[tactic(auto, unfolding(crate::specs::Dbi::dbi_of))]
+    pub fn parse(stream: Stream<'s>) -> Result<DebugInformation<'s>>
+        ensures { Parses (λ d. d) result (dbi_of stream.entry) }
+    {
+        let header = parse_header(stream.as_slice())?;
+        if stream.as_slice().len() < header.end() {
+            return Err(Error::UnexpectedEof);
+        }
+        Ok(DebugInformation { stream, header })
+    }
+
+    /// The machine for which the image was made.
+    pub fn machine_type(&self) -> MachineType
+        ensures { result ≡ machine_of self.now.machine }
+    {
+        MachineType::of(self.header.machine)
+    }
+
+    /// How often the database was written; none where the header says 0.
+    pub fn age(&self) -> Option<u32>
+        ensures { result ≡ (if self.now.age == 0 then None else Some self.now.age) }
+    {
+        match self.header.age {
+            0 => None,
+            age => Some(age),
+        }
+    }
+
+    /// The modules in their order.
+    pub fn modules(&self) -> ModuleIter<'_>
+        ensures { result ≡ modules_of self.now.modules }
+    {
+        let size = self.header.module_list_size as usize;
+        ModuleIter::over(piece(self.stream.as_slice(), HEADER_SIZE, size))
+    }
+
+    /// What the modules contributed to sections, in the order of the list. `UnexpectedEof`, and `UnimplementedFeature` for
+    /// a version that isn't known.
+    pub fn section_contributions(&self) -> Result<DBISectionContributionIter<'_>>
+        ensures { Parses (λ it. it) result (contributions_of self.now.contributions) }
+    {
+        let place = self.header.contributions_place();
+        let size = self.header.section_contribution_size as usize;
+        DBISectionContributionIter::parse(piece(self.stream.as_slice(), place, size))
+    }
+
+    /// The number of the stream of symbol records.
+    pub(crate) fn symbol_records_stream(&self) -> StreamIndex
+        ensures { result.0 ≡ self.now.symbol_records_stream }
+    {
+        StreamIndex(self.header.symbol_records_stream)
+    }
+
+    /// The number of a stream at a place of the optional header, counted from 0. `InvalidStreamLength` where that header
+    /// isn't made of whole numbers.
+    pub(crate) fn optional_stream(&self, place: usize) -> Result<StreamIndex>
+        requires { place ≤ 10 }
+        ensures { Parses (λ n. n.0) result (optional_at place self.now.optional_header) }
+    {
+        let start = self.header.optional_header_place();
+        let size = self.header.debug_header_size as usize;
+        number_at_place(piece(self.stream.as_slice(), start, size), place)
+    }
+}
+
+impl DBIHeader {
+    /// Where the list of contributions begins.
+    fn contributions_place(self) -> usize
+        ensures place { result ≡ contributions_place self }
+        ensures bound { result < 2 ^ 33 }
+    {
+        HEADER_SIZE + self.module_list_size as usize
+    }
+
+    /// Where the optional header begins.
+    fn optional_header_place(self) -> usize
+        ensures place { result ≡ optional_header_place self }
+        ensures bound { result < 2 ^ 40 }
+    {
+        self.contributions_place()
+            + self.section_contribution_size as usize
+            + self.section_map_size as usize
+            + self.file_info_size as usize
+            + self.type_server_map_size as usize
+            + self.ec_substream_size as usize
+    }
+
+    /// Where the last substream ends.
+    fn end(self) -> usize
+        ensures { result ≡ substreams_end self }
+    {
+        self.optional_header_place() + self.debug_header_size as usize
+    }
+}
+
+/// The header of stream 3. `UnexpectedEof` where it is short, `UnimplementedFeature` where it has another signature.
+#[tactic(auto, unfolding(crate::specs::Dbi::header_of))]
+fn parse_header(bytes: &[u8]) -> Result<DBIHeader>
+    ensures { Parses (λ h. h) result (header_of bytes.now) }
+{
+    let mut buffer = ParseBuffer::from(ParseBuffer::from(bytes).take(HEADER_SIZE)?);
+    if buffer.parse_u32()? != 0xffff_ffff {
+        return Err(Error::UnimplementedFeature("ancient DBI header"));
+    }
+    let _version = buffer.parse_u32()?;
+    let age = buffer.parse_u32()?;
+    buffer.take(8)?;
+    let symbol_records_stream = buffer.parse_u16()?;
+    let _rebuild = buffer.parse_u16()?;
+    let module_list_size = buffer.parse_u32()?;
+    let section_contribution_size = buffer.parse_u32()?;
+    let section_map_size = buffer.parse_u32()?;
+    let file_info_size = buffer.parse_u32()?;
+    let type_server_map_size = buffer.parse_u32()?;
+    let _compiler_index = buffer.parse_u32()?;
+    let debug_header_size = buffer.parse_u32()?;
+    let ec_substream_size = buffer.parse_u32()?;
+    let _flags = buffer.parse_u16()?;
+    let machine = buffer.parse_u16()?;
+    Ok(DBIHeader {
+        age,
+        symbol_records_stream,
+        module_list_size,
+        section_contribution_size,
+        section_map_size,
+        file_info_size,
+        type_server_map_size,
+        debug_header_size,
+        ec_substream_size,
+        machine,
+    })
+}
+
+/// So many bytes from a place on.
+fn piece(bytes: &[u8], place: usize, size: usize) -> &[u8]
+    requires { place + size ≤ length bytes.now }
+    ensures { result.now ≡ piece_of bytes.now place size }
+{
+    let (part, _) = bytes[place..].split_at(size);
+    part
+}

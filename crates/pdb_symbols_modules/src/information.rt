@@ -1,0 +1,209 @@
+//! Stream 1: what a database says of itself, and the names that it gives to streams.
+
+ghost use Rattle.std.specs.Prelude.{◌≡◌, Some, map, option_map};
+ghost use Rattle.std.specs.List.{find};
+ghost use Rattle.pdb_container.specs.Buffer.{rest, Reads, ReadsAll};
+ghost use Rattle.pdb_container.specs.Fault.{Gives, Parses};
+ghost use Rattle.pdb_container.specs.Fields.{bytes_of};
+ghost use Rattle.pdb_container.specs.Names.{name_in};
+ghost use Rattle.pdb_items.specs.RecordFields.{GivesAll, many_at};
+ghost use Rattle.pdb_symbols_modules.specs.Information.{information_of, stream_number, stream_name_at, bits_at, stream_names_of, number_in, is_named, number_of};
+ghost use Rattle.pdb_container.specs.RawString.{raw_bytes};
+ghost use Rattle.pdb_symbols_modules.specs.NamesSeen.{stream_name_seen};
+
+use crate::stream_index::StreamIndex;
+use pdb_container::{Error, ParseBuffer, RawString, Result, Stream};
+use std::alloc::Global;
+use std::marker::Model;
+
+/// How many bytes lie before the names.
+const HEADER_SIZE: usize = 28;
+
+/// What a database says of itself.
+#[derive(Debug, Drop)]
+pub struct PDBInformation<'s> {
+    /// The version of the format.
+    pub version: u32,
+    /// The time at which the database was made.
+    pub signature: u32,
+    /// How often it was written since.
+    pub age: u32,
+    /// By what it is told apart from others.
+    pub guid: [u8; 16],
+    stream: Stream<'s>,
+}
+
+impl<'s> Model for PDBInformation<'s> {
+    ghost use Rattle.pdb_symbols_modules.specs.Information.{Information};
+
+    ghost Value = { Information };
+
+    ghost view = { λ i. record { version = i.version; signature = i.signature; age = i.age; guid = i.guid; bytes = i.stream } };
+}
+
+impl<'s> PDBInformation<'s> {
+    /// What a stream says. `UnexpectedEof` where it is short.
+    #[tactic(auto, unfolding(crate::specs::Information::information_of))]
+    pub fn parse(stream: Stream<'s>) -> Result<PDBInformation<'s>>
+        ensures { Parses (λ i. i) result (information_of stream.entry) }
+    {
+        let mut buffer = ParseBuffer::from(stream.as_slice());
+        let version = buffer.parse_u32()?;
+        let signature = buffer.parse_u32()?;
+        let age = buffer.parse_u32()?;
+        let guid = parse_guid(&mut buffer)?;
+        Ok(PDBInformation {
+            version,
+            signature,
+            age,
+            guid,
+            stream,
+        })
+    }
+
+    /// The names that the database gives to streams. `UnexpectedEof` where the table isn't whole or a name doesn't end among
+    /// the names, `OutOfMemory`.
+    #[tactic(auto, unfolding(crate::specs::Information::stream_names_of))]
+    pub fn stream_names(&self, alloc: Global) -> Result<StreamNames<'_>>
+        ensures { Gives (λ names. names) ⊥ result (stream_names_of self.now.bytes) }
+    {
+        let mut buffer = ParseBuffer::from(self.stream.as_slice());
+        buffer.take(HEADER_SIZE)?;
+        let size = buffer.parse_u32()?;
+        let names = buffer.take(size as usize)?;
+        let count = buffer.parse_u32()?;
+        let _room = buffer.parse_u32()?;
+        take_bits(&mut buffer)?;
+        take_bits(&mut buffer)?;
+        let names = parse_names(alloc, names, &mut buffer, count)?;
+        Ok(StreamNames { names })
+    }
+}
+
+/// A name, and the stream that bears it.
+#[derive(Clone, Copy, Debug)]
+pub struct StreamName<'n> {
+    /// The name.
+    pub name: RawString<'n>,
+    /// The stream's number; 0xffff where the table's number is no stream's.
+    pub stream_id: StreamIndex,
+}
+
+/// The names that a database gives to streams, in the order of its table.
+#[derive(Debug, Drop)]
+pub struct StreamNames<'s> {
+    names: Vec<StreamName<'s>>,
+}
+
+impl<'s> Model for StreamNames<'s> {
+    ghost use Rattle.std.specs.Prelude.{List, map};
+    ghost use Rattle.pdb_symbols_modules.specs.Information as information;
+    ghost use Rattle.pdb_symbols_modules.specs.NamesSeen.{stream_name_seen};
+
+    ghost Value = { List information.StreamName };
+
+    ghost view = { λ n. map stream_name_seen n.names.items };
+}
+
+impl<'s> StreamNames<'s> {
+    /// The names with their streams.
+    pub fn iter(&self) -> std::slice::Iter<'_, StreamName<'s>> {
+        self.names.iter()
+    }
+
+    /// The stream of the first entry with a name. `StreamNameNotFound` where there is none, or it names no stream.
+    #[tactic(auto, using(crate::proofs::NameLemmas::none_named, crate::proofs::NameLemmas::some_named))]
+    pub(crate) fn find(&self, name: &[u8]) -> Result<StreamIndex>
+        ensures { Parses (λ n. n.0) result (number_of name.now self.now) }
+    {
+        match entry_of(self.names.as_slice(), name) {
+            None => Err(Error::StreamNameNotFound),
+            Some(entry) => entry.named(),
+        }
+    }
+}
+
+impl StreamName<'_> {
+    /// Whether it is the entry of a name.
+    fn has_name(&self, name: &[u8]) -> bool
+        ensures { result ≡ is_named name.now (stream_name_seen self.now) }
+    {
+        self.name.as_bytes() == name
+    }
+
+    /// The stream, if there is one.
+    fn named(&self) -> Result<StreamIndex>
+        ensures { Parses (λ n. n.0) result (number_in (Some (stream_name_seen self.now))) }
+    {
+        if self.stream_id.is_none() {
+            return Err(Error::StreamNameNotFound);
+        }
+        Ok(self.stream_id)
+    }
+}
+
+/// The first entry of a name.
+fn entry_of<'e, 'n>(entries: &'e [StreamName<'n>], name: &[u8]) -> Option<&'e StreamName<'n>>
+    ensures { option_map (λ e. e.now) result ≡ find (λ e. is_named name.now (stream_name_seen e)) entries.now }
+{
+    entries.iter().find(|entry| entry.has_name(name))
+}
+
+/// The next sixteen bytes; `UnexpectedEof` where fewer are left.
+fn parse_guid(buffer: &mut ParseBuffer<'_>) -> Result<[u8; 16]>
+    ensures { Reads (λ guid. guid) result buffer.old buffer.new (bytes_of 16) }
+{
+    let bytes = buffer.take(16)?;
+    let mut guid = [0; 16];
+    guid.copy_from_slice(bytes);
+    Ok(guid)
+}
+
+/// Words of bits, behind their count.
+fn take_bits<'b>(buffer: &mut ParseBuffer<'b>) -> Result<&'b [u8]>
+    ensures { ReadsAll (λ bits. bits.now) result (rest buffer.new) (bits_at (rest buffer.old)) }
+{
+    let count = buffer.parse_u32()?;
+    buffer.take(4 * count as usize)
+}
+
+/// So many entries, whose names stand among these. The room for them grows with what is read, and not with what is promised.
+#[tactic(auto, using(crate::proofs::NameLemmas::names_start, crate::proofs::NameLemmas::names_more, crate::proofs::NameLemmas::names_fail, crate::proofs::NameLemmas::names_done))]
+fn parse_names<'n>(
+    alloc: Global,
+    names: &'n [u8],
+    buffer: &mut ParseBuffer<'_>,
+    count: u32,
+) -> Result<Vec<StreamName<'n>>>
+    ensures { GivesAll (λ v. map stream_name_seen v.items) result (rest buffer.new) (many_at (stream_name_at names.now) count (rest buffer.old)) }
+{
+    let mut entries = Vec::new(alloc);
+    for _ in 0..count {
+        entries.push(parse_name(names, buffer)?)?;
+    }
+    Ok(entries)
+}
+
+/// An entry, whose name stands among these.
+#[tactic(auto, unfolding(crate::specs::Information::stream_name_at, pdb_container::specs::Names::name_in))]
+fn parse_name<'n>(names: &'n [u8], buffer: &mut ParseBuffer<'_>) -> Result<StreamName<'n>>
+    ensures { ReadsAll stream_name_seen result (rest buffer.new) (stream_name_at names.now (rest buffer.old)) }
+{
+    let offset = buffer.parse_u32()?;
+    let number = buffer.parse_u32()?;
+    let name = name_at(names, offset)?;
+    Ok(StreamName {
+        name,
+        stream_id: StreamIndex(u16::try_from(number).unwrap_or(0xffff)),
+    })
+}
+
+/// The name at an offset among names. `UnexpectedEof` outside them, and where no NUL among them ends it.
+#[tactic(auto, unfolding(pdb_container::specs::Names::name_in))]
+fn name_at(names: &[u8], offset: u32) -> Result<RawString<'_>>
+    ensures { Parses raw_bytes result (name_in names.now offset) }
+{
+    let mut buffer = ParseBuffer::from(names);
+    buffer.seek(offset as usize);
+    buffer.parse_cstring()
+}

@@ -1,0 +1,21 @@
+//! An open program database: what it says of itself, its modules and their contributions, the sections and addresses of
+//! its image, and the tables and lists to which its streams lead.
+#![tactic(auto)]
+
+mod contributions;
+mod dbi;
+mod information;
+pub mod laws;
+mod machine;
+mod modules;
+mod optional_header;
+mod pdb;
+mod stream_index;
+
+pub use contributions::{DBISectionContribution, DBISectionContributionIter};
+pub use dbi::DebugInformation;
+pub use information::{PDBInformation, StreamName, StreamNames};
+pub use machine::MachineType;
+pub use modules::{Module, ModuleIter};
+pub use pdb::PDB;
+pub use stream_index::StreamIndex;

@@ -1,0 +1,168 @@
+//! The list of modules.
+
+ghost use Rattle.std.specs.Prelude.{◌≡◌, ◌<◌, drop, length, IfOk, None};
+ghost use Rattle.pdb_container.specs.Buffer.{rest, ReadsAll};
+ghost use Rattle.pdb_container.specs.Listing.{Listing, ending, Advances};
+ghost use Rattle.pdb_container.specs.RawString.{raw_bytes};
+ghost use Rattle.pdb_symbols_modules.specs.Modules.{module_at, modules_of, padding as padding_of};
+
+use crate::stream_index::StreamIndex;
+use pdb_container::{Error, FallibleIterator, ParseBuffer, RawString, Result};
+use std::marker::Model;
+
+/// A module: where its own stream is, the sizes of that stream's parts, and its names.
+#[derive(Debug, Drop)]
+pub struct Module<'m> {
+    stream: u16,
+    symbols_size: u32,
+    c11_lines_size: u32,
+    c13_lines_size: u32,
+    module_name: RawString<'m>,
+    object_file_name: RawString<'m>,
+}
+
+impl<'m> Model for Module<'m> {
+    ghost use Rattle.pdb_container.specs.RawString.{raw_bytes};
+    ghost use Rattle.pdb_symbols_modules.specs.Modules as modules;
+
+    ghost Value = { modules.Module };
+
+    ghost view = { λ m. record { stream = m.stream; symbols_size = m.symbols_size; c11_lines_size = m.c11_lines_size; c13_lines_size = m.c13_lines_size; module_name = raw_bytes m.module_name; object_file_name = raw_bytes m.object_file_name } };
+}
+
+impl<'m> Module<'m> {
+    /// The name of the module, mostly that of an object file.
+    pub fn module_name(&self) -> RawString<'m>
+        ensures { raw_bytes result ≡ self.now.module_name }
+    {
+        self.module_name
+    }
+
+    /// The name of the file from which the module was linked, mostly an archive or the object file itself.
+    pub fn object_file_name(&self) -> RawString<'m>
+        ensures { raw_bytes result ≡ self.now.object_file_name }
+    {
+        self.object_file_name
+    }
+
+    /// The module's own stream.
+    pub fn stream(&self) -> StreamIndex
+        ensures { result.0 ≡ self.now.stream }
+    {
+        StreamIndex(self.stream)
+    }
+
+    /// How many bytes of symbols stand at the stream's beginning.
+    pub fn symbols_size(&self) -> u32
+        ensures { result ≡ self.now.symbols_size }
+    {
+        self.symbols_size
+    }
+
+    /// How many bytes of line data in an older form follow.
+    pub fn c11_lines_size(&self) -> u32
+        ensures { result ≡ self.now.c11_lines_size }
+    {
+        self.c11_lines_size
+    }
+
+    /// How many bytes of line data follow behind these.
+    pub fn c13_lines_size(&self) -> u32
+        ensures { result ≡ self.now.c13_lines_size }
+    {
+        self.c13_lines_size
+    }
+}
+
+/// The modules in their order. Its value in contracts is what is still to come.
+#[derive(Debug, Drop)]
+pub struct ModuleIter<'m> {
+    buffer: ParseBuffer<'m>,
+}
+
+impl<'m> Model for ModuleIter<'m> {
+    ghost use Rattle.pdb_container.specs.Buffer.{rest};
+    ghost use Rattle.pdb_container.specs.Listing.{Listing};
+    ghost use Rattle.pdb_symbols_modules.specs.Modules as modules;
+
+    ghost Value = { Listing modules.Module };
+
+    ghost view = { λ it. modules.modules_of (rest it.buffer) };
+}
+
+impl<'m> ModuleIter<'m> {
+    /// The modules of a list.
+    pub(crate) fn over(bytes: &'m [u8]) -> ModuleIter<'m>
+        ensures { result ≡ modules_of bytes.now }
+    {
+        ModuleIter {
+            buffer: ParseBuffer::from(bytes),
+        }
+    }
+}
+
+impl<'m> FallibleIterator for ModuleIter<'m> {
+    type Item = Module<'m>;
+
+    type Error = Error;
+
+    ghost has_ended = { λ it. it ≡ ending None };
+
+    ghost next_gives = { λ old result new. Advances (λ m. m) old result new };
+
+    #[tactic(auto, using(pdb_container::proofs::Listings::listing_next, pdb_container::proofs::Listings::listing_fault, pdb_container::proofs::Listings::listing_end, pdb_container::proofs::Listings::listing_goes_on))]
+    fn next(&mut self) -> Result<Option<Module<'m>>> {
+        if self.buffer.is_empty() {
+            return Ok(None);
+        }
+        match parse_module(&mut self.buffer) {
+            Ok(module) => Ok(Some(module)),
+            Err(fault) => {
+                self.buffer = ParseBuffer::from(&[][..]);
+                Err(fault)
+            }
+        }
+    }
+}
+
+/// How many bytes are missing from a multiple of four.
+fn padding(size: usize) -> usize
+    ensures { result ≡ padding_of size }
+{
+    (4 - size % 4) % 4
+}
+
+/// Goes from `size` bytes to the next multiple of four, or to the end.
+fn skip_padding(buffer: &mut ParseBuffer<'_>, size: usize)
+    ensures { rest buffer.new ≡ drop (padding_of size) (rest buffer.old) }
+{
+    let missing = padding(size).min(buffer.len());
+    let _ = buffer.take(missing);
+}
+
+/// One entry of the list. `UnexpectedEof`.
+#[tactic(auto, unfolding(crate::specs::Modules::module_at))]
+fn parse_module<'m>(buffer: &mut ParseBuffer<'m>) -> Result<Module<'m>>
+    ensures value { ReadsAll (λ m. m) result (rest buffer.new) (module_at (rest buffer.old)) }
+    ensures shorter { IfOk result (λ _. length (rest buffer.new) < length (rest buffer.old)) }
+{
+    let whole = buffer.len();
+    buffer.take(34)?;
+    let stream = buffer.parse_u16()?;
+    let symbols_size = buffer.parse_u32()?;
+    let c11_lines_size = buffer.parse_u32()?;
+    let c13_lines_size = buffer.parse_u32()?;
+    buffer.take(16)?;
+    let module_name = buffer.parse_cstring()?;
+    let object_file_name = buffer.parse_cstring()?;
+    let size = whole.saturating_sub(buffer.len());
+    skip_padding(buffer, size);
+    Ok(Module {
+        stream,
+        symbols_size,
+        c11_lines_size,
+        c13_lines_size,
+        module_name,
+        object_file_name,
+    })
+}

@@ -1,0 +1,326 @@
+//! An open program database.
+
+ghost use Rattle.std.specs.Prelude.{◌≡◌, ◌≤◌, ◌⊎◌, IfOk, IfErr, None, Some, option_map};
+ghost use Rattle.pdb_container.specs.Fault.{fault_of, Gives, HasRisen, IsOutside};
+ghost use Rattle.pdb_symbols_modules.specs.AddressTables.{said, sections_by, original_sections_by, map_with, map_behind, address_map_by};
+ghost use Rattle.pdb_container_types.specs.Omap.{omap_of};
+ghost use Rattle.pdb_container_types.specs.Sections.{section_headers_of};
+ghost use Rattle.pdb_symbols_modules.specs.Opened.{information, named_stream, names, debug_information, types, ids, global_symbols, sections, address_map};
+ghost use Rattle.pdb_symbols_modules.specs.OptionalHeader.{optional_stream};
+ghost use Rattle.pdb_symbols_modules.specs.Streams.{streams, stream_if_named};
+
+use crate::dbi::DebugInformation;
+use crate::information::PDBInformation;
+use crate::optional_header::{
+    OMAP_FROM_SOURCE, OMAP_TO_SOURCE, ORIGINAL_SECTION_HEADERS, SECTION_HEADERS,
+};
+use crate::stream_index::StreamIndex;
+use pdb_container::{BigMSF, Error, Msf, Result, Source, Stream, StringTable, open_msf};
+use pdb_container_types::{
+    AddressMap, ImageSectionHeader, OMAPRecord, parse_omap, parse_section_headers,
+};
+use pdb_items::{IdInformation, ItemIndex, ItemInformation, TypeInformation};
+use std::alloc::Global;
+use std::marker::Model;
+
+/// An open program database over a source, which is its value in contracts. What a call answers is a function of the
+/// source's bytes, whatever was asked before.
+#[derive(Drop)]
+pub struct PDB<'s, S: Source> {
+    container: BigMSF<'s, S>,
+}
+
+impl<'s, S: Source> Model for PDB<'s, S> {
+    ghost Value = { S };
+
+    ghost view = { λ p. p.container };
+}
+
+impl<'s, S: Source + Drop> PDB<'s, S> {
+    /// Opens the database that a source holds.
+    ///
+    /// # Errors
+    /// `UnrecognizedFileFormat`, `InvalidPageSize`, `PageReferenceOutOfRange`, `UnexpectedEof`; `IoError` where the source
+    /// failed.
+    #[tactic(auto, using(crate::proofs::Opening::opened_well, crate::proofs::Opening::not_opened), unfolding(crate::specs::Streams::streams))]
+    pub fn open(alloc: Global, source: S) -> Result<PDB<'s, S>>
+        ensures file { IfOk result (λ p. (S.bytes p ≡ S.bytes source) × (S.failures source ≤ S.failures p) × ((streams (S.bytes source)).open_fault ≡ None)) }
+        ensures err { IfErr result (λ e. IsOutside e ((after : S) × (S.bytes after ≡ S.bytes source) × HasRisen (S.failures source) (S.failures after)) ⊎ ((streams (S.bytes source)).open_fault ≡ Some (fault_of e))) }
+    {
+        let container = open_msf(alloc, source)?;
+        Ok(PDB { container })
+    }
+
+    /// What the database says of itself: stream 1.
+    ///
+    /// # Errors
+    /// Those of reading a stream ([`PDB::raw_stream`]); `UnexpectedEof` where it is short.
+    #[tactic(auto, using(pdb_container::proofs::Outside::outside_alone), unfolding(crate::specs::Opened::information))]
+    pub fn pdb_information(&mut self, alloc: Global) -> Result<PDBInformation<'s>>
+        ensures same { S.bytes self.new ≡ S.bytes self.old }
+        ensures counts { S.failures self.old ≤ S.failures self.new }
+        ensures exact { Gives (λ i. i) (HasRisen (S.failures self.old) (S.failures self.new)) result (information (streams (S.bytes self.old))) }
+    {
+        let stream = self.stream(alloc, 1)?;
+        PDBInformation::parse(stream)
+    }
+
+    /// What the database says of its image: stream 3.
+    ///
+    /// # Errors
+    /// Those of reading a stream; `UnexpectedEof` where the header or a list isn't whole, `UnimplementedFeature` for a
+    /// header of another kind.
+    #[tactic(auto, using(pdb_container::proofs::Outside::outside_alone), unfolding(crate::specs::Opened::debug_information))]
+    pub fn debug_information(&mut self, alloc: Global) -> Result<DebugInformation<'s>>
+        ensures same { S.bytes self.new ≡ S.bytes self.old }
+        ensures counts { S.failures self.old ≤ S.failures self.new }
+        ensures exact { Gives (λ d. d) (HasRisen (S.failures self.old) (S.failures self.new)) result (debug_information (streams (S.bytes self.old))) }
+    {
+        let stream = self.stream(alloc, 3)?;
+        DebugInformation::parse(stream)
+    }
+
+    /// The table of types: stream 2.
+    ///
+    /// # Errors
+    /// Those of reading a stream; `UnexpectedEof` and `InvalidTypeInformationHeader` for its header.
+    #[tactic(auto, using(pdb_container::proofs::Outside::outside_alone), unfolding(crate::specs::Opened::types))]
+    pub fn type_information(&mut self, alloc: Global) -> Result<TypeInformation<'s>>
+        ensures same { S.bytes self.new ≡ S.bytes self.old }
+        ensures counts { S.failures self.old ≤ S.failures self.new }
+        ensures exact { Gives (λ t. t) (HasRisen (S.failures self.old) (S.failures self.new)) result (types (streams (S.bytes self.old))) }
+    {
+        let stream = self.stream(alloc, 2)?;
+        ItemInformation::parse(stream)
+    }
+
+    /// The table of ids: stream 4.
+    ///
+    /// # Errors
+    /// Those of reading a stream; `UnexpectedEof` and `InvalidTypeInformationHeader` for its header.
+    #[tactic(auto, using(pdb_container::proofs::Outside::outside_alone), unfolding(crate::specs::Opened::ids))]
+    pub fn id_information(&mut self, alloc: Global) -> Result<IdInformation<'s>>
+        ensures same { S.bytes self.new ≡ S.bytes self.old }
+        ensures counts { S.failures self.old ≤ S.failures self.new }
+        ensures exact { Gives (λ t. t) (HasRisen (S.failures self.old) (S.failures self.new)) result (ids (streams (S.bytes self.old))) }
+    {
+        let stream = self.stream(alloc, 4)?;
+        ItemInformation::parse(stream)
+    }
+
+    /// The bytes of a stream; `None` for the number that names none.
+    ///
+    /// # Errors
+    /// `StreamNotFound` where the container has no such stream, `PageReferenceOutOfRange` for a page outside the file,
+    /// `UnexpectedEof` where the container's directory isn't whole; `IoError` past the file's end, and where the source
+    /// failed; `OutOfMemory`.
+    #[tactic(auto, unfolding(crate::specs::Streams::stream_if_named))]
+    pub fn raw_stream(&mut self, alloc: Global, index: StreamIndex) -> Result<Option<Stream<'s>>>
+        ensures same { S.bytes self.new ≡ S.bytes self.old }
+        ensures counts { S.failures self.old ≤ S.failures self.new }
+        ensures exact { Gives (λ s. s) (HasRisen (S.failures self.old) (S.failures self.new)) result (stream_if_named (streams (S.bytes self.old)) index.0) }
+    {
+        if index.is_none() {
+            return Ok(None);
+        }
+        let stream = self.stream(alloc, u32::from(index.0))?;
+        Ok(Some(stream))
+    }
+
+    /// The bytes of the stream to which the database gives a name.
+    ///
+    /// # Errors
+    /// `StreamNameNotFound` where no stream has the name; `UnexpectedEof` where the names aren't whole; those of reading a
+    /// stream.
+    #[tactic(auto, using(pdb_container::proofs::Outside::outside_alone, pdb_container::proofs::Outside::outside_earlier, pdb_container::proofs::Outside::outside_later), unfolding(crate::specs::Opened::named_stream))]
+    pub fn named_stream(&mut self, alloc: Global, name: &[u8]) -> Result<Stream<'s>>
+        ensures same { S.bytes self.new ≡ S.bytes self.old }
+        ensures counts { S.failures self.old ≤ S.failures self.new }
+        ensures exact { Gives (λ s. s) (HasRisen (S.failures self.old) (S.failures self.new)) result (named_stream (streams (S.bytes self.old)) name.now) }
+    {
+        let information = self.pdb_information(alloc)?;
+        let names = information.stream_names(alloc)?;
+        let index = names.find(name)?;
+        self.stream(alloc, u32::from(index.0))
+    }
+
+    /// The names of files and modules: the stream `/names`.
+    ///
+    /// # Errors
+    /// Those of [`PDB::named_stream`]; `UnimplementedFeature` for a table of another kind, `UnexpectedEof` where it isn't
+    /// whole.
+    #[tactic(auto, using(pdb_container::proofs::Outside::outside_alone), unfolding(crate::specs::Opened::names))]
+    pub fn string_table(&mut self, alloc: Global) -> Result<StringTable<'s>>
+        ensures same { S.bytes self.new ≡ S.bytes self.old }
+        ensures counts { S.failures self.old ≤ S.failures self.new }
+        ensures exact { Gives (λ t. t) (HasRisen (S.failures self.old) (S.failures self.new)) result (names (streams (S.bytes self.old))) }
+    {
+        let stream = self.named_stream(alloc, b"/names")?;
+        StringTable::parse(stream)
+    }
+
+    /// The sections of the image; `None` where the database has no list of them.
+    ///
+    /// # Errors
+    /// Those of [`PDB::debug_information`]; `InvalidStreamLength` for a list of streams that isn't made of whole numbers;
+    /// those of reading a stream; `UnexpectedEof` for a section header that isn't whole.
+    #[tactic(auto, using(pdb_container::proofs::Outside::outside_earlier, pdb_container::proofs::Outside::outside_later), unfolding(crate::specs::Opened::sections))]
+    pub fn sections(&mut self, alloc: Global) -> Result<Option<Vec<ImageSectionHeader>>>
+        ensures same { S.bytes self.new ≡ S.bytes self.old }
+        ensures counts { S.failures self.old ≤ S.failures self.new }
+        ensures exact { Gives (option_map (λ v. v.items)) (HasRisen (S.failures self.old) (S.failures self.new)) result (sections (streams (S.bytes self.old))) }
+    {
+        let debug_information = self.debug_information(alloc)?;
+        self.sections_by(alloc, &debug_information)
+    }
+
+    /// The ways between the addresses of the image and those of the database.
+    ///
+    /// # Errors
+    /// The first fault of: [`PDB::sections`]; the sections before the code was moved, where there is a list of them, as of
+    /// sections; the maps to and from these, as of reading a stream, and `InvalidStreamLength`.
+    #[tactic(auto, using(pdb_container::proofs::Outside::outside_earlier, pdb_container::proofs::Outside::outside_later), unfolding(crate::specs::Opened::address_map))]
+    pub fn address_map(&mut self, alloc: Global) -> Result<AddressMap<'s>>
+        ensures same { S.bytes self.new ≡ S.bytes self.old }
+        ensures counts { S.failures self.old ≤ S.failures self.new }
+        ensures exact { Gives (λ m. m) (HasRisen (S.failures self.old) (S.failures self.new)) result (address_map (streams (S.bytes self.old))) }
+    {
+        let debug_information = self.debug_information(alloc)?;
+        self.address_map_by(alloc, &debug_information)
+    }
+
+    /// The bytes of a stream.
+    #[tactic(auto, unfolding(crate::specs::Streams::streams))]
+    fn stream(&mut self, alloc: Global, number: u32) -> Result<Stream<'s>>
+        ensures same { S.bytes self.new ≡ S.bytes self.old }
+        ensures counts { S.failures self.old ≤ S.failures self.new }
+        ensures exact { Gives (λ s. s) (HasRisen (S.failures self.old) (S.failures self.new)) result ((streams (S.bytes self.old)).at number) }
+    {
+        self.container.get(alloc, number, None)
+    }
+
+    /// The stream at a place of the optional header, where one is named.
+    #[tactic(auto, using(pdb_container::proofs::Outside::outside_alone), unfolding(crate::specs::OptionalHeader::optional_stream))]
+    fn optional_stream(
+        &mut self,
+        alloc: Global,
+        debug_information: &DebugInformation<'_>,
+        place: usize,
+    ) -> Result<Option<Stream<'s>>>
+        requires { place ≤ 10 }
+        ensures same { S.bytes self.new ≡ S.bytes self.old }
+        ensures counts { S.failures self.old ≤ S.failures self.new }
+        ensures exact { Gives (λ s. s) (HasRisen (S.failures self.old) (S.failures self.new)) result (optional_stream (streams (S.bytes self.old)) debug_information.now place) }
+    {
+        let index = debug_information.optional_stream(place)?;
+        self.raw_stream(alloc, index)
+    }
+
+    /// The sections of the image.
+    #[tactic(auto, using(pdb_container::proofs::Outside::outside_alone), unfolding(crate::specs::AddressTables::sections_by))]
+    fn sections_by(
+        &mut self,
+        alloc: Global,
+        debug_information: &DebugInformation<'_>,
+    ) -> Result<Option<Vec<ImageSectionHeader>>>
+        ensures same { S.bytes self.new ≡ S.bytes self.old }
+        ensures counts { S.failures self.old ≤ S.failures self.new }
+        ensures exact { Gives (option_map (λ v. v.items)) (HasRisen (S.failures self.old) (S.failures self.new)) result (sections_by (streams (S.bytes self.old)) debug_information.now) }
+    {
+        let stream = self.optional_stream(alloc, debug_information, SECTION_HEADERS)?;
+        section_headers_in(alloc, stream)
+    }
+
+    /// The sections before the image's code was moved.
+    #[tactic(auto, using(pdb_container::proofs::Outside::outside_alone), unfolding(crate::specs::AddressTables::original_sections_by))]
+    fn original_sections_by(
+        &mut self,
+        alloc: Global,
+        debug_information: &DebugInformation<'_>,
+    ) -> Result<Option<Vec<ImageSectionHeader>>>
+        ensures same { S.bytes self.new ≡ S.bytes self.old }
+        ensures counts { S.failures self.old ≤ S.failures self.new }
+        ensures exact { Gives (option_map (λ v. v.items)) (HasRisen (S.failures self.old) (S.failures self.new)) result (original_sections_by (streams (S.bytes self.old)) debug_information.now) }
+    {
+        let stream = self.optional_stream(alloc, debug_information, ORIGINAL_SECTION_HEADERS)?;
+        section_headers_in(alloc, stream)
+    }
+
+    /// The ways between the image's addresses and the database's.
+    #[tactic(auto, using(pdb_container::proofs::Outside::outside_earlier, pdb_container::proofs::Outside::outside_later), unfolding(crate::specs::AddressTables::address_map_by))]
+    fn address_map_by(
+        &mut self,
+        alloc: Global,
+        debug_information: &DebugInformation<'_>,
+    ) -> Result<AddressMap<'s>>
+        ensures same { S.bytes self.new ≡ S.bytes self.old }
+        ensures counts { S.failures self.old ≤ S.failures self.new }
+        ensures exact { Gives (λ m. m) (HasRisen (S.failures self.old) (S.failures self.new)) result (address_map_by (streams (S.bytes self.old)) debug_information.now) }
+    {
+        let image = self.sections_by(alloc, debug_information)?;
+        let image = image.unwrap_or(Vec::new(alloc));
+        let original = self.original_sections_by(alloc, debug_information)?;
+        self.map_with(alloc, debug_information, image, original)
+    }
+
+    /// The ways between these sections.
+    fn map_with(
+        &mut self,
+        alloc: Global,
+        debug_information: &DebugInformation<'_>,
+        image: Vec<ImageSectionHeader>,
+        original: Option<Vec<ImageSectionHeader>>,
+    ) -> Result<AddressMap<'s>>
+        ensures same { S.bytes self.new ≡ S.bytes self.old }
+        ensures counts { S.failures self.old ≤ S.failures self.new }
+        ensures exact { Gives (λ m. m) (HasRisen (S.failures self.old) (S.failures self.new)) result (map_with (streams (S.bytes self.old)) debug_information.now image.items (option_map (λ v. v.items) original)) }
+    {
+        match original {
+            None => Ok(AddressMap::new(None, image, None, None)),
+            Some(original) => self.map_between(alloc, debug_information, image, original),
+        }
+    }
+
+    /// The ways between the sections of the image and those before its code was moved.
+    #[tactic(auto, using(pdb_container::proofs::Outside::outside_alone, pdb_container::proofs::Outside::outside_earlier, pdb_container::proofs::Outside::outside_later), unfolding(crate::specs::AddressTables::map_behind))]
+    fn map_between(
+        &mut self,
+        alloc: Global,
+        debug_information: &DebugInformation<'_>,
+        image: Vec<ImageSectionHeader>,
+        original: Vec<ImageSectionHeader>,
+    ) -> Result<AddressMap<'s>>
+        ensures same { S.bytes self.new ≡ S.bytes self.old }
+        ensures counts { S.failures self.old ≤ S.failures self.new }
+        ensures exact { Gives (λ m. m) (HasRisen (S.failures self.old) (S.failures self.new)) result (map_behind (streams (S.bytes self.old)) debug_information.now image.items original.items) }
+    {
+        let to_source = self.optional_stream(alloc, debug_information, OMAP_TO_SOURCE)?;
+        let to_original = omap_in(alloc, to_source)?;
+        let from_source = self.optional_stream(alloc, debug_information, OMAP_FROM_SOURCE)?;
+        let to_image = omap_in(alloc, from_source)?;
+        Ok(AddressMap::new(Some(original), image, to_original, to_image))
+    }
+}
+
+/// The section headers in a stream, if it is there.
+fn section_headers_in(
+    alloc: Global,
+    stream: Option<Stream<'_>>,
+) -> Result<Option<Vec<ImageSectionHeader>>>
+    ensures { Gives (option_map (λ v. v.items)) ⊥ result (said section_headers_of stream.entry) }
+{
+    match stream {
+        None => Ok(None),
+        Some(stream) => Ok(Some(parse_section_headers(alloc, stream.as_slice())?)),
+    }
+}
+
+/// The records of a map in a stream, if it is there.
+fn omap_in(alloc: Global, stream: Option<Stream<'_>>) -> Result<Option<Vec<OMAPRecord>>>
+    ensures { Gives (option_map (λ v. v.items)) ⊥ result (said omap_of stream.entry) }
+{
+    match stream {
+        None => Ok(None),
+        Some(stream) => Ok(Some(parse_omap(alloc, stream.as_slice())?)),
+    }
+}

@@ -1,0 +1,35 @@
+//! Numbers of streams.
+
+ghost use Rattle.std.specs.Prelude.{◌≡◌, ◌≤◌, ◌==◌};
+ghost use Rattle.pdb_container.specs.Fault.{Gives, HasRisen};
+ghost use Rattle.pdb_symbols_modules.specs.Streams.{streams, stream_if_named};
+
+use crate::pdb::PDB;
+use pdb_container::{Result, Source, Stream};
+use std::alloc::Global;
+
+/// The number of a stream, of which 0xffff names none.
+#[derive(Clone, Copy, Debug, PartialEq, Eq, PartialOrd, Ord, Hash)]
+pub struct StreamIndex(pub u16);
+
+impl StreamIndex {
+    /// Whether it names no stream.
+    pub fn is_none(self) -> bool
+        ensures { result ≡ (self.0 == 65535) }
+    {
+        self.0 == 0xffff
+    }
+
+    /// The bytes of the stream, as [`PDB::raw_stream`].
+    pub fn get<'s, S: Source + Drop>(
+        self,
+        pdb: &mut PDB<'s, S>,
+        alloc: Global,
+    ) -> Result<Option<Stream<'s>>>
+        ensures same { S.bytes pdb.new ≡ S.bytes pdb.old }
+        ensures counts { S.failures pdb.old ≤ S.failures pdb.new }
+        ensures exact { Gives (λ s. s) (HasRisen (S.failures pdb.old) (S.failures pdb.new)) result (stream_if_named (streams (S.bytes pdb.old)) self.0) }
+    {
+        pdb.raw_stream(alloc, self)
+    }
+}
