@@ -68,7 +68,7 @@ impl<'s> AddressMap<'s> {
     }
 
     /// The sections of the image.
-    pub(crate) fn image_sections(&self) -> &[ImageSectionHeader]
+    pub fn image_sections(&self) -> &[ImageSectionHeader]
         ensures { result.now ≡ self.now.image }
     {
         &self.image_sections

@@ -5,7 +5,6 @@ pub mod LineLemmas
 pub mod Pumped
 pub mod Runs
 pub mod Writes
-pub mod PlaceSteps
 pub mod ProcedureSteps
 pub mod FrameSteps
 pub mod LoadingSteps

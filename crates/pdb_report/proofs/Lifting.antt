@@ -1,6 +1,6 @@
 -- A call that loads passes a fault of the container on.
 use Rattle.std.proofs.Common.{◌≡◌, ℕ, List, Result, Ok, Err, ap, inl, inr, arith, refl}
-use Rattle.std.specs.Prelude.{◌⊎◌, IsOk, None}
+use Rattle.std.specs.Prelude.{◌⊎◌, Option, Some}
 use Rattle.pdb_container.specs.declared.error.Error.{Error}
 use Rattle.pdb_container.specs.declared.error.Error.TheVariants as errors
 use Rattle.pdb_container.specs.Fault.{Fault, fault_of, IsOutside, HasRisen, Gives, ◌>>=◌}
@@ -8,7 +8,6 @@ use Rattle.pdb_report.specs.declared.fault.LoadFault.{LoadFault}
 use Rattle.pdb_report.specs.declared.fault.LoadFault.TheVariants as faults
 use Rattle.pdb_report.specs.declared.pdb_addr2line.Error.TheVariants as contexts
 use Rattle.pdb_report.specs.Loading.{none_or}
-use Rattle.pdb_report.specs.Streams.{fault_in}
 use Rattle.pdb_report.specs.Faults.{load_fault_of, lifted, Fails, LoadingFault}
 
 pub load_fails : {A B : Type 0} (e : Error) (read : Result A Fault) (f : A → Result B LoadingFault)
@@ -43,17 +42,19 @@ given_in_memory view (Err e) read (inl h) = inl (outside_none e h)
 given_in_memory view (Err e) read (inr h) = inr h
 
 -- why a container in memory isn't opened
-pub opening_fails : {S A : Type 0} (bytes : S → List ℕ) (before : S) (e : Error) (read : Result A Fault)
-    → (IsOutside e ((after : S) × (bytes after ≡ bytes before) × HasRisen 0 0) ⊎ (read ≡ Err (fault_of e))) → Fails (load_fault_of e) (lifted (none_or (fault_in read)))
-opening_fails bytes before errors.OutOfMemory read h = tt
-opening_fails bytes before (errors.IoError kind) read (inl h) = absurd (rise h.1.2)
-opening_fails bytes before (errors.IoError kind) read (inr h) = ap (λ r. lifted (none_or (fault_in r))) h
-opening_fails bytes before e read (inl h) = absurd h
-opening_fails bytes before e read (inr h) = ap (λ r. lifted (none_or (fault_in r))) h
+pub opening_fails : {S : Type 0} (bytes : S → List ℕ) (before : S) (e : Error) (fault : Option Fault)
+    → (IsOutside e ((after : S) × (bytes after ≡ bytes before) × HasRisen 0 0) ⊎ (fault ≡ Some (fault_of e))) → Fails (load_fault_of e) (lifted (none_or fault))
+opening_fails bytes before errors.OutOfMemory fault h = tt
+opening_fails bytes before (errors.IoError kind) fault (inl h) = absurd (rise h.1.2)
+opening_fails bytes before (errors.IoError kind) fault (inr h) = ap (λ f. lifted (none_or f)) h
+opening_fails bytes before e fault (inl h) = absurd h
+opening_fails bytes before e fault (inr h) = ap (λ f. lifted (none_or f)) h
 
-pub opened_well : {A F : Type 0} (read : Result A F) → IsOk read → fault_in read ≡ None
-opened_well (Ok x) h = refl
-opened_well (Err e) h = absurd cc
+-- a call that reads fails in the middle of a load
+pub loads_on : {A B : Type 0} (e : Error) (read : Result A Fault) (f : A → Result B LoadingFault)
+    → (IsOutside e (HasRisen 0 0) ⊎ (read ≡ Err (fault_of e))) → Fails (load_fault_of e) (lifted read >>= f)
+loads_on e read f (inl h) = load_fails e read f (inl (outside_none e h))
+loads_on e read f (inr h) = load_fails e read f (inr h)
 
 -- ---- what a call answers, in the middle of a load and at its end
 

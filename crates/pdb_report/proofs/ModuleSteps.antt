@@ -9,8 +9,8 @@ use Rattle.pdb_report.specs.declared.fault.LoadFault.TheVariants as faults
 use Rattle.pdb_report.specs.declared.pdb_addr2line.Error.TheVariants as contexts
 use Rattle.pdb_container.specs.declared.error.Error.TheVariants as errors
 use Rattle.pdb_report.specs.Faults.{LoadingFault, NotYet, Fails, loading_fault_of}
-use Rattle.pdb_report.specs.Streams.{Streams}
-use Rattle.pdb_report.specs.Modules.{Module}
+use Rattle.pdb_symbols_modules.specs.Streams.{Streams}
+use Rattle.pdb_symbols_modules.specs.Modules.{Module}
 use Rattle.pdb_report.specs.Procedures.{Procedure, symbols_in}
 use Rattle.pdb_report.specs.Loading.{module_info, has_other_symbols}
 use Rattle.pdb_report.specs.Kept.{plain_procedures, module_procedures, all_procedures}

@@ -4,22 +4,24 @@ use Rattle.std.specs.Prelude.{Option, None, Some, map, slice_get}
 use Rattle.std.specs.List.{list_any}
 use Rattle.pdb_container.specs.declared.error.Error.{Error}
 use Rattle.pdb_container.specs.declared.error.Error.TheVariants as errors
-use Rattle.pdb_container.specs.Fault.{Fault, fault_of, IsOutside, refuse, ◌>>=◌}
+use Rattle.pdb_container.specs.Fault.{Fault, fault_of, IsOutside, HasRisen, refuse, ◌>>=◌}
 use Rattle.pdb_report.specs.declared.fault.LoadFault.{LoadFault}
 use Rattle.pdb_report.specs.declared.fault.LoadFault.TheVariants as faults
 use Rattle.pdb_report.specs.declared.pdb_addr2line.Error.TheVariants as contexts
-use Rattle.pdb_report.specs.declared.pdb_container_types.ImageSectionHeader.{ImageSectionHeader}
+use Rattle.pdb_container.specs.Listing.{whole}
+use Rattle.pdb_container_types.specs.Addresses.{Map, IsOrdered}
+use Rattle.pdb_symbols_modules.specs.Opened.{debug_information}
 use Rattle.pdb_report.specs.declared.pdb_addr2line.contributions.ModuleSectionContribution.{ModuleSectionContribution}
 use Rattle.pdb_report.specs.Faults.{LoadingFault, NotYet, lifted, load_fault_of, loading_fault_of, Fails}
 use Rattle.pdb_report.specs.RunFaults.{OnLoad, run_fault_of}
-use Rattle.pdb_report.specs.Streams.{Streams, streams, fault_in}
-use Rattle.pdb_report.specs.Dbi.{Dbi, dbi_of}
-use Rattle.pdb_report.specs.Modules.{Module, modules_of}
+use Rattle.pdb_symbols_modules.specs.Streams.{Streams, streams, fault_in}
+use Rattle.pdb_symbols_modules.specs.Dbi.{Dbi, dbi_of}
+use Rattle.pdb_symbols_modules.specs.Modules.{Module, modules_of}
 use Rattle.pdb_report.specs.Procedures.{Procedure, symbols_in, procedures, procedures_of}
-use Rattle.pdb_report.specs.Shared.{Bytes, number, named, module_in, module_of, module_number, module_stream, info_from, shared, provider}
+use Rattle.pdb_report.specs.Shared.{number, named, module_in, module_of, module_number, module_stream, info_from, shared, provider}
 use Rattle.pdb_report.specs.Loading.{load_fault, Refuses, IsFileFault, Parts, none_or, loaded_behind, loaded, module_info, has_other_symbols, answerable}
 use Rattle.pdb_report.specs.Kept.{module_procedures, all_procedures, list_or_none, procedures_at, tables, IsKept}
-use Rattle.pdb_report.proofs.Lifting.{fails_on, load_fails, parse_fails}
+use Rattle.pdb_report.proofs.Lifting.{fails_on, loads_on}
 
 -- ---- what is left of a load
 
@@ -28,12 +30,12 @@ abbrev checked : Streams → Parts → Result Parts LoadingFault
 checked s parts = refuse (list_any (has_other_symbols s) parts.modules) NotYet >>= λ plain. Ok parts
 
 -- behind a container that is open
-opened : (s : Streams) → s.open_fault ≡ None → answerable s ≡ ((lifted (s.at 3 >>= dbi_of) >>= loaded_behind (shared s)) >>= checked s)
-unfolding answerable loaded shared
+opened : (s : Streams) → s.open_fault ≡ None → answerable s ≡ ((lifted (debug_information s) >>= loaded_behind (shared s)) >>= checked s)
+unfolding answerable loaded shared debug_information
 opened s h = rw h refl
 
 -- behind stream 3
-behind_dbi : (s : Streams) (dbi : Dbi) → s.open_fault ≡ None → (s.at 3 >>= dbi_of) ≡ Ok dbi → answerable s ≡ (loaded_behind (shared s) dbi >>= checked s)
+behind_dbi : (s : Streams) (dbi : Dbi) → s.open_fault ≡ None → debug_information s ≡ Ok dbi → answerable s ≡ (loaded_behind (shared s) dbi >>= checked s)
 behind_dbi s dbi h read = opened s h ∙ ap (λ r. (lifted r >>= loaded_behind (shared s)) >>= checked s) read
 
 -- ---- where a step fails
@@ -42,15 +44,10 @@ pub container_fails : (s : Streams) (e : LoadFault) → Fails e (lifted (none_or
 unfolding answerable loaded shared
 container_fails s e h = fails_on e _ (checked s) (fails_on e (lifted (none_or s.open_fault)) _ h)
 
-pub stream_fails : (s : Streams) (e : Error) → s.open_fault ≡ None → (IsOutside e ⊥ ⊎ (s.at 3 ≡ Err (fault_of e))) → Fails (load_fault_of e) (answerable s)
-stream_fails s e h (inl out) = rw (opened s h) (fails_on (load_fault_of e) _ (checked s) (load_fails e (s.at 3 >>= dbi_of) (loaded_behind (shared s)) (inl out)))
-stream_fails s e h (inr read) = rw (opened s h) (fails_on (load_fault_of e) _ (checked s) (load_fails e (s.at 3 >>= dbi_of) (loaded_behind (shared s)) (inr (ap (λ r. r >>= dbi_of) read))))
+pub dbi_fails : (s : Streams) (e : Error) → s.open_fault ≡ None → (IsOutside e (HasRisen 0 0) ⊎ (debug_information s ≡ Err (fault_of e))) → Fails (load_fault_of e) (answerable s)
+dbi_fails s e h read = rw (opened s h) (fails_on (load_fault_of e) _ (checked s) (loads_on e (debug_information s) (loaded_behind (shared s)) read))
 
-pub header_fails : (s : Streams) (e : Error) (bytes : List ℕ) → s.open_fault ≡ None → s.at 3 ≡ Ok bytes → dbi_of bytes ≡ Err (fault_of e) → Fails (load_fault_of e) (answerable s)
-header_fails s e bytes h read parsed =
-    rw (opened s h) (fails_on (load_fault_of e) _ (checked s) (parse_fails e (s.at 3 >>= dbi_of) (loaded_behind (shared s)) (ap (λ r. r >>= dbi_of) read ∙ parsed)))
-
-pub parts_fail : (s : Streams) (e : LoadFault) (dbi : Dbi) → s.open_fault ≡ None → (s.at 3 >>= dbi_of) ≡ Ok dbi → Fails e (loaded_behind (shared s) dbi) → Fails e (answerable s)
+pub parts_fail : (s : Streams) (e : LoadFault) (dbi : Dbi) → s.open_fault ≡ None → debug_information s ≡ Ok dbi → Fails e (loaded_behind (shared s) dbi) → Fails e (answerable s)
 parts_fail s e dbi h read failed = rw (behind_dbi s dbi h read) (fails_on e (loaded_behind (shared s) dbi) (checked s) failed)
 
 -- the check fails as reading the modules does
@@ -65,7 +62,7 @@ check_fails : (s : Streams) (parts : Parts) (f : LoadingFault) → all_procedure
 unfolding all_procedures
 check_fails s parts f h = checks_alike (list_any (has_other_symbols s) parts.modules) (map (module_procedures s) parts.modules) parts f h
 
-pub modules_are_ill : (s : Streams) (e : LoadFault) (dbi : Dbi) (parts : Parts) → s.open_fault ≡ None → (s.at 3 >>= dbi_of) ≡ Ok dbi → loaded_behind (shared s) dbi ≡ Ok parts
+pub modules_are_ill : (s : Streams) (e : LoadFault) (dbi : Dbi) (parts : Parts) → s.open_fault ≡ None → debug_information s ≡ Ok dbi → loaded_behind (shared s) dbi ≡ Ok parts
     → Fails e (all_procedures s parts.modules) → Fails e (answerable s)
 modules_are_ill s faults.OutOfMemory dbi parts h read load failed = tt
 modules_are_ill s (faults.Pdb contexts.OutOfMemory) dbi parts h read load failed = failed
@@ -82,15 +79,15 @@ check_passes : (s : Streams) (parts : Parts) (all : List (List Procedure)) → a
 unfolding all_procedures
 check_passes s parts all h = passes_alike (list_any (has_other_symbols s) parts.modules) (map (module_procedures s) parts.modules) all parts h
 
--- a module's entry by its number
-entry_at : (read : Bytes) (dbi : Dbi) (modules : List Module) (k : ℕ) → (read >>= dbi_of) ≡ Ok dbi → modules_of dbi.modules ≡ Ok modules → module_of read k ≡ module_in (slice_get modules k)
-unfolding module_of
-entry_at (Ok bytes) dbi modules k h listed = rw (h, listed) refl
-entry_at (Err e) dbi modules k h listed = absurd cc
-
 in_turn : {A B C : Type 0} (r : Result A Fault) (f : A → Result B Fault) (g : B → Result C Fault) → ((r >>= f) >>= g) ≡ (r >>= λ x. f x >>= g)
 in_turn (Ok x) f g = refl
 in_turn (Err e) f g = refl
+
+-- a module's entry by its number
+entry_at : (s : Streams) (dbi : Dbi) (modules : List Module) (k : ℕ) → debug_information s ≡ Ok dbi → whole (modules_of dbi.modules) ≡ Ok modules → module_of (s.at 3) k ≡ module_in (slice_get modules k)
+unfolding module_of debug_information
+entry_at s dbi modules k h listed =
+    sym (in_turn (s.at 3) dbi_of (λ d. whole (modules_of d.modules) >>= λ found. module_in (slice_get found k))) ∙ rw (h, listed) refl
 
 provided : (s : Streams) (k : ℕ) (found : Option Module) → module_of (s.at 3) k ≡ module_in found → procedures (provider s k) ≡ list_or_none (elim found [ None ↦ None | Some m ↦ Some (module_procedures s m) ])
 unfolding provider info_from module_stream module_number named module_info
@@ -102,25 +99,26 @@ entry_procedures s [] k = refl
 entry_procedures s (m ∷ modules) zero = refl
 entry_procedures s (m ∷ modules) (suc k) = entry_procedures s modules k
 
-no_fault : (r : Result Parts LoadingFault) (t : List ImageSectionHeader × List ModuleSectionContribution) → tables r ≡ Ok t → fault_in r ≡ None
+no_fault : (r : Result Parts LoadingFault) (t : Map × List ModuleSectionContribution) → tables r ≡ Ok t → fault_in r ≡ None
 no_fault (Ok parts) t h = refl
 no_fault (Err e) t h = absurd cc
 
-pub is_kept : (file : List ℕ) (dbi : Dbi) (parts : Parts) (all : List (List Procedure)) → (streams file).open_fault ≡ None → ((streams file).at 3 >>= dbi_of) ≡ Ok dbi
-    → loaded_behind (shared (streams file)) dbi ≡ Ok parts → modules_of dbi.modules ≡ Ok parts.modules → all_procedures (streams file) parts.modules ≡ Ok all
-    → IsKept file parts.sections parts.contributions all
-is_kept file dbi parts all h read load listed found =
+pub is_kept : (file : List ℕ) (dbi : Dbi) (parts : Parts) (all : List (List Procedure)) → (streams file).open_fault ≡ None → debug_information (streams file) ≡ Ok dbi
+    → loaded_behind (shared (streams file)) dbi ≡ Ok parts → whole (modules_of dbi.modules) ≡ Ok parts.modules → all_procedures (streams file) parts.modules ≡ Ok all
+    → IsOrdered parts.map → IsKept file parts.map parts.contributions all
+is_kept file dbi parts all h read load listed found ordered =
     let s = streams file in
     let passed = check_passes s parts all found in
     record {
       tables_are = ap tables (behind_dbi s dbi h read ∙ ap (λ r. r >>= checked s) load ∙ passed.0);
-      procedures_are = λ k. provided s k (slice_get parts.modules k) (entry_at (s.at 3) dbi parts.modules k read listed) ∙ entry_procedures s parts.modules k ∙ ap (λ xs. procedures_at xs k) (sym passed.1);
+      ordered = ordered;
+      procedures_are = λ k. provided s k (slice_get parts.modules k) (entry_at s dbi parts.modules k read listed) ∙ entry_procedures s parts.modules k ∙ ap (λ xs. procedures_at xs k) (sym passed.1);
     }
 
 -- a file that is kept has no load fault
-pub kept_loads : (file : List ℕ) (sections : List ImageSectionHeader) (contributions : List ModuleSectionContribution) (all : List (List Procedure))
-    → IsKept file sections contributions all → fault_in (answerable (streams file)) ≡ None
-kept_loads file sections contributions all kept = no_fault (answerable (streams file)) (sections, contributions) kept.tables_are
+pub kept_loads : (file : List ℕ) (addresses : Map) (contributions : List ModuleSectionContribution) (all : List (List Procedure))
+    → IsKept file addresses contributions all → fault_in (answerable (streams file)) ≡ None
+kept_loads file addresses contributions all kept = no_fault (answerable (streams file)) (addresses, contributions) kept.tables_are
 
 -- a failed load is a load fault
 pub refuses : (e : LoadFault) (s : Streams) → Fails e (answerable s) → Refuses e (load_fault s)

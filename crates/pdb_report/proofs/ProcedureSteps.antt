@@ -9,7 +9,7 @@ use Rattle.std.specs.Ordering.{nat_cmp, ordering_then, is_eq}
 use Rattle.std.proofs.lemmas.Bool.Decides.{nat_tests}
 use Rattle.std.proofs.lemmas.Bool.{lt-ltb, le-ltb, cases_lt}
 use Rattle.std.proofs.lemmas.List.{drop_more, drop_all}
-use Rattle.pdb_report.specs.declared.pdb_container_types.PdbInternalSectionOffset.{PdbInternalSectionOffset}
+use Rattle.pdb_container_types.specs.declared.internal_section_offset.PdbInternalSectionOffset.{PdbInternalSectionOffset}
 use Rattle.pdb_report.specs.Symbols.{Symbol, is_procedure, procedure_of}
 use Rattle.pdb_report.specs.Procedures.{Procedure, is_at, place_cmp, has_start, contains, later, over, if_over, is_inside, is_other, end_in, has_inner, has_other, onto_new, with_code, procedures_behind}
 
@@ -32,7 +32,7 @@ cmp_then Less p = refl
 cmp_then Equal p = refl
 cmp_then Greater p = refl
 
-cmp_place : (a b : PdbInternalSectionOffset) → is_eq (place_cmp a b) ≡ is_at a b
+cmp_place : (a b : PdbInternalSectionOffset) → is_eq (place_cmp (a.section, a.offset) (b.section, b.offset)) ≡ is_at a b
 cmp_place a b = cmp_then (nat_cmp a.section b.section) (nat_cmp a.offset b.offset) ∙ ap (λ t. t && is_eq (nat_cmp a.offset b.offset)) (cmp_number a.section b.section) ∙ ap (λ t. (a.section == b.section) && t) (cmp_number a.offset b.offset)
 
 start_added : (kept : List Procedure) (p : Procedure) (q : PdbInternalSectionOffset) → has_start (kept ++ p ∷ []) q ≡ cond (is_at p.offset q) true (has_start kept q)
@@ -44,7 +44,7 @@ start_added (k ∷ kept) p q =
     ])
 
 -- one more start in the set is one more procedure that is kept
-pub starts_more : (kept : List Procedure) (p : Procedure) (q : PdbInternalSectionOffset) (before now : Bool) → now ≡ cond (is_eq (place_cmp p.offset q)) true before → before ≡ has_start kept q → now ≡ has_start (kept ++ p ∷ []) q
+pub starts_more : (kept : List Procedure) (p : Procedure) (q : PdbInternalSectionOffset) (before now : Bool) → now ≡ cond (is_eq (place_cmp ((p.offset).section, (p.offset).offset) (q.section, q.offset))) true before → before ≡ has_start kept q → now ≡ has_start (kept ++ p ∷ []) q
 starts_more kept p q before now added same =
     added ∙ ap (λ t. cond t true before) (cmp_place p.offset q) ∙ ap (λ t. cond (is_at p.offset q) true t) same ∙ sym (start_added kept p q)
 

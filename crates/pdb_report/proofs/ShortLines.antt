@@ -1,6 +1,6 @@
 -- The first twelve bytes of a line are enough for its text.
 use Rattle.std.proofs.Common.{◌≡◌, ℕ, List, take, ap}
-use Rattle.pdb_report.specs.Streams.{Streams}
+use Rattle.pdb_symbols_modules.specs.Streams.{Streams}
 use Rattle.pdb_report.specs.Answers.{line_text, text_at}
 use Rattle.pdb_report.proofs.AddressLemmas.{address-short}
 

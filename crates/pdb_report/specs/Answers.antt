@@ -1,15 +1,17 @@
 -- The answer for an address, its text, and the report on an input.
-use Rattle.std.specs.Prelude.{ℕ, false, ◌+◌, ◌-◌, ◌^◌, ◌++◌, List, [], ◌∷◌, length, Option, None, Some, if◌then◌else◌, Result, Ok, Err, codes, ◌==◌}
+use Rattle.std.specs.Prelude.{ℕ, false, ◌+◌, ◌-◌, ◌^◌, ◌++◌, List, [], ◌∷◌, length, Option, None, Some, option_map, if◌then◌else◌, Result, Ok, Err, codes, ◌==◌}
 use Rattle.std.specs.List.{flat_map}
 use Rattle.std.specs.Fmt.{decimal, digits, padded_integral, format_spec}
 use Rattle.std.specs.Str.Lossy.{utf8_lossy}
 use Rattle.pdb_container.specs.Fault.{Fault}
-use Rattle.pdb_report.specs.declared.pdb_container_types.PdbInternalSectionOffset.{PdbInternalSectionOffset}
-use Rattle.pdb_report.specs.declared.pdb_container_types.ImageSectionHeader.{ImageSectionHeader}
+use Rattle.pdb_container_types.specs.declared.internal_section_offset.PdbInternalSectionOffset.{PdbInternalSectionOffset}
+use Rattle.pdb_container_types.specs.declared.sections.ImageSectionHeader.{ImageSectionHeader}
 use Rattle.pdb_report.specs.Address.{address_of}
 use Rattle.pdb_report.specs.Faults.{LoadingFault}
-use Rattle.pdb_report.specs.Streams.{Streams}
-use Rattle.pdb_report.specs.Sections as sections
+use Rattle.pdb_symbols_modules.specs.Streams.{Streams}
+use Rattle.pdb_container_types.specs.Addresses.{Map, inner_place, outer_of_place}
+use Rattle.pdb_container_types.specs.Numbers.{in_32_bits}
+use Rattle.pdb_container_types.specs.Places.{internal_place}
 use Rattle.pdb_report.specs.Contributions.{holder}
 use Rattle.pdb_report.specs.Procedures.{Info, Procedure, procedures, over}
 use Rattle.pdb_report.specs.Shared.{Provider, provider}
@@ -45,16 +47,16 @@ procedure_frame q = record { function = Some (procedure_name q.name); file = Non
 -- the answer for a procedure that begins at an address
 abbrev pub found_at : Procedure → Option ℕ → Answer
 found_at q None = Nothing
-found_at q (Some start) = Found start (sections.address_in (start + q.len)) (procedure_frame q ∷ [])
+found_at q (Some start) = Found start (in_32_bits (start + q.len)) (procedure_frame q ∷ [])
 
 -- the answer for a procedure
-abbrev pub found : List ImageSectionHeader → Option Procedure → Answer
-found headers None = Nothing
-found headers (Some q) = found_at q (sections.address headers q.offset)
+abbrev pub found : Map → Option Procedure → Answer
+found addresses None = Nothing
+found addresses (Some q) = found_at q (outer_of_place addresses (q.offset).section (q.offset).offset)
 
 -- the answer in the module that holds the place
 unfoldable pub answer_in : Parts → Scope → PdbInternalSectionOffset → Answer
-answer_in p in_module place = found p.sections (over (procedures in_module.own) place)
+answer_in p in_module place = found p.map (over (procedures in_module.own) place)
 
 abbrev pub answer_held : Parts → Provider → PdbInternalSectionOffset → Option ℕ → Answer
 answer_held p provided place None = Nothing
@@ -66,7 +68,7 @@ answer_at p provided (Some place) = answer_held p provided place (holder p.contr
 
 unfoldable pub answer_of : Result Parts LoadingFault → Provider → ℕ → Answer
 answer_of (Err e) provided a = Nothing
-answer_of (Ok p) provided a = answer_at p provided (sections.place p.sections a)
+answer_of (Ok p) provided a = answer_at p provided (option_map internal_place (inner_place p.map a))
 
 -- the answer for an address of the image
 unfoldable pub answer : Streams → ℕ → Answer

@@ -1,53 +1,25 @@
--- The contributions of stream 3: which module holds which part of a section.
-use Rattle.std.specs.Prelude.{ℕ, ◌+◌, ◌-◌, ◌^◌, Bool, ◌&&◌, min, List, [], ◌∷◌, length, map, nat_lt, nat_le, ◌==◌, Option, None, Some, if◌then◌else◌, Result, Ok, Err, codes}
+-- What modules hold of sections, by the contributions of stream 3.
+use Rattle.std.specs.Prelude.{ℕ, ◌+◌, ◌-◌, ◌^◌, Bool, false, ◌&&◌, min, List, [], ◌∷◌, length, map, nat_lt, nat_le, ◌==◌, Option, None, Some, if◌then◌else◌, Result, Ok, Err, codes}
 use Rattle.std.specs.List.{filter, find}
 use Rattle.std.specs.Int.{w16, w32}
 use Rattle.pdb_container.specs.Fault.{Fault, UnimplementedFeature, ◌>>=◌, refuse}
 use Rattle.pdb_container.specs.Fields.{Reader, number_at, entries}
-use Rattle.pdb_report.specs.declared.pdb_container_types.ImageSectionHeader.{ImageSectionHeader}
-use Rattle.pdb_report.specs.declared.pdb_container_types.PdbInternalSectionOffset.{PdbInternalSectionOffset}
-use Rattle.pdb_report.specs.declared.pdb_symbols_modules.contributions.DBISectionContribution.{DBISectionContribution}
+use Rattle.pdb_container_types.specs.declared.sections.ImageSectionHeader.{ImageSectionHeader}
+use Rattle.pdb_container_types.specs.declared.internal_section_offset.PdbInternalSectionOffset.{PdbInternalSectionOffset}
+use Rattle.pdb_symbols_modules.specs.declared.contributions.DBISectionContribution.{DBISectionContribution}
 use Rattle.pdb_report.specs.declared.pdb_addr2line.contributions.ModuleSectionContribution.{ModuleSectionContribution}
-use Rattle.pdb_report.specs.declared.pdb_symbols_modules.contributions.TheConstants.{VERSION_60, VERSION_2}
 use Rattle.pdb_report.specs.Faults.{LoadingFault, NotYet, lifted}
-use Rattle.pdb_report.specs.Sections.{is_executable}
+use Rattle.pdb_container.specs.Listing.{whole}
+use Rattle.pdb_container_types.specs.Sections.{section_at, may_execute}
+use Rattle.pdb_symbols_modules.specs.Contributions.{contributions_of}
 
--- an entry, 28 bytes
-unfoldable pub contribution_at : Reader DBISectionContribution
-contribution_at bytes = do
-  section ← number_at w16 bytes
-  gap ← number_at w16 section.1
-  offset ← number_at w32 gap.1
-  size ← number_at w32 offset.1
-  characteristics ← number_at w32 size.1
-  m ← number_at w16 characteristics.1
-  second_gap ← number_at w16 m.1
-  data_crc ← number_at w32 second_gap.1
-  reloc_crc ← number_at w32 data_crc.1
-  Ok (record { offset = record { section = section.0; offset = offset.0 }; size = size.0; «module» = m.0 }, reloc_crc.1)
+abbrev pub executes_at : Option ImageSectionHeader → Bool
+executes_at None = false
+executes_at (Some s) = may_execute s.characteristics
 
--- an entry of the second version, 4 bytes more
-unfoldable pub long_contribution_at : Reader DBISectionContribution
-long_contribution_at bytes = do
-  entry ← contribution_at bytes
-  more ← number_at w32 entry.1
-  Ok (entry.0, more.1)
-
--- the entries behind a version
-abbrev pub contributions_of_version : ℕ → List ℕ → Result (List DBISectionContribution) Fault
-contributions_of_version version bytes =
-    if version == VERSION_60 then entries contribution_at bytes
-    else (if version == VERSION_2 then entries long_contribution_at bytes
-    else Err (UnimplementedFeature (codes "section contribution version")))
-
--- the entries; an empty substream has none
-unfoldable pub contributions_of : List ℕ → Result (List DBISectionContribution) Fault
-contributions_of [] = Ok []
-contributions_of (b ∷ bytes) = do
-  version ← number_at w32 (b ∷ bytes)
-  contributions_of_version version.0 version.1
-
--- ---- what a module holds
+-- the number is that of a section in which code may run
+abbrev pub is_executable : List ImageSectionHeader → ℕ → Bool
+is_executable sections number = executes_at (section_at sections number)
 
 -- an entry counts if it has a size and code may run in its section
 abbrev pub is_kept : List ImageSectionHeader → DBISectionContribution → Bool
@@ -65,7 +37,7 @@ spans_of sections all = map span_of (filter (is_kept sections) all)
 -- checked: of several entries that count none is answered yet.
 unfoldable pub held_of : List ImageSectionHeader → List ℕ → Result (List ModuleSectionContribution) LoadingFault
 held_of sections bytes = do
-  all ← lifted (contributions_of bytes)
+  all ← lifted (contributions_of bytes >>= whole)
   few ← refuse (nat_lt 1 (length (spans_of sections all))) NotYet
   Ok (spans_of sections all)
 

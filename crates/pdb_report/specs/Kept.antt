@@ -1,14 +1,15 @@
 -- What is kept of a file, and the answer by it.
-use Rattle.std.specs.Prelude.{◌≡◌, ℕ, List, [], Option, None, Some, map, slice_get, Result, Ok, Err}
+use Rattle.std.specs.Prelude.{◌≡◌, ℕ, List, [], Option, None, Some, map, option_map, slice_get, Result, Ok, Err}
 use Rattle.std.specs.List.{list_any}
 use Rattle.pdb_container.specs.Fault.{refuse, ◌>>=◌}
-use Rattle.pdb_report.specs.declared.pdb_container_types.ImageSectionHeader.{ImageSectionHeader}
-use Rattle.pdb_report.specs.declared.pdb_container_types.PdbInternalSectionOffset.{PdbInternalSectionOffset}
+use Rattle.pdb_container_types.specs.declared.sections.ImageSectionHeader.{ImageSectionHeader}
+use Rattle.pdb_container_types.specs.declared.internal_section_offset.PdbInternalSectionOffset.{PdbInternalSectionOffset}
 use Rattle.pdb_report.specs.declared.pdb_addr2line.contributions.ModuleSectionContribution.{ModuleSectionContribution}
 use Rattle.pdb_report.specs.Faults.{LoadingFault, NotYet}
-use Rattle.pdb_report.specs.Streams.{Streams, streams}
-use Rattle.pdb_report.specs.Modules.{Module}
-use Rattle.pdb_report.specs.Sections.{place}
+use Rattle.pdb_symbols_modules.specs.Streams.{Streams, streams}
+use Rattle.pdb_symbols_modules.specs.Modules.{Module}
+use Rattle.pdb_container_types.specs.Addresses.{Map, inner_place, IsOrdered}
+use Rattle.pdb_container_types.specs.Places.{internal_place}
 use Rattle.pdb_report.specs.Contributions.{holder}
 use Rattle.pdb_report.specs.Symbols.{Symbol}
 use Rattle.pdb_container.specs.Fault.{Fault}
@@ -40,25 +41,26 @@ list_or_none (Some all) = all
 abbrev pub procedures_at : List (List Procedure) → ℕ → List Procedure
 procedures_at modules m = list_or_none (slice_get modules m)
 
--- the sections and contributions of the parts
-abbrev pub tables : Result Parts LoadingFault → Result (List ImageSectionHeader × List ModuleSectionContribution) LoadingFault
+-- the address map and the contributions of the parts
+abbrev pub tables : Result Parts LoadingFault → Result (Map × List ModuleSectionContribution) LoadingFault
 tables (Err e) = Err e
-tables (Ok p) = Ok (p.sections, p.contributions)
+tables (Ok p) = Ok (p.map, p.contributions)
 
--- What is kept is the file's: its sections and contributions, and the procedures of each module.
-pub record IsKept (file : List ℕ) (sections : List ImageSectionHeader) (contributions : List ModuleSectionContribution) (modules : List (List Procedure)) : Type 0 where
-  pub tables_are : tables (answerable (streams file)) ≡ Ok (sections, contributions)
+-- What is kept is the file's: its address map and contributions, and the procedures of each module.
+pub record IsKept (file : List ℕ) (addresses : Map) (contributions : List ModuleSectionContribution) (modules : List (List Procedure)) : Type 0 where
+  pub tables_are : tables (answerable (streams file)) ≡ Ok (addresses, contributions)
+  pub ordered : IsOrdered addresses
   pub procedures_are : (m : ℕ) → procedures (provider (streams file) m) ≡ procedures_at modules m
 
 -- ---- the answer by what is kept
 
-abbrev pub kept_held : List ImageSectionHeader → List (List Procedure) → PdbInternalSectionOffset → Option ℕ → Answer
-kept_held sections modules p None = Nothing
-kept_held sections modules p (Some m) = found sections (over (procedures_at modules m) p)
+abbrev pub kept_held : Map → List (List Procedure) → PdbInternalSectionOffset → Option ℕ → Answer
+kept_held addresses modules p None = Nothing
+kept_held addresses modules p (Some m) = found addresses (over (procedures_at modules m) p)
 
-abbrev pub kept_at : List ImageSectionHeader → List ModuleSectionContribution → List (List Procedure) → Option PdbInternalSectionOffset → Answer
-kept_at sections contributions modules None = Nothing
-kept_at sections contributions modules (Some p) = kept_held sections modules p (holder contributions p)
+abbrev pub kept_at : Map → List ModuleSectionContribution → List (List Procedure) → Option PdbInternalSectionOffset → Answer
+kept_at addresses contributions modules None = Nothing
+kept_at addresses contributions modules (Some p) = kept_held addresses modules p (holder contributions p)
 
-abbrev pub kept_answer : List ImageSectionHeader → List ModuleSectionContribution → List (List Procedure) → ℕ → Answer
-kept_answer sections contributions modules a = kept_at sections contributions modules (place sections a)
+abbrev pub kept_answer : Map → List ModuleSectionContribution → List (List Procedure) → ℕ → Answer
+kept_answer addresses contributions modules a = kept_at addresses contributions modules (option_map internal_place (inner_place addresses a))

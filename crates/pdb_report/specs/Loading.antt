@@ -1,19 +1,23 @@
 -- What is read of a file before any question, and the fault that keeps it from being loaded.
-use Rattle.std.specs.Prelude.{◌≡◌, ℕ, Bool, ◌||◌, not, List, [], length, ◌==◌, Option, None, Some, if◌then◌else◌, Result, Ok, Err}
+use Rattle.std.specs.Prelude.{◌≡◌, ℕ, Bool, ◌||◌, List, [], length, nat_lt, Option, None, Some, if◌then◌else◌, Result, Ok, Err}
 use Rattle.std.specs.List.{list_any}
-use Rattle.pdb_container.specs.Fault.{Fault, GlobalSymbolsNotFound, ◌>>=◌, refuse}
-use Rattle.pdb_report.specs.declared.pdb_container_types.ImageSectionHeader.{ImageSectionHeader}
+use Rattle.pdb_container.specs.Fault.{Fault, GlobalSymbolsNotFound, ◌>>=◌, refuse, guard}
+use Rattle.pdb_container_types.specs.declared.sections.ImageSectionHeader.{ImageSectionHeader}
 use Rattle.pdb_report.specs.declared.pdb_addr2line.contributions.ModuleSectionContribution.{ModuleSectionContribution}
 use Rattle.pdb_report.specs.declared.fault.LoadFault.{LoadFault}
 use Rattle.pdb_report.specs.declared.fault.LoadFault.TheVariants as faults
 use Rattle.pdb_report.specs.declared.pdb_addr2line.Error.TheVariants as contexts
 use Rattle.pdb_container.specs.declared.error.Error.TheVariants as errors
 use Rattle.pdb_report.specs.Faults.{LoadingFault, NotYet, lifted, loading_fault_of}
-use Rattle.pdb_report.specs.Streams.{Streams, fault_in}
-use Rattle.pdb_report.specs.Dbi.{Dbi, dbi_of}
-use Rattle.pdb_report.specs.Modules.{Module, modules_of, has_lines}
-use Rattle.pdb_report.specs.Sections.{optional_at, section_headers_of}
-use Rattle.pdb_report.specs.Items.{item_header_of}
+use Rattle.pdb_symbols_modules.specs.Streams.{Streams, fault_in}
+use Rattle.pdb_symbols_modules.specs.Dbi.{Dbi, dbi_of}
+use Rattle.pdb_symbols_modules.specs.Modules.{Module, modules_of}
+use Rattle.pdb_symbols_modules.specs.OptionalHeader.{optional_at}
+use Rattle.pdb_symbols_modules.specs.declared.optional_header.TheConstants.{OMAP_TO_SOURCE, OMAP_FROM_SOURCE, SECTION_HEADERS, ORIGINAL_SECTION_HEADERS}
+use Rattle.pdb_container_types.specs.Addresses.{Map, map_of}
+use Rattle.pdb_container_types.specs.Sections.{section_headers_of}
+use Rattle.pdb_items.specs.Items.{table_of}
+use Rattle.pdb_container.specs.Listing.{whole}
 use Rattle.pdb_report.specs.Symbols.{symbols_of, is_public}
 use Rattle.pdb_report.specs.Contributions.{held_of}
 use Rattle.pdb_report.specs.Procedures.{Info, symbols_in, has_other}
@@ -21,7 +25,7 @@ use Rattle.pdb_report.specs.Shared.{Bytes, number, Shared, shared}
 
 -- what every question goes over
 pub record Parts : Type 0 where
-  pub sections : List ImageSectionHeader
+  pub map : Map
   pub modules : List Module
   pub contributions : List ModuleSectionContribution
 
@@ -36,42 +40,51 @@ none_or (Some e) = Err e
 -- the symbol records, in the stream that a number names, of which a file has to have one
 unfoldable pub symbol_records_in : ℕ → Bytes → Bytes
 symbol_records_in n symbols = do
-  named ← refuse (n == 65535) GlobalSymbolsNotFound
+  named ← guard (nat_lt n 65535) GlobalSymbolsNotFound
   symbols
 
 -- a number that names a stream
 abbrev pub is_named : ℕ → Bool
-is_named n = not (n == 65535)
+is_named n = nat_lt n 65535
+
+-- A file with address maps, or with the sections before its code was moved, isn't answered yet.
+unfoldable pub unmapped : List ℕ → Result (Unit {0}) LoadingFault
+unmapped optional_header = do
+  to_source ← lifted (optional_at OMAP_TO_SOURCE optional_header)
+  from_source ← lifted (optional_at OMAP_FROM_SOURCE optional_header)
+  original ← lifted (optional_at ORIGINAL_SECTION_HEADERS optional_header)
+  refuse (is_named to_source || is_named from_source || is_named original) NotYet
 
 -- the section headers of the stream that a number names; no stream is no sections
 unfoldable pub sections_in : ℕ → Bytes → Result (List ImageSectionHeader) Fault
-sections_in n headers = if n == 65535 then Ok [] else headers >>= section_headers_of
+sections_in n headers = if nat_lt n 65535 then headers >>= section_headers_of else Ok []
 
--- The address tables: the optional header, and the section headers. A file with address maps or the sections before
--- its code was moved isn't answered yet.
-unfoldable pub address_tables : List ℕ → Bytes → Result (List ImageSectionHeader) LoadingFault
+-- The address tables: the optional header, and the section headers.
+unfoldable pub address_tables : List ℕ → Bytes → Result Map LoadingFault
 address_tables optional_header headers = do
-  to_source ← lifted (optional_at 3 optional_header)
-  from_source ← lifted (optional_at 4 optional_header)
-  original ← lifted (optional_at 10 optional_header)
-  unmapped ← refuse (is_named to_source || is_named from_source || is_named original) NotYet
-  image ← lifted (optional_at 5 optional_header)
-  lifted (sections_in image headers)
+  plain ← unmapped optional_header
+  image ← lifted (optional_at SECTION_HEADERS optional_header)
+  sections ← lifted (sections_in image headers)
+  Ok (map_of None sections None None)
+
+-- a module that says it has line data
+abbrev pub has_lines : Module → Bool
+has_lines m = nat_lt 0 m.c11_lines_size || nat_lt 0 m.c13_lines_size
 
 -- The steps behind stream 3, in their order, and in each step the first fault. Public symbols and line data aren't
 -- answered yet.
 unfoldable pub loaded_behind : Shared → Dbi → Result Parts LoadingFault
 loaded_behind c dbi = do
   symbol_bytes ← lifted (symbol_records_in dbi.symbol_records_stream c.symbols)
-  types ← lifted (c.types >>= item_header_of)
-  ids ← lifted (c.ids >>= item_header_of)
-  sections ← address_tables dbi.optional_header c.section_headers
-  modules ← lifted (modules_of dbi.modules)
+  types ← lifted (c.types >>= table_of)
+  ids ← lifted (c.ids >>= table_of)
+  map ← address_tables dbi.optional_header c.section_headers
+  modules ← lifted (whole (modules_of dbi.modules))
   symbols ← lifted (symbols_of (length symbol_bytes) symbol_bytes)
-  contributions ← held_of sections dbi.contributions
+  contributions ← held_of map.image dbi.contributions
   no_publics ← refuse (list_any is_public symbols) NotYet
   no_lines ← refuse (list_any has_lines modules) NotYet
-  Ok record { sections = sections; modules = modules; contributions = contributions }
+  Ok record { map = map; modules = modules; contributions = contributions }
 
 -- All steps: the container, stream 3, and those behind it.
 unfoldable pub loaded : Shared → Result Parts LoadingFault

@@ -6,7 +6,7 @@ use Rattle.std.specs.Ordering.{nat_cmp, ordering_then}
 use Rattle.std.specs.Int.{w32}
 use Rattle.pdb_container.specs.Fault.{Fault, UnexpectedEof, UnimplementedFeature, ◌>>=◌, refuse}
 use Rattle.pdb_container.specs.Fields.{number_at}
-use Rattle.pdb_report.specs.declared.pdb_container_types.PdbInternalSectionOffset.{PdbInternalSectionOffset}
+use Rattle.pdb_container_types.specs.declared.internal_section_offset.PdbInternalSectionOffset.{PdbInternalSectionOffset}
 use Rattle.pdb_report.specs.declared.pdb_modules.TheConstants as kinds
 use Rattle.pdb_report.specs.Symbols.{Symbol, symbols_of, ProcedureSymbol, procedure_of, is_procedure, is_thunk, is_inline_site}
 
@@ -41,8 +41,8 @@ abbrev pub is_at : PdbInternalSectionOffset → PdbInternalSectionOffset → Boo
 is_at a b = (a.section == b.section) && (a.offset == b.offset)
 
 -- places by section and then by offset
-abbrev pub place_cmp : PdbInternalSectionOffset → PdbInternalSectionOffset → Ordering
-place_cmp a b = ordering_then (nat_cmp a.section b.section) (nat_cmp a.offset b.offset)
+abbrev pub place_cmp : ℕ × ℕ → ℕ × ℕ → Ordering
+place_cmp a b = ordering_then (nat_cmp a.0 b.0) (nat_cmp a.1 b.1)
 
 -- a procedure begins there
 abbrev pub has_start : List Procedure → PdbInternalSectionOffset → Bool

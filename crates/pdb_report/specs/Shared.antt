@@ -1,10 +1,12 @@
 -- The streams that belong to no module, each with its fault; and the numbers under which streams are named.
 use Rattle.std.specs.Prelude.{ℕ, List, Option, None, Some, nat_lt, if◌then◌else◌, slice_get, Result, Ok, Err}
 use Rattle.pdb_container.specs.Fault.{Fault, StreamNotFound, ◌>>=◌}
-use Rattle.pdb_report.specs.Streams.{Streams}
-use Rattle.pdb_report.specs.Dbi.{dbi_of}
-use Rattle.pdb_report.specs.Modules.{Module, modules_of}
-use Rattle.pdb_report.specs.Sections.{optional_at}
+use Rattle.pdb_symbols_modules.specs.Streams.{Streams}
+use Rattle.pdb_symbols_modules.specs.Dbi.{dbi_of}
+use Rattle.pdb_symbols_modules.specs.declared.optional_header.TheConstants.{SECTION_HEADERS}
+use Rattle.pdb_symbols_modules.specs.Modules.{Module, modules_of}
+use Rattle.pdb_symbols_modules.specs.OptionalHeader.{optional_at}
+use Rattle.pdb_container.specs.Listing.{whole}
 use Rattle.pdb_report.specs.Procedures.{Info}
 
 abbrev pub Bytes : Type 0
@@ -47,7 +49,7 @@ shared s = record {
   dbi = s.at 3;
   ids = s.at 4;
   symbols = symbols_number (s.at 3) >>= s.at;
-  section_headers = optional_number 5 (s.at 3) >>= s.at;
+  section_headers = optional_number SECTION_HEADERS (s.at 3) >>= s.at;
 }
 
 -- ---- modules
@@ -61,7 +63,7 @@ unfoldable pub module_of : Bytes → ℕ → Result Module Fault
 module_of dbi k = do
   bytes ← dbi
   d ← dbi_of bytes
-  modules ← modules_of d.modules
+  modules ← whole (modules_of d.modules)
   module_in (slice_get modules k)
 
 -- a module's stream

@@ -4,7 +4,7 @@ use Rattle.std.specs.List.{filter}
 use Rattle.std.specs.Int.{w8, w16, w32}
 use Rattle.pdb_container.specs.Fault.{Fault, SymbolTooShort, UnimplementedSymbolKind, ◌>>=◌, refuse}
 use Rattle.pdb_container.specs.Fields.{Reader, number_at, bytes_of, c_string_at, pascal_string_at, entries}
-use Rattle.pdb_report.specs.declared.pdb_container_types.PdbInternalSectionOffset.{PdbInternalSectionOffset}
+use Rattle.pdb_container_types.specs.declared.internal_section_offset.PdbInternalSectionOffset.{PdbInternalSectionOffset}
 use Rattle.pdb_report.specs.declared.pdb_modules.TheConstants as kinds
 
 -- a symbol: its byte place in its stream, its kind and what follows that

@@ -1,37 +1,38 @@
 //! What is read of a file before any question.
 
 ghost use Rattle.std.specs.Prelude.{◌≡◌, Ok, IfOk};
-ghost use Rattle.pdb_container.specs.Fault.{Gives};
-ghost use Rattle.pdb_report.specs.Dbi.{dbi_of, dbi_seen};
-ghost use Rattle.pdb_report.specs.Faults.{Loads};
-ghost use Rattle.pdb_report.specs.Items.{item_header_of};
-ghost use Rattle.pdb_report.specs.Loading.{behind, symbol_records_in, sections_in, address_tables, loaded_behind};
-ghost use Rattle.pdb_report.specs.Modules.{has_lines as has_lines_of, modules_of};
 ghost use Rattle.std.specs.List.{list_any};
+ghost use Rattle.pdb_container.specs.Fault.{Gives};
+ghost use Rattle.pdb_container.specs.Listing.{whole};
+ghost use Rattle.pdb_container_types.specs.Addresses.{IsOrdered};
+ghost use Rattle.pdb_report.specs.Faults.{Loads, lifted};
+ghost use Rattle.pdb_report.specs.Loading.{unmapped, address_tables, has_lines as has_lines_of, loaded_behind};
+ghost use Rattle.pdb_report.specs.Shared.{shared};
 ghost use Rattle.pdb_report.specs.Symbols.{is_public};
-ghost use Rattle.pdb_report.specs.Sections.{optional_at};
-ghost use Rattle.pdb_report.specs.Shared.{number as number_of, named, symbols_number, optional_number, shared};
-ghost use Rattle.pdb_report.specs.Streams.{streams};
+ghost use Rattle.pdb_symbols_modules.specs.Modules.{modules_of};
+ghost use Rattle.pdb_symbols_modules.specs.Opened.{debug_information as read_dbi};
+ghost use Rattle.pdb_symbols_modules.specs.OptionalHeader.{optional_at};
+ghost use Rattle.pdb_symbols_modules.specs.Streams.{streams};
 
 use crate::fault::LoadFault;
 use crate::pdb_addr2line::contributions::{ModuleSectionContribution, held_contributions};
-use crate::pdb_container_types::{ImageSectionHeader, optional_stream, parse_section_headers};
-use crate::pdb_items::{Header, parse_header};
 use crate::pdb_modules::{Symbol, parse_symbols};
-use crate::pdb_symbols_modules::dbi::DebugInformation;
-use crate::pdb_symbols_modules::modules::{Module, parse_modules};
-use crate::pdb_symbols_modules::pdb::PDB;
-use pdb_container::{Error, Result, Stream};
+use pdb_container::{FallibleIterator, Result};
+use pdb_container_types::AddressMap;
+use pdb_symbols_modules::{
+    DebugInformation, Module, ModuleIter, OMAP_FROM_SOURCE, OMAP_TO_SOURCE,
+    ORIGINAL_SECTION_HEADERS, PDB,
+};
 use std::alloc::Global;
 use std::marker::Model;
 
-/// The number that stands for no stream.
-const NO_STREAM: u16 = 0xffff;
+/// An open program database over a file's bytes.
+pub type Database = PDB<'static, Vec<u8>>;
 
 /// What every question goes over.
 #[derive(Debug, Drop)]
 pub struct Parts<'m> {
-    pub sections: Vec<ImageSectionHeader>,
+    pub address_map: AddressMap<'static>,
     pub modules: Vec<Module<'m>>,
     pub contributions: Vec<ModuleSectionContribution>,
 }
@@ -41,69 +42,50 @@ impl<'m> Model for Parts<'m> {
 
     ghost Value = { loading.Parts };
 
-    ghost view = { λ p. record { sections = p.sections.items; modules = p.modules.items; contributions = p.contributions.items } };
+    ghost view = { λ p. record { map = p.address_map; modules = p.modules.items; contributions = p.contributions.items } };
 }
 
-/// The stream of symbol records. `GlobalSymbolsNotFound` where there is none, and the faults of reading it.
-#[tactic(auto, unfolding(crate::specs::Loading::symbol_records_in, crate::specs::Shared::shared))]
-fn read_symbol_records(pdb: &mut PDB, alloc: Global, number: u16) -> Result<Stream<'static>>
-    requires { symbols_number ((streams pdb.old).at 3) ≡ number_of number }
-    ensures same { pdb.new ≡ pdb.old }
-    ensures exact { Gives (λ s. s) ⊥ result (symbol_records_in number (shared (streams pdb.old)).symbols) }
+/// `NotYet` for address maps and sections before the image's code was moved. `InvalidStreamLength`.
+#[tactic(auto, using(crate::proofs::Lifting::parse_fails), unfolding(crate::specs::Loading::unmapped))]
+fn refuse_maps(debug_information: &DebugInformation<'_>) -> std::result::Result<(), LoadFault>
+    ensures { Loads (λ _. tt) result (unmapped debug_information.now.optional_header) }
 {
-    if number == NO_STREAM {
-        return Err(Error::GlobalSymbolsNotFound);
-    }
-    pdb.stream(alloc, u32::from(number))
-}
-
-/// The header of the items of a stream.
-fn read_item_header(pdb: &mut PDB, alloc: Global, number: u32) -> Result<Header>
-    ensures same { pdb.new ≡ pdb.old }
-    ensures exact { Gives (λ h. h) ⊥ result (behind ((streams pdb.old).at number) item_header_of) }
-{
-    let stream = pdb.stream(alloc, number)?;
-    parse_header(stream.as_slice())
-}
-
-/// The section headers in the stream of a number; none where it names no stream.
-#[tactic(auto, unfolding(crate::specs::Loading::sections_in, crate::specs::Shared::shared))]
-fn read_section_headers(
-    pdb: &mut PDB,
-    alloc: Global,
-    number: u16,
-) -> Result<Vec<ImageSectionHeader>>
-    requires { optional_number 5 ((streams pdb.old).at 3) ≡ number_of number }
-    ensures same { pdb.new ≡ pdb.old }
-    ensures exact { Gives (λ v. v.items) ⊥ result (sections_in number (shared (streams pdb.old)).section_headers) }
-{
-    if number == NO_STREAM {
-        return Ok(Vec::new(alloc));
-    }
-    let stream = pdb.stream(alloc, u32::from(number))?;
-    parse_section_headers(alloc, stream.as_slice())
-}
-
-/// The section headers to which the optional header leads. `NotYet` for address maps and original section headers.
-#[tactic(auto, using(crate::proofs::Lifting::load_fails, crate::proofs::Lifting::parse_fails, crate::proofs::Lifting::load_fails_last), unfolding(crate::specs::Loading::address_tables, crate::specs::Shared::named))]
-fn read_address_tables(
-    pdb: &mut PDB,
-    alloc: Global,
-    optional_header: &[u8],
-) -> std::result::Result<Vec<ImageSectionHeader>, LoadFault>
-    requires { optional_number 5 ((streams pdb.old).at 3) ≡ named (optional_at 5 optional_header.now) }
-    ensures same { pdb.new ≡ pdb.old }
-    ensures exact { Loads (λ v. v.items) result (address_tables optional_header.now (shared (streams pdb.old)).section_headers) }
-{
-    let to_source = optional_stream(optional_header, 3)?;
-    let from_source = optional_stream(optional_header, 4)?;
-    let original = optional_stream(optional_header, 10)?;
-    if to_source != NO_STREAM || from_source != NO_STREAM || original != NO_STREAM {
+    let to_source = debug_information.optional_stream(OMAP_TO_SOURCE)?;
+    let from_source = debug_information.optional_stream(OMAP_FROM_SOURCE)?;
+    let original = debug_information.optional_stream(ORIGINAL_SECTION_HEADERS)?;
+    if !to_source.is_none() || !from_source.is_none() || !original.is_none() {
         return Err(LoadFault::NotYet);
     }
-    let image = optional_stream(optional_header, 5)?;
-    let sections = read_section_headers(pdb, alloc, image)?;
-    Ok(sections)
+    Ok(())
+}
+
+/// The sections to which the optional header leads, as an address map. `NotYet` for maps that move addresses.
+#[tactic(auto, using(crate::proofs::LoadingSteps::unmapped_fails, crate::proofs::LoadingSteps::tables_fail, crate::proofs::LoadingSteps::tables_are, crate::proofs::LoadingSteps::tables_ordered))]
+fn read_address_tables(
+    pdb: &mut Database,
+    alloc: Global,
+    debug_information: &DebugInformation<'_>,
+) -> std::result::Result<AddressMap<'static>, LoadFault>
+    requires { read_dbi (streams pdb.old.items) ≡ Ok debug_information.now }
+    ensures same { pdb.new.items ≡ pdb.old.items }
+    ensures exact { Loads (λ m. m) result (address_tables debug_information.now.optional_header (shared (streams pdb.old.items)).section_headers) }
+    ensures ordered { IfOk result (λ m. IsOrdered m) }
+{
+    refuse_maps(debug_information)?;
+    let map = pdb.address_map(alloc)?;
+    Ok(map)
+}
+
+/// The modules of a list, to its end. `UnexpectedEof`.
+#[tactic(auto, using(pdb_container::proofs::Listings::gather_start, pdb_container::proofs::Listings::gather_more, pdb_container::proofs::Listings::gather_end, pdb_container::proofs::Listings::gather_fault))]
+fn collect_modules<'m>(alloc: Global, mut iterator: ModuleIter<'m>) -> Result<Vec<Module<'m>>>
+    ensures { Gives (λ v. v.items) ⊥ result (whole iterator.entry) }
+{
+    let mut modules = Vec::new(alloc);
+    while let Some(module) = iterator.next()? {
+        modules.push(module)?;
+    }
+    Ok(modules)
 }
 
 /// Whether some symbol is a public one.
@@ -113,34 +95,43 @@ fn has_public(symbols: &[Symbol<'_>]) -> bool
     symbols.iter().any(|symbol| symbol.is_public())
 }
 
+/// Whether a module says that it has line data.
+fn module_has_lines(module: &Module<'_>) -> bool
+    ensures { result ≡ has_lines_of «module».now }
+{
+    module.c11_lines_size() > 0 || module.c13_lines_size() > 0
+}
+
 /// Whether some module says that it has line data.
 fn has_lines(modules: &[Module<'_>]) -> bool
     ensures { result ≡ list_any has_lines_of modules.now }
 {
-    modules.iter().any(|module| module.has_lines())
+    modules.iter().any(|module| module_has_lines(module))
 }
 
 /// The parts behind stream 3, by what was read of it. Each step's first fault, in the order of the steps; `NotYet` for
 /// public symbols and line data.
-#[tactic(auto, using(crate::proofs::Lifting::load_fails, crate::proofs::Lifting::fails_on, crate::proofs::LoadingSteps::symbols_named, crate::proofs::LoadingSteps::optional_named), unfolding(crate::specs::Loading::loaded_behind, crate::specs::Shared::shared))]
+#[tactic(auto, using(crate::proofs::Lifting::load_fails, crate::proofs::Lifting::fails_on, crate::proofs::Lifting::loads_on, crate::proofs::LoadingSteps::symbols_read, crate::proofs::LoadingSteps::types_read, crate::proofs::LoadingSteps::ids_read), unfolding(crate::specs::Loading::loaded_behind))]
 pub fn load_parts<'m>(
-    pdb: &mut PDB,
+    pdb: &mut Database,
     alloc: Global,
-    dbi: DebugInformation<'m>,
+    debug_information: &'m DebugInformation<'_>,
 ) -> std::result::Result<Parts<'m>, LoadFault>
-    requires { behind ((streams pdb.old).at 3) dbi_of ≡ Ok (dbi_seen dbi) }
-    ensures same { pdb.new ≡ pdb.old }
-    ensures exact { Loads (λ p. p) result (loaded_behind (shared (streams pdb.old)) (dbi_seen dbi.entry)) }
-    ensures modules { IfOk result (λ p. modules_of (dbi.entry).modules.now ≡ Ok p.modules) }
+    requires { read_dbi (streams pdb.old.items) ≡ Ok debug_information.now }
+    ensures same { pdb.new.items ≡ pdb.old.items }
+    ensures exact { Loads (λ p. p) result (loaded_behind (shared (streams pdb.old.items)) debug_information.now) }
+    ensures modules { IfOk result (λ p. whole (modules_of debug_information.now.modules) ≡ Ok p.modules) }
+    ensures ordered { IfOk result (λ p. IsOrdered p.map) }
 {
-    let symbol_records = read_symbol_records(pdb, alloc, dbi.symbol_records_stream)?;
-    read_item_header(pdb, alloc, 2)?;
-    read_item_header(pdb, alloc, 4)?;
-    let sections = read_address_tables(pdb, alloc, dbi.optional_header)?;
-    let modules = parse_modules(alloc, dbi.modules)?;
+    let symbol_records = pdb.global_symbols(alloc)?;
+    pdb.type_information(alloc)?;
+    pdb.id_information(alloc)?;
+    let address_map = read_address_tables(pdb, alloc, debug_information)?;
+    let modules = collect_modules(alloc, debug_information.modules())?;
     let records = symbol_records.as_slice();
     let symbols = parse_symbols(alloc, records.len(), records)?;
-    let contributions = held_contributions(alloc, sections.as_slice(), dbi.contributions)?;
+    let contributions =
+        held_contributions(alloc, address_map.image_sections(), debug_information)?;
     if has_public(symbols.as_slice()) {
         return Err(LoadFault::NotYet);
     }
@@ -148,7 +139,7 @@ pub fn load_parts<'m>(
         return Err(LoadFault::NotYet);
     }
     Ok(Parts {
-        sections,
+        address_map,
         modules,
         contributions,
     })

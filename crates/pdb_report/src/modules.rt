@@ -7,14 +7,14 @@ ghost use Rattle.pdb_report.specs.Kept.{plain_procedures, all_procedures};
 ghost use Rattle.pdb_report.specs.Loading.{behind, module_info};
 ghost use Rattle.pdb_report.specs.Procedures.{symbols_in};
 ghost use Rattle.pdb_report.specs.Shared.{number as number_of};
-ghost use Rattle.pdb_report.specs.Streams.{streams};
+ghost use Rattle.pdb_symbols_modules.specs.Streams.{streams};
 
 use crate::fault::LoadFault;
+use crate::loading::Database;
 use crate::pdb_module_data::{Procedure, has_other_symbols, parse_module_symbols, procedures_of};
 use crate::pdb_modules::Symbol;
-use crate::pdb_symbols_modules::modules::Module;
-use crate::pdb_symbols_modules::pdb::PDB;
 use pdb_container::{Error, Result, Stream};
+use pdb_symbols_modules::{Module, StreamIndex};
 use std::alloc::Global;
 use std::marker::Model;
 
@@ -42,15 +42,16 @@ impl ModuleProcedures {
     }
 }
 
-/// The stream of a module. `StreamNotFound` where it has none, and the faults of reading it.
-fn read_module_stream(pdb: &mut PDB, alloc: Global, number: u16) -> Result<Stream<'static>>
-    ensures same { pdb.new ≡ pdb.old }
-    ensures exact { Gives (λ s. s) ⊥ result (behind (number_of number) (streams pdb.old).at) }
+/// A stream that has to be named. `StreamNotFound` where the number names none, and the faults of reading it.
+#[tactic(auto, using(crate::proofs::Lifting::given_in_memory, crate::proofs::Lifting::outside_none), unfolding(pdb_symbols_modules::specs::Streams::stream_if_named))]
+fn read_stream(pdb: &mut Database, alloc: Global, index: StreamIndex) -> Result<Stream<'static>>
+    ensures same { pdb.new.items ≡ pdb.old.items }
+    ensures exact { Gives (λ s. s) ⊥ result (behind (number_of index.0) (streams pdb.old.items).at) }
 {
-    if number == 0xffff {
-        return Err(Error::StreamNotFound(0xffff));
+    match pdb.raw_stream(alloc, index)? {
+        None => Err(Error::StreamNotFound(0xffff)),
+        Some(stream) => Ok(stream),
     }
-    pdb.stream(alloc, u32::from(number))
 }
 
 /// The procedures of symbols. `NotYet` where some symbol isn't answered yet.
@@ -89,15 +90,15 @@ fn procedures_in(
 /// The procedures of a module; none where it has no stream or that can't be read.
 #[tactic(auto, unfolding(crate::specs::Kept::plain_procedures, crate::specs::Loading::module_info))]
 fn read_module(
-    pdb: &mut PDB,
+    pdb: &mut Database,
     alloc: Global,
     entry: &Module<'_>,
 ) -> std::result::Result<ModuleProcedures, LoadFault>
-    ensures same { pdb.new ≡ pdb.old }
-    ensures exact { Loads (λ m. m) result (plain_procedures (behind (module_info (streams pdb.old) entry.now) symbols_in)) }
+    ensures same { pdb.new.items ≡ pdb.old.items }
+    ensures exact { Loads (λ m. m) result (plain_procedures (behind (module_info (streams pdb.old.items) entry.now) symbols_in)) }
 {
-    match read_module_stream(pdb, alloc, entry.stream) {
-        Ok(stream) => procedures_in(alloc, stream.as_slice(), entry.symbols_size),
+    match read_stream(pdb, alloc, entry.stream()) {
+        Ok(stream) => procedures_in(alloc, stream.as_slice(), entry.symbols_size()),
         Err(Error::OutOfMemory) => Err(LoadFault::OutOfMemory),
         Err(_) => Ok(ModuleProcedures {
             procedures: Vec::new(alloc),
@@ -109,12 +110,12 @@ fn read_module(
 /// isn't answered yet.
 #[tactic(auto, using(crate::proofs::ModuleSteps::modules_more, crate::proofs::ModuleSteps::modules_all, crate::proofs::ModuleSteps::modules_fail))]
 pub fn read_modules(
-    pdb: &mut PDB,
+    pdb: &mut Database,
     alloc: Global,
     entries: &[Module<'_>],
 ) -> std::result::Result<Vec<ModuleProcedures>, LoadFault>
-    ensures same { pdb.new ≡ pdb.old }
-    ensures exact { Loads (λ v. v.items) result (all_procedures (streams pdb.old) entries.now) }
+    ensures same { pdb.new.items ≡ pdb.old.items }
+    ensures exact { Loads (λ v. v.items) result (all_procedures (streams pdb.old.items) entries.now) }
 {
     let mut modules = Vec::new(alloc);
     for entry in entries {

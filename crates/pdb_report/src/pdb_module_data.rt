@@ -3,11 +3,11 @@
 ghost use Rattle.std.specs.Prelude.{◌≡◌, ℕ, ◌∷◌, [], IfOk, OnOk, Ok, option_map};
 ghost use Rattle.std.specs.BTreeSet.{contains};
 ghost use Rattle.pdb_container.specs.Fault.{Gives, Parses};
-ghost use Rattle.pdb_report.specs.declared.pdb_container_types.PdbInternalSectionOffset.{PdbInternalSectionOffset};
+ghost use Rattle.pdb_container_types.specs.declared.internal_section_offset.PdbInternalSectionOffset.{PdbInternalSectionOffset};
 ghost use Rattle.pdb_report.specs.Symbols.{procedure_of};
 ghost use Rattle.pdb_report.specs.Procedures.{signed_symbols_of, symbols_in, place_cmp, has_start, with_code as with_code_of, onto_new, procedures_behind, contains as contains_place, later as later_of, over as over_of, is_other as is_other_symbol, has_type as has_type_of, end_in, is_inside as is_inside_of, has_other};
 
-use crate::pdb_container_types::PdbInternalSectionOffset;
+use pdb_container_types::PdbInternalSectionOffset;
 use crate::pdb_modules::{
     ProcedureSymbol, S_SEPCODE, Symbol, is_inline_site, is_procedure, is_thunk, parse_symbols,
 };
@@ -92,15 +92,15 @@ fn with_code(
 /// One more procedure, unless one begins where it does.
 #[tactic(auto, using(crate::proofs::ProcedureSteps::starts_more))]
 fn push_new(
-    starts: &mut BTreeSet<PdbInternalSectionOffset>,
+    starts: &mut BTreeSet<(u16, u32)>,
     procedures: &mut Vec<Procedure>,
     procedure: Procedure,
 ) -> std::result::Result<(), AllocError>
-    requires { (p : PdbInternalSectionOffset) → contains place_cmp starts.old p ≡ has_start procedures.old.items p }
+    requires { (p : PdbInternalSectionOffset) → contains place_cmp starts.old (p.section, p.offset) ≡ has_start procedures.old.items p }
     ensures ok { OnOk result (procedures.new.items ≡ onto_new procedures.old.items (Some procedure)) }
-    ensures starts { OnOk result ((p : PdbInternalSectionOffset) → contains place_cmp starts.new p ≡ has_start procedures.new.items p) }
+    ensures starts { OnOk result ((p : PdbInternalSectionOffset) → contains place_cmp starts.new (p.section, p.offset) ≡ has_start procedures.new.items p) }
 {
-    if starts.insert(procedure.offset)? {
+    if starts.insert((procedure.offset.section, procedure.offset.offset))? {
         procedures.push(procedure)?;
     }
     Ok(())

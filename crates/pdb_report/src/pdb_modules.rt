@@ -8,7 +8,7 @@ ghost use Rattle.pdb_container.specs.Fields.{entries, number_at};
 ghost use Rattle.pdb_container.specs.RawString.{raw_bytes};
 ghost use Rattle.pdb_report.specs.Symbols.{symbol_at, symbols_of, is_symbol, is_public as is_public_symbol, is_procedure as is_procedure_kind, is_thunk as is_thunk_kind, is_inline_site as is_inline_site_kind, name_at, procedure_at, procedure_of};
 
-use crate::pdb_container_types::PdbInternalSectionOffset;
+use pdb_container_types::PdbInternalSectionOffset;
 use pdb_container::{Error, ParseBuffer, RawString, Result};
 use std::alloc::Global;
 use std::marker::Model;

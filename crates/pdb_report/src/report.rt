@@ -6,7 +6,7 @@ ghost use Rattle.pdb_report.specs.Answers.{line_text};
 ghost use Rattle.pdb_report.specs.Lines.{report, report_of_ended, Begins};
 ghost use Rattle.pdb_report.specs.Loading.{load_fault, IsFileFault};
 ghost use Rattle.pdb_report.specs.RunFaults.{OnLoad, OnRead, OnWrite, OnTooLong, OnMemory, UnlessLoad, IsOfFrames};
-ghost use Rattle.pdb_report.specs.Streams.{streams};
+ghost use Rattle.pdb_symbols_modules.specs.Streams.{streams};
 ghost use Rattle.pdb_report.specs.Watched.{inner_of, Fails, IsQuiet};
 
 use crate::engine::run;

@@ -1,9 +1,10 @@
 //! A file that was loaded, and the text that answers a line.
 
 ghost use Rattle.std.specs.Prelude.{◌≡◌, IfOk, OnOk, IfErr, None, Some, string_bytes};
+ghost use Rattle.pdb_container_types.specs.Addresses.{IsOrdered};
 ghost use Rattle.pdb_report.specs.Faults.{Fails};
 ghost use Rattle.pdb_report.specs.Loading.{answerable, load_fault, Refuses};
-ghost use Rattle.pdb_report.specs.Streams.{streams};
+ghost use Rattle.pdb_symbols_modules.specs.Streams.{streams};
 ghost use Rattle.pdb_report.specs.Answers.{answer, line_text, text_at};
 ghost use Rattle.pdb_report.specs.Kept.{kept_answer, procedures_at};
 ghost use Rattle.pdb_report.specs.Seen.{answer_seen};
@@ -11,22 +12,21 @@ ghost use Rattle.pdb_report.specs.Seen.{answer_seen};
 use crate::address::parse_address;
 use crate::answers::Answers;
 use crate::fault::LoadFault;
-use crate::loading::{Parts, load_parts};
+use crate::loading::{Database, load_parts};
 use crate::modules::{ModuleProcedures, read_modules};
 use crate::pdb_addr2line::contributions::{ModuleSectionContribution, holder};
 use crate::pdb_addr2line::frames::{FunctionFrames, append_answer, procedure_frames};
-use crate::pdb_container_types::{ImageSectionHeader, to_section_offset};
 use crate::pdb_module_data::{Procedure, over};
-use crate::pdb_symbols_modules::dbi::parse_debug_information;
-use crate::pdb_symbols_modules::pdb::PDB;
+use pdb_container_types::{AddressMap, Rva};
+use pdb_symbols_modules::PDB;
 use std::alloc::{AllocError, Global};
 use std::marker::Model;
 
 /// A program database that was loaded, with what answers need of it. Its value in contracts is the file's bytes.
 #[derive(Drop)]
 pub struct Symbolizer {
-    pdb: PDB,
-    sections: Vec<ImageSectionHeader>,
+    pdb: Database,
+    address_map: AddressMap<'static>,
     contributions: Vec<ModuleSectionContribution>,
     modules: Vec<ModuleProcedures>,
 }
@@ -37,24 +37,23 @@ impl Model for Symbolizer {
 
     ghost Value = { List ℕ };
 
-    ghost view = { λ s. s.pdb };
+    ghost view = { λ s. s.pdb.items };
 
-    ghost invariant = { λ s. IsKept s.pdb s.sections.items s.contributions.items s.modules.items };
+    ghost invariant = { λ s. IsKept s.pdb.items s.address_map s.contributions.items s.modules.items };
 }
 
 /// Loads an open program database, and keeps what answers need.
-fn load(alloc: Global, mut pdb: PDB) -> Result<Symbolizer, LoadFault>
-    requires { (streams pdb).open_fault ≡ None }
-    ensures ok { IfOk result (λ s. s ≡ pdb) }
-    ensures err { IfErr result (λ e. Fails e (answerable (streams pdb))) }
+fn load(alloc: Global, mut pdb: Database) -> Result<Symbolizer, LoadFault>
+    requires { (streams pdb.items).open_fault ≡ None }
+    ensures ok { IfOk result (λ s. s ≡ pdb.entry.items) }
+    ensures err { IfErr result (λ e. Fails e (answerable (streams pdb.entry.items))) }
 {
-    let stream = pdb.stream(alloc, 3)?;
-    let dbi = parse_debug_information(stream.as_slice())?;
-    let parts = load_parts(&mut pdb, alloc, dbi)?;
+    let debug_information = pdb.debug_information(alloc)?;
+    let parts = load_parts(&mut pdb, alloc, &debug_information)?;
     let modules = read_modules(&mut pdb, alloc, parts.modules.as_slice())?;
     Ok(Symbolizer {
         pdb,
-        sections: parts.sections,
+        address_map: parts.address_map,
         contributions: parts.contributions,
         modules,
     })
@@ -73,14 +72,15 @@ fn procedures_of(modules: &[ModuleProcedures], module: u16) -> &[Procedure]
 /// The frames at an address of the image.
 fn frames_at(
     alloc: Global,
-    sections: &[ImageSectionHeader],
+    address_map: &AddressMap<'static>,
     contributions: &[ModuleSectionContribution],
     modules: &[ModuleProcedures],
     address: u32,
 ) -> Result<Option<FunctionFrames>, AllocError>
-    ensures { IfOk result (λ f. answer_seen f ≡ kept_answer sections.now contributions.now modules.now address) }
+    requires { IsOrdered address_map.now }
+    ensures { IfOk result (λ f. answer_seen f ≡ kept_answer address_map.now contributions.now modules.now address) }
 {
-    let Some(place) = to_section_offset(sections, address) else {
+    let Some(place) = Rva(address).to_internal_offset(address_map) else {
         return Ok(None);
     };
     let Some(module) = holder(contributions, place) else {
@@ -88,7 +88,7 @@ fn frames_at(
     };
     match over(procedures_of(modules, module), place) {
         None => Ok(None),
-        Some(procedure) => procedure_frames(alloc, sections, procedure),
+        Some(procedure) => procedure_frames(alloc, address_map, procedure),
     }
 }
 
@@ -118,7 +118,7 @@ impl Symbolizer {
     {
         frames_at(
             alloc,
-            self.sections.as_slice(),
+            &self.address_map,
             self.contributions.as_slice(),
             self.modules.as_slice(),
             address,
@@ -149,7 +149,7 @@ impl Symbolizer {
 
 impl Answers for Symbolizer {
     ghost use Rattle.pdb_report.specs.Answers.{line_text};
-    ghost use Rattle.pdb_report.specs.Streams.{streams};
+    ghost use Rattle.pdb_symbols_modules.specs.Streams.{streams};
 
     ghost text = { λ s line. line_text (streams s) line };
 

@@ -1,6 +1,6 @@
 -- What is read of a database, as functions of its streams: each with its first fault.
-use Rattle.std.specs.Prelude.{ℕ, List, ◌==◌, Option, Result, codes}
-use Rattle.pdb_container.specs.Fault.{Fault, GlobalSymbolsNotFound, ◌>>=◌, refuse}
+use Rattle.std.specs.Prelude.{ℕ, List, nat_lt, Option, Result, codes}
+use Rattle.pdb_container.specs.Fault.{Fault, GlobalSymbolsNotFound, ◌>>=◌, guard}
 use Rattle.pdb_container.specs.Names.{names_of}
 use Rattle.pdb_items.specs.Items.{Table, table_of}
 use Rattle.pdb_container_types.specs.declared.sections.ImageSectionHeader.{ImageSectionHeader}
@@ -50,7 +50,7 @@ ids s = do
 unfoldable pub global_symbols : Streams → Result (List ℕ) Fault
 global_symbols s = do
   d ← debug_information s
-  named ← refuse (d.symbol_records_stream == 65535) GlobalSymbolsNotFound
+  named ← guard (nat_lt d.symbol_records_stream 65535) GlobalSymbolsNotFound
   s.at d.symbol_records_stream
 
 -- the sections of the image, where there is a list of them

@@ -1,5 +1,5 @@
 -- A file as its numbered streams. Nothing here and above speaks of pages.
-use Rattle.std.specs.Prelude.{ℕ, List, Option, Some, None, Result, Ok, Err, ◌==◌, if◌then◌else◌}
+use Rattle.std.specs.Prelude.{ℕ, List, Option, Some, None, Result, Ok, Err, nat_lt, if◌then◌else◌}
 use Rattle.pdb_container.specs.Fault.{Fault, ◌>>=◌}
 use Rattle.pdb_container.specs.Container.{layout_of, stream}
 
@@ -16,6 +16,6 @@ fault_in (Err e) = Some e
 unfoldable pub streams : List ℕ → Streams
 streams file = record { open_fault = fault_in (layout_of file); at = λ n. stream file n None }
 
--- the stream of a number in 16 bits, of which 65535 names none
+-- the stream of a number: 65535 names none
 unfoldable pub stream_if_named : Streams → ℕ → Result (Option (List ℕ)) Fault
-stream_if_named s n = if n == 65535 then Ok None else s.at n >>= λ bytes. Ok (Some bytes)
+stream_if_named s n = if nat_lt n 65535 then s.at n >>= (λ bytes. Ok (Some bytes)) else Ok None

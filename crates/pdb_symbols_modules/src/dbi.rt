@@ -104,15 +104,15 @@ impl<'s> DebugInformation<'s> {
     }
 
     /// The number of the stream of symbol records.
-    pub(crate) fn symbol_records_stream(&self) -> StreamIndex
+    pub fn symbol_records_stream(&self) -> StreamIndex
         ensures { result.0 ≡ self.now.symbol_records_stream }
     {
         StreamIndex(self.header.symbol_records_stream)
     }
 
-    /// The number of a stream at a place of the optional header, counted from 0. `InvalidStreamLength` where that header
+    /// The number of a stream at a place of the optional header, counted from 0 and at most 10. `InvalidStreamLength` where that header
     /// isn't made of whole numbers.
-    pub(crate) fn optional_stream(&self, place: usize) -> Result<StreamIndex>
+    pub fn optional_stream(&self, place: usize) -> Result<StreamIndex>
         requires { place ≤ 10 }
         ensures { Parses (λ n. n.0) result (optional_at place self.now.optional_header) }
     {

@@ -17,5 +17,8 @@ pub use dbi::DebugInformation;
 pub use information::{PDBInformation, StreamName, StreamNames};
 pub use machine::MachineType;
 pub use modules::{Module, ModuleIter};
+pub use optional_header::{
+    OMAP_FROM_SOURCE, OMAP_TO_SOURCE, ORIGINAL_SECTION_HEADERS, SECTION_HEADERS,
+};
 pub use pdb::PDB;
 pub use stream_index::StreamIndex;

@@ -159,6 +159,25 @@ impl<'s, S: Source + Drop> PDB<'s, S> {
         StringTable::parse(stream)
     }
 
+    /// The stream of the global symbols.
+    ///
+    /// # Errors
+    /// Those of [`PDB::debug_information`]; `GlobalSymbolsNotFound` where it names no such stream; those of reading a
+    /// stream.
+    #[tactic(auto, using(pdb_container::proofs::Outside::outside_alone, pdb_container::proofs::Outside::outside_earlier, pdb_container::proofs::Outside::outside_later), unfolding(crate::specs::Opened::global_symbols))]
+    pub fn global_symbols(&mut self, alloc: Global) -> Result<Stream<'s>>
+        ensures same { S.bytes self.new ≡ S.bytes self.old }
+        ensures counts { S.failures self.old ≤ S.failures self.new }
+        ensures exact { Gives (λ s. s) (HasRisen (S.failures self.old) (S.failures self.new)) result (global_symbols (streams (S.bytes self.old))) }
+    {
+        let debug_information = self.debug_information(alloc)?;
+        let index = debug_information.symbol_records_stream();
+        if index.is_none() {
+            return Err(Error::GlobalSymbolsNotFound);
+        }
+        self.stream(alloc, u32::from(index.0))
+    }
+
     /// The sections of the image; `None` where the database has no list of them.
     ///
     /// # Errors

@@ -1,12 +1,19 @@
 //! Which module holds which part of a section.
 
 ghost use Rattle.std.specs.Prelude.{◌≡◌, IfOk};
-ghost use Rattle.pdb_report.specs.Contributions.{is_kept as is_kept_entry, span_of as span_of_entry, spans_of, held_of, holds as holds_place, holder as holder_of};
+ghost use Rattle.pdb_container.specs.Fault.{Gives};
+ghost use Rattle.pdb_container.specs.Listing.{whole};
+ghost use Rattle.pdb_report.specs.Contributions.{is_executable as is_executable_at, is_kept as is_kept_entry, span_of as span_of_entry, spans_of, held_of, holds as holds_place, holder as holder_of};
 ghost use Rattle.pdb_report.specs.Faults.{Loads};
+ghost use Rattle.pdb_report.specs.Loading.{behind};
+ghost use Rattle.pdb_symbols_modules.specs.Contributions.{contributions_of};
 
 use crate::fault::LoadFault;
-use crate::pdb_container_types::{ImageSectionHeader, PdbInternalSectionOffset, is_executable};
-use crate::pdb_symbols_modules::contributions::{DBISectionContribution, parse_contributions};
+use pdb_container::{FallibleIterator, Result as PdbResult};
+use pdb_container_types::{ImageSectionHeader, PdbInternalSectionOffset};
+use pdb_symbols_modules::{
+    DBISectionContribution, DBISectionContributionIter, DebugInformation,
+};
 use std::alloc::{AllocError, Global};
 
 /// What a module holds of a section: from a start to an end, both offsets in bytes, the end not held.
@@ -52,22 +59,61 @@ fn kept_spans(
         .collect(alloc)
 }
 
+/// The contributions of a list, to its end. `UnexpectedEof`.
+#[tactic(auto, using(pdb_container::proofs::Listings::gather_start, pdb_container::proofs::Listings::gather_more, pdb_container::proofs::Listings::gather_end, pdb_container::proofs::Listings::gather_fault))]
+fn collect_contributions(
+    alloc: Global,
+    mut iterator: DBISectionContributionIter<'_>,
+) -> PdbResult<Vec<DBISectionContribution>>
+    ensures { Gives (λ v. v.items) ⊥ result (whole iterator.entry) }
+{
+    let mut entries = Vec::new(alloc);
+    while let Some(entry) = iterator.next()? {
+        entries.push(entry)?;
+    }
+    Ok(entries)
+}
+
+/// All contributions of stream 3. `UnexpectedEof`, `UnimplementedFeature`.
+fn read_contributions(
+    alloc: Global,
+    debug_information: &DebugInformation<'_>,
+) -> PdbResult<Vec<DBISectionContribution>>
+    ensures { Gives (λ v. v.items) ⊥ result (behind (contributions_of debug_information.now.contributions) whole) }
+{
+    let iterator = debug_information.section_contributions()?;
+    collect_contributions(alloc, iterator)
+}
+
 /// What the modules hold, by the contributions of stream 3. `UnexpectedEof`, `UnimplementedFeature`; `NotYet` for more
 /// than one that counts.
 #[tactic(auto, using(crate::proofs::Lifting::load_fails), unfolding(crate::specs::Contributions::held_of))]
 pub fn held_contributions(
     alloc: Global,
     sections: &[ImageSectionHeader],
-    bytes: &[u8],
+    debug_information: &DebugInformation<'_>,
 ) -> Result<Vec<ModuleSectionContribution>, LoadFault>
-    ensures { Loads (λ v. v.items) result (held_of sections.now bytes.now) }
+    ensures { Loads (λ v. v.items) result (held_of sections.now debug_information.now.contributions) }
 {
-    let entries = parse_contributions(alloc, bytes)?;
+    let entries = read_contributions(alloc, debug_information)?;
     let spans = kept_spans(alloc, sections, entries.as_slice())?;
     if spans.len() > 1 {
         return Err(LoadFault::NotYet);
     }
     Ok(spans)
+}
+
+/// Whether the number is that of a section in which code may run.
+fn is_executable(sections: &[ImageSectionHeader], number: u16) -> bool
+    ensures { result ≡ is_executable_at sections.now number }
+{
+    if number == 0 {
+        return false;
+    }
+    match sections.get(usize::from(number) - 1) {
+        None => false,
+        Some(section) => section.characteristics.execute(),
+    }
 }
 
 /// Whether a module holds the place by this.

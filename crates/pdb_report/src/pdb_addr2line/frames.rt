@@ -1,11 +1,12 @@
 //! Functions and frames at an address, and their text.
 
 ghost use Rattle.std.specs.Prelude.{◌≡◌, ◌++◌, IfOk, OnOk, string_bytes, option_map};
+ghost use Rattle.pdb_container_types.specs.Addresses.{IsOrdered};
 ghost use Rattle.pdb_report.specs.Answers.{procedure_name, procedure_frame, found_at, found, frame_text, answer_text, text_or};
 ghost use Rattle.pdb_report.specs.Seen.{answer_seen};
 ghost use Rattle.std.specs.List.{flat_map};
 
-use crate::pdb_container_types::{ImageSectionHeader, to_rva};
+use pdb_container_types::AddressMap;
 use crate::pdb_module_data::Procedure;
 use std::alloc::{AllocError, Global};
 use std::marker::Model;
@@ -62,20 +63,21 @@ fn frame_of(alloc: Global, procedure: &Procedure) -> Result<Frame, AllocError>
 /// What is answered for a procedure; nothing where its start has no address.
 pub fn procedure_frames(
     alloc: Global,
-    sections: &[ImageSectionHeader],
+    address_map: &AddressMap<'_>,
     procedure: &Procedure,
 ) -> Result<Option<FunctionFrames>, AllocError>
-    ensures { IfOk result (λ f. answer_seen f ≡ found sections.now (Some procedure.now)) }
+    requires { IsOrdered address_map.now }
+    ensures { IfOk result (λ f. answer_seen f ≡ found address_map.now (Some procedure.now)) }
 {
-    match to_rva(sections, procedure.offset) {
+    match procedure.offset.to_rva(address_map) {
         None => Ok(None),
-        Some(start_rva) => {
+        Some(start) => {
             let frame = frame_of(alloc, procedure)?;
             let mut frames = Vec::new(alloc);
             frames.push(frame)?;
             Ok(Some(FunctionFrames {
-                start_rva,
-                end_rva: start_rva.checked_add(procedure.len),
+                start_rva: start.0,
+                end_rva: start.0.checked_add(procedure.len),
                 frames,
             }))
         }

@@ -1,5 +1,5 @@
 use Rattle.std.proofs.Common.{◌∙◌}
-use Rattle.pdb_report.specs.Streams.{streams}
+use Rattle.pdb_symbols_modules.specs.Streams.{streams}
 use Rattle.pdb_report.proofs.ModuleSteps.{modules_more, modules_all}
 use Rattle.pdb_report.proofs.modules.read_modules.Goals as goal
 
@@ -7,7 +7,7 @@ pub loop-entry-preserved : goal.loop-entry-preserved
 loop-entry-preserved c =
     let now = c.loop-entry.invariant in
     let read = rw now.same at c.in_ok-procedures.ensures.exact in
-    let more = modules_more (streams c.args.pdb.now) c.args.entries.now c.loop-entry.entry-index c.entry-item.result c.loop-entry.modules.items c.in_ok-procedures.procedures c.loop-entry-test.true c.entry-item.is
+    let more = modules_more (streams c.args.pdb.now.items) c.args.entries.now c.loop-entry.entry-index c.entry-item.result c.loop-entry.modules.items c.in_ok-procedures.procedures c.loop-entry-test.true c.entry-item.is
     read now.so_far now.plain in
     record {
       same = c.read_module.ensures.same ∙ now.same;
@@ -17,4 +17,4 @@ loop-entry-preserved c =
 
 pub returns-clause-exact : goal.returns-clause-exact
 returns-clause-exact c =
-    modules_all (streams c.args.pdb.now) c.args.entries.now c.loop-entry.entry-index c.loop-entry.modules.items c.loop-entry-test.false c.loop-entry.invariant.so_far c.loop-entry.invariant.plain
+    modules_all (streams c.args.pdb.now.items) c.args.entries.now c.loop-entry.entry-index c.loop-entry.modules.items c.loop-entry-test.false c.loop-entry.invariant.so_far c.loop-entry.invariant.plain
