@@ -1,5 +1,6 @@
 pub mod LaidLemmas
 pub mod OmapLemmas
+pub mod OrderSteps
 pub mod PlaceBack
 pub mod PlaceSteps
 pub mod RangeSteps

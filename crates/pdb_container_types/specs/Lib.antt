@@ -6,5 +6,6 @@ pub mod Numbers
 pub mod Omap
 pub mod Places
 pub mod Ranges
+pub mod SectionOrder
 pub mod SectionRun
 pub mod Sections

@@ -22,6 +22,10 @@ image_place p = record { offset = p.offset; section = p.section }
 abbrev pub internal_place : Place → PdbInternalSectionOffset
 internal_place p = record { offset = p.offset; section = p.section }
 
+-- the same numbers as an internal place
+abbrev pub as_internal : SectionOffset → PdbInternalSectionOffset
+as_internal p = record { offset = p.offset; section = p.section }
+
 -- another offset in the section of a place of the image
 abbrev pub image_place_at : SectionOffset → ℕ → SectionOffset
 image_place_at p offset = record { offset = offset; section = p.section }

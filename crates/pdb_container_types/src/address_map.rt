@@ -6,6 +6,7 @@ ghost use Rattle.pdb_container_types.specs.Addresses.{map_of, IsInOrder, IsOrder
 ghost use Rattle.pdb_container_types.specs.Omap.{translated, records_of};
 
 use crate::omap::{OMAPRecord, are_sources_in_order, lookup};
+use crate::section_list::SectionList;
 use crate::sections::ImageSectionHeader;
 use std::marker::{Model, PhantomData};
 
@@ -13,8 +14,8 @@ use std::marker::{Model, PhantomData};
 /// image's code after the database was written.
 #[derive(Debug, Drop)]
 pub struct AddressMap<'s> {
-    original_sections: Option<Vec<ImageSectionHeader>>,
-    image_sections: Vec<ImageSectionHeader>,
+    original_sections: Option<SectionList>,
+    image_sections: SectionList,
     to_original: Option<Vec<OMAPRecord>>,
     to_image: Option<Vec<OMAPRecord>>,
     of: PhantomData<&'s ()>,
@@ -26,7 +27,7 @@ impl<'s> Model for AddressMap<'s> {
 
     ghost Value = { Map };
 
-    ghost view = { λ m. map_of (option_map (λ v. v.items) m.original_sections) m.image_sections.items (option_map (λ v. v.items) m.to_original) (option_map (λ v. v.items) m.to_image) };
+    ghost view = { λ m. map_of m.original_sections m.image_sections (option_map (λ v. v.items) m.to_original) (option_map (λ v. v.items) m.to_image) };
 }
 
 impl<'s> AddressMap<'s> {
@@ -42,8 +43,8 @@ impl<'s> AddressMap<'s> {
         ensures { result ≡ map_of (option_map (λ v. v.items) original_sections) image_sections.items (option_map (λ v. v.items) to_original) (option_map (λ v. v.items) to_image) }
     {
         AddressMap {
-            original_sections,
-            image_sections,
+            original_sections: original_sections.map(SectionList::new),
+            image_sections: SectionList::new(image_sections),
             to_original,
             to_image,
             of: PhantomData,
@@ -58,7 +59,7 @@ impl<'s> AddressMap<'s> {
     }
 
     /// The sections of the space in which the database was written.
-    pub(crate) fn internal_sections(&self) -> &[ImageSectionHeader]
+    pub(crate) fn internal_sections(&self) -> &SectionList
         ensures { result.now ≡ self.now.internal }
     {
         match &self.original_sections {
@@ -67,8 +68,15 @@ impl<'s> AddressMap<'s> {
         }
     }
 
+    /// The headers of the image's sections, in their order.
+    pub fn image_section_headers(&self) -> &[ImageSectionHeader]
+        ensures { result.now ≡ self.now.image }
+    {
+        self.image_sections.as_slice()
+    }
+
     /// The sections of the image.
-    pub fn image_sections(&self) -> &[ImageSectionHeader]
+    pub(crate) fn image_sections(&self) -> &SectionList
         ensures { result.now ≡ self.now.image }
     {
         &self.image_sections

@@ -9,8 +9,8 @@ ghost use Rattle.pdb_container_types.specs.Sections.{place as place_of};
 use crate::address_map::AddressMap;
 use crate::internal_section_offset::PdbInternalSectionOffset;
 use crate::rva::Rva;
+use crate::section_list::internal;
 use crate::section_offset::SectionOffset;
-use crate::sections::internal_place;
 
 /// An address in the space in which the database was written, in bytes from the image's start. It is that of the image
 /// where no tool has moved the image's code since.
@@ -35,10 +35,11 @@ impl PdbInternalRva {
     }
 
     /// Its place among the internal sections; `None` where none holds it.
+    #[tactic(auto, using(crate::proofs::PlaceSteps::place_inside))]
     pub fn to_internal_offset(self, map: &AddressMap<'_>) -> Option<PdbInternalSectionOffset>
         ensures { result ≡ option_map in_internal_space (place_of map.now.internal self.0) }
     {
-        internal_place(map.internal_sections(), self.0)
+        internal(map.internal_sections().place(self.0))
     }
 
     /// The address so many bytes on; `None` past 32 bits.

@@ -10,7 +10,6 @@ use crate::address_map::AddressMap;
 use crate::internal_rva::PdbInternalRva;
 use crate::rva::Rva;
 use crate::section_offset::SectionOffset;
-use crate::sections::address;
 use std::cmp::Ordering;
 
 /// A place in the space in which the database was written: a section's number, counted from 1, and an offset in it in
@@ -55,7 +54,9 @@ impl PdbInternalSectionOffset {
     pub fn to_internal_rva(self, map: &AddressMap<'_>) -> Option<PdbInternalRva>
         ensures { result ≡ option_map internal_address (address_of map.now.internal self.section self.offset) }
     {
-        address(map.internal_sections(), self.section, self.offset).map(PdbInternalRva)
+        map.internal_sections()
+            .address(self.section, self.offset)
+            .map(PdbInternalRva)
     }
 
     /// The image's place of its address; `None` where there is no such address, the map sends it nowhere, or no section

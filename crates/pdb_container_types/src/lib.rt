@@ -9,6 +9,7 @@ mod numbers;
 mod omap;
 mod ranges;
 mod rva;
+mod section_list;
 mod section_offset;
 mod section_run;
 mod sections;

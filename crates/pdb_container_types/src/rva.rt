@@ -10,7 +10,6 @@ use crate::address_map::AddressMap;
 use crate::internal_rva::PdbInternalRva;
 use crate::internal_section_offset::PdbInternalSectionOffset;
 use crate::section_offset::SectionOffset;
-use crate::sections::place;
 
 /// An address in the image as it was loaded, in bytes from its start.
 #[derive(Clone, Copy, Debug, Default, PartialEq, Eq, PartialOrd, Ord, Hash)]
@@ -29,7 +28,7 @@ impl Rva {
     pub fn to_section_offset(self, map: &AddressMap<'_>) -> Option<SectionOffset>
         ensures { result ≡ option_map image_place (place_of map.now.image self.0) }
     {
-        place(map.image_sections(), self.0)
+        map.image_sections().place(self.0)
     }
 
     /// The internal place of its internal address; `None` where there is no such address, or no section holds it.

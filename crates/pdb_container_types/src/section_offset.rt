@@ -10,7 +10,6 @@ use crate::address_map::AddressMap;
 use crate::internal_rva::PdbInternalRva;
 use crate::internal_section_offset::PdbInternalSectionOffset;
 use crate::rva::Rva;
-use crate::sections::address;
 use std::cmp::Ordering;
 
 /// A place in the image as it was loaded: a section's number, counted from 1, and an offset in it in bytes.
@@ -45,7 +44,9 @@ impl SectionOffset {
     pub fn to_rva(self, map: &AddressMap<'_>) -> Option<Rva>
         ensures { result ≡ option_map image_address (address_of map.now.image self.section self.offset) }
     {
-        address(map.image_sections(), self.section, self.offset).map(Rva)
+        map.image_sections()
+            .address(self.section, self.offset)
+            .map(Rva)
     }
 
     /// The internal address of its address; `None` where there is no such address, or the map sends it nowhere.

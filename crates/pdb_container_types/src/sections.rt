@@ -1,15 +1,12 @@
-//! Sections of an image: their headers, the places of addresses and the addresses of places.
+//! The headers of an image's sections.
 
-ghost use Rattle.std.specs.Prelude.{◌≡◌, ◌+◌, [], length, option_map, ◌<◌, ◌==◌, position, IfSome};
+ghost use Rattle.std.specs.Prelude.{◌≡◌, [], length, ◌<◌, ◌==◌, position, IfSome};
 ghost use Rattle.std.specs.Str.{IsUtf8};
 ghost use Rattle.pdb_container.specs.Buffer.{Reads};
 ghost use Rattle.pdb_container.specs.Fault.{Gives};
 ghost use Rattle.pdb_container.specs.Fields.{bytes_of};
-ghost use Rattle.pdb_container_types.specs.Places.{image_place, internal_place as in_internal_space};
-ghost use Rattle.pdb_container_types.specs.Sections.{section_headers_of, text_before_nul, may_execute, place_in, place as place_of, address as address_of};
+ghost use Rattle.pdb_container_types.specs.Sections.{section_headers_of, text_before_nul, may_execute};
 
-use crate::internal_section_offset::PdbInternalSectionOffset;
-use crate::section_offset::SectionOffset;
 use pdb_container::{FromBuffer, ParseBuffer, Result};
 use std::alloc::Global;
 
@@ -129,62 +126,4 @@ pub fn parse_section_headers(alloc: Global, bytes: &[u8]) -> Result<Vec<ImageSec
         sections.push(buffer.parse::<ImageSectionHeader>()?)?;
     }
     Ok(sections)
-}
-
-/// The image's place of an address: that of the first section that holds it, all before
-/// it and itself beginning at or below it. `None` without such a section, and past section 65535.
-#[tactic(auto, using(crate::proofs::PlaceSteps::place_stops, crate::proofs::PlaceSteps::place_holds, crate::proofs::PlaceSteps::place_goes_on, crate::proofs::PlaceSteps::place_ends))]
-pub(crate) fn place(sections: &[ImageSectionHeader], address: u32) -> Option<SectionOffset>
-    ensures { result ≡ option_map image_place (place_of sections.now address) }
-{
-    for (index, section) in sections.iter().enumerate() {
-        if address < section.virtual_address {
-            return None;
-        }
-        let offset = address - section.virtual_address;
-        if offset < section.virtual_size {
-            return numbered(index, offset);
-        }
-    }
-    None
-}
-
-/// The internal place of an address, in the same way among the internal sections.
-pub(crate) fn internal_place(
-    sections: &[ImageSectionHeader],
-    address: u32,
-) -> Option<PdbInternalSectionOffset>
-    ensures { result ≡ option_map in_internal_space (place_of sections.now address) }
-{
-    match place(sections, address) {
-        None => None,
-        Some(SectionOffset { offset, section }) => Some(PdbInternalSectionOffset {
-            offset,
-            section,
-        }),
-    }
-}
-
-/// The place at an offset of the section with that index, counted from 0.
-fn numbered(index: usize, offset: u32) -> Option<SectionOffset>
-    ensures { result ≡ option_map image_place (place_in (index + 1) offset) }
-{
-    if index >= 65535 {
-        return None;
-    }
-    let section = index as u16 + 1;
-    Some(SectionOffset { offset, section })
-}
-
-/// The address of an offset in the section of a number. `None` past 32 bits, and for a section that isn't there.
-pub(crate) fn address(sections: &[ImageSectionHeader], section: u16, offset: u32) -> Option<u32>
-    ensures { result ≡ address_of sections.now section offset }
-{
-    if section == 0 {
-        return None;
-    }
-    match sections.get(usize::from(section) - 1) {
-        None => None,
-        Some(section) => section.virtual_address.checked_add(offset),
-    }
 }

@@ -1,4 +1,4 @@
-//! Translations of worked maps, and of two maps against a plain scan.
+//! Translations of worked maps, and two maps and two lists of sections against a plain scan.
 
 use crate::{
     AddressMap, Error, ImageSectionHeader, OMAPRecord, PdbInternalRva, PdbInternalSectionOffset,
@@ -33,6 +33,20 @@ const REPEATED: [(u32, u32); 8] = [
     (15, 0xffff_ffff),
 ];
 
+/// Sections that ascend: gaps, one without bytes, one that begins where another ends, one that goes on past 32 bits.
+const ASCENDING: [(u32, u32); 5] = [(2, 3), (5, 0), (5, 4), (12, 2), (20, 0xffff_ffff)];
+
+/// Sections that fall, overlap and are repeated, one of them past 32 bits.
+const DISORDERED: [(u32, u32); 7] = [
+    (1, 2),
+    (0, 1),
+    (6, 5),
+    (4, 9),
+    (6, 5),
+    (16, 0xffff_ffff),
+    (12, 2),
+];
+
 fn records(alloc: Global, pairs: &[(u32, u32)]) -> Result<Vec<OMAPRecord>, AllocError> {
     let mut records = Vec::new(alloc);
     for (source_address, target_address) in pairs {
@@ -44,15 +58,22 @@ fn records(alloc: Global, pairs: &[(u32, u32)]) -> Result<Vec<OMAPRecord>, Alloc
     Ok(records)
 }
 
+/// Sections at these addresses and of these sizes.
+fn sections_at(alloc: Global, pairs: &[(u32, u32)]) -> Result<Vec<ImageSectionHeader>, AllocError> {
+    let mut sections = Vec::new(alloc);
+    for (virtual_address, virtual_size) in pairs {
+        sections.push(ImageSectionHeader {
+            virtual_size: *virtual_size,
+            virtual_address: *virtual_address,
+            ..ImageSectionHeader::default()
+        })?;
+    }
+    Ok(sections)
+}
+
 /// One section of 0x100 bytes at 0x1000.
 fn sections(alloc: Global) -> Result<Vec<ImageSectionHeader>, AllocError> {
-    let mut sections = Vec::new(alloc);
-    sections.push(ImageSectionHeader {
-        virtual_size: 0x100,
-        virtual_address: 0x1000,
-        ..ImageSectionHeader::default()
-    })?;
-    Ok(sections)
+    sections_at(alloc, &[(0x1000, 0x100)])
 }
 
 /// Sections that are the same in both spaces, and the ways between them.
@@ -153,6 +174,62 @@ fn laid_out(alloc: Global, ranges: &[(u32, u32)]) -> Result<Vec<u32>, AllocError
         }
     }
     Ok(all)
+}
+
+/// The number of an address's section and the offset in it, section by section.
+fn scanned_place(sections: &[(u32, u32)], address: u32) -> Option<(usize, u32)> {
+    for (index, (start, size)) in sections.iter().enumerate() {
+        if address < *start {
+            return None;
+        }
+        if address - *start < *size {
+            return Some((index + 1, address - *start));
+        }
+    }
+    None
+}
+
+fn is_bound(sections: &[(u32, u32)], address: u64) -> bool {
+    for (start, size) in sections {
+        let start = u64::from(*start);
+        if address == start || address == start + u64::from(*size) {
+            return true;
+        }
+    }
+    false
+}
+
+/// How far the next start or end lies past an address, up to a limit, address by address.
+fn scanned_count(sections: &[(u32, u32)], address: u32, limit: u32) -> u32 {
+    for count in 1..limit {
+        if is_bound(sections, u64::from(address) + u64::from(count)) {
+            return count;
+        }
+    }
+    limit
+}
+
+fn numbers(place: Option<PdbInternalSectionOffset>) -> Option<(usize, u32)> {
+    let place = place?;
+    Some((usize::from(place.section), place.offset))
+}
+
+/// The first address and limit at which places and runs aren't those of a scan.
+fn first_difference(map: &AddressMap<'_>, sections: &[(u32, u32)]) -> Option<(u32, u32)> {
+    for address in 0..30 {
+        for limit in 1..30 {
+            let at = PdbInternalRva(address);
+            let place = scanned_place(sections, address);
+            let (run, count) = map.section_run(at, limit);
+            if numbers(at.to_internal_offset(map)) != place
+                || numbers(run) != place
+                || count != scanned_count(sections, address, limit)
+            {
+                return Some((address, limit));
+            }
+        }
+    }
+    None
 }
 
 #[test]
@@ -271,6 +348,17 @@ fn maps_against_a_scan(rt: HostRuntime) -> Result<(), Fail> {
             assert_eq!(rt; laid.as_slice(), plain.as_slice(), "from {start} to {end}");
         }
     }
+    Ok(())
+}
+
+#[test]
+fn sections_against_a_scan(rt: HostRuntime) -> Result<(), Fail> {
+    let ascending = sections_at(rt.alloc(), &ASCENDING)?;
+    let map = AddressMap::new(None, ascending, None, None);
+    assert_eq!(rt; first_difference(&map, &ASCENDING), None);
+    let disordered = sections_at(rt.alloc(), &DISORDERED)?;
+    let map = AddressMap::new(None, disordered, None, None);
+    assert_eq!(rt; first_difference(&map, &DISORDERED), None);
     Ok(())
 }
 

@@ -78,11 +78,11 @@ fn read_address_tables(
 
 /// The modules of a list, to its end. `UnexpectedEof`.
 #[tactic(auto, using(pdb_container::proofs::Listings::gather_start, pdb_container::proofs::Listings::gather_more, pdb_container::proofs::Listings::gather_end, pdb_container::proofs::Listings::gather_fault))]
-fn collect_modules<'m>(alloc: Global, mut iterator: ModuleIter<'m>) -> Result<Vec<Module<'m>>>
-    ensures { Gives (λ v. v.items) ⊥ result (whole iterator.entry) }
+fn collect_modules<'m>(alloc: Global, mut remaining: ModuleIter<'m>) -> Result<Vec<Module<'m>>>
+    ensures { Gives (λ v. v.items) ⊥ result (whole remaining.entry) }
 {
     let mut modules = Vec::new(alloc);
-    while let Some(module) = iterator.next()? {
+    while let Some(module) = remaining.next()? {
         modules.push(module)?;
     }
     Ok(modules)
@@ -131,7 +131,7 @@ pub fn load_parts<'m>(
     let records = symbol_records.as_slice();
     let symbols = parse_symbols(alloc, records.len(), records)?;
     let contributions =
-        held_contributions(alloc, address_map.image_sections(), debug_information)?;
+        held_contributions(alloc, address_map.image_section_headers(), debug_information)?;
     if has_public(symbols.as_slice()) {
         return Err(LoadFault::NotYet);
     }

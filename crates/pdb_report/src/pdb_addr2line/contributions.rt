@@ -63,12 +63,12 @@ fn kept_spans(
 #[tactic(auto, using(pdb_container::proofs::Listings::gather_start, pdb_container::proofs::Listings::gather_more, pdb_container::proofs::Listings::gather_end, pdb_container::proofs::Listings::gather_fault))]
 fn collect_contributions(
     alloc: Global,
-    mut iterator: DBISectionContributionIter<'_>,
+    mut remaining: DBISectionContributionIter<'_>,
 ) -> PdbResult<Vec<DBISectionContribution>>
-    ensures { Gives (λ v. v.items) ⊥ result (whole iterator.entry) }
+    ensures { Gives (λ v. v.items) ⊥ result (whole remaining.entry) }
 {
     let mut entries = Vec::new(alloc);
-    while let Some(entry) = iterator.next()? {
+    while let Some(entry) = remaining.next()? {
         entries.push(entry)?;
     }
     Ok(entries)

@@ -4,7 +4,7 @@ use Rattle.pdb_report.proofs.loading.collect_modules.Given as goal
 
 -- what was gathered, before what is still to come
 abbrev pub invariant-loop-modules : goal.invariant-loop-modules
-invariant-loop-modules l = onto l.modules.items l.iterator ≡ l.fn.iterator
+invariant-loop-modules l = onto l.modules.items l.remaining ≡ l.fn.remaining
 
 abbrev pub decreases-loop-modules : goal.decreases-loop-modules
-decreases-loop-modules l = length l.iterator.items
+decreases-loop-modules l = length l.remaining.items

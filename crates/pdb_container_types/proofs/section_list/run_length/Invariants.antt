@@ -1,6 +1,6 @@
 use Rattle.std.proofs.Common.{◌≡◌, drop}
 use Rattle.pdb_container_types.specs.SectionRun.{bounds, up_to_next}
-use Rattle.pdb_container_types.proofs.section_run.run_length.Given as goal
+use Rattle.pdb_container_types.proofs.section_list.run_length.Given as goal
 
 -- the sections so far are counted in
 abbrev pub invariant-loop-section : goal.invariant-loop-section
