@@ -1,5 +1,5 @@
 -- What the calls of an open database give is what loading goes over, where stream 3 was read.
-use Rattle.std.proofs.Common.{◌≡◌, ℕ, Bool, true, false, List, [], inl, inr, Result, Ok, Err, ◌||◌, refl, ap, ◌∙◌, subst}
+use Rattle.std.proofs.Common.{◌≡◌, ℕ, Bool, true, false, List, [], inl, inr, Result, Ok, Err, ◌||◌, refl, sym, ap, ◌∙◌, subst}
 use Rattle.std.specs.Prelude.{◌⊎◌, nat_lt, Option, None, Some}
 use Rattle.std.proofs.lemmas.Bool.{cases_Bool}
 use Rattle.pdb_container.specs.declared.error.Error.{Error}
@@ -7,18 +7,20 @@ use Rattle.pdb_container.specs.Fault.{Fault, fault_of, IsOutside, HasRisen, ◌>
 use Rattle.pdb_container_types.specs.declared.sections.ImageSectionHeader.{ImageSectionHeader}
 use Rattle.pdb_container_types.specs.Addresses.{Map, map_of, IsOrdered}
 use Rattle.pdb_container_types.specs.Sections.{section_headers_of}
-use Rattle.pdb_items.specs.Items.{table_of}
+use Rattle.pdb_items.specs.Items.{Table, table_of}
 use Rattle.pdb_symbols_modules.specs.AddressTables.{said, or_none, sections_by, original_sections_by, map_with, address_map_by}
 use Rattle.pdb_symbols_modules.specs.Dbi.{Dbi, dbi_of}
+use Rattle.pdb_container.specs.Listing.{whole}
+use Rattle.pdb_symbols_modules.specs.Modules.{modules_of}
 use Rattle.pdb_symbols_modules.specs.Opened.{debug_information, types, ids, global_symbols, address_map}
 use Rattle.pdb_symbols_modules.specs.OptionalHeader.{optional_at, optional_stream}
 use Rattle.pdb_symbols_modules.specs.Streams.{Streams, stream_if_named}
 use Rattle.pdb_symbols_modules.specs.declared.optional_header.TheConstants.{OMAP_TO_SOURCE, OMAP_FROM_SOURCE, SECTION_HEADERS, ORIGINAL_SECTION_HEADERS}
 use Rattle.pdb_report.specs.Faults.{LoadingFault, NotYet, lifted, Fails, load_fault_of}
 use Rattle.pdb_report.specs.declared.fault.LoadFault.{LoadFault}
-use Rattle.pdb_report.specs.Loading.{symbol_records_in, is_named, unmapped, sections_in, address_tables}
+use Rattle.pdb_report.specs.Loading.{symbol_records_in, is_named, unmapped, sections_in, address_tables, loaded_behind}
 use Rattle.pdb_report.specs.Shared.{Bytes, number, named, symbols_number, optional_number, shared}
-use Rattle.pdb_report.proofs.Lifting.{read_fails, fails_on}
+use Rattle.pdb_report.proofs.Lifting.{read_fails, fails_on, load_fails}
 
 -- ---- the symbol records, types and ids
 
@@ -131,3 +133,10 @@ unfolding address_tables
 tables_ordered s d u m plain read found =
     ordered_in (unmapped d.optional_header) (optional_at SECTION_HEADERS d.optional_header) (λ n. sections_in n (shared s).section_headers) m
     (tables_are s d u plain read ∙ ap lifted found)
+
+-- where the list of modules can't be read
+pub module_list_fails : (s : Streams) (d : Dbi) (symbols : List ℕ) (t i : Table) (m : Map) (e : Error) → debug_information s ≡ Ok d → global_symbols s ≡ Ok symbols → types s ≡ Ok t → ids s ≡ Ok i
+    → address_tables d.optional_header (shared s).section_headers ≡ Ok m → (IsOutside e ⊥ ⊎ (whole (modules_of d.modules) ≡ Err (fault_of e))) → Fails (load_fault_of e) (loaded_behind (shared s) d)
+unfolding loaded_behind
+module_list_fails s d symbols t i m e read has_symbols has_types has_ids has_map h =
+    rw (sym (symbols_read s d read) ∙ has_symbols, sym (types_read s) ∙ has_types, sym (ids_read s) ∙ has_ids, has_map) (load_fails e (whole (modules_of d.modules)) _ h)

@@ -88,6 +88,16 @@ fn collect_modules<'m>(alloc: Global, mut remaining: ModuleIter<'m>) -> Result<V
     Ok(modules)
 }
 
+/// The modules of stream 3. `UnexpectedEof`.
+fn read_modules<'m>(
+    alloc: Global,
+    debug_information: &'m DebugInformation<'_>,
+) -> Result<Vec<Module<'m>>>
+    ensures { Gives (λ v. v.items) ⊥ result (whole (modules_of debug_information.now.modules)) }
+{
+    collect_modules(alloc, debug_information.modules())
+}
+
 /// Whether some symbol is a public one.
 fn has_public(symbols: &[Symbol<'_>]) -> bool
     ensures { result ≡ list_any is_public symbols.now }
@@ -127,7 +137,7 @@ pub fn load_parts<'m>(
     pdb.type_information(alloc)?;
     pdb.id_information(alloc)?;
     let address_map = read_address_tables(pdb, alloc, debug_information)?;
-    let modules = collect_modules(alloc, debug_information.modules())?;
+    let modules = read_modules(alloc, debug_information)?;
     let records = symbol_records.as_slice();
     let symbols = parse_symbols(alloc, records.len(), records)?;
     let contributions =

@@ -10,16 +10,19 @@ use Rattle.pdb_container.specs.Container.{first_words, behind_header, header_in,
 use Rattle.pdb_container.specs.Places.{bytes_at, page_places}
 use Rattle.pdb_container.specs.Fields.{c_string_at, entries_within}
 use Rattle.pdb_container.specs.Fault.{IoError, UnrecognizedFileFormat}
-use Rattle.pdb_report.specs.Streams.{streams}
-use Rattle.pdb_report.specs.Dbi.{header_of, substreams_of, dbi_of}
-use Rattle.pdb_report.specs.Modules.{module_at}
-use Rattle.pdb_report.specs.Sections.{optional_at, section_header_at}
-use Rattle.pdb_report.specs.Items.{full_item_header_of, item_header_of}
+use Rattle.pdb_container.specs.Listing.{listing_within}
+use Rattle.pdb_container_types.specs.Sections.{section_header_at}
+use Rattle.pdb_items.specs.Items.{header_at, fitting_header, item_header_of, table_of}
+use Rattle.pdb_symbols_modules.specs.Contributions.{contribution_at, contributions_of}
+use Rattle.pdb_symbols_modules.specs.Dbi.{header_of, dbi_of}
+use Rattle.pdb_symbols_modules.specs.Modules.{module_at}
+use Rattle.pdb_symbols_modules.specs.OptionalHeader.{optional_at}
+use Rattle.pdb_symbols_modules.specs.Streams.{streams}
 use Rattle.pdb_report.specs.Symbols.{symbol_at, symbols_of, procedure_at, procedure_of}
-use Rattle.pdb_report.specs.Contributions.{contribution_at, contributions_of, held_of}
+use Rattle.pdb_report.specs.Contributions.{held_of}
 use Rattle.pdb_report.specs.Procedures.{signed_symbols_of, symbols_in}
 use Rattle.pdb_report.specs.Shared.{named, symbols_number, optional_number, shared, module_of, module_number, module_stream, info_from, provider}
-use Rattle.pdb_report.specs.Loading.{symbol_records_in, sections_in, address_tables, loaded_behind, loaded, module_info, answerable, load_fault}
+use Rattle.pdb_report.specs.Loading.{symbol_records_in, unmapped, sections_in, address_tables, loaded_behind, loaded, module_info, answerable, load_fault}
 use Rattle.pdb_report.specs.Answers.{scope, answer_in, answer_of, answer, answer_text, line_text}
 use Rattle.pdb_report.specs.Faults.{Pdb, PdbError}
 use Rattle.pdb_report.specs.Lines.{report}
@@ -35,9 +38,9 @@ unfolding samples.cut_dbi count_ones first_words behind_header header_in front_i
 cut_dbi = refl
 
 pub no_lines_loads : load_fault (streams file_f0) ≡ None
-unfolding file_f0 count_ones first_words behind_header header_in front_in layout_of directory_of place_in stream_in stream bytes_at page_places c_string_at entries_within streams header_of substreams_of dbi_of module_at optional_at section_header_at full_item_header_of item_header_of symbol_at symbols_of procedure_at procedure_of contribution_at contributions_of held_of signed_symbols_of symbols_in named symbols_number optional_number shared symbol_records_in sections_in address_tables loaded_behind loaded module_info answerable
+unfolding file_f0 count_ones first_words behind_header header_in front_in layout_of directory_of place_in stream_in stream bytes_at page_places c_string_at entries_within listing_within streams header_of dbi_of module_at optional_at section_header_at header_at fitting_header item_header_of table_of symbol_at symbols_of procedure_at procedure_of contribution_at contributions_of held_of signed_symbols_of symbols_in named symbols_number optional_number shared symbol_records_in unmapped sections_in address_tables loaded_behind loaded module_info answerable
 no_lines_loads = refl
 
 pub no_lines_answers : report (line_text (streams file_f0)) (codes "1014\n") ≡ codes "0x00001014\n  f at ??:??\n"
-unfolding file_f0 count_ones first_words behind_header header_in front_in layout_of directory_of place_in stream_in stream bytes_at page_places c_string_at entries_within streams header_of substreams_of dbi_of module_at optional_at section_header_at full_item_header_of item_header_of symbol_at symbols_of procedure_at procedure_of contribution_at contributions_of held_of signed_symbols_of symbols_in named symbols_number optional_number shared symbol_records_in sections_in address_tables loaded_behind loaded module_info answerable module_of module_number module_stream info_from provider scope answer_in answer_of answer answer_text line_text digits padded_integral char_count chars is_utf8 encode_utf8 utf8_valid_len utf8_lossy
+unfolding file_f0 count_ones first_words behind_header header_in front_in layout_of directory_of place_in stream_in stream bytes_at page_places c_string_at entries_within listing_within streams header_of dbi_of module_at optional_at section_header_at header_at fitting_header item_header_of table_of symbol_at symbols_of procedure_at procedure_of contribution_at contributions_of held_of signed_symbols_of symbols_in named symbols_number optional_number shared symbol_records_in unmapped sections_in address_tables loaded_behind loaded module_info answerable module_of module_number module_stream info_from provider scope answer_in answer_of answer answer_text line_text digits padded_integral char_count chars is_utf8 encode_utf8 utf8_valid_len utf8_lossy
 no_lines_answers = refl

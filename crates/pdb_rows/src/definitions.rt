@@ -7,7 +7,7 @@ ghost use Rattle.pdb_report.specs.Answers.{line_text};
 ghost use Rattle.pdb_report.specs.Faults.{Pdb, PdbError};
 ghost use Rattle.pdb_report.specs.Lines.{report};
 ghost use Rattle.pdb_report.specs.Loading.{load_fault};
-ghost use Rattle.pdb_report.specs.Streams.{streams};
+ghost use Rattle.pdb_symbols_modules.specs.Streams.{streams};
 ghost use Rattle.pdb_rows.specs.Samples as samples;
 
 /// The file without line data can be loaded, and an address in `f` has that function, but neither file nor line.

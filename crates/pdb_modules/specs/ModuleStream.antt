@@ -1,0 +1,81 @@
+-- A module's own stream: its symbols, and its line data with their subsections.
+use Rattle.std.specs.Prelude.{ℕ, ◌+◌, List, [], ◌∷◌, length, take, drop, nat_lt, ◌==◌, not, Option, None, Some, Result, Ok, Err, codes}
+use Rattle.std.specs.Int.{w32}
+use Rattle.pdb_container.specs.Fault.{Fault, UnexpectedEof, UnimplementedFeature, ◌>>=◌, refuse}
+use Rattle.pdb_container.specs.Fields.{number_at}
+use Rattle.pdb_container.specs.Listing.{Listing, ending}
+use Rattle.pdb_cross_modules.specs.declared.exports.Export.{Export}
+use Rattle.pdb_cross_modules.specs.Exports.{exports_of}
+use Rattle.pdb_cross_modules.specs.Imports.{Import, imports_of}
+use Rattle.pdb_inlinees.specs.Inlinees.{InlinedFunction, inlinees_of}
+use Rattle.pdb_lines.specs.Runs.{Program, program_of}
+use Rattle.pdb_subsections.specs.Subsections.{subsections_of, first_of}
+use Rattle.pdb_subsections.specs.declared.subsection.TheConstants.{INLINEES, IMPORTS, EXPORTS}
+use Rattle.pdb_symbols.specs.Iteration.{Iteration, iteration_at}
+
+-- the stream's bytes, and the sizes of its parts: symbols, line data in an older form, line data
+pub record ModuleStream : Type 0 where
+  pub bytes : List ℕ
+  pub symbols_size : ℕ
+  pub c11_lines_size : ℕ
+  pub c13_lines_size : ℕ
+
+-- ---- symbols
+
+-- bytes that begin with the signature of symbols; no bytes need none
+unfoldable pub signed : List ℕ → Result (List ℕ) Fault
+signed [] = Ok []
+signed (b ∷ bytes) = do
+  signature ← number_at w32 (b ∷ bytes)
+  known ← refuse (not (signature.0 == 4)) (UnimplementedFeature (codes "symbol signature"))
+  Ok (b ∷ bytes)
+
+-- the list of symbols: the first bytes of the stream, with the signature
+unfoldable pub symbols_in : ModuleStream → Result (List ℕ) Fault
+symbols_in m = do
+  whole ← refuse (nat_lt (length m.bytes) m.symbols_size) UnexpectedEof
+  signed (take m.symbols_size m.bytes)
+
+-- the symbols from a place on
+abbrev pub iteration_in : ModuleStream → ℕ → Result Iteration Fault
+iteration_in m place = symbols_in m >>= λ bytes. Ok (iteration_at bytes place)
+
+-- ---- line data
+
+-- the line data behind the symbols; none behind line data in the older form
+unfoldable pub line_data_in : ModuleStream → Result (List ℕ) Fault
+line_data_in m = do
+  plain ← refuse (nat_lt 0 m.c11_lines_size) (UnimplementedFeature (codes "C11 line programs"))
+  whole ← refuse (nat_lt (length m.bytes) (m.symbols_size + m.c13_lines_size)) UnexpectedEof
+  Ok (take m.c13_lines_size (drop m.symbols_size m.bytes))
+
+unfoldable pub line_program_in : ModuleStream → Result Program Fault
+line_program_in m = do
+  bytes ← line_data_in m
+  program_of bytes
+
+-- the first subsection of a kind
+unfoldable pub subsection_in : ModuleStream → ℕ → Result (Option (List ℕ)) Fault
+subsection_in m kind = do
+  bytes ← line_data_in m
+  first_of kind (subsections_of bytes)
+
+-- what the first subsection of a kind says, or what is said where there is none
+abbrev pub said_or : {A : Type 0} → A → (List ℕ → Result A Fault) → Option (List ℕ) → Result A Fault
+said_or other read None = Ok other
+said_or other read (Some bytes) = read bytes
+
+unfoldable pub inlinees_in : ModuleStream → Result (Listing InlinedFunction) Fault
+inlinees_in m = do
+  found ← subsection_in m INLINEES
+  said_or (ending None) inlinees_of found
+
+unfoldable pub imports_in : ModuleStream → Result (List Import) Fault
+imports_in m = do
+  found ← subsection_in m IMPORTS
+  said_or [] imports_of found
+
+unfoldable pub exports_in : ModuleStream → Result (List Export) Fault
+exports_in m = do
+  found ← subsection_in m EXPORTS
+  said_or [] exports_of found

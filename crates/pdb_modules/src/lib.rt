@@ -1,0 +1,20 @@
+//! A module's own stream: its symbols, its lines and inlined calls, and the tables by which it names what other modules hold.
+#![tactic(auto)]
+
+mod module_info;
+
+pub use module_info::ModuleInfo;
+pub use pdb_annotations::{
+    BinaryAnnotation, BinaryAnnotations, BinaryAnnotationsIter, InlineSiteSymbol,
+};
+pub use pdb_cross_modules::{
+    CrossModuleExport, CrossModuleExportIter, CrossModuleExports, CrossModuleImports,
+    CrossModuleRef, ModuleRef,
+};
+pub use pdb_inlinees::{Inlinee, InlineeIterator, InlineeLineIterator};
+pub use pdb_lines::{FileChecksum, FileInfo, FileIterator, LineIterator, LineProgram};
+pub use pdb_subsections::{LineInfo, LineInfoKind};
+pub use pdb_symbols::{
+    ProcedureSymbol, PublicSymbol, SeparatedCodeSymbol, Symbol, SymbolData, SymbolIter,
+    SymbolTable, ThunkSymbol,
+};
