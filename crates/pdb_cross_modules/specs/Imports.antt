@@ -1,4 +1,4 @@
--- What a module takes from other modules: by which indices each of these knows it.
+-- What a module takes from other modules: of which modules, and by which indices these know it.
 use Rattle.std.specs.Prelude.{ℕ, ◌/◌, ◌%◌, ◌^◌, List, map, slice_get, Option, option_map, option_and_then, Result, Ok, ok_or}
 use Rattle.std.specs.Int.{w32, from_le_bytes}
 use Rattle.pdb_container.specs.Fault.{Fault, NotACrossModuleRef, CrossModuleRefNotFound, ◌>>=◌, guard}
@@ -38,26 +38,30 @@ pub record Imported : Type 0 where
   pub name : ℕ
   pub local : ℕ
 
+-- what an entry of a module stands for
 abbrev pub imported_from : Import → ℕ → Option Imported
 imported_from m entry = option_map (λ local. record { name = m.name; local = local }) (slice_get m.locals entry)
 
+-- what the bits of an index lead to, if there is such a module and such an entry
 abbrev pub found_import : List Import → ℕ → Option Imported
 found_import imports index = option_and_then (λ m. imported_from m (entry_of index)) (slice_get imports (module_of index))
 
--- what an index with bit 31 stands for
+-- what an index stands for, which leads elsewhere by bit 31
 abbrev pub imported : List Import → ℕ → Result Imported Fault
 imported imports index = do
   elsewhere ← guard (is_cross_module index) (NotACrossModuleRef index)
   ok_or (found_import imports index) (CrossModuleRefNotFound index)
 
--- ---- as the code keeps them
+-- ---- imports as they are kept, and answers
 
 -- numbers of four bytes each, the lowest byte first
 abbrev pub numbers_in : List (List ℕ) → List ℕ
 numbers_in chunks = map (from_le_bytes w32) chunks
 
+-- a module as it is kept
 abbrev pub import_in : ImportedModule → Import
 import_in m = record { name = m.name.0.0; locals = numbers_in m.locals.now }
 
+-- an answer, whose index counts as this number
 abbrev pub reference : {I : Type 0} → (I → ℕ) → CrossModuleRef I → Imported
 reference number r = record { name = r.0.0.0; local = number r.1.0 }

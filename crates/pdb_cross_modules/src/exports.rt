@@ -8,19 +8,19 @@ use pdb_container::{Error, Result};
 use pdb_items::{IdIndex, ItemIndex, Local, TypeIndex};
 use std::marker::Model;
 
-/// An index as other modules name it, and the index that it stands for.
+/// An index as the module names it, and the index in the file's table of types or of ids.
 #[derive(Clone, Copy, Debug, PartialEq, Eq)]
 struct Export {
     local: u32,
     global: u32,
 }
 
-/// What a module gives to other modules: an index as they name it, and the index that it stands for.
+/// What a module gives to other modules: its index as the module names it, and its index in the file's table.
 #[derive(Clone, Copy, Debug, PartialEq, Eq)]
 pub enum CrossModuleExport {
     /// A type.
     OfType(Local<TypeIndex>, TypeIndex),
-    /// An id: bit 31 of the index as other modules name it is set.
+    /// An id: bit 31 of the index as the module names it is set.
     Id(Local<IdIndex>, IdIndex),
 }
 
@@ -52,7 +52,7 @@ impl<'a> Default for CrossModuleExports<'a> {
 }
 
 impl<'a> CrossModuleExports<'a> {
-    /// The exports that these bytes spell: for each the index as other modules name it and the index that it stands for, four
+    /// The exports that these bytes spell: for each the index as the module names it and the index in the file's table, four
     /// bytes each. `UnexpectedEof` where bytes are missing.
     #[tactic(auto, using(crate::proofs::Chunks::exports_whole, crate::proofs::Chunks::exports_cut))]
     pub fn parse(bytes: &'a [u8]) -> Result<CrossModuleExports<'a>>
@@ -86,7 +86,7 @@ impl<'a> CrossModuleExports<'a> {
         CrossModuleExportIter { left: self.pairs }
     }
 
-    /// The index that an index of another module's imports stands for, by the first export of that; `None` exactly where no
+    /// The index in the file's table for an index as the module names it, by the first export of that; `None` exactly where no
     /// export has it. It is never an error.
     pub fn resolve_import<I: ItemIndex>(&self, import: Local<I>) -> Result<Option<I>>
         ensures { result ≡ Ok (option_map I.index (first_export self.now (I.number import.0))) }
@@ -143,7 +143,7 @@ fn read_pair(pair: &[u8; 8]) -> Export
     }
 }
 
-/// Of a type or of an id.
+/// An export as one of a type or of an id.
 fn form_of(export: Export) -> CrossModuleExport
     ensures { result ≡ export_form export }
 {
@@ -155,7 +155,7 @@ fn form_of(export: Export) -> CrossModuleExport
     }
 }
 
-/// What the first of these exports of an index stands for.
+/// The index in the file's table by the first of these exports of an index.
 #[tactic(auto, using(crate::proofs::ExportSteps::first_more, crate::proofs::ExportSteps::first_found, crate::proofs::ExportSteps::first_missing))]
 fn first_global(pairs: &[[u8; 8]], local: u32) -> Option<u32>
     ensures { result ≡ first_export (exports_in pairs.now) local }

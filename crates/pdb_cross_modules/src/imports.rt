@@ -17,18 +17,18 @@ use std::marker::Model;
 #[derive(Clone, Copy, Debug, PartialEq, Eq, PartialOrd, Ord, Hash)]
 pub struct ModuleRef(pub StringRef);
 
-/// What stands for an index in another module: that module, and the index as it knows it.
+/// What an index stands for in another module: that module, and the index as it names it.
 #[derive(Clone, Copy, Debug, PartialEq, Eq, PartialOrd, Ord, Hash)]
 pub struct CrossModuleRef<I>(pub ModuleRef, pub Local<I>);
 
-/// A module that is named, and the indices there, four bytes each.
+/// A module that is named, and the indices as it names them, four bytes each.
 #[derive(Clone, Copy, Debug)]
 struct ImportedModule<'a> {
     name: ModuleRef,
     locals: &'a [[u8; 4]],
 }
 
-/// What a module takes from other modules: the modules, and of each the indices by which it knows what is taken.
+/// What a module takes from other modules: the modules, and for each the indices as it names them.
 #[derive(Debug, Drop)]
 pub struct CrossModuleImports<'a> {
     modules: Vec<ImportedModule<'a>>,
@@ -64,7 +64,7 @@ impl<'a> CrossModuleImports<'a> {
         Ok(CrossModuleImports { modules })
     }
 
-    /// What stands for an index of this module in another module. Bits 20 to 30 of the index pick the other module, and bits
+    /// What an index of this module stands for in another module. Bits 20 to 30 of the index pick the other module, and bits
     /// 0 to 19 the entry, both counted from 0.
     ///
     /// # Errors
