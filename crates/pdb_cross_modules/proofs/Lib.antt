@@ -1,0 +1,4 @@
+pub mod Chunks
+pub mod ExportSteps
+pub mod FirstExports
+pub mod ImportSteps
