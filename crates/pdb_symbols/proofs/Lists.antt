@@ -6,10 +6,7 @@ use Rattle.std.proofs.lemmas.Bool.{cases_lt, le-leb, lt-leb}
 use Rattle.pdb_container.specs.Fault.{Fault, SymbolTooShort, ◌>>=◌, refuse}
 use Rattle.pdb_container.specs.Fields.{number_at, bytes_of}
 use Rattle.pdb_symbols.specs.Kinds.{is_padding}
-use Rattle.pdb_container.specs.Fault.{fault_of, Parses}
-use Rattle.pdb_container.specs.declared.error.Error.{Error}
-use Rattle.pdb_container.specs.Listing.{before, ending, Advances}
-use Rattle.pdb_symbols.specs.Iteration.{Iteration, iteration_at, found_next, symbol_of, behind_answer, symbols_left}
+use Rattle.pdb_container.specs.Listing.{before, ending}
 use Rattle.pdb_symbols.specs.Symbols.{Symbol, kind_of, symbol_at, found_or, next_within, next, next_by_step, followed, symbols_within, symbols_from, IsFound}
 
 -- ---- what stands at a place
@@ -215,46 +212,11 @@ pub symbols_steps : (bytes : List ℕ) (place : ℕ) → symbols_from bytes plac
 unfolding symbols_from
 symbols_steps bytes place = from_step (length bytes) (length bytes) bytes place (omega arith) (omega arith)
 
--- what an iterator gives of them
-goes_on : (bytes : List ℕ) (place : ℕ) (result : Result (Option Symbol) Error) (found : Result (Option (Symbol × ℕ)) Fault) → next bytes place ≡ found → Parses (λ s. s) result (symbol_of found)
-    → Advances (λ s. s) (symbols_from bytes place) result (symbols_left (behind_answer (iteration_at bytes place) found))
-goes_on bytes place (Ok (Some s)) (Ok (Some found)) e same =
-    let one : s ≡ found.0 = cc in
-    symbols_steps bytes place ∙ ap (followed (symbols_from bytes)) e ∙ ap (λ (x : Symbol). before x (symbols_from bytes found.1)) (sym one)
-goes_on bytes place (Ok (Some s)) (Ok None) e same = absurd (cc)
-goes_on bytes place (Ok (Some s)) (Err f) e same = absurd (cc)
-goes_on bytes place (Ok None) (Ok (Some found)) e same = absurd (cc)
-goes_on bytes place (Ok None) (Ok None) e same =
-    let none = symbols_steps bytes place ∙ ap (followed (symbols_from bytes)) e in
-    (none, none)
-goes_on bytes place (Ok None) (Err f) e same = absurd (cc)
-goes_on bytes place (Err fault) (Ok (Some found)) e same = let wrong = same.1 in absurd (cc)
-goes_on bytes place (Err fault) (Ok None) e same = let wrong = same.1 in absurd (cc)
-goes_on bytes place (Err fault) (Err f) e same =
-    let one : f ≡ fault_of fault = let is = same.1 in cc in
-    (same.0, symbols_steps bytes place ∙ ap (followed (symbols_from bytes)) e ∙ ap (λ (x : Fault). ending (Some x)) one, refl)
+pub symbols_more : (bytes : List ℕ) (place : ℕ) (s : Symbol) (behind : ℕ) → next bytes place ≡ Ok (Some (s, behind)) → symbols_from bytes place ≡ before s (symbols_from bytes behind)
+symbols_more bytes place s behind e = symbols_steps bytes place ∙ ap (followed (symbols_from bytes)) e
 
-stays : (result : Result (Option Symbol) Error) → Parses (λ (s : Option Symbol). s) result (Ok None) → Advances (λ s. s) (ending None) result (ending None)
-stays (Ok (Some s)) same = absurd (cc)
-stays (Ok None) same = (refl, refl)
-stays (Err fault) same = let wrong = same.1 in absurd (cc)
+pub symbols_end : (bytes : List ℕ) (place : ℕ) → next bytes place ≡ Ok None → symbols_from bytes place ≡ ending None
+symbols_end bytes place e = symbols_steps bytes place ∙ ap (followed (symbols_from bytes)) e
 
-abbrev GoesAlong : Result (Option Symbol) Error → Iteration → Type 0
-GoesAlong result it = Parses (λ s. s) result (symbol_of (found_next it)) → Advances (λ s. s) (symbols_left it) result (symbols_left (behind_answer it (found_next it)))
-
-goes_along : (bytes : List ℕ) (place : ℕ) (failed : Bool) (result : Result (Option Symbol) Error) (it : Iteration) → it ≡ record { bytes = bytes; place = place; has_failed = failed }
-    → GoesAlong result it
-goes_along bytes place true result it is = subst (λ (x : Iteration). GoesAlong result x) (sym is) (stays result)
-goes_along bytes place false result it is = subst (λ (x : Iteration). GoesAlong result x) (sym is) (goes_on bytes place result (next bytes place) refl)
-
-pub advances : (it : Iteration) (result : Result (Option Symbol) Error) → Parses (λ s. s) result (symbol_of (found_next it))
-    → Advances (λ s. s) (symbols_left it) result (symbols_left (behind_answer it (found_next it)))
-advances it result = goes_along it.bytes it.place it.has_failed result it refl
-
--- what an iterator that hasn't failed answers, and leaves
-pub step_along : (it : Iteration) (found : Result (Option (Symbol × ℕ)) Fault) (result : Result (Option Symbol) Error) → it.has_failed ≡ false → next it.bytes it.place ≡ found → Parses (λ s. s) result (symbol_of found)
-    → (Parses (λ s. s) result (symbol_of (found_next it))) × (behind_answer it found ≡ behind_answer it (found_next it)) × Advances (λ s. s) (symbols_left it) result (symbols_left (behind_answer it found))
-step_along it found result works e same =
-    let now : found ≡ found_next it = rw (works, e) refl in
-    let parses : Parses (λ (s : Option Symbol). s) result (symbol_of (found_next it)) = subst (λ (r : Result (Option (Symbol × ℕ)) Fault). Parses (λ (s : Option Symbol). s) result (symbol_of r)) now same in
-    (parses, ap (behind_answer it) now, rw now (advances it result parses))
+pub symbols_fault : (bytes : List ℕ) (place : ℕ) (fault : Fault) → next bytes place ≡ Err fault → symbols_from bytes place ≡ ending (Some fault)
+symbols_fault bytes place fault e = symbols_steps bytes place ∙ ap (followed (symbols_from bytes)) e

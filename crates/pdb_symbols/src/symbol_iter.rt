@@ -81,6 +81,7 @@ impl<'t> FallibleIterator for SymbolIter<'t> {
     ///
     /// # Errors
     /// `SymbolTooShort` and `UnexpectedEof`.
+    #[tactic(auto, using(crate::proofs::Lists::symbols_more, crate::proofs::Lists::symbols_end, crate::proofs::Lists::symbols_fault))]
     fn next(&mut self) -> Result<Option<Symbol<'t>>> {
         if self.has_failed {
             return Ok(None);
