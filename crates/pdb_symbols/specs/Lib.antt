@@ -1,0 +1,5 @@
+pub mod Forms
+pub mod Iteration
+pub mod Kinds
+pub mod Records
+pub mod Symbols

@@ -1,0 +1,124 @@
+//! Kinds of symbols: the numbers that say what a symbol is. `_ST` marks an older form, whose name is a Pascal string.
+
+ghost use Rattle.std.specs.Prelude.{◌≡◌};
+ghost use Rattle.pdb_symbols.specs.Kinds.{is_padding as is_padding_kind, is_public as is_public_kind, is_global as is_global_kind, is_dpc as is_dpc_kind, is_procedure as is_procedure_kind, is_thunk as is_thunk_kind, is_separated_code as is_separated_code_kind, is_inline_site as is_inline_site_kind};
+
+/// The end of a scope.
+pub const S_END: u16 = 0x0006;
+
+/// Bytes that lie between symbols.
+pub const S_SKIP: u16 = 0x0007;
+
+/// A thunk.
+pub const S_THUNK32_ST: u16 = 0x0206;
+
+/// Bytes that lie between symbols.
+pub const S_ALIGN: u16 = 0x0402;
+
+/// A public symbol.
+pub const S_PUB32_ST: u16 = 0x1009;
+
+/// A procedure of one module.
+pub const S_LPROC32_ST: u16 = 0x100a;
+
+/// A procedure that other modules see.
+pub const S_GPROC32_ST: u16 = 0x100b;
+
+/// A thunk.
+pub const S_THUNK32: u16 = 0x1102;
+
+/// A public symbol.
+pub const S_PUB32: u16 = 0x110e;
+
+/// A procedure of one module.
+pub const S_LPROC32: u16 = 0x110f;
+
+/// A procedure that other modules see.
+pub const S_GPROC32: u16 = 0x1110;
+
+/// Code of a procedure that lies apart from it.
+pub const S_SEPCODE: u16 = 0x1132;
+
+/// A procedure of one module, whose type is an id.
+pub const S_LPROC32_ID: u16 = 0x1146;
+
+/// A procedure that other modules see, whose type is an id.
+pub const S_GPROC32_ID: u16 = 0x1147;
+
+/// An inlined call.
+pub const S_INLINESITE: u16 = 0x114d;
+
+/// The end of an inlined call.
+pub const S_INLINESITE_END: u16 = 0x114e;
+
+/// The end of a procedure.
+pub const S_PROC_ID_END: u16 = 0x114f;
+
+/// A procedure of one module that is called deferred.
+pub const S_LPROC32_DPC: u16 = 0x1155;
+
+/// A procedure of one module that is called deferred, whose type is an id.
+pub const S_LPROC32_DPC_ID: u16 = 0x1156;
+
+/// An inlined call, with how often it is called.
+pub const S_INLINESITE2: u16 = 0x115d;
+
+/// Whether the kind is that of bytes between symbols.
+pub fn is_padding(kind: u16) -> bool
+    ensures { result ≡ is_padding_kind kind }
+{
+    kind == S_ALIGN || kind == S_SKIP
+}
+
+/// Whether the kind is a public symbol's.
+pub fn is_public(kind: u16) -> bool
+    ensures { result ≡ is_public_kind kind }
+{
+    kind == S_PUB32 || kind == S_PUB32_ST
+}
+
+/// Whether the kind is that of a procedure that other modules see.
+pub fn is_global(kind: u16) -> bool
+    ensures { result ≡ is_global_kind kind }
+{
+    kind == S_GPROC32 || kind == S_GPROC32_ST || kind == S_GPROC32_ID
+}
+
+/// Whether the kind is that of a procedure that is called deferred.
+pub fn is_dpc(kind: u16) -> bool
+    ensures { result ≡ is_dpc_kind kind }
+{
+    kind == S_LPROC32_DPC || kind == S_LPROC32_DPC_ID
+}
+
+/// Whether the kind is a procedure's.
+pub fn is_procedure(kind: u16) -> bool
+    ensures { result ≡ is_procedure_kind kind }
+{
+    is_global(kind)
+        || is_dpc(kind)
+        || kind == S_LPROC32
+        || kind == S_LPROC32_ST
+        || kind == S_LPROC32_ID
+}
+
+/// Whether the kind is a thunk's.
+pub fn is_thunk(kind: u16) -> bool
+    ensures { result ≡ is_thunk_kind kind }
+{
+    kind == S_THUNK32 || kind == S_THUNK32_ST
+}
+
+/// Whether the kind is that of a procedure's code that lies apart.
+pub fn is_separated_code(kind: u16) -> bool
+    ensures { result ≡ is_separated_code_kind kind }
+{
+    kind == S_SEPCODE
+}
+
+/// Whether the kind is an inlined call's.
+pub fn is_inline_site(kind: u16) -> bool
+    ensures { result ≡ is_inline_site_kind kind }
+{
+    kind == S_INLINESITE || kind == S_INLINESITE2
+}

@@ -1,0 +1,94 @@
+//! One symbol of a list.
+
+ghost use Rattle.std.specs.Prelude.{◌≡◌, ◌<◌, ◌^◌, length};
+ghost use Rattle.pdb_container.specs.Fault.{Parses};
+ghost use Rattle.pdb_symbols.specs.Kinds.{starts_scope, ends_scope};
+ghost use Rattle.pdb_symbols.specs.Symbols.{kind_of, payload_of, symbol_at};
+
+use crate::kinds::{
+    S_END, S_INLINESITE_END, S_PROC_ID_END, is_inline_site, is_procedure, is_separated_code,
+    is_thunk,
+};
+use pdb_container_types::{Error, ParseBuffer, Result, SymbolIndex};
+use std::marker::Model;
+
+/// A symbol: the place of its length in the bytes of its list, and the bytes behind the length, which begin with its kind.
+#[derive(Debug, Drop)]
+pub struct Symbol<'t> {
+    index: SymbolIndex,
+    bytes: &'t [u8],
+}
+
+impl<'t> Model for Symbol<'t> {
+    ghost use Rattle.std.specs.Prelude.{◌≤◌, length};
+    ghost use Rattle.pdb_symbols.specs.Symbols as symbols;
+
+    ghost Value = { symbols.Symbol };
+
+    ghost view = { λ s. record { index = s.index.0; bytes = s.bytes.now } };
+
+    ghost invariant = { λ s. 2 ≤ length s.bytes.now };
+}
+
+impl<'t> Symbol<'t> {
+    /// The place of its length in the bytes of its list.
+    pub fn index(&self) -> SymbolIndex
+        ensures { result.0 ≡ self.now.index }
+    {
+        self.index
+    }
+
+    /// The number of its kind.
+    pub fn raw_kind(&self) -> u16
+        ensures { result ≡ kind_of self.now }
+    {
+        u16::from_le_bytes([self.bytes[0], self.bytes[1]])
+    }
+
+    /// Its bytes behind the length: the kind, and what follows it.
+    pub fn raw_bytes(&self) -> &'t [u8]
+        ensures { result.now ≡ self.now.bytes }
+    {
+        self.bytes
+    }
+
+    /// Whether it is a procedure, a thunk, separated code or an inlined call, by its kind: then other symbols may lie in it.
+    pub fn starts_scope(&self) -> bool
+        ensures { result ≡ starts_scope (kind_of self.now) }
+    {
+        let kind = self.raw_kind();
+        is_procedure(kind) || is_thunk(kind) || is_separated_code(kind) || is_inline_site(kind)
+    }
+
+    /// Whether it ends such a symbol, by its kind.
+    pub fn ends_scope(&self) -> bool
+        ensures { result ≡ ends_scope (kind_of self.now) }
+    {
+        let kind = self.raw_kind();
+        kind == S_END || kind == S_INLINESITE_END || kind == S_PROC_ID_END
+    }
+
+    /// The bytes behind its kind.
+    pub(crate) fn payload(&self) -> &'t [u8]
+        ensures { result.now ≡ payload_of self.now }
+    {
+        &self.bytes[2..]
+    }
+}
+
+/// What stands at a place of a list's bytes, and the place behind it. `SymbolTooShort`, `UnexpectedEof`.
+#[tactic(auto, unfolding(crate::specs::Symbols::symbol_at))]
+pub(crate) fn parse_symbol(bytes: &[u8], place: usize) -> Result<(Symbol<'_>, usize)>
+    requires { length bytes.now < 2 ^ 32 }
+    ensures { Parses (λ found. found) result (symbol_at bytes.now place) }
+{
+    let mut buffer = ParseBuffer::from(bytes);
+    buffer.seek(place);
+    let size = buffer.parse_u16()?;
+    if size < 2 {
+        return Err(Error::SymbolTooShort);
+    }
+    let body = buffer.take(usize::from(size))?;
+    let index = SymbolIndex(place as u32);
+    Ok((Symbol { index, bytes: body }, place + 2 + usize::from(size)))
+}

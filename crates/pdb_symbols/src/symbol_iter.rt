@@ -1,0 +1,118 @@
+//! Symbols in their order.
+
+ghost use Rattle.std.specs.Prelude.{◌≡◌, ◌<◌, ◌^◌, length, true};
+ghost use Rattle.pdb_container.specs.Fault.{Parses};
+ghost use Rattle.pdb_container.specs.Listing.{Advances};
+ghost use Rattle.pdb_symbols.specs.Iteration.{iteration_at, found_next, symbol_of, behind_answer, symbols_left};
+ghost use Rattle.pdb_symbols.specs.Symbols.{next};
+
+use crate::kinds::is_padding;
+use crate::symbol::{Symbol, parse_symbol};
+use pdb_container_types::{Error, FallibleIterator, Result, SymbolIndex};
+use std::marker::Model;
+
+/// The symbols of a list in their order. After an error it answers `None` until it is sent to a place again.
+#[derive(Debug, Drop)]
+pub struct SymbolIter<'t> {
+    bytes: &'t [u8],
+    place: usize,
+    has_failed: bool,
+}
+
+impl<'t> Model for SymbolIter<'t> {
+    ghost use Rattle.std.specs.Prelude.{◌<◌, ◌^◌, length};
+    ghost use Rattle.pdb_symbols.specs.Iteration.{Iteration};
+
+    ghost Value = { Iteration };
+
+    ghost view = { λ it. record { bytes = it.bytes.now; place = it.place; has_failed = it.has_failed } };
+
+    ghost invariant = { λ it. length it.bytes.now < 2 ^ 32 };
+}
+
+impl<'t> SymbolIter<'t> {
+    /// The symbols that these bytes hold from a place on. The bytes are fewer than 2^32.
+    pub fn over(bytes: &'t [u8], place: SymbolIndex) -> SymbolIter<'t>
+        requires { length bytes.now < 2 ^ 32 }
+        ensures { result ≡ iteration_at bytes.now place.0 }
+    {
+        SymbolIter {
+            bytes,
+            place: place.0 as usize,
+            has_failed: false,
+        }
+    }
+
+    /// Goes to a place. The next symbol is the first one there or later; at the end, and past it, there is none.
+    pub fn seek(&mut self, index: SymbolIndex)
+        ensures { self.new ≡ iteration_at self.old.bytes index.0 }
+    {
+        self.place = index.0 as usize;
+        self.has_failed = false;
+    }
+
+    /// The first symbol at a place or later, as the next symbol once the iterator was sent there: it goes on behind that
+    /// symbol. Where there is none it stays at the place, and answers `None` again. After an error it answers `None`, until it
+    /// is sent to a place again.
+    ///
+    /// # Errors
+    /// `SymbolTooShort` and `UnexpectedEof`.
+    pub fn skip_to(&mut self, index: SymbolIndex) -> Result<Option<Symbol<'t>>>
+        ensures symbol { Parses (λ s. s) result (symbol_of (next self.old.bytes index.0)) }
+        ensures state { self.new ≡ behind_answer (iteration_at self.old.bytes index.0) (next self.old.bytes index.0) }
+    {
+        self.seek(index);
+        self.next()
+    }
+}
+
+impl<'t> FallibleIterator for SymbolIter<'t> {
+    type Item = Symbol<'t>;
+
+    type Error = Error;
+
+    ghost has_ended = { λ it. it.has_failed ≡ true };
+
+    ghost next_gives = { λ old result new. Parses (λ s. s) result (symbol_of (found_next old))
+        × (new ≡ behind_answer old (found_next old))
+        × Advances (λ s. s) (symbols_left old) result (symbols_left new) };
+
+    /// The next symbol: the first one at the iterator's place or later. At the end nothing changes; at an error the place stays.
+    ///
+    /// # Errors
+    /// `SymbolTooShort` and `UnexpectedEof`.
+    #[tactic(auto, using(crate::proofs::Lists::symbols_more, crate::proofs::Lists::symbols_end, crate::proofs::Lists::symbols_fault))]
+    fn next(&mut self) -> Result<Option<Symbol<'t>>> {
+        if self.has_failed {
+            return Ok(None);
+        }
+        match next_symbol(self.bytes, self.place) {
+            Ok(Some((symbol, behind))) => {
+                self.place = behind;
+                Ok(Some(symbol))
+            }
+            Ok(None) => Ok(None),
+            Err(fault) => {
+                self.has_failed = true;
+                Err(fault)
+            }
+        }
+    }
+}
+
+/// The first symbol at a place or later, and the place behind it. `SymbolTooShort`, `UnexpectedEof`.
+#[tactic(auto, using(crate::proofs::Lists::next_past, crate::proofs::Lists::next_found, crate::proofs::Lists::next_behind, crate::proofs::Lists::behind_further, crate::proofs::Lists::behind_within))]
+fn next_symbol(bytes: &[u8], start: usize) -> Result<Option<(Symbol<'_>, usize)>>
+    requires { length bytes.now < 2 ^ 32 }
+    ensures { Parses (λ found. found) result (next bytes.now start) }
+{
+    let mut place = start;
+    while place < bytes.len() {
+        let (symbol, behind) = parse_symbol(bytes, place)?;
+        if !is_padding(symbol.raw_kind()) {
+            return Ok(Some((symbol, behind)));
+        }
+        place = behind;
+    }
+    Ok(None)
+}
