@@ -21,7 +21,7 @@ use Rattle.pdb_report.specs.Procedures.{Procedure, symbols_in, procedures, proce
 use Rattle.pdb_report.specs.Shared.{number, named, module_in, module_of, module_number, module_stream, info_from, shared, provider}
 use Rattle.pdb_report.specs.Loading.{load_fault, Refuses, IsFileFault, Parts, none_or, loaded_behind, loaded, module_info, has_other_symbols, answerable}
 use Rattle.pdb_report.specs.Kept.{module_procedures, all_procedures, list_or_none, procedures_at, tables, IsKept}
-use Rattle.pdb_report.proofs.Lifting.{fails_on, loads_on}
+use Rattle.pdb_report.proofs.Lifting.{fails_on, loads_on, opening_fails}
 
 -- ---- what is left of a load
 
@@ -131,3 +131,8 @@ refuses e s h = ap fault_in h
 pub run_refused : (e : LoadFault) (fault : Option LoadingFault) (quiet : Type 0) → Refuses e fault → quiet → OnLoad (run_fault_of e) (λ cause. IsFileFault cause fault × quiet)
 run_refused faults.OutOfMemory fault quiet h q = tt
 run_refused e fault quiet h q = (h, q)
+
+-- a container that isn't opened is a load fault
+pub not_opened : {S : Type 0} (bytes : S → List ℕ) (before : S) (s : Streams) (e : Error)
+    → (IsOutside e ((after : S) × (bytes after ≡ bytes before) × HasRisen 0 0) ⊎ (s.open_fault ≡ Some (fault_of e))) → Refuses (load_fault_of e) (load_fault s)
+not_opened bytes before s e h = refuses (load_fault_of e) s (container_fails s (load_fault_of e) (opening_fails bytes before e s.open_fault h))

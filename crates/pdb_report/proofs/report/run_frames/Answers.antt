@@ -8,3 +8,6 @@ returns-in-Ok-clause-too_long g c = rw c.in-Ok.ensures.ok at c.run.ensures.too_l
 
 pub returns-in-Ok-clause-part : goal.returns-in-Ok-clause-part
 returns-in-Ok-clause-part g c = rw c.in-Ok.ensures.ok at c.run.ensures.part
+
+pub returns-in-Ok-clause-read_out : goal.returns-in-Ok-clause-read_out
+returns-in-Ok-clause-read_out g c = rw c.in-Ok.ensures.ok at c.run.ensures.read_out
