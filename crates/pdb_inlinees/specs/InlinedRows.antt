@@ -83,7 +83,7 @@ abbrev pub before_fault : Option Fault → List LineInfo → List LineInfo
 before_fault None rows = rows
 before_fault (Some e) rows = take (length rows - 1) rows
 
--- what holds before the first annotation: an inlined function's file and line, one line, no columns, at a place
+-- what holds before the first annotation: a place, a function's file and line, a last line behind that one, and no columns
 abbrev pub origin_of : PdbInternalSectionOffset → InlinedFunction → Origin
 origin_of place function = record {
   section = place.section;
