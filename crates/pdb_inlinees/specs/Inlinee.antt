@@ -1,0 +1,7 @@
+-- Inlined functions, as the code keeps them.
+use Rattle.pdb_inlinees.specs.Inlinees.{InlinedFunction}
+use Rattle.pdb_inlinees.specs.declared.inlinee.Inlinee.{Inlinee}
+
+-- what is known of an inlined function
+abbrev pub inlined_function : Inlinee → InlinedFunction
+inlined_function i = record { index = i.index; file = i.file; line = i.line }

@@ -1,0 +1,5 @@
+pub mod Inlinee
+pub mod Inlinees
+pub mod Operands
+pub mod InlinedRows
+pub mod ToCome

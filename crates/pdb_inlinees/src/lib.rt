@@ -1,0 +1,11 @@
+//! Inlined functions: which functions were inlined in a module, and the rows of their calls.
+#![tactic(auto)]
+
+mod inlinee;
+mod line_iterator;
+mod origin;
+#[cfg(test)]
+mod tests;
+
+pub use inlinee::{Inlinee, InlineeIterator};
+pub use line_iterator::InlineeLineIterator;

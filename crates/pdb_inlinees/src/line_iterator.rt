@@ -1,0 +1,177 @@
+//! The rows of an inlined call, one by one.
+
+ghost use Rattle.std.specs.Prelude.{◌≡◌, ◌∷◌, [], List, None, Some, IfSome, IsSome, if◌then◌else◌};
+ghost use Rattle.pdb_container.specs.Listing.{ending, Advances};
+ghost use Rattle.pdb_annotations.specs.Annotations.{is_emitting};
+ghost use Rattle.pdb_annotations.specs.declared.annotation.BinaryAnnotation.{BinaryAnnotation as Annotation};
+ghost use Rattle.pdb_inlinees.specs.InlinedRows.{all_rows, place_behind, distance, length_by};
+ghost use Rattle.pdb_inlinees.specs.Operands.{own_length, given_length};
+ghost use Rattle.pdb_inlinees.specs.ToCome.{completed, rows_ahead, to_come, in_front};
+
+use crate::origin::Origin;
+use pdb_annotations::{BinaryAnnotation, BinaryAnnotationsIter};
+use pdb_container::{Error, FallibleIterator, Result};
+use pdb_subsections::{LineInfo, LineInfoKind};
+use std::marker::Model;
+
+/// The length that an annotation gives its row.
+fn length_of(annotation: BinaryAnnotation) -> Option<u32>
+    ensures { result ≡ own_length annotation }
+{
+    match annotation {
+        BinaryAnnotation::ChangeCodeLengthAndCodeOffset(length, _) => Some(length),
+        _ => None,
+    }
+}
+
+/// The offset of the row that an annotation gives.
+#[tactic(auto, using(crate::proofs::OneMore::place_more))]
+fn place_at(origin: Origin, annotation: BinaryAnnotation) -> u32
+    ensures { result ≡ place_behind origin (annotation ∷ []) }
+{
+    origin.behind(annotation).place()
+}
+
+/// How far that row lies behind an offset, if the annotation gives one and it doesn't lie before that.
+fn distance_at(origin: Origin, start: u32, annotation: BinaryAnnotation) -> Option<u32>
+    ensures { result ≡ (if is_emitting annotation then distance start (place_behind origin (annotation ∷ [])) else None) }
+{
+    if annotation.emits_line_info() {
+        place_at(origin, annotation).checked_sub(start)
+    } else {
+        None
+    }
+}
+
+/// The length that an annotation says the code before it has.
+fn length_before(annotation: BinaryAnnotation) -> Option<u32>
+    ensures { result ≡ given_length annotation }
+{
+    match annotation {
+        BinaryAnnotation::ChangeCodeLength(length) => Some(length),
+        _ => None,
+    }
+}
+
+/// The length that an annotation gives a row that began before it.
+#[tactic(auto, unfolding(crate::specs::InlinedRows::length_by))]
+fn length_at(origin: Origin, row: LineInfo, annotation: BinaryAnnotation) -> Option<u32>
+    ensures { result ≡ length_by origin row.offset.offset row.kind [] annotation }
+{
+    if row.kind == origin.kind {
+        length_before(annotation).or(distance_at(origin, row.offset.offset, annotation))
+    } else {
+        None
+    }
+}
+
+/// A row with this length, unless it has one.
+fn complete(row: LineInfo, length: Option<u32>) -> LineInfo
+    ensures { result ≡ completed row length }
+{
+    LineInfo {
+        length: row.length.or(length),
+        ..row
+    }
+}
+
+/// What an annotation leaves: what is in force behind it, a row that waits for its length, and a row that is whole.
+#[derive(Clone, Copy)]
+struct Passed {
+    origin: Origin,
+    waiting: Option<LineInfo>,
+    whole: Option<LineInfo>,
+}
+
+/// One step over an annotation, where a row may wait for its length.
+#[tactic(auto, using(crate::proofs::Steps::first_row, crate::proofs::Steps::next_row, crate::proofs::Steps::still_none, crate::proofs::Steps::still_open))]
+fn pass(origin: Origin, waiting: Option<LineInfo>, annotation: BinaryAnnotation) -> Passed
+    ensures rows { (after : List Annotation) → rows_ahead origin waiting (annotation ∷ after) ≡ in_front result.whole (rows_ahead result.origin result.waiting after) }
+    ensures waits { IfSome result.whole (λ _. IsSome result.waiting) }
+{
+    let next = origin.behind(annotation);
+    let before = match waiting {
+        None => None,
+        Some(row) => Some(complete(row, length_at(origin, row, annotation))),
+    };
+    if annotation.emits_line_info() {
+        Passed {
+            origin: next,
+            waiting: Some(next.row(length_of(annotation))),
+            whole: before,
+        }
+    } else {
+        Passed {
+            origin: next,
+            waiting: before,
+            whole: None,
+        }
+    }
+}
+
+/// The rows of an inlined call, one by one. Where an annotation can't be read its fault is answered in place of the row
+/// before it, and none comes behind it.
+#[derive(Debug, Drop)]
+pub struct InlineeLineIterator<'a> {
+    annotations: BinaryAnnotationsIter<'a>,
+    origin: Origin,
+    waiting: Option<LineInfo>,
+}
+
+impl<'a> Model for InlineeLineIterator<'a> {
+    ghost use Rattle.pdb_container.specs.Listing.{Listing};
+    ghost use Rattle.pdb_subsections.specs.declared.line_info.LineInfo.{LineInfo};
+    ghost use Rattle.pdb_inlinees.specs.ToCome.{to_come};
+
+    ghost Value = { Listing LineInfo };
+
+    ghost view = { λ i. to_come i.origin i.waiting i.annotations };
+}
+
+impl<'a> InlineeLineIterator<'a> {
+    /// The rows of these annotations.
+    #[tactic(auto, using(crate::proofs::Steps::from_first))]
+    pub(crate) fn over(
+        annotations: BinaryAnnotationsIter<'a>,
+        origin: Origin,
+    ) -> InlineeLineIterator<'a>
+        ensures { result ≡ all_rows origin annotations.entry }
+    {
+        InlineeLineIterator {
+            annotations,
+            origin,
+            waiting: None,
+        }
+    }
+}
+
+impl<'a> FallibleIterator for InlineeLineIterator<'a> {
+    type Item = LineInfo;
+
+    type Error = Error;
+
+    ghost has_ended = { λ i. i ≡ ending None };
+
+    ghost next_gives = { Advances (λ row. row) };
+
+    #[tactic(auto, using(crate::proofs::Steps::on, crate::proofs::Steps::gives, crate::proofs::Steps::last_row, crate::proofs::Steps::no_more, crate::proofs::Steps::fault_after))]
+    fn next(&mut self) -> Result<Option<LineInfo>> {
+        loop {
+            match self.annotations.next() {
+                Ok(Some(annotation)) => {
+                    let passed = pass(self.origin, self.waiting, annotation);
+                    self.origin = passed.origin;
+                    self.waiting = passed.waiting;
+                    if let Some(row) = passed.whole {
+                        return Ok(Some(row));
+                    }
+                }
+                Ok(None) => return Ok(self.waiting.take()),
+                Err(fault) => {
+                    self.waiting = None;
+                    return Err(fault);
+                }
+            }
+        }
+    }
+}
