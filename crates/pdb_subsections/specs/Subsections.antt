@@ -14,7 +14,7 @@ pub record Subsection : Type 0 where
 
 -- how far it is from a place to the next multiple of 4
 abbrev pub padding : ℕ → ℕ
-padding size = next_multiple_of size 4 - size
+padding place = next_multiple_of place 4 - place
 
 -- A kind, a length and so many bytes. The next subsection begins at the next multiple of 4, as this one does, or there is none.
 unfoldable pub subsection_at : Reader Subsection

@@ -32,12 +32,11 @@ pub struct DebugSubsection<'a> {
     pub bytes: &'a [u8],
 }
 
-/// How many bytes lie between the end of so many bytes and the next multiple of 4.
-fn padding_behind(size: usize) -> usize
-    requires { size < 2 ^ 32 }
-    ensures { result ≡ padding size }
+/// How many bytes lie between a place and the next multiple of 4.
+pub fn padding_behind(place: usize) -> usize
+    ensures { result ≡ padding place }
 {
-    size.next_multiple_of(4) - size
+    (4 - place % 4) % 4
 }
 
 /// The subsection at the buffer's place. Where it is refused, the place may have moved.

@@ -1,0 +1,71 @@
+//! The lines of a module's code.
+
+ghost use Rattle.std.specs.Prelude.{◌≡◌};
+ghost use Rattle.pdb_container.specs.Fault.{Parses, Gives};
+ghost use Rattle.pdb_lines.specs.Checksums.{files_of, file_in, file_seen};
+ghost use Rattle.pdb_lines.specs.Runs.{program_of, or_nothing};
+ghost use Rattle.pdb_subsections.specs.Subsections.{bytes_seen};
+
+use crate::checksum::{FileInfo, FileIterator, file_in_list};
+use crate::run::{LineRun, sorted_runs};
+use pdb_container::Result;
+use pdb_container_types::FileIndex;
+use pdb_subsections::{FILE_CHECKSUMS, find_subsection};
+use std::alloc::Global;
+use std::marker::Model;
+
+/// The lines of a module's code, and the files that they are in.
+#[derive(Debug, Drop)]
+pub struct LineProgram<'a> {
+    runs: Vec<LineRun<'a>>,
+    files: &'a [u8],
+}
+
+impl<'a> Model for LineProgram<'a> {
+    ghost use Rattle.std.specs.List.Sorted.{IsNonDecreasingBy};
+    ghost use Rattle.pdb_lines.specs.Runs.{Program, rank};
+
+    ghost Value = { Program };
+
+    ghost view = { λ p. record { runs = p.runs.items; files = p.files.now } };
+
+    ghost invariant = { λ p. IsNonDecreasingBy rank p.runs.items };
+}
+
+/// The bytes that were found, or none.
+fn or_no_bytes(found: Option<&[u8]>) -> &[u8]
+    ensures { result.now ≡ or_nothing (bytes_seen found.entry) }
+{
+    match found {
+        Some(bytes) => bytes,
+        None => &[],
+    }
+}
+
+impl<'a> LineProgram<'a> {
+    /// What a module's line data tell. All subsections are gone over, and all headers of lines; the first fault is the
+    /// answer: `UnexpectedEof`. `OutOfMemory` besides.
+    #[tactic(auto, unfolding(crate::specs::Runs::program_of))]
+    pub fn parse(alloc: Global, bytes: &'a [u8]) -> Result<LineProgram<'a>>
+        ensures { Gives (λ p. p) ⊥ result (program_of bytes.now) }
+    {
+        let runs = sorted_runs(alloc, bytes)?;
+        let files = or_no_bytes(find_subsection(bytes, FILE_CHECKSUMS)?);
+        Ok(LineProgram { runs, files })
+    }
+
+    /// The files, in their order.
+    pub fn files(&self) -> FileIterator<'_>
+        ensures { result ≡ files_of self.now.files }
+    {
+        FileIterator::new(self.files)
+    }
+
+    /// The file of an index. `InvalidFileChecksumOffset` at the end of the files and past it, and where there are none;
+    /// `UnexpectedEof`; `UnimplementedFileChecksumKind`.
+    pub fn get_file_info(&self, index: FileIndex) -> Result<FileInfo<'_>>
+        ensures { Parses file_seen result (file_in self.now.files index.0) }
+    {
+        file_in_list(self.files, index)
+    }
+}
