@@ -1,5 +1,5 @@
 -- Files of a list, as an iterator goes over them.
-use Rattle.std.proofs.Common.{◌≡◌, ◌≢◌, ℕ, ◌-◌, ◌<◌, List, length, drop, None, Some, Result, Ok, Err, arith}
+use Rattle.std.proofs.Common.{◌≡◌, ◌≢◌, ℕ, ◌<◌, List, length, drop, None, Some, Err, arith}
 use Rattle.std.proofs.lemmas.List.{length-drop}
 use Rattle.pdb_container.specs.Fault.{Fault}
 use Rattle.pdb_container.specs.Listing.{ending}

@@ -1,6 +1,5 @@
 -- Checksums of files, one behind the other.
-use Rattle.std.specs.Prelude.{ℕ, ◌-◌, List, length, drop, nat_le, nat_lt, ◌==◌, if◌then◌else◌, Result, Ok, Err}
-use Rattle.std.specs.Borrow.{Bor}
+use Rattle.std.specs.Prelude.{ℕ, ◌-◌, List, length, drop, nat_le, ◌==◌, if◌then◌else◌, Result, Ok}
 use Rattle.std.specs.Int.{w8, w32}
 use Rattle.pdb_container.specs.Fault.{Fault, UnimplementedFileChecksumKind, InvalidFileChecksumOffset, ◌>>=◌, guard, refuse}
 use Rattle.pdb_container.specs.Fields.{Reader, number_at, bytes_of}

@@ -1,6 +1,6 @@
 //! Runs of code whose lines are told.
 
-ghost use Rattle.std.specs.Prelude.{◌≡◌, IfOk};
+ghost use Rattle.std.specs.Prelude.{◌≡◌, ◌+◌, IfOk};
 ghost use Rattle.std.specs.List.Sorted.{IsNonDecreasingBy};
 ghost use Rattle.pdb_container.specs.Fault.{Parses, Gives};
 ghost use Rattle.pdb_subsections.specs.Subsections.{subsections_of};
@@ -56,8 +56,43 @@ impl<'a> LineRun<'a> {
         })
     }
 
+    /// The number of its section.
+    pub(crate) fn section(&self) -> u16
+        ensures { result ≡ self.now.section }
+    {
+        self.section
+    }
+
+    /// Where it begins in its section.
+    pub(crate) fn offset(&self) -> u32
+        ensures { result ≡ self.now.offset }
+    {
+        self.offset
+    }
+
+    /// Where it ends in its section.
+    pub(crate) fn end(&self) -> u64
+        ensures { result ≡ self.now.offset + self.now.size }
+    {
+        u64::from(self.offset) + u64::from(self.size)
+    }
+
+    /// Whether its blocks tell columns.
+    pub(crate) fn has_columns(&self) -> bool
+        ensures { result ≡ self.now.has_columns }
+    {
+        self.has_columns
+    }
+
+    /// The bytes of its blocks.
+    pub(crate) fn blocks(&self) -> &'a [u8]
+        ensures { result.now ≡ self.now.blocks }
+    {
+        self.blocks
+    }
+
     /// Its place as one number.
-    fn rank(&self) -> u64
+    pub(crate) fn rank(&self) -> u64
         ensures { result ≡ rank self.now }
     {
         rank_of(self.section, self.offset)
