@@ -9,6 +9,8 @@ mod line_program;
 mod mark;
 mod marks;
 mod run;
+#[cfg(test)]
+mod tests;
 
 pub use checksum::{FileChecksum, FileInfo, FileIterator};
 pub use line_iterator::LineIterator;
