@@ -2,5 +2,12 @@
 #![tactic(auto)]
 
 mod line_info;
+mod subsection;
+#[cfg(test)]
+mod tests;
 
 pub use line_info::{LineInfo, LineInfoKind};
+pub use subsection::{
+    CROSS_MODULE_EXPORTS, CROSS_MODULE_IMPORTS, DebugSubsection, DebugSubsectionIterator,
+    FILE_CHECKSUMS, INLINEE_LINES, LINES, find_subsection, padding_behind,
+};

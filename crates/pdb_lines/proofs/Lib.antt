@@ -1,0 +1,5 @@
+pub mod FileSteps
+pub mod Halving
+pub mod MarkSteps
+pub mod Order
+pub mod RowSteps

@@ -1,0 +1,5 @@
+pub mod Checksums
+pub mod Left
+pub mod Marks
+pub mod Rows
+pub mod Runs

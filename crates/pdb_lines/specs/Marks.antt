@@ -1,0 +1,142 @@
+-- Marks: places where entries of lines begin, and places where runs end.
+use Rattle.std.specs.Prelude.{◌≡◌, ℕ, ◌+◌, ◌*◌, ◌-◌, ◌^◌, ◌%◌, ◌&&◌, ◌||◌, not, Bool, true, false, List, [], ◌∷◌, ◌++◌, take, drop, map, nat_lt, ◌==◌, if◌then◌else◌, Option, Some, None, Result, Ok}
+use Rattle.std.specs.Int.{w16, w32, from_le_bytes}
+use Rattle.std.specs.List.{range_with_len, flat_map}
+use Rattle.pdb_container.specs.Container.{word_at}
+use Rattle.pdb_container.specs.Fault.{Fault, UnexpectedEof, ◌>>=◌, refuse}
+use Rattle.pdb_container.specs.Fields.{Reader, number_at, bytes_of}
+use Rattle.pdb_container.specs.Listing.{Listing, ending, before, listing}
+use Rattle.pdb_subsections.specs.declared.line_info.LineInfo.{LineInfo}
+use Rattle.pdb_subsections.specs.declared.line_info.LineInfoKind.{LineInfoKind}
+use Rattle.pdb_subsections.specs.declared.line_info.LineInfoKind.TheVariants as kinds
+use Rattle.pdb_lines.specs.declared.mark.Mark.{Mark}
+use Rattle.pdb_lines.specs.declared.mark.Mark.TheVariants as marks
+use Rattle.pdb_lines.specs.declared.mark.TheConstants.{HIDDEN, ALSO_HIDDEN}
+use Rattle.pdb_lines.specs.Runs.{Run}
+
+-- ---- blocks
+
+-- entries of one file: where their run begins, how many they are, the bytes of their places and lines, and of their columns
+pub record Block : Type 0 where
+  pub section : ℕ
+  pub offset : ℕ
+  pub file : ℕ
+  pub count : ℕ
+  pub lines : List ℕ
+  pub columns : Option (List ℕ)
+
+-- the bytes of the columns of so many entries, where columns are told
+abbrev pub columns_of : Bool → ℕ → List ℕ → Result (Option (List ℕ)) Fault
+columns_of false count bytes = Ok None
+columns_of true count bytes = bytes_of (4 * count) bytes >>= λ columns. Ok (Some columns.0)
+
+-- the block of a run of a file and so many entries: 8 bytes each, and then 4 each for their columns
+unfoldable pub block_in : Run → ℕ → ℕ → List ℕ → Result Block Fault
+block_in run file count bytes = do
+  lines ← bytes_of (8 * count) bytes
+  columns ← columns_of run.has_columns count lines.1
+  Ok record { section = run.section; offset = run.offset; file = file; count = count; lines = lines.0; columns = columns }
+
+-- A block of a run: a file, a number of entries, a size, and what is missing to so many bytes, the 12 before it counted. What
+-- it has behind its entries is passed over.
+unfoldable pub block_at : Run → Reader Block
+block_at run bytes = do
+  file ← number_at w32 bytes
+  count ← number_at w32 file.1
+  size ← number_at w32 count.1
+  enough ← refuse (nat_lt size.0 12) UnexpectedEof
+  content ← bytes_of (size.0 - 12) size.1
+  block ← block_in run file.0 count.0 content.0
+  Ok (block, content.1)
+
+-- ---- entries
+
+-- the number in two bytes from a place on
+abbrev pub half_at : List ℕ → ℕ → ℕ
+half_at bytes at = from_le_bytes w16 (take 2 (drop at bytes))
+
+-- the column at a place, where columns are told
+abbrev pub column_at : Option (List ℕ) → ℕ → Option ℕ
+column_at None at = None
+column_at (Some bytes) at = Some (half_at bytes at)
+
+-- two numbers that are no lines
+abbrev pub is_line : ℕ → Bool
+is_line line = not (line == HIDDEN || line == ALSO_HIDDEN)
+
+-- whether bit 31 isn't set
+abbrev pub kind_of : ℕ → LineInfoKind
+kind_of flags = if nat_lt flags (2 ^ 31) then kinds.Expression else kinds.Statement
+
+-- the row that begins at a place, before its length is known: by the numbers of its line and kind, its file and its columns
+abbrev pub row_with : ℕ → ℕ → ℕ → ℕ → Option ℕ → Option ℕ → LineInfo
+row_with section offset flags file start end = record {
+  offset = record { offset = offset; section = section };
+  length = None;
+  file_index = record { 0 = file };
+  line_start = flags % 2 ^ 24;
+  line_end = flags % 2 ^ 24;
+  column_start = start;
+  column_end = end;
+  kind = kind_of flags;
+}
+
+-- the place of entry i, which may lie past 32 bits
+abbrev pub entry_place : Block → ℕ → ℕ
+entry_place b i = b.offset + word_at b.lines (8 * i)
+
+-- its line and kind
+abbrev pub entry_flags : Block → ℕ → ℕ
+entry_flags b i = word_at b.lines (8 * i + 4)
+
+-- the row that it begins: none past 32 bits, and none without a line
+abbrev pub entry_row : Block → ℕ → Option LineInfo
+entry_row b i =
+    if nat_lt (entry_place b i) (2 ^ 32) && is_line (entry_flags b i % 2 ^ 24)
+    then Some (row_with b.section (entry_place b i) (entry_flags b i) b.file (column_at b.columns (4 * i)) (column_at b.columns (4 * i + 2)))
+    else None
+
+abbrev pub entry_mark : Block → ℕ → Mark
+entry_mark b i = marks.Entry b.section (entry_place b i) (entry_row b i)
+
+-- the marks of a block's entries from number i on
+abbrev pub entries_from : Block → ℕ → List Mark
+entries_from b i = map (entry_mark b) (range_with_len i (b.count - i))
+
+-- the marks of a block's entries
+abbrev pub entries_of : Block → List Mark
+entries_of b = entries_from b 0
+
+-- ---- runs
+
+-- values before others, where they end well
+abbrev pub chained : {A : Type 0} → List A → Option Fault → Listing A → Listing A
+chained items None others = record { items = items ++ others.items; fault = others.fault }
+chained items (Some e) others = record { items = items; fault = Some e }
+
+-- the blocks of a run in these bytes
+abbrev pub blocks_of : Run → List ℕ → Listing Block
+blocks_of run bytes = listing (block_at run) bytes
+
+-- the marks of blocks, before others
+abbrev pub marks_before : Listing Block → Listing Mark → Listing Mark
+marks_before blocks others = chained (flat_map entries_of blocks.items) blocks.fault others
+
+-- the end of a run, which may lie past 32 bits
+abbrev pub end_mark : Run → Mark
+end_mark run = marks.End run.section (run.offset + run.size)
+
+-- the marks of runs: of each one its entries, in the order of the file, and then its end
+abbrev pub marks_of : List Run → Listing Mark
+marks_of [] = ending None
+marks_of (run ∷ runs) = marks_before (blocks_of run run.blocks) (before (end_mark run) (marks_of runs))
+
+-- marks of which these entries come first, then the blocks in these bytes, which are the first run's, and then the other runs
+abbrev pub marks_left : List Mark → List ℕ → List Run → Listing Mark
+marks_left entries blocks [] = chained entries None (ending None)
+marks_left entries blocks (run ∷ runs) = chained entries None (marks_before (blocks_of run blocks) (before (end_mark run) (marks_of runs)))
+
+-- An entry's mark of those that were still to come, and those behind it.
+abbrev pub GivesMark : List Mark → Option Mark → List Mark → Type 0
+GivesMark old (Some mark) new = old ≡ mark ∷ new
+GivesMark old None new = (old ≡ []) × (new ≡ [])
