@@ -7,6 +7,9 @@ const SIGNATURE: u32 = 0xffff_ffff;
 
 const VERSION: u32 = 19990903;
 
+/// The version of contributions that take four bytes more than others.
+const LONG_CONTRIBUTIONS: u32 = 0xeffe_0000 + 20140516;
+
 /// The number that names no stream.
 pub const NO_STREAM: u16 = 0xffff;
 
@@ -27,6 +30,8 @@ pub struct Contribution {
     pub size: u32,
     pub characteristics: u32,
     pub module: u16,
+    pub data_crc: u32,
+    pub reloc_crc: u32,
 }
 
 /// A module and its stream.
@@ -85,7 +90,7 @@ impl Contribution {
         push_u16(bytes, &[self.section, 0])?;
         push_u32(bytes, &[self.offset, self.size, self.characteristics])?;
         push_u16(bytes, &[self.module, 0])?;
-        push_u32(bytes, &[0, 0])
+        push_u32(bytes, &[self.data_crc, self.reloc_crc])
     }
 }
 
@@ -133,6 +138,9 @@ impl DebugInformation {
         let mut contributions = words(alloc, &[self.contributions_version])?;
         for contribution in &self.contributions {
             contribution.push(&mut contributions)?;
+            if self.contributions_version == LONG_CONTRIBUTIONS {
+                push_u32(&mut contributions, &[0])?;
+            }
         }
         let mut optional = Vec::new(alloc);
         push_u16(&mut optional, self.optional_header.as_slice())?;

@@ -21,10 +21,11 @@ pub use debug_information::{
 pub use error::{Result, SampleError};
 pub use line_data::{LineRow, LineRun, checksums, push_subsection};
 pub use rows::{
-    cut_dbi, file_f, file_f0, file_of_symbols, inline_site, line_data_of_f, public_symbol,
-    scope_end, symbols_of_f, thunk, with_address_map_number, with_c11, with_directory_reordered,
-    with_inline_site, with_nested_procedure, with_permuted_pages, with_public_symbol, with_thunk,
-    with_two_contributions, with_typed_procedure,
+    cut_dbi, file_f, file_f0, file_of_symbols, inline_site, line_data_of_f, module_of_symbols,
+    public_symbol, scope_end, symbols_of_f, thunk, with_address_map_number, with_address_maps,
+    with_c11, with_directory_reordered, with_inline_site, with_nested_procedure,
+    with_permuted_pages, with_public_symbol, with_thunk, with_two_contributions,
+    with_typed_procedure,
 };
 pub use streams::{
     EndlessReader, FailingReader, FailingWriter, OneByteReader, OneByteWriter, StallingWriter,

@@ -59,14 +59,7 @@ pub fn file_of_symbols(alloc: Global, symbols: Vec<Symbol>) -> Result<ProgramDat
         characteristics: EXECUTABLE,
     })?;
     let mut modules = Vec::new(alloc);
-    modules.push(Module {
-        name: Vec::from_slice(alloc, b"a.obj")?,
-        object_name: Vec::from_slice(alloc, b"a.obj")?,
-        symbols: ModuleSymbols::List(symbols),
-        c11: Vec::new(alloc),
-        c13: Vec::new(alloc),
-        has_stream: true,
-    })?;
+    modules.push(module_of_symbols(alloc, b"a.obj", symbols)?)?;
     Ok(ProgramDatabase {
         page_size: 0x100,
         order: PageOrder::Natural,
@@ -87,6 +80,18 @@ pub fn file_of_symbols(alloc: Global, symbols: Vec<Symbol>) -> Result<ProgramDat
     })
 }
 
+/// A module with a stream of these symbols alone, linked from the file of its name.
+pub fn module_of_symbols(alloc: Global, name: &[u8], symbols: Vec<Symbol>) -> Result<Module> {
+    Ok(Module {
+        name: Vec::from_slice(alloc, name)?,
+        object_name: Vec::from_slice(alloc, name)?,
+        symbols: ModuleSymbols::List(symbols),
+        c11: Vec::new(alloc),
+        c13: Vec::new(alloc),
+        has_stream: true,
+    })
+}
+
 fn debug_information(alloc: Global) -> Result<DebugInformation> {
     let mut contributions = Vec::new(alloc);
     contributions.push(Contribution {
@@ -95,6 +100,8 @@ fn debug_information(alloc: Global) -> Result<DebugInformation> {
         size: 0x40,
         characteristics: EXECUTABLE,
         module: 0,
+        data_crc: 0,
+        reloc_crc: 0,
     })?;
     let mut optional_header = Vec::new(alloc);
     for place in 0..11 {
@@ -200,6 +207,8 @@ pub fn with_two_contributions(alloc: Global) -> Result<ProgramDatabase> {
         size: 0x10,
         characteristics: EXECUTABLE,
         module: 0,
+        data_crc: 0,
+        reloc_crc: 0,
     })?;
     Ok(database)
 }
@@ -212,6 +221,23 @@ pub fn with_address_map_number(alloc: Global, place: usize) -> Result<ProgramDat
         None => return Err(SampleError::DoesNotFit),
     }
     database.further_streams.push(Some(Vec::new(alloc)))?;
+    Ok(database)
+}
+
+/// File F whose sections are the same in the image and before its code was moved. Stream 9 maps addresses of the image:
+/// those from 0x2000 on to 0x1010, and those from 0x2008 on to nothing. Stream 10 maps back, from 0x1010 on to 0x2000.
+pub fn with_address_maps(alloc: Global) -> Result<ProgramDatabase> {
+    let mut database = file_f(alloc)?;
+    for (place, stream) in [(3, 9), (4, 10), (10, 6)] {
+        match database.debug.optional_header.get_mut(place) {
+            Some(number) => *number = stream,
+            None => return Err(SampleError::DoesNotFit),
+        }
+    }
+    let to_source = words(alloc, &[0x2000, 0x1010, 0x2008, 0])?;
+    database.further_streams.push(Some(to_source))?;
+    let from_source = words(alloc, &[0x1010, 0x2000])?;
+    database.further_streams.push(Some(from_source))?;
     Ok(database)
 }
 

@@ -2,6 +2,7 @@
 
 ghost use Rattle.std.specs.Prelude.{◌≡◌, Some, map, option_map};
 ghost use Rattle.std.specs.List.{find};
+ghost use Rattle.std.specs.Slice.Iter.{iter_rest};
 ghost use Rattle.pdb_container.specs.Buffer.{rest, Reads, ReadsAll};
 ghost use Rattle.pdb_container.specs.Fault.{Gives, Parses};
 ghost use Rattle.pdb_container.specs.Fields.{bytes_of};
@@ -106,8 +107,10 @@ impl<'s> Model for StreamNames<'s> {
 }
 
 impl<'s> StreamNames<'s> {
-    /// The names with their streams.
-    pub fn iter(&self) -> std::slice::Iter<'_, StreamName<'s>> {
+    /// The names with their streams, in the order of the table.
+    pub fn iter(&self) -> std::slice::Iter<'_, StreamName<'s>>
+        ensures { map stream_name_seen (iter_rest result) ≡ self.now }
+    {
         self.names.iter()
     }
 
