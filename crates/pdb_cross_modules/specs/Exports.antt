@@ -13,6 +13,10 @@ use Rattle.pdb_cross_modules.specs.declared.exports.CrossModuleExport.TheVariant
 use Rattle.pdb_cross_modules.specs.declared.exports.Export.{Export}
 
 -- an index as the module names it, and the index in the file's table
+abbrev pub Entry : Type 0
+Entry = Export
+
+-- such a pair
 unfoldable pub export_at : Reader Export
 export_at bytes = do
   local ← number_at w32 bytes

@@ -11,7 +11,6 @@ use Rattle.pdb_subsections.specs.declared.line_info.LineInfoKind.{LineInfoKind}
 use Rattle.pdb_subsections.specs.declared.line_info.LineInfoKind.TheVariants as kinds
 use Rattle.pdb_lines.specs.declared.mark.Mark.{Mark}
 use Rattle.pdb_lines.specs.declared.mark.Mark.TheVariants as marks
-use Rattle.pdb_lines.specs.declared.mark.TheConstants.{HIDDEN, ALSO_HIDDEN}
 use Rattle.pdb_lines.specs.Runs.{Run}
 
 -- ---- blocks
@@ -62,7 +61,7 @@ column_at (Some bytes) at = Some (half_at bytes at)
 
 -- two numbers that are no lines
 abbrev pub is_line : ℕ → Bool
-is_line line = not (line == HIDDEN || line == ALSO_HIDDEN)
+is_line line = not (line == 0xfeefee || line == 0xf00f00)
 
 -- whether bit 31 isn't set
 abbrev pub kind_of : ℕ → LineInfoKind

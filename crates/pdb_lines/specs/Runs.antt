@@ -4,8 +4,7 @@ use Rattle.std.specs.Int.{w16, w32}
 use Rattle.pdb_container.specs.Fault.{Fault, ◌>>=◌}
 use Rattle.pdb_container.specs.Fields.{number_at}
 use Rattle.pdb_container.specs.Listing.{Listing}
-use Rattle.pdb_subsections.specs.Subsections.{Subsection, subsections_of, first_of}
-use Rattle.pdb_subsections.specs.declared.subsection.TheConstants.{LINES, FILE_CHECKSUMS}
+use Rattle.pdb_subsections.specs.Subsections.{lines_kind, files_kind, Subsection, subsections_of, first_of}
 
 -- where a run begins, how many bytes of code it has, whether columns are told, and the bytes of its blocks
 pub record Run : Type 0 where
@@ -28,7 +27,7 @@ run_of bytes = do
 abbrev pub runs_among : List Subsection → Option Fault → Result (List Run) Fault
 runs_among [] None = Ok []
 runs_among [] (Some e) = Err e
-runs_among (s ∷ others) end = if s.kind == LINES then (run_of s.bytes >>= λ run. runs_among others end >>= λ runs. Ok (run ∷ runs)) else runs_among others end
+runs_among (s ∷ others) end = if s.kind == lines_kind then (run_of s.bytes >>= λ run. runs_among others end >>= λ runs. Ok (run ∷ runs)) else runs_among others end
 
 -- the runs, in the order of the subsections; the fault is the first of all subsections and all runs
 abbrev pub runs_of : Listing Subsection → Result (List Run) Fault
@@ -69,5 +68,5 @@ or_nothing None = []
 unfoldable pub program_of : List ℕ → Result Program Fault
 program_of bytes = do
   runs ← sorted_runs_of (subsections_of bytes)
-  files ← first_of FILE_CHECKSUMS (subsections_of bytes)
+  files ← first_of files_kind (subsections_of bytes)
   Ok record { runs = runs; files = or_nothing files }

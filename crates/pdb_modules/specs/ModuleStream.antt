@@ -4,13 +4,11 @@ use Rattle.std.specs.Int.{w32}
 use Rattle.pdb_container.specs.Fault.{Fault, UnexpectedEof, UnimplementedFeature, ◌>>=◌, refuse}
 use Rattle.pdb_container.specs.Fields.{number_at}
 use Rattle.pdb_container.specs.Listing.{Listing, ending}
-use Rattle.pdb_cross_modules.specs.declared.exports.Export.{Export}
-use Rattle.pdb_cross_modules.specs.Exports.{exports_of}
+use Rattle.pdb_cross_modules.specs.Exports.{Entry, exports_of}
 use Rattle.pdb_cross_modules.specs.Imports.{Import, imports_of}
 use Rattle.pdb_inlinees.specs.Inlinees.{InlinedFunction, inlinees_of}
 use Rattle.pdb_lines.specs.Runs.{Program, program_of}
-use Rattle.pdb_subsections.specs.Subsections.{subsections_of, first_of}
-use Rattle.pdb_subsections.specs.declared.subsection.TheConstants.{INLINEES, IMPORTS, EXPORTS}
+use Rattle.pdb_subsections.specs.Subsections.{inlinees_kind, imports_kind, exports_kind, subsections_of, first_of}
 use Rattle.pdb_symbols.specs.Iteration.{Iteration, iteration_at}
 
 -- the stream's bytes, and the sizes of its parts: symbols, line data in an older form, line data
@@ -67,15 +65,15 @@ said_or other read (Some bytes) = read bytes
 
 unfoldable pub inlinees_in : ModuleStream → Result (Listing InlinedFunction) Fault
 inlinees_in m = do
-  found ← subsection_in m INLINEES
+  found ← subsection_in m inlinees_kind
   said_or (ending None) inlinees_of found
 
 unfoldable pub imports_in : ModuleStream → Result (List Import) Fault
 imports_in m = do
-  found ← subsection_in m IMPORTS
+  found ← subsection_in m imports_kind
   said_or [] imports_of found
 
-unfoldable pub exports_in : ModuleStream → Result (List Export) Fault
+unfoldable pub exports_in : ModuleStream → Result (List Entry) Fault
 exports_in m = do
-  found ← subsection_in m EXPORTS
+  found ← subsection_in m exports_kind
   said_or [] exports_of found

@@ -1,6 +1,6 @@
 //! What a module's own stream holds.
 
-ghost use Rattle.std.specs.Prelude.{◌≡◌};
+ghost use Rattle.std.specs.Prelude.{◌≡◌, ◌<◌, ◌^◌, length, IfOk};
 ghost use Rattle.pdb_container.specs.Fault.{Gives, Parses};
 ghost use Rattle.pdb_modules.specs.ModuleStream.{signed as signed_bytes, symbols_in, iteration_in, line_data_in, line_program_in, subsection_in, inlinees_in, imports_in, exports_in};
 ghost use Rattle.pdb_subsections.specs.Subsections.{bytes_seen};
@@ -10,7 +10,7 @@ use pdb_container_types::SymbolIndex;
 use pdb_cross_modules::{CrossModuleExports, CrossModuleImports};
 use pdb_inlinees::InlineeIterator;
 use pdb_lines::LineProgram;
-use pdb_subsections::{EXPORTS, IMPORTS, INLINEES, find_subsection};
+use pdb_subsections::{CROSS_MODULE_EXPORTS, CROSS_MODULE_IMPORTS, INLINEE_LINES, find_subsection};
 use pdb_symbols::SymbolIter;
 use std::alloc::Global;
 use std::marker::Model;
@@ -96,7 +96,7 @@ impl<'s> ModuleInfo<'s> {
     pub fn inlinees(&self) -> Result<InlineeIterator<'_>>
         ensures { Parses (λ i. i) result (inlinees_in self.now) }
     {
-        match self.subsection(INLINEES)? {
+        match self.subsection(INLINEE_LINES)? {
             None => Ok(InlineeIterator::empty()),
             Some(bytes) => InlineeIterator::parse(bytes),
         }
@@ -110,7 +110,7 @@ impl<'s> ModuleInfo<'s> {
     pub fn imports(&self, alloc: Global) -> Result<CrossModuleImports<'_>>
         ensures { Gives (λ i. i) ⊥ result (imports_in self.now) }
     {
-        match self.subsection(IMPORTS)? {
+        match self.subsection(CROSS_MODULE_IMPORTS)? {
             None => Ok(CrossModuleImports::empty(alloc)),
             Some(bytes) => CrossModuleImports::parse(alloc, bytes),
         }
@@ -124,7 +124,7 @@ impl<'s> ModuleInfo<'s> {
     pub fn exports(&self) -> Result<CrossModuleExports<'_>>
         ensures { Parses (λ e. e) result (exports_in self.now) }
     {
-        match self.subsection(EXPORTS)? {
+        match self.subsection(CROSS_MODULE_EXPORTS)? {
             None => Ok(CrossModuleExports::default()),
             Some(bytes) => CrossModuleExports::parse(bytes),
         }
@@ -133,9 +133,15 @@ impl<'s> ModuleInfo<'s> {
     /// The bytes of the symbols, with their signature. `UnexpectedEof`, `UnimplementedFeature`.
     #[tactic(auto, unfolding(crate::specs::ModuleStream::symbols_in))]
     fn symbol_bytes(&self) -> Result<&[u8]>
-        ensures { Parses (λ bytes. bytes.now) result (symbols_in self.now) }
+        ensures bytes { Parses (λ bytes. bytes.now) result (symbols_in self.now) }
+        ensures few { IfOk result (λ bytes. length bytes.now < 2 ^ 32) }
     {
-        let symbols = ParseBuffer::from(self.stream.as_slice()).take(self.symbols_size as usize)?;
+        let bytes = self.stream.as_slice();
+        let size = self.symbols_size as usize;
+        if bytes.len() < size {
+            return Err(Error::UnexpectedEof);
+        }
+        let (symbols, _) = bytes.split_at(size);
         signed(symbols)
     }
 
@@ -170,7 +176,8 @@ impl<'s> ModuleInfo<'s> {
 /// Bytes that begin with the signature of symbols, or none. `UnexpectedEof`, `UnimplementedFeature`.
 #[tactic(auto, unfolding(crate::specs::ModuleStream::signed))]
 fn signed(bytes: &[u8]) -> Result<&[u8]>
-    ensures { Parses (λ bytes. bytes.now) result (signed_bytes bytes.now) }
+    ensures value { Parses (λ found. found.now) result (signed_bytes bytes.now) }
+    ensures same { IfOk result (λ found. found.now ≡ bytes.now) }
 {
     if bytes.is_empty() {
         return Ok(bytes);

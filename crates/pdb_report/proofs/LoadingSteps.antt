@@ -13,9 +13,8 @@ use Rattle.pdb_symbols_modules.specs.Dbi.{Dbi, dbi_of}
 use Rattle.pdb_container.specs.Listing.{whole}
 use Rattle.pdb_symbols_modules.specs.Modules.{modules_of}
 use Rattle.pdb_symbols_modules.specs.Opened.{debug_information, types, ids, global_symbols, address_map}
-use Rattle.pdb_symbols_modules.specs.OptionalHeader.{optional_at, optional_stream}
+use Rattle.pdb_symbols_modules.specs.OptionalHeader.{optional_at, optional_stream, to_source_place, from_source_place, sections_place, original_sections_place}
 use Rattle.pdb_symbols_modules.specs.Streams.{Streams, stream_if_named}
-use Rattle.pdb_symbols_modules.specs.declared.optional_header.TheConstants.{OMAP_TO_SOURCE, OMAP_FROM_SOURCE, SECTION_HEADERS, ORIGINAL_SECTION_HEADERS}
 use Rattle.pdb_report.specs.Faults.{LoadingFault, NotYet, lifted, Fails, load_fault_of}
 use Rattle.pdb_report.specs.declared.fault.LoadFault.{LoadFault}
 use Rattle.pdb_report.specs.Loading.{symbol_records_in, is_named, unmapped, sections_in, address_tables, loaded_behind}
@@ -76,7 +75,7 @@ original_is_none (Ok x) (Ok y) (Ok z) u h = (z, refl, last_of (is_named x) (is_n
 no_original : (s : Streams) (d : Dbi) (u : Unit {0}) → unmapped d.optional_header ≡ Ok u → original_sections_by s d ≡ Ok None
 unfolding unmapped original_sections_by optional_stream stream_if_named
 no_original s d u h =
-    let found = original_is_none (optional_at OMAP_TO_SOURCE d.optional_header) (optional_at OMAP_FROM_SOURCE d.optional_header) (optional_at ORIGINAL_SECTION_HEADERS d.optional_header) u h in
+    let found = original_is_none (optional_at to_source_place d.optional_header) (optional_at from_source_place d.optional_header) (optional_at original_sections_place d.optional_header) u h in
     rw (found.1, found.2) refl
 
 -- the section headers, as both read them
@@ -108,7 +107,7 @@ pub tables_are : (s : Streams) (d : Dbi) (u : Unit {0}) → unmapped d.optional_
     → address_tables d.optional_header (shared s).section_headers ≡ lifted (address_map s)
 unfolding address_tables address_map address_map_by sections_by optional_stream shared
 tables_are s d u plain read =
-    rw (plain, read, no_original s d u plain, optionally s d SECTION_HEADERS read) (headed s (optional_at SECTION_HEADERS d.optional_header))
+    rw (plain, read, no_original s d u plain, optionally s d sections_place read) (headed s (optional_at sections_place d.optional_header))
 
 pub tables_fail : (s : Streams) (d : Dbi) (u : Unit {0}) (e : Error) → unmapped d.optional_header ≡ Ok u → debug_information s ≡ Ok d
     → (IsOutside e (HasRisen 0 0) ⊎ (address_map s ≡ Err (fault_of e))) → Fails (load_fault_of e) (address_tables d.optional_header (shared s).section_headers)
@@ -131,7 +130,7 @@ ordered_in (Ok u) (Ok n) sections m h = ordered_from (sections n) m h
 pub tables_ordered : (s : Streams) (d : Dbi) (u : Unit {0}) (m : Map) → unmapped d.optional_header ≡ Ok u → debug_information s ≡ Ok d → address_map s ≡ Ok m → IsOrdered m
 unfolding address_tables
 tables_ordered s d u m plain read found =
-    ordered_in (unmapped d.optional_header) (optional_at SECTION_HEADERS d.optional_header) (λ n. sections_in n (shared s).section_headers) m
+    ordered_in (unmapped d.optional_header) (optional_at sections_place d.optional_header) (λ n. sections_in n (shared s).section_headers) m
     (tables_are s d u plain read ∙ ap lifted found)
 
 -- where the list of modules can't be read

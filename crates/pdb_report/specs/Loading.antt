@@ -12,8 +12,7 @@ use Rattle.pdb_report.specs.Faults.{LoadingFault, NotYet, lifted, loading_fault_
 use Rattle.pdb_symbols_modules.specs.Streams.{Streams, fault_in}
 use Rattle.pdb_symbols_modules.specs.Dbi.{Dbi, dbi_of}
 use Rattle.pdb_symbols_modules.specs.Modules.{Module, modules_of}
-use Rattle.pdb_symbols_modules.specs.OptionalHeader.{optional_at}
-use Rattle.pdb_symbols_modules.specs.declared.optional_header.TheConstants.{OMAP_TO_SOURCE, OMAP_FROM_SOURCE, SECTION_HEADERS, ORIGINAL_SECTION_HEADERS}
+use Rattle.pdb_symbols_modules.specs.OptionalHeader.{optional_at, to_source_place, from_source_place, sections_place, original_sections_place}
 use Rattle.pdb_container_types.specs.Addresses.{Map, map_of}
 use Rattle.pdb_container_types.specs.Sections.{section_headers_of}
 use Rattle.pdb_items.specs.Items.{table_of}
@@ -50,9 +49,9 @@ is_named n = nat_lt n 65535
 -- A file with address maps, or with the sections before its code was moved, isn't answered yet.
 unfoldable pub unmapped : List ℕ → Result (Unit {0}) LoadingFault
 unmapped optional_header = do
-  to_source ← lifted (optional_at OMAP_TO_SOURCE optional_header)
-  from_source ← lifted (optional_at OMAP_FROM_SOURCE optional_header)
-  original ← lifted (optional_at ORIGINAL_SECTION_HEADERS optional_header)
+  to_source ← lifted (optional_at to_source_place optional_header)
+  from_source ← lifted (optional_at from_source_place optional_header)
+  original ← lifted (optional_at original_sections_place optional_header)
   refuse (is_named to_source || is_named from_source || is_named original) NotYet
 
 -- the section headers of the stream that a number names; no stream is no sections
@@ -63,7 +62,7 @@ sections_in n headers = if nat_lt n 65535 then headers >>= section_headers_of el
 unfoldable pub address_tables : List ℕ → Bytes → Result Map LoadingFault
 address_tables optional_header headers = do
   plain ← unmapped optional_header
-  image ← lifted (optional_at SECTION_HEADERS optional_header)
+  image ← lifted (optional_at sections_place optional_header)
   sections ← lifted (sections_in image headers)
   Ok (map_of None sections None None)
 

@@ -3,9 +3,8 @@ use Rattle.std.specs.Prelude.{ℕ, List, Option, None, Some, nat_lt, if◌then�
 use Rattle.pdb_container.specs.Fault.{Fault, StreamNotFound, ◌>>=◌}
 use Rattle.pdb_symbols_modules.specs.Streams.{Streams}
 use Rattle.pdb_symbols_modules.specs.Dbi.{dbi_of}
-use Rattle.pdb_symbols_modules.specs.declared.optional_header.TheConstants.{SECTION_HEADERS}
 use Rattle.pdb_symbols_modules.specs.Modules.{Module, modules_of}
-use Rattle.pdb_symbols_modules.specs.OptionalHeader.{optional_at}
+use Rattle.pdb_symbols_modules.specs.OptionalHeader.{optional_at, sections_place}
 use Rattle.pdb_container.specs.Listing.{whole}
 use Rattle.pdb_report.specs.Procedures.{Info}
 
@@ -49,7 +48,7 @@ shared s = record {
   dbi = s.at 3;
   ids = s.at 4;
   symbols = symbols_number (s.at 3) >>= s.at;
-  section_headers = optional_number SECTION_HEADERS (s.at 3) >>= s.at;
+  section_headers = optional_number sections_place (s.at 3) >>= s.at;
 }
 
 -- ---- modules

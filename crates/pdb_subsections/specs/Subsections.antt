@@ -12,6 +12,22 @@ pub record Subsection : Type 0 where
   pub kind : ℕ
   pub bytes : List ℕ
 
+-- the kinds that are read: line data, checksums of files, inlined functions, imports and exports
+abbrev pub lines_kind : ℕ
+lines_kind = 0xf2
+
+abbrev pub files_kind : ℕ
+files_kind = 0xf4
+
+abbrev pub inlinees_kind : ℕ
+inlinees_kind = 0xf6
+
+abbrev pub imports_kind : ℕ
+imports_kind = 0xf7
+
+abbrev pub exports_kind : ℕ
+exports_kind = 0xf8
+
 -- how far it is from a place to the next multiple of 4
 abbrev pub padding : ℕ → ℕ
 padding place = next_multiple_of place 4 - place

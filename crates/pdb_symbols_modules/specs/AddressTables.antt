@@ -6,8 +6,7 @@ use Rattle.pdb_container_types.specs.Addresses.{Map, map_of}
 use Rattle.pdb_container_types.specs.Omap.{omap_of}
 use Rattle.pdb_container_types.specs.Sections.{section_headers_of}
 use Rattle.pdb_symbols_modules.specs.Dbi.{Dbi}
-use Rattle.pdb_symbols_modules.specs.declared.optional_header.TheConstants.{OMAP_TO_SOURCE, OMAP_FROM_SOURCE, SECTION_HEADERS, ORIGINAL_SECTION_HEADERS}
-use Rattle.pdb_symbols_modules.specs.OptionalHeader.{optional_stream}
+use Rattle.pdb_symbols_modules.specs.OptionalHeader.{optional_stream, to_source_place, from_source_place, sections_place, original_sections_place}
 use Rattle.pdb_symbols_modules.specs.Streams.{Streams}
 
 -- what a stream that may be there says
@@ -18,21 +17,21 @@ said read (Some bytes) = read bytes >>= λ x. Ok (Some x)
 -- the sections of the image, where there is a list of them
 unfoldable pub sections_by : Streams → Dbi → Result (Option (List ImageSectionHeader)) Fault
 sections_by s d = do
-  found ← optional_stream s d SECTION_HEADERS
+  found ← optional_stream s d sections_place
   said section_headers_of found
 
 -- those of the space in which the database was written, where there is a list of them
 unfoldable pub original_sections_by : Streams → Dbi → Result (Option (List ImageSectionHeader)) Fault
 original_sections_by s d = do
-  found ← optional_stream s d ORIGINAL_SECTION_HEADERS
+  found ← optional_stream s d original_sections_place
   said section_headers_of found
 
 -- the ways between both spaces
 unfoldable pub map_behind : Streams → Dbi → List ImageSectionHeader → List ImageSectionHeader → Result Map Fault
 map_behind s d image original = do
-  to_source ← optional_stream s d OMAP_TO_SOURCE
+  to_source ← optional_stream s d to_source_place
   to_original ← said omap_of to_source
-  from_source ← optional_stream s d OMAP_FROM_SOURCE
+  from_source ← optional_stream s d from_source_place
   to_image ← said omap_of from_source
   Ok (map_of (Some original) image to_original to_image)
 

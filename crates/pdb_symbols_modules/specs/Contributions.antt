@@ -1,11 +1,10 @@
 -- The contributions of stream 3: which module put which part into a section.
-use Rattle.std.specs.Prelude.{ℕ, List, [], ◌∷◌, ◌==◌, None, if◌then◌else◌, Result, Ok, Err, codes}
+use Rattle.std.specs.Prelude.{ℕ, ◌+◌, List, [], ◌∷◌, ◌==◌, None, if◌then◌else◌, Result, Ok, Err, codes}
 use Rattle.std.specs.Int.{w16, w32}
 use Rattle.pdb_container.specs.Fault.{Fault, UnimplementedFeature, ◌>>=◌}
 use Rattle.pdb_container.specs.Fields.{Reader, number_at}
 use Rattle.pdb_container.specs.Listing.{Listing, ending, listing}
 use Rattle.pdb_symbols_modules.specs.declared.contributions.DBISectionContribution.{DBISectionContribution}
-use Rattle.pdb_symbols_modules.specs.declared.contributions.TheConstants.{VERSION_60, VERSION_2}
 use Rattle.pdb_symbols_modules.specs.declared.contributions.Version.{Version}
 use Rattle.pdb_symbols_modules.specs.declared.contributions.Version.TheVariants as versions
 
@@ -46,7 +45,7 @@ contribution_for versions.V2 = long_contribution_at
 
 -- the version of a number
 abbrev pub version_of : ℕ → Result Version Fault
-version_of n = if n == VERSION_60 then Ok versions.Ver60 else (if n == VERSION_2 then Ok versions.V2 else Err (UnimplementedFeature (codes "section contribution version")))
+version_of n = if n == 0xeffe0000 + 19970605 then Ok versions.Ver60 else (if n == 0xeffe0000 + 20140516 then Ok versions.V2 else Err (UnimplementedFeature (codes "section contribution version")))
 
 -- the entries behind their version, and how they end; an empty substream has none
 unfoldable pub contributions_of : List ℕ → Result (Listing DBISectionContribution) Fault

@@ -8,7 +8,9 @@ use Rattle.pdb_container_types.specs.Addresses.{Map}
 use Rattle.pdb_symbols_modules.specs.AddressTables.{sections_by, address_map_by}
 use Rattle.pdb_symbols_modules.specs.Dbi.{Dbi, dbi_of}
 use Rattle.pdb_symbols_modules.specs.Information.{Information, information_of, stream_names_of, number_of}
-use Rattle.pdb_symbols_modules.specs.Streams.{Streams}
+use Rattle.pdb_modules.specs.ModuleStream.{ModuleStream}
+use Rattle.pdb_symbols_modules.specs.Modules.{Module, modules_of}
+use Rattle.pdb_symbols_modules.specs.Streams.{Streams, stream_if_named}
 
 -- what the database says of itself
 unfoldable pub information : Streams → Result Information Fault
@@ -63,3 +65,31 @@ unfoldable pub address_map : Streams → Result Map Fault
 address_map s = do
   d ← debug_information s
   address_map_by s d
+
+-- ---- modules
+
+-- a module's own stream, with the sizes of its parts
+abbrev pub module_stream : Module → List ℕ → ModuleStream
+module_stream m bytes = record { bytes = bytes; symbols_size = m.symbols_size; c11_lines_size = m.c11_lines_size; c13_lines_size = m.c13_lines_size }
+
+-- what a module's own stream holds, where it has one
+unfoldable pub module_info : Streams → Module → Result (Option ModuleStream) Fault
+module_info s m = do
+  found ← stream_if_named s m.stream
+  Ok (option_map (module_stream m) found)
+
+-- the module of a number, counted from 0, of those that stream 3 lists
+unfoldable pub module_of_number : Streams → ℕ → Result (Option Module) Fault
+module_of_number s k = do
+  d ← debug_information s
+  Ok (slice_get (modules_of d.modules).items k)
+
+abbrev pub info_of : Streams → Option Module → Result (Option ModuleStream) Fault
+info_of s None = Ok None
+info_of s (Some m) = module_info s m
+
+-- what its own stream holds
+unfoldable pub info_of_number : Streams → ℕ → Result (Option ModuleStream) Fault
+info_of_number s k = do
+  m ← module_of_number s k
+  info_of s m

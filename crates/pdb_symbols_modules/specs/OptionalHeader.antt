@@ -6,6 +6,20 @@ use Rattle.pdb_container.specs.Fields.{number_at}
 use Rattle.pdb_symbols_modules.specs.Dbi.{Dbi}
 use Rattle.pdb_symbols_modules.specs.Streams.{Streams, stream_if_named}
 
+-- the places of the numbers that are used, counted from 0: of the map from addresses of the image to those of the database, of
+-- the map back, of the section headers, and of those before the image's code was moved
+abbrev pub to_source_place : ℕ
+to_source_place = 3
+
+abbrev pub from_source_place : ℕ
+from_source_place = 4
+
+abbrev pub sections_place : ℕ
+sections_place = 5
+
+abbrev pub original_sections_place : ℕ
+original_sections_place = 10
+
 -- what is read, or another number where it isn't there
 abbrev pub value_or : ℕ → Result (ℕ × List ℕ) Fault → ℕ
 value_or other (Ok read) = read.0

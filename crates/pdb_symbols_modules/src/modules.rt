@@ -4,10 +4,12 @@ ghost use Rattle.std.specs.Prelude.{◌≡◌, ◌<◌, drop, length, IfOk, None
 ghost use Rattle.pdb_container.specs.Buffer.{rest, ReadsAll};
 ghost use Rattle.pdb_container.specs.Listing.{Listing, ending, Advances};
 ghost use Rattle.pdb_container.specs.RawString.{raw_bytes};
+ghost use Rattle.pdb_symbols_modules.specs.Opened.{module_stream};
 ghost use Rattle.pdb_symbols_modules.specs.Modules.{module_at, modules_of, padding as padding_of};
 
 use crate::stream_index::StreamIndex;
-use pdb_container::{Error, FallibleIterator, ParseBuffer, RawString, Result};
+use pdb_container::{Error, FallibleIterator, ParseBuffer, RawString, Result, Stream};
+use pdb_modules::ModuleInfo;
 use std::marker::Model;
 
 /// A module: where its own stream is, the sizes of that stream's parts, and its names.
@@ -71,6 +73,18 @@ impl<'m> Module<'m> {
         ensures { result ≡ self.now.c13_lines_size }
     {
         self.c13_lines_size
+    }
+
+    /// What these bytes hold, as the module's own stream.
+    pub(crate) fn info<'s>(&self, stream: Stream<'s>) -> ModuleInfo<'s>
+        ensures { result ≡ module_stream self.now stream.entry }
+    {
+        ModuleInfo::new(
+            stream,
+            self.symbols_size,
+            self.c11_lines_size,
+            self.c13_lines_size,
+        )
     }
 }
 

@@ -5,12 +5,13 @@ ghost use Rattle.pdb_container.specs.Fault.{fault_of, Gives, HasRisen, IsOutside
 ghost use Rattle.pdb_symbols_modules.specs.AddressTables.{said, sections_by, original_sections_by, map_with, map_behind, address_map_by};
 ghost use Rattle.pdb_container_types.specs.Omap.{omap_of};
 ghost use Rattle.pdb_container_types.specs.Sections.{section_headers_of};
-ghost use Rattle.pdb_symbols_modules.specs.Opened.{information, named_stream, names, debug_information, types, ids, global_symbols, sections, address_map};
+ghost use Rattle.pdb_symbols_modules.specs.Opened.{information, named_stream, names, debug_information, types, ids, global_symbols, sections, address_map, module_info};
 ghost use Rattle.pdb_symbols_modules.specs.OptionalHeader.{optional_stream};
 ghost use Rattle.pdb_symbols_modules.specs.Streams.{streams, stream_if_named};
 
 use crate::dbi::DebugInformation;
 use crate::information::PDBInformation;
+use crate::modules::Module;
 use crate::optional_header::{
     OMAP_FROM_SOURCE, OMAP_TO_SOURCE, ORIGINAL_SECTION_HEADERS, SECTION_HEADERS,
 };
@@ -20,6 +21,7 @@ use pdb_container_types::{
     AddressMap, ImageSectionHeader, OMAPRecord, parse_omap, parse_section_headers,
 };
 use pdb_items::{IdInformation, ItemIndex, ItemInformation, TypeInformation};
+use pdb_modules::{ModuleInfo, SymbolTable};
 use std::alloc::Global;
 use std::marker::Model;
 
@@ -159,13 +161,13 @@ impl<'s, S: Source + Drop> PDB<'s, S> {
         StringTable::parse(stream)
     }
 
-    /// The stream of the global symbols.
+    /// The global symbols.
     ///
     /// # Errors
     /// Those of [`PDB::debug_information`]; `GlobalSymbolsNotFound` where it names no such stream; those of reading a
     /// stream.
     #[tactic(auto, using(pdb_container::proofs::Outside::outside_alone, pdb_container::proofs::Outside::outside_earlier, pdb_container::proofs::Outside::outside_later), unfolding(crate::specs::Opened::global_symbols))]
-    pub fn global_symbols(&mut self, alloc: Global) -> Result<Stream<'s>>
+    pub fn global_symbols(&mut self, alloc: Global) -> Result<SymbolTable<'s>>
         ensures same { S.bytes self.new ≡ S.bytes self.old }
         ensures counts { S.failures self.old ≤ S.failures self.new }
         ensures exact { Gives (λ s. s) (HasRisen (S.failures self.old) (S.failures self.new)) result (global_symbols (streams (S.bytes self.old))) }
@@ -175,7 +177,29 @@ impl<'s, S: Source + Drop> PDB<'s, S> {
         if index.is_none() {
             return Err(Error::GlobalSymbolsNotFound);
         }
-        self.stream(alloc, u32::from(index.0))
+        let stream = self.stream(alloc, u32::from(index.0))?;
+        Ok(SymbolTable::new(stream))
+    }
+
+    /// What a module's own stream holds; `None` where the module has none. It depends on that stream and on the sizes
+    /// that the module states alone.
+    ///
+    /// # Errors
+    /// Those of reading a stream ([`PDB::raw_stream`]).
+    #[tactic(auto, unfolding(crate::specs::Opened::module_info))]
+    pub fn module_info(
+        &mut self,
+        alloc: Global,
+        module: &Module<'_>,
+    ) -> Result<Option<ModuleInfo<'s>>>
+        ensures same { S.bytes self.new ≡ S.bytes self.old }
+        ensures counts { S.failures self.old ≤ S.failures self.new }
+        ensures exact { Gives (λ m. m) (HasRisen (S.failures self.old) (S.failures self.new)) result (module_info (streams (S.bytes self.old)) «module».now) }
+    {
+        match self.raw_stream(alloc, module.stream())? {
+            None => Ok(None),
+            Some(stream) => Ok(Some(module.info(stream))),
+        }
     }
 
     /// The sections of the image; `None` where the database has no list of them.
