@@ -1,5 +1,5 @@
 -- What is read of a database, as functions of its streams: each with its first fault.
-use Rattle.std.specs.Prelude.{ℕ, List, nat_lt, Option, Result, codes}
+use Rattle.std.specs.Prelude.{ℕ, List, nat_lt, Option, Result, Ok, codes, None, Some, option_map, slice_get}
 use Rattle.pdb_container.specs.Fault.{Fault, GlobalSymbolsNotFound, ◌>>=◌, guard}
 use Rattle.pdb_container.specs.Names.{names_of}
 use Rattle.pdb_items.specs.Items.{Table, table_of}

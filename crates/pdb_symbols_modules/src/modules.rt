@@ -79,12 +79,13 @@ impl<'m> Module<'m> {
     pub(crate) fn info<'s>(&self, stream: Stream<'s>) -> ModuleInfo<'s>
         ensures { result ≡ module_stream self.now stream.entry }
     {
-        ModuleInfo::new(
-            stream,
-            self.symbols_size,
-            self.c11_lines_size,
-            self.c13_lines_size,
-        )
+        let Module {
+            symbols_size,
+            c11_lines_size,
+            c13_lines_size,
+            ..
+        } = self;
+        ModuleInfo::new(stream, *symbols_size, *c11_lines_size, *c13_lines_size)
     }
 }
 

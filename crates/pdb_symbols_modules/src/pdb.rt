@@ -166,7 +166,7 @@ impl<'s, S: Source + Drop> PDB<'s, S> {
     /// # Errors
     /// Those of [`PDB::debug_information`]; `GlobalSymbolsNotFound` where it names no such stream; those of reading a
     /// stream.
-    #[tactic(auto, using(pdb_container::proofs::Outside::outside_alone, pdb_container::proofs::Outside::outside_earlier, pdb_container::proofs::Outside::outside_later), unfolding(crate::specs::Opened::global_symbols))]
+    #[tactic(auto, using(pdb_container::proofs::Outside::outside_alone, pdb_container::proofs::Outside::outside_earlier, pdb_container::proofs::Outside::outside_later), unfolding(crate::specs::Opened::global_symbols, crate::specs::Streams::stream_if_named))]
     pub fn global_symbols(&mut self, alloc: Global) -> Result<SymbolTable<'s>>
         ensures same { S.bytes self.new ≡ S.bytes self.old }
         ensures counts { S.failures self.old ≤ S.failures self.new }
@@ -174,11 +174,10 @@ impl<'s, S: Source + Drop> PDB<'s, S> {
     {
         let debug_information = self.debug_information(alloc)?;
         let index = debug_information.symbol_records_stream();
-        if index.is_none() {
-            return Err(Error::GlobalSymbolsNotFound);
+        match self.raw_stream(alloc, index)? {
+            None => Err(Error::GlobalSymbolsNotFound),
+            Some(stream) => Ok(SymbolTable::new(stream)),
         }
-        let stream = self.stream(alloc, u32::from(index.0))?;
-        Ok(SymbolTable::new(stream))
     }
 
     /// What a module's own stream holds; `None` where the module has none. It depends on that stream and on the sizes
