@@ -1,6 +1,6 @@
 -- What the calls of an open database give is what loading goes over, where stream 3 was read.
-use Rattle.std.proofs.Common.{◌≡◌, ℕ, Bool, true, false, List, [], inl, inr, Result, Ok, Err, ◌||◌, refl, sym, ap, ◌∙◌, subst}
-use Rattle.std.specs.Prelude.{◌⊎◌, nat_lt, Option, None, Some}
+use Rattle.std.proofs.Common.{◌≡◌, ℕ, Bool, true, false, List, inl, inr, Result, Ok, Err, ◌||◌, refl, sym, ap, ◌∙◌, subst}
+use Rattle.std.specs.Prelude.{◌⊎◌, nat_lt, None, Some}
 use Rattle.std.proofs.lemmas.Bool.{cases_Bool}
 use Rattle.pdb_container.specs.declared.error.Error.{Error}
 use Rattle.pdb_container.specs.Fault.{Fault, fault_of, IsOutside, HasRisen, ◌>>=◌, refuse}
@@ -8,7 +8,7 @@ use Rattle.pdb_container_types.specs.declared.sections.ImageSectionHeader.{Image
 use Rattle.pdb_container_types.specs.Addresses.{Map, map_of, IsOrdered}
 use Rattle.pdb_container_types.specs.Sections.{section_headers_of}
 use Rattle.pdb_items.specs.Items.{Table, table_of}
-use Rattle.pdb_symbols_modules.specs.AddressTables.{said, or_none, sections_by, original_sections_by, map_with, address_map_by}
+use Rattle.pdb_symbols_modules.specs.AddressTables.{said, or_none, sections_by, original_sections_by, address_map_by}
 use Rattle.pdb_symbols_modules.specs.Dbi.{Dbi, dbi_of}
 use Rattle.pdb_container.specs.Listing.{whole}
 use Rattle.pdb_symbols_modules.specs.Modules.{modules_of}

@@ -12,7 +12,7 @@ use Rattle.pdb_report.specs.Faults.{LoadingFault, NotYet, Fails, loading_fault_o
 use Rattle.pdb_symbols_modules.specs.Streams.{Streams}
 use Rattle.pdb_symbols_modules.specs.Modules.{Module}
 use Rattle.pdb_report.specs.Procedures.{Procedure, symbols_in}
-use Rattle.pdb_report.specs.Loading.{module_info, has_other_symbols}
+use Rattle.pdb_report.specs.Loading.{own_stream, has_other_symbols}
 use Rattle.pdb_report.specs.Kept.{plain_procedures, module_procedures, all_procedures}
 
 -- ---- one module more
@@ -30,12 +30,12 @@ read_well : (other : Bool) (own all : List Procedure) → cond other (Err NotYet
 read_well true own all h = absurd cc
 read_well false own all h = (refl, cc)
 
-opened : (s : Streams) (m : Module) → plain_procedures (module_info s m >>= symbols_in) ≡ cond (has_other_symbols s m) (Err NotYet) (Ok (module_procedures s m))
+opened : (s : Streams) (m : Module) → plain_procedures (own_stream s m >>= symbols_in) ≡ cond (has_other_symbols s m) (Err NotYet) (Ok (module_procedures s m))
 unfolding plain_procedures
 opened s m = elim (has_other_symbols s m) as (λ b. (refuse b NotYet >>= λ plain. Ok (module_procedures s m)) ≡ cond b (Err NotYet) (Ok (module_procedures s m))) [ true ↦ refl | false ↦ refl ]
 
 pub modules_more : (s : Streams) (modules : List Module) (i : ℕ) (m : Module) (front : List (List Procedure)) (own : List Procedure) → i < length modules → m ≡ get_or modules i m
-    → plain_procedures (module_info s m >>= symbols_in) ≡ Ok own
+    → plain_procedures (own_stream s m >>= symbols_in) ≡ Ok own
     → front ≡ map (module_procedures s) (take i modules) → list_any (has_other_symbols s) (take i modules) ≡ false
     → (front ++ own ∷ [] ≡ map (module_procedures s) (take (i + 1) modules)) × (list_any (has_other_symbols s) (take (i + 1) modules) ≡ false)
 modules_more s modules i m front own lt is read so_far plain =
@@ -67,7 +67,7 @@ read_ill true own f h = (refl, cc)
 read_ill false own f h = absurd cc
 
 refused : (s : Streams) (modules : List Module) (i : ℕ) (m : Module) (f : LoadingFault) → i < length modules → m ≡ get_or modules i m
-    → plain_procedures (module_info s m >>= symbols_in) ≡ Err f → all_procedures s modules ≡ Err f
+    → plain_procedures (own_stream s m >>= symbols_in) ≡ Err f → all_procedures s modules ≡ Err f
 unfolding all_procedures
 refused s modules i m f lt is read =
     let here = read_ill (has_other_symbols s m) (module_procedures s m) f (sym (opened s m) ∙ read) in
@@ -75,7 +75,7 @@ refused s modules i m f lt is read =
     rw found (ap (λ (t : LoadingFault). Err t) here.1)
 
 pub modules_fail : (s : Streams) (modules : List Module) (i : ℕ) (m : Module) (e : LoadFault) → i < length modules → m ≡ get_or modules i m
-    → Fails e (plain_procedures (module_info s m >>= symbols_in)) → Fails e (all_procedures s modules)
+    → Fails e (plain_procedures (own_stream s m >>= symbols_in)) → Fails e (all_procedures s modules)
 modules_fail s modules i m faults.OutOfMemory lt is h = tt
 modules_fail s modules i m (faults.Pdb contexts.OutOfMemory) lt is h = h
 modules_fail s modules i m (faults.Pdb (contexts.PdbError errors.OutOfMemory)) lt is h = h

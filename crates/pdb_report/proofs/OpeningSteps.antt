@@ -1,5 +1,5 @@
 -- The steps of opening a file: where one fails, and what is kept at the end.
-use Rattle.std.proofs.Common.{◌≡◌, ℕ, zero, suc, ◌⊎◌, inl, inr, Bool, true, false, List, [], ◌∷◌, Result, Ok, Err, refl, sym, ap, ◌∙◌}
+use Rattle.std.proofs.Common.{◌≡◌, ℕ, zero, suc, ◌⊎◌, Bool, true, false, List, [], ◌∷◌, Result, Ok, Err, refl, sym, ap, ◌∙◌}
 use Rattle.std.specs.Prelude.{Option, None, Some, map, slice_get}
 use Rattle.std.specs.List.{list_any}
 use Rattle.pdb_container.specs.declared.error.Error.{Error}
@@ -11,6 +11,7 @@ use Rattle.pdb_report.specs.declared.pdb_addr2line.Error.TheVariants as contexts
 use Rattle.pdb_container.specs.Listing.{whole}
 use Rattle.pdb_container_types.specs.Addresses.{Map, IsOrdered}
 use Rattle.pdb_symbols_modules.specs.Opened.{debug_information}
+use Rattle.pdb_symbols_modules.specs.Opened.{module_stream as own_stream_of}
 use Rattle.pdb_report.specs.declared.pdb_addr2line.contributions.ModuleSectionContribution.{ModuleSectionContribution}
 use Rattle.pdb_report.specs.Faults.{LoadingFault, NotYet, lifted, load_fault_of, loading_fault_of, Fails}
 use Rattle.pdb_report.specs.RunFaults.{OnLoad, run_fault_of}
@@ -19,7 +20,7 @@ use Rattle.pdb_symbols_modules.specs.Dbi.{Dbi, dbi_of}
 use Rattle.pdb_symbols_modules.specs.Modules.{Module, modules_of}
 use Rattle.pdb_report.specs.Procedures.{Procedure, symbols_in, procedures, procedures_of}
 use Rattle.pdb_report.specs.Shared.{number, named, module_in, module_of, module_number, module_stream, info_from, shared, provider}
-use Rattle.pdb_report.specs.Loading.{load_fault, Refuses, IsFileFault, Parts, none_or, loaded_behind, loaded, module_info, has_other_symbols, answerable}
+use Rattle.pdb_report.specs.Loading.{load_fault, Refuses, IsFileFault, Parts, none_or, loaded_behind, loaded, own_stream, has_other_symbols, answerable}
 use Rattle.pdb_report.specs.Kept.{module_procedures, all_procedures, list_or_none, procedures_at, tables, IsKept}
 use Rattle.pdb_report.proofs.Lifting.{fails_on, loads_on, opening_fails}
 
@@ -90,9 +91,9 @@ entry_at s dbi modules k h listed =
     sym (in_turn (s.at 3) dbi_of (λ d. whole (modules_of d.modules) >>= λ found. module_in (slice_get found k))) ∙ rw (h, listed) refl
 
 provided : (s : Streams) (k : ℕ) (found : Option Module) → module_of (s.at 3) k ≡ module_in found → procedures (provider s k) ≡ list_or_none (elim found [ None ↦ None | Some m ↦ Some (module_procedures s m) ])
-unfolding provider info_from module_stream module_number named module_info
+unfolding provider info_from module_stream module_number named own_stream
 provided s k None h = rw h refl
-provided s k (Some m) h = rw h (ap (λ r. procedures_of (r >>= symbols_in)) (in_turn (number m.stream) s.at (λ bytes. Ok (record { bytes = bytes; symbols_size = m.symbols_size }))))
+provided s k (Some m) h = rw h (ap (λ r. procedures_of (r >>= symbols_in)) (in_turn (number m.stream) s.at (λ bytes. Ok (own_stream_of m bytes))))
 
 entry_procedures : (s : Streams) (modules : List Module) (k : ℕ) → list_or_none (elim (slice_get modules k) [ None ↦ None | Some m ↦ Some (module_procedures s m) ]) ≡ procedures_at (map (module_procedures s) modules) k
 entry_procedures s [] k = refl

@@ -10,8 +10,9 @@ use Rattle.std.proofs.lemmas.Bool.Decides.{nat_tests}
 use Rattle.std.proofs.lemmas.Bool.{lt-ltb, le-ltb, cases_lt}
 use Rattle.std.proofs.lemmas.List.{drop_more, drop_all}
 use Rattle.pdb_container_types.specs.declared.internal_section_offset.PdbInternalSectionOffset.{PdbInternalSectionOffset}
-use Rattle.pdb_report.specs.Symbols.{Symbol, is_procedure, procedure_of}
-use Rattle.pdb_report.specs.Procedures.{Procedure, is_at, place_cmp, has_start, contains, later, over, if_over, is_inside, is_other, end_in, has_inner, has_other, onto_new, with_code, procedures_behind}
+use Rattle.pdb_symbols.specs.Kinds.{is_procedure}
+use Rattle.pdb_symbols.specs.Symbols.{Symbol, kind_of}
+use Rattle.pdb_report.specs.Procedures.{Procedure, procedure_of, is_at, place_cmp, has_start, contains, later, over, if_over, is_inside, is_other, end_in, has_inner, has_other, onto_new, with_code, procedures_behind}
 
 -- ---- the procedures that are kept
 
@@ -101,7 +102,7 @@ over_ends best procedures i place all past so_far =
 -- ---- symbols that aren't answered
 
 inside_none : (s : Symbol) → is_inside 0 s ≡ false
-inside_none s = rw (le-ltb s.index 0 (omega arith)) (elim (is_procedure s.kind) as (λ b. (b && false) ≡ false) [ true ↦ refl | false ↦ refl ])
+inside_none s = rw (le-ltb s.index 0 (omega arith)) (elim (is_procedure (kind_of s)) as (λ b. (b && false) ≡ false) [ true ↦ refl | false ↦ refl ])
 
 none_inside : (symbols : List Symbol) → list_any (is_inside 0) symbols ≡ false
 none_inside [] = refl
@@ -123,8 +124,8 @@ below_max i a b =
 
 inside_max : (a b : ℕ) (s : Symbol) → is_inside (max a b) s ≡ (is_inside a s || is_inside b s)
 inside_max a b s =
-    ap (λ t. is_procedure s.kind && t) (below_max s.index a b)
-    ∙ elim (is_procedure s.kind) as (λ p. (p && (ltb s.index a || ltb s.index b)) ≡ ((p && ltb s.index a) || (p && ltb s.index b))) [ true ↦ refl | false ↦ refl ]
+    ap (λ t. is_procedure (kind_of s) && t) (below_max s.index a b)
+    ∙ elim (is_procedure (kind_of s)) as (λ p. (p && (ltb s.index a || ltb s.index b)) ≡ ((p && ltb s.index a) || (p && ltb s.index b))) [ true ↦ refl | false ↦ refl ]
 
 crossed : (x y p q : Bool) → ((x || y) || (p || q)) ≡ ((x || p) || (y || q))
 crossed true y p q = refl

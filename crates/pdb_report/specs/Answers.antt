@@ -5,7 +5,6 @@ use Rattle.std.specs.Fmt.{decimal, digits, padded_integral, format_spec}
 use Rattle.std.specs.Str.Lossy.{utf8_lossy}
 use Rattle.pdb_container.specs.Fault.{Fault}
 use Rattle.pdb_container_types.specs.declared.internal_section_offset.PdbInternalSectionOffset.{PdbInternalSectionOffset}
-use Rattle.pdb_container_types.specs.declared.sections.ImageSectionHeader.{ImageSectionHeader}
 use Rattle.pdb_report.specs.Address.{address_of}
 use Rattle.pdb_report.specs.Faults.{LoadingFault}
 use Rattle.pdb_symbols_modules.specs.Streams.{Streams}
@@ -13,7 +12,8 @@ use Rattle.pdb_container_types.specs.Addresses.{Map, inner_place, outer_of_place
 use Rattle.pdb_container_types.specs.Numbers.{in_32_bits}
 use Rattle.pdb_container_types.specs.Places.{internal_place}
 use Rattle.pdb_report.specs.Contributions.{holder}
-use Rattle.pdb_report.specs.Procedures.{Info, Procedure, procedures, over}
+use Rattle.pdb_report.specs.Procedures.{Procedure, procedures, over}
+use Rattle.pdb_modules.specs.ModuleStream.{ModuleStream}
 use Rattle.pdb_report.specs.Shared.{Provider, provider}
 use Rattle.pdb_report.specs.Loading.{Parts, answerable}
 
@@ -32,7 +32,7 @@ pub data Answer : Type 0 where
 
 -- what an answer in one module depends on, besides the parts
 pub record Scope : Type 0 where
-  pub own : Result Info Fault
+  pub own : Result ModuleStream Fault
 
 unfoldable pub scope : Provider → ℕ → Scope
 scope provided m = record { own = provided m }

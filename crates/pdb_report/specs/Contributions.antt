@@ -1,9 +1,7 @@
 -- What modules hold of sections, by the contributions of stream 3.
-use Rattle.std.specs.Prelude.{ℕ, ◌+◌, ◌-◌, ◌^◌, Bool, false, ◌&&◌, min, List, [], ◌∷◌, length, map, nat_lt, nat_le, ◌==◌, Option, None, Some, if◌then◌else◌, Result, Ok, Err, codes}
+use Rattle.std.specs.Prelude.{ℕ, ◌+◌, ◌-◌, ◌^◌, Bool, false, ◌&&◌, min, List, length, map, nat_lt, nat_le, ◌==◌, Option, None, Some, Result, Ok}
 use Rattle.std.specs.List.{filter, find}
-use Rattle.std.specs.Int.{w16, w32}
-use Rattle.pdb_container.specs.Fault.{Fault, UnimplementedFeature, ◌>>=◌, refuse}
-use Rattle.pdb_container.specs.Fields.{Reader, number_at, entries}
+use Rattle.pdb_container.specs.Fault.{◌>>=◌, refuse}
 use Rattle.pdb_container_types.specs.declared.sections.ImageSectionHeader.{ImageSectionHeader}
 use Rattle.pdb_container_types.specs.declared.internal_section_offset.PdbInternalSectionOffset.{PdbInternalSectionOffset}
 use Rattle.pdb_symbols_modules.specs.declared.contributions.DBISectionContribution.{DBISectionContribution}

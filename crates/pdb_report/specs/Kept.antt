@@ -2,7 +2,6 @@
 use Rattle.std.specs.Prelude.{◌≡◌, ℕ, List, [], Option, None, Some, map, option_map, slice_get, Result, Ok, Err}
 use Rattle.std.specs.List.{list_any}
 use Rattle.pdb_container.specs.Fault.{refuse, ◌>>=◌}
-use Rattle.pdb_container_types.specs.declared.sections.ImageSectionHeader.{ImageSectionHeader}
 use Rattle.pdb_container_types.specs.declared.internal_section_offset.PdbInternalSectionOffset.{PdbInternalSectionOffset}
 use Rattle.pdb_report.specs.declared.pdb_addr2line.contributions.ModuleSectionContribution.{ModuleSectionContribution}
 use Rattle.pdb_report.specs.Faults.{LoadingFault, NotYet}
@@ -11,11 +10,11 @@ use Rattle.pdb_symbols_modules.specs.Modules.{Module}
 use Rattle.pdb_container_types.specs.Addresses.{Map, inner_place, IsOrdered}
 use Rattle.pdb_container_types.specs.Places.{internal_place}
 use Rattle.pdb_report.specs.Contributions.{holder}
-use Rattle.pdb_report.specs.Symbols.{Symbol}
+use Rattle.pdb_symbols.specs.Symbols.{Symbol}
 use Rattle.pdb_container.specs.Fault.{Fault}
 use Rattle.pdb_report.specs.Procedures.{Procedure, procedures_of, procedures, over, has_other}
 use Rattle.pdb_report.specs.Shared.{provider}
-use Rattle.pdb_report.specs.Loading.{Parts, module_info, has_other_symbols, answerable}
+use Rattle.pdb_report.specs.Loading.{Parts, own_stream, has_other_symbols, answerable}
 use Rattle.pdb_report.specs.Answers.{Answer, Nothing, found}
 
 -- the procedures of a module's symbols, unless there are symbols that aren't answered yet
@@ -25,7 +24,7 @@ plain_procedures symbols = do
   Ok (procedures_of symbols)
 
 abbrev pub module_procedures : Streams → Module → List Procedure
-module_procedures s m = procedures (module_info s m)
+module_procedures s m = procedures (own_stream s m)
 
 -- the same of all modules
 unfoldable pub all_procedures : Streams → List Module → Result (List (List Procedure)) LoadingFault

@@ -10,5 +10,4 @@ pub mod Procedures
 pub mod RunFaults
 pub mod Seen
 pub mod Shared
-pub mod Symbols
 pub mod Watched

@@ -1,5 +1,5 @@
 -- What is read of a file before any question, and the fault that keeps it from being loaded.
-use Rattle.std.specs.Prelude.{◌≡◌, ℕ, Bool, ◌||◌, List, [], length, nat_lt, Option, None, Some, if◌then◌else◌, Result, Ok, Err}
+use Rattle.std.specs.Prelude.{◌≡◌, ℕ, Bool, ◌||◌, List, [], nat_lt, Option, None, Some, if◌then◌else◌, Result, Ok, Err}
 use Rattle.std.specs.List.{list_any}
 use Rattle.pdb_container.specs.Fault.{Fault, GlobalSymbolsNotFound, ◌>>=◌, refuse, guard}
 use Rattle.pdb_container_types.specs.declared.sections.ImageSectionHeader.{ImageSectionHeader}
@@ -17,9 +17,12 @@ use Rattle.pdb_container_types.specs.Addresses.{Map, map_of}
 use Rattle.pdb_container_types.specs.Sections.{section_headers_of}
 use Rattle.pdb_items.specs.Items.{table_of}
 use Rattle.pdb_container.specs.Listing.{whole}
-use Rattle.pdb_report.specs.Symbols.{symbols_of, is_public}
+use Rattle.pdb_symbols.specs.Kinds.{is_public}
+use Rattle.pdb_symbols.specs.Symbols.{Symbol, kind_of, symbols_from}
+use Rattle.pdb_modules.specs.ModuleStream.{ModuleStream}
+use Rattle.pdb_symbols_modules.specs.Opened.{module_stream}
 use Rattle.pdb_report.specs.Contributions.{held_of}
-use Rattle.pdb_report.specs.Procedures.{Info, symbols_in, has_other}
+use Rattle.pdb_report.specs.Procedures.{symbols_in, has_other}
 use Rattle.pdb_report.specs.Shared.{Bytes, number, Shared, shared}
 
 -- what every question goes over
@@ -66,6 +69,10 @@ address_tables optional_header headers = do
   sections ← lifted (sections_in image headers)
   Ok (map_of None sections None None)
 
+-- a public symbol
+abbrev pub is_public_symbol : Symbol → Bool
+is_public_symbol s = is_public (kind_of s)
+
 -- a module that says it has line data
 abbrev pub has_lines : Module → Bool
 has_lines m = nat_lt 0 m.c11_lines_size || nat_lt 0 m.c13_lines_size
@@ -79,9 +86,9 @@ loaded_behind c dbi = do
   ids ← lifted (c.ids >>= table_of)
   map ← address_tables dbi.optional_header c.section_headers
   modules ← lifted (whole (modules_of dbi.modules))
-  symbols ← lifted (symbols_of (length symbol_bytes) symbol_bytes)
+  symbols ← lifted (whole (symbols_from symbol_bytes 0))
   contributions ← held_of map.image dbi.contributions
-  no_publics ← refuse (list_any is_public symbols) NotYet
+  no_publics ← refuse (list_any is_public_symbol symbols) NotYet
   no_lines ← refuse (list_any has_lines modules) NotYet
   Ok record { map = map; modules = modules; contributions = contributions }
 
@@ -93,15 +100,15 @@ loaded c = do
   loaded_behind c dbi
 
 -- a module by its entry: its stream, if one is named
-unfoldable pub module_info : Streams → Module → Result Info Fault
-module_info s m = do
+unfoldable pub own_stream : Streams → Module → Result ModuleStream Fault
+own_stream s m = do
   n ← number m.stream
   bytes ← s.at n
-  Ok record { bytes = bytes; symbols_size = m.symbols_size }
+  Ok (module_stream m bytes)
 
 -- a module whose symbols can be read has some that aren't answered yet
 abbrev pub has_other_symbols : Streams → Module → Bool
-has_other_symbols s m = has_other (module_info s m >>= symbols_in)
+has_other_symbols s m = has_other (own_stream s m >>= symbols_in)
 
 -- The parts of a file whose modules have no such symbols. That check reads the modules' streams, and so it stands
 -- behind loading and not in it.

@@ -1,33 +1,33 @@
 -- What is read of a module's stream: its symbols, and its procedures.
-use Rattle.std.specs.Prelude.{ℕ, ◌+◌, Bool, false, ◌||◌, ◌&&◌, not, List, [], ◌∷◌, ◌++◌, length, take, nat_lt, nat_le, ◌==◌, Option, None, Some, if◌then◌else◌, Result, Ok, Err, codes}
+use Rattle.std.specs.Prelude.{ℕ, ◌+◌, Bool, false, ◌||◌, ◌&&◌, not, List, [], ◌∷◌, ◌++◌, nat_lt, nat_le, ◌==◌, Option, None, Some, if◌then◌else◌, Result, Ok, Err}
 use Rattle.std.specs.List.{list_any}
 use Rattle.std.specs.declared.cmp.Ordering.{Ordering}
 use Rattle.std.specs.Ordering.{nat_cmp, ordering_then}
-use Rattle.std.specs.Int.{w32}
-use Rattle.pdb_container.specs.Fault.{Fault, UnexpectedEof, UnimplementedFeature, ◌>>=◌, refuse}
-use Rattle.pdb_container.specs.Fields.{number_at}
+use Rattle.pdb_container.specs.Fault.{Fault, ◌>>=◌}
 use Rattle.pdb_container_types.specs.declared.internal_section_offset.PdbInternalSectionOffset.{PdbInternalSectionOffset}
-use Rattle.pdb_report.specs.declared.pdb_modules.TheConstants as kinds
-use Rattle.pdb_report.specs.Symbols.{Symbol, symbols_of, ProcedureSymbol, procedure_of, is_procedure, is_thunk, is_inline_site}
+use Rattle.pdb_container.specs.Listing.{whole}
+use Rattle.pdb_symbols.specs.Forms as forms
+use Rattle.pdb_symbols.specs.Forms.{SymbolForm, ProcedureForm}
+use Rattle.pdb_symbols.specs.Kinds.{is_procedure, is_thunk, is_separated_code, is_inline_site}
+use Rattle.pdb_symbols.specs.Records.{symbol_form_of}
+use Rattle.pdb_symbols.specs.Symbols.{Symbol, kind_of, symbols_from}
+use Rattle.pdb_modules.specs.ModuleStream.{ModuleStream}
+use Rattle.pdb_modules.specs.ModuleStream.{symbols_in as symbol_bytes_in}
 
--- a module's stream, and how many of its bytes are symbols
-pub record Info : Type 0 where
-  pub bytes : List ℕ
-  pub symbols_size : ℕ
+-- ---- symbols
 
--- the symbols behind their signature; no bytes are no symbols
-unfoldable pub signed_symbols_of : List ℕ → Result (List Symbol) Fault
-signed_symbols_of [] = Ok []
-signed_symbols_of (b ∷ bytes) = do
-  signature ← number_at w32 (b ∷ bytes)
-  known ← refuse (not (signature.0 == 4)) (UnimplementedFeature (codes "symbol signature"))
-  symbols_of (length (b ∷ bytes)) signature.1
+-- what a symbol says, if it is a procedure
+abbrev pub as_procedure : Result SymbolForm Fault → Option ProcedureForm
+as_procedure (Ok (forms.Procedure p)) = Some p
+as_procedure other = None
+
+-- the procedure of a symbol that is one and can be read
+abbrev pub procedure_of : Symbol → Option ProcedureForm
+procedure_of s = as_procedure (symbol_form_of s)
 
 -- a module's symbols, which have to be there to their end
-unfoldable pub symbols_in : Info → Result (List Symbol) Fault
-symbols_in info = do
-  whole ← refuse (nat_lt (length info.bytes) info.symbols_size) UnexpectedEof
-  signed_symbols_of (take info.symbols_size info.bytes)
+unfoldable pub symbols_in : ModuleStream → Result (List Symbol) Fault
+symbols_in m = symbol_bytes_in m >>= λ bytes. whole (symbols_from bytes 4)
 
 -- ---- procedures
 
@@ -49,9 +49,9 @@ abbrev pub has_start : List Procedure → PdbInternalSectionOffset → Bool
 has_start kept p = list_any (λ q. is_at q.offset p) kept
 
 -- a procedure symbol that can be read, and has code
-abbrev pub with_code : Result ProcedureSymbol Fault → Option Procedure
-with_code (Err e) = None
-with_code (Ok p) = if p.len == 0 then None else Some (record { offset = p.offset; len = p.len; name = p.name })
+abbrev pub with_code : Option ProcedureForm → Option Procedure
+with_code None = None
+with_code (Some p) = if p.len == 0 then None else Some (record { offset = p.offset; len = p.len; name = p.name })
 
 -- one more procedure, unless one with its start is kept
 abbrev pub onto_new : List Procedure → Option Procedure → List Procedure
@@ -68,7 +68,7 @@ procedures_of (Err e) = []
 procedures_of (Ok symbols) = procedures_behind [] symbols
 
 -- a module's procedures: none where its stream isn't there or its symbols can't be read to their end
-abbrev pub procedures : Result Info Fault → List Procedure
+abbrev pub procedures : Result ModuleStream Fault → List Procedure
 procedures own = procedures_of (own >>= symbols_in)
 
 -- the place lies in the procedure, whose end may lie past 32 bits
@@ -92,21 +92,21 @@ over (q ∷ others) p = later (if_over q p) (over others p)
 -- ---- symbols that aren't answered yet
 
 -- a procedure that has a type
-abbrev pub has_type : Result ProcedureSymbol Fault → Bool
-has_type (Err e) = false
-has_type (Ok p) = not (p.type_index == 0)
+abbrev pub has_type : Option ProcedureForm → Bool
+has_type None = false
+has_type (Some p) = not (p.type_index.0 == 0)
 
 abbrev pub is_other : Symbol → Bool
-is_other s = is_thunk s.kind || (s.kind == kinds.S_SEPCODE) || is_inline_site s.kind || has_type (procedure_of s)
+is_other s = is_thunk (kind_of s) || is_separated_code (kind_of s) || is_inline_site (kind_of s) || has_type (procedure_of s)
 
 -- a procedure's symbol before an index
 abbrev pub is_inside : ℕ → Symbol → Bool
-is_inside end s = is_procedure s.kind && nat_lt s.index end
+is_inside end s = is_procedure (kind_of s) && nat_lt s.index end
 
 -- a procedure's end, if the symbol is a procedure's that can be read
-abbrev pub end_in : Result ProcedureSymbol Fault → ℕ
-end_in (Err e) = 0
-end_in (Ok p) = p.end
+abbrev pub end_in : Option ProcedureForm → ℕ
+end_in None = 0
+end_in (Some p) = p.end.0
 
 -- a procedure's symbol between another one and its end
 abbrev pub has_inner : List Symbol → Bool

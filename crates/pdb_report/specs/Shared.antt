@@ -6,14 +6,15 @@ use Rattle.pdb_symbols_modules.specs.Dbi.{dbi_of}
 use Rattle.pdb_symbols_modules.specs.Modules.{Module, modules_of}
 use Rattle.pdb_symbols_modules.specs.OptionalHeader.{optional_at, sections_place}
 use Rattle.pdb_container.specs.Listing.{whole}
-use Rattle.pdb_report.specs.Procedures.{Info}
+use Rattle.pdb_modules.specs.ModuleStream.{ModuleStream}
+use Rattle.pdb_symbols_modules.specs.Opened.{module_stream as own_stream_of}
 
 abbrev pub Bytes : Type 0
 Bytes = Result (List ℕ) Fault
 
 -- a number that names a stream: 65535 names none
 abbrev pub number : ℕ → Result ℕ Fault
-number n = if nat_lt n 65535 then Ok n else Err (StreamNotFound n)
+number n = if nat_lt n 65535 then Ok n else Err (StreamNotFound 65535)
 
 -- a number that was read, if it names a stream
 unfoldable pub named : Result ℕ Fault → Result ℕ Fault
@@ -76,14 +77,14 @@ module_stream s k = module_number (s.at 3) k >>= s.at
 
 -- what a file gives of each module
 abbrev pub Provider : Type 0
-Provider = ℕ → Result Info Fault
+Provider = ℕ → Result ModuleStream Fault
 
 -- a module by its entry and its stream
-unfoldable pub info_from : Bytes → ℕ → Bytes → Result Info Fault
+unfoldable pub info_from : Bytes → ℕ → Bytes → Result ModuleStream Fault
 info_from dbi k stream = do
   m ← module_of dbi k
   bytes ← stream
-  Ok record { bytes = bytes; symbols_size = m.symbols_size }
+  Ok (own_stream_of m bytes)
 
 unfoldable pub provider : Streams → Provider
 provider s k = info_from (s.at 3) k (module_stream s k)

@@ -12,7 +12,6 @@ mod loading;
 mod modules;
 mod pdb_addr2line;
 mod pdb_module_data;
-mod pdb_modules;
 mod report;
 mod symbolizer;
 mod watched;

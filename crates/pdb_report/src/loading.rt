@@ -6,19 +6,21 @@ ghost use Rattle.pdb_container.specs.Fault.{Gives};
 ghost use Rattle.pdb_container.specs.Listing.{whole};
 ghost use Rattle.pdb_container_types.specs.Addresses.{IsOrdered};
 ghost use Rattle.pdb_report.specs.Faults.{Loads, lifted};
-ghost use Rattle.pdb_report.specs.Loading.{unmapped, address_tables, has_lines as has_lines_of, loaded_behind};
+ghost use Rattle.pdb_report.specs.Loading.{unmapped, address_tables, is_public_symbol, has_lines as has_lines_of, loaded_behind};
 ghost use Rattle.pdb_report.specs.Shared.{shared};
-ghost use Rattle.pdb_report.specs.Symbols.{is_public};
+ghost use Rattle.pdb_symbols.specs.Symbols.{symbols_from};
 ghost use Rattle.pdb_symbols_modules.specs.Modules.{modules_of};
 ghost use Rattle.pdb_symbols_modules.specs.Opened.{debug_information as read_dbi};
 ghost use Rattle.pdb_symbols_modules.specs.OptionalHeader.{optional_at};
 ghost use Rattle.pdb_symbols_modules.specs.Streams.{streams};
 
 use crate::fault::LoadFault;
+use crate::modules::collect_symbols;
 use crate::pdb_addr2line::contributions::{ModuleSectionContribution, held_contributions};
-use crate::pdb_modules::{Symbol, parse_symbols};
 use pdb_container::{FallibleIterator, Result};
 use pdb_container_types::AddressMap;
+use pdb_symbols::kinds::is_public;
+use pdb_symbols::{Symbol, SymbolTable};
 use pdb_symbols_modules::{
     DebugInformation, Module, ModuleIter, OMAP_FROM_SOURCE, OMAP_TO_SOURCE,
     ORIGINAL_SECTION_HEADERS, PDB,
@@ -98,11 +100,18 @@ fn read_modules<'m>(
     collect_modules(alloc, debug_information.modules())
 }
 
+/// The symbols of a table, to its end. `SymbolTooShort`, `UnexpectedEof`.
+fn read_symbols<'t>(alloc: Global, table: &'t SymbolTable<'_>) -> Result<Vec<Symbol<'t>>>
+    ensures { Gives (λ v. v.items) ⊥ result (whole (symbols_from table.now 0)) }
+{
+    collect_symbols(alloc, table.iter())
+}
+
 /// Whether some symbol is a public one.
 fn has_public(symbols: &[Symbol<'_>]) -> bool
-    ensures { result ≡ list_any is_public symbols.now }
+    ensures { result ≡ list_any is_public_symbol symbols.now }
 {
-    symbols.iter().any(|symbol| symbol.is_public())
+    symbols.iter().any(|symbol| is_public(symbol.raw_kind()))
 }
 
 /// Whether a module says that it has line data.
@@ -138,10 +147,12 @@ pub fn load_parts<'m>(
     pdb.id_information(alloc)?;
     let address_map = read_address_tables(pdb, alloc, debug_information)?;
     let modules = read_modules(alloc, debug_information)?;
-    let records = symbol_records.as_slice();
-    let symbols = parse_symbols(alloc, records.len(), records)?;
-    let contributions =
-        held_contributions(alloc, address_map.image_section_headers(), debug_information)?;
+    let symbols = read_symbols(alloc, &symbol_records)?;
+    let contributions = held_contributions(
+        alloc,
+        address_map.image_section_headers(),
+        debug_information,
+    )?;
     if has_public(symbols.as_slice()) {
         return Err(LoadFault::NotYet);
     }

@@ -4,17 +4,19 @@ ghost use Rattle.std.specs.Prelude.{◌≡◌, Ok};
 ghost use Rattle.pdb_container.specs.Fault.{Gives};
 ghost use Rattle.pdb_report.specs.Faults.{Loads};
 ghost use Rattle.pdb_report.specs.Kept.{plain_procedures, all_procedures};
-ghost use Rattle.pdb_report.specs.Loading.{behind, module_info};
+ghost use Rattle.pdb_report.specs.Loading.{behind, own_stream};
 ghost use Rattle.pdb_report.specs.Procedures.{symbols_in};
-ghost use Rattle.pdb_report.specs.Shared.{number as number_of};
+ghost use Rattle.pdb_container.specs.Listing.{whole};
+ghost use Rattle.pdb_symbols.specs.Iteration.{symbols_left};
 ghost use Rattle.pdb_symbols_modules.specs.Streams.{streams};
 
 use crate::fault::LoadFault;
 use crate::loading::Database;
-use crate::pdb_module_data::{Procedure, has_other_symbols, parse_module_symbols, procedures_of};
-use crate::pdb_modules::Symbol;
-use pdb_container::{Error, Result, Stream};
-use pdb_symbols_modules::{Module, StreamIndex};
+use crate::pdb_module_data::{Procedure, has_other_symbols, procedures_of};
+use pdb_container::{Error, FallibleIterator, Result};
+use pdb_modules::ModuleInfo;
+use pdb_symbols::{Symbol, SymbolIter};
+use pdb_symbols_modules::Module;
 use std::alloc::Global;
 use std::marker::Model;
 
@@ -42,16 +44,37 @@ impl ModuleProcedures {
     }
 }
 
-/// A stream that has to be named. `StreamNotFound` where the number names none, and the faults of reading it.
-#[tactic(auto, using(crate::proofs::Lifting::given_in_memory, crate::proofs::Lifting::outside_none), unfolding(pdb_symbols_modules::specs::Streams::stream_if_named))]
-fn read_stream(pdb: &mut Database, alloc: Global, index: StreamIndex) -> Result<Stream<'static>>
+/// A module's own stream, which it has to have. `StreamNotFound` where it has none, and the faults of reading it.
+#[tactic(auto, using(crate::proofs::Lifting::given_in_memory, crate::proofs::Lifting::outside_none), unfolding(crate::specs::Loading::own_stream, pdb_symbols_modules::specs::Opened::module_info, pdb_symbols_modules::specs::Streams::stream_if_named))]
+fn read_info(pdb: &mut Database, alloc: Global, entry: &Module<'_>) -> Result<ModuleInfo<'static>>
     ensures same { pdb.new.items ≡ pdb.old.items }
-    ensures exact { Gives (λ s. s) ⊥ result (behind (number_of index.0) (streams pdb.old.items).at) }
+    ensures exact { Gives (λ m. m) ⊥ result (own_stream (streams pdb.old.items) entry.now) }
 {
-    match pdb.raw_stream(alloc, index)? {
+    match pdb.module_info(alloc, entry)? {
         None => Err(Error::StreamNotFound(0xffff)),
-        Some(stream) => Ok(stream),
+        Some(info) => Ok(info),
     }
+}
+
+/// The symbols that are still to come, to their end. `SymbolTooShort`, `UnexpectedEof`.
+#[tactic(auto, using(pdb_container::proofs::Listings::gather_start, pdb_container::proofs::Listings::gather_more, pdb_container::proofs::Listings::gather_end, pdb_container::proofs::Listings::gather_fault))]
+pub fn collect_symbols<'t>(alloc: Global, mut remaining: SymbolIter<'t>) -> Result<Vec<Symbol<'t>>>
+    ensures { Gives (λ v. v.items) ⊥ result (whole (symbols_left remaining.entry)) }
+{
+    let mut symbols = Vec::new(alloc);
+    while let Some(symbol) = remaining.next()? {
+        symbols.push(symbol)?;
+    }
+    Ok(symbols)
+}
+
+/// A module's symbols, to their end. The faults of [`ModuleInfo::symbols`], `SymbolTooShort`, `UnexpectedEof`.
+#[tactic(auto, unfolding(crate::specs::Procedures::symbols_in))]
+fn read_symbols<'i>(alloc: Global, info: &'i ModuleInfo<'_>) -> Result<Vec<Symbol<'i>>>
+    ensures { Gives (λ v. v.items) ⊥ result (symbols_in info.now) }
+{
+    let symbols = info.symbols()?;
+    collect_symbols(alloc, symbols)
 }
 
 /// The procedures of symbols. `NotYet` where some symbol isn't answered yet.
@@ -73,12 +96,11 @@ fn plain_procedures_of(
 #[tactic(auto, unfolding(crate::specs::Kept::plain_procedures))]
 fn procedures_in(
     alloc: Global,
-    bytes: &[u8],
-    symbols_size: u32,
+    info: &ModuleInfo<'_>,
 ) -> std::result::Result<ModuleProcedures, LoadFault>
-    ensures { Loads (λ m. m) result (plain_procedures (symbols_in (record { bytes = bytes.now; symbols_size = symbols_size }))) }
+    ensures { Loads (λ m. m) result (plain_procedures (symbols_in info.now)) }
 {
-    match parse_module_symbols(alloc, bytes, symbols_size) {
+    match read_symbols(alloc, info) {
         Ok(symbols) => plain_procedures_of(alloc, symbols.as_slice()),
         Err(Error::OutOfMemory) => Err(LoadFault::OutOfMemory),
         Err(_) => Ok(ModuleProcedures {
@@ -88,17 +110,17 @@ fn procedures_in(
 }
 
 /// The procedures of a module; none where it has no stream or that can't be read.
-#[tactic(auto, unfolding(crate::specs::Kept::plain_procedures, crate::specs::Loading::module_info))]
+#[tactic(auto, unfolding(crate::specs::Kept::plain_procedures))]
 fn read_module(
     pdb: &mut Database,
     alloc: Global,
     entry: &Module<'_>,
 ) -> std::result::Result<ModuleProcedures, LoadFault>
     ensures same { pdb.new.items ≡ pdb.old.items }
-    ensures exact { Loads (λ m. m) result (plain_procedures (behind (module_info (streams pdb.old.items) entry.now) symbols_in)) }
+    ensures exact { Loads (λ m. m) result (plain_procedures (behind (own_stream (streams pdb.old.items) entry.now) symbols_in)) }
 {
-    match read_stream(pdb, alloc, entry.stream()) {
-        Ok(stream) => procedures_in(alloc, stream.as_slice(), entry.symbols_size()),
+    match read_info(pdb, alloc, entry) {
+        Ok(info) => procedures_in(alloc, &info),
         Err(Error::OutOfMemory) => Err(LoadFault::OutOfMemory),
         Err(_) => Ok(ModuleProcedures {
             procedures: Vec::new(alloc),

@@ -2,16 +2,13 @@
 
 ghost use Rattle.std.specs.Prelude.{◌≡◌, ℕ, ◌∷◌, [], IfOk, OnOk, Ok, option_map};
 ghost use Rattle.std.specs.BTreeSet.{contains};
-ghost use Rattle.pdb_container.specs.Fault.{Gives, Parses};
 ghost use Rattle.pdb_container_types.specs.declared.internal_section_offset.PdbInternalSectionOffset.{PdbInternalSectionOffset};
-ghost use Rattle.pdb_report.specs.Symbols.{procedure_of};
-ghost use Rattle.pdb_report.specs.Procedures.{signed_symbols_of, symbols_in, place_cmp, has_start, with_code as with_code_of, onto_new, procedures_behind, contains as contains_place, later as later_of, over as over_of, is_other as is_other_symbol, has_type as has_type_of, end_in, is_inside as is_inside_of, has_other};
+ghost use Rattle.pdb_symbols.specs.Forms.{procedure_form};
+ghost use Rattle.pdb_report.specs.Procedures.{procedure_of, place_cmp, has_start, with_code as with_code_of, onto_new, procedures_behind, contains as contains_place, later as later_of, over as over_of, is_other as is_other_symbol, has_type as has_type_of, end_in, is_inside as is_inside_of, has_other};
 
 use pdb_container_types::PdbInternalSectionOffset;
-use crate::pdb_modules::{
-    ProcedureSymbol, S_SEPCODE, Symbol, is_inline_site, is_procedure, is_thunk, parse_symbols,
-};
-use pdb_container::{Error, ParseBuffer, Result};
+use pdb_symbols::kinds::{is_inline_site, is_procedure, is_separated_code, is_thunk};
+use pdb_symbols::{ProcedureSymbol, Symbol, SymbolData};
 use std::alloc::{AllocError, Global};
 use std::collections::BTreeSet;
 use std::marker::Model;
@@ -32,38 +29,14 @@ impl Model for Procedure {
     ghost view = { λ p. record { offset = p.offset; len = p.len; name = p.name.items } };
 }
 
-/// The symbols behind their signature. `UnimplementedFeature` for another signature, `SymbolTooShort`, `UnexpectedEof`.
-#[tactic(auto, unfolding(crate::specs::Procedures::signed_symbols_of))]
-fn parse_signed_symbols(alloc: Global, bytes: &[u8]) -> Result<Vec<Symbol<'_>>>
-    ensures { Gives (λ v. v.items) ⊥ result (signed_symbols_of bytes.now) }
+/// What a symbol says, if it is a procedure that can be read.
+fn parse_procedure<'t>(symbol: &Symbol<'t>) -> Option<ProcedureSymbol<'t>>
+    ensures { option_map procedure_form result ≡ procedure_of symbol.now }
 {
-    if bytes.is_empty() {
-        return Ok(Vec::new(alloc));
+    match symbol.parse() {
+        Ok(SymbolData::Procedure(procedure)) => Some(procedure),
+        _ => None,
     }
-    let mut buffer = ParseBuffer::from(bytes);
-    let signature = buffer.parse_u32()?;
-    if signature != 4 {
-        return Err(Error::UnimplementedFeature("symbol signature"));
-    }
-    let rest = buffer.take(buffer.len())?;
-    parse_symbols(alloc, bytes.len(), rest)
-}
-
-/// The symbols of a module's stream, which are its first `symbols_size` bytes. `UnexpectedEof` where these are not
-/// there, and the faults of reading them.
-#[tactic(auto, unfolding(crate::specs::Procedures::symbols_in))]
-pub fn parse_module_symbols(
-    alloc: Global,
-    bytes: &[u8],
-    symbols_size: u32,
-) -> Result<Vec<Symbol<'_>>>
-    ensures { Gives (λ v. v.items) ⊥ result (symbols_in (record { bytes = bytes.now; symbols_size = symbols_size })) }
-{
-    if bytes.len() < symbols_size as usize {
-        return Err(Error::UnexpectedEof);
-    }
-    let (symbols, _) = bytes.split_at(symbols_size as usize);
-    parse_signed_symbols(alloc, symbols)
 }
 
 /// A symbol's procedure, if it can be read and has code.
@@ -73,9 +46,9 @@ fn with_code(
 ) -> std::result::Result<Option<Procedure>, AllocError>
     ensures { IfOk result (λ p. p ≡ with_code_of (procedure_of symbol.now)) }
 {
-    match symbol.parse_procedure() {
-        Err(_) => Ok(None),
-        Ok(symbol) => {
+    match parse_procedure(symbol) {
+        None => Ok(None),
+        Some(symbol) => {
             if symbol.len == 0 {
                 return Ok(None);
             }
@@ -169,19 +142,17 @@ pub fn over(procedures: &[Procedure], place: PdbInternalSectionOffset) -> Option
 fn is_other(symbol: &Symbol<'_>) -> bool
     ensures { result ≡ is_other_symbol symbol.now }
 {
-    is_thunk(symbol.kind)
-        || symbol.kind == S_SEPCODE
-        || is_inline_site(symbol.kind)
-        || has_type(symbol)
+    let kind = symbol.raw_kind();
+    is_thunk(kind) || is_separated_code(kind) || is_inline_site(kind) || has_type(symbol)
 }
 
 /// Whether it is a procedure with a type.
 fn has_type(symbol: &Symbol<'_>) -> bool
     ensures { result ≡ has_type_of (procedure_of symbol.now) }
 {
-    match symbol.parse_procedure() {
-        Err(_) => false,
-        Ok(procedure) => procedure.type_index != 0,
+    match parse_procedure(symbol) {
+        None => false,
+        Some(procedure) => procedure.type_index.0 != 0,
     }
 }
 
@@ -189,9 +160,9 @@ fn has_type(symbol: &Symbol<'_>) -> bool
 fn end_of(symbol: &Symbol<'_>) -> u32
     ensures { result ≡ end_in (procedure_of symbol.now) }
 {
-    match symbol.parse_procedure() {
-        Err(_) => 0,
-        Ok(procedure) => procedure.end,
+    match parse_procedure(symbol) {
+        None => 0,
+        Some(procedure) => procedure.end.0,
     }
 }
 
@@ -214,5 +185,5 @@ pub fn has_other_symbols(symbols: &[Symbol<'_>]) -> bool
 fn is_inside(symbol: &Symbol<'_>, end: u32) -> bool
     ensures { result ≡ is_inside_of end symbol.now }
 {
-    is_procedure(symbol.kind) && symbol.index < u64::from(end)
+    is_procedure(symbol.raw_kind()) && symbol.index().0 < end
 }

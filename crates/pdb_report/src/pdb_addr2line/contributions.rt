@@ -11,9 +11,7 @@ ghost use Rattle.pdb_symbols_modules.specs.Contributions.{contributions_of};
 use crate::fault::LoadFault;
 use pdb_container::{FallibleIterator, Result as PdbResult};
 use pdb_container_types::{ImageSectionHeader, PdbInternalSectionOffset};
-use pdb_symbols_modules::{
-    DBISectionContribution, DBISectionContributionIter, DebugInformation,
-};
+use pdb_symbols_modules::{DBISectionContribution, DBISectionContributionIter, DebugInformation};
 use std::alloc::{AllocError, Global};
 
 /// What a module holds of a section: from a start to an end, both offsets in bytes, the end not held.

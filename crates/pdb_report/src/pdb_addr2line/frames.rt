@@ -6,8 +6,8 @@ ghost use Rattle.pdb_report.specs.Answers.{procedure_name, procedure_frame, foun
 ghost use Rattle.pdb_report.specs.Seen.{answer_seen};
 ghost use Rattle.std.specs.List.{flat_map};
 
-use pdb_container_types::AddressMap;
 use crate::pdb_module_data::Procedure;
+use pdb_container_types::AddressMap;
 use std::alloc::{AllocError, Global};
 use std::marker::Model;
 
