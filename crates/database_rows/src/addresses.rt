@@ -1,12 +1,12 @@
 //! Sections, and the ways between the addresses of an image and those of its database.
 
-use crate::files::{FURTHER_STREAM, opened, refusal, set_places};
+use crate::files::{FURTHER_STREAM, opened, refused_addresses, set_places};
 use pdb_container::Error;
 use pdb_container_types::{
     AddressMap, ImageSectionHeader, PdbInternalRva, PdbInternalSectionOffset, Rva,
     SectionCharacteristics, SectionOffset,
 };
-use pdb_samples::{NO_STREAM, ProgramDatabase, Section, file_f0, with_address_maps, words};
+use pdb_samples::{NO_STREAM, ProgramDatabase, Section, file_f0, with_address_maps};
 use std::alloc::Global;
 use std::process::Abort;
 use std::test::Fail;
@@ -46,6 +46,27 @@ fn moved(alloc: Global) -> Result<ProgramDatabase, Fail> {
     Ok(description)
 }
 
+/// The sections of a described database.
+fn sections_of(
+    alloc: Global,
+    description: &ProgramDatabase,
+) -> Result<Option<Vec<ImageSectionHeader>>, Fail> {
+    Ok(opened(alloc, description)?.sections(alloc)?)
+}
+
+/// The address map of a described database.
+fn map_of(alloc: Global, description: &ProgramDatabase) -> Result<AddressMap<'static>, Fail> {
+    Ok(opened(alloc, description)?.address_map(alloc)?)
+}
+
+/// Why the sections and the address map of a described database are refused, where they are.
+fn faults_of(
+    alloc: Global,
+    description: &ProgramDatabase,
+) -> Result<(Option<Error>, Option<Error>), Fail> {
+    Ok(refused_addresses(alloc, &mut opened(alloc, description)?)?)
+}
+
 /// The section headers, if there is a list of them.
 fn listed(sections: &Option<Vec<ImageSectionHeader>>) -> Option<&[ImageSectionHeader]> {
     match sections {
@@ -70,6 +91,16 @@ fn outer(map: &AddressMap<'_>, address: u32) -> Option<u32> {
     Some(PdbInternalRva(address).to_rva(map)?.0)
 }
 
+/// Whether each address in the image is the same in the database.
+fn is_unmoved(map: &AddressMap<'_>, addresses: &[u32]) -> bool {
+    for address in addresses {
+        if inner(map, *address) != Some(*address) || outer(map, *address) != Some(*address) {
+            return false;
+        }
+    }
+    true
+}
+
 /// A place in the first section of the database.
 fn internal(offset: u32) -> Option<PdbInternalSectionOffset> {
     Some(PdbInternalSectionOffset { offset, section: 1 })
@@ -78,14 +109,6 @@ fn internal(offset: u32) -> Option<PdbInternalSectionOffset> {
 /// A place in the first section of the image.
 fn place(offset: u32) -> Option<SectionOffset> {
     Some(SectionOffset { offset, section: 1 })
-}
-
-#[test]
-fn sections_of_f(rt: HostRuntime) -> Result<(), Fail> {
-    let mut database = opened(rt.alloc(), &file_f0(rt.alloc())?)?;
-    let sections = database.sections(rt.alloc())?;
-    assert_eq!(rt; listed(&sections), Some([section_of_f()].as_slice()));
-    Ok(())
 }
 
 #[test]
@@ -104,8 +127,7 @@ fn two_sections(rt: HostRuntime) -> Result<(), Fail> {
         characteristics: SectionCharacteristics(3),
         ..ImageSectionHeader::default()
     };
-    let mut database = opened(rt.alloc(), &description)?;
-    let sections = database.sections(rt.alloc())?;
+    let sections = sections_of(rt.alloc(), &description)?;
     assert_eq!(rt;
         listed(&sections),
         Some([section_of_f(), second].as_slice())
@@ -117,9 +139,8 @@ fn two_sections(rt: HostRuntime) -> Result<(), Fail> {
 fn no_list_of_sections(rt: HostRuntime) -> Result<(), Fail> {
     let mut description = file_f0(rt.alloc())?;
     set_places(&mut description, &[(SECTIONS, NO_STREAM)])?;
-    let mut database = opened(rt.alloc(), &description)?;
-    assert!(rt; database.sections(rt.alloc())?.is_none());
-    let map = database.address_map(rt.alloc())?;
+    assert!(rt; sections_of(rt.alloc(), &description)?.is_none());
+    let map = map_of(rt.alloc(), &description)?;
     assert!(rt; map.is_ordered());
     assert_eq!(rt; inner(&map, 0x1010), Some(0x1010));
     assert_eq!(rt; Rva(0x1010).to_section_offset(&map), None);
@@ -130,15 +151,12 @@ fn no_list_of_sections(rt: HostRuntime) -> Result<(), Fail> {
 fn sections_elsewhere(rt: HostRuntime) -> Result<(), Fail> {
     let mut description = file_f0(rt.alloc())?;
     set_places(&mut description, &[(SECTIONS, FURTHER_STREAM)])?;
-    let mut database = opened(rt.alloc(), &description)?;
     let fault = Some(Error::StreamNotFound(9));
-    assert_eq!(rt; refusal(database.sections(rt.alloc()))?, fault);
-    assert_eq!(rt; refusal(database.address_map(rt.alloc()))?, fault);
+    assert_eq!(rt; faults_of(rt.alloc(), &description)?, (fault, fault));
     description
         .further_streams
         .push(Some(Vec::new(rt.alloc())))?;
-    let mut database = opened(rt.alloc(), &description)?;
-    let sections = database.sections(rt.alloc())?;
+    let sections = sections_of(rt.alloc(), &description)?;
     assert_eq!(rt; listed(&sections), Some([].as_slice()));
     Ok(())
 }
@@ -149,24 +167,19 @@ fn cut_section_headers(rt: HostRuntime) -> Result<(), Fail> {
     if let Some(Some(headers)) = description.further_streams.first_mut() {
         headers.truncate(39);
     }
-    let mut database = opened(rt.alloc(), &description)?;
     let fault = Some(Error::UnexpectedEof);
-    assert_eq!(rt; refusal(database.sections(rt.alloc()))?, None);
-    assert_eq!(rt; refusal(database.address_map(rt.alloc()))?, fault);
+    assert_eq!(rt; faults_of(rt.alloc(), &description)?, (None, fault));
     set_places(
         &mut description,
         &[(SECTIONS, FURTHER_STREAM), (ORIGINAL_SECTIONS, NO_STREAM)],
     )?;
-    let mut database = opened(rt.alloc(), &description)?;
-    assert_eq!(rt; refusal(database.sections(rt.alloc()))?, fault);
-    assert_eq!(rt; refusal(database.address_map(rt.alloc()))?, fault);
+    assert_eq!(rt; faults_of(rt.alloc(), &description)?, (fault, fault));
     Ok(())
 }
 
 #[test]
 fn both_maps(rt: HostRuntime) -> Result<(), Fail> {
-    let mut database = opened(rt.alloc(), &with_address_maps(rt.alloc())?)?;
-    let map = database.address_map(rt.alloc())?;
+    let map = map_of(rt.alloc(), &with_address_maps(rt.alloc())?)?;
     assert!(rt; map.is_ordered());
     assert_eq!(rt; Rva(0x2004).to_internal_offset(&map), internal(0x14));
     assert_eq!(rt; inner(&map, 0x2004), Some(0x1014));
@@ -188,38 +201,40 @@ fn both_maps(rt: HostRuntime) -> Result<(), Fail> {
     Ok(())
 }
 
+/// Two addresses of a described image in its database, and one of the database in the image.
+fn ways(alloc: Global, description: &ProgramDatabase) -> Result<[Option<u32>; 3], Fail> {
+    let map = map_of(alloc, description)?;
+    Ok([
+        inner(&map, 0x2004),
+        inner(&map, 0x2008),
+        outer(&map, 0x1014),
+    ])
+}
+
 #[test]
 fn a_map_of_one_way(rt: HostRuntime) -> Result<(), Fail> {
     let mut description = with_address_maps(rt.alloc())?;
     set_places(&mut description, &[(FROM_SOURCE, NO_STREAM)])?;
-    let map = opened(rt.alloc(), &description)?.address_map(rt.alloc())?;
     assert_eq!(rt;
-        (inner(&map, 0x2004), inner(&map, 0x2008)),
-        (Some(0x1014), None)
+        ways(rt.alloc(), &description)?,
+        [Some(0x1014), None, Some(0x1014)]
     );
-    assert_eq!(rt; outer(&map, 0x1014), Some(0x1014));
     set_places(
         &mut description,
         &[(TO_SOURCE, NO_STREAM), (FROM_SOURCE, 10)],
     )?;
-    let map = opened(rt.alloc(), &description)?.address_map(rt.alloc())?;
     assert_eq!(rt;
-        (inner(&map, 0x2004), inner(&map, 0x2008)),
-        (Some(0x2004), Some(0x2008))
+        ways(rt.alloc(), &description)?,
+        [Some(0x2004), Some(0x2008), Some(0x2004)]
     );
-    assert_eq!(rt; outer(&map, 0x1014), Some(0x2004));
     Ok(())
 }
 
 #[test]
 fn original_sections_without_maps(rt: HostRuntime) -> Result<(), Fail> {
-    let mut database = opened(rt.alloc(), &moved(rt.alloc())?)?;
-    let map = database.address_map(rt.alloc())?;
+    let map = map_of(rt.alloc(), &moved(rt.alloc())?)?;
     assert!(rt; map.is_ordered());
-    for address in [0, 0x1010, 0x3010, 0xffff_fffe] {
-        assert_eq!(rt; inner(&map, address), Some(address));
-        assert_eq!(rt; outer(&map, address), Some(address));
-    }
+    assert!(rt; is_unmoved(&map, &[0, 0x1010, 0x3010, 0xffff_fffe]));
     assert_eq!(rt; Rva(0x1010).to_internal_offset(&map), internal(0x10));
     assert_eq!(rt; Rva(0x3010).to_internal_offset(&map), None);
     assert_eq!(rt; Rva(0x1010).to_section_offset(&map), None);
@@ -231,69 +246,46 @@ fn original_sections_without_maps(rt: HostRuntime) -> Result<(), Fail> {
 fn maps_without_original_sections(rt: HostRuntime) -> Result<(), Fail> {
     let mut description = with_address_maps(rt.alloc())?;
     set_places(&mut description, &[(ORIGINAL_SECTIONS, NO_STREAM)])?;
-    let mut database = opened(rt.alloc(), &description)?;
-    let map = database.address_map(rt.alloc())?;
+    let map = map_of(rt.alloc(), &description)?;
     assert!(rt; map.is_ordered());
-    for address in [0x1010, 0x2000, 0x2004, 0x2008] {
-        assert_eq!(rt; inner(&map, address), Some(address));
-        assert_eq!(rt; outer(&map, address), Some(address));
-    }
+    assert!(rt; is_unmoved(&map, &[0x1010, 0x2000, 0x2004, 0x2008]));
     assert_eq!(rt; Rva(0x1010).to_internal_offset(&map), internal(0x10));
     Ok(())
 }
 
-/// Asserts why a file with this stream in the place of one of its two maps gives no address map, if it gives none.
+/// Asserts why a file with so many zeros (or no stream) in the place of one of its two maps gives no address map, if it gives none.
 fn assert_map_refused(
     rt: &(impl Abort + AllocGlobal),
     description: &mut ProgramDatabase,
     number: usize,
-    stream: Option<Vec<u8>>,
+    length: Option<usize>,
     fault: Option<Error>,
 ) -> Result<(), Fail> {
     if let Some(map) = description.further_streams.get_mut(number) {
-        *map = stream;
+        *map = match length {
+            None => None,
+            Some(length) => Some(vec![in rt.alloc(); 0u8; length]?),
+        };
     }
-    let mut database = opened(rt.alloc(), description)?;
-    assert_eq!(rt; refusal(database.address_map(rt.alloc()))?, fault);
-    assert_eq!(rt; refusal(database.sections(rt.alloc()))?, None);
+    assert_eq!(rt; faults_of(rt.alloc(), description)?, (None, fault));
     Ok(())
 }
 
 #[test]
 fn refused_maps(rt: HostRuntime) -> Result<(), Fail> {
-    let alloc = rt.alloc();
     let fault = Some(Error::InvalidStreamLength("OMAP"));
     for number in 0..2 {
-        let mut file = with_address_maps(alloc)?;
+        let mut file = with_address_maps(rt.alloc())?;
         for length in [1, 4, 7, 9, 12] {
-            let bytes = Some(vec![in alloc; 0u8; length]?);
-            assert_map_refused(&rt, &mut file, number, bytes, fault)?;
+            assert_map_refused(&rt, &mut file, number, Some(length), fault)?;
         }
         let absent = Some(Error::StreamNotFound(if number == 0 { 9 } else { 10 }));
         assert_map_refused(&rt, &mut file, number, None, absent)?;
-        let empty = Some(Vec::new(alloc));
-        assert_map_refused(&rt, &mut file, number, empty, None)?;
+        assert_map_refused(&rt, &mut file, number, Some(0), None)?;
         // Without original sections no map is read.
         set_places(&mut file, &[(ORIGINAL_SECTIONS, NO_STREAM)])?;
-        let bytes = Some(vec![in alloc; 0u8; 7]?);
-        assert_map_refused(&rt, &mut file, number, bytes, None)?;
+        assert_map_refused(&rt, &mut file, number, Some(7), None)?;
         assert_map_refused(&rt, &mut file, number, None, None)?;
-    }
-    Ok(())
-}
-
-#[test]
-fn equal_and_falling_sources(rt: HostRuntime) -> Result<(), Fail> {
-    let alloc = rt.alloc();
-    for (sources, target) in [([4, 4], Some(0x20)), ([8, 4], None)] {
-        let mut description = with_address_maps(alloc)?;
-        let map = words(alloc, &[sources[0], 0x10, sources[1], 0x20])?;
-        if let Some(stream) = description.further_streams.first_mut() {
-            *stream = Some(map);
-        }
-        let map = opened(alloc, &description)?.address_map(alloc)?;
-        assert_eq!(rt; map.is_ordered(), target.is_some());
-        assert_eq!(rt; inner(&map, 4), target);
     }
     Ok(())
 }

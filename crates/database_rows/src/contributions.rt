@@ -83,16 +83,6 @@ fn assert_contributions(
 }
 
 #[test]
-fn both_versions(rt: HostRuntime) -> Result<(), Fail> {
-    for version in [SHORT, LONG] {
-        let mut database = opened(rt.alloc(), &two_contributions(rt.alloc(), version)?)?;
-        let debug_information = database.debug_information(rt.alloc())?;
-        assert_contributions(&rt, &debug_information, 2, true)?;
-    }
-    Ok(())
-}
-
-#[test]
 fn other_versions(rt: HostRuntime) -> Result<(), Fail> {
     for version in [0, 19_970_605, SHORT + 1, LONG - 1, u32::MAX] {
         let mut database = opened(rt.alloc(), &two_contributions(rt.alloc(), version)?)?;

@@ -41,6 +41,19 @@ pub fn damaged(
     opened_container(alloc, &container)
 }
 
+/// The database of these streams, of which one is cut to a length.
+pub fn cut(
+    alloc: Global,
+    container: &mut Container,
+    stream: usize,
+    length: usize,
+) -> Result<Database, Fail> {
+    if let Some(Some(bytes)) = container.streams.get_mut(stream) {
+        bytes.truncate(length);
+    }
+    opened_container(alloc, container)
+}
+
 /// The numbers that the optional header gives to places.
 pub fn set_places(description: &mut ProgramDatabase, places: &[(usize, u16)]) -> Result<(), Fail> {
     for (place, stream) in places {
@@ -67,4 +80,14 @@ pub fn refusal<T: Drop>(answer: Result<T, Error>) -> Result<Option<Error>, Error
         Err(Error::OutOfMemory) => Err(Error::OutOfMemory),
         Err(fault) => Ok(Some(fault)),
     }
+}
+
+/// Why the sections and the address map are refused, where they are.
+pub fn refused_addresses(
+    alloc: Global,
+    database: &mut Database,
+) -> Result<(Option<Error>, Option<Error>), Error> {
+    let sections = refusal(database.sections(alloc))?;
+    let map = refusal(database.address_map(alloc))?;
+    Ok((sections, map))
 }

@@ -1,6 +1,6 @@
 //! The header of the debug information, and the optional header.
 
-use crate::files::{DEBUG_INFORMATION, damaged, opened, opened_container, refusal};
+use crate::files::{DEBUG_INFORMATION, cut, damaged, opened, refusal, refused_addresses};
 use pdb_container::Error;
 use pdb_samples::file_f0;
 use pdb_symbols_modules::MachineType;
@@ -47,8 +47,10 @@ fn ancient_header(rt: HostRuntime) -> Result<(), Fail> {
     let mut database = damaged(rt.alloc(), &description, DEBUG_INFORMATION, 0, 0xffff_fffe)?;
     let fault = Some(Error::UnimplementedFeature("ancient DBI header"));
     assert_eq!(rt; refusal(database.debug_information(rt.alloc()))?, fault);
-    assert_eq!(rt; refusal(database.sections(rt.alloc()))?, fault);
-    assert_eq!(rt; refusal(database.address_map(rt.alloc()))?, fault);
+    assert_eq!(rt;
+        refused_addresses(rt.alloc(), &mut database)?,
+        (fault, fault)
+    );
     Ok(())
 }
 
@@ -56,15 +58,12 @@ fn ancient_header(rt: HostRuntime) -> Result<(), Fail> {
 fn debug_information_cut_everywhere(rt: HostRuntime) -> Result<(), Fail> {
     let mut container = file_f0(rt.alloc())?.container(rt.alloc())?;
     // The header, one module, one contribution and eleven numbers.
-    for cut in (0..64 + 76 + 32 + 22).rev() {
-        if let Some(Some(stream)) = container.streams.get_mut(DEBUG_INFORMATION) {
-            stream.truncate(cut);
-        }
-        let mut database = opened_container(rt.alloc(), &container)?;
+    for length in (0..64 + 76 + 32 + 22).rev() {
+        let mut database = cut(rt.alloc(), &mut container, DEBUG_INFORMATION, length)?;
         assert_eq!(rt;
             refusal(database.debug_information(rt.alloc()))?,
             Some(Error::UnexpectedEof),
-            "cut to {cut}"
+            "cut to {length}"
         );
     }
     Ok(())
@@ -111,17 +110,16 @@ fn optional_headers_of_all_sizes(rt: HostRuntime) -> Result<(), Fail> {
             OPTIONAL_HEADER_SIZE,
             size,
         )?;
-        let fault = match size % 2 {
-            0 => None,
-            _ => Some(Error::InvalidStreamLength("DbgDataHdr")),
-        };
         assert_eq!(rt; refusal(database.debug_information(rt.alloc()))?, None);
-        assert_eq!(rt; refusal(database.address_map(rt.alloc()))?, fault);
-        let sections = database.sections(rt.alloc());
-        // The number of the section headers lies in the bytes 10 and 11.
-        match sections {
-            Ok(sections) => assert_eq!(rt; sections.is_some(), size >= 12, "of {size}"),
-            Err(_) => assert_eq!(rt; refusal(sections)?, fault, "of {size}"),
+        if size % 2 == 0 {
+            assert_eq!(rt; refusal(database.address_map(rt.alloc()))?, None);
+            // The number of the section headers lies in the bytes 10 and 11.
+            let sections = database.sections(rt.alloc())?;
+            assert_eq!(rt; sections.is_some(), size >= 12, "of {size}");
+        } else {
+            let fault = Some(Error::InvalidStreamLength("DbgDataHdr"));
+            let faults = refused_addresses(rt.alloc(), &mut database)?;
+            assert_eq!(rt; faults, (fault, fault), "of {size}");
         }
     }
     Ok(())

@@ -2,7 +2,7 @@
 
 use crate::files::{DEBUG_INFORMATION, damaged, opened};
 use pdb_container::{Error, FallibleIterator, RawString};
-use pdb_samples::{ProgramDatabase, file_f, file_f0, module_of_symbols};
+use pdb_samples::{ProgramDatabase, file_f, module_of_symbols};
 use pdb_symbols_modules::{Module, ModuleIter, StreamIndex};
 use std::alloc::Global;
 use std::process::Abort;
@@ -40,18 +40,6 @@ fn names<'m>(name: &'m [u8], object: &'m [u8]) -> [RawString<'m>; 2] {
     [RawString::from(name), RawString::from(object)]
 }
 
-#[test]
-fn the_module_of_f(rt: HostRuntime) -> Result<(), Fail> {
-    let mut database = opened(rt.alloc(), &file_f(rt.alloc())?)?;
-    let debug_information = database.debug_information(rt.alloc())?;
-    let mut modules = debug_information.modules();
-    let row = (names(b"a.obj", b"a.obj"), StreamIndex(7), [52, 0, 64]);
-    assert_eq!(rt; next(&mut modules), Ok(Some(row)));
-    assert_eq!(rt; next(&mut modules), Ok(None));
-    assert_eq!(rt; next(&mut modules), Ok(None));
-    Ok(())
-}
-
 /// File F with two more modules, `bb.obj` without stream, and `c.obj`. The entries take 76, 77 and 76 bytes; three more
 /// bytes lie behind the second.
 fn three_modules(alloc: Global) -> Result<ProgramDatabase, Fail> {
@@ -73,36 +61,6 @@ fn three_rows() -> [Said<'static>; 3] {
         (names(b"bb.obj", b"x.lib"), StreamIndex(0xffff), [4, 8, 0]),
         (names(b"c.obj", b"c.obj"), StreamIndex(8), [4, 0, 0]),
     ]
-}
-
-#[test]
-fn modules_in_order(rt: HostRuntime) -> Result<(), Fail> {
-    let mut database = opened(rt.alloc(), &three_modules(rt.alloc())?)?;
-    let debug_information = database.debug_information(rt.alloc())?;
-    let mut modules = debug_information.modules();
-    for row in three_rows() {
-        assert_eq!(rt; next(&mut modules), Ok(Some(row)));
-    }
-    assert_eq!(rt; next(&mut modules), Ok(None));
-    assert_eq!(rt; next(&mut modules), Ok(None));
-    Ok(())
-}
-
-#[test]
-fn the_third_module_is_c(rt: HostRuntime) -> Result<(), Fail> {
-    let mut description = file_f0(rt.alloc())?;
-    for name in [b"b.obj".as_slice(), b"c.obj"] {
-        let module = module_of_symbols(rt.alloc(), name, Vec::new(rt.alloc()))?;
-        description.modules.push(module)?;
-    }
-    let mut database = opened(rt.alloc(), &description)?;
-    let debug_information = database.debug_information(rt.alloc())?;
-    let mut modules = debug_information.modules();
-    modules.next()?;
-    modules.next()?;
-    let row = (names(b"c.obj", b"c.obj"), StreamIndex(9), [4, 0, 0]);
-    assert_eq!(rt; next(&mut modules), Ok(Some(row)));
-    Ok(())
 }
 
 /// Asserts that a list begins with so many of the three modules, and ends with `UnexpectedEof` or well.

@@ -1,14 +1,13 @@
 //! The names that a database gives to streams.
 
-use crate::files::{Database, INFORMATION, bytes_of, damaged, opened, opened_container, refusal};
+use crate::files::{
+    Database, INFORMATION, bytes_of, cut, damaged, opened, opened_container, refusal,
+};
 use pdb_container::Error;
 use pdb_samples::{NamedStream, ProgramDatabase, file_f0};
-use pdb_symbols_modules::{PDBInformation, StreamIndex};
+use pdb_symbols_modules::{PDBInformation, StreamIndex, StreamName};
 use std::alloc::Global;
 use std::test::Fail;
-
-/// The place of the size of the names.
-const NAMES_SIZE: usize = 28;
 
 /// The place of the first name, `/names`.
 const NAMES: usize = 32;
@@ -29,63 +28,57 @@ fn naming(alloc: Global, streams: &[u32]) -> Result<ProgramDatabase, Fail> {
     Ok(description)
 }
 
-/// Why the names can't be read, if they can't.
-fn fault_of_names(alloc: Global, database: &mut Database) -> Result<Option<Error>, Error> {
+/// Whether the stream of the first name `x` is the one of a number.
+fn first_is(alloc: Global, streams: &[u32], number: u16) -> Result<bool, Fail> {
+    let mut database = opened(alloc, &naming(alloc, streams)?)?;
+    let stream = database.raw_stream(alloc, StreamIndex(number))?;
+    let named = database.named_stream(alloc, b"x")?;
+    Ok(bytes_of(&stream) == Some(named.as_slice()))
+}
+
+/// Why a name is refused that is given to these streams, if it is.
+fn fault_of_stream(alloc: Global, streams: &[u32]) -> Result<Option<Error>, Fail> {
+    let mut database = opened(alloc, &naming(alloc, streams)?)?;
+    Ok(refusal(database.named_stream(alloc, b"x"))?)
+}
+
+/// Reads the names.
+fn read_names(alloc: Global, database: &mut Database) -> Result<(), Error> {
     let information = database.pdb_information(alloc)?;
-    let names = information.stream_names(alloc);
-    refusal(names)
+    information.stream_names(alloc)?;
+    Ok(())
+}
+
+/// Why the names, the stream of one of them and the names of files are refused, where they are.
+fn faults_of_names(
+    alloc: Global,
+    database: &mut Database,
+) -> Result<(Option<Error>, Option<Error>, Option<Error>), Error> {
+    let names = refusal(read_names(alloc, database))?;
+    let named = refusal(database.named_stream(alloc, b"/names"))?;
+    let files = refusal(database.string_table(alloc))?;
+    Ok((names, named, files))
 }
 
 #[test]
 fn the_first_of_a_name_counts(rt: HostRuntime) -> Result<(), Fail> {
-    for (streams, number) in [([6u32, 7], 6u16), ([7, 6], 7)] {
-        let mut database = opened(rt.alloc(), &naming(rt.alloc(), &streams)?)?;
-        let stream = database.raw_stream(rt.alloc(), StreamIndex(number))?;
-        assert_eq!(rt;
-            Some(database.named_stream(rt.alloc(), b"x")?.as_slice()),
-            bytes_of(&stream)
-        );
-    }
+    assert!(rt; first_is(rt.alloc(), &[6, 7], 6)?);
+    assert!(rt; first_is(rt.alloc(), &[7, 6], 7)?);
+    assert!(rt; !first_is(rt.alloc(), &[7, 6], 6)?);
     Ok(())
 }
 
 #[test]
 fn numbers_past_65534(rt: HostRuntime) -> Result<(), Fail> {
     for number in [65535, 65536, 65542, u32::MAX] {
-        let description = naming(rt.alloc(), &[number, 6])?;
-        let mut database = opened(rt.alloc(), &description)?;
-        assert_eq!(rt;
-            refusal(database.named_stream(rt.alloc(), b"x"))?,
-            Some(Error::StreamNameNotFound),
-            "{number}"
-        );
-        assert_eq!(rt; refusal(database.string_table(rt.alloc()))?, None);
+        let fault = fault_of_stream(rt.alloc(), &[number, 6])?;
+        assert_eq!(rt; fault, Some(Error::StreamNameNotFound), "{number}");
     }
-    let mut database = opened(rt.alloc(), &naming(rt.alloc(), &[65534, 6])?)?;
-    assert_eq!(rt;
-        refusal(database.named_stream(rt.alloc(), b"x"))?,
-        Some(Error::StreamNotFound(65534))
-    );
-    Ok(())
-}
-
-#[test]
-fn other_names(rt: HostRuntime) -> Result<(), Fail> {
-    let mut database = opened(rt.alloc(), &naming(rt.alloc(), &[6])?)?;
-    for name in [
-        b"".as_slice(),
-        b"/",
-        b"/name",
-        b"/names\0",
-        b"/Names",
-        b"xx",
-        b"names",
-    ] {
-        assert_eq!(rt;
-            refusal(database.named_stream(rt.alloc(), name))?,
-            Some(Error::StreamNameNotFound)
-        );
-    }
+    let fault = fault_of_stream(rt.alloc(), &[65534, 6])?;
+    assert_eq!(rt; fault, Some(Error::StreamNotFound(65534)));
+    let mut database = opened(rt.alloc(), &naming(rt.alloc(), &[u32::MAX, 6])?)?;
+    let faults = faults_of_names(rt.alloc(), &mut database)?;
+    assert_eq!(rt; faults, (None, None, None));
     Ok(())
 }
 
@@ -99,14 +92,9 @@ fn unreadable_names(rt: HostRuntime) -> Result<(), Fail> {
         (NAMES + 5, u32::from_le_bytes(*b"s\0xy")),
     ] {
         let mut database = damaged(rt.alloc(), &description, INFORMATION, at, number)?;
+        let faults = faults_of_names(rt.alloc(), &mut database)?;
         let fault = Some(Error::UnexpectedEof);
-        assert_eq!(rt; fault_of_names(rt.alloc(), &mut database)?, fault);
-        assert_eq!(rt; refusal(database.named_stream(rt.alloc(), b"x"))?, fault);
-        assert_eq!(rt;
-            refusal(database.named_stream(rt.alloc(), b"/none"))?,
-            fault
-        );
-        assert_eq!(rt; refusal(database.string_table(rt.alloc()))?, fault);
+        assert_eq!(rt; faults, (fault, fault, fault));
     }
     Ok(())
 }
@@ -133,40 +121,13 @@ fn a_name_in_a_name(rt: HostRuntime) -> Result<(), Fail> {
 fn information_cut_everywhere(rt: HostRuntime) -> Result<(), Fail> {
     let mut container = naming(rt.alloc(), &[6])?.container(rt.alloc())?;
     let fault = Some(Error::UnexpectedEof);
-    for cut in (0..77).rev() {
-        if let Some(Some(stream)) = container.streams.get_mut(INFORMATION) {
-            assert!(rt; cut < stream.len());
-            stream.truncate(cut);
-        }
-        let mut database = opened_container(rt.alloc(), &container)?;
+    for length in (0..77).rev() {
+        let mut database = cut(rt.alloc(), &mut container, INFORMATION, length)?;
         let information = refusal(database.pdb_information(rt.alloc()))?;
-        assert_eq!(rt; information.is_some(), cut < 28, "cut to {cut}");
-        if cut >= 28 {
-            assert_eq!(rt; fault_of_names(rt.alloc(), &mut database)?, fault);
-        }
-        assert_eq!(rt;
-            refusal(database.named_stream(rt.alloc(), b"/names"))?,
-            fault,
-            "cut to {cut}"
-        );
-    }
-    Ok(())
-}
-
-#[test]
-fn names_of_all_sizes(rt: HostRuntime) -> Result<(), Fail> {
-    let description = naming(rt.alloc(), &[6])?;
-    for size in 0..60 {
-        let mut database = damaged(rt.alloc(), &description, INFORMATION, NAMES_SIZE, size)?;
-        let fault = fault_of_names(rt.alloc(), &mut database)?;
-        if size == 9 {
-            assert_eq!(rt; fault, None);
-        } else {
-            assert!(rt;
-                matches!(fault, None | Some(Error::UnexpectedEof)),
-                "of {size}"
-            );
-        }
+        let wanted = if length < 28 { fault } else { None };
+        assert_eq!(rt; information, wanted, "cut to {length}");
+        let faults = faults_of_names(rt.alloc(), &mut database)?;
+        assert_eq!(rt; faults, (fault, fault, fault), "cut to {length}");
     }
     Ok(())
 }
@@ -175,6 +136,14 @@ fn names_of_all_sizes(rt: HostRuntime) -> Result<(), Fail> {
 const BY_HAND: &[u8; 86] = b"\x94\x2e\x31\x01\x02\0\0\0\x03\0\0\00123456789abcdef\
     \x05\0\0\0?a\0b\0\x02\0\0\0\x08\0\0\0\x01\0\0\0\x05\0\0\0\x02\0\0\0\x0a\0\0\0\0\0\0\0\
     \x03\0\0\0\x03\0\0\0\x01\0\0\0\x70\x11\x01\0tail.";
+
+/// An entry's name and stream.
+fn said<'n>(entry: Option<&StreamName<'n>>) -> Option<(&'n [u8], StreamIndex)> {
+    match entry {
+        None => None,
+        Some(entry) => Some((entry.name.as_bytes(), entry.stream_id)),
+    }
+}
 
 #[test]
 fn names_by_hand(rt: HostRuntime) -> Result<(), Fail> {
@@ -190,13 +159,14 @@ fn names_by_hand(rt: HostRuntime) -> Result<(), Fail> {
     assert_eq!(rt; (information.signature, information.age), (2, 3));
     let names = information.stream_names(rt.alloc())?;
     let mut entries = names.iter();
-    for (name, stream) in [(b"b", StreamIndex(3)), (b"a", StreamIndex(0xffff))] {
-        let Some(entry) = entries.next() else {
-            return Err(Error::StreamNameNotFound.into());
-        };
-        assert_eq!(rt; entry.name.as_bytes(), name.as_slice());
-        assert_eq!(rt; entry.stream_id, stream);
-    }
-    assert!(rt; entries.next().is_none());
+    assert_eq!(rt;
+        said(entries.next()),
+        Some((b"b".as_slice(), StreamIndex(3)))
+    );
+    assert_eq!(rt;
+        said(entries.next()),
+        Some((b"a".as_slice(), StreamIndex(0xffff)))
+    );
+    assert_eq!(rt; said(entries.next()), None);
     Ok(())
 }
