@@ -21,4 +21,11 @@ pub use optional_header::{
     OMAP_FROM_SOURCE, OMAP_TO_SOURCE, ORIGINAL_SECTION_HEADERS, SECTION_HEADERS,
 };
 pub use pdb::PDB;
+pub use pdb_modules::{
+    BinaryAnnotation, BinaryAnnotations, BinaryAnnotationsIter, CrossModuleExport,
+    CrossModuleExportIter, CrossModuleExports, CrossModuleImports, CrossModuleRef, FileChecksum,
+    FileInfo, FileIterator, InlineSiteSymbol, Inlinee, InlineeIterator, InlineeLineIterator,
+    LineInfo, LineInfoKind, LineIterator, LineProgram, ModuleInfo, ModuleRef, ProcedureSymbol,
+    PublicSymbol, SeparatedCodeSymbol, Symbol, SymbolData, SymbolIter, SymbolTable, ThunkSymbol,
+};
 pub use stream_index::StreamIndex;
