@@ -253,7 +253,7 @@ fn maps_without_original_sections(rt: HostRuntime) -> Result<(), Fail> {
     Ok(())
 }
 
-/// Asserts why a file with so many zeros (or no stream) in the place of one of its two maps gives no address map, if it gives none.
+/// Asserts why there is no address map where one of a file's two maps is so many zeros, or absent; and that there are sections.
 fn assert_map_refused(
     rt: &(impl Abort + AllocGlobal),
     description: &mut ProgramDatabase,

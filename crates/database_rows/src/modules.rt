@@ -2,7 +2,7 @@
 
 use crate::files::{DEBUG_INFORMATION, damaged, opened};
 use pdb_container::{Error, FallibleIterator, RawString};
-use pdb_samples::{ProgramDatabase, file_f, module_of_symbols};
+use pdb_samples::{ProgramDatabase, file_f, file_f0, module_of_symbols};
 use pdb_symbols_modules::{Module, ModuleIter, StreamIndex};
 use std::alloc::Global;
 use std::process::Abort;
@@ -61,6 +61,23 @@ fn three_rows() -> [Said<'static>; 3] {
         (names(b"bb.obj", b"x.lib"), StreamIndex(0xffff), [4, 8, 0]),
         (names(b"c.obj", b"c.obj"), StreamIndex(8), [4, 0, 0]),
     ]
+}
+
+#[test]
+fn the_third_module_is_c(rt: HostRuntime) -> Result<(), Fail> {
+    let mut description = file_f0(rt.alloc())?;
+    for name in [b"b.obj".as_slice(), b"c.obj"] {
+        let module = module_of_symbols(rt.alloc(), name, Vec::new(rt.alloc()))?;
+        description.modules.push(module)?;
+    }
+    let mut database = opened(rt.alloc(), &description)?;
+    let debug_information = database.debug_information(rt.alloc())?;
+    let mut modules = debug_information.modules();
+    modules.next()?;
+    modules.next()?;
+    let row = (names(b"c.obj", b"c.obj"), StreamIndex(9), [4, 0, 0]);
+    assert_eq!(rt; next(&mut modules), Ok(Some(row)));
+    Ok(())
 }
 
 /// Asserts that a list begins with so many of the three modules, and ends with `UnexpectedEof` or well.

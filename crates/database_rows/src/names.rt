@@ -100,24 +100,6 @@ fn unreadable_names(rt: HostRuntime) -> Result<(), Fail> {
 }
 
 #[test]
-fn a_name_in_a_name(rt: HostRuntime) -> Result<(), Fail> {
-    let description = naming(rt.alloc(), &[6])?;
-    let mut database = damaged(rt.alloc(), &description, INFORMATION, SECOND_OFFSET, 1)?;
-    assert_eq!(rt;
-        refusal(database.named_stream(rt.alloc(), b"x"))?,
-        Some(Error::StreamNameNotFound)
-    );
-    assert_eq!(rt;
-        database
-            .named_stream(rt.alloc(), b"names")?
-            .as_slice()
-            .len(),
-        40
-    );
-    Ok(())
-}
-
-#[test]
 fn information_cut_everywhere(rt: HostRuntime) -> Result<(), Fail> {
     let mut container = naming(rt.alloc(), &[6])?.container(rt.alloc())?;
     let fault = Some(Error::UnexpectedEof);
