@@ -14,6 +14,4 @@ mod modules;
 #[cfg(test)]
 mod names;
 #[cfg(test)]
-mod orders;
-#[cfg(test)]
 mod streams;

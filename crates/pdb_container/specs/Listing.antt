@@ -17,13 +17,13 @@ ending fault = record { items = []; fault = fault }
 abbrev pub before : {A : Type 0} → A → Listing A → Listing A
 before x others = record { items = x ∷ others.items; fault = others.fault }
 
--- A value that was read of so many bytes, before those behind it; or the fault. A value that took no byte has none behind
--- it, and isn't one.
+-- A value that was read of so many bytes, before those in the bytes behind it; or the fault. These have to be fewer: a value
+-- that takes no byte would come again and again, and ends the list. No reading that is used gives one.
 abbrev pub onward : {A : Type 0} → (List ℕ → Listing A) → ℕ → Result (A × List ℕ) Fault → Listing A
 onward others count (Ok read) = if nat_lt (length read.1) count then before read.0 (others read.1) else ending None
 onward others count (Err e) = ending (Some e)
 
--- the values, in at most so many steps
+-- the values, in at most so many steps, which are enough where they are as many as the bytes
 unfoldable pub listing_within : {A : Type 0} → Reader A → ℕ → List ℕ → Listing A
 listing_within one steps [] = ending None
 listing_within one zero (b ∷ bytes) = ending None
@@ -33,15 +33,17 @@ listing_within one (suc steps) (b ∷ bytes) = onward (listing_within one steps)
 abbrev pub listing : {A : Type 0} → Reader A → List ℕ → Listing A
 listing one bytes = listing_within one (length bytes) bytes
 
--- all values, where they end well, or the fault
+-- values that end well, or the fault
 abbrev pub whole_with : {A : Type 0} → Option Fault → List A → Result (List A) Fault
 whole_with None items = Ok items
 whole_with (Some e) items = Err e
 
+-- all values of a list, or the fault at which it ends
 abbrev pub whole : {A : Type 0} → Listing A → Result (List A) Fault
 whole l = whole_with l.fault l.items
 
--- What an iterator gave of what was still to come, and what comes behind that: after an end or a fault nothing.
+-- What an iterator gave of what was still to come, and what comes behind that: after an end or a fault nothing. Its fault is
+-- the list's, and never want of memory.
 abbrev pub Advances : {X A : Type 0} → (X → A) → Listing A → Result (Option X) Error → Listing A → Type 0
 Advances view old (Ok (Some x)) new = old ≡ before (view x) new
 Advances view old (Ok None) new = (old ≡ ending None) × (new ≡ ending None)

@@ -55,7 +55,7 @@ impl<'s> Model for Stream<'s> {
 }
 
 impl<'s> Stream<'s> {
-    /// The bytes.
+    /// The bytes, fewer than 2^32: a directory tells a stream's size in 32 bits.
     pub fn as_slice(&self) -> &[u8]
         ensures bytes { result.now ≡ self.now }
         ensures few { length result.now < 2 ^ 32 }
