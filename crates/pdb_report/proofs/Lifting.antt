@@ -62,13 +62,6 @@ pub parse_fails : {A B : Type 0} (e : Error) (read : Result A Fault) (f : A → 
 parse_fails errors.OutOfMemory read f h = tt
 parse_fails e read f h = ap (λ r. lifted r >>= f) h
 
-pub load_fails_last : {A : Type 0} (e : Error) (read : Result A Fault) → (IsOutside e ⊥ ⊎ (read ≡ Err (fault_of e))) → Fails (load_fault_of e) (lifted read)
-load_fails_last errors.OutOfMemory read h = tt
-load_fails_last (errors.IoError kind) read (inl h) = absurd h.1
-load_fails_last (errors.IoError kind) read (inr h) = ap lifted h
-load_fails_last e read (inl h) = absurd h
-load_fails_last e read (inr h) = ap lifted h
-
 -- a step that has failed is the end
 pub fails_on : {A B : Type 0} (e : LoadFault) (read : Result A LoadingFault) (f : A → Result B LoadingFault) → Fails e read → Fails e (read >>= f)
 fails_on faults.OutOfMemory read f h = tt
