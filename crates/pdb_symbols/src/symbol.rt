@@ -9,7 +9,8 @@ use crate::kinds::{
     S_END, S_INLINESITE_END, S_PROC_ID_END, is_inline_site, is_procedure, is_separated_code,
     is_thunk,
 };
-use pdb_container_types::{Error, ParseBuffer, Result, SymbolIndex};
+use pdb_container::{Error, ParseBuffer, Result};
+use pdb_indices::SymbolIndex;
 use std::marker::Model;
 
 /// A symbol: the place of its length in the bytes of its list, and the bytes behind the length, which begin with its kind.

@@ -8,7 +8,8 @@ ghost use Rattle.pdb_symbols.specs.Symbols.{next};
 
 use crate::kinds::is_padding;
 use crate::symbol::{Symbol, parse_symbol};
-use pdb_container_types::{Error, FallibleIterator, Result, SymbolIndex};
+use pdb_container::{Error, FallibleIterator, Result};
+use pdb_indices::SymbolIndex;
 use std::marker::Model;
 
 /// The symbols of a list in their order. After an error it answers `None` until it is sent to a place again.
