@@ -18,10 +18,10 @@ use std::io::ErrorKind;
 use std::marker::{Model, PhantomData};
 
 /// How the header begins.
-pub const MAGIC: [u8; 32] = *b"Microsoft C/C++ MSF 7.00\r\n\x1aDS\0\0\0";
+const MAGIC: [u8; 32] = *b"Microsoft C/C++ MSF 7.00\r\n\x1aDS\0\0\0";
 
 /// The size of a stream that is not there.
-pub const ABSENT: u32 = 0xffff_ffff;
+const ABSENT: u32 = 0xffff_ffff;
 
 /// How many bytes the header has before its list of pages.
 const HEADER_SIZE: usize = 52;
@@ -268,7 +268,7 @@ fn cut(limit: Option<usize>, size: usize) -> usize
 
 #[tactic(auto, using(crate::proofs::Paging::pages_enough, crate::proofs::Outside::outside_alone), unfolding(crate::specs::Container::header_in))]
 fn header_of(alloc: Global, front: &[u8]) -> Result<Header>
-    requires { length front.now ≡ HEADER_VIEW }
+    requires { length front.now ≡ 4096 }
     ensures exact { Gives layout ⊥ result (header_in front.now) }
     ensures sound { IfOk result (λ h. IsSound (layout h)) }
 {
@@ -294,7 +294,7 @@ fn header_of(alloc: Global, front: &[u8]) -> Result<Header>
 
 #[tactic(auto, unfolding(crate::specs::Container::behind_header))]
 fn behind_header(front: &[u8]) -> &[u8]
-    requires { HEADER_SIZE ≤ length front.now }
+    requires { 52 ≤ length front.now }
     ensures { result.now ≡ behind front.now }
 {
     rest_from(front, HEADER_SIZE)
@@ -340,7 +340,7 @@ fn read_first<S: Source>(source: &mut S, alloc: Global, size: usize) -> io::Resu
 fn read_front<S: Source>(source: &mut S, alloc: Global) -> Result<ReadView>
     ensures answer { AnswersFrom S.bytes S.failures source.old source.new (λ v. v) result
         (front_in (S.bytes source.old)) }
-    ensures len { IfOk result (λ v. length v ≡ HEADER_VIEW) }
+    ensures len { IfOk result (λ v. length v ≡ 4096) }
 {
     match read_first(source, alloc, HEADER_VIEW) {
         Ok(front) => Ok(front),
