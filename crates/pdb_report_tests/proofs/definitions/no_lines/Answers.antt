@@ -1,5 +1,5 @@
-use Rattle.pdb_rows.proofs.RowFacts as facts
-use Rattle.pdb_rows.proofs.definitions.no_lines.Goals as goal
+use Rattle.pdb_report_tests.proofs.RowFacts as facts
+use Rattle.pdb_report_tests.proofs.definitions.no_lines.Goals as goal
 
 pub returns-clause-loads : goal.returns-clause-loads
 returns-clause-loads c = facts.no_lines_loads

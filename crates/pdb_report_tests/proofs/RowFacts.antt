@@ -30,8 +30,8 @@ use Rattle.pdb_report.specs.Loading.{symbol_records_in, unmapped, sections_in, a
 use Rattle.pdb_report.specs.Answers.{scope, answer_in, answer_of, answer, answer_text, line_text}
 use Rattle.pdb_report.specs.Faults.{Pdb, PdbError}
 use Rattle.pdb_report.specs.Lines.{report}
-use Rattle.pdb_rows.specs.Samples as samples
-use Rattle.pdb_rows.specs.Samples.{file_f0}
+use Rattle.pdb_report_tests.specs.Samples as samples
+use Rattle.pdb_report_tests.specs.Samples.{file_f0}
 
 pub elf : load_fault (streams samples.elf) ≡ Some (Pdb (PdbError UnrecognizedFileFormat))
 unfolding samples.elf front_in layout_of streams shared loaded answerable

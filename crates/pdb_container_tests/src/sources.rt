@@ -1,7 +1,7 @@
 //! A source that fails once.
 
 use crate::files::{container, counted, file, get};
-use pdb_container::{BigMSF, Error, Msf, ReadView, Source, SourceSlice, open_msf};
+use pdb_container::{BigMSF, Error, Msf, ReadView, Source, SourceSlice, Stream, open_msf};
 use pdb_samples::{PageOrder, SampleError};
 use std::alloc::Global;
 use std::io::{self, ErrorKind};
@@ -79,41 +79,35 @@ fn opened(
     }
 }
 
-#[test]
-fn the_first_view_fails(rt: HostRuntime) -> Result<(), Fail> {
-    let container = opened(rt.alloc(), 0, Refusal::Other)?;
-    assert_eq!(rt; container.err(), Some(Error::IoError(ErrorKind::Other)));
-    let container = opened(rt.alloc(), 0, Refusal::Memory)?;
-    assert_eq!(rt; container.err(), Some(Error::OutOfMemory));
-    Ok(())
+/// Why stream 1 is refused where a view fails, and its bytes at the next call.
+fn asked_twice(
+    alloc: Global,
+    fails_at: u64,
+    refusal: Refusal,
+) -> Result<(Option<Error>, Stream<'static>), Fail> {
+    let mut container = opened(alloc, fails_at, refusal)??;
+    let refused = match refusal {
+        Refusal::Memory => container.get(alloc, 1, None),
+        Refusal::Other => get(&mut container, alloc, 1, None),
+    };
+    let error = refused.err();
+    Ok((error, get(&mut container, alloc, 1, None)?))
 }
 
 #[test]
-fn a_later_view_fails(rt: HostRuntime) -> Result<(), Fail> {
+fn a_view_fails_once(rt: HostRuntime) -> Result<(), Fail> {
     let usual = counted(rt.alloc(), 1, 300)?;
-    for fails_at in 1..4 {
-        let mut container = opened(rt.alloc(), fails_at, Refusal::Other)??;
-        let refused = get(&mut container, rt.alloc(), 1, None);
-        assert_eq!(rt;
-            refused.err(),
-            Some(Error::IoError(ErrorKind::Other)),
-            "at {fails_at}"
-        );
-        let stream = get(&mut container, rt.alloc(), 1, None)?;
-        assert_eq!(rt; stream.as_slice(), usual.as_slice(), "at {fails_at}");
-    }
-    Ok(())
-}
-
-#[test]
-fn a_later_view_finds_no_memory(rt: HostRuntime) -> Result<(), Fail> {
-    let usual = counted(rt.alloc(), 1, 300)?;
-    for fails_at in 1..4 {
-        let mut container = opened(rt.alloc(), fails_at, Refusal::Memory)??;
-        let refused = container.get(rt.alloc(), 1, None);
-        assert_eq!(rt; refused.err(), Some(Error::OutOfMemory), "at {fails_at}");
-        let stream = get(&mut container, rt.alloc(), 1, None)?;
-        assert_eq!(rt; stream.as_slice(), usual.as_slice(), "at {fails_at}");
+    let rows = [
+        (Refusal::Other, Error::IoError(ErrorKind::Other)),
+        (Refusal::Memory, Error::OutOfMemory),
+    ];
+    for (refusal, error) in rows {
+        assert_eq!(rt; opened(rt.alloc(), 0, refusal)?.err(), Some(error));
+        for fails_at in 1..4 {
+            let (refused, stream) = asked_twice(rt.alloc(), fails_at, refusal)?;
+            assert_eq!(rt; refused, Some(error), "at {fails_at}");
+            assert_eq!(rt; stream.as_slice(), usual.as_slice(), "at {fails_at}");
+        }
     }
     Ok(())
 }

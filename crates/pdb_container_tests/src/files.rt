@@ -3,7 +3,6 @@
 use pdb_container::{BigMSF, Error, Msf, Source, Stream, open_msf};
 use pdb_samples::{Container, PageOrder, SampleError};
 use std::alloc::{AllocError, Global};
-use std::fmt::Display;
 
 /// An empty list with room for so many.
 pub fn room<T: Drop>(alloc: Global, count: usize) -> Result<Vec<T>, AllocError> {
@@ -51,22 +50,15 @@ pub fn file(alloc: Global, description: &Container) -> Result<Vec<u8>, SampleErr
     }
 }
 
-/// A copy of the bytes.
-fn copy(alloc: Global, bytes: &[u8]) -> Result<Vec<u8>, AllocError> {
-    match Vec::from_slice(alloc, bytes) {
-        Err(_) => Vec::from_slice(alloc, bytes),
-        made => made,
-    }
+fn opened(alloc: Global, bytes: &[u8]) -> Result<BigMSF<'static, Vec<u8>>, Error> {
+    open_msf(alloc, Vec::from_slice(alloc, bytes)?)
 }
 
-/// A container over a copy of the bytes, or why there is none.
-pub fn open(
-    alloc: Global,
-    bytes: &[u8],
-) -> Result<Result<BigMSF<'static, Vec<u8>>, Error>, AllocError> {
-    match open_msf(alloc, copy(alloc, bytes)?) {
-        Err(Error::OutOfMemory) => Ok(open_msf(alloc, copy(alloc, bytes)?)),
-        opened => Ok(opened),
+/// A container over a copy of the bytes.
+pub fn open(alloc: Global, bytes: &[u8]) -> Result<BigMSF<'static, Vec<u8>>, Error> {
+    match opened(alloc, bytes) {
+        Err(Error::OutOfMemory) => opened(alloc, bytes),
+        answer => answer,
     }
 }
 
@@ -80,21 +72,5 @@ pub fn get<'s, S: Source>(
     match container.get(alloc, number, limit) {
         Err(Error::OutOfMemory) => container.get(alloc, number, limit),
         answer => answer,
-    }
-}
-
-/// An answer's bytes, or its error.
-pub fn seen<'a>(answer: &'a Result<Stream<'_>, Error>) -> Result<&'a [u8], Error> {
-    match answer {
-        Ok(stream) => Ok(stream.as_slice()),
-        Err(error) => Err(*error),
-    }
-}
-
-/// What a value prints.
-pub fn printed<T: Display>(alloc: Global, value: &T) -> Result<String, AllocError> {
-    match format!(in alloc; "{value}") {
-        Err(_) => format!(in alloc; "{value}"),
-        text => text,
     }
 }

@@ -8,7 +8,7 @@ ghost use Rattle.pdb_report.specs.Faults.{Pdb, PdbError};
 ghost use Rattle.pdb_report.specs.Lines.{report};
 ghost use Rattle.pdb_report.specs.Loading.{load_fault};
 ghost use Rattle.pdb_symbols_modules.specs.Streams.{streams};
-ghost use Rattle.pdb_rows.specs.Samples as samples;
+ghost use Rattle.pdb_report_tests.specs.Samples as samples;
 
 /// The file without line data can be loaded, and an address in `f` has that function, but neither file nor line.
 pub fn no_lines()
