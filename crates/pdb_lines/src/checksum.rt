@@ -7,7 +7,7 @@ ghost use Rattle.pdb_container.specs.Listing.{ending, Advances};
 ghost use Rattle.pdb_lines.specs.Checksums.{checksum_of, file_at, files_of, file_in, checksum_seen, file_seen};
 
 use pdb_container::{Error, FallibleIterator, ParseBuffer, Result, StringRef};
-use pdb_container_types::FileIndex;
+use pdb_indices::FileIndex;
 use pdb_subsections::padding_behind;
 use std::marker::Model;
 

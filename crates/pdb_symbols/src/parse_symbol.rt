@@ -16,10 +16,10 @@ use crate::symbol::Symbol;
 use crate::symbol_data::{
     ProcedureSymbol, PublicSymbol, SeparatedCodeSymbol, SymbolData, ThunkSymbol,
 };
+use pdb_addresses::PdbInternalSectionOffset;
 use pdb_annotations::{BinaryAnnotations, InlineSiteSymbol};
-use pdb_container_types::{
-    Error, ParseBuffer, PdbInternalSectionOffset, RawString, Result, SymbolIndex,
-};
+use pdb_container::{Error, ParseBuffer, RawString, Result};
+use pdb_indices::SymbolIndex;
 
 impl<'t> Symbol<'t> {
     /// What it says.

@@ -6,7 +6,8 @@ ghost use Rattle.pdb_symbols.specs.Kinds.{starts_scope, ends_scope};
 ghost use Rattle.pdb_symbols.specs.Symbols.{kind_of, payload_of, symbol_at};
 
 use crate::kinds;
-use pdb_container_types::{Error, ParseBuffer, Result, SymbolIndex};
+use pdb_container::{Error, ParseBuffer, Result};
+use pdb_indices::SymbolIndex;
 use std::marker::Model;
 
 /// A symbol: the place of its length in the bytes of its list, and the bytes behind the length, which begin with its kind.

@@ -8,7 +8,8 @@ ghost use Rattle.pdb_symbols.specs.Symbols.{next};
 
 use crate::kinds::is_padding;
 use crate::symbol::{Symbol, parse_symbol};
-use pdb_container_types::{Error, FallibleIterator, Result, SymbolIndex};
+use pdb_container::{Error, FallibleIterator, Result};
+use pdb_indices::SymbolIndex;
 use std::marker::Model;
 
 /// The symbols of a list in their order. At the end and behind an error it stands at the list's end, and answers `None` until

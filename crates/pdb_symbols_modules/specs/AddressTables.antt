@@ -1,10 +1,10 @@
 -- The sections of an image, and those of its database with the ways between them.
 use Rattle.std.specs.Prelude.{ℕ, List, [], Option, None, Some, Result, Ok}
 use Rattle.pdb_container.specs.Fault.{Fault, ◌>>=◌}
-use Rattle.pdb_container_types.specs.declared.sections.ImageSectionHeader.{ImageSectionHeader}
-use Rattle.pdb_container_types.specs.Addresses.{Map, map_of}
-use Rattle.pdb_container_types.specs.Omap.{omap_of}
-use Rattle.pdb_container_types.specs.Sections.{section_headers_of}
+use Rattle.pdb_addresses.specs.declared.sections.ImageSectionHeader.{ImageSectionHeader}
+use Rattle.pdb_addresses.specs.Addresses.{Map, map_of}
+use Rattle.pdb_addresses.specs.Omap.{omap_of}
+use Rattle.pdb_addresses.specs.Sections.{section_headers_of}
 use Rattle.pdb_symbols_modules.specs.Dbi.{Dbi}
 use Rattle.pdb_symbols_modules.specs.OptionalHeader.{optional_stream, to_source_place, from_source_place, sections_place, original_sections_place}
 use Rattle.pdb_symbols_modules.specs.Streams.{Streams}

@@ -3,8 +3,8 @@ use Rattle.std.specs.Prelude.{ℕ, List, nat_lt, Option, Result, Ok, codes, None
 use Rattle.pdb_container.specs.Fault.{Fault, GlobalSymbolsNotFound, ◌>>=◌, guard}
 use Rattle.pdb_container.specs.Names.{names_of}
 use Rattle.pdb_items.specs.Items.{Table, table_of}
-use Rattle.pdb_container_types.specs.declared.sections.ImageSectionHeader.{ImageSectionHeader}
-use Rattle.pdb_container_types.specs.Addresses.{Map}
+use Rattle.pdb_addresses.specs.declared.sections.ImageSectionHeader.{ImageSectionHeader}
+use Rattle.pdb_addresses.specs.Addresses.{Map}
 use Rattle.pdb_symbols_modules.specs.AddressTables.{sections_by, address_map_by}
 use Rattle.pdb_symbols_modules.specs.Dbi.{Dbi, dbi_of}
 use Rattle.pdb_symbols_modules.specs.Information.{Information, information_of, stream_names_of, number_of}

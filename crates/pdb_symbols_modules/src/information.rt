@@ -7,7 +7,7 @@ ghost use Rattle.pdb_container.specs.Buffer.{rest, Reads, ReadsAll};
 ghost use Rattle.pdb_container.specs.Fault.{Gives, Parses};
 ghost use Rattle.pdb_container.specs.Fields.{bytes_of};
 ghost use Rattle.pdb_container.specs.Names.{name_in};
-ghost use Rattle.pdb_items.specs.RecordFields.{GivesAll, many_at};
+ghost use Rattle.pdb_indices.specs.RecordFields.{GivesAll, many_at};
 ghost use Rattle.pdb_symbols_modules.specs.Information.{information_of, stream_number, stream_name_at, bits_at, stream_names_of, number_in, is_named, number_of};
 ghost use Rattle.pdb_container.specs.RawString.{raw_bytes};
 ghost use Rattle.pdb_symbols_modules.specs.NamesSeen.{stream_name_seen};

@@ -3,8 +3,8 @@
 ghost use Rattle.std.specs.Prelude.{◌≡◌, ◌≤◌, ◌⊎◌, IfOk, IfErr, None, Some, option_map};
 ghost use Rattle.pdb_container.specs.Fault.{fault_of, Gives, HasRisen, IsOutside};
 ghost use Rattle.pdb_symbols_modules.specs.AddressTables.{said, sections_by, original_sections_by, map_with, map_behind, address_map_by};
-ghost use Rattle.pdb_container_types.specs.Omap.{omap_of};
-ghost use Rattle.pdb_container_types.specs.Sections.{section_headers_of};
+ghost use Rattle.pdb_addresses.specs.Omap.{omap_of};
+ghost use Rattle.pdb_addresses.specs.Sections.{section_headers_of};
 ghost use Rattle.pdb_symbols_modules.specs.Opened.{information, named_stream, names, debug_information, types, ids, global_symbols, sections, address_map, module_info};
 ghost use Rattle.pdb_symbols_modules.specs.OptionalHeader.{optional_stream};
 ghost use Rattle.pdb_symbols_modules.specs.Streams.{streams, stream_if_named};
@@ -16,11 +16,12 @@ use crate::optional_header::{
     OMAP_FROM_SOURCE, OMAP_TO_SOURCE, ORIGINAL_SECTION_HEADERS, SECTION_HEADERS,
 };
 use crate::stream_index::StreamIndex;
-use pdb_container::{BigMSF, Error, Msf, Result, Source, Stream, StringTable, open_msf};
-use pdb_container_types::{
+use pdb_addresses::{
     AddressMap, ImageSectionHeader, OMAPRecord, parse_omap, parse_section_headers,
 };
-use pdb_items::{IdInformation, ItemIndex, ItemInformation, TypeInformation};
+use pdb_container::{BigMSF, Error, Msf, Result, Source, Stream, StringTable, open_msf};
+use pdb_indices::ItemIndex;
+use pdb_items::{IdInformation, ItemInformation, TypeInformation};
 use pdb_modules::{ModuleInfo, SymbolTable};
 use std::alloc::Global;
 use std::marker::Model;
