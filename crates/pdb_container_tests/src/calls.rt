@@ -91,7 +91,7 @@ fn are_joined(alloc: Global) -> Result<bool, Fail> {
     let mut list = pages(alloc, &[0, 1, 4, 5, 2, 2])?;
     list.truncate(10000);
     let slices = [slice(0, 8192), slice(16384, 1808)];
-    Ok(list.source_slices() == slices && list.len() == 10000)
+    Ok(list.source_slices() == slices.as_slice() && list.len() == 10000)
 }
 
 /// What a fault prints.
@@ -120,54 +120,42 @@ type Unsigned = (u8, u16, u32, u64);
 
 type Signed = (i8, i16, i32, i64);
 
+/// Four numbers by name.
 fn unsigned(buffer: &mut ParseBuffer<'_>) -> Answer<Unsigned> {
-    Ok((
-        buffer.parse_u8()?,
-        buffer.parse_u16()?,
-        buffer.parse_u32()?,
-        buffer.parse_u64()?,
-    ))
+    let (first, second) = (buffer.parse_u8()?, buffer.parse_u16()?);
+    Ok((first, second, buffer.parse_u32()?, buffer.parse_u64()?))
 }
 
+/// Four numbers in two's complement by name.
 fn signed(buffer: &mut ParseBuffer<'_>) -> Answer<Signed> {
-    Ok((
-        buffer.parse_i8()?,
-        buffer.parse_i16()?,
-        buffer.parse_i32()?,
-        buffer.parse_i64()?,
-    ))
+    let (first, second) = (buffer.parse_i8()?, buffer.parse_i16()?);
+    Ok((first, second, buffer.parse_i32()?, buffer.parse_i64()?))
 }
 
+/// Four numbers by their types.
 fn unsigned_by_type(buffer: &mut ParseBuffer<'_>) -> Answer<Unsigned> {
-    Ok((
-        buffer.parse()?,
-        buffer.parse()?,
-        buffer.parse()?,
-        buffer.parse()?,
-    ))
+    let (first, second) = (buffer.parse()?, buffer.parse()?);
+    Ok((first, second, buffer.parse()?, buffer.parse()?))
 }
 
+/// Four numbers in two's complement by their types.
 fn signed_by_type(buffer: &mut ParseBuffer<'_>) -> Answer<Signed> {
-    Ok((
-        buffer.parse()?,
-        buffer.parse()?,
-        buffer.parse()?,
-        buffer.parse()?,
-    ))
+    let (first, second) = (buffer.parse()?, buffer.parse()?);
+    Ok((first, second, buffer.parse()?, buffer.parse()?))
 }
 
 #[test]
 fn numbers(rt: HostRuntime) {
-    let expected = Ok((0xfe, 0xfffd, 0xffff_fffc, 0xffff_ffff_ffff_fffb));
-    for read in [unsigned, unsigned_by_type] {
-        let mut buffer = ParseBuffer::from(NUMBERS.as_slice());
-        assert_eq!(rt; read(&mut buffer), expected);
-        assert_eq!(rt; buffer.parse_u8(), Err(Error::UnexpectedEof));
-    }
-    for read in [signed, signed_by_type] {
-        let mut buffer = ParseBuffer::from(NUMBERS.as_slice());
-        assert_eq!(rt; read(&mut buffer), Ok((-2, -3, -4, -5)));
-    }
+    let all = (0xfe, 0xfffd, 0xffff_fffc, 0xffff_ffff_ffff_fffb);
+    let mut buffer = ParseBuffer::from(NUMBERS.as_slice());
+    assert_eq!(rt; unsigned(&mut buffer), Ok(all));
+    assert_eq!(rt; buffer.parse_u8(), Err(Error::UnexpectedEof));
+    buffer.seek(0);
+    assert_eq!(rt; unsigned_by_type(&mut buffer), Ok(all));
+    buffer.seek(0);
+    assert_eq!(rt; signed(&mut buffer), Ok((-2, -3, -4, -5)));
+    buffer.seek(0);
+    assert_eq!(rt; signed_by_type(&mut buffer), Ok((-2, -3, -4, -5)));
 }
 
 /// Where calls that go somewhere lead, and how many bytes are left there.
@@ -197,12 +185,7 @@ fn places_and_texts(rt: HostRuntime) {
     assert_eq!(rt; places(&mut buffer), Ok([4, 3, 2, 2]));
     assert!(rt; buffer.is_empty());
     let mut buffer = ParseBuffer::from(b"ab\0\x02cde".as_slice());
-    let expected = (
-        b'a',
-        0x6261,
-        RawString::from("ab"),
-        RawString::from("cd"),
-    );
+    let expected = (b'a', 0x6261, RawString::from("ab"), RawString::from("cd"));
     assert_eq!(rt; texts(&mut buffer), Ok(expected));
     assert_eq!(rt; buffer.len(), 1);
 }

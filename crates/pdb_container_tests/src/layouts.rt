@@ -15,10 +15,7 @@ fn stream_of(description: &Container, number: u32, limit: usize) -> Result<&[u8]
 }
 
 /// The first number and limit, of some, at which the file of the description answers another stream.
-fn first_wrong(
-    alloc: Global,
-    description: &Container,
-) -> Result<Option<(u32, usize)>, Fail> {
+fn first_wrong(alloc: Global, description: &Container) -> Result<Option<(u32, usize)>, Fail> {
     let bytes = file(alloc, description)?;
     let mut opened = open(alloc, bytes.as_slice())?;
     let count = description.streams.len() as u32;

@@ -137,10 +137,7 @@ impl ProgramDatabase {
     /// The file's streams.
     pub fn container(&self, alloc: Global) -> Result<Container> {
         let mut streams = Vec::new(alloc);
-        self.push_fixed_streams(alloc, &mut streams)?;
-        self.push_module_streams(alloc, &mut streams)?;
-        self.push_names(alloc, &mut streams)?;
-        self.push_further_streams(alloc, &mut streams)?;
+        self.push_streams(alloc, &mut streams)?;
         Ok(Container {
             page_size: self.page_size,
             streams,
@@ -158,6 +155,13 @@ impl ProgramDatabase {
             stream = stream.saturating_add(u32::from(module.has_stream));
         }
         Ok(Some(stream))
+    }
+
+    fn push_streams(&self, alloc: Global, streams: &mut Streams) -> Result<()> {
+        self.push_fixed_streams(alloc, streams)?;
+        self.push_module_streams(alloc, streams)?;
+        self.push_names(alloc, streams)?;
+        self.push_further_streams(alloc, streams)
     }
 
     fn push_fixed_streams(&self, alloc: Global, streams: &mut Streams) -> Result<()> {
