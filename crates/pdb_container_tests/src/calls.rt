@@ -43,7 +43,7 @@ fn has_name(alloc: Global) -> Result<[bool; 3], Fail> {
     let table = StringTable::parse(stream)?;
     let name = StringRef(1);
     Ok([
-        table.get(name)?.as_bytes() == b"a\xffc",
+        table.get(name)?.as_bytes() == b"a\xffc".as_slice(),
         name.to_raw_string(&table)?.len() == 3,
         name.to_string_lossy(alloc, &table)?.as_str() == "a\u{fffd}c",
     ])
@@ -67,7 +67,7 @@ fn is_viewed(alloc: Global) -> Result<bool, Fail> {
     let mut source = Vec::from_slice(alloc, b"abcde")?;
     let slices = [slice(1, 2), slice(4, 1)];
     let view = source.view(alloc, &slices)?;
-    Ok(view.as_slice() == b"bce" && source.failures() == 0)
+    Ok(view.as_slice() == b"bce".as_slice() && source.failures() == 0)
 }
 
 /// So many bytes from a place on.

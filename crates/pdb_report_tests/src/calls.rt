@@ -13,7 +13,7 @@ fn is_answered(alloc: Global) -> Result<bool, Fail> {
     Symbolizer::open(alloc, F0.made(alloc)?)?;
     let run = run_over(alloc, F0.made(alloc)?, b"1014\n".as_slice());
     run.outcome?;
-    Ok(run.report.as_slice() == b"0x00001014\n  f at ??:??\n")
+    Ok(run.report.as_slice() == b"0x00001014\n  f at ??:??\n".as_slice())
 }
 
 /// Whether three bytes are read and written.
