@@ -1,12 +1,12 @@
 -- The answer by what is kept of a file is the file's.
 use Rattle.std.proofs.Common.{◌≡◌, ℕ, List, [], Result, Ok, Err, refl, sym, ap, ◌∙◌}
 use Rattle.std.specs.Prelude.{Option, None, Some, option_map}
-use Rattle.pdb_container_types.specs.declared.internal_section_offset.PdbInternalSectionOffset.{PdbInternalSectionOffset}
+use Rattle.pdb_addresses.specs.declared.internal_section_offset.PdbInternalSectionOffset.{PdbInternalSectionOffset}
 use Rattle.pdb_report.specs.declared.pdb_addr2line.contributions.ModuleSectionContribution.{ModuleSectionContribution}
 use Rattle.pdb_report.specs.Faults.{LoadingFault}
 use Rattle.pdb_symbols_modules.specs.Streams.{streams}
-use Rattle.pdb_container_types.specs.Addresses.{Map, inner_place}
-use Rattle.pdb_container_types.specs.Places.{internal_place}
+use Rattle.pdb_addresses.specs.Addresses.{Map, inner_place}
+use Rattle.pdb_addresses.specs.Places.{internal_place}
 use Rattle.pdb_report.specs.Contributions.{holder}
 use Rattle.pdb_report.specs.Procedures.{Procedure, procedures, over}
 use Rattle.pdb_report.specs.Shared.{Provider, provider}

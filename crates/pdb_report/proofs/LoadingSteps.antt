@@ -4,9 +4,9 @@ use Rattle.std.specs.Prelude.{◌⊎◌, nat_lt, None, Some}
 use Rattle.std.proofs.lemmas.Bool.{cases_Bool}
 use Rattle.pdb_container.specs.declared.error.Error.{Error}
 use Rattle.pdb_container.specs.Fault.{Fault, fault_of, IsOutside, HasRisen, ◌>>=◌, refuse}
-use Rattle.pdb_container_types.specs.declared.sections.ImageSectionHeader.{ImageSectionHeader}
-use Rattle.pdb_container_types.specs.Addresses.{Map, map_of, IsOrdered}
-use Rattle.pdb_container_types.specs.Sections.{section_headers_of}
+use Rattle.pdb_addresses.specs.declared.sections.ImageSectionHeader.{ImageSectionHeader}
+use Rattle.pdb_addresses.specs.Addresses.{Map, map_of, IsOrdered}
+use Rattle.pdb_addresses.specs.Sections.{section_headers_of}
 use Rattle.pdb_items.specs.Items.{Table, table_of}
 use Rattle.pdb_symbols_modules.specs.AddressTables.{said, or_none, sections_by, original_sections_by, address_map_by}
 use Rattle.pdb_symbols_modules.specs.Dbi.{Dbi, dbi_of}

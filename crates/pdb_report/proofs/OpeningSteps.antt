@@ -9,7 +9,7 @@ use Rattle.pdb_report.specs.declared.fault.LoadFault.{LoadFault}
 use Rattle.pdb_report.specs.declared.fault.LoadFault.TheVariants as faults
 use Rattle.pdb_report.specs.declared.pdb_addr2line.Error.TheVariants as contexts
 use Rattle.pdb_container.specs.Listing.{whole}
-use Rattle.pdb_container_types.specs.Addresses.{Map, IsOrdered}
+use Rattle.pdb_addresses.specs.Addresses.{Map, IsOrdered}
 use Rattle.pdb_symbols_modules.specs.Opened.{debug_information}
 use Rattle.pdb_symbols_modules.specs.Opened.{module_stream as own_stream_of}
 use Rattle.pdb_report.specs.declared.pdb_addr2line.contributions.ModuleSectionContribution.{ModuleSectionContribution}

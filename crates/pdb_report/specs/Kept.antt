@@ -2,13 +2,13 @@
 use Rattle.std.specs.Prelude.{◌≡◌, ℕ, List, [], Option, None, Some, map, option_map, slice_get, Result, Ok, Err}
 use Rattle.std.specs.List.{list_any}
 use Rattle.pdb_container.specs.Fault.{refuse, ◌>>=◌}
-use Rattle.pdb_container_types.specs.declared.internal_section_offset.PdbInternalSectionOffset.{PdbInternalSectionOffset}
+use Rattle.pdb_addresses.specs.declared.internal_section_offset.PdbInternalSectionOffset.{PdbInternalSectionOffset}
 use Rattle.pdb_report.specs.declared.pdb_addr2line.contributions.ModuleSectionContribution.{ModuleSectionContribution}
 use Rattle.pdb_report.specs.Faults.{LoadingFault, NotYet}
 use Rattle.pdb_symbols_modules.specs.Streams.{Streams, streams}
 use Rattle.pdb_symbols_modules.specs.Modules.{Module}
-use Rattle.pdb_container_types.specs.Addresses.{Map, inner_place, IsOrdered}
-use Rattle.pdb_container_types.specs.Places.{internal_place}
+use Rattle.pdb_addresses.specs.Addresses.{Map, inner_place, IsOrdered}
+use Rattle.pdb_addresses.specs.Places.{internal_place}
 use Rattle.pdb_report.specs.Contributions.{holder}
 use Rattle.pdb_symbols.specs.Symbols.{Symbol}
 use Rattle.pdb_container.specs.Fault.{Fault}

@@ -2,7 +2,7 @@
 use Rattle.std.specs.Prelude.{◌≡◌, ℕ, Bool, ◌||◌, List, [], nat_lt, Option, None, Some, if◌then◌else◌, Result, Ok, Err}
 use Rattle.std.specs.List.{list_any}
 use Rattle.pdb_container.specs.Fault.{Fault, GlobalSymbolsNotFound, ◌>>=◌, refuse, guard}
-use Rattle.pdb_container_types.specs.declared.sections.ImageSectionHeader.{ImageSectionHeader}
+use Rattle.pdb_addresses.specs.declared.sections.ImageSectionHeader.{ImageSectionHeader}
 use Rattle.pdb_report.specs.declared.pdb_addr2line.contributions.ModuleSectionContribution.{ModuleSectionContribution}
 use Rattle.pdb_report.specs.declared.fault.LoadFault.{LoadFault}
 use Rattle.pdb_report.specs.declared.fault.LoadFault.TheVariants as faults
@@ -13,8 +13,8 @@ use Rattle.pdb_symbols_modules.specs.Streams.{Streams, fault_in}
 use Rattle.pdb_symbols_modules.specs.Dbi.{Dbi, dbi_of}
 use Rattle.pdb_symbols_modules.specs.Modules.{Module, modules_of}
 use Rattle.pdb_symbols_modules.specs.OptionalHeader.{optional_at, to_source_place, from_source_place, sections_place, original_sections_place}
-use Rattle.pdb_container_types.specs.Addresses.{Map, map_of}
-use Rattle.pdb_container_types.specs.Sections.{section_headers_of}
+use Rattle.pdb_addresses.specs.Addresses.{Map, map_of}
+use Rattle.pdb_addresses.specs.Sections.{section_headers_of}
 use Rattle.pdb_items.specs.Items.{table_of}
 use Rattle.pdb_container.specs.Listing.{whole}
 use Rattle.pdb_symbols.specs.Kinds.{is_public}

@@ -4,7 +4,7 @@ ghost use Rattle.std.specs.Prelude.{◌≡◌, Ok, IfOk};
 ghost use Rattle.std.specs.List.{list_any};
 ghost use Rattle.pdb_container.specs.Fault.{Gives};
 ghost use Rattle.pdb_container.specs.Listing.{whole};
-ghost use Rattle.pdb_container_types.specs.Addresses.{IsOrdered};
+ghost use Rattle.pdb_addresses.specs.Addresses.{IsOrdered};
 ghost use Rattle.pdb_report.specs.Faults.{Loads, lifted};
 ghost use Rattle.pdb_report.specs.Loading.{unmapped, address_tables, is_public_symbol, has_lines as has_lines_of, loaded_behind};
 ghost use Rattle.pdb_report.specs.Shared.{shared};
@@ -17,8 +17,8 @@ ghost use Rattle.pdb_symbols_modules.specs.Streams.{streams};
 use crate::fault::LoadFault;
 use crate::modules::collect_symbols;
 use crate::pdb_addr2line::contributions::{ModuleSectionContribution, held_contributions};
+use pdb_addresses::AddressMap;
 use pdb_container::{FallibleIterator, Result};
-use pdb_container_types::AddressMap;
 use pdb_symbols::kinds::is_public;
 use pdb_symbols::{Symbol, SymbolTable};
 use pdb_symbols_modules::{

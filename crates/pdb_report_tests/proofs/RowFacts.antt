@@ -11,14 +11,14 @@ use Rattle.pdb_container.specs.Places.{bytes_at, page_places}
 use Rattle.pdb_container.specs.Fields.{c_string_at, entries_within}
 use Rattle.pdb_container.specs.Fault.{IoError, UnrecognizedFileFormat}
 use Rattle.pdb_container.specs.Listing.{listing_within}
-use Rattle.pdb_container_types.specs.Sections.{section_header_at}
+use Rattle.pdb_addresses.specs.Sections.{section_header_at}
 use Rattle.pdb_items.specs.Items.{header_at, fitting_header, item_header_of, table_of}
 use Rattle.pdb_symbols_modules.specs.Contributions.{contribution_at, contributions_of}
 use Rattle.pdb_symbols_modules.specs.Dbi.{header_of, dbi_of}
 use Rattle.pdb_symbols_modules.specs.Modules.{module_at}
 use Rattle.pdb_symbols_modules.specs.OptionalHeader.{optional_at}
 use Rattle.pdb_symbols_modules.specs.Streams.{streams}
-use Rattle.pdb_items.specs.RecordFields.{type_index_at}
+use Rattle.pdb_indices.specs.RecordFields.{type_index_at}
 use Rattle.pdb_symbols.specs.Records.{index_at, optional_index_at, place_at, name_at, procedure_of, end_of, form_of, symbol_form_of}
 use Rattle.pdb_symbols.specs.Symbols.{symbol_at, next_within, next, symbols_within, symbols_from}
 use Rattle.pdb_modules.specs.ModuleStream.{signed}
