@@ -7,7 +7,7 @@ use std::io::Read;
 use std::test::Fail;
 
 /// A file.
-#[derive(Debug, Clone, Copy)]
+#[derive(Clone, Copy)]
 pub enum File {
     /// Four bytes that another format begins with.
     Elf,

@@ -88,9 +88,9 @@ fn refused_files(rt: HostRuntime) -> Result<(), Fail> {
         ),
         (File::With(Change::NestedProcedure), "fault: NotYet\n"),
     ];
-    for (file, fault) in rows {
+    for (row, (file, fault)) in rows.into_iter().enumerate() {
         let is_refused = is_reported(rt.alloc(), file, "1014\n", "", fault)?;
-        assert!(rt; is_refused, "at {file:?}");
+        assert!(rt; is_refused, "row {row}");
     }
     Ok(())
 }
@@ -107,9 +107,9 @@ fn answered_files(rt: HostRuntime) -> Result<(), Fail> {
         (Change::Name(b"f\xff"), "0x00001014\n  f\u{fffd} at ??:??\n"),
         (Change::Name(b""), "0x00001014\n  <name omitted> at ??:??\n"),
     ];
-    for (change, report) in rows {
+    for (row, (change, report)) in rows.into_iter().enumerate() {
         let is_answered = is_reported(rt.alloc(), File::With(change), "1014\n", report, "")?;
-        assert!(rt; is_answered, "at {change:?}");
+        assert!(rt; is_answered, "row {row}");
     }
     Ok(())
 }

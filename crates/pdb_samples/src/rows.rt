@@ -70,7 +70,7 @@ const CODE: Contribution = Contribution {
 };
 
 /// How a file differs from file F0.
-#[derive(Debug, Clone, Copy)]
+#[derive(Clone, Copy)]
 pub enum Change {
     Nothing,
     /// Line data, as in file F.
@@ -203,19 +203,20 @@ fn fill(
     change: Change,
     records: Vec<u8>,
 ) -> Result<()> {
-    database
-        .modules
-        .push(module_of_symbols(alloc, b"a.obj", records)?)?;
-    database.sections.push(TEXT)?;
-    database.debug.contributions.push(CODE)?;
-    for place in 0..11 {
-        database
-            .debug
-            .optional_header
-            .push(if place == 5 { 6 } else { NO_STREAM })?;
-    }
+    let module = module_of_symbols(alloc, b"a.obj", records)?;
+    database.modules.push(module)?;
     database.names = Some(Vec::from_slice(alloc, b"\0a.c\0")?);
+    fill_addresses(database)?;
     change.apply(alloc, database)
+}
+
+/// Adds the section, the contribution and the optional header.
+fn fill_addresses(database: &mut ProgramDatabase) -> Result<()> {
+    database.sections.push(TEXT)?;
+    let debug = &mut database.debug;
+    debug.contributions.push(CODE)?;
+    debug.optional_header.resize(11, NO_STREAM)?;
+    set_number(debug, 5, 6)
 }
 
 /// The procedure `f` of this type, the records that lie in it, and its end. The first record in it lies at 48 of the
@@ -393,7 +394,12 @@ fn add_maps(alloc: Global, database: &mut ProgramDatabase) -> Result<()> {
         set_number(&mut database.debug, place, stream)?;
     }
     let streams = &mut database.further_streams;
-    streams.push(Some(words(alloc, &[0x2000, 0x1010, 0x2008, 0])?))?;
-    streams.push(Some(words(alloc, &[0x1010, 0x2000])?))?;
+    push_words(alloc, streams, &[0x2000, 0x1010, 0x2008, 0])?;
+    push_words(alloc, streams, &[0x1010, 0x2000])
+}
+
+/// Adds a stream of numbers of four bytes.
+fn push_words(alloc: Global, streams: &mut Vec<Option<Vec<u8>>>, values: &[u32]) -> Result<()> {
+    streams.push(Some(words(alloc, values)?))?;
     Ok(())
 }
