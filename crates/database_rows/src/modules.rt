@@ -17,7 +17,7 @@ type Said<'m> = ([RawString<'m>; 2], StreamIndex, [u32; 3]);
 /// What is said of a module.
 fn said<'m>(module: &Module<'m>) -> Said<'m> {
     (
-        [module.module_name(), module.object_file_name()],
+        [module.raw_module_name(), module.raw_object_file_name()],
         module.stream(),
         [
             module.symbols_size(),

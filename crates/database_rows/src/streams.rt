@@ -26,7 +26,7 @@ fn streams_by_number(rt: HostRuntime) -> Result<(), Fail> {
     for number in 0..9u16 {
         let index = StreamIndex(number);
         let raw = database.raw_stream(rt.alloc(), index)?;
-        let by_index = index.get(&mut database, rt.alloc())?;
+        let by_index = index.get(rt.alloc(), &mut database)?;
         let bytes = match container.streams.get(usize::from(number)) {
             Some(Some(bytes)) => Some(bytes.as_slice()),
             _ => None,
@@ -45,12 +45,12 @@ fn numbers_without_streams(rt: HostRuntime) -> Result<(), Fail> {
     let none = StreamIndex(0xffff);
     assert!(rt; none.is_none() && !StreamIndex(0xfffe).is_none());
     assert!(rt; database.raw_stream(rt.alloc(), none)?.is_none());
-    assert!(rt; none.get(&mut database, rt.alloc())?.is_none());
+    assert!(rt; none.get(rt.alloc(), &mut database)?.is_none());
     for number in [9u16, 10, 0xfffe] {
         let fault = Some(Error::StreamNotFound(u32::from(number)));
         let index = StreamIndex(number);
         assert_eq!(rt; refusal(database.raw_stream(rt.alloc(), index))?, fault);
-        assert_eq!(rt; refusal(index.get(&mut database, rt.alloc()))?, fault);
+        assert_eq!(rt; refusal(index.get(rt.alloc(), &mut database))?, fault);
     }
     Ok(())
 }

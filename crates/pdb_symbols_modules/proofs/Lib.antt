@@ -1,4 +1,5 @@
 pub mod Opening
 pub mod NameLemmas
+pub mod NulPlaces
 pub mod Provided
 pub mod SharedSteps

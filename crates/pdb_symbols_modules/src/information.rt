@@ -12,6 +12,7 @@ ghost use Rattle.pdb_symbols_modules.specs.Information.{information_of, stream_n
 ghost use Rattle.pdb_container.specs.RawString.{raw_bytes};
 ghost use Rattle.pdb_symbols_modules.specs.NamesSeen.{stream_name_seen};
 
+use crate::name_block::NameBlock;
 use crate::stream_index::StreamIndex;
 use pdb_container::{Error, ParseBuffer, RawString, Result, Stream};
 use std::alloc::Global;
@@ -76,7 +77,8 @@ impl<'s> PDBInformation<'s> {
         let _room = buffer.parse_u32()?;
         take_bits(&mut buffer)?;
         take_bits(&mut buffer)?;
-        let names = parse_names(alloc, names, &mut buffer, count)?;
+        let names = NameBlock::new(alloc, names)?;
+        let names = parse_names(alloc, &names, &mut buffer, count)?;
         Ok(StreamNames { names })
     }
 }
@@ -176,7 +178,7 @@ fn take_bits<'b>(buffer: &mut ParseBuffer<'b>) -> Result<&'b [u8]>
 #[tactic(auto, using(crate::proofs::NameLemmas::names_start, crate::proofs::NameLemmas::names_more, crate::proofs::NameLemmas::names_fail, crate::proofs::NameLemmas::names_done))]
 fn parse_names<'n>(
     alloc: Global,
-    names: &'n [u8],
+    names: &NameBlock<'n>,
     buffer: &mut ParseBuffer<'_>,
     count: u32,
 ) -> Result<Vec<StreamName<'n>>>
@@ -190,25 +192,15 @@ fn parse_names<'n>(
 }
 
 /// An entry, whose name stands among these.
-#[tactic(auto, unfolding(crate::specs::Information::stream_name_at, pdb_container::specs::Names::name_in))]
-fn parse_name<'n>(names: &'n [u8], buffer: &mut ParseBuffer<'_>) -> Result<StreamName<'n>>
+#[tactic(auto, unfolding(crate::specs::Information::stream_name_at))]
+fn parse_name<'n>(names: &NameBlock<'n>, buffer: &mut ParseBuffer<'_>) -> Result<StreamName<'n>>
     ensures { ReadsAll stream_name_seen result (rest buffer.new) (stream_name_at names.now (rest buffer.old)) }
 {
     let offset = buffer.parse_u32()?;
     let number = buffer.parse_u32()?;
-    let name = name_at(names, offset)?;
+    let name = names.name_at(offset)?;
     Ok(StreamName {
         name,
         stream_id: StreamIndex(u16::try_from(number).unwrap_or(0xffff)),
     })
-}
-
-/// The name at an offset among names. `UnexpectedEof` outside them, and where no NUL among them ends it.
-#[tactic(auto, unfolding(pdb_container::specs::Names::name_in))]
-fn name_at(names: &[u8], offset: u32) -> Result<RawString<'_>>
-    ensures { Parses raw_bytes result (name_in names.now offset) }
-{
-    let mut buffer = ParseBuffer::from(names);
-    buffer.seek(offset as usize);
-    buffer.parse_cstring()
 }

@@ -8,6 +8,7 @@ mod information;
 pub mod laws;
 mod machine;
 mod modules;
+mod name_block;
 mod optional_header;
 mod pdb;
 mod stream_index;

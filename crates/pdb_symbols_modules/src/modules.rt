@@ -1,6 +1,9 @@
 //! The list of modules.
 
-ghost use Rattle.std.specs.Prelude.{◌≡◌, ◌<◌, drop, length, IfOk, None};
+ghost use Rattle.std.specs.Cow.{cow_str_bytes, IsBorrowedStr};
+ghost use Rattle.std.specs.Prelude.{◌≡◌, ◌<◌, drop, length, IsOk, IfOk, IsOkUnless, None};
+ghost use Rattle.std.specs.Str.{IsUtf8};
+ghost use Rattle.std.specs.Str.Lossy.{utf8_lossy};
 ghost use Rattle.pdb_container.specs.Buffer.{rest, ReadsAll};
 ghost use Rattle.pdb_container.specs.Listing.{Listing, ending, Advances};
 ghost use Rattle.pdb_container.specs.RawString.{raw_bytes};
@@ -10,6 +13,8 @@ ghost use Rattle.pdb_symbols_modules.specs.Modules.{module_at, modules_of, paddi
 use crate::stream_index::StreamIndex;
 use pdb_container::{Error, FallibleIterator, ParseBuffer, RawString, Result, Stream};
 use pdb_modules::ModuleInfo;
+use std::alloc::Global;
+use std::borrow::CowStr;
 use std::marker::Model;
 
 /// A module: where its own stream is, the sizes of that stream's parts, and its names.
@@ -33,15 +38,41 @@ impl<'m> Model for Module<'m> {
 }
 
 impl<'m> Module<'m> {
-    /// The name of the module, mostly that of an object file.
-    pub fn module_name(&self) -> RawString<'m>
+    /// The name of the module, mostly that of an object file, with U+FFFD for what is no character; borrowed where it is
+    /// UTF-8, and then without memory.
+    ///
+    /// # Errors
+    /// `OutOfMemory` alone.
+    pub fn module_name(&self, alloc: Global) -> Result<CowStr<'m>>
+        ensures text { IfOk result (λ text. cow_str_bytes text ≡ utf8_lossy self.now.module_name) }
+        ensures borrowed { IsUtf8 self.now.module_name → IsOk result × IfOk result (λ text. IsBorrowedStr text) }
+        ensures memory { IsOkUnless result Error.OutOfMemory }
+    {
+        self.module_name.to_string(alloc)
+    }
+
+    /// The name of the file from which the module was linked, mostly an archive or the object file itself, as
+    /// [`Module::module_name`].
+    ///
+    /// # Errors
+    /// `OutOfMemory` alone.
+    pub fn object_file_name(&self, alloc: Global) -> Result<CowStr<'m>>
+        ensures text { IfOk result (λ text. cow_str_bytes text ≡ utf8_lossy self.now.object_file_name) }
+        ensures borrowed { IsUtf8 self.now.object_file_name → IsOk result × IfOk result (λ text. IsBorrowedStr text) }
+        ensures memory { IsOkUnless result Error.OutOfMemory }
+    {
+        self.object_file_name.to_string(alloc)
+    }
+
+    /// The name of the module, as it stands in the list.
+    pub fn raw_module_name(&self) -> RawString<'m>
         ensures { raw_bytes result ≡ self.now.module_name }
     {
         self.module_name
     }
 
-    /// The name of the file from which the module was linked, mostly an archive or the object file itself.
-    pub fn object_file_name(&self) -> RawString<'m>
+    /// The name of the file from which the module was linked, as it stands in the list.
+    pub fn raw_object_file_name(&self) -> RawString<'m>
         ensures { raw_bytes result ≡ self.now.object_file_name }
     {
         self.object_file_name

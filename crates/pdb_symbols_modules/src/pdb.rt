@@ -1,6 +1,7 @@
 //! An open program database.
 
 ghost use Rattle.std.specs.Prelude.{◌≡◌, ◌≤◌, ◌⊎◌, IfOk, IfErr, None, Some, option_map};
+ghost use Rattle.pdb_container.specs.Answers.{AnswersFrom};
 ghost use Rattle.pdb_container.specs.Fault.{fault_of, Gives, HasRisen, IsOutside};
 ghost use Rattle.pdb_symbols_modules.specs.AddressTables.{said, sections_by, original_sections_by, map_with, map_behind, address_map_by};
 ghost use Rattle.pdb_addresses.specs.Omap.{omap_of};
@@ -61,9 +62,7 @@ impl<'s, S: Source + Drop> PDB<'s, S> {
     /// Those of reading a stream ([`PDB::raw_stream`]); `UnexpectedEof` where it is short.
     #[tactic(auto, using(pdb_container::proofs::Outside::outside_alone), unfolding(crate::specs::Opened::information, crate::specs::Shared::shared))]
     pub fn pdb_information(&mut self, alloc: Global) -> Result<PDBInformation<'s>>
-        ensures same { S.bytes self.new ≡ S.bytes self.old }
-        ensures counts { S.failures self.old ≤ S.failures self.new }
-        ensures exact { Gives (λ i. i) (HasRisen (S.failures self.old) (S.failures self.new)) result (information (shared (streams (S.bytes self.old)))) }
+        ensures { AnswersFrom S.bytes S.failures self.old self.new (λ i. i) result (information (shared (streams (S.bytes self.old)))) }
     {
         let stream = self.stream(alloc, 1)?;
         PDBInformation::parse(stream)
@@ -76,9 +75,7 @@ impl<'s, S: Source + Drop> PDB<'s, S> {
     /// header of another kind.
     #[tactic(auto, using(pdb_container::proofs::Outside::outside_alone), unfolding(crate::specs::Opened::debug_information, crate::specs::Shared::shared))]
     pub fn debug_information(&mut self, alloc: Global) -> Result<DebugInformation<'s>>
-        ensures same { S.bytes self.new ≡ S.bytes self.old }
-        ensures counts { S.failures self.old ≤ S.failures self.new }
-        ensures exact { Gives (λ d. d) (HasRisen (S.failures self.old) (S.failures self.new)) result (debug_information (shared (streams (S.bytes self.old)))) }
+        ensures { AnswersFrom S.bytes S.failures self.old self.new (λ d. d) result (debug_information (shared (streams (S.bytes self.old)))) }
     {
         let stream = self.stream(alloc, 3)?;
         DebugInformation::parse(stream)
@@ -90,9 +87,7 @@ impl<'s, S: Source + Drop> PDB<'s, S> {
     /// Those of reading a stream; `UnexpectedEof` and `InvalidTypeInformationHeader` for its header.
     #[tactic(auto, using(pdb_container::proofs::Outside::outside_alone), unfolding(crate::specs::Opened::types, crate::specs::Shared::shared))]
     pub fn type_information(&mut self, alloc: Global) -> Result<TypeInformation<'s>>
-        ensures same { S.bytes self.new ≡ S.bytes self.old }
-        ensures counts { S.failures self.old ≤ S.failures self.new }
-        ensures exact { Gives (λ t. t) (HasRisen (S.failures self.old) (S.failures self.new)) result (types (shared (streams (S.bytes self.old)))) }
+        ensures { AnswersFrom S.bytes S.failures self.old self.new (λ t. t) result (types (shared (streams (S.bytes self.old)))) }
     {
         let stream = self.stream(alloc, 2)?;
         ItemInformation::parse(stream)
@@ -104,9 +99,7 @@ impl<'s, S: Source + Drop> PDB<'s, S> {
     /// Those of reading a stream; `UnexpectedEof` and `InvalidTypeInformationHeader` for its header.
     #[tactic(auto, using(pdb_container::proofs::Outside::outside_alone), unfolding(crate::specs::Opened::ids, crate::specs::Shared::shared))]
     pub fn id_information(&mut self, alloc: Global) -> Result<IdInformation<'s>>
-        ensures same { S.bytes self.new ≡ S.bytes self.old }
-        ensures counts { S.failures self.old ≤ S.failures self.new }
-        ensures exact { Gives (λ t. t) (HasRisen (S.failures self.old) (S.failures self.new)) result (ids (shared (streams (S.bytes self.old)))) }
+        ensures { AnswersFrom S.bytes S.failures self.old self.new (λ t. t) result (ids (shared (streams (S.bytes self.old)))) }
     {
         let stream = self.stream(alloc, 4)?;
         ItemInformation::parse(stream)
@@ -120,9 +113,7 @@ impl<'s, S: Source + Drop> PDB<'s, S> {
     /// failed; `OutOfMemory`.
     #[tactic(auto, unfolding(crate::specs::Streams::if_named))]
     pub fn raw_stream(&mut self, alloc: Global, index: StreamIndex) -> Result<Option<Stream<'s>>>
-        ensures same { S.bytes self.new ≡ S.bytes self.old }
-        ensures counts { S.failures self.old ≤ S.failures self.new }
-        ensures exact { Gives (λ s. s) (HasRisen (S.failures self.old) (S.failures self.new)) result (stream_if_named (streams (S.bytes self.old)) index.0) }
+        ensures { AnswersFrom S.bytes S.failures self.old self.new (λ s. s) result (stream_if_named (streams (S.bytes self.old)) index.0) }
     {
         if index.is_none() {
             return Ok(None);
@@ -138,9 +129,7 @@ impl<'s, S: Source + Drop> PDB<'s, S> {
     /// stream.
     #[tactic(auto, using(pdb_container::proofs::Outside::outside_alone, pdb_container::proofs::Outside::outside_earlier, pdb_container::proofs::Outside::outside_later), unfolding(crate::specs::Opened::named_stream, crate::specs::Opened::information, crate::specs::Shared::shared, crate::specs::Shared::named, crate::specs::Shared::named_number))]
     pub fn named_stream(&mut self, alloc: Global, name: &[u8]) -> Result<Stream<'s>>
-        ensures same { S.bytes self.new ≡ S.bytes self.old }
-        ensures counts { S.failures self.old ≤ S.failures self.new }
-        ensures exact { Gives (λ s. s) (HasRisen (S.failures self.old) (S.failures self.new)) result (named_stream (streams (S.bytes self.old)) name.now) }
+        ensures { AnswersFrom S.bytes S.failures self.old self.new (λ s. s) result (named_stream (streams (S.bytes self.old)) name.now) }
     {
         let information = self.pdb_information(alloc)?;
         let names = information.stream_names(alloc)?;
@@ -155,9 +144,7 @@ impl<'s, S: Source + Drop> PDB<'s, S> {
     /// whole.
     #[tactic(auto, using(pdb_container::proofs::Outside::outside_alone), unfolding(crate::specs::Opened::names, crate::specs::Opened::named_stream, crate::specs::Shared::shared))]
     pub fn string_table(&mut self, alloc: Global) -> Result<StringTable<'s>>
-        ensures same { S.bytes self.new ≡ S.bytes self.old }
-        ensures counts { S.failures self.old ≤ S.failures self.new }
-        ensures exact { Gives (λ t. t) (HasRisen (S.failures self.old) (S.failures self.new)) result (names (shared (streams (S.bytes self.old)))) }
+        ensures { AnswersFrom S.bytes S.failures self.old self.new (λ t. t) result (names (shared (streams (S.bytes self.old)))) }
     {
         let stream = self.named_stream(alloc, b"/names")?;
         StringTable::parse(stream)
@@ -169,9 +156,7 @@ impl<'s, S: Source + Drop> PDB<'s, S> {
     /// Those of [`PDB::debug_information`], and of [`PDB::global_symbols_by`].
     #[tactic(auto, using(pdb_container::proofs::Outside::outside_earlier, pdb_container::proofs::Outside::outside_later, crate::proofs::SharedSteps::symbols_read), unfolding(crate::specs::Opened::global_symbols))]
     pub fn global_symbols(&mut self, alloc: Global) -> Result<SymbolTable<'s>>
-        ensures same { S.bytes self.new ≡ S.bytes self.old }
-        ensures counts { S.failures self.old ≤ S.failures self.new }
-        ensures exact { Gives (λ s. s) (HasRisen (S.failures self.old) (S.failures self.new)) result (global_symbols (shared (streams (S.bytes self.old)))) }
+        ensures { AnswersFrom S.bytes S.failures self.old self.new (λ s. s) result (global_symbols (shared (streams (S.bytes self.old)))) }
     {
         let debug_information = self.debug_information(alloc)?;
         self.global_symbols_by(alloc, &debug_information)
@@ -187,9 +172,7 @@ impl<'s, S: Source + Drop> PDB<'s, S> {
         alloc: Global,
         debug_information: &DebugInformation<'_>,
     ) -> Result<SymbolTable<'s>>
-        ensures same { S.bytes self.new ≡ S.bytes self.old }
-        ensures counts { S.failures self.old ≤ S.failures self.new }
-        ensures exact { Gives (λ s. s) (HasRisen (S.failures self.old) (S.failures self.new)) result (global_symbols_by debug_information.now.symbol_records_stream ((streams (S.bytes self.old)).at debug_information.now.symbol_records_stream)) }
+        ensures { AnswersFrom S.bytes S.failures self.old self.new (λ s. s) result (global_symbols_by debug_information.now.symbol_records_stream ((streams (S.bytes self.old)).at debug_information.now.symbol_records_stream)) }
     {
         let index = debug_information.symbol_records_stream();
         match self.raw_stream(alloc, index)? {
@@ -209,9 +192,7 @@ impl<'s, S: Source + Drop> PDB<'s, S> {
         alloc: Global,
         module: &Module<'_>,
     ) -> Result<Option<ModuleInfo<'s>>>
-        ensures same { S.bytes self.new ≡ S.bytes self.old }
-        ensures counts { S.failures self.old ≤ S.failures self.new }
-        ensures exact { Gives (λ m. m) (HasRisen (S.failures self.old) (S.failures self.new)) result (module_info (streams (S.bytes self.old)) «module».now) }
+        ensures { AnswersFrom S.bytes S.failures self.old self.new (λ m. m) result (module_info (streams (S.bytes self.old)) «module».now) }
     {
         match self.raw_stream(alloc, module.stream())? {
             None => Ok(None),
@@ -226,9 +207,7 @@ impl<'s, S: Source + Drop> PDB<'s, S> {
     /// numbers; those of reading a stream; `UnexpectedEof` for a section header that isn't whole.
     #[tactic(auto, using(pdb_container::proofs::Outside::outside_earlier, pdb_container::proofs::Outside::outside_later, crate::proofs::SharedSteps::sections_read), unfolding(crate::specs::Opened::sections))]
     pub fn sections(&mut self, alloc: Global) -> Result<Option<Vec<ImageSectionHeader>>>
-        ensures same { S.bytes self.new ≡ S.bytes self.old }
-        ensures counts { S.failures self.old ≤ S.failures self.new }
-        ensures exact { Gives (option_map (λ v. v.items)) (HasRisen (S.failures self.old) (S.failures self.new)) result (sections (shared (streams (S.bytes self.old)))) }
+        ensures { AnswersFrom S.bytes S.failures self.old self.new (option_map (λ v. v.items)) result (sections (shared (streams (S.bytes self.old)))) }
     {
         let debug_information = self.debug_information(alloc)?;
         self.sections_by(alloc, &debug_information)
@@ -241,9 +220,7 @@ impl<'s, S: Source + Drop> PDB<'s, S> {
     /// sections; the maps to and from these, as of reading a stream, and `InvalidStreamLength`.
     #[tactic(auto, using(pdb_container::proofs::Outside::outside_earlier, pdb_container::proofs::Outside::outside_later, crate::proofs::SharedSteps::address_map_read), unfolding(crate::specs::Opened::address_map))]
     pub fn address_map(&mut self, alloc: Global) -> Result<AddressMap<'s>>
-        ensures same { S.bytes self.new ≡ S.bytes self.old }
-        ensures counts { S.failures self.old ≤ S.failures self.new }
-        ensures exact { Gives (λ m. m) (HasRisen (S.failures self.old) (S.failures self.new)) result (address_map (shared (streams (S.bytes self.old)))) }
+        ensures { AnswersFrom S.bytes S.failures self.old self.new (λ m. m) result (address_map (shared (streams (S.bytes self.old)))) }
     {
         let debug_information = self.debug_information(alloc)?;
         self.address_map_by(alloc, &debug_information)
@@ -252,9 +229,7 @@ impl<'s, S: Source + Drop> PDB<'s, S> {
     /// The bytes of a stream.
     #[tactic(auto, unfolding(crate::specs::Streams::streams))]
     fn stream(&mut self, alloc: Global, number: u32) -> Result<Stream<'s>>
-        ensures same { S.bytes self.new ≡ S.bytes self.old }
-        ensures counts { S.failures self.old ≤ S.failures self.new }
-        ensures exact { Gives (λ s. s) (HasRisen (S.failures self.old) (S.failures self.new)) result ((streams (S.bytes self.old)).at number) }
+        ensures { AnswersFrom S.bytes S.failures self.old self.new (λ s. s) result ((streams (S.bytes self.old)).at number) }
     {
         self.container.get(alloc, number, None)
     }
@@ -268,9 +243,7 @@ impl<'s, S: Source + Drop> PDB<'s, S> {
         place: usize,
     ) -> Result<Option<Stream<'s>>>
         requires { place ≤ 10 }
-        ensures same { S.bytes self.new ≡ S.bytes self.old }
-        ensures counts { S.failures self.old ≤ S.failures self.new }
-        ensures exact { Gives (λ s. s) (HasRisen (S.failures self.old) (S.failures self.new)) result (optional_stream (streams (S.bytes self.old)) debug_information.now place) }
+        ensures { AnswersFrom S.bytes S.failures self.old self.new (λ s. s) result (optional_stream (streams (S.bytes self.old)) debug_information.now place) }
     {
         let index = debug_information.optional_stream(place)?;
         self.raw_stream(alloc, index)
@@ -286,9 +259,7 @@ impl<'s, S: Source + Drop> PDB<'s, S> {
         alloc: Global,
         debug_information: &DebugInformation<'_>,
     ) -> Result<Option<Vec<ImageSectionHeader>>>
-        ensures same { S.bytes self.new ≡ S.bytes self.old }
-        ensures counts { S.failures self.old ≤ S.failures self.new }
-        ensures exact { Gives (option_map (λ v. v.items)) (HasRisen (S.failures self.old) (S.failures self.new)) result (sections_by (optional_stream (streams (S.bytes self.old)) debug_information.now)) }
+        ensures { AnswersFrom S.bytes S.failures self.old self.new (option_map (λ v. v.items)) result (sections_by (optional_stream (streams (S.bytes self.old)) debug_information.now)) }
     {
         let stream = self.optional_stream(alloc, debug_information, SECTION_HEADERS)?;
         section_headers_in(alloc, stream)
@@ -301,9 +272,7 @@ impl<'s, S: Source + Drop> PDB<'s, S> {
         alloc: Global,
         debug_information: &DebugInformation<'_>,
     ) -> Result<Option<Vec<ImageSectionHeader>>>
-        ensures same { S.bytes self.new ≡ S.bytes self.old }
-        ensures counts { S.failures self.old ≤ S.failures self.new }
-        ensures exact { Gives (option_map (λ v. v.items)) (HasRisen (S.failures self.old) (S.failures self.new)) result (original_sections_by (optional_stream (streams (S.bytes self.old)) debug_information.now)) }
+        ensures { AnswersFrom S.bytes S.failures self.old self.new (option_map (λ v. v.items)) result (original_sections_by (optional_stream (streams (S.bytes self.old)) debug_information.now)) }
     {
         let stream = self.optional_stream(alloc, debug_information, ORIGINAL_SECTION_HEADERS)?;
         section_headers_in(alloc, stream)
@@ -319,9 +288,7 @@ impl<'s, S: Source + Drop> PDB<'s, S> {
         alloc: Global,
         debug_information: &DebugInformation<'_>,
     ) -> Result<AddressMap<'s>>
-        ensures same { S.bytes self.new ≡ S.bytes self.old }
-        ensures counts { S.failures self.old ≤ S.failures self.new }
-        ensures exact { Gives (λ m. m) (HasRisen (S.failures self.old) (S.failures self.new)) result (address_map_by (optional_stream (streams (S.bytes self.old)) debug_information.now)) }
+        ensures { AnswersFrom S.bytes S.failures self.old self.new (λ m. m) result (address_map_by (optional_stream (streams (S.bytes self.old)) debug_information.now)) }
     {
         let image = self.sections_by(alloc, debug_information)?;
         let image = image.unwrap_or(Vec::new(alloc));
@@ -337,9 +304,7 @@ impl<'s, S: Source + Drop> PDB<'s, S> {
         image: Vec<ImageSectionHeader>,
         original: Option<Vec<ImageSectionHeader>>,
     ) -> Result<AddressMap<'s>>
-        ensures same { S.bytes self.new ≡ S.bytes self.old }
-        ensures counts { S.failures self.old ≤ S.failures self.new }
-        ensures exact { Gives (λ m. m) (HasRisen (S.failures self.old) (S.failures self.new)) result (map_with (optional_stream (streams (S.bytes self.old)) debug_information.now) image.items (option_map (λ v. v.items) original)) }
+        ensures { AnswersFrom S.bytes S.failures self.old self.new (λ m. m) result (map_with (optional_stream (streams (S.bytes self.old)) debug_information.now) image.items (option_map (λ v. v.items) original)) }
     {
         match original {
             None => Ok(AddressMap::new(None, image, None, None)),
@@ -356,9 +321,7 @@ impl<'s, S: Source + Drop> PDB<'s, S> {
         image: Vec<ImageSectionHeader>,
         original: Vec<ImageSectionHeader>,
     ) -> Result<AddressMap<'s>>
-        ensures same { S.bytes self.new ≡ S.bytes self.old }
-        ensures counts { S.failures self.old ≤ S.failures self.new }
-        ensures exact { Gives (λ m. m) (HasRisen (S.failures self.old) (S.failures self.new)) result (map_behind (optional_stream (streams (S.bytes self.old)) debug_information.now) image.items original.items) }
+        ensures { AnswersFrom S.bytes S.failures self.old self.new (λ m. m) result (map_behind (optional_stream (streams (S.bytes self.old)) debug_information.now) image.items original.items) }
     {
         let to_source = self.optional_stream(alloc, debug_information, OMAP_TO_SOURCE)?;
         let to_original = omap_in(alloc, to_source)?;

@@ -1,7 +1,7 @@
 //! Numbers of streams.
 
-ghost use Rattle.std.specs.Prelude.{◌≡◌, ◌≤◌, ◌==◌};
-ghost use Rattle.pdb_container.specs.Fault.{Gives, HasRisen};
+ghost use Rattle.std.specs.Prelude.{◌≡◌, ◌==◌};
+ghost use Rattle.pdb_container.specs.Answers.{AnswersFrom};
 ghost use Rattle.pdb_symbols_modules.specs.Streams.{streams, stream_if_named};
 
 use crate::pdb::PDB;
@@ -23,12 +23,10 @@ impl StreamIndex {
     /// The bytes of the stream, as [`PDB::raw_stream`].
     pub fn get<'s, S: Source + Drop>(
         self,
-        pdb: &mut PDB<'s, S>,
         alloc: Global,
+        pdb: &mut PDB<'s, S>,
     ) -> Result<Option<Stream<'s>>>
-        ensures same { S.bytes pdb.new ≡ S.bytes pdb.old }
-        ensures counts { S.failures pdb.old ≤ S.failures pdb.new }
-        ensures exact { Gives (λ s. s) (HasRisen (S.failures pdb.old) (S.failures pdb.new)) result (stream_if_named (streams (S.bytes pdb.old)) self.0) }
+        ensures { AnswersFrom S.bytes S.failures pdb.old pdb.new (λ s. s) result (stream_if_named (streams (S.bytes pdb.old)) self.0) }
     {
         pdb.raw_stream(alloc, self)
     }
