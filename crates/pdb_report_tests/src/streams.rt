@@ -101,7 +101,7 @@ struct Written {
 }
 
 /// A run over file F0 with a writer that takes pieces, so many bytes in all.
-fn written(
+fn write_report(
     alloc: Global,
     piece: usize,
     room: usize,
@@ -142,9 +142,9 @@ fn is_written(
     fault: Option<ErrorKind>,
     kind: Option<ErrorKind>,
 ) -> Result<bool, Fail> {
-    let mut last = written(alloc, piece, room, fault)?;
+    let mut last = write_report(alloc, piece, room, fault)?;
     if last.failures.0 == 0 && last.outcome == Err(RunFault::OutOfMemory) {
-        last = written(alloc, piece, room, fault)?;
+        last = write_report(alloc, piece, room, fault)?;
     }
     let bytes = last.bytes.as_slice();
     Ok(
