@@ -53,6 +53,13 @@ impl<'s> ModuleInfo<'s> {
         }
     }
 
+    /// The stream, given back.
+    pub fn into_stream(self) -> Stream<'s>
+        ensures { result ≡ self.entry.bytes }
+    {
+        self.stream
+    }
+
     /// The symbols in their order.
     ///
     /// # Errors

@@ -1,5 +1,5 @@
 -- What is read of a file before any question, and the fault that keeps it from being loaded.
-use Rattle.std.specs.Prelude.{◌≡◌, ℕ, Bool, ◌||◌, List, [], nat_lt, Option, None, Some, if◌then◌else◌, Result, Ok, Err}
+use Rattle.std.specs.Prelude.{◌≡◌, ℕ, Bool, ◌||◌, List, [], length, nat_lt, Option, None, Some, option_map, if◌then◌else◌, Result, Ok, Err}
 use Rattle.std.specs.List.{list_any}
 use Rattle.pdb_container.specs.Fault.{Fault, GlobalSymbolsNotFound, ◌>>=◌, refuse, guard}
 use Rattle.pdb_container_types.specs.declared.sections.ImageSectionHeader.{ImageSectionHeader}
@@ -8,22 +8,22 @@ use Rattle.pdb_report.specs.declared.fault.LoadFault.{LoadFault}
 use Rattle.pdb_report.specs.declared.fault.LoadFault.TheVariants as faults
 use Rattle.pdb_report.specs.declared.pdb_addr2line.Error.TheVariants as contexts
 use Rattle.pdb_container.specs.declared.error.Error.TheVariants as errors
-use Rattle.pdb_report.specs.Faults.{LoadingFault, NotYet, lifted, loading_fault_of}
-use Rattle.pdb_symbols_modules.specs.Streams.{Streams, fault_in}
+use Rattle.pdb_report.specs.Faults.{LoadingFault, NotYet, lifted, in_loading, loading_fault_of}
+use Rattle.pdb_symbols_modules.specs.Streams.{Streams, fault_in, stream_if_named}
 use Rattle.pdb_symbols_modules.specs.Dbi.{Dbi, dbi_of}
 use Rattle.pdb_symbols_modules.specs.Modules.{Module, modules_of}
 use Rattle.pdb_symbols_modules.specs.OptionalHeader.{optional_at, to_source_place, from_source_place, sections_place, original_sections_place}
 use Rattle.pdb_container_types.specs.Addresses.{Map, map_of}
 use Rattle.pdb_container_types.specs.Sections.{section_headers_of}
 use Rattle.pdb_items.specs.Items.{table_of}
-use Rattle.pdb_container.specs.Listing.{whole}
+use Rattle.pdb_container.specs.Listing.{Listing, whole}
 use Rattle.pdb_symbols.specs.Kinds.{is_public}
 use Rattle.pdb_symbols.specs.Symbols.{Symbol, kind_of, symbols_from}
 use Rattle.pdb_modules.specs.ModuleStream.{ModuleStream}
-use Rattle.pdb_symbols_modules.specs.Opened.{module_stream}
+use Rattle.pdb_symbols_modules.specs.Opened.{module_info}
 use Rattle.pdb_report.specs.Contributions.{held_of}
-use Rattle.pdb_report.specs.Procedures.{symbols_in, has_other}
-use Rattle.pdb_report.specs.Shared.{Bytes, number, Shared, shared}
+use Rattle.pdb_report.specs.Procedures.{own_symbols, has_other}
+use Rattle.pdb_report.specs.Shared.{Bytes, Shared, shared}
 
 -- what every question goes over
 pub record Parts : Type 0 where
@@ -73,12 +73,18 @@ address_tables optional_header headers = do
 abbrev pub is_public_symbol : Symbol → Bool
 is_public_symbol s = is_public (kind_of s)
 
+-- whether one of the symbols is public, which have to be there to their end
+unfoldable pub has_public : Listing Symbol → Result Bool Fault
+has_public symbols = do
+  all ← whole symbols
+  Ok (list_any is_public_symbol all)
+
 -- a module that says it has line data
 abbrev pub has_lines : Module → Bool
 has_lines m = nat_lt 0 m.c11_lines_size || nat_lt 0 m.c13_lines_size
 
--- The steps behind stream 3, in their order, and in each step the first fault. Public symbols and line data aren't
--- answered yet.
+-- The steps behind stream 3, in their order, and in each step the first fault. Several contributions, public symbols and
+-- line data aren't answered yet.
 unfoldable pub loaded_behind : Shared → Dbi → Result Parts LoadingFault
 loaded_behind c dbi = do
   symbol_bytes ← lifted (symbol_records_in dbi.symbol_records_stream c.symbols)
@@ -86,10 +92,9 @@ loaded_behind c dbi = do
   ids ← lifted (c.ids >>= table_of)
   map ← address_tables dbi.optional_header c.section_headers
   modules ← lifted (whole (modules_of dbi.modules))
-  symbols ← lifted (whole (symbols_from symbol_bytes 0))
-  contributions ← held_of map.image dbi.contributions
-  no_publics ← refuse (list_any is_public_symbol symbols) NotYet
-  no_lines ← refuse (list_any has_lines modules) NotYet
+  public ← lifted (has_public (symbols_from symbol_bytes 0))
+  contributions ← in_loading (held_of map.image dbi.contributions)
+  answered ← refuse (nat_lt 1 (length contributions) || public || list_any has_lines modules) NotYet
   Ok record { map = map; modules = modules; contributions = contributions }
 
 -- All steps: the container, stream 3, and those behind it.
@@ -99,16 +104,26 @@ loaded c = do
   dbi ← lifted (c.dbi >>= dbi_of)
   loaded_behind c dbi
 
--- a module by its entry: its stream, if one is named
-unfoldable pub own_stream : Streams → Module → Result ModuleStream Fault
-own_stream s m = do
-  n ← number m.stream
-  bytes ← s.at n
-  Ok (module_stream m bytes)
+-- where a module's symbols are: the number of its stream, and their size
+abbrev pub symbols_place : Module → ℕ × ℕ
+symbols_place m = (m.stream, m.symbols_size)
+
+-- a stream of which so many bytes are symbols
+abbrev pub with_symbols : ℕ → List ℕ → ModuleStream
+with_symbols size bytes = record { bytes = bytes; symbols_size = size; c11_lines_size = 0; c13_lines_size = 0 }
+
+-- the stream of a number, where there is one and it can be read
+abbrev pub if_read : Result (Option (List ℕ)) Fault → Option (List ℕ)
+if_read (Ok found) = found
+if_read (Err e) = None
+
+-- the symbols there, if they can be read, have some that aren't answered yet
+abbrev pub has_others_at : Streams → ℕ × ℕ → Bool
+has_others_at s place = has_other (own_symbols (option_map (with_symbols place.1) (if_read (stream_if_named s place.0))))
 
 -- a module whose symbols can be read has some that aren't answered yet
 abbrev pub has_other_symbols : Streams → Module → Bool
-has_other_symbols s m = has_other (own_stream s m >>= symbols_in)
+has_other_symbols s m = has_other (module_info s m >>= own_symbols)
 
 -- The parts of a file whose modules have no such symbols. That check reads the modules' streams, and so it stands
 -- behind loading and not in it.

@@ -7,7 +7,7 @@ use Rattle.pdb_symbols_modules.specs.Modules.{Module, modules_of}
 use Rattle.pdb_symbols_modules.specs.OptionalHeader.{optional_at, sections_place}
 use Rattle.pdb_container.specs.Listing.{whole}
 use Rattle.pdb_modules.specs.ModuleStream.{ModuleStream}
-use Rattle.pdb_symbols_modules.specs.Opened.{module_stream as own_stream_of}
+use Rattle.pdb_symbols_modules.specs.Opened.{module_info}
 
 abbrev pub Bytes : Type 0
 Bytes = Result (List ℕ) Fault
@@ -54,37 +54,21 @@ shared s = record {
 
 -- ---- modules
 
-abbrev pub module_in : Option Module → Result Module Fault
-module_in None = Err (StreamNotFound 65535)
-module_in (Some m) = Ok m
-
--- the module of a number, counted from 0
-unfoldable pub module_of : Bytes → ℕ → Result Module Fault
-module_of dbi k = do
+-- the module of a number, counted from 0, by the bytes of stream 3; none past the list
+unfoldable pub module_of_number : Bytes → ℕ → Result (Option Module) Fault
+module_of_number dbi k = do
   bytes ← dbi
   d ← dbi_of bytes
   modules ← whole (modules_of d.modules)
-  module_in (slice_get modules k)
+  Ok (slice_get modules k)
 
--- a module's stream
-unfoldable pub module_number : Bytes → ℕ → Result ℕ Fault
-module_number dbi k = named (do
-  m ← module_of dbi k
-  Ok m.stream)
-
-unfoldable pub module_stream : Streams → ℕ → Bytes
-module_stream s k = module_number (s.at 3) k >>= s.at
+abbrev pub info_if_listed : Streams → Option Module → Result (Option ModuleStream) Fault
+info_if_listed s None = Ok None
+info_if_listed s (Some m) = module_info s m
 
 -- what a file gives of each module
 abbrev pub Provider : Type 0
-Provider = ℕ → Result ModuleStream Fault
-
--- a module by its entry and its stream
-unfoldable pub info_from : Bytes → ℕ → Bytes → Result ModuleStream Fault
-info_from dbi k stream = do
-  m ← module_of dbi k
-  bytes ← stream
-  Ok (own_stream_of m bytes)
+Provider = ℕ → Result (Option ModuleStream) Fault
 
 unfoldable pub provider : Streams → Provider
-provider s k = info_from (s.at 3) k (module_stream s k)
+provider s k = module_of_number (s.at 3) k >>= info_if_listed s
