@@ -1,11 +1,11 @@
 //! Sections, and the ways between the addresses of an image and those of its database.
 
 use crate::files::{FURTHER_STREAM, opened, refused_addresses, set_places};
-use pdb_container::Error;
-use pdb_container_types::{
+use pdb_addresses::{
     AddressMap, ImageSectionHeader, PdbInternalRva, PdbInternalSectionOffset, Rva,
     SectionCharacteristics, SectionOffset,
 };
+use pdb_container::Error;
 use pdb_samples::{NO_STREAM, ProgramDatabase, Section, file_f0, with_address_maps};
 use std::alloc::Global;
 use std::process::Abort;

@@ -1,8 +1,8 @@
 //! The contributions of modules to sections.
 
 use crate::files::{DEBUG_INFORMATION, damaged, opened, refusal};
+use pdb_addresses::{PdbInternalSectionOffset, SectionCharacteristics};
 use pdb_container::{Error, FallibleIterator};
-use pdb_container_types::{PdbInternalSectionOffset, SectionCharacteristics};
 use pdb_samples::{Contribution, ProgramDatabase, file_f0};
 use pdb_symbols_modules::{DBISectionContribution, DebugInformation};
 use std::alloc::Global;

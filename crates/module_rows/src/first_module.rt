@@ -1,8 +1,9 @@
 //! The first module of file F, and of files that have more.
 
 use crate::files::{first_module, made, module_of, open, sample_f, unless_refused};
+use pdb_addresses::PdbInternalSectionOffset;
 use pdb_container::{Error, FallibleIterator, Result};
-use pdb_container_types::{PdbInternalSectionOffset, SymbolIndex, TypeIndex};
+use pdb_indices::{SymbolIndex, TypeIndex};
 use pdb_modules::{LineIterator, LineProgram, ModuleInfo, Symbol, SymbolData, SymbolIter};
 use pdb_samples::{Container, Module, ModuleSymbols, file_f, module_of_symbols, symbols_of_f};
 use std::alloc::Global;

@@ -2,7 +2,7 @@
 
 use crate::files::{first_module, made, sample_f, sample_of_bytes, unless_refused};
 use pdb_container::{Error, FallibleIterator, Result, StringRef};
-use pdb_container_types::{IdIndex, Local, TypeIndex};
+use pdb_indices::{IdIndex, Local, TypeIndex};
 use pdb_modules::{CrossModuleRef, ModuleInfo, ModuleRef};
 use pdb_samples::{push_subsection, words};
 use std::alloc::Global;

@@ -3,7 +3,7 @@ use Rattle.std.specs.Prelude.{ℕ, ◌/◌, ◌%◌, ◌^◌, nat_le, ◌==◌, 
 use Rattle.pdb_container.specs.Fault.{Fault, UnknownBinaryAnnotation, ◌>>=◌}
 use Rattle.pdb_container.specs.Fields.{Reader}
 use Rattle.pdb_container.specs.Listing.{Listing, ending, before, listing}
-use Rattle.pdb_items.specs.RecordFields.{as_value}
+use Rattle.pdb_indices.specs.RecordFields.{as_value}
 use Rattle.pdb_annotations.specs.Numbers.{compressed_at, signed_of}
 use Rattle.pdb_annotations.specs.declared.annotation.BinaryAnnotation.{BinaryAnnotation}
 use Rattle.pdb_annotations.specs.declared.annotation.BinaryAnnotation.TheVariants as kinds

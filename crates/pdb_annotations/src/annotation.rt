@@ -6,7 +6,7 @@ ghost use Rattle.pdb_annotations.specs.Annotations.{is_emitting, with_operand, w
 ghost use Rattle.pdb_annotations.specs.Numbers.{signed_of, second_at, others_at, compressed_at};
 
 use pdb_container::{Error, ParseBuffer, Result};
-use pdb_container_types::FileIndex;
+use pdb_indices::FileIndex;
 
 /// A step of the list that tells where an inlined call's code lies, and of which lines it was made. Three of them give a
 /// row of what all steps up to it say. Offsets and lengths are in bytes.

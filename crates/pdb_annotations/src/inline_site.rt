@@ -1,7 +1,7 @@
 //! The symbol of an inlined call.
 
 use crate::annotations::BinaryAnnotations;
-use pdb_container_types::{IdIndex, SymbolIndex};
+use pdb_indices::{IdIndex, SymbolIndex};
 
 /// An inlined call: the symbol around it and the one that ends it, which function was inlined, and where its code lies.
 #[derive(Clone, Copy, Debug)]

@@ -2,7 +2,7 @@
 
 use crate::{BinaryAnnotation, BinaryAnnotations};
 use pdb_container::{Error, FallibleIterator};
-use pdb_container_types::FileIndex;
+use pdb_indices::FileIndex;
 use std::process::Abort;
 
 /// These bytes spell these annotations, and end like that; nothing comes behind the end.

@@ -1,4 +1,4 @@
--- Slices one after the other: their places, and that none ends where the next begins.
+-- Slices one after the other: their places, and that none is empty and none ends where the next begins.
 use Rattle.std.proofs.Common.{◌≡◌, ◌≢◌, ℕ, zero, suc, ◌+◌, ◌<◌, ◌≤◌, List, [], ◌∷◌, ◌++◌, length, get_or, set, take, drop, refl, sym, ap, ◌∙◌, append_assoc, arith}
 use Rattle.std.specs.List.{range_with_len}
 use Rattle.std.proofs.lemmas.List.{append-nil, drop_more, take-append-drop, length-append, take-append-le, set_split, drop_all, take_more, take_more_set, take_at}
@@ -70,41 +70,41 @@ places_cut_in slices i left bytes d lt less e =
 pub apart_take : (slices : List SourceSlice) (i : ℕ) → AreApart slices → AreApart (take i slices)
 apart_take slices zero h = tt
 apart_take [] (suc i) h = tt
-apart_take (a ∷ []) (suc zero) h = tt
-apart_take (a ∷ []) (suc (suc i)) h = tt
-apart_take (a ∷ b ∷ slices) (suc zero) h = tt
-apart_take (a ∷ b ∷ slices) (suc (suc i)) h = (h.0, apart_take (b ∷ slices) (suc i) h.1)
+apart_take (a ∷ []) (suc zero) h = h
+apart_take (a ∷ []) (suc (suc i)) h = h
+apart_take (a ∷ b ∷ slices) (suc zero) h = h.0
+apart_take (a ∷ b ∷ slices) (suc (suc i)) h = (h.0, h.1, apart_take (b ∷ slices) (suc i) h.2)
 
-pub apart_cut : (slices : List SourceSlice) (i : ℕ) (d s : SourceSlice) → i < length slices → s.offset ≡ (get_or slices i d).offset → AreApart slices → AreApart (take i slices ++ s ∷ [])
-apart_cut [] i d s lt e h = absurd (omega arith)
-apart_cut (a ∷ slices) zero d s lt e h = tt
-apart_cut (a ∷ []) (suc i) d s lt e h = absurd (omega arith)
-apart_cut (a ∷ b ∷ slices) (suc zero) d s lt e h = (rw e h.0, tt)
-apart_cut (a ∷ b ∷ slices) (suc (suc i)) d s lt e h = (h.0, apart_cut (b ∷ slices) (suc i) d s (omega arith) e h.1)
+pub apart_cut : (slices : List SourceSlice) (i : ℕ) (d s : SourceSlice) → i < length slices → s.offset ≡ (get_or slices i d).offset → 0 < s.size → AreApart slices → AreApart (take i slices ++ s ∷ [])
+apart_cut [] i d s lt e full h = absurd (omega arith)
+apart_cut (a ∷ slices) zero d s lt e full h = full
+apart_cut (a ∷ []) (suc i) d s lt e full h = absurd (omega arith)
+apart_cut (a ∷ b ∷ slices) (suc zero) d s lt e full h = (h.0, rw e h.1, full)
+apart_cut (a ∷ b ∷ slices) (suc (suc i)) d s lt e full h = (h.0, h.1, apart_cut (b ∷ slices) (suc i) d s (omega arith) e full h.2)
 
-pub apart_push : (slices : List SourceSlice) (n : ℕ) (d s : SourceSlice) → n + 1 ≡ length slices → ((get_or slices n d).offset + (get_or slices n d).size ≢ s.offset) → AreApart slices → AreApart (slices ++ s ∷ [])
-apart_push [] n d s e ne h = tt
-apart_push (a ∷ []) zero d s e ne h = (ne, tt)
-apart_push (a ∷ []) (suc n) d s e ne h = absurd (omega arith)
-apart_push (a ∷ b ∷ slices) zero d s e ne h = absurd (omega arith)
-apart_push (a ∷ b ∷ slices) (suc n) d s e ne h = (h.0, apart_push (b ∷ slices) n d s (omega arith) ne h.1)
+pub apart_push : (slices : List SourceSlice) (n : ℕ) (d s : SourceSlice) → n + 1 ≡ length slices → ((get_or slices n d).offset + (get_or slices n d).size ≢ s.offset) → 0 < s.size → AreApart slices → AreApart (slices ++ s ∷ [])
+apart_push [] n d s e ne full h = full
+apart_push (a ∷ []) zero d s e ne full h = (h, ne, full)
+apart_push (a ∷ []) (suc n) d s e ne full h = absurd (omega arith)
+apart_push (a ∷ b ∷ slices) zero d s e ne full h = absurd (omega arith)
+apart_push (a ∷ b ∷ slices) (suc n) d s e ne full h = (h.0, h.1, apart_push (b ∷ slices) n d s (omega arith) ne full h.2)
 
-pub apart_set : (slices : List SourceSlice) (n : ℕ) (d s : SourceSlice) → n + 1 ≡ length slices → s.offset ≡ (get_or slices n d).offset → AreApart slices → AreApart (set slices n s)
-apart_set slices n d s e same h =
+pub apart_set : (slices : List SourceSlice) (n : ℕ) (d s : SourceSlice) → n + 1 ≡ length slices → s.offset ≡ (get_or slices n d).offset → 0 < s.size → AreApart slices → AreApart (set slices n s)
+apart_set slices n d s e same full h =
     let nothing : drop (suc n) slices ≡ [] = drop_all (suc n) slices (omega arith) in
-    rw (set_split slices n s (omega arith), nothing) (apart_cut slices n d s (omega arith) same h)
+    rw (set_split slices n s (omega arith), nothing) (apart_cut slices n d s (omega arith) same full h)
 
-pub apart_cut_in : (slices : List SourceSlice) (i : ℕ) (d s : SourceSlice) → i < length slices → s.offset ≡ (get_or slices i d).offset → AreApart slices → AreApart (take (i + 1) (set slices i s))
-apart_cut_in slices i d s lt e h = rw (take_more_set slices i s lt) (apart_cut slices i d s lt e h)
+pub apart_cut_in : (slices : List SourceSlice) (i : ℕ) (d s : SourceSlice) → i < length slices → s.offset ≡ (get_or slices i d).offset → 0 < s.size → AreApart slices → AreApart (take (i + 1) (set slices i s))
+apart_cut_in slices i d s lt e full h = rw (take_more_set slices i s lt) (apart_cut slices i d s lt e full h)
 
 pub places_len_more : (slices : List SourceSlice) (i : ℕ) (d : SourceSlice) → i < length slices → length (places_of (take (i + 1) slices)) ≡ length (places_of (take i slices)) + (get_or slices i d).size
 places_len_more slices i d lt =
     let s = get_or slices i d in
     rw (take_more slices i d lt, places_push (take i slices) s) (omega (arith, length-append (places_of (take i slices)) (slice_places s), length-range_with_len s.offset s.size))
 
-pub apart_one : (slices : List SourceSlice) (s : SourceSlice) → length slices ≡ 0 → AreApart (slices ++ s ∷ [])
-apart_one [] s e = tt
-apart_one (a ∷ slices) s e = absurd (omega arith)
+pub apart_one : (slices : List SourceSlice) (s : SourceSlice) → length slices ≡ 0 → 0 < s.size → AreApart (slices ++ s ∷ [])
+apart_one [] s e full = full
+apart_one (a ∷ slices) s e full = absurd (omega arith)
 
 pub length_pushed : (xs : List ℕ) (a n : ℕ) → length (xs ++ range_with_len a n) ≡ length xs + n
 length_pushed xs a n = omega (arith, length-append xs (range_with_len a n), length-range_with_len a n)

@@ -1,10 +1,9 @@
 -- The streams of a container, as a function of the file's bytes.
-use Rattle.std.specs.Prelude.{ℕ, ◌+◌, ◌*◌, ◌/◌, ◌&&◌, Bool, zero, suc, List, [], ◌∷◌, length, take, drop, map, min, slice_index, nat_lt, nat_le, nat_eq, ◌==◌, if◌then◌else◌, Option, Some, None, Result, Ok, Err}
+use Rattle.std.specs.Prelude.{ℕ, ◌+◌, ◌-◌, ◌*◌, ◌/◌, ◌^◌, ◌&&◌, Bool, zero, suc, List, [], ◌∷◌, ◌++◌, codes, length, take, drop, map, min, slice_index, nat_lt, nat_le, nat_eq, ◌==◌, if◌then◌else◌, Option, Some, None, Result, Ok, Err}
 use Rattle.std.specs.List.{range_with_len, sum_by, starts_with}
 use Rattle.std.specs.Int.{w32, from_le_bytes, is_power_of_two, div_ceil}
 use Rattle.pdb_container.specs.Fault.{Fault}
 use Rattle.pdb_container.specs.Fault.{UnrecognizedFileFormat, InvalidPageSize, PageReferenceOutOfRange, StreamNotFound, UnexpectedEof}
-use Rattle.pdb_container.specs.declared.msf.TheConstants.{MAGIC, ABSENT, HEADER_SIZE, HEADER_VIEW}
 use Rattle.pdb_container.specs.Fault.{◌>>=◌, guard, refuse}
 use Rattle.pdb_container.specs.Places.{bytes_at, page_places}
 
@@ -45,19 +44,23 @@ list_count page_size directory_size = div_ceil (4 * div_ceil directory_size page
 
 -- what follows the header's numbers
 unfoldable pub behind_header : List ℕ → List ℕ
-behind_header front = drop HEADER_SIZE front
+behind_header front = drop 52 front
+
+-- how a container begins: a text of 24 bytes, the end of a line, and 0x1A, "DS" and three NULs
+abbrev pub magic : List ℕ
+magic = codes "Microsoft C/C++ MSF 7.00" ++ 0x0d ∷ 0x0a ∷ 0x1a ∷ codes "DS" ++ 0 ∷ 0 ∷ 0 ∷ []
 
 -- the header, in the first 4096 bytes
 unfoldable pub header_in : List ℕ → Result Layout Fault
 header_in front = do
-  known ← guard (starts_with nat_eq front MAGIC) UnrecognizedFileFormat
+  known ← guard (starts_with nat_eq front magic) UnrecognizedFileFormat
   sized ← guard (IsPageSize (word_at front 32)) (InvalidPageSize (word_at front 32))
   list ← pages_in (word_at front 40) (list_count (word_at front 32) (word_at front 44)) (words (behind_header front))
   Ok (record { page_size = word_at front 32; pages_used = word_at front 40; directory_size = word_at front 44; list_pages = list })
 
 -- the first bytes, which have to be there
 unfoldable pub front_in : List ℕ → Result (List ℕ) Fault
-front_in file = if nat_lt (length file) HEADER_VIEW then Err UnrecognizedFileFormat else Ok (take HEADER_VIEW file)
+front_in file = if nat_lt (length file) 4096 then Err UnrecognizedFileFormat else Ok (take 4096 file)
 
 unfoldable pub layout_of : List ℕ → Result Layout Fault
 layout_of file = do
@@ -72,9 +75,13 @@ directory_of h file = do
   bytes ← bytes_at file (page_places h.page_size pages h.directory_size)
   Ok (words bytes)
 
+-- the size of a stream that is not there
+abbrev pub absent : ℕ
+absent = 2 ^ 32 - 1
+
 -- how many pages a stream has: an absent one has none
 abbrev pub page_count : ℕ → ℕ → ℕ
-page_count page_size size = if size == ABSENT then 0 else div_ceil size page_size
+page_count page_size size = if size == absent then 0 else div_ceil size page_size
 
 -- The size and the pages of stream n, in the directory's numbers: a count, so many sizes, and then the
 -- page numbers of each stream in order.
@@ -83,7 +90,7 @@ place_in page_size used n [] = Err UnexpectedEof
 place_in page_size used n (count ∷ numbers) = do
   known ← refuse (nat_le count n) (StreamNotFound n)
   whole ← refuse (nat_lt (length numbers) count) UnexpectedEof
-  present ← refuse (slice_index numbers n == ABSENT) (StreamNotFound n)
+  present ← refuse (slice_index numbers n == absent) (StreamNotFound n)
   pages ← pages_in used (page_count page_size (slice_index numbers n)) (drop (count + sum_by (page_count page_size) (take n numbers)) numbers)
   Ok (slice_index numbers n, pages)
 

@@ -1,4 +1,5 @@
 pub mod Alike
+pub mod Answers
 pub mod Buffer
 pub mod Container
 pub mod ErrorText

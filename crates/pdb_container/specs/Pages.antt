@@ -1,5 +1,5 @@
 -- What a list of pages is seen as.
-use Rattle.std.specs.Prelude.{◌≢◌, ℕ, ◌+◌, ◌*◌, List, [], ◌∷◌}
+use Rattle.std.specs.Prelude.{◌≢◌, ℕ, ◌+◌, ◌*◌, ◌<◌, List, [], ◌∷◌}
 use Rattle.std.specs.List.{range_with_len}
 use Rattle.pdb_container.specs.declared.source.SourceSlice.{SourceSlice}
 
@@ -12,8 +12,8 @@ pub record Pages : Type 0 where
 abbrev pub page : ℕ → ℕ → List ℕ
 page size number = range_with_len (number * size) size
 
--- no slice ends where the next begins
+-- each slice has a byte at least, and none ends where the next begins
 abbrev pub AreApart : List SourceSlice → Type 0
 AreApart [] = Unit {0}
-AreApart (a ∷ []) = Unit {0}
-AreApart (a ∷ b ∷ slices) = (a.offset + a.size ≢ b.offset) × AreApart (b ∷ slices)
+AreApart (a ∷ []) = 0 < a.size
+AreApart (a ∷ b ∷ slices) = (0 < a.size) × (a.offset + a.size ≢ b.offset) × AreApart (b ∷ slices)

@@ -4,8 +4,10 @@ ghost use Rattle.std.specs.Prelude.{◌≡◌, Option, Result, Ok, None, IfErr, 
 
 /// An iterator whose steps may fail. After an error it answers `None`.
 pub trait FallibleIterator {
+    /// What it goes over.
     type Item;
 
+    /// Why a step fails.
     type Error;
 
     /// Whether it answers nothing more: it does so from its first error on.

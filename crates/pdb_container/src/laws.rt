@@ -7,8 +7,14 @@ ghost use Rattle.pdb_container.specs.Paged.{IsStream, IsLimited};
 ghost use Rattle.pdb_container.specs.Places.{bytes_at, page_places, IsPaged};
 ghost use Rattle.pdb_container.specs.RawString.{raw_bytes};
 ghost use Rattle.pdb_container.specs.declared.raw_string.RawString.{RawString as Text};
+ghost use Rattle.pdb_container.specs.declared.string_table.StringRef.{StringRef as Offset};
+ghost use Rattle.pdb_container.specs.declared.source.SourceSlice.{SourceSlice as Slice};
+ghost use Rattle.pdb_container.specs.declared.error.ModuleFault.{ModuleFault as KeptFault};
 
+use crate::error::ModuleFault;
 use crate::raw_string::RawString;
+use crate::source::SourceSlice;
+use crate::string_table::StringRef;
 use std::hash::Hash;
 
 /// What pages hold is so many bytes, and byte i is the file's byte in page number i / size, at i % size; and bytes of
@@ -42,4 +48,11 @@ pub fn page_layout()
 pub fn equal_texts_hash_alike()
     ensures equal { (a b : Text) → (⟦<RawString<'static> as PartialEq>⟧.eq a b ≡ true) ↔ (raw_bytes a ≡ raw_bytes b) }
     ensures hash { (a b : Text) → raw_bytes a ≡ raw_bytes b → ⟦<RawString<'static> as Hash>⟧.hash_input a ≡ ⟦<RawString<'static> as Hash>⟧.hash_input b }
+{}
+
+/// Offsets of names, slices and kept faults are equal exactly where they are one and the same: `==` leaves out no part of them.
+pub fn equal_values_are_one()
+    ensures offsets { (a b : Offset) → (⟦<StringRef as PartialEq>⟧.eq a b ≡ true) ↔ (a ≡ b) }
+    ensures slices { (a b : Slice) → (⟦<SourceSlice as PartialEq>⟧.eq a b ≡ true) ↔ (a ≡ b) }
+    ensures kept { (a b : KeptFault) → (⟦<ModuleFault as PartialEq>⟧.eq a b ≡ true) ↔ (a ≡ b) }
 {}

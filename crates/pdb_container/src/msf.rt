@@ -3,6 +3,7 @@
 ghost use Rattle.std.specs.Prelude.{◌≡◌, ◌+◌, ◌*◌, ◌<◌, ◌≤◌, ◌^◌, ◌-◌, List, ℕ, map, length, vec_len, take, drop, IfOk, IfErr, IsOk, ◌⊎◌};
 ghost use Rattle.std.specs.List.{sum_by};
 ghost use Rattle.pdb_container.specs.Container.{words, word_at as word_in, header_in, front_in, behind_header as behind, pages_in, layout_of, directory_of, stream_in, stream, place_in, page_count, at_most, list_count as lists_for};
+ghost use Rattle.pdb_container.specs.Answers.{AnswersFrom};
 ghost use Rattle.pdb_container.specs.Header.{layout, IsSound};
 ghost use Rattle.std.specs.declared.io.ErrorKind.TheVariants.{UnexpectedEof};
 ghost use Rattle.pdb_container.specs.Fault.{error_of, fault_of, IoError, Gives, HasRisen, IsOutside};
@@ -17,10 +18,10 @@ use std::io::ErrorKind;
 use std::marker::{Model, PhantomData};
 
 /// How the header begins.
-pub const MAGIC: [u8; 32] = *b"Microsoft C/C++ MSF 7.00\r\n\x1aDS\0\0\0";
+const MAGIC: [u8; 32] = *b"Microsoft C/C++ MSF 7.00\r\n\x1aDS\0\0\0";
 
 /// The size of a stream that is not there.
-pub const ABSENT: u32 = 0xffff_ffff;
+const ABSENT: u32 = 0xffff_ffff;
 
 /// How many bytes the header has before its list of pages.
 const HEADER_SIZE: usize = 52;
@@ -107,9 +108,7 @@ fn read_pages<S: Source>(
     requires page_size { (0 < page_size) × (page_size ≤ 0x800000) }
     requires enough { size ≤ length pages.now * page_size }
     requires few { length pages.now < 2 ^ 32 }
-    ensures same { S.bytes source.new ≡ S.bytes source.old }
-    ensures counts { S.failures source.old ≤ S.failures source.new }
-    ensures exact { Gives (λ v. v) (HasRisen (S.failures source.old) (S.failures source.new)) result
+    ensures answer { AnswersFrom S.bytes S.failures source.old source.new (λ v. v) result
         (bytes_at (S.bytes source.old) (page_places page_size pages.now size)) }
     ensures len { IfOk result (λ v. length v ≡ size) }
 {
@@ -209,9 +208,7 @@ fn pages_before(page_size: u32, sizes: &[u32]) -> usize
 #[tactic(auto, using(crate::proofs::Paging::pages_enough, crate::proofs::Outside::outside_alone, crate::proofs::Outside::outside_earlier, crate::proofs::Outside::outside_later), unfolding(crate::specs::Container::directory_of))]
 fn read_directory<S: Source>(source: &mut S, alloc: Global, header: &Header) -> Result<Vec<u32>>
     requires { IsSound (layout header.now) }
-    ensures same { S.bytes source.new ≡ S.bytes source.old }
-    ensures counts { S.failures source.old ≤ S.failures source.new }
-    ensures exact { Gives (λ v. v.items) (HasRisen (S.failures source.old) (S.failures source.new)) result
+    ensures answer { AnswersFrom S.bytes S.failures source.old source.new (λ v. v.items) result
         (directory_of (layout header.now) (S.bytes source.old)) }
 {
     let count = header.directory_size.div_ceil(header.page_size) as usize;
@@ -243,9 +240,7 @@ fn read_stream<S: Source>(
     limit: Option<usize>,
 ) -> Result<ReadView>
     requires { IsSound (layout header.now) }
-    ensures same { S.bytes source.new ≡ S.bytes source.old }
-    ensures counts { S.failures source.old ≤ S.failures source.new }
-    ensures exact { Gives (λ v. v) (HasRisen (S.failures source.old) (S.failures source.new)) result
+    ensures answer { AnswersFrom S.bytes S.failures source.old source.new (λ v. v) result
         (stream_in (layout header.now) (S.bytes source.old) number limit) }
     ensures few { IfOk result (λ v. length v < 2 ^ 32) }
 {
@@ -273,7 +268,7 @@ fn cut(limit: Option<usize>, size: usize) -> usize
 
 #[tactic(auto, using(crate::proofs::Paging::pages_enough, crate::proofs::Outside::outside_alone), unfolding(crate::specs::Container::header_in))]
 fn header_of(alloc: Global, front: &[u8]) -> Result<Header>
-    requires { length front.now ≡ HEADER_VIEW }
+    requires { length front.now ≡ 4096 }
     ensures exact { Gives layout ⊥ result (header_in front.now) }
     ensures sound { IfOk result (λ h. IsSound (layout h)) }
 {
@@ -299,7 +294,7 @@ fn header_of(alloc: Global, front: &[u8]) -> Result<Header>
 
 #[tactic(auto, unfolding(crate::specs::Container::behind_header))]
 fn behind_header(front: &[u8]) -> &[u8]
-    requires { HEADER_SIZE ≤ length front.now }
+    requires { 52 ≤ length front.now }
     ensures { result.now ≡ behind front.now }
 {
     rest_from(front, HEADER_SIZE)
@@ -343,10 +338,9 @@ fn read_first<S: Source>(source: &mut S, alloc: Global, size: usize) -> io::Resu
 
 #[tactic(auto, using(crate::proofs::First::not_past), unfolding(crate::specs::Container::front_in))]
 fn read_front<S: Source>(source: &mut S, alloc: Global) -> Result<ReadView>
-    ensures same { S.bytes source.new ≡ S.bytes source.old }
-    ensures counts { S.failures source.old ≤ S.failures source.new }
-    ensures exact { Gives (λ v. v) (HasRisen (S.failures source.old) (S.failures source.new)) result (front_in (S.bytes source.old)) }
-    ensures len { IfOk result (λ v. length v ≡ HEADER_VIEW) }
+    ensures answer { AnswersFrom S.bytes S.failures source.old source.new (λ v. v) result
+        (front_in (S.bytes source.old)) }
+    ensures len { IfOk result (λ v. length v ≡ 4096) }
 {
     match read_first(source, alloc, HEADER_VIEW) {
         Ok(front) => Ok(front),
@@ -366,9 +360,7 @@ pub trait Msf<'s, S: Source> {
     /// later answer. `StreamNotFound`, `PageReferenceOutOfRange`, `UnexpectedEof`; `IoError` past the file's end, and where
     /// the source failed.
     fn get(&mut self, alloc: Global, stream_number: u32, limit: Option<usize>) -> Result<Stream<'s>>
-        ensures same { S.bytes (source self.new) ≡ S.bytes (source self.old) }
-        ensures counts { S.failures (source self.old) ≤ S.failures (source self.new) }
-        ensures exact { Gives (λ s. s) (HasRisen (S.failures (source self.old)) (S.failures (source self.new))) result
+        ensures { AnswersFrom S.bytes S.failures (source self.old) (source self.new) (λ s. s) result
             (stream (S.bytes (source self.old)) stream_number limit) };
 }
 

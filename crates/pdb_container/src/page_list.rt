@@ -78,7 +78,7 @@ impl PageList {
         self.len = self.len.min(bytes);
     }
 
-    /// The slices whose bytes, joined end to end, are those of the pages.
+    /// The slices whose bytes, joined end to end, are those of the pages. None is empty, and none ends where the next begins.
     pub fn source_slices(&self) -> &[SourceSlice]
         ensures joined { places_of result.now ≡ self.now.places }
         ensures apart { AreApart result.now }
@@ -89,7 +89,8 @@ impl PageList {
 
 #[tactic(auto, using(crate::proofs::Slices::size_le_len, crate::proofs::Slices::places_join, crate::proofs::Slices::places_push, crate::proofs::Slices::apart_set, crate::proofs::Slices::apart_push))]
 fn add_slice(slices: &mut Vec<SourceSlice>, slice: SourceSlice) -> Result<()>
-    requires { length (places_of slices.old.items) + slice.size < 2 ^ 64 }
+    requires few { length (places_of slices.old.items) + slice.size < 2 ^ 64 }
+    requires full { 0 < slice.size }
     ensures ok { OnOk result (places_of slices.new.items ≡ places_of slices.old.items ++ slice_places slice) }
     ensures apart { AreApart slices.old.items → AreApart slices.new.items }
     ensures err { OnErr result (slices.new.items ≡ slices.old.items) }

@@ -33,13 +33,12 @@ pub struct StringTable<'s> {
 
 impl<'s> Model for StringTable<'s> {
     ghost use Rattle.std.specs.Prelude.{ℕ, List, take, drop, ◌≤◌, length};
-    ghost use Rattle.pdb_container.specs.declared.string_table.TheConstants.{HEADER_SIZE};
 
     ghost Value = { List ℕ };
 
-    ghost view = { λ t. take t.size (drop HEADER_SIZE t.stream) };
+    ghost view = { λ t. take t.size (drop 12 t.stream) };
 
-    ghost invariant = { λ t. t.size ≤ length (drop HEADER_SIZE t.stream) };
+    ghost invariant = { λ t. t.size ≤ length (drop 12 t.stream) };
 }
 
 impl<'s> StringTable<'s> {
@@ -95,8 +94,8 @@ impl StringRef {
 #[tactic(auto, using(crate::proofs::Names::names_behind), unfolding(crate::specs::Names::names_of))]
 fn names_in(bytes: &[u8]) -> Result<&[u8]>
     ensures value { Parses (λ names. names.now) result (names_of bytes.now) }
-    ensures place { IfOk result (λ names. names.now ≡ take (length names.now) (drop HEADER_SIZE bytes.now)) }
-    ensures within { IfOk result (λ names. length names.now ≤ length (drop HEADER_SIZE bytes.now)) }
+    ensures place { IfOk result (λ names. names.now ≡ take (length names.now) (drop 12 bytes.now)) }
+    ensures within { IfOk result (λ names. length names.now ≤ length (drop 12 bytes.now)) }
 {
     let mut buffer = ParseBuffer::from(bytes);
     let signature = buffer.parse_u32()?;

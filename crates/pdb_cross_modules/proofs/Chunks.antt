@@ -6,7 +6,7 @@ use Rattle.std.specs.Int.{w32, from_le_bytes}
 use Rattle.std.specs.Simd.{first_chunks}
 use Rattle.pdb_container.specs.Fault.{Fault, UnexpectedEof}
 use Rattle.pdb_container.specs.Fields.{number_at, bytes_of, entries_within}
-use Rattle.pdb_items.specs.RecordFields.{many_at}
+use Rattle.pdb_indices.specs.RecordFields.{many_at}
 use Rattle.pdb_cross_modules.specs.Exports.{export_at, export_in, exports_in, exports_of}
 
 -- the first chunks of bytes lie in any front that has them

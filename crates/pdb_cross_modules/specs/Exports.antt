@@ -5,9 +5,9 @@ use Rattle.std.specs.List.{find, AllByRecursion}
 use Rattle.pdb_container.specs.Container.{word_at}
 use Rattle.pdb_container.specs.Fault.{Fault, ◌>>=◌}
 use Rattle.pdb_container.specs.Fields.{Reader, number_at, entries}
-use Rattle.pdb_items.specs.IdIndex.{id_index}
-use Rattle.pdb_items.specs.Index.{is_cross_module}
-use Rattle.pdb_items.specs.TypeIndex.{type_index}
+use Rattle.pdb_indices.specs.IdIndex.{id_index}
+use Rattle.pdb_indices.specs.Index.{is_cross_module}
+use Rattle.pdb_indices.specs.TypeIndex.{type_index}
 use Rattle.pdb_cross_modules.specs.declared.exports.CrossModuleExport.{CrossModuleExport}
 use Rattle.pdb_cross_modules.specs.declared.exports.CrossModuleExport.TheVariants as forms
 use Rattle.pdb_cross_modules.specs.declared.exports.Export.{Export}

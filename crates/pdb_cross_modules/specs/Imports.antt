@@ -3,8 +3,8 @@ use Rattle.std.specs.Prelude.{ℕ, ◌/◌, ◌%◌, ◌^◌, List, map, slice_g
 use Rattle.std.specs.Int.{w32, from_le_bytes}
 use Rattle.pdb_container.specs.Fault.{Fault, NotACrossModuleRef, CrossModuleRefNotFound, ◌>>=◌, guard}
 use Rattle.pdb_container.specs.Fields.{Reader, number_at, entries}
-use Rattle.pdb_items.specs.Index.{is_cross_module}
-use Rattle.pdb_items.specs.RecordFields.{many_at}
+use Rattle.pdb_indices.specs.Index.{is_cross_module}
+use Rattle.pdb_indices.specs.RecordFields.{many_at}
 use Rattle.pdb_cross_modules.specs.declared.imports.CrossModuleRef.{CrossModuleRef}
 use Rattle.pdb_cross_modules.specs.declared.imports.ImportedModule.{ImportedModule}
 

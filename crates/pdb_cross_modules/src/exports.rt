@@ -5,7 +5,7 @@ ghost use Rattle.pdb_container.specs.Fault.{Parses};
 ghost use Rattle.pdb_cross_modules.specs.Exports.{exports_of, exports_in, export_in, export_form, first_export};
 
 use pdb_container::{Error, Result};
-use pdb_items::{IdIndex, ItemIndex, Local, TypeIndex};
+use pdb_indices::{IdIndex, ItemIndex, Local, TypeIndex};
 use std::marker::Model;
 
 /// An index as the module names it, and the index in the file's table of types or of ids.

@@ -5,11 +5,11 @@ ghost use Rattle.std.specs.Int.{w32};
 ghost use Rattle.pdb_container.specs.Buffer.{rest, ReadsAll};
 ghost use Rattle.pdb_container.specs.Fault.{Gives, Parses};
 ghost use Rattle.pdb_container.specs.Fields.{number_at};
-ghost use Rattle.pdb_items.specs.RecordFields.{many_at};
+ghost use Rattle.pdb_indices.specs.RecordFields.{many_at};
 ghost use Rattle.pdb_cross_modules.specs.Imports.{import_at, imports_of, import_in, numbers_in, imported, imported_from, found_import, reference};
 
 use pdb_container::{Error, ParseBuffer, Result, StringRef};
-use pdb_items::{ItemIndex, Local};
+use pdb_indices::{ItemIndex, Local};
 use std::alloc::Global;
 use std::marker::Model;
 

@@ -2,7 +2,7 @@
 
 use crate::{CrossModuleExport, CrossModuleExports, CrossModuleImports, CrossModuleRef, ModuleRef};
 use pdb_container::{Error, Result, StringRef};
-use pdb_items::{IdIndex, Local, TypeIndex};
+use pdb_indices::{IdIndex, Local, TypeIndex};
 use std::test::Fail;
 
 /// Two types and two ids.

@@ -3,7 +3,7 @@ use Rattle.std.specs.Prelude.{ℕ, ◌+◌, ◌-◌, ◌%◌, ◌^◌, Bool, tru
 use Rattle.std.specs.Option.{option_or}
 use Rattle.pdb_container.specs.Fault.{Fault}
 use Rattle.pdb_container.specs.Listing.{Listing}
-use Rattle.pdb_container_types.specs.declared.internal_section_offset.PdbInternalSectionOffset.{PdbInternalSectionOffset}
+use Rattle.pdb_addresses.specs.declared.internal_section_offset.PdbInternalSectionOffset.{PdbInternalSectionOffset}
 use Rattle.pdb_annotations.specs.declared.annotation.BinaryAnnotation.{BinaryAnnotation}
 use Rattle.pdb_annotations.specs.Annotations.{annotations_of, is_emitting}
 use Rattle.pdb_subsections.specs.declared.line_info.LineInfo.{LineInfo}

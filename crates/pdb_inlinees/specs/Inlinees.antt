@@ -4,8 +4,8 @@ use Rattle.std.specs.Int.{w32}
 use Rattle.pdb_container.specs.Fault.{Fault, ◌>>=◌}
 use Rattle.pdb_container.specs.Fields.{Reader, number_at, bytes_of}
 use Rattle.pdb_container.specs.Listing.{Listing, listing}
-use Rattle.pdb_items.specs.declared.index.IdIndex.{IdIndex}
-use Rattle.pdb_container_types.specs.declared.numbers.FileIndex.{FileIndex}
+use Rattle.pdb_indices.specs.declared.index.IdIndex.{IdIndex}
+use Rattle.pdb_indices.specs.declared.numbers.FileIndex.{FileIndex}
 
 -- an inlined function, the file of its text and the line at which that begins
 pub record InlinedFunction : Type 0 where

@@ -11,9 +11,10 @@ ghost use Rattle.pdb_inlinees.specs.InlinedRows.{inlined_rows};
 
 use crate::line_iterator::InlineeLineIterator;
 use crate::origin::Origin;
+use pdb_addresses::PdbInternalSectionOffset;
 use pdb_annotations::InlineSiteSymbol;
 use pdb_container::{Error, FallibleIterator, ParseBuffer, Result};
-use pdb_container_types::{FileIndex, IdIndex, PdbInternalSectionOffset};
+use pdb_indices::{FileIndex, IdIndex};
 use pdb_subsections::LineInfoKind;
 use std::marker::{Model, PhantomData};
 

@@ -6,8 +6,9 @@ ghost use Rattle.pdb_inlinees.specs.Operands.{own_length, range_kind, column_cha
 ghost use Rattle.pdb_annotations.specs.declared.annotation.BinaryAnnotation.TheVariants as kinds;
 ghost use Rattle.pdb_inlinees.specs.ToCome.{origin_behind, moved};
 
+use pdb_addresses::PdbInternalSectionOffset;
 use pdb_annotations::BinaryAnnotation;
-use pdb_container_types::{FileIndex, PdbInternalSectionOffset};
+use pdb_indices::FileIndex;
 use pdb_subsections::{LineInfo, LineInfoKind};
 
 /// What holds before the annotations that are still to come.

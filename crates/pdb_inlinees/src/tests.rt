@@ -1,9 +1,10 @@
 //! Inlined functions and rows of their calls, written by hand.
 
 use crate::{Inlinee, InlineeIterator};
+use pdb_addresses::PdbInternalSectionOffset;
 use pdb_annotations::{BinaryAnnotations, InlineSiteSymbol};
 use pdb_container::{Error, FallibleIterator, Result};
-use pdb_container_types::{FileIndex, IdIndex, PdbInternalSectionOffset, SymbolIndex};
+use pdb_indices::{FileIndex, IdIndex, SymbolIndex};
 use pdb_subsections::{LineInfo, LineInfoKind};
 use std::process::Abort;
 

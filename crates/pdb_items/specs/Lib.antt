@@ -1,17 +1,5 @@
-pub mod Attributes
-pub mod Forms
-pub mod IdForms
-pub mod IdIndex
-pub mod IdRecords
-pub mod Index
 pub mod Item
 pub mod Items
 pub mod Parsing
-pub mod Primitives
-pub mod RecordFields
-pub mod Shapes
 pub mod Tables
-pub mod TypeIndex
-pub mod TypeLeaves
-pub mod TypeRecords
 pub mod Walking

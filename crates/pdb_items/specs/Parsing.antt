@@ -1,9 +1,9 @@
 -- What an item of a table says.
 use Rattle.std.specs.Prelude.{ℕ, List, nat_lt, if◌then◌else◌, Result}
 use Rattle.pdb_container.specs.Fault.{Fault}
-use Rattle.pdb_items.specs.Forms.{TypeForm}
-use Rattle.pdb_items.specs.Primitives.{type_of_primitive}
-use Rattle.pdb_items.specs.TypeLeaves.{type_form_of}
+use Rattle.pdb_records.specs.Forms.{TypeForm}
+use Rattle.pdb_records.specs.Primitives.{type_of_primitive}
+use Rattle.pdb_records.specs.TypeLeaves.{type_form_of}
 
 -- what a type is: below 0x1000 by its index alone, and else by its record
 abbrev pub type_of_item : ℕ → List ℕ → Result TypeForm Fault

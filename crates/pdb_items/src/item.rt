@@ -5,19 +5,15 @@ ghost use Rattle.std.specs.Int.{w16};
 ghost use Rattle.pdb_container.specs.Buffer.{peeked};
 ghost use Rattle.pdb_container.specs.Fault.{Gives, Parses};
 ghost use Rattle.pdb_container.specs.Fields.{number_at};
-ghost use Rattle.pdb_items.specs.IdForms.{id_shape};
-ghost use Rattle.pdb_items.specs.IdRecords.{id_form_of};
+ghost use Rattle.pdb_records.specs.IdForms.{id_shape};
+ghost use Rattle.pdb_records.specs.IdRecords.{id_form_of};
 ghost use Rattle.pdb_items.specs.Item.{item_bytes};
 ghost use Rattle.pdb_items.specs.Parsing.{type_of_item};
-ghost use Rattle.pdb_items.specs.Shapes.{shape};
+ghost use Rattle.pdb_records.specs.Shapes.{shape};
 
-use crate::id_data::IdData;
-use crate::index::{IdIndex, ItemIndex, TypeIndex};
-use crate::parse_id::parse_id_data;
-use crate::parse_record::parse_type_data;
-use crate::primitive::type_data_for_primitive;
-use crate::type_data::TypeData;
 use pdb_container::{ParseBuffer, Result};
+use pdb_indices::{IdIndex, ItemIndex, TypeIndex};
+use pdb_records::{IdData, TypeData, parse_id_data, parse_type_data, type_data_for_primitive};
 use std::alloc::Global;
 
 /// The first index of a type that has a record.

@@ -8,11 +8,11 @@ ghost use Rattle.pdb_items.specs.Tables.{fresh_finding, first_unknown, last_know
 ghost use Rattle.pdb_items.specs.Walking.{IsPlaceAt, IsEnd, seen};
 
 use crate::header::Header;
-use crate::index::ItemIndex;
 use crate::item::Item;
 use crate::item_iter::ItemIter;
 use crate::item_list::{behind, walk};
 use pdb_container::{Error, Result};
+use pdb_indices::ItemIndex;
 use std::alloc::Global;
 use std::marker::{Model, PhantomData};
 
@@ -98,15 +98,28 @@ impl<'t, I: ItemIndex> ItemFinder<'t, I> {
         ensures item { Parses item_bytes result (find_in self.now (I.number index)) }
         ensures index { IfOk result (λ item. item.index ≡ index) }
     {
+        let mut lengths = 0;
+        self.find_counting(index, &mut lengths)
+    }
+
+    /// The item of an index. Counts the lengths of items that it reads: eight at most.
+    fn find_counting(&self, index: I, lengths: &mut u32) -> Result<Item<'t, I>>
+        requires none { lengths.old ≡ 0 }
+        ensures item { Parses item_bytes result (find_in self.now (I.number index)) }
+        ensures index { IfOk result (λ item. item.index ≡ index) }
+        ensures few { lengths.new ≤ 8 }
+    {
         let number: u32 = index.into();
-        let bytes = self.piece_of(number)?;
+        let bytes = self.piece_of(number, lengths)?;
         Ok(Item { index, bytes })
     }
 
     /// The bytes of the item of an index.
     #[tactic(auto, unfolding(crate::specs::Tables::find_in, crate::specs::Items::item_at))]
-    fn piece_of(&self, index: u32) -> Result<&'t [u8]>
-        ensures { Parses (λ piece. piece.now) result (find_in self.now index) }
+    fn piece_of(&self, index: u32, lengths: &mut u32) -> Result<&'t [u8]>
+        requires none { lengths.old ≡ 0 }
+        ensures item { Parses (λ piece. piece.now) result (find_in self.now index) }
+        ensures few { lengths.new ≤ 8 }
     {
         let unknown = self.first_unknown();
         if u64::from(index) >= unknown {
@@ -118,16 +131,18 @@ impl<'t, I: ItemIndex> ItemFinder<'t, I> {
         if index < self.header.minimum_index {
             return Ok(&self.items[..0]);
         }
-        self.known_item(index)
+        self.known_item(index, lengths)
     }
 
     /// The bytes of an index of the known blocks; `TypeNotFound` past a good end, past a bad one its fault.
-    fn known_item(&self, index: u32) -> Result<&'t [u8]>
+    fn known_item(&self, index: u32, lengths: &mut u32) -> Result<&'t [u8]>
         requires low { self.now.table.minimum ≤ index }
         requires known { index < first_unknown self.now }
-        ensures { Parses (λ piece. piece.now) result (found index (item_number (items_of self.now.table) (index - self.now.table.minimum))) }
+        requires none { lengths.old ≡ 0 }
+        ensures few { lengths.new ≤ 8 }
+        ensures item { Parses (λ piece. piece.now) result (found index (item_number (items_of self.now.table) (index - self.now.table.minimum))) }
     {
-        match self.known_piece(index) {
+        match self.known_piece(index, lengths) {
             Ok(Some(piece)) => Ok(piece),
             Ok(None) => Err(Error::TypeNotFound(index)),
             Err(fault) => Err(fault),
@@ -136,15 +151,17 @@ impl<'t, I: ItemIndex> ItemFinder<'t, I> {
 
     /// The bytes of an index of the known blocks, if there is an item.
     #[tactic(auto, using(crate::proofs::Blocks::known_number))]
-    fn known_piece(&self, index: u32) -> Result<Option<&'t [u8]>>
+    fn known_piece(&self, index: u32, lengths: &mut u32) -> Result<Option<&'t [u8]>>
         requires low { self.now.table.minimum ≤ index }
         requires known { index < first_unknown self.now }
-        ensures { Parses (seen (λ piece. piece.now)) result (item_number (items_of self.now.table) (index - self.now.table.minimum)) }
+        requires none { lengths.old ≡ 0 }
+        ensures few { lengths.new ≤ 8 }
+        ensures item { Parses (seen (λ piece. piece.now)) result (item_number (items_of self.now.table) (index - self.now.table.minimum)) }
     {
         let number = index - self.header.minimum_index;
         let skip = number % 8;
         let place = self.places[(number / 8) as usize];
-        walk(behind(self.items, place), index - skip, skip).0
+        walk(behind(self.items, place), index - skip, skip, lengths)
     }
 
     /// The first index past the known blocks; it may have more than 32 bits.

@@ -6,12 +6,12 @@ ghost use Rattle.pdb_items.specs.Items.{table_of};
 ghost use Rattle.pdb_items.specs.Tables.{fresh_iteration, fresh_finding};
 
 use crate::header::{Header, parse_header};
-use crate::index::{IdIndex, ItemIndex, TypeIndex};
 use crate::item::Item;
 use crate::item_finder::ItemFinder;
 use crate::item_iter::ItemIter;
 use crate::item_list::behind;
 use pdb_container::{Error, Result, Stream};
+use pdb_indices::{IdIndex, ItemIndex, TypeIndex};
 use std::alloc::Global;
 use std::marker::{Model, PhantomData};
 

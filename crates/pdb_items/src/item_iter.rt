@@ -9,10 +9,10 @@ ghost use Rattle.pdb_items.specs.Walking.{IsPlaceAt};
 ghost use Rattle.pdb_items.specs.Tables.{fresh_iteration, end_of, HasEnded, next_answer, behind_answer};
 
 use crate::header::Header;
-use crate::index::ItemIndex;
 use crate::item::Item;
 use crate::item_list::next_piece;
 use pdb_container::{Error, FallibleIterator, ParseBuffer, Result};
+use pdb_indices::ItemIndex;
 use std::marker::{Model, PhantomData};
 
 /// How far an iterator has come.
@@ -110,7 +110,8 @@ impl<'t, I: ItemIndex> FallibleIterator for ItemIter<'t, I> {
             Progress::Reading => {}
             _ => return Ok(None),
         }
-        match next_piece(&mut self.buffer, self.index) {
+        let mut lengths = 0;
+        match next_piece(&mut self.buffer, self.index, &mut lengths) {
             Ok(Some(bytes)) => {
                 let index = I::from(self.index);
                 self.index += 1;

@@ -3,7 +3,7 @@ use Rattle.std.proofs.Common.{◌≡◌, ◌≢◌, ℕ, zero, suc, ◌-◌, ◌
 use Rattle.std.specs.List.{AllWithin}
 use Rattle.std.proofs.lemmas.Bool.{le-leb, lt-leb, eq-eqb, ne_eqb}
 use Rattle.std.proofs.lemmas.List.{drop_more}
-use Rattle.pdb_container_types.specs.declared.internal_section_offset.PdbInternalSectionOffset.{PdbInternalSectionOffset}
+use Rattle.pdb_addresses.specs.declared.internal_section_offset.PdbInternalSectionOffset.{PdbInternalSectionOffset}
 use Rattle.pdb_lines.specs.Runs.{Run, Program, rank, place_rank}
 use Rattle.pdb_lines.specs.Rows.{last_run_at, runs_for}
 

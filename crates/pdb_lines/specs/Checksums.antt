@@ -26,7 +26,7 @@ abbrev pub checksum_of : ℕ → List ℕ → Checksum
 checksum_of kind bytes = if kind == 0 then no_sum else (if kind == 1 then md5 bytes else (if kind == 2 then sha_1 bytes else sha_256 bytes))
 
 -- A file in a list of so many bytes: its name, the size and the kind of its checksum, the checksum, and what is missing to a
--- multiple of 4 from the list's start.
+-- multiple of 4 from the list's start. An unknown kind comes before bytes that are missing behind it.
 unfoldable pub file_at : ℕ → Reader File
 file_at whole bytes = do
   name ← number_at w32 bytes

@@ -3,7 +3,7 @@ use Rattle.std.specs.Prelude.{◌≡◌, Result, Ok, Err, ℕ, ◌-◌, ◌^◌,
 use Rattle.pdb_container.specs.declared.error.Error.{Error}
 use Rattle.pdb_container.specs.Fault.{Fault, fault_of, IsOfBytes}
 use Rattle.pdb_container.specs.Listing.{Listing, ending, before}
-use Rattle.pdb_container_types.specs.declared.internal_section_offset.PdbInternalSectionOffset.{PdbInternalSectionOffset}
+use Rattle.pdb_addresses.specs.declared.internal_section_offset.PdbInternalSectionOffset.{PdbInternalSectionOffset}
 use Rattle.pdb_subsections.specs.declared.line_info.LineInfo.{LineInfo}
 use Rattle.pdb_lines.specs.declared.mark.Mark.{Mark}
 use Rattle.pdb_lines.specs.declared.mark.Mark.TheVariants as marks

@@ -8,8 +8,9 @@ ghost use Rattle.pdb_lines.specs.Marks.{block_at, block_in, columns_of, half_at 
 
 use crate::mark::{ALSO_HIDDEN, HIDDEN, Mark};
 use crate::run::LineRun;
+use pdb_addresses::PdbInternalSectionOffset;
 use pdb_container::{Error, ParseBuffer, Result};
-use pdb_container_types::{FileIndex, PdbInternalSectionOffset};
+use pdb_indices::FileIndex;
 use pdb_subsections::{LineInfo, LineInfoKind};
 use std::marker::Model;
 

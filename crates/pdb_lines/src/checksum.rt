@@ -7,7 +7,7 @@ ghost use Rattle.pdb_container.specs.Listing.{ending, Advances};
 ghost use Rattle.pdb_lines.specs.Checksums.{checksum_of, file_at, files_of, file_in, checksum_seen, file_seen};
 
 use pdb_container::{Error, FallibleIterator, ParseBuffer, Result, StringRef};
-use pdb_container_types::FileIndex;
+use pdb_indices::FileIndex;
 use pdb_subsections::padding_behind;
 use std::marker::Model;
 
@@ -47,7 +47,8 @@ fn checksum_by(kind: u8, bytes: &[u8]) -> FileChecksum<'_>
     }
 }
 
-/// The file at the buffer's place in a list. Where it is refused, the place may have moved.
+/// The file at the buffer's place in a list. An unknown kind is refused before the checksum's bytes are read, so that it comes
+/// before `UnexpectedEof` where these are missing. Where it is refused, the place may have moved.
 #[tactic(auto, unfolding(crate::specs::Checksums::file_at))]
 fn parse_file<'a>(buffer: &mut ParseBuffer<'a>) -> Result<FileInfo<'a>>
     ensures value { ReadsOn file_seen result buffer.old buffer.new (file_at (length buffer.old.bytes)) }

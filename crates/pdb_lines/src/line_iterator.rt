@@ -10,8 +10,8 @@ ghost use Rattle.pdb_lines.specs.Left.{left_in};
 use crate::mark::Mark;
 use crate::marks::Marks;
 use crate::run::LineRun;
+use pdb_addresses::PdbInternalSectionOffset;
 use pdb_container::{Error, FallibleIterator, Result};
-use pdb_container_types::PdbInternalSectionOffset;
 use pdb_subsections::LineInfo;
 use std::marker::Model;
 

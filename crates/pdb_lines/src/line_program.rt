@@ -12,8 +12,9 @@ ghost use Rattle.pdb_subsections.specs.Subsections.{bytes_seen};
 use crate::checksum::{FileInfo, FileIterator, file_in_list};
 use crate::line_iterator::LineIterator;
 use crate::run::{LineRun, rank_of, sorted_runs};
+use pdb_addresses::PdbInternalSectionOffset;
 use pdb_container::Result;
-use pdb_container_types::{FileIndex, PdbInternalSectionOffset};
+use pdb_indices::FileIndex;
 use pdb_subsections::{FILE_CHECKSUMS, find_subsection};
 use std::alloc::Global;
 use std::marker::Model;
@@ -96,15 +97,15 @@ impl<'a> LineProgram<'a> {
     }
 
     /// The files, in their order.
-    pub fn files(&self) -> FileIterator<'_>
+    pub fn files(&self) -> FileIterator<'a>
         ensures { result ≡ files_of self.now.files }
     {
         FileIterator::new(self.files)
     }
 
     /// The file of an index. `InvalidFileChecksumOffset` at the end of the files and past it, and where there are none;
-    /// `UnexpectedEof`; `UnimplementedFileChecksumKind`.
-    pub fn get_file_info(&self, index: FileIndex) -> Result<FileInfo<'_>>
+    /// `UnexpectedEof`; `UnimplementedFileChecksumKind`, which comes before the checksum's bytes are read.
+    pub fn get_file_info(&self, index: FileIndex) -> Result<FileInfo<'a>>
         ensures { Parses file_seen result (file_in self.now.files index.0) }
     {
         file_in_list(self.files, index)

@@ -1,8 +1,9 @@
 //! Lines written by hand.
 
 use crate::{FileChecksum, FileIterator, LineIterator, LineProgram};
+use pdb_addresses::PdbInternalSectionOffset;
 use pdb_container::{Error, FallibleIterator, StringRef};
-use pdb_container_types::{FileIndex, PdbInternalSectionOffset};
+use pdb_indices::FileIndex;
 use pdb_subsections::{LineInfo, LineInfoKind};
 use std::test::Fail;
 

@@ -6,8 +6,8 @@ ghost use Rattle.pdb_modules.specs.ModuleStream.{signed as signed_bytes, symbols
 ghost use Rattle.pdb_subsections.specs.Subsections.{bytes_seen};
 
 use pdb_container::{Error, ParseBuffer, Result, Stream};
-use pdb_container_types::SymbolIndex;
 use pdb_cross_modules::{CrossModuleExports, CrossModuleImports};
+use pdb_indices::SymbolIndex;
 use pdb_inlinees::InlineeIterator;
 use pdb_lines::LineProgram;
 use pdb_subsections::{CROSS_MODULE_EXPORTS, CROSS_MODULE_IMPORTS, INLINEE_LINES, find_subsection};
@@ -51,13 +51,6 @@ impl<'s> ModuleInfo<'s> {
             c11_lines_size,
             c13_lines_size,
         }
-    }
-
-    /// The stream, given back.
-    pub fn into_stream(self) -> Stream<'s>
-        ensures { result ≡ self.entry.bytes }
-    {
-        self.stream
     }
 
     /// The symbols in their order.

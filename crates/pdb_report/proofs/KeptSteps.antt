@@ -3,15 +3,15 @@ use Rattle.std.proofs.Common.{◌≡◌, ℕ, zero, suc, Bool, true, false, cond
 use Rattle.std.specs.Prelude.{Option, None, Some, IfSome, option_map}
 use Rattle.std.specs.BTreeMap.{BTreeMap}
 use Rattle.std.specs.List.{All, find}
-use Rattle.pdb_container_types.specs.declared.internal_section_offset.PdbInternalSectionOffset.{PdbInternalSectionOffset}
+use Rattle.pdb_addresses.specs.declared.internal_section_offset.PdbInternalSectionOffset.{PdbInternalSectionOffset}
 use Rattle.pdb_report.specs.declared.pdb_addr2line.contributions.ModuleSectionContribution.{ModuleSectionContribution}
 use Rattle.pdb_report.specs.Faults.{LoadingFault}
 use Rattle.pdb_symbols_modules.specs.Streams.{streams}
-use Rattle.pdb_container_types.specs.Addresses.{Map, inner_place}
-use Rattle.pdb_container_types.specs.Places.{internal_place}
+use Rattle.pdb_addresses.specs.Addresses.{Map, inner_place}
+use Rattle.pdb_addresses.specs.Places.{internal_place}
 use Rattle.pdb_report.specs.Contributions.{holds, holder}
 use Rattle.pdb_report.specs.Procedures.{Procedure, procedures, over}
-use Rattle.pdb_report.specs.Shared.{Provider, provider}
+use Rattle.pdb_symbols_modules.specs.Shared.{Provider, provider}
 use Rattle.pdb_report.specs.Loading.{Parts, answerable}
 use Rattle.pdb_report.specs.Answers.{found, scope, answer_in, answer_held, answer_at, answer_of, answer}
 use Rattle.pdb_report.specs.Kept.{procedures_at, tables, IsKept, kept_held, kept_at, kept_answer}

@@ -1,11 +1,10 @@
--- The symbols of all modules, stream by stream.
-use Rattle.std.proofs.Common.{◌≡◌, ℕ, zero, suc, ◌+◌, ◌<◌, ◌≤◌, ◌⊎◌, inl, inr, Bool, true, false, cond, ◌||◌, ◌&&◌, List, [], ◌∷◌, ◌++◌, length, get_or, take, drop, Result, Ok, Err, refl, sym, ap, subst, ◌∙◌, arith, take-append-drop}
+-- The symbols of all modules, place by place.
+use Rattle.std.proofs.Common.{◌≡◌, ℕ, zero, suc, ◌+◌, ◌<◌, ◌≤◌, ◌⊎◌, inl, inr, Bool, true, false, cond, ◌||◌, ◌&&◌, List, [], ◌∷◌, ◌++◌, length, get_or, take, Result, Ok, Err, refl, sym, ap, ◌∙◌, arith}
 use Rattle.std.specs.Prelude.{Option, None, Some, IfSome, IsSome, map, option_map, nat_eq}
-use Rattle.std.specs.List.{All, list_any, dedup, dedup_from}
+use Rattle.std.specs.List.{list_any, dedup, dedup_from}
 use Rattle.std.specs.List.Sorted.{IsPermutation}
 use Rattle.std.proofs.lemmas.Bool.{eqb-true, cases_Bool}
 use Rattle.std.proofs.lemmas.List.{take_more, take_all}
-use Rattle.std.proofs.lemmas.List.Elements.{All-more, All-nil}
 use Rattle.std.proofs.lemmas.List.Folds.{list_any-append}
 use Rattle.std.proofs.lemmas.List.Sorted.{list_any-IsPermutation}
 use Rattle.pdb_container.specs.Fault.{Fault, refuse, ◌>>=◌}
@@ -18,7 +17,8 @@ use Rattle.pdb_modules.specs.ModuleStream.{ModuleStream}
 use Rattle.pdb_modules.specs.ModuleStream.{symbols_in as symbol_bytes_in}
 use Rattle.pdb_symbols_modules.specs.Streams.{Streams, stream_if_named}
 use Rattle.pdb_symbols_modules.specs.Modules.{Module}
-use Rattle.pdb_symbols_modules.specs.Opened.{module_info, module_stream}
+use Rattle.pdb_symbols_modules.specs.Opened.{module_info}
+use Rattle.pdb_symbols_modules.specs.Shared.{module_stream, info_in}
 use Rattle.pdb_report.specs.Procedures.{Procedure, symbols_in, own_symbols, has_other}
 use Rattle.pdb_report.specs.Kept.{list_or_none}
 use Rattle.pdb_report.specs.Loading.{symbols_place, with_symbols, if_read, has_others_at, has_other_symbols}
@@ -63,54 +63,6 @@ refused_alike a b e more h = let by = refused_by a (loading_fault_of e) h in ap 
 pub refused_fail : {X : Type 0} (test : X → Bool) (xs : List X) (i : ℕ) (x : X) (e : LoadFault) → i < length xs → x ≡ get_or xs i x → Fails e (refuse (test x) NotYet) → Fails e (refuse (list_any test xs) NotYet)
 refused_fail test xs i x e lt is h = refused_alike (test x) (list_any test xs) e (any_true test xs i x lt is) h
 
--- ---- places in one stream
-
-none_of : {X : Type 0} (test : X → Bool) (xs : List X) → ((x : X) → test x ≡ false) → list_any test xs ≡ false
-none_of test [] h = refl
-none_of test (x ∷ xs) h = rw (h x) (none_of test xs h)
-
--- a stream that isn't there has no symbols
-pub none_there : (s : Streams) (n : ℕ) (places : List (ℕ × ℕ)) → None ≡ if_read (stream_if_named s n) → refuse (list_any (λ p. has_others_at s (n, p.1)) places) NotYet ≡ Ok tt
-none_there s n places h = ap (λ b. refuse b NotYet) (none_of _ places (λ p. ap (λ found. has_other (own_symbols (option_map (with_symbols p.1) found))) (sym h)))
-
-pub some_there : (s : Streams) (n : ℕ) (places : List (ℕ × ℕ)) (bytes : List ℕ) → Some bytes ≡ if_read (stream_if_named s n)
-    → list_any (λ p. has_others_at s (n, p.1)) places ≡ list_any (λ p. has_other (symbols_in (with_symbols p.1 bytes))) places
-some_there s n [] bytes h = refl
-some_there s n (p ∷ places) bytes h =
-    ap (λ b. b || list_any (λ q. has_others_at s (n, q.1)) places) (ap (λ found. has_other (own_symbols (option_map (with_symbols p.1) found))) (sym h))
-    ∙ ap (λ b. has_other (symbols_in (with_symbols p.1 bytes)) || b) (some_there s n places bytes h)
-
--- the places of one stream, before the others
-same_stream : (s : Streams) (n : ℕ) (places : List (ℕ × ℕ)) → All (λ p. p.0 ≡ n) places → list_any (λ p. has_others_at s (n, p.1)) places ≡ list_any (has_others_at s) places
-same_stream s n [] same = refl
-same_stream s n (p ∷ places) same =
-    ap (λ m. has_others_at s (m, p.1) || list_any (λ q. has_others_at s (n, q.1)) places) (sym (same 0 p (omega arith)))
-    ∙ ap (λ b. has_others_at s p || b) (same_stream s n places (λ k d lt. same (suc k) d (omega arith)))
-
-pub first_alike : (places : List (ℕ × ℕ)) (n : ℕ) (d : ℕ × ℕ) → 0 < length places → (get_or places 0 d).0 ≡ n → All (λ p. p.0 ≡ n) (take 1 places)
-first_alike places n d some is = All-more (λ p. p.0 ≡ n) places 0 d some (All-nil (λ p. p.0 ≡ n)) is
-
-pub alike_more : (places : List (ℕ × ℕ)) (n i : ℕ) (d : ℕ × ℕ) → i < length places → (get_or places i d).0 ≡ n → All (λ p. p.0 ≡ n) (take i places) → All (λ p. p.0 ≡ n) (take (i + 1) places)
-alike_more places n i d lt is so_far = All-more (λ p. p.0 ≡ n) places i d lt so_far is
-
-parts : (s : Streams) (rest : List (ℕ × ℕ)) (count : ℕ) → list_any (has_others_at s) rest ≡ (list_any (has_others_at s) (take count rest) || list_any (has_others_at s) (drop count rest))
-parts s rest count = ap (list_any (has_others_at s)) (sym (take-append-drop count rest)) ∙ list_any-append (has_others_at s) (take count rest) (drop count rest)
-
--- those behind the places of a stream are left, where none of these was refused
-pub streams_more : (s : Streams) (rest : List (ℕ × ℕ)) (n count : ℕ) (u : Unit {0}) (total : Bool) → All (λ p. p.0 ≡ n) (take count rest)
-    → refuse (list_any (λ p. has_others_at s (n, p.1)) (take count rest)) NotYet ≡ Ok u
-    → list_any (has_others_at s) rest ≡ total → list_any (has_others_at s) (drop count rest) ≡ total
-streams_more s rest n count u total same passed so_far =
-    let none : list_any (has_others_at s) (take count rest) ≡ false = sym (same_stream s n (take count rest) same) ∙ not_refused _ u passed in
-    sym (parts s rest count ∙ ap (λ b. b || list_any (has_others_at s) (drop count rest)) none) ∙ so_far
-
-pub streams_fail : (s : Streams) (rest places : List (ℕ × ℕ)) (n count : ℕ) (e : LoadFault) → All (λ p. p.0 ≡ n) (take count rest)
-    → Fails e (refuse (list_any (λ p. has_others_at s (n, p.1)) (take count rest)) NotYet)
-    → list_any (has_others_at s) rest ≡ list_any (has_others_at s) places → Fails e (refuse (list_any (has_others_at s) places) NotYet)
-streams_fail s rest places n count e same failed so_far =
-    refused_alike (list_any (λ p. has_others_at s (n, p.1)) (take count rest)) (list_any (has_others_at s) places) e
-    (λ h. sym so_far ∙ parts s rest count ∙ ap (λ b. b || list_any (has_others_at s) (drop count rest)) (sym (same_stream s n (take count rest) same) ∙ h)) failed
-
 -- ---- the places of all modules
 
 twice : (a b c : Bool) → b ≡ a → (a || c) ≡ (a || (b || c))
@@ -147,7 +99,7 @@ places_alike test all sorted few moved is = ap (list_any test) is ∙ once test 
 
 -- a module's symbols are where its entry says
 own_place : (s : Streams) (m : Module) → has_others_at s (symbols_place m) ≡ has_other_symbols s m
-unfolding module_info symbols_in symbol_bytes_in
+unfolding module_info info_in symbols_in symbol_bytes_in
 own_place s m = elim (stream_if_named s m.stream) as (λ r. has_other (own_symbols (option_map (with_symbols m.symbols_size) (if_read r))) ≡ has_other ((r >>= λ found. Ok (option_map (module_stream m) found)) >>= own_symbols)) [
   | Ok None ↦ refl
   | Ok (Some bytes) ↦ refl

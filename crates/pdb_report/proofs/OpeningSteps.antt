@@ -10,18 +10,19 @@ use Rattle.pdb_report.specs.declared.fault.LoadFault.{LoadFault}
 use Rattle.pdb_report.specs.declared.fault.LoadFault.TheVariants as faults
 use Rattle.pdb_report.specs.declared.pdb_addr2line.Error.TheVariants as contexts
 use Rattle.pdb_container.specs.Listing.{whole}
-use Rattle.pdb_container_types.specs.Addresses.{Map, IsOrdered}
+use Rattle.pdb_addresses.specs.Addresses.{Map, IsOrdered}
 use Rattle.pdb_symbols_modules.specs.Opened.{debug_information, module_info}
 use Rattle.pdb_report.specs.declared.pdb_addr2line.contributions.ModuleSectionContribution.{ModuleSectionContribution}
 use Rattle.pdb_report.specs.Faults.{LoadingFault, NotYet, lifted, load_fault_of, loading_fault_of, Fails}
 use Rattle.pdb_report.specs.RunFaults.{OnLoad, run_fault_of}
 use Rattle.pdb_symbols_modules.specs.Streams.{Streams, streams, fault_in}
-use Rattle.pdb_symbols_modules.specs.Dbi.{Dbi, dbi_of}
+use Rattle.pdb_symbols_modules.specs.Dbi.{Dbi}
 use Rattle.pdb_symbols_modules.specs.Modules.{Module, modules_of}
 use Rattle.pdb_report.specs.Procedures.{Procedure, procedures}
-use Rattle.pdb_report.specs.Shared.{module_of_number, shared, provider}
+use Rattle.pdb_symbols_modules.specs.Shared.{module_of_number, shared, provider}
 use Rattle.pdb_report.specs.Loading.{load_fault, Refuses, IsFileFault, Parts, none_or, loaded_behind, loaded, has_other_symbols, answerable}
 use Rattle.pdb_report.specs.Kept.{list_or_none, procedures_at, listed_procedures, tables, IsKept}
+use Rattle.pdb_symbols_modules.proofs.Provided.{module_listed, provided, past_the_list}
 use Rattle.pdb_report.proofs.Lifting.{fails_on, loads_on, opening_fails}
 
 -- ---- what is left of a load
@@ -31,12 +32,12 @@ abbrev checked : Streams → Parts → Result Parts LoadingFault
 checked s parts = refuse (list_any (has_other_symbols s) parts.modules) NotYet >>= λ plain. Ok parts
 
 -- behind a container that is open
-opened : (s : Streams) → s.open_fault ≡ None → answerable s ≡ ((lifted (debug_information s) >>= loaded_behind (shared s)) >>= checked s)
+opened : (s : Streams) → s.open_fault ≡ None → answerable s ≡ ((lifted (debug_information (shared s)) >>= loaded_behind (shared s)) >>= checked s)
 unfolding answerable loaded shared debug_information
 opened s h = rw h refl
 
 -- behind stream 3
-behind_dbi : (s : Streams) (dbi : Dbi) → s.open_fault ≡ None → debug_information s ≡ Ok dbi → answerable s ≡ (loaded_behind (shared s) dbi >>= checked s)
+behind_dbi : (s : Streams) (dbi : Dbi) → s.open_fault ≡ None → debug_information (shared s) ≡ Ok dbi → answerable s ≡ (loaded_behind (shared s) dbi >>= checked s)
 behind_dbi s dbi h read = opened s h ∙ ap (λ r. (lifted r >>= loaded_behind (shared s)) >>= checked s) read
 
 -- ---- where a step fails
@@ -45,10 +46,10 @@ pub container_fails : (s : Streams) (e : LoadFault) → Fails e (lifted (none_or
 unfolding answerable loaded shared
 container_fails s e h = fails_on e _ (checked s) (fails_on e (lifted (none_or s.open_fault)) _ h)
 
-pub dbi_fails : (s : Streams) (e : Error) → s.open_fault ≡ None → (IsOutside e (HasRisen 0 0) ⊎ (debug_information s ≡ Err (fault_of e))) → Fails (load_fault_of e) (answerable s)
-dbi_fails s e h read = rw (opened s h) (fails_on (load_fault_of e) _ (checked s) (loads_on e (debug_information s) (loaded_behind (shared s)) read))
+pub dbi_fails : (s : Streams) (e : Error) → s.open_fault ≡ None → (IsOutside e (HasRisen 0 0) ⊎ (debug_information (shared s) ≡ Err (fault_of e))) → Fails (load_fault_of e) (answerable s)
+dbi_fails s e h read = rw (opened s h) (fails_on (load_fault_of e) _ (checked s) (loads_on e (debug_information (shared s)) (loaded_behind (shared s)) read))
 
-pub parts_fail : (s : Streams) (e : LoadFault) (dbi : Dbi) → s.open_fault ≡ None → debug_information s ≡ Ok dbi → Fails e (loaded_behind (shared s) dbi) → Fails e (answerable s)
+pub parts_fail : (s : Streams) (e : LoadFault) (dbi : Dbi) → s.open_fault ≡ None → debug_information (shared s) ≡ Ok dbi → Fails e (loaded_behind (shared s) dbi) → Fails e (answerable s)
 parts_fail s e dbi h read failed = rw (behind_dbi s dbi h read) (fails_on e (loaded_behind (shared s) dbi) (checked s) failed)
 
 -- the check fails
@@ -59,7 +60,7 @@ checks_alike : (b : Bool) (parts : Parts) (f : LoadingFault) → refuse b NotYet
 checks_alike true parts f e = ap (λ (t : LoadingFault). Err t) (some_is NotYet f (ap fault_in e))
 checks_alike false parts f e = absurd cc
 
-pub modules_are_ill : (s : Streams) (e : LoadFault) (dbi : Dbi) (parts : Parts) → s.open_fault ≡ None → debug_information s ≡ Ok dbi → loaded_behind (shared s) dbi ≡ Ok parts
+pub modules_are_ill : (s : Streams) (e : LoadFault) (dbi : Dbi) (parts : Parts) → s.open_fault ≡ None → debug_information (shared s) ≡ Ok dbi → loaded_behind (shared s) dbi ≡ Ok parts
     → Fails e (refuse (list_any (has_other_symbols s) parts.modules) NotYet) → Fails e (answerable s)
 modules_are_ill s faults.OutOfMemory dbi parts h read load failed = tt
 modules_are_ill s (faults.Pdb contexts.OutOfMemory) dbi parts h read load failed = failed
@@ -73,27 +74,16 @@ passes_alike : (b : Bool) (parts : Parts) (u : Unit {0}) → refuse b NotYet ≡
 passes_alike true parts u e = absurd cc
 passes_alike false parts u e = refl
 
-in_turn : {A B C : Type 0} (r : Result A Fault) (f : A → Result B Fault) (g : B → Result C Fault) → ((r >>= f) >>= g) ≡ (r >>= λ x. f x >>= g)
-in_turn (Ok x) f g = refl
-in_turn (Err e) f g = refl
-
--- a module's entry by its number
-module_listed : (s : Streams) (dbi : Dbi) (modules : List Module) (k : ℕ) → debug_information s ≡ Ok dbi → whole (modules_of dbi.modules) ≡ Ok modules → module_of_number (s.at 3) k ≡ Ok (slice_get modules k)
-unfolding module_of_number debug_information
-module_listed s dbi modules k h listed =
-    sym (in_turn (s.at 3) dbi_of (λ d. whole (modules_of d.modules) >>= λ found. Ok (slice_get found k))) ∙ rw (h, listed) refl
-
 -- what the file gives of a module, by its entry
 given : (s : Streams) (k : ℕ) (found : Option Module) → module_of_number (s.at 3) k ≡ Ok found → procedures (provider s k) ≡ list_or_none (option_map (λ entry. procedures (module_info s entry)) found)
-unfolding provider
-given s k None h = rw h refl
-given s k (Some m) h = rw h refl
+given s k None h = ap procedures (past_the_list s k h)
+given s k (Some m) h = ap procedures (provided s k m h)
 
 no_fault : (r : Result Parts LoadingFault) (t : Map × List ModuleSectionContribution) → tables r ≡ Ok t → fault_in r ≡ None
 no_fault (Ok parts) t h = refl
 no_fault (Err e) t h = absurd cc
 
-pub is_kept : (file : List ℕ) (dbi : Dbi) (parts : Parts) (kept : BTreeMap ℕ (List Procedure)) (u : Unit {0}) → (streams file).open_fault ≡ None → debug_information (streams file) ≡ Ok dbi
+pub is_kept : (file : List ℕ) (dbi : Dbi) (parts : Parts) (kept : BTreeMap ℕ (List Procedure)) (u : Unit {0}) → (streams file).open_fault ≡ None → debug_information (shared (streams file)) ≡ Ok dbi
     → loaded_behind (shared (streams file)) dbi ≡ Ok parts → whole (modules_of dbi.modules) ≡ Ok parts.modules → refuse (list_any (has_other_symbols (streams file)) parts.modules) NotYet ≡ Ok u
     → All (λ c. procedures_at kept c.«module» ≡ listed_procedures (streams file) parts.modules c.«module») parts.contributions
     → IsOrdered parts.map → IsKept file parts.map parts.contributions kept

@@ -4,18 +4,18 @@ use Rattle.std.specs.List.{flat_map}
 use Rattle.std.specs.Fmt.{decimal, digits, padded_integral, format_spec}
 use Rattle.std.specs.Str.Lossy.{utf8_lossy}
 use Rattle.pdb_container.specs.Fault.{Fault}
-use Rattle.pdb_container_types.specs.declared.internal_section_offset.PdbInternalSectionOffset.{PdbInternalSectionOffset}
+use Rattle.pdb_addresses.specs.declared.internal_section_offset.PdbInternalSectionOffset.{PdbInternalSectionOffset}
 use Rattle.pdb_report.specs.Address.{address_of}
 use Rattle.pdb_report.specs.Faults.{LoadingFault}
 use Rattle.pdb_symbols_modules.specs.Streams.{Streams}
-use Rattle.pdb_container_types.specs.Addresses.{Map, inner_place, outer_of_place}
-use Rattle.pdb_container_types.specs.Numbers.{in_32_bits}
-use Rattle.pdb_container_types.specs.Places.{internal_place}
+use Rattle.pdb_addresses.specs.Addresses.{Map, inner_place, outer_of_place}
+use Rattle.pdb_addresses.specs.Numbers.{in_32_bits}
+use Rattle.pdb_addresses.specs.Places.{internal_place}
 use Rattle.pdb_report.specs.declared.pdb_addr2line.contributions.ModuleSectionContribution.{ModuleSectionContribution}
 use Rattle.pdb_report.specs.Contributions.{holder}
 use Rattle.pdb_report.specs.Procedures.{Procedure, procedures, over}
 use Rattle.pdb_modules.specs.ModuleStream.{ModuleStream}
-use Rattle.pdb_report.specs.Shared.{Provider, provider}
+use Rattle.pdb_symbols_modules.specs.Shared.{Provider, provider}
 use Rattle.pdb_report.specs.Loading.{Parts, answerable}
 
 -- a function's name, and the file and line of an address in it; each may be missing

@@ -2,13 +2,13 @@
 use Rattle.std.specs.Prelude.{ℕ, ◌+◌, ◌-◌, ◌^◌, Bool, false, ◌&&◌, min, List, map, nat_lt, nat_le, ◌==◌, Option, None, Some, Result, Ok}
 use Rattle.std.specs.List.{filter, find}
 use Rattle.pdb_container.specs.Fault.{◌>>=◌}
-use Rattle.pdb_container_types.specs.declared.sections.ImageSectionHeader.{ImageSectionHeader}
-use Rattle.pdb_container_types.specs.declared.internal_section_offset.PdbInternalSectionOffset.{PdbInternalSectionOffset}
+use Rattle.pdb_addresses.specs.declared.sections.ImageSectionHeader.{ImageSectionHeader}
+use Rattle.pdb_addresses.specs.declared.internal_section_offset.PdbInternalSectionOffset.{PdbInternalSectionOffset}
 use Rattle.pdb_symbols_modules.specs.declared.contributions.DBISectionContribution.{DBISectionContribution}
 use Rattle.pdb_report.specs.declared.pdb_addr2line.contributions.ModuleSectionContribution.{ModuleSectionContribution}
 use Rattle.pdb_report.specs.Faults.{ContextFault, in_context}
 use Rattle.pdb_container.specs.Listing.{whole}
-use Rattle.pdb_container_types.specs.Sections.{section_at, may_execute}
+use Rattle.pdb_addresses.specs.Sections.{section_at, may_execute}
 use Rattle.pdb_symbols_modules.specs.Contributions.{contributions_of}
 
 abbrev pub executes_at : Option ImageSectionHeader → Bool

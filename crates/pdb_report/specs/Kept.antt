@@ -3,17 +3,17 @@ use Rattle.std.specs.Prelude.{◌≡◌, ℕ, List, [], Option, None, Some, opti
 use Rattle.std.specs.BTreeMap.{BTreeMap, get}
 use Rattle.std.specs.List.{All}
 use Rattle.std.specs.Ordering.{nat_cmp}
-use Rattle.pdb_container_types.specs.declared.internal_section_offset.PdbInternalSectionOffset.{PdbInternalSectionOffset}
+use Rattle.pdb_addresses.specs.declared.internal_section_offset.PdbInternalSectionOffset.{PdbInternalSectionOffset}
 use Rattle.pdb_report.specs.declared.pdb_addr2line.contributions.ModuleSectionContribution.{ModuleSectionContribution}
 use Rattle.pdb_report.specs.Faults.{LoadingFault}
 use Rattle.pdb_symbols_modules.specs.Streams.{Streams, streams}
 use Rattle.pdb_symbols_modules.specs.Modules.{Module}
 use Rattle.pdb_symbols_modules.specs.Opened.{module_info}
-use Rattle.pdb_container_types.specs.Addresses.{Map, inner_place, IsOrdered}
-use Rattle.pdb_container_types.specs.Places.{internal_place}
+use Rattle.pdb_addresses.specs.Addresses.{Map, inner_place, IsOrdered}
+use Rattle.pdb_addresses.specs.Places.{internal_place}
 use Rattle.pdb_report.specs.Contributions.{holder}
 use Rattle.pdb_report.specs.Procedures.{Procedure, procedures, over}
-use Rattle.pdb_report.specs.Shared.{provider}
+use Rattle.pdb_symbols_modules.specs.Shared.{provider}
 use Rattle.pdb_report.specs.Loading.{Parts, answerable}
 use Rattle.pdb_report.specs.Answers.{Answer, Nothing, found}
 

@@ -1,29 +1,27 @@
 -- What is read of a file before any question, and the fault that keeps it from being loaded.
-use Rattle.std.specs.Prelude.{◌≡◌, ℕ, Bool, ◌||◌, List, [], length, nat_lt, Option, None, Some, option_map, if◌then◌else◌, Result, Ok, Err}
+use Rattle.std.specs.Prelude.{◌≡◌, ℕ, Bool, not, ◌||◌, List, length, nat_lt, Option, None, Some, option_map, Result, Ok, Err}
 use Rattle.std.specs.List.{list_any}
-use Rattle.pdb_container.specs.Fault.{Fault, GlobalSymbolsNotFound, ◌>>=◌, refuse, guard}
-use Rattle.pdb_container_types.specs.declared.sections.ImageSectionHeader.{ImageSectionHeader}
+use Rattle.pdb_container.specs.Fault.{Fault, ◌>>=◌, refuse}
 use Rattle.pdb_report.specs.declared.pdb_addr2line.contributions.ModuleSectionContribution.{ModuleSectionContribution}
 use Rattle.pdb_report.specs.declared.fault.LoadFault.{LoadFault}
 use Rattle.pdb_report.specs.declared.fault.LoadFault.TheVariants as faults
 use Rattle.pdb_report.specs.declared.pdb_addr2line.Error.TheVariants as contexts
 use Rattle.pdb_container.specs.declared.error.Error.TheVariants as errors
-use Rattle.pdb_report.specs.Faults.{LoadingFault, NotYet, lifted, in_loading, loading_fault_of}
+use Rattle.pdb_report.specs.Faults.{LoadingFault, NotYet, AddressTableDecreases, lifted, in_loading, loading_fault_of}
 use Rattle.pdb_symbols_modules.specs.Streams.{Streams, fault_in, stream_if_named}
-use Rattle.pdb_symbols_modules.specs.Dbi.{Dbi, dbi_of}
+use Rattle.pdb_symbols_modules.specs.Dbi.{Dbi}
 use Rattle.pdb_symbols_modules.specs.Modules.{Module, modules_of}
-use Rattle.pdb_symbols_modules.specs.OptionalHeader.{optional_at, to_source_place, from_source_place, sections_place, original_sections_place}
-use Rattle.pdb_container_types.specs.Addresses.{Map, map_of}
-use Rattle.pdb_container_types.specs.Sections.{section_headers_of}
-use Rattle.pdb_items.specs.Items.{table_of}
+use Rattle.pdb_symbols_modules.specs.OptionalHeader.{optional_at, to_source_place, from_source_place, original_sections_place}
+use Rattle.pdb_addresses.specs.Addresses.{Map, is_ordered}
 use Rattle.pdb_container.specs.Listing.{Listing, whole}
 use Rattle.pdb_symbols.specs.Kinds.{is_public}
 use Rattle.pdb_symbols.specs.Symbols.{Symbol, kind_of, symbols_from}
 use Rattle.pdb_modules.specs.ModuleStream.{ModuleStream}
-use Rattle.pdb_symbols_modules.specs.Opened.{module_info}
+use Rattle.pdb_symbols_modules.specs.AddressTables.{address_map_by}
+use Rattle.pdb_symbols_modules.specs.Opened.{debug_information, types, ids, global_symbols_by, module_info}
+use Rattle.pdb_symbols_modules.specs.Shared.{Shared, shared, optional_in}
 use Rattle.pdb_report.specs.Contributions.{held_of}
 use Rattle.pdb_report.specs.Procedures.{own_symbols, has_other}
-use Rattle.pdb_report.specs.Shared.{Bytes, Shared, shared}
 
 -- what every question goes over
 pub record Parts : Type 0 where
@@ -39,12 +37,6 @@ abbrev pub none_or : Option Fault → Result (Unit {0}) Fault
 none_or None = Ok tt
 none_or (Some e) = Err e
 
--- the symbol records, in the stream that a number names, of which a file has to have one
-unfoldable pub symbol_records_in : ℕ → Bytes → Bytes
-symbol_records_in n symbols = do
-  named ← guard (nat_lt n 65535) GlobalSymbolsNotFound
-  symbols
-
 -- a number that names a stream
 abbrev pub is_named : ℕ → Bool
 is_named n = nat_lt n 65535
@@ -57,17 +49,13 @@ unmapped optional_header = do
   original ← lifted (optional_at original_sections_place optional_header)
   refuse (is_named to_source || is_named from_source || is_named original) NotYet
 
--- the section headers of the stream that a number names; no stream is no sections
-unfoldable pub sections_in : ℕ → Bytes → Result (List ImageSectionHeader) Fault
-sections_in n headers = if nat_lt n 65535 then headers >>= section_headers_of else Ok []
-
--- The address tables: the optional header, and the section headers.
-unfoldable pub address_tables : List ℕ → Bytes → Result Map LoadingFault
-address_tables optional_header headers = do
-  plain ← unmapped optional_header
-  image ← lifted (optional_at sections_place optional_header)
-  sections ← lifted (sections_in image headers)
-  Ok (map_of None sections None None)
+-- The address tables, which may not decrease.
+unfoldable pub address_tables : Shared → Dbi → Result Map LoadingFault
+address_tables c dbi = do
+  plain ← unmapped dbi.optional_header
+  map ← lifted (address_map_by (optional_in c dbi))
+  ordered ← refuse (not (is_ordered map)) AddressTableDecreases
+  Ok map
 
 -- a public symbol
 abbrev pub is_public_symbol : Symbol → Bool
@@ -87,10 +75,10 @@ has_lines m = nat_lt 0 m.c11_lines_size || nat_lt 0 m.c13_lines_size
 -- line data aren't answered yet.
 unfoldable pub loaded_behind : Shared → Dbi → Result Parts LoadingFault
 loaded_behind c dbi = do
-  symbol_bytes ← lifted (symbol_records_in dbi.symbol_records_stream c.symbols)
-  types ← lifted (c.types >>= table_of)
-  ids ← lifted (c.ids >>= table_of)
-  map ← address_tables dbi.optional_header c.section_headers
+  symbol_bytes ← lifted (global_symbols_by dbi.symbol_records_stream c.symbols)
+  types ← lifted (types c)
+  ids ← lifted (ids c)
+  map ← address_tables c dbi
   modules ← lifted (whole (modules_of dbi.modules))
   public ← lifted (has_public (symbols_from symbol_bytes 0))
   contributions ← in_loading (held_of map.image dbi.contributions)
@@ -101,7 +89,7 @@ loaded_behind c dbi = do
 unfoldable pub loaded : Shared → Result Parts LoadingFault
 loaded c = do
   opened ← lifted (none_or c.open_fault)
-  dbi ← lifted (c.dbi >>= dbi_of)
+  dbi ← lifted (debug_information c)
   loaded_behind c dbi
 
 -- where a module's symbols are: the number of its stream, and their size

@@ -4,7 +4,7 @@ use Rattle.std.specs.List.{list_any}
 use Rattle.std.specs.declared.cmp.Ordering.{Ordering}
 use Rattle.std.specs.Ordering.{nat_cmp, ordering_then}
 use Rattle.pdb_container.specs.Fault.{Fault, ◌>>=◌}
-use Rattle.pdb_container_types.specs.declared.internal_section_offset.PdbInternalSectionOffset.{PdbInternalSectionOffset}
+use Rattle.pdb_addresses.specs.declared.internal_section_offset.PdbInternalSectionOffset.{PdbInternalSectionOffset}
 use Rattle.pdb_container.specs.Listing.{whole}
 use Rattle.pdb_symbols.specs.Forms as forms
 use Rattle.pdb_symbols.specs.Forms.{SymbolForm, ProcedureForm}

@@ -1,7 +1,7 @@
 //! What is read of the modules' own streams: whether some symbol isn't answered yet, and the procedures of those modules
 //! that hold something.
 
-ghost use Rattle.std.specs.Prelude.{◌≡◌, ℕ, Bool, IfOk, OnOk, IfSome, IsSome, Ok, [], ◌≤◌, ◌<◌, length, map, take};
+ghost use Rattle.std.specs.Prelude.{◌≡◌, ℕ, Bool, IfOk, OnOk, IfSome, IsSome, Ok, [], map};
 ghost use Rattle.std.specs.BTreeMap.{get};
 ghost use Rattle.std.specs.List.{All, list_any};
 ghost use Rattle.std.specs.Ordering.{nat_cmp};
@@ -9,7 +9,7 @@ ghost use Rattle.pdb_container.specs.Fault.{Gives, refuse};
 ghost use Rattle.pdb_container.specs.Listing.{whole};
 ghost use Rattle.pdb_report.specs.Faults.{Loads, NotYet};
 ghost use Rattle.pdb_report.specs.Kept.{procedures_at, listed_procedures};
-ghost use Rattle.pdb_report.specs.Loading.{symbols_place, with_symbols, if_read, has_others_at, has_other_symbols as has_others};
+ghost use Rattle.pdb_report.specs.Loading.{symbols_place, if_read, has_others_at, has_other_symbols as has_others};
 ghost use Rattle.pdb_report.specs.Procedures.{symbols_in, procedures as procedures_by, procedures_of as procedures_among, has_other};
 ghost use Rattle.pdb_symbols.specs.Iteration.{symbols_left};
 ghost use Rattle.pdb_symbols_modules.specs.Opened.{module_info};
@@ -97,24 +97,6 @@ fn check_info(alloc: Global, info: &ModuleInfo<'_>) -> std::result::Result<(), L
     }
 }
 
-/// `NotYet` where a stream, whose first bytes are symbols, holds one that isn't answered yet, for one of several sizes.
-#[tactic(auto, using(crate::proofs::ModuleSteps::refused_more, crate::proofs::ModuleSteps::refused_all, crate::proofs::ModuleSteps::refused_fail))]
-fn check_sizes(
-    alloc: Global,
-    stream: Stream<'static>,
-    places: &[(u16, u32)],
-) -> std::result::Result<(), LoadFault>
-    ensures { Loads (λ _. tt) result (refuse (list_any (λ p. has_other (symbols_in (with_symbols p.1 stream.entry))) places.now) NotYet) }
-{
-    let mut stream = stream;
-    for place in places {
-        let info = ModuleInfo::new(stream, place.1, 0, 0);
-        check_info(alloc, &info)?;
-        stream = info.into_stream();
-    }
-    Ok(())
-}
-
 /// The stream of a number, where that names one that can be read.
 #[tactic(auto, using(crate::proofs::Lifting::given_in_memory))]
 fn read_stream(
@@ -132,45 +114,23 @@ fn read_stream(
     }
 }
 
-/// The same of the stream of a number, which is read once; nothing where it can't be read.
-#[tactic(auto, using(crate::proofs::ModuleSteps::none_there, crate::proofs::ModuleSteps::some_there))]
-fn check_stream(
+/// `NotYet` where the symbols at a place, if they can be read to their end, hold one that isn't answered yet.
+fn check_place(
     pdb: &mut Database,
     alloc: Global,
-    number: u16,
-    places: &[(u16, u32)],
+    place: (u16, u32),
 ) -> std::result::Result<(), LoadFault>
     ensures same { pdb.new.items ≡ pdb.old.items }
-    ensures exact { Loads (λ _. tt) result (refuse (list_any (λ p. has_others_at (streams pdb.old.items) (number, p.1)) places.now) NotYet) }
+    ensures exact { Loads (λ _. tt) result (refuse (has_others_at (streams pdb.old.items) place) NotYet) }
 {
-    match read_stream(pdb, alloc, number)? {
+    match read_stream(pdb, alloc, place.0)? {
         None => Ok(()),
-        Some(stream) => check_sizes(alloc, stream, places),
+        Some(stream) => check_info(alloc, &ModuleInfo::new(stream, place.1, 0, 0)),
     }
 }
 
-/// How many of the first places are in the stream in which the first one is.
-#[tactic(auto, using(crate::proofs::ModuleSteps::alike_more))]
-fn count_in(places: &[(u16, u32)], number: u16) -> usize
-    requires some { 0 < length places.now }
-    requires first { All (λ p. p.0 ≡ number) (take 1 places.now) }
-    ensures some { 0 < result }
-    ensures few { result ≤ length places.now }
-    ensures alike { All (λ p. p.0 ≡ number) (take result places.now) }
-{
-    let mut count = 1;
-    while count < places.len() {
-        if places[count].0 != number {
-            return count;
-        }
-        count += 1;
-    }
-    count
-}
-
-/// `NotYet` where some symbol at these places isn't answered yet. Those of one stream, one behind the other, are looked at
-/// together.
-#[tactic(auto, using(crate::proofs::ModuleSteps::first_alike, crate::proofs::ModuleSteps::streams_more, crate::proofs::ModuleSteps::streams_fail))]
+/// The same of several places, one after the other.
+#[tactic(auto, using(crate::proofs::ModuleSteps::refused_more, crate::proofs::ModuleSteps::refused_all, crate::proofs::ModuleSteps::refused_fail))]
 fn check_places(
     pdb: &mut Database,
     alloc: Global,
@@ -179,14 +139,8 @@ fn check_places(
     ensures same { pdb.new.items ≡ pdb.old.items }
     ensures exact { Loads (λ _. tt) result (refuse (list_any (has_others_at (streams pdb.old.items)) places.now) NotYet) }
 {
-    let mut rest = places;
-    while !rest.is_empty() {
-        let number = rest[0].0;
-        let (group, behind) = rest.split_at(count_in(rest, number));
-        match check_stream(pdb, alloc, number, group) {
-            Ok(()) => rest = behind,
-            Err(fault) => return Err(fault),
-        }
+    for place in places {
+        check_place(pdb, alloc, *place)?;
     }
     Ok(())
 }
@@ -208,7 +162,7 @@ fn all_places(
     entries.iter().map(|entry| place_of(entry)).collect(alloc)
 }
 
-/// Where the modules' symbols are, each place once, in the order of their streams.
+/// Where the modules' symbols are, each place once.
 #[tactic(auto, using(crate::proofs::ModuleSteps::places_alike))]
 fn places_in_order(
     alloc: Global,
@@ -222,8 +176,8 @@ fn places_in_order(
     Ok(places)
 }
 
-/// `NotYet` where some module whose symbols can be read to their end has one that isn't answered yet. Each stream is read
-/// once, however many modules name it.
+/// `NotYet` where some module whose symbols can be read to their end has one that isn't answered yet. However many modules
+/// name a stream, it is read once for each size of its symbols, and none is kept.
 #[tactic(auto, using(crate::proofs::ModuleSteps::modules_at_places))]
 pub fn check_modules(
     pdb: &mut Database,

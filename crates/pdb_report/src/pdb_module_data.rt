@@ -2,11 +2,11 @@
 
 ghost use Rattle.std.specs.Prelude.{◌≡◌, ℕ, ◌∷◌, [], IfOk, OnOk, Ok, option_map};
 ghost use Rattle.std.specs.BTreeSet.{contains};
-ghost use Rattle.pdb_container_types.specs.declared.internal_section_offset.PdbInternalSectionOffset.{PdbInternalSectionOffset};
+ghost use Rattle.pdb_addresses.specs.declared.internal_section_offset.PdbInternalSectionOffset.{PdbInternalSectionOffset};
 ghost use Rattle.pdb_symbols.specs.Forms.{procedure_form};
 ghost use Rattle.pdb_report.specs.Procedures.{procedure_of, place_cmp, has_start, with_code as with_code_of, onto_new, procedures_behind, contains as contains_place, later as later_of, over as over_of, is_other as is_other_symbol, has_type as has_type_of, end_in, is_inside as is_inside_of, has_other};
 
-use pdb_container_types::PdbInternalSectionOffset;
+use pdb_addresses::PdbInternalSectionOffset;
 use pdb_symbols::kinds::{is_inline_site, is_procedure, is_separated_code, is_thunk};
 use pdb_symbols::{ProcedureSymbol, Symbol, SymbolData};
 use std::alloc::{AllocError, Global};

@@ -1,7 +1,7 @@
 //! A file that was loaded, and the text that answers a line.
 
 ghost use Rattle.std.specs.Prelude.{◌≡◌, IfOk, OnOk, IfErr, None, Some, string_bytes};
-ghost use Rattle.pdb_container_types.specs.Addresses.{IsOrdered};
+ghost use Rattle.pdb_addresses.specs.Addresses.{IsOrdered};
 ghost use Rattle.pdb_report.specs.Faults.{Fails};
 ghost use Rattle.pdb_report.specs.Loading.{answerable, load_fault, Refuses};
 ghost use Rattle.pdb_symbols_modules.specs.Streams.{streams};
@@ -17,7 +17,7 @@ use crate::modules::{ModuleProcedures, check_modules, read_modules};
 use crate::pdb_addr2line::contributions::{ModuleSectionContribution, holder};
 use crate::pdb_addr2line::frames::{FunctionFrames, append_answer, procedure_frames};
 use crate::pdb_module_data::{Procedure, over};
-use pdb_container_types::{AddressMap, Rva};
+use pdb_addresses::{AddressMap, Rva};
 use pdb_symbols_modules::PDB;
 use std::alloc::{AllocError, Global};
 use std::collections::BTreeMap;

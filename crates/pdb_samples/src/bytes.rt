@@ -31,22 +31,20 @@ pub fn words(alloc: Global, values: &[u32]) -> Result<Vec<u8>> {
     Ok(bytes)
 }
 
-pub(crate) fn copy(alloc: Global, bytes: &Vec<u8>) -> Result<Vec<u8>> {
-    Ok(Vec::from_slice(alloc, bytes.as_slice())?)
-}
-
-/// Appends zero bytes up to the next multiple of four.
-pub(crate) fn pad_to_four(bytes: &mut Vec<u8>) -> Result<()> {
-    let over = bytes.len() % 4;
-    if over != 0 {
-        bytes.extend_from_slice(&[0, 0, 0][..4 - over])?;
+/// Appends zero bytes up to the next multiple of `unit`, which is none of 0.
+pub(crate) fn pad_to(bytes: &mut Vec<u8>, unit: usize) -> Result<()> {
+    if unit == 0 {
+        return Err(SampleError::DoesNotFit);
     }
+    let whole = bytes.len().checked_next_multiple_of(unit);
+    bytes.resize(whole.ok_or(SampleError::DoesNotFit)?, 0)?;
     Ok(())
 }
 
-/// How many bytes there are, as the format says it.
-pub(crate) fn size(bytes: &Vec<u8>) -> Result<u32> {
-    Ok(u32::try_from(bytes.len())?)
+/// Writes, as the number at `at`, how many bytes there are from `start` on.
+pub(crate) fn write_size(bytes: &mut Vec<u8>, at: usize, start: usize) -> Result<()> {
+    let size = u32::try_from(bytes.len().saturating_sub(start))?;
+    overwrite(bytes.as_mut_slice(), at, &size.to_le_bytes())
 }
 
 /// Writes `part` over the bytes that begin at `at`.

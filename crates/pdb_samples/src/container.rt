@@ -1,6 +1,6 @@
 ghost use Rattle.std.specs.Prelude.{◌<◌, IfOk};
 
-use crate::bytes::{overwrite, push_u32, size, words};
+use crate::bytes::{overwrite, pad_to, push_u32};
 use crate::error::{Result, SampleError};
 use std::alloc::Global;
 
@@ -22,7 +22,7 @@ pub struct Container {
 }
 
 /// In which order the pages lie: list pages, then directory pages, then the streams' pages.
-#[derive(Debug, Clone, Copy, PartialEq, Eq)]
+#[derive(Clone, Copy)]
 pub enum PageOrder {
     /// All in the order in which they are read.
     Natural,
@@ -30,72 +30,50 @@ pub enum PageOrder {
     DirectoryReversed,
     /// The streams' pages from the last page of the last stream to the first of the first.
     StreamsReversed,
+    /// All from the last to the first.
+    AllReversed,
     /// The pages of the stream of this number behind those of all others.
     StreamLast(usize),
 }
 
-/// The numbers of the pages of each part, in the order in which they are read.
-#[derive(Drop)]
-pub struct PageNumbers {
-    pub list: Vec<u32>,
-    pub directory: Vec<u32>,
-    /// Those of all streams, one stream after the other.
-    pub streams: Vec<u32>,
+/// The last page of each part, counted from 1 in the order in which pages are read, and which of them lie elsewhere.
+#[derive(Clone, Copy)]
+struct Layout {
+    list: u32,
+    directory: u32,
+    streams: u32,
+    /// The pages behind the first of these two up to the second lie in another order.
+    moved: (u32, u32),
+    /// They lie behind all others, and not from their last to their first.
+    is_last: bool,
 }
 
-impl PageNumbers {
-    /// The highest page number.
-    pub fn last(&self) -> u32 {
-        let list = self.list.iter().copied().max().unwrap_or(0);
-        let directory = self.directory.iter().copied().max().unwrap_or(0);
-        let streams = self.streams.iter().copied().max().unwrap_or(0);
-        list.max(directory).max(streams)
+impl Layout {
+    /// The number of the page that is read at a place, counted from 1.
+    fn number(&self, place: u32) -> u32 {
+        let (before, end) = self.moved;
+        if place <= before || !self.is_last && end < place {
+            return place;
+        }
+        if end < place {
+            return place.saturating_sub(end.saturating_sub(before));
+        }
+        if self.is_last {
+            return place.saturating_add(self.streams.saturating_sub(end));
+        }
+        before.saturating_add(end - place).saturating_add(1)
     }
 }
 
 impl Container {
     /// The bytes of the file.
     pub fn bytes(&self, alloc: Global) -> Result<Vec<u8>> {
-        let pages = self.page_numbers(alloc)?;
-        self.bytes_at(alloc, &pages)
-    }
-
-    /// The bytes of the file with its parts at other pages than its order says.
-    pub fn bytes_at(&self, alloc: Global, pages: &PageNumbers) -> Result<Vec<u8>> {
-        let list = words(alloc, pages.directory.as_slice())?;
-        let directory = self.directory(alloc, pages)?;
-        let content = self.content(alloc)?;
-        let mut file = self.header(alloc, size(&directory)?, pages)?;
-        let end = self
-            .page_start(pages.last())
-            .saturating_add(self.page_bytes()?);
-        file.resize(end.max(FIRST_VIEW), 0)?;
-        self.place(&mut file, &pages.list, &list)?;
-        self.place(&mut file, &pages.directory, &directory)?;
-        self.place(&mut file, &pages.streams, &content)?;
+        let layout = self.layout()?;
+        let mut natural = Vec::new(alloc);
+        self.push_parts(&mut natural, &layout)?;
+        let mut file = Vec::new(alloc);
+        self.arrange(&mut file, natural.as_slice(), &layout)?;
         Ok(file)
-    }
-
-    /// The pages that the container's order gives to its parts, numbered from 1.
-    pub fn page_numbers(&self, alloc: Global) -> Result<PageNumbers> {
-        let owners = self.page_owners(alloc)?;
-        let count = self.streams.len().saturating_add(owners.len());
-        let directory_count = self.pages_of(count.saturating_add(1).saturating_mul(4))?;
-        let list_count = self.pages_of(directory_count.saturating_mul(4))?;
-        let mut next = 1;
-        let list = numbers(alloc, &mut next, list_count)?;
-        let mut directory = numbers(alloc, &mut next, directory_count)?;
-        let mut streams = self.stream_numbers(alloc, next, &owners)?;
-        match self.order {
-            PageOrder::DirectoryReversed => directory.reverse(),
-            PageOrder::StreamsReversed => streams.reverse(),
-            PageOrder::Natural | PageOrder::StreamLast(_) => {}
-        }
-        Ok(PageNumbers {
-            list,
-            directory,
-            streams,
-        })
     }
 
     /// Writes over bytes of a stream.
@@ -104,11 +82,6 @@ impl Container {
             Some(Some(bytes)) => overwrite(bytes.as_mut_slice(), at, part),
             _ => Err(SampleError::DoesNotFit),
         }
-    }
-
-    /// The first byte of a page.
-    pub fn page_start(&self, number: u32) -> usize {
-        (number as usize).saturating_mul(self.page_size as usize)
     }
 
     fn page_bytes(&self) -> Result<usize>
@@ -121,95 +94,112 @@ impl Container {
     }
 
     /// How many pages hold so many bytes.
-    fn pages_of(&self, length: usize) -> Result<usize> {
-        Ok(length.div_ceil(self.page_bytes()?))
+    fn pages_of(&self, length: usize) -> Result<u32> {
+        Ok(u32::try_from(length.div_ceil(self.page_bytes()?))?)
     }
 
-    /// The stream of each stream page, in the order in which they are read.
-    fn page_owners(&self, alloc: Global) -> Result<Vec<usize>> {
-        let mut owners = Vec::new(alloc);
-        for (number, stream) in self.streams.iter().enumerate() {
-            if let Some(bytes) = stream {
-                for _ in 0..self.pages_of(bytes.len())? {
-                    owners.push(number)?;
-                }
-            }
+    /// How many pages the streams before this number take.
+    fn pages_before(&self, number: usize) -> Result<u32> {
+        let mut count = 0u32;
+        for bytes in self.streams.iter().take(number).flatten() {
+            count = count.saturating_add(self.pages_of(bytes.len())?);
         }
-        Ok(owners)
+        Ok(count)
     }
 
-    fn stream_numbers(&self, alloc: Global, first: u32, owners: &Vec<usize>) -> Result<Vec<u32>> {
-        let last = match self.order {
-            PageOrder::StreamLast(stream) => Some(stream),
-            _ => None,
+    /// The directory's size in bytes.
+    fn directory_size(&self, pages: u32) -> usize {
+        let count = self.streams.len().saturating_add(pages as usize);
+        count.saturating_add(1).saturating_mul(4)
+    }
+
+    fn layout(&self) -> Result<Layout> {
+        let pages = self.pages_before(usize::MAX)?;
+        let directory_pages = self.pages_of(self.directory_size(pages))?;
+        let list = self.pages_of((directory_pages as usize).saturating_mul(4))?;
+        let directory = list.saturating_add(directory_pages);
+        let streams = directory.saturating_add(pages);
+        let mut layout = Layout {
+            list,
+            directory,
+            streams,
+            moved: (0, 0),
+            is_last: false,
         };
-        let mut next = first;
-        let mut pages = vec![in alloc; 0u32; owners.len()]?;
-        for is_last in [false, true] {
-            for (page, owner) in pages.iter_mut().zip(owners.iter()) {
-                if (last == Some(*owner)) == is_last {
-                    *page = next;
-                    next = next.checked_add(1).ok_or(SampleError::DoesNotFit)?;
-                }
+        match self.order {
+            PageOrder::Natural => {}
+            PageOrder::DirectoryReversed => layout.moved = (list, directory),
+            PageOrder::StreamsReversed => layout.moved = (directory, streams),
+            PageOrder::AllReversed => layout.moved = (0, streams),
+            PageOrder::StreamLast(number) => {
+                let before = directory.saturating_add(self.pages_before(number)?);
+                let end = directory.saturating_add(self.pages_before(number.saturating_add(1))?);
+                layout.moved = (before, end);
+                layout.is_last = true;
             }
         }
-        Ok(pages)
+        Ok(layout)
     }
 
-    fn header(&self, alloc: Global, directory: u32, pages: &PageNumbers) -> Result<Vec<u8>> {
-        let mut header = Vec::from_slice(alloc, MAGIC)?;
-        push_u32(
-            &mut header,
-            &[self.page_size, 0, pages.last(), directory, 0],
-        )?;
-        push_u32(&mut header, pages.list.as_slice())?;
-        if header.len() > self.page_bytes()? {
+    /// Appends the header and the parts in the order in which they are read, each filled up to whole pages.
+    fn push_parts(&self, file: &mut Vec<u8>, layout: &Layout) -> Result<()> {
+        self.push_header(file, layout)?;
+        push_numbers(file, layout, layout.list, layout.directory)?;
+        pad_to(file, self.page_bytes()?)?;
+        self.push_directory(file)?;
+        push_numbers(file, layout, layout.directory, layout.streams)?;
+        pad_to(file, self.page_bytes()?)?;
+        for bytes in self.streams.iter().flatten() {
+            file.extend_from_slice(bytes.as_slice())?;
+            pad_to(file, self.page_bytes()?)?;
+        }
+        Ok(())
+    }
+
+    /// Appends the header, which fits into a page.
+    fn push_header(&self, file: &mut Vec<u8>, layout: &Layout) -> Result<()> {
+        let pages = layout.streams.saturating_sub(layout.directory);
+        let directory = u32::try_from(self.directory_size(pages))?;
+        file.extend_from_slice(MAGIC)?;
+        push_u32(file, &[self.page_size, 0, layout.streams, directory, 0])?;
+        push_numbers(file, layout, 0, layout.list)?;
+        if file.len() > self.page_bytes()? {
             return Err(SampleError::DoesNotFit);
         }
-        Ok(header)
+        pad_to(file, self.page_bytes()?)
     }
 
-    /// The count of the streams, their sizes and the numbers of their pages.
-    fn directory(&self, alloc: Global, pages: &PageNumbers) -> Result<Vec<u8>> {
-        let mut directory = words(alloc, &[u32::try_from(self.streams.len())?])?;
+    /// Appends the count of the streams and their sizes.
+    fn push_directory(&self, file: &mut Vec<u8>) -> Result<()> {
+        push_u32(file, &[u32::try_from(self.streams.len())?])?;
         for stream in &self.streams {
             let size = match stream {
-                Some(bytes) => size(bytes)?,
+                Some(bytes) => u32::try_from(bytes.len())?,
                 None => ABSENT,
             };
-            push_u32(&mut directory, &[size])?;
+            push_u32(file, &[size])?;
         }
-        push_u32(&mut directory, pages.streams.as_slice())?;
-        Ok(directory)
+        Ok(())
     }
 
-    /// The streams' bytes, each filled up to whole pages.
-    fn content(&self, alloc: Global) -> Result<Vec<u8>> {
-        let mut content = Vec::new(alloc);
-        for bytes in self.streams.iter().flatten() {
-            content.extend_from_slice(bytes.as_slice())?;
-            let whole = content.len().checked_next_multiple_of(self.page_bytes()?);
-            content.resize(whole.ok_or(SampleError::DoesNotFit)?, 0)?;
-        }
-        Ok(content)
-    }
-
-    /// Writes a part's bytes into the pages of these numbers.
-    fn place(&self, file: &mut Vec<u8>, pages: &Vec<u32>, part: &Vec<u8>) -> Result<()> {
+    /// Writes each page to where it lies.
+    fn arrange(&self, file: &mut Vec<u8>, natural: &[u8], layout: &Layout) -> Result<()> {
         let size = self.page_bytes()?;
-        for (page, bytes) in pages.iter().zip(part.as_slice().chunks(size)) {
-            overwrite(file.as_mut_slice(), self.page_start(*page), bytes)?;
+        file.resize(natural.len().max(FIRST_VIEW), 0)?;
+        let mut place = 0u32;
+        for page in natural.chunks(size) {
+            let at = (layout.number(place) as usize).saturating_mul(size);
+            overwrite(file.as_mut_slice(), at, page)?;
+            place = place.saturating_add(1);
         }
         Ok(())
     }
 }
 
-/// The next page numbers.
-fn numbers(alloc: Global, next: &mut u32, count: usize) -> Result<Vec<u32>> {
-    let mut pages = Vec::new(alloc);
-    for _ in 0..count {
-        pages.push(*next)?;
-        *next = next.checked_add(1).ok_or(SampleError::DoesNotFit)?;
+/// Appends the numbers of the pages behind one up to another.
+fn push_numbers(file: &mut Vec<u8>, layout: &Layout, before: u32, end: u32) -> Result<()> {
+    for place in before..end {
+        push_u32(file, &[layout.number(place.saturating_add(1))])?;
     }
-    Ok(pages)
+    Ok(())
 }

@@ -1,4 +1,4 @@
-use crate::bytes::{copy, push_text, push_u16, push_u32, size, words};
+use crate::bytes::{push_text, push_u16, push_u32, write_size};
 use crate::container::{Container, PageOrder};
 use crate::debug_information::{DebugInformation, Module, Section};
 use crate::error::{Result, SampleError};
@@ -13,6 +13,12 @@ const INFORMATION_VERSION: u32 = 20000404;
 const ITEM_VERSION: u32 = 20040203;
 
 const NAMES_SIGNATURE: u32 = 0xeffe_effe;
+
+/// The name of the names table.
+const NAMES: &[u8] = b"/names";
+
+/// The streams of a file, and `None` for an absent one.
+type Streams = Vec<Option<Vec<u8>>>;
 
 /// A program database. Behind the first seven streams lie those of the modules that have one, the
 /// names table if there is one, and the further streams.
@@ -77,44 +83,49 @@ impl ItemTable {
         Ok(())
     }
 
-    fn bytes(&self, alloc: Global) -> Result<Vec<u8>> {
-        let mut bytes = words(alloc, &[ITEM_VERSION, 56, self.minimum, self.maximum])?;
-        push_u32(&mut bytes, &[size(&self.records)?])?;
-        push_u32(&mut bytes, &[0xffff_ffff, 4, 0x3_ffff, 0, 0, 0, 0, 0, 0])?;
+    fn push_stream(&self, bytes: &mut Vec<u8>) -> Result<()> {
+        let size = u32::try_from(self.records.len())?;
+        push_u32(bytes, &[ITEM_VERSION, 56, self.minimum, self.maximum, size])?;
+        push_u32(bytes, &[0xffff_ffff, 4, 0x3_ffff, 0, 0, 0, 0, 0, 0])?;
         bytes.extend_from_slice(self.records.as_slice())?;
-        Ok(bytes)
+        Ok(())
     }
 }
 
 impl Information {
-    /// The bytes of the stream, with the number of the names table first.
-    fn bytes(&self, alloc: Global, names: Option<u32>) -> Result<Vec<u8>> {
-        let mut block = Vec::new(alloc);
-        let mut pairs = Vec::new(alloc);
-        let mut count = 0u32;
-        if let Some(stream) = names {
-            push_name(&mut block, &mut pairs, b"/names", stream)?;
-            count = 1;
+    /// Writes the stream into an empty list of bytes; the number of the names table comes first.
+    fn push_stream(&self, bytes: &mut Vec<u8>, names: Option<u32>) -> Result<()> {
+        push_u32(bytes, &[INFORMATION_VERSION, self.signature, self.age])?;
+        bytes.extend_from_slice(&self.guid)?;
+        push_u32(bytes, &[0])?;
+        let start = bytes.len();
+        if names.is_some() {
+            push_text(bytes, NAMES)?;
         }
         for named in &self.named_streams {
-            push_name(&mut block, &mut pairs, named.name.as_slice(), named.stream)?;
-            count = count.saturating_add(1);
+            push_text(bytes, named.name.as_slice())?;
         }
-        let present = 1u32.checked_shl(count).ok_or(SampleError::DoesNotFit)? - 1;
-        let mut bytes = words(alloc, &[INFORMATION_VERSION, self.signature, self.age])?;
-        bytes.extend_from_slice(&self.guid)?;
-        push_u32(&mut bytes, &[size(&block)?])?;
-        bytes.append(&mut block)?;
-        push_u32(&mut bytes, &[count, 32, 1, present, 0])?;
-        bytes.append(&mut pairs)?;
-        Ok(bytes)
+        write_size(bytes, start.saturating_sub(4), start)?;
+        self.push_pairs(bytes, names)
     }
-}
 
-/// Appends a name to the block of names, and its offset and its stream's number to the pairs.
-fn push_name(block: &mut Vec<u8>, pairs: &mut Vec<u8>, name: &[u8], stream: u32) -> Result<()> {
-    push_u32(pairs, &[size(block)?, stream])?;
-    push_text(block, name)
+    /// Appends the hash table of the names: where each begins and the number of its stream.
+    fn push_pairs(&self, bytes: &mut Vec<u8>, names: Option<u32>) -> Result<()> {
+        let named = u32::try_from(self.named_streams.len())?;
+        let count = named.saturating_add(u32::from(names.is_some()));
+        let present = 1u32.checked_shl(count).ok_or(SampleError::DoesNotFit)? - 1;
+        push_u32(bytes, &[count, 32, 1, present, 0])?;
+        let mut offset = 0usize;
+        if let Some(stream) = names {
+            push_u32(bytes, &[0, stream])?;
+            offset = NAMES.len() + 1;
+        }
+        for named in &self.named_streams {
+            push_u32(bytes, &[u32::try_from(offset)?, named.stream])?;
+            offset = offset.saturating_add(named.name.len()).saturating_add(1);
+        }
+        Ok(())
+    }
 }
 
 impl ProgramDatabase {
@@ -125,33 +136,11 @@ impl ProgramDatabase {
 
     /// The file's streams.
     pub fn container(&self, alloc: Global) -> Result<Container> {
-        let names = self.names_stream()?;
-        let mut headers = Vec::new(alloc);
-        for section in &self.sections {
-            section.push(&mut headers)?;
-        }
         let mut streams = Vec::new(alloc);
-        streams.push(Some(Vec::new(alloc)))?;
-        streams.push(Some(self.information.bytes(alloc, names)?))?;
-        streams.push(Some(self.types.bytes(alloc)?))?;
-        streams.push(Some(self.debug.bytes(alloc, &self.modules, FIRST_MODULE_STREAM)?))?;
-        streams.push(Some(self.ids.bytes(alloc)?))?;
-        streams.push(Some(copy(alloc, &self.symbol_records)?))?;
-        streams.push(Some(headers))?;
-        for module in self.modules.iter().filter(|module| module.has_stream) {
-            streams.push(Some(module.stream(alloc)?))?;
-        }
-        if let Some(names) = &self.names {
-            let mut table = words(alloc, &[NAMES_SIGNATURE, 1, size(names)?])?;
-            table.extend_from_slice(names.as_slice())?;
-            streams.push(Some(table))?;
-        }
-        for stream in &self.further_streams {
-            streams.push(match stream {
-                Some(bytes) => Some(copy(alloc, bytes)?),
-                None => None,
-            })?;
-        }
+        self.push_fixed_streams(alloc, &mut streams)?;
+        self.push_module_streams(alloc, &mut streams)?;
+        self.push_names(alloc, &mut streams)?;
+        self.push_further_streams(alloc, &mut streams)?;
         Ok(Container {
             page_size: self.page_size,
             streams,
@@ -164,12 +153,80 @@ impl ProgramDatabase {
         if self.names.is_none() {
             return Ok(None);
         }
-        let modules = self
-            .modules
-            .iter()
-            .filter(|module| module.has_stream)
-            .count();
-        let stream = modules.saturating_add(FIRST_MODULE_STREAM as usize);
-        Ok(Some(u32::try_from(stream)?))
+        let mut stream = u32::from(FIRST_MODULE_STREAM);
+        for module in &self.modules {
+            stream = stream.saturating_add(u32::from(module.has_stream));
+        }
+        Ok(Some(stream))
+    }
+
+    fn push_fixed_streams(&self, alloc: Global, streams: &mut Streams) -> Result<()> {
+        for number in 0..FIRST_MODULE_STREAM {
+            let mut bytes = Vec::new(alloc);
+            self.push_fixed(&mut bytes, number)?;
+            streams.push(Some(bytes))?;
+        }
+        Ok(())
+    }
+
+    fn push_module_streams(&self, alloc: Global, streams: &mut Streams) -> Result<()> {
+        for module in &self.modules {
+            if module.has_stream {
+                let mut bytes = Vec::new(alloc);
+                module.push_stream(&mut bytes)?;
+                streams.push(Some(bytes))?;
+            }
+        }
+        Ok(())
+    }
+
+    fn push_further_streams(&self, alloc: Global, streams: &mut Streams) -> Result<()> {
+        for stream in &self.further_streams {
+            streams.push(copy(alloc, stream)?)?;
+        }
+        Ok(())
+    }
+
+    /// Appends the names table's stream, if there is one.
+    fn push_names(&self, alloc: Global, streams: &mut Streams) -> Result<()> {
+        if let Some(names) = &self.names {
+            let mut table = Vec::new(alloc);
+            push_u32(
+                &mut table,
+                &[NAMES_SIGNATURE, 1, u32::try_from(names.len())?],
+            )?;
+            table.extend_from_slice(names.as_slice())?;
+            streams.push(Some(table))?;
+        }
+        Ok(())
+    }
+
+    /// Writes the stream of a number below the modules' into an empty list of bytes.
+    fn push_fixed(&self, bytes: &mut Vec<u8>, number: u16) -> Result<()> {
+        match number {
+            1 => self.information.push_stream(bytes, self.names_stream()?),
+            2 => self.types.push_stream(bytes),
+            3 => self
+                .debug
+                .push(bytes, self.modules.as_slice(), FIRST_MODULE_STREAM),
+            4 => self.ids.push_stream(bytes),
+            5 => Ok(bytes.extend_from_slice(self.symbol_records.as_slice())?),
+            6 => self.push_sections(bytes),
+            _ => Ok(()),
+        }
+    }
+
+    fn push_sections(&self, bytes: &mut Vec<u8>) -> Result<()> {
+        for section in &self.sections {
+            section.push(bytes)?;
+        }
+        Ok(())
+    }
+}
+
+fn copy(alloc: Global, stream: &Option<Vec<u8>>) -> Result<Option<Vec<u8>>> {
+    match stream {
+        Some(bytes) => Ok(Some(Vec::from_slice(alloc, bytes.as_slice())?)),
+        None => Ok(None),
     }
 }

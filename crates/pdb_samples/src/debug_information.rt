@@ -1,11 +1,12 @@
-use crate::bytes::{copy, pad_to_four, push_text, push_u16, push_u32, size, words};
+use crate::bytes::{pad_to, push_text, push_u16, push_u32, write_size};
 use crate::error::{Result, SampleError};
-use crate::symbols::{Symbol, symbol_bytes};
-use std::alloc::Global;
 
 const SIGNATURE: u32 = 0xffff_ffff;
 
 const VERSION: u32 = 19990903;
+
+/// What a module's symbols begin with.
+const SYMBOLS_SIGNATURE: u32 = 4;
 
 /// The version of contributions that take four bytes more than others.
 const LONG_CONTRIBUTIONS: u32 = 0xeffe_0000 + 20140516;
@@ -13,8 +14,11 @@ const LONG_CONTRIBUTIONS: u32 = 0xeffe_0000 + 20140516;
 /// The number that names no stream.
 pub const NO_STREAM: u16 = 0xffff;
 
+/// Where the sizes of the parts stand, in the order of the parts.
+const SIZES: [usize; 7] = [24, 28, 32, 36, 40, 52, 48];
+
 /// A section of the image.
-#[derive(Debug, Clone, Copy, PartialEq, Eq)]
+#[derive(Clone, Copy)]
 pub struct Section {
     pub name: [u8; 8],
     pub virtual_size: u32,
@@ -23,7 +27,7 @@ pub struct Section {
 }
 
 /// What a module contributes to a section.
-#[derive(Debug, Clone, Copy, PartialEq, Eq)]
+#[derive(Clone, Copy)]
 pub struct Contribution {
     pub section: u16,
     pub offset: u32,
@@ -46,11 +50,11 @@ pub struct Module {
     pub has_stream: bool,
 }
 
-/// The symbols that a module's stream begins with.
+/// What a module's stream begins with.
 #[derive(Drop)]
 pub enum ModuleSymbols {
-    /// These, behind the usual signature.
-    List(Vec<Symbol>),
+    /// The usual signature and these records.
+    Records(Vec<u8>),
     /// These very bytes.
     Bytes(Vec<u8>),
 }
@@ -95,89 +99,107 @@ impl Contribution {
 }
 
 impl Module {
-    fn symbol_bytes(&self, alloc: Global) -> Result<Vec<u8>> {
+    /// Appends what the module's stream holds.
+    pub fn push_stream(&self, bytes: &mut Vec<u8>) -> Result<()> {
         match &self.symbols {
-            ModuleSymbols::List(symbols) => symbol_bytes(alloc, symbols),
-            ModuleSymbols::Bytes(bytes) => copy(alloc, bytes),
+            ModuleSymbols::Records(records) => {
+                push_u32(bytes, &[SYMBOLS_SIGNATURE])?;
+                bytes.extend_from_slice(records.as_slice())?;
+            }
+            ModuleSymbols::Bytes(symbols) => bytes.extend_from_slice(symbols.as_slice())?,
         }
-    }
-
-    /// The bytes of the module's stream.
-    pub fn stream(&self, alloc: Global) -> Result<Vec<u8>> {
-        let mut bytes = self.symbol_bytes(alloc)?;
         bytes.extend_from_slice(self.c11.as_slice())?;
         bytes.extend_from_slice(self.c13.as_slice())?;
-        Ok(bytes)
+        Ok(())
+    }
+
+    /// How many bytes the symbols, the older and the newer line data take.
+    fn sizes(&self) -> [usize; 3] {
+        let symbols = match &self.symbols {
+            ModuleSymbols::Records(records) => records.len().saturating_add(4),
+            ModuleSymbols::Bytes(symbols) => symbols.len(),
+        };
+        [symbols, self.c11.len(), self.c13.len()]
     }
 
     /// Appends the module's entry, with the number of its stream.
-    fn push(&self, alloc: Global, bytes: &mut Vec<u8>, stream: u16) -> Result<()> {
+    fn push_entry(&self, bytes: &mut Vec<u8>, stream: u16) -> Result<()> {
+        let stream = if self.has_stream { stream } else { NO_STREAM };
         push_u32(bytes, &[0, 0, 0, 0, 0, 0, 0, 0])?;
-        push_u16(
-            bytes,
-            &[0, if self.has_stream { stream } else { NO_STREAM }],
-        )?;
-        let symbols = size(&self.symbol_bytes(alloc)?)?;
-        push_u32(bytes, &[symbols, size(&self.c11)?, size(&self.c13)?])?;
+        push_u16(bytes, &[0, stream])?;
+        for size in self.sizes() {
+            push_u32(bytes, &[u32::try_from(size)?])?;
+        }
         push_u32(bytes, &[0, 0, 0, 0])?;
         push_text(bytes, self.name.as_slice())?;
         push_text(bytes, self.object_name.as_slice())?;
-        pad_to_four(bytes)
+        pad_to(bytes, 4)
     }
 }
 
 impl DebugInformation {
-    /// The bytes of the stream, where the modules' streams are numbered from `first` on.
-    pub(crate) fn bytes(
+    /// Writes the stream into an empty list of bytes, where the modules' streams are numbered from `first` on.
+    pub(crate) fn push(&self, bytes: &mut Vec<u8>, modules: &[Module], first: u16) -> Result<()> {
+        self.push_header(bytes)?;
+        for (part, place) in SIZES.iter().enumerate() {
+            let start = bytes.len();
+            self.push_part(bytes, part, modules, first)?;
+            write_size(bytes, *place, start)?;
+        }
+        Ok(())
+    }
+
+    /// Appends the header, without the sizes.
+    fn push_header(&self, bytes: &mut Vec<u8>) -> Result<()> {
+        push_u32(bytes, &[SIGNATURE, VERSION, self.age])?;
+        push_u16(bytes, &[self.global_symbols, 0, self.public_symbols, 0])?;
+        push_u16(bytes, &[self.symbol_records, 0])?;
+        push_u32(bytes, &[0, 0, 0, 0, 0, self.mfc_index, 0, 0])?;
+        push_u16(bytes, &[self.flags, self.machine, 0, 0])
+    }
+
+    /// Appends a part: modules, contributions, the section map, file information, the type server map, edit and continue, or
+    /// the optional header.
+    fn push_part(
         &self,
-        alloc: Global,
-        modules: &Vec<Module>,
+        bytes: &mut Vec<u8>,
+        part: usize,
+        modules: &[Module],
         first: u16,
-    ) -> Result<Vec<u8>> {
-        let modules = module_list(alloc, modules, first)?;
-        let mut contributions = words(alloc, &[self.contributions_version])?;
+    ) -> Result<()> {
+        let part = match part {
+            0 => return push_modules(bytes, modules, first),
+            1 => return self.push_contributions(bytes),
+            2 => &self.section_map,
+            3 => &self.file_info,
+            4 => &self.type_server_map,
+            5 => &self.edit_and_continue,
+            _ => return push_u16(bytes, self.optional_header.as_slice()),
+        };
+        bytes.extend_from_slice(part.as_slice())?;
+        Ok(())
+    }
+
+    fn push_contributions(&self, bytes: &mut Vec<u8>) -> Result<()> {
+        push_u32(bytes, &[self.contributions_version])?;
         for contribution in &self.contributions {
-            contribution.push(&mut contributions)?;
+            contribution.push(bytes)?;
             if self.contributions_version == LONG_CONTRIBUTIONS {
-                push_u32(&mut contributions, &[0])?;
+                push_u32(bytes, &[0])?;
             }
         }
-        let mut optional = Vec::new(alloc);
-        push_u16(&mut optional, self.optional_header.as_slice())?;
-        let front = [&modules, &contributions, &self.section_map];
-        let middle = [&self.file_info, &self.type_server_map];
-        let mut bytes = words(alloc, &[SIGNATURE, VERSION, self.age])?;
-        push_u16(
-            &mut bytes,
-            &[self.global_symbols, 0, self.public_symbols, 0],
-        )?;
-        push_u16(&mut bytes, &[self.symbol_records, 0])?;
-        for part in front.iter().chain(middle.iter()) {
-            push_u32(&mut bytes, &[size(part)?])?;
-        }
-        push_u32(&mut bytes, &[self.mfc_index])?;
-        push_u32(
-            &mut bytes,
-            &[size(&optional)?, size(&self.edit_and_continue)?],
-        )?;
-        push_u16(&mut bytes, &[self.flags, self.machine, 0, 0])?;
-        let back = [&self.edit_and_continue, &optional];
-        for part in front.iter().chain(middle.iter()).chain(back.iter()) {
-            bytes.extend_from_slice(part.as_slice())?;
-        }
-        Ok(bytes)
+        Ok(())
     }
 }
 
-/// The entries of the modules, whose streams are numbered from `first` on.
-fn module_list(alloc: Global, modules: &Vec<Module>, first: u16) -> Result<Vec<u8>> {
-    let mut bytes = Vec::new(alloc);
+/// Appends the entries of the modules, whose streams are numbered from `first` on.
+fn push_modules(bytes: &mut Vec<u8>, modules: &[Module], first: u16) -> Result<()> {
     let mut stream = first;
     for module in modules {
-        module.push(alloc, &mut bytes, stream)?;
+        module.push_entry(bytes, stream)?;
         if module.has_stream {
             stream = stream.checked_add(1).ok_or(SampleError::DoesNotFit)?;
         }
     }
-    Ok(bytes)
+    Ok(())
 }

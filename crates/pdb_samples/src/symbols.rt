@@ -1,141 +1,65 @@
-use crate::bytes::{overwrite, pad_to_four, push_text, push_u16, push_u32, size, words};
+use crate::bytes::{overwrite, pad_to, push_text, push_u16, push_u32};
 use crate::error::Result;
 use std::alloc::Global;
 
-/// What a module's symbols begin with.
-const SIGNATURE: u32 = 4;
+/// The kind of a procedure that is known to all modules.
+const GLOBAL_PROCEDURE: u16 = 0x1110;
 
-/// Where a symbol lies in its module's stream.
-#[derive(Debug, Clone, Copy, PartialEq, Eq)]
-pub enum SymbolPlace {
-    /// At this byte.
-    At(u32),
-    /// Where the symbol of this number in the list lies, counted from 0. Past the list: 0.
-    Of(usize),
-}
+/// The place of the end in a record that opens a scope: behind its length, its kind and its parent.
+const END: usize = 8;
 
-/// A symbol of a module.
-#[derive(Drop)]
-pub enum Symbol {
-    Procedure(Procedure),
-    Scope(Scope),
-    /// A kind and the whole payload.
-    Other(u16, Vec<u8>),
-}
-
-/// A procedure's symbol.
-#[derive(Drop)]
-pub struct Procedure {
-    pub kind: u16,
-    pub parent: SymbolPlace,
-    pub end: SymbolPlace,
-    pub next: SymbolPlace,
-    pub length: u32,
-    pub debug_start: u32,
-    pub debug_end: u32,
-    pub type_index: u32,
+/// A procedure of section 1, and the record in which it lies, or 0.
+#[derive(Clone, Copy)]
+pub struct Procedure<'t> {
+    pub parent: u32,
     pub offset: u32,
-    pub section: u16,
-    pub flags: u8,
-    pub name: Vec<u8>,
+    pub length: u32,
+    pub type_index: u32,
+    pub name: &'t [u8],
 }
 
-/// A symbol whose payload begins with a parent and an end, as a thunk, separated code or an
-/// inline site.
-#[derive(Drop)]
-pub struct Scope {
-    pub kind: u16,
-    pub parent: SymbolPlace,
-    pub end: SymbolPlace,
-    /// What follows those two.
-    pub rest: Vec<u8>,
-}
-
-/// A module's symbols as its stream begins with them.
-pub fn symbol_bytes(alloc: Global, symbols: &Vec<Symbol>) -> Result<Vec<u8>> {
-    let mut places = Vec::new(alloc);
-    let mut bytes = words(alloc, &[SIGNATURE])?;
-    for symbol in symbols {
-        places.push(size(&bytes)?)?;
-        bytes.append(&mut symbol.record(alloc, &Vec::new(alloc))?)?;
-    }
-    bytes.truncate(4);
-    for symbol in symbols {
-        bytes.append(&mut symbol.record(alloc, &places)?)?;
-    }
-    Ok(bytes)
-}
-
-/// The record of this kind and payload, filled up with zero bytes to a multiple of four. Its
-/// length counts these.
-pub fn record(alloc: Global, kind: u16, payload: &Vec<u8>) -> Result<Vec<u8>> {
-    let mut record = Vec::new(alloc);
-    push_u16(&mut record, &[0, kind])?;
-    record.extend_from_slice(payload.as_slice())?;
-    pad_to_four(&mut record)?;
-    let length = u16::try_from(record.len().saturating_sub(2))?;
-    overwrite(record.as_mut_slice(), 0, &length.to_le_bytes())?;
-    Ok(record)
-}
-
-impl SymbolPlace {
-    fn resolve(self, places: &Vec<u32>) -> u32 {
-        match self {
-            SymbolPlace::At(place) => place,
-            SymbolPlace::Of(number) => places.get(number).copied().unwrap_or(0),
-        }
+impl Procedure<'_> {
+    /// Appends the procedure's record, whose end isn't known yet.
+    pub fn push(&self, records: &mut Vec<u8>) -> Result<()> {
+        let start = begin_record(records, GLOBAL_PROCEDURE)?;
+        push_u32(records, &[self.parent, 0, 0, self.length, 0, self.length])?;
+        push_u32(records, &[self.type_index, self.offset])?;
+        push_u16(records, &[1])?;
+        records.push(0)?;
+        push_text(records, self.name)?;
+        end_record(records, start)
     }
 }
 
-impl Symbol {
-    fn record(&self, alloc: Global, places: &Vec<u32>) -> Result<Vec<u8>> {
-        match self {
-            Symbol::Procedure(procedure) => {
-                record(alloc, procedure.kind, &procedure.payload(alloc, places)?)
-            }
-            Symbol::Scope(scope) => {
-                let ends = [scope.parent.resolve(places), scope.end.resolve(places)];
-                let mut payload = words(alloc, &ends)?;
-                payload.extend_from_slice(scope.rest.as_slice())?;
-                record(alloc, scope.kind, &payload)
-            }
-            Symbol::Other(kind, payload) => record(alloc, *kind, payload),
-        }
-    }
+/// Appends the record of this kind and payload, filled up with zero bytes to a multiple of four. Its length counts these.
+pub fn push_record(records: &mut Vec<u8>, kind: u16, payload: &[u8]) -> Result<()> {
+    let start = begin_record(records, kind)?;
+    records.extend_from_slice(payload)?;
+    end_record(records, start)
 }
 
-impl Procedure {
-    /// A global procedure of no type, at the outermost level.
-    pub fn new(section: u16, offset: u32, length: u32, name: Vec<u8>) -> Self {
-        Procedure {
-            kind: 0x1110,
-            parent: SymbolPlace::At(0),
-            end: SymbolPlace::At(0),
-            next: SymbolPlace::At(0),
-            length,
-            debug_start: 0,
-            debug_end: length,
-            type_index: 0,
-            offset,
-            section,
-            flags: 0,
-            name,
-        }
-    }
+/// Appends the end of the scope that the record at `start` opens, where the first record lies at `first` of the stream.
+pub fn push_end(records: &mut Vec<u8>, first: u32, start: usize, kind: u16) -> Result<()> {
+    let place = first.saturating_add(u32::try_from(records.len())?);
+    overwrite(
+        records.as_mut_slice(),
+        start.saturating_add(END),
+        &place.to_le_bytes(),
+    )?;
+    push_record(records, kind, &[])
+}
 
-    fn payload(&self, alloc: Global, places: &Vec<u32>) -> Result<Vec<u8>> {
-        let mut payload = Vec::new(alloc);
-        for place in [self.parent, self.end, self.next] {
-            push_u32(&mut payload, &[place.resolve(places)])?;
-        }
-        push_u32(
-            &mut payload,
-            &[self.length, self.debug_start, self.debug_end],
-        )?;
-        push_u32(&mut payload, &[self.type_index, self.offset])?;
-        push_u16(&mut payload, &[self.section])?;
-        payload.push(self.flags)?;
-        push_text(&mut payload, self.name.as_slice())?;
-        Ok(payload)
-    }
+/// Appends a length that isn't known yet, and a kind. Returns where the record begins.
+fn begin_record(records: &mut Vec<u8>, kind: u16) -> Result<usize> {
+    let start = records.len();
+    push_u16(records, &[0, kind])?;
+    Ok(start)
+}
+
+/// Fills up the last record, which begins at `start`, and writes its length.
+fn end_record(records: &mut Vec<u8>, start: usize) -> Result<()> {
+    pad_to(records, 4)?;
+    let length = records.len().saturating_sub(start).saturating_sub(2);
+    let length = u16::try_from(length)?;
+    overwrite(records.as_mut_slice(), start, &length.to_le_bytes())
 }

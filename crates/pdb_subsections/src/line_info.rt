@@ -1,6 +1,7 @@
 //! Rows of line data.
 
-use pdb_container_types::{FileIndex, PdbInternalSectionOffset};
+use pdb_addresses::PdbInternalSectionOffset;
+use pdb_indices::FileIndex;
 
 /// What a row's code was made of.
 #[derive(Clone, Copy, Debug, PartialEq, Eq)]

@@ -220,3 +220,6 @@ symbols_end bytes place e = symbols_steps bytes place ∙ ap (followed (symbols_
 
 pub symbols_fault : (bytes : List ℕ) (place : ℕ) (fault : Fault) → next bytes place ≡ Err fault → symbols_from bytes place ≡ ending (Some fault)
 symbols_fault bytes place fault e = symbols_steps bytes place ∙ ap (followed (symbols_from bytes)) e
+
+pub symbols_past : (bytes : List ℕ) (place : ℕ) → length bytes ≤ place → symbols_from bytes place ≡ ending None
+symbols_past bytes place past = symbols_end bytes place (next_past bytes place past)

@@ -40,3 +40,7 @@ starts_scope kind = is_procedure kind || is_thunk kind || is_separated_code kind
 -- a symbol that ends one: of whatever kind, of an inlined call, of a procedure
 abbrev pub ends_scope : ℕ → Bool
 ends_scope kind = kind == 0x0006 || kind == 0x114e || kind == 0x114f
+
+-- a symbol that has a form
+abbrev pub has_form : ℕ → Bool
+has_form kind = is_public kind || starts_scope kind || ends_scope kind

@@ -3,10 +3,10 @@ use Rattle.std.specs.Prelude.{ℕ, List, Option, Some, None, Result, Ok, Err, na
 use Rattle.std.specs.Int.{w8, w16, w32}
 use Rattle.pdb_container.specs.Fault.{Fault, UnimplementedSymbolKind, ◌>>=◌}
 use Rattle.pdb_container.specs.Fields.{Reader, number_at, c_string_at, pascal_string_at}
-use Rattle.pdb_items.specs.Attributes.{has_bit}
-use Rattle.pdb_items.specs.RecordFields.{type_index_at, id_index_at}
-use Rattle.pdb_container_types.specs.declared.internal_section_offset.PdbInternalSectionOffset.{PdbInternalSectionOffset}
-use Rattle.pdb_container_types.specs.declared.numbers.SymbolIndex.{SymbolIndex}
+use Rattle.pdb_indices.specs.Bits.{has_bit}
+use Rattle.pdb_indices.specs.RecordFields.{type_index_at, id_index_at}
+use Rattle.pdb_addresses.specs.declared.internal_section_offset.PdbInternalSectionOffset.{PdbInternalSectionOffset}
+use Rattle.pdb_indices.specs.declared.numbers.SymbolIndex.{SymbolIndex}
 use Rattle.pdb_symbols.specs.declared.symbol_data.SeparatedCodeSymbol.{SeparatedCodeSymbol}
 use Rattle.pdb_symbols.specs.Forms as forms
 use Rattle.pdb_symbols.specs.Forms.{PublicForm, ProcedureForm, ThunkForm, InlineSiteForm, SymbolForm}

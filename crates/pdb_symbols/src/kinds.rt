@@ -1,7 +1,7 @@
 //! Kinds of symbols: the numbers that say what a symbol is. `_ST` marks an older form, whose name is a Pascal string.
 
 ghost use Rattle.std.specs.Prelude.{◌≡◌};
-ghost use Rattle.pdb_symbols.specs.Kinds.{is_padding as is_padding_kind, is_public as is_public_kind, is_global as is_global_kind, is_dpc as is_dpc_kind, is_procedure as is_procedure_kind, is_thunk as is_thunk_kind, is_separated_code as is_separated_code_kind, is_inline_site as is_inline_site_kind};
+ghost use Rattle.pdb_symbols.specs.Kinds.{is_padding as is_padding_kind, is_public as is_public_kind, is_global as is_global_kind, is_dpc as is_dpc_kind, is_procedure as is_procedure_kind, is_thunk as is_thunk_kind, is_separated_code as is_separated_code_kind, is_inline_site as is_inline_site_kind, starts_scope as starts_scope_kind, ends_scope as ends_scope_kind, has_form as has_form_kind};
 
 /// The end of a scope.
 pub const S_END: u16 = 0x0006;
@@ -121,4 +121,25 @@ pub fn is_inline_site(kind: u16) -> bool
     ensures { result ≡ is_inline_site_kind kind }
 {
     kind == S_INLINESITE || kind == S_INLINESITE2
+}
+
+/// Whether the kind is that of a symbol in which others may lie: a procedure, a thunk, separated code or an inlined call.
+pub fn starts_scope(kind: u16) -> bool
+    ensures { result ≡ starts_scope_kind kind }
+{
+    is_procedure(kind) || is_thunk(kind) || is_separated_code(kind) || is_inline_site(kind)
+}
+
+/// Whether the kind is that of the end of such a symbol.
+pub fn ends_scope(kind: u16) -> bool
+    ensures { result ≡ ends_scope_kind kind }
+{
+    kind == S_END || kind == S_INLINESITE_END || kind == S_PROC_ID_END
+}
+
+/// Whether a symbol of the kind has a form, which is read.
+pub fn has_form(kind: u16) -> bool
+    ensures { result ≡ has_form_kind kind }
+{
+    is_public(kind) || starts_scope(kind) || ends_scope(kind)
 }

@@ -4,21 +4,22 @@ ghost use Rattle.std.specs.Prelude.{◌≡◌};
 ghost use Rattle.pdb_container.specs.Buffer.{rest, ReadsAll};
 ghost use Rattle.pdb_container.specs.Fault.{Parses};
 ghost use Rattle.pdb_container.specs.RawString.{raw_bytes};
-ghost use Rattle.pdb_symbols.specs.Forms.{public_form, procedure_form, thunk_form, inline_site_form, symbol_form};
-ghost use Rattle.pdb_symbols.specs.Records.{index_at, optional_index_at, place_at, name_at, invocations_at, public_of, procedure_of, thunk_of, separated_code_of, inline_site_of, end_of, form_of, symbol_form_of};
+ghost use Rattle.pdb_symbols.specs.Forms as forms;
+ghost use Rattle.pdb_symbols.specs.Forms.{symbol_form};
+ghost use Rattle.pdb_symbols.specs.Records.{index_at, optional_index_at, place_at, name_at, invocations_at, public_of, procedure_of, thunk_of, separated_code_of, inline_site_of, as_form, end_of, form_of, symbol_form_of};
 
 use crate::kinds::{
-    S_END, S_INLINESITE_END, S_INLINESITE2, S_PROC_ID_END, is_dpc, is_global, is_inline_site,
-    is_procedure, is_public, is_separated_code, is_thunk,
+    S_END, S_INLINESITE_END, S_INLINESITE2, S_PROC_ID_END, has_form, is_dpc, is_global,
+    is_inline_site, is_procedure, is_public, is_separated_code, is_thunk,
 };
 use crate::symbol::Symbol;
 use crate::symbol_data::{
     ProcedureSymbol, PublicSymbol, SeparatedCodeSymbol, SymbolData, ThunkSymbol,
 };
+use pdb_addresses::PdbInternalSectionOffset;
 use pdb_annotations::{BinaryAnnotations, InlineSiteSymbol};
-use pdb_container_types::{
-    Error, ParseBuffer, PdbInternalSectionOffset, RawString, Result, SymbolIndex,
-};
+use pdb_container::{Error, ParseBuffer, RawString, Result};
+use pdb_indices::SymbolIndex;
 
 impl<'t> Symbol<'t> {
     /// What it says.
@@ -33,21 +34,24 @@ impl<'t> Symbol<'t> {
     }
 }
 
-/// What the bytes behind a kind say.
-#[tactic(auto, unfolding(crate::specs::Records::form_of))]
+/// What the bytes behind a kind say. Most symbols of a module are of kinds without a form: these are answered first.
+#[tactic(auto, unfolding(crate::specs::Records::form_of, crate::specs::Records::end_of))]
 fn parse_form(kind: u16, payload: &[u8]) -> Result<SymbolData<'_>>
     ensures { Parses symbol_form result (form_of kind payload.now) }
 {
+    if !has_form(kind) {
+        return Err(Error::UnimplementedSymbolKind(kind));
+    }
     if is_public(kind) {
-        Ok(SymbolData::Public(parse_public(kind, payload)?))
+        parse_public(kind, payload)
     } else if is_procedure(kind) {
-        Ok(SymbolData::Procedure(parse_procedure(kind, payload)?))
+        parse_procedure(kind, payload)
     } else if is_thunk(kind) {
-        Ok(SymbolData::Thunk(parse_thunk(kind, payload)?))
+        parse_thunk(kind, payload)
     } else if is_separated_code(kind) {
-        Ok(SymbolData::SeparatedCode(parse_separated_code(payload)?))
+        parse_separated_code(payload)
     } else if is_inline_site(kind) {
-        Ok(SymbolData::InlineSite(parse_inline_site(kind, payload)?))
+        parse_inline_site(kind, payload)
     } else {
         parse_end(kind)
     }
@@ -108,26 +112,26 @@ fn parse_name<'t>(kind: u16, buffer: &mut ParseBuffer<'t>) -> Result<RawString<'
 }
 
 #[tactic(auto, unfolding(crate::specs::Records::public_of))]
-fn parse_public(kind: u16, payload: &[u8]) -> Result<PublicSymbol<'_>>
-    ensures { Parses public_form result (public_of kind payload.now) }
+fn parse_public(kind: u16, payload: &[u8]) -> Result<SymbolData<'_>>
+    ensures { Parses symbol_form result (as_form forms.Public (public_of kind payload.now)) }
 {
     let mut buffer = ParseBuffer::from(payload);
     let flags = buffer.parse_u32()?;
     let offset = parse_place(&mut buffer)?;
     let name = parse_name(kind, &mut buffer)?;
-    Ok(PublicSymbol {
+    Ok(SymbolData::Public(PublicSymbol {
         code: flags & 1 != 0,
         function: flags & 2 != 0,
         managed: flags & 4 != 0,
         msil: flags & 8 != 0,
         offset,
         name,
-    })
+    }))
 }
 
 #[tactic(auto, unfolding(crate::specs::Records::procedure_of))]
-fn parse_procedure(kind: u16, payload: &[u8]) -> Result<ProcedureSymbol<'_>>
-    ensures { Parses procedure_form result (procedure_of kind payload.now) }
+fn parse_procedure(kind: u16, payload: &[u8]) -> Result<SymbolData<'_>>
+    ensures { Parses symbol_form result (as_form forms.Procedure (procedure_of kind payload.now)) }
 {
     let mut buffer = ParseBuffer::from(payload);
     let parent = parse_optional_index(&mut buffer)?;
@@ -140,7 +144,7 @@ fn parse_procedure(kind: u16, payload: &[u8]) -> Result<ProcedureSymbol<'_>>
     let offset = parse_place(&mut buffer)?;
     let flags = buffer.parse_u8()?;
     let name = parse_name(kind, &mut buffer)?;
-    Ok(ProcedureSymbol {
+    Ok(SymbolData::Procedure(ProcedureSymbol {
         global: is_global(kind),
         dpc: is_dpc(kind),
         parent,
@@ -153,12 +157,12 @@ fn parse_procedure(kind: u16, payload: &[u8]) -> Result<ProcedureSymbol<'_>>
         offset,
         flags,
         name,
-    })
+    }))
 }
 
 #[tactic(auto, unfolding(crate::specs::Records::thunk_of))]
-fn parse_thunk(kind: u16, payload: &[u8]) -> Result<ThunkSymbol<'_>>
-    ensures { Parses thunk_form result (thunk_of kind payload.now) }
+fn parse_thunk(kind: u16, payload: &[u8]) -> Result<SymbolData<'_>>
+    ensures { Parses symbol_form result (as_form forms.Thunk (thunk_of kind payload.now)) }
 {
     let mut buffer = ParseBuffer::from(payload);
     let parent = parse_optional_index(&mut buffer)?;
@@ -168,7 +172,7 @@ fn parse_thunk(kind: u16, payload: &[u8]) -> Result<ThunkSymbol<'_>>
     let len = buffer.parse_u16()?;
     let leads_to = buffer.parse_u8()?;
     let name = parse_name(kind, &mut buffer)?;
-    Ok(ThunkSymbol {
+    Ok(SymbolData::Thunk(ThunkSymbol {
         parent,
         end,
         next,
@@ -176,12 +180,12 @@ fn parse_thunk(kind: u16, payload: &[u8]) -> Result<ThunkSymbol<'_>>
         len,
         kind: leads_to,
         name,
-    })
+    }))
 }
 
 #[tactic(auto, unfolding(crate::specs::Records::separated_code_of))]
-fn parse_separated_code(payload: &[u8]) -> Result<SeparatedCodeSymbol>
-    ensures { Parses (λ s. s) result (separated_code_of payload.now) }
+fn parse_separated_code(payload: &[u8]) -> Result<SymbolData<'_>>
+    ensures { Parses symbol_form result (as_form forms.SeparatedCode (separated_code_of payload.now)) }
 {
     let mut buffer = ParseBuffer::from(payload);
     let parent = parse_optional_index(&mut buffer)?;
@@ -192,7 +196,7 @@ fn parse_separated_code(payload: &[u8]) -> Result<SeparatedCodeSymbol>
     let parent_offset = buffer.parse_u32()?;
     let section = buffer.parse_u16()?;
     let parent_section = buffer.parse_u16()?;
-    Ok(SeparatedCodeSymbol {
+    Ok(SymbolData::SeparatedCode(SeparatedCodeSymbol {
         parent,
         end,
         len,
@@ -202,7 +206,7 @@ fn parse_separated_code(payload: &[u8]) -> Result<SeparatedCodeSymbol>
             offset: parent_offset,
             section: parent_section,
         },
-    })
+    }))
 }
 
 /// How often an inlined call is called, which the newer kind says.
@@ -217,8 +221,8 @@ fn parse_invocations(kind: u16, buffer: &mut ParseBuffer<'_>) -> Result<Option<u
 }
 
 #[tactic(auto, unfolding(crate::specs::Records::inline_site_of))]
-fn parse_inline_site(kind: u16, payload: &[u8]) -> Result<InlineSiteSymbol<'_>>
-    ensures { Parses inline_site_form result (inline_site_of kind payload.now) }
+fn parse_inline_site(kind: u16, payload: &[u8]) -> Result<SymbolData<'_>>
+    ensures { Parses symbol_form result (as_form forms.InlineSite (inline_site_of kind payload.now)) }
 {
     let mut buffer = ParseBuffer::from(payload);
     let parent = parse_optional_index(&mut buffer)?;
@@ -226,11 +230,11 @@ fn parse_inline_site(kind: u16, payload: &[u8]) -> Result<InlineSiteSymbol<'_>>
     let inlinee = buffer.parse()?;
     let invocations = parse_invocations(kind, &mut buffer)?;
     let annotations = BinaryAnnotations::new(buffer.take(buffer.len())?);
-    Ok(InlineSiteSymbol {
+    Ok(SymbolData::InlineSite(InlineSiteSymbol {
         parent,
         end,
         inlinee,
         invocations,
         annotations,
-    })
+    }))
 }

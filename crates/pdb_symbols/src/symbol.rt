@@ -5,11 +5,9 @@ ghost use Rattle.pdb_container.specs.Fault.{Parses};
 ghost use Rattle.pdb_symbols.specs.Kinds.{starts_scope, ends_scope};
 ghost use Rattle.pdb_symbols.specs.Symbols.{kind_of, payload_of, symbol_at};
 
-use crate::kinds::{
-    S_END, S_INLINESITE_END, S_PROC_ID_END, is_inline_site, is_procedure, is_separated_code,
-    is_thunk,
-};
-use pdb_container_types::{Error, ParseBuffer, Result, SymbolIndex};
+use crate::kinds;
+use pdb_container::{Error, ParseBuffer, Result};
+use pdb_indices::SymbolIndex;
 use std::marker::Model;
 
 /// A symbol: the place of its length in the bytes of its list, and the bytes behind the length, which begin with its kind.
@@ -53,19 +51,18 @@ impl<'t> Symbol<'t> {
     }
 
     /// Whether it is a procedure, a thunk, separated code or an inlined call, by its kind: then other symbols may lie in it.
+    /// It isn't parsed for that, so a walk asks before it parses.
     pub fn starts_scope(&self) -> bool
         ensures { result ≡ starts_scope (kind_of self.now) }
     {
-        let kind = self.raw_kind();
-        is_procedure(kind) || is_thunk(kind) || is_separated_code(kind) || is_inline_site(kind)
+        kinds::starts_scope(self.raw_kind())
     }
 
     /// Whether it ends such a symbol, by its kind.
     pub fn ends_scope(&self) -> bool
         ensures { result ≡ ends_scope (kind_of self.now) }
     {
-        let kind = self.raw_kind();
-        kind == S_END || kind == S_INLINESITE_END || kind == S_PROC_ID_END
+        kinds::ends_scope(self.raw_kind())
     }
 
     /// The bytes behind its kind.

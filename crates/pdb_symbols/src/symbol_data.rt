@@ -1,7 +1,9 @@
 //! What a symbol says.
 
+use pdb_addresses::PdbInternalSectionOffset;
 use pdb_annotations::InlineSiteSymbol;
-use pdb_container_types::{PdbInternalSectionOffset, RawString, SymbolIndex, TypeIndex};
+use pdb_container::RawString;
+use pdb_indices::{SymbolIndex, TypeIndex};
 
 /// What a symbol says, in the forms that are read.
 #[derive(Clone, Copy, Debug)]

@@ -1,6 +1,6 @@
 //! Symbols in their order.
 
-ghost use Rattle.std.specs.Prelude.{◌≡◌, ◌<◌, ◌^◌, length, true};
+ghost use Rattle.std.specs.Prelude.{◌≡◌, ◌<◌, ◌≤◌, ◌^◌, length};
 ghost use Rattle.pdb_container.specs.Fault.{Parses};
 ghost use Rattle.pdb_container.specs.Listing.{Advances};
 ghost use Rattle.pdb_symbols.specs.Iteration.{iteration_at, found_next, symbol_of, behind_answer, symbols_left};
@@ -8,15 +8,16 @@ ghost use Rattle.pdb_symbols.specs.Symbols.{next};
 
 use crate::kinds::is_padding;
 use crate::symbol::{Symbol, parse_symbol};
-use pdb_container_types::{Error, FallibleIterator, Result, SymbolIndex};
+use pdb_container::{Error, FallibleIterator, Result};
+use pdb_indices::SymbolIndex;
 use std::marker::Model;
 
-/// The symbols of a list in their order. After an error it answers `None` until it is sent to a place again.
+/// The symbols of a list in their order. At the end and behind an error it stands at the list's end, and answers `None` until
+/// it is sent to a place again.
 #[derive(Debug, Drop)]
 pub struct SymbolIter<'t> {
     bytes: &'t [u8],
     place: usize,
-    has_failed: bool,
 }
 
 impl<'t> Model for SymbolIter<'t> {
@@ -25,7 +26,7 @@ impl<'t> Model for SymbolIter<'t> {
 
     ghost Value = { Iteration };
 
-    ghost view = { λ it. record { bytes = it.bytes.now; place = it.place; has_failed = it.has_failed } };
+    ghost view = { λ it. record { bytes = it.bytes.now; place = it.place } };
 
     ghost invariant = { λ it. length it.bytes.now < 2 ^ 32 };
 }
@@ -39,7 +40,6 @@ impl<'t> SymbolIter<'t> {
         SymbolIter {
             bytes,
             place: place.0 as usize,
-            has_failed: false,
         }
     }
 
@@ -48,18 +48,17 @@ impl<'t> SymbolIter<'t> {
         ensures { self.new ≡ iteration_at self.old.bytes index.0 }
     {
         self.place = index.0 as usize;
-        self.has_failed = false;
     }
 
     /// The first symbol at a place or later, as the next symbol once the iterator was sent there: it goes on behind that
-    /// symbol. Where there is none it stays at the place, and answers `None` again. After an error it answers `None`, until it
-    /// is sent to a place again.
+    /// symbol. Where there is none, and after an error, it goes to the list's end, and answers `None` until it is sent to a
+    /// place again.
     ///
     /// # Errors
     /// `SymbolTooShort` and `UnexpectedEof`.
     pub fn skip_to(&mut self, index: SymbolIndex) -> Result<Option<Symbol<'t>>>
         ensures symbol { Parses (λ s. s) result (symbol_of (next self.old.bytes index.0)) }
-        ensures state { self.new ≡ behind_answer (iteration_at self.old.bytes index.0) (next self.old.bytes index.0) }
+        ensures state { self.new ≡ behind_answer self.old.bytes (next self.old.bytes index.0) }
     {
         self.seek(index);
         self.next()
@@ -71,29 +70,30 @@ impl<'t> FallibleIterator for SymbolIter<'t> {
 
     type Error = Error;
 
-    ghost has_ended = { λ it. it.has_failed ≡ true };
+    ghost has_ended = { λ it. length it.bytes ≤ it.place };
 
     ghost next_gives = { λ old result new. Parses (λ s. s) result (symbol_of (found_next old))
-        × (new ≡ behind_answer old (found_next old))
+        × (new ≡ behind_answer old.bytes (found_next old))
         × Advances (λ s. s) (symbols_left old) result (symbols_left new) };
 
-    /// The next symbol: the first one at the iterator's place or later. At the end nothing changes; at an error the place stays.
+    /// The next symbol: the first one at the iterator's place or later. Where there is none, and after an error, it goes to the
+    /// list's end.
     ///
     /// # Errors
     /// `SymbolTooShort` and `UnexpectedEof`.
-    #[tactic(auto, using(crate::proofs::Lists::symbols_more, crate::proofs::Lists::symbols_end, crate::proofs::Lists::symbols_fault))]
+    #[tactic(auto, using(crate::proofs::Lists::symbols_more, crate::proofs::Lists::symbols_end, crate::proofs::Lists::symbols_fault, crate::proofs::Lists::symbols_past, crate::proofs::Lists::next_past))]
     fn next(&mut self) -> Result<Option<Symbol<'t>>> {
-        if self.has_failed {
-            return Ok(None);
-        }
         match next_symbol(self.bytes, self.place) {
             Ok(Some((symbol, behind))) => {
                 self.place = behind;
                 Ok(Some(symbol))
             }
-            Ok(None) => Ok(None),
+            Ok(None) => {
+                self.place = self.bytes.len();
+                Ok(None)
+            }
             Err(fault) => {
-                self.has_failed = true;
+                self.place = self.bytes.len();
                 Err(fault)
             }
         }

@@ -4,7 +4,8 @@ ghost use Rattle.std.specs.Prelude.{◌≡◌};
 ghost use Rattle.pdb_symbols.specs.Iteration.{iteration_at};
 
 use crate::symbol_iter::SymbolIter;
-use pdb_container_types::{Stream, SymbolIndex};
+use pdb_container::Stream;
+use pdb_indices::SymbolIndex;
 use std::marker::Model;
 
 /// The symbols that a stream holds from its first byte on.

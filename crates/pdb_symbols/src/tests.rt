@@ -1,9 +1,8 @@
 //! Lists of symbols and symbols written by hand, and what they say.
 
 use crate::{BinaryAnnotations, Symbol, SymbolData, SymbolIter, SymbolTable};
-use pdb_container_types::{
-    Error, FallibleIterator, IdIndex, Msf, Result, Stream, SymbolIndex, open_msf,
-};
+use pdb_container::{Error, FallibleIterator, Msf, Result, Stream, open_msf};
+use pdb_indices::{IdIndex, SymbolIndex};
 use std::alloc::Global;
 use std::test::Fail;
 

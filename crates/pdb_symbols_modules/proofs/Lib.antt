@@ -1,3 +1,4 @@
 pub mod Opening
 pub mod NameLemmas
-pub mod OneModule
+pub mod Provided
+pub mod SharedSteps

@@ -6,7 +6,7 @@ use Rattle.std.specs.Int.{w32}
 use Rattle.pdb_container.specs.Fault.{Fault, StreamNameNotFound, ◌>>=◌}
 use Rattle.pdb_container.specs.Fields.{Reader, number_at, bytes_of}
 use Rattle.pdb_container.specs.Names.{name_in}
-use Rattle.pdb_items.specs.RecordFields.{many_at}
+use Rattle.pdb_indices.specs.RecordFields.{many_at}
 
 -- what a database says of itself, and the whole stream
 pub record Information : Type 0 where

@@ -3,11 +3,14 @@ use Rattle.std.specs.Prelude.{ℕ, List, Option, Some, None, Result, Ok, Err, na
 use Rattle.pdb_container.specs.Fault.{Fault, ◌>>=◌}
 use Rattle.pdb_container.specs.Container.{layout_of, stream}
 
+-- the bytes of a stream, or why they can't be had
+abbrev pub Bytes : Type 0
+Bytes = Result (List ℕ) Fault
+
 pub record Streams : Type 0 where
   -- why the container isn't opened
   pub open_fault : Option Fault
-  -- the bytes of each stream, or why they can't be had
-  pub at : ℕ → Result (List ℕ) Fault
+  pub at : ℕ → Bytes
 
 abbrev pub fault_in : {A F : Type 0} → Result A F → Option F
 fault_in (Ok x) = None
@@ -16,6 +19,9 @@ fault_in (Err e) = Some e
 unfoldable pub streams : List ℕ → Streams
 streams file = record { open_fault = fault_in (layout_of file); at = λ n. stream file n None }
 
--- the stream of a number: 65535 names none
-unfoldable pub stream_if_named : Streams → ℕ → Result (Option (List ℕ)) Fault
-stream_if_named s n = if nat_lt n 65535 then s.at n >>= (λ bytes. Ok (Some bytes)) else Ok None
+-- the bytes of the stream of a number, where it names one: 65535 names none
+unfoldable pub if_named : ℕ → Bytes → Result (Option (List ℕ)) Fault
+if_named n stream = if nat_lt n 65535 then stream >>= (λ bytes. Ok (Some bytes)) else Ok None
+
+abbrev pub stream_if_named : Streams → ℕ → Result (Option (List ℕ)) Fault
+stream_if_named s n = if_named n (s.at n)

@@ -6,8 +6,8 @@ ghost use Rattle.pdb_container.specs.Fault.{Parses};
 ghost use Rattle.pdb_container.specs.Listing.{ending, Advances};
 ghost use Rattle.pdb_symbols_modules.specs.Contributions.{contribution_at, long_contribution_at, contribution_for, version_of, contributions_of};
 
+use pdb_addresses::{PdbInternalSectionOffset, SectionCharacteristics};
 use pdb_container::{Error, FallibleIterator, ParseBuffer, Result};
-use pdb_container_types::{PdbInternalSectionOffset, SectionCharacteristics};
 use std::marker::Model;
 
 /// The version of entries of 28 bytes.

@@ -1,13 +1,13 @@
 //! Stream 1: what a database says of itself, and the names that it gives to streams.
 
-ghost use Rattle.std.specs.Prelude.{◌≡◌, Some, map, option_map};
+ghost use Rattle.std.specs.Prelude.{◌≡◌, ◌<◌, IfOk, Some, map, option_map};
 ghost use Rattle.std.specs.List.{find};
 ghost use Rattle.std.specs.Slice.Iter.{iter_rest};
 ghost use Rattle.pdb_container.specs.Buffer.{rest, Reads, ReadsAll};
 ghost use Rattle.pdb_container.specs.Fault.{Gives, Parses};
 ghost use Rattle.pdb_container.specs.Fields.{bytes_of};
 ghost use Rattle.pdb_container.specs.Names.{name_in};
-ghost use Rattle.pdb_items.specs.RecordFields.{GivesAll, many_at};
+ghost use Rattle.pdb_indices.specs.RecordFields.{GivesAll, many_at};
 ghost use Rattle.pdb_symbols_modules.specs.Information.{information_of, stream_number, stream_name_at, bits_at, stream_names_of, number_in, is_named, number_of};
 ghost use Rattle.pdb_container.specs.RawString.{raw_bytes};
 ghost use Rattle.pdb_symbols_modules.specs.NamesSeen.{stream_name_seen};
@@ -117,7 +117,8 @@ impl<'s> StreamNames<'s> {
     /// The stream of the first entry with a name. `StreamNameNotFound` where there is none, or it names no stream.
     #[tactic(auto, using(crate::proofs::NameLemmas::none_named, crate::proofs::NameLemmas::some_named))]
     pub(crate) fn find(&self, name: &[u8]) -> Result<StreamIndex>
-        ensures { Parses (λ n. n.0) result (number_of name.now self.now) }
+        ensures number { Parses (λ n. n.0) result (number_of name.now self.now) }
+        ensures named { IfOk result (λ n. n.0 < 65535) }
     {
         match entry_of(self.names.as_slice(), name) {
             None => Err(Error::StreamNameNotFound),
@@ -135,8 +136,9 @@ impl StreamName<'_> {
     }
 
     /// The stream, if there is one.
-    fn named(&self) -> Result<StreamIndex>
-        ensures { Parses (λ n. n.0) result (number_in (Some (stream_name_seen self.now))) }
+    fn named(self) -> Result<StreamIndex>
+        ensures number { Parses (λ n. n.0) result (number_in (Some (stream_name_seen self.entry))) }
+        ensures named { IfOk result (λ n. n.0 < 65535) }
     {
         if self.stream_id.is_none() {
             return Err(Error::StreamNameNotFound);

@@ -1,8 +1,7 @@
 //! Laws of the definitions: functions that do nothing, whose contracts are proved.
 
-ghost use Rattle.std.specs.Prelude.{◌≡◌, ◌↔◌, ℕ, true, Some, Ok};
-ghost use Rattle.pdb_symbols_modules.specs.Modules.{Module};
-ghost use Rattle.pdb_symbols_modules.specs.Opened.{module_of_number, info_of_number};
+ghost use Rattle.std.specs.Prelude.{◌≡◌, ◌↔◌, ℕ, true, Ok};
+ghost use Rattle.pdb_symbols_modules.specs.Shared.{module_number, provider};
 ghost use Rattle.pdb_symbols_modules.specs.Streams.{Streams};
 ghost use Rattle.pdb_symbols_modules.specs.declared.stream_index.StreamIndex.{StreamIndex as Number};
 
@@ -16,7 +15,7 @@ pub fn equal_stream_indices_hash_alike()
 
 /// A module's own stream and stream 3 decide what the module holds: two databases in which both are equal have equal symbols,
 /// lines, inlined functions, imports and exports of it, faults included, since these are functions of what is equal here.
-#[tactic(auto, using(crate::proofs::OneModule::one_module))]
+#[tactic(auto, using(crate::proofs::Provided::one_module))]
 pub fn one_module()
-    ensures { (s t : Streams) (k : ℕ) → s.at 3 ≡ t.at 3 → ((m : Module) → module_of_number s k ≡ Ok (Some m) → s.at m.stream ≡ t.at m.stream) → info_of_number s k ≡ info_of_number t k }
+    ensures { (s t : Streams) (k : ℕ) → s.at 3 ≡ t.at 3 → ((n : ℕ) → module_number (s.at 3) k ≡ Ok n → s.at n ≡ t.at n) → provider s k ≡ provider t k }
 {}

@@ -4,7 +4,7 @@ ghost use Rattle.std.specs.Prelude.{◌≡◌, ◌<◌, drop, length, IfOk, None
 ghost use Rattle.pdb_container.specs.Buffer.{rest, ReadsAll};
 ghost use Rattle.pdb_container.specs.Listing.{Listing, ending, Advances};
 ghost use Rattle.pdb_container.specs.RawString.{raw_bytes};
-ghost use Rattle.pdb_symbols_modules.specs.Opened.{module_stream};
+ghost use Rattle.pdb_symbols_modules.specs.Shared.{module_stream};
 ghost use Rattle.pdb_symbols_modules.specs.Modules.{module_at, modules_of, padding as padding_of};
 
 use crate::stream_index::StreamIndex;

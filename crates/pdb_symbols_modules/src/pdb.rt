@@ -3,10 +3,11 @@
 ghost use Rattle.std.specs.Prelude.{◌≡◌, ◌≤◌, ◌⊎◌, IfOk, IfErr, None, Some, option_map};
 ghost use Rattle.pdb_container.specs.Fault.{fault_of, Gives, HasRisen, IsOutside};
 ghost use Rattle.pdb_symbols_modules.specs.AddressTables.{said, sections_by, original_sections_by, map_with, map_behind, address_map_by};
-ghost use Rattle.pdb_container_types.specs.Omap.{omap_of};
-ghost use Rattle.pdb_container_types.specs.Sections.{section_headers_of};
-ghost use Rattle.pdb_symbols_modules.specs.Opened.{information, named_stream, names, debug_information, types, ids, global_symbols, sections, address_map, module_info};
+ghost use Rattle.pdb_addresses.specs.Omap.{omap_of};
+ghost use Rattle.pdb_addresses.specs.Sections.{section_headers_of};
+ghost use Rattle.pdb_symbols_modules.specs.Opened.{information, named_stream, names, debug_information, types, ids, global_symbols_by, global_symbols, sections, address_map, module_info};
 ghost use Rattle.pdb_symbols_modules.specs.OptionalHeader.{optional_stream};
+ghost use Rattle.pdb_symbols_modules.specs.Shared.{shared};
 ghost use Rattle.pdb_symbols_modules.specs.Streams.{streams, stream_if_named};
 
 use crate::dbi::DebugInformation;
@@ -16,11 +17,12 @@ use crate::optional_header::{
     OMAP_FROM_SOURCE, OMAP_TO_SOURCE, ORIGINAL_SECTION_HEADERS, SECTION_HEADERS,
 };
 use crate::stream_index::StreamIndex;
-use pdb_container::{BigMSF, Error, Msf, Result, Source, Stream, StringTable, open_msf};
-use pdb_container_types::{
+use pdb_addresses::{
     AddressMap, ImageSectionHeader, OMAPRecord, parse_omap, parse_section_headers,
 };
-use pdb_items::{IdInformation, ItemIndex, ItemInformation, TypeInformation};
+use pdb_container::{BigMSF, Error, Msf, Result, Source, Stream, StringTable, open_msf};
+use pdb_indices::ItemIndex;
+use pdb_items::{IdInformation, ItemInformation, TypeInformation};
 use pdb_modules::{ModuleInfo, SymbolTable};
 use std::alloc::Global;
 use std::marker::Model;
@@ -57,11 +59,11 @@ impl<'s, S: Source + Drop> PDB<'s, S> {
     ///
     /// # Errors
     /// Those of reading a stream ([`PDB::raw_stream`]); `UnexpectedEof` where it is short.
-    #[tactic(auto, using(pdb_container::proofs::Outside::outside_alone), unfolding(crate::specs::Opened::information))]
+    #[tactic(auto, using(pdb_container::proofs::Outside::outside_alone), unfolding(crate::specs::Opened::information, crate::specs::Shared::shared))]
     pub fn pdb_information(&mut self, alloc: Global) -> Result<PDBInformation<'s>>
         ensures same { S.bytes self.new ≡ S.bytes self.old }
         ensures counts { S.failures self.old ≤ S.failures self.new }
-        ensures exact { Gives (λ i. i) (HasRisen (S.failures self.old) (S.failures self.new)) result (information (streams (S.bytes self.old))) }
+        ensures exact { Gives (λ i. i) (HasRisen (S.failures self.old) (S.failures self.new)) result (information (shared (streams (S.bytes self.old)))) }
     {
         let stream = self.stream(alloc, 1)?;
         PDBInformation::parse(stream)
@@ -72,11 +74,11 @@ impl<'s, S: Source + Drop> PDB<'s, S> {
     /// # Errors
     /// Those of reading a stream; `UnexpectedEof` where the header or a list isn't whole, `UnimplementedFeature` for a
     /// header of another kind.
-    #[tactic(auto, using(pdb_container::proofs::Outside::outside_alone), unfolding(crate::specs::Opened::debug_information))]
+    #[tactic(auto, using(pdb_container::proofs::Outside::outside_alone), unfolding(crate::specs::Opened::debug_information, crate::specs::Shared::shared))]
     pub fn debug_information(&mut self, alloc: Global) -> Result<DebugInformation<'s>>
         ensures same { S.bytes self.new ≡ S.bytes self.old }
         ensures counts { S.failures self.old ≤ S.failures self.new }
-        ensures exact { Gives (λ d. d) (HasRisen (S.failures self.old) (S.failures self.new)) result (debug_information (streams (S.bytes self.old))) }
+        ensures exact { Gives (λ d. d) (HasRisen (S.failures self.old) (S.failures self.new)) result (debug_information (shared (streams (S.bytes self.old)))) }
     {
         let stream = self.stream(alloc, 3)?;
         DebugInformation::parse(stream)
@@ -86,11 +88,11 @@ impl<'s, S: Source + Drop> PDB<'s, S> {
     ///
     /// # Errors
     /// Those of reading a stream; `UnexpectedEof` and `InvalidTypeInformationHeader` for its header.
-    #[tactic(auto, using(pdb_container::proofs::Outside::outside_alone), unfolding(crate::specs::Opened::types))]
+    #[tactic(auto, using(pdb_container::proofs::Outside::outside_alone), unfolding(crate::specs::Opened::types, crate::specs::Shared::shared))]
     pub fn type_information(&mut self, alloc: Global) -> Result<TypeInformation<'s>>
         ensures same { S.bytes self.new ≡ S.bytes self.old }
         ensures counts { S.failures self.old ≤ S.failures self.new }
-        ensures exact { Gives (λ t. t) (HasRisen (S.failures self.old) (S.failures self.new)) result (types (streams (S.bytes self.old))) }
+        ensures exact { Gives (λ t. t) (HasRisen (S.failures self.old) (S.failures self.new)) result (types (shared (streams (S.bytes self.old)))) }
     {
         let stream = self.stream(alloc, 2)?;
         ItemInformation::parse(stream)
@@ -100,11 +102,11 @@ impl<'s, S: Source + Drop> PDB<'s, S> {
     ///
     /// # Errors
     /// Those of reading a stream; `UnexpectedEof` and `InvalidTypeInformationHeader` for its header.
-    #[tactic(auto, using(pdb_container::proofs::Outside::outside_alone), unfolding(crate::specs::Opened::ids))]
+    #[tactic(auto, using(pdb_container::proofs::Outside::outside_alone), unfolding(crate::specs::Opened::ids, crate::specs::Shared::shared))]
     pub fn id_information(&mut self, alloc: Global) -> Result<IdInformation<'s>>
         ensures same { S.bytes self.new ≡ S.bytes self.old }
         ensures counts { S.failures self.old ≤ S.failures self.new }
-        ensures exact { Gives (λ t. t) (HasRisen (S.failures self.old) (S.failures self.new)) result (ids (streams (S.bytes self.old))) }
+        ensures exact { Gives (λ t. t) (HasRisen (S.failures self.old) (S.failures self.new)) result (ids (shared (streams (S.bytes self.old)))) }
     {
         let stream = self.stream(alloc, 4)?;
         ItemInformation::parse(stream)
@@ -116,7 +118,7 @@ impl<'s, S: Source + Drop> PDB<'s, S> {
     /// `StreamNotFound` where the container has no such stream, `PageReferenceOutOfRange` for a page outside the file,
     /// `UnexpectedEof` where the container's directory isn't whole; `IoError` past the file's end, and where the source
     /// failed; `OutOfMemory`.
-    #[tactic(auto, unfolding(crate::specs::Streams::stream_if_named))]
+    #[tactic(auto, unfolding(crate::specs::Streams::if_named))]
     pub fn raw_stream(&mut self, alloc: Global, index: StreamIndex) -> Result<Option<Stream<'s>>>
         ensures same { S.bytes self.new ≡ S.bytes self.old }
         ensures counts { S.failures self.old ≤ S.failures self.new }
@@ -134,7 +136,7 @@ impl<'s, S: Source + Drop> PDB<'s, S> {
     /// # Errors
     /// `StreamNameNotFound` where no stream has the name; `UnexpectedEof` where the names aren't whole; those of reading a
     /// stream.
-    #[tactic(auto, using(pdb_container::proofs::Outside::outside_alone, pdb_container::proofs::Outside::outside_earlier, pdb_container::proofs::Outside::outside_later), unfolding(crate::specs::Opened::named_stream))]
+    #[tactic(auto, using(pdb_container::proofs::Outside::outside_alone, pdb_container::proofs::Outside::outside_earlier, pdb_container::proofs::Outside::outside_later), unfolding(crate::specs::Opened::named_stream, crate::specs::Opened::information, crate::specs::Shared::shared, crate::specs::Shared::named, crate::specs::Shared::named_number))]
     pub fn named_stream(&mut self, alloc: Global, name: &[u8]) -> Result<Stream<'s>>
         ensures same { S.bytes self.new ≡ S.bytes self.old }
         ensures counts { S.failures self.old ≤ S.failures self.new }
@@ -151,11 +153,11 @@ impl<'s, S: Source + Drop> PDB<'s, S> {
     /// # Errors
     /// Those of [`PDB::named_stream`]; `UnimplementedFeature` for a table of another kind, `UnexpectedEof` where it isn't
     /// whole.
-    #[tactic(auto, using(pdb_container::proofs::Outside::outside_alone), unfolding(crate::specs::Opened::names))]
+    #[tactic(auto, using(pdb_container::proofs::Outside::outside_alone), unfolding(crate::specs::Opened::names, crate::specs::Opened::named_stream, crate::specs::Shared::shared))]
     pub fn string_table(&mut self, alloc: Global) -> Result<StringTable<'s>>
         ensures same { S.bytes self.new ≡ S.bytes self.old }
         ensures counts { S.failures self.old ≤ S.failures self.new }
-        ensures exact { Gives (λ t. t) (HasRisen (S.failures self.old) (S.failures self.new)) result (names (streams (S.bytes self.old))) }
+        ensures exact { Gives (λ t. t) (HasRisen (S.failures self.old) (S.failures self.new)) result (names (shared (streams (S.bytes self.old)))) }
     {
         let stream = self.named_stream(alloc, b"/names")?;
         StringTable::parse(stream)
@@ -164,15 +166,31 @@ impl<'s, S: Source + Drop> PDB<'s, S> {
     /// The global symbols.
     ///
     /// # Errors
-    /// Those of [`PDB::debug_information`]; `GlobalSymbolsNotFound` where it names no such stream; those of reading a
-    /// stream.
-    #[tactic(auto, using(pdb_container::proofs::Outside::outside_alone, pdb_container::proofs::Outside::outside_earlier, pdb_container::proofs::Outside::outside_later), unfolding(crate::specs::Opened::global_symbols, crate::specs::Streams::stream_if_named))]
+    /// Those of [`PDB::debug_information`], and of [`PDB::global_symbols_by`].
+    #[tactic(auto, using(pdb_container::proofs::Outside::outside_earlier, pdb_container::proofs::Outside::outside_later, crate::proofs::SharedSteps::symbols_read), unfolding(crate::specs::Opened::global_symbols))]
     pub fn global_symbols(&mut self, alloc: Global) -> Result<SymbolTable<'s>>
         ensures same { S.bytes self.new ≡ S.bytes self.old }
         ensures counts { S.failures self.old ≤ S.failures self.new }
-        ensures exact { Gives (λ s. s) (HasRisen (S.failures self.old) (S.failures self.new)) result (global_symbols (streams (S.bytes self.old))) }
+        ensures exact { Gives (λ s. s) (HasRisen (S.failures self.old) (S.failures self.new)) result (global_symbols (shared (streams (S.bytes self.old)))) }
     {
         let debug_information = self.debug_information(alloc)?;
+        self.global_symbols_by(alloc, &debug_information)
+    }
+
+    /// The global symbols, by what was read of the image before.
+    ///
+    /// # Errors
+    /// `GlobalSymbolsNotFound` where no stream of symbols is named; those of reading a stream.
+    #[tactic(auto, unfolding(crate::specs::Opened::global_symbols_by, crate::specs::Streams::if_named))]
+    pub fn global_symbols_by(
+        &mut self,
+        alloc: Global,
+        debug_information: &DebugInformation<'_>,
+    ) -> Result<SymbolTable<'s>>
+        ensures same { S.bytes self.new ≡ S.bytes self.old }
+        ensures counts { S.failures self.old ≤ S.failures self.new }
+        ensures exact { Gives (λ s. s) (HasRisen (S.failures self.old) (S.failures self.new)) result (global_symbols_by debug_information.now.symbol_records_stream ((streams (S.bytes self.old)).at debug_information.now.symbol_records_stream)) }
+    {
         let index = debug_information.symbol_records_stream();
         match self.raw_stream(alloc, index)? {
             None => Err(Error::GlobalSymbolsNotFound),
@@ -185,7 +203,7 @@ impl<'s, S: Source + Drop> PDB<'s, S> {
     ///
     /// # Errors
     /// Those of reading a stream ([`PDB::raw_stream`]).
-    #[tactic(auto, unfolding(crate::specs::Opened::module_info))]
+    #[tactic(auto, unfolding(crate::specs::Opened::module_info, crate::specs::Shared::info_in))]
     pub fn module_info(
         &mut self,
         alloc: Global,
@@ -204,13 +222,13 @@ impl<'s, S: Source + Drop> PDB<'s, S> {
     /// The sections of the image; `None` where the database has no list of them.
     ///
     /// # Errors
-    /// Those of [`PDB::debug_information`]; `InvalidStreamLength` for a list of streams that isn't made of whole numbers;
-    /// those of reading a stream; `UnexpectedEof` for a section header that isn't whole.
-    #[tactic(auto, using(pdb_container::proofs::Outside::outside_earlier, pdb_container::proofs::Outside::outside_later), unfolding(crate::specs::Opened::sections))]
+    /// Those of [`PDB::debug_information`]; behind these `InvalidStreamLength` for a list of streams that isn't made of whole
+    /// numbers; those of reading a stream; `UnexpectedEof` for a section header that isn't whole.
+    #[tactic(auto, using(pdb_container::proofs::Outside::outside_earlier, pdb_container::proofs::Outside::outside_later, crate::proofs::SharedSteps::sections_read), unfolding(crate::specs::Opened::sections))]
     pub fn sections(&mut self, alloc: Global) -> Result<Option<Vec<ImageSectionHeader>>>
         ensures same { S.bytes self.new ≡ S.bytes self.old }
         ensures counts { S.failures self.old ≤ S.failures self.new }
-        ensures exact { Gives (option_map (λ v. v.items)) (HasRisen (S.failures self.old) (S.failures self.new)) result (sections (streams (S.bytes self.old))) }
+        ensures exact { Gives (option_map (λ v. v.items)) (HasRisen (S.failures self.old) (S.failures self.new)) result (sections (shared (streams (S.bytes self.old)))) }
     {
         let debug_information = self.debug_information(alloc)?;
         self.sections_by(alloc, &debug_information)
@@ -221,11 +239,11 @@ impl<'s, S: Source + Drop> PDB<'s, S> {
     /// # Errors
     /// The first fault of: [`PDB::sections`]; the sections before the code was moved, where there is a list of them, as of
     /// sections; the maps to and from these, as of reading a stream, and `InvalidStreamLength`.
-    #[tactic(auto, using(pdb_container::proofs::Outside::outside_earlier, pdb_container::proofs::Outside::outside_later), unfolding(crate::specs::Opened::address_map))]
+    #[tactic(auto, using(pdb_container::proofs::Outside::outside_earlier, pdb_container::proofs::Outside::outside_later, crate::proofs::SharedSteps::address_map_read), unfolding(crate::specs::Opened::address_map))]
     pub fn address_map(&mut self, alloc: Global) -> Result<AddressMap<'s>>
         ensures same { S.bytes self.new ≡ S.bytes self.old }
         ensures counts { S.failures self.old ≤ S.failures self.new }
-        ensures exact { Gives (λ m. m) (HasRisen (S.failures self.old) (S.failures self.new)) result (address_map (streams (S.bytes self.old))) }
+        ensures exact { Gives (λ m. m) (HasRisen (S.failures self.old) (S.failures self.new)) result (address_map (shared (streams (S.bytes self.old)))) }
     {
         let debug_information = self.debug_information(alloc)?;
         self.address_map_by(alloc, &debug_information)
@@ -258,16 +276,19 @@ impl<'s, S: Source + Drop> PDB<'s, S> {
         self.raw_stream(alloc, index)
     }
 
-    /// The sections of the image.
+    /// The sections of the image, by what was read of it before; `None` where the database has no list of them.
+    ///
+    /// # Errors
+    /// Those of [`PDB::sections`] behind stream 3.
     #[tactic(auto, using(pdb_container::proofs::Outside::outside_alone), unfolding(crate::specs::AddressTables::sections_by))]
-    fn sections_by(
+    pub fn sections_by(
         &mut self,
         alloc: Global,
         debug_information: &DebugInformation<'_>,
     ) -> Result<Option<Vec<ImageSectionHeader>>>
         ensures same { S.bytes self.new ≡ S.bytes self.old }
         ensures counts { S.failures self.old ≤ S.failures self.new }
-        ensures exact { Gives (option_map (λ v. v.items)) (HasRisen (S.failures self.old) (S.failures self.new)) result (sections_by (streams (S.bytes self.old)) debug_information.now) }
+        ensures exact { Gives (option_map (λ v. v.items)) (HasRisen (S.failures self.old) (S.failures self.new)) result (sections_by (optional_stream (streams (S.bytes self.old)) debug_information.now)) }
     {
         let stream = self.optional_stream(alloc, debug_information, SECTION_HEADERS)?;
         section_headers_in(alloc, stream)
@@ -282,22 +303,25 @@ impl<'s, S: Source + Drop> PDB<'s, S> {
     ) -> Result<Option<Vec<ImageSectionHeader>>>
         ensures same { S.bytes self.new ≡ S.bytes self.old }
         ensures counts { S.failures self.old ≤ S.failures self.new }
-        ensures exact { Gives (option_map (λ v. v.items)) (HasRisen (S.failures self.old) (S.failures self.new)) result (original_sections_by (streams (S.bytes self.old)) debug_information.now) }
+        ensures exact { Gives (option_map (λ v. v.items)) (HasRisen (S.failures self.old) (S.failures self.new)) result (original_sections_by (optional_stream (streams (S.bytes self.old)) debug_information.now)) }
     {
         let stream = self.optional_stream(alloc, debug_information, ORIGINAL_SECTION_HEADERS)?;
         section_headers_in(alloc, stream)
     }
 
-    /// The ways between the image's addresses and the database's.
+    /// The ways between the addresses of the image and those of the database, by what was read of the image before.
+    ///
+    /// # Errors
+    /// Those of [`PDB::address_map`] behind stream 3.
     #[tactic(auto, using(pdb_container::proofs::Outside::outside_earlier, pdb_container::proofs::Outside::outside_later), unfolding(crate::specs::AddressTables::address_map_by))]
-    fn address_map_by(
+    pub fn address_map_by(
         &mut self,
         alloc: Global,
         debug_information: &DebugInformation<'_>,
     ) -> Result<AddressMap<'s>>
         ensures same { S.bytes self.new ≡ S.bytes self.old }
         ensures counts { S.failures self.old ≤ S.failures self.new }
-        ensures exact { Gives (λ m. m) (HasRisen (S.failures self.old) (S.failures self.new)) result (address_map_by (streams (S.bytes self.old)) debug_information.now) }
+        ensures exact { Gives (λ m. m) (HasRisen (S.failures self.old) (S.failures self.new)) result (address_map_by (optional_stream (streams (S.bytes self.old)) debug_information.now)) }
     {
         let image = self.sections_by(alloc, debug_information)?;
         let image = image.unwrap_or(Vec::new(alloc));
@@ -315,7 +339,7 @@ impl<'s, S: Source + Drop> PDB<'s, S> {
     ) -> Result<AddressMap<'s>>
         ensures same { S.bytes self.new ≡ S.bytes self.old }
         ensures counts { S.failures self.old ≤ S.failures self.new }
-        ensures exact { Gives (λ m. m) (HasRisen (S.failures self.old) (S.failures self.new)) result (map_with (streams (S.bytes self.old)) debug_information.now image.items (option_map (λ v. v.items) original)) }
+        ensures exact { Gives (λ m. m) (HasRisen (S.failures self.old) (S.failures self.new)) result (map_with (optional_stream (streams (S.bytes self.old)) debug_information.now) image.items (option_map (λ v. v.items) original)) }
     {
         match original {
             None => Ok(AddressMap::new(None, image, None, None)),
@@ -334,7 +358,7 @@ impl<'s, S: Source + Drop> PDB<'s, S> {
     ) -> Result<AddressMap<'s>>
         ensures same { S.bytes self.new ≡ S.bytes self.old }
         ensures counts { S.failures self.old ≤ S.failures self.new }
-        ensures exact { Gives (λ m. m) (HasRisen (S.failures self.old) (S.failures self.new)) result (map_behind (streams (S.bytes self.old)) debug_information.now image.items original.items) }
+        ensures exact { Gives (λ m. m) (HasRisen (S.failures self.old) (S.failures self.new)) result (map_behind (optional_stream (streams (S.bytes self.old)) debug_information.now) image.items original.items) }
     {
         let to_source = self.optional_stream(alloc, debug_information, OMAP_TO_SOURCE)?;
         let to_original = omap_in(alloc, to_source)?;

@@ -1,13 +1,13 @@
 //! Functions and frames at an address, and their text.
 
 ghost use Rattle.std.specs.Prelude.{◌≡◌, ◌++◌, IfOk, OnOk, string_bytes, option_map};
-ghost use Rattle.pdb_container_types.specs.Addresses.{IsOrdered};
+ghost use Rattle.pdb_addresses.specs.Addresses.{IsOrdered};
 ghost use Rattle.pdb_report.specs.Answers.{procedure_name, procedure_frame, found_at, found, frame_text, answer_text, text_or};
 ghost use Rattle.pdb_report.specs.Seen.{answer_seen};
 ghost use Rattle.std.specs.List.{flat_map};
 
 use crate::pdb_module_data::Procedure;
-use pdb_container_types::AddressMap;
+use pdb_addresses::AddressMap;
 use std::alloc::{AllocError, Global};
 use std::marker::Model;
 

@@ -10,8 +10,8 @@ returns-clause-apart c =
           let offsets = ap (λ s. s.offset) w.index-last.ensures in
           let sizes = ap (λ s. s.size) w.index-last.ensures in
           elim w.else-last-slice.branch [
-            | else-last-slice-via-then-last-slice+else-slice-last w' ↦ apart_push c.args.slices.now.items (c.len-count.result - 1) w.index-last.result.now c.args.slice (omega arith) (λ e. omega arith) h
-            | else-last-slice-via-else-last-slice w' ↦ apart_push c.args.slices.now.items (c.len-count.result - 1) w.index-last.result.now c.args.slice (omega arith) (λ e. omega arith) h
+            | else-last-slice-via-then-last-slice+else-slice-last w' ↦ apart_push c.args.slices.now.items (c.len-count.result - 1) w.index-last.result.now c.args.slice (omega arith) (λ e. omega arith) c.requires.full h
+            | else-last-slice-via-else-last-slice w' ↦ apart_push c.args.slices.now.items (c.len-count.result - 1) w.index-last.result.now c.args.slice (omega arith) (λ e. omega arith) c.requires.full h
           ]
-      | else-count-gt0 w ↦ apart_one _ _ (omega arith)
+      | else-count-gt0 w ↦ apart_one _ _ (omega arith) c.requires.full
     ])

@@ -1,0 +1,17 @@
+use Rattle.std.proofs.Common.{rules, leb, get_or}
+use Rattle.std.proofs.lemmas.Bool.{leb-true, leb-false}
+use Rattle.std.proofs.lemmas.List.Sorted.{IsPartitionPoint-from_clause, IsPartitionedBy-leb}
+use Rattle.pdb_addresses.proofs.OrderSteps.{start, starts_rise}
+use Rattle.pdb_addresses.proofs.section_list.begun.Goals as goal
+
+pub returns-clause-low : goal.returns-clause-low
+returns-clause-low c = λ k d low high.
+    leb-true (start (get_or c.args.sections.now k d)) c.args.address
+    ((IsPartitionPoint-from_clause (λ s. leb (start s) c.args.address) _ _ c.partition_point.ensures.partitioned
+    (IsPartitionedBy-leb start _ c.args.address (starts_rise _ c.requires)) (λ a r f' k. search rules)).0 k d low high)
+
+pub returns-clause-high : goal.returns-clause-high
+returns-clause-high c = λ k d low high.
+    leb-false (start (get_or c.args.sections.now k d)) c.args.address
+    ((IsPartitionPoint-from_clause (λ s. leb (start s) c.args.address) _ _ c.partition_point.ensures.partitioned
+    (IsPartitionedBy-leb start _ c.args.address (starts_rise _ c.requires)) (λ a r f' k. search rules)).1 k d low high)

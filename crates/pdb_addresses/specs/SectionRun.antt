@@ -1,0 +1,23 @@
+-- How far the place of an address goes on.
+use Rattle.std.specs.Prelude.{ℕ, ◌+◌, ◌-◌, min, List, [], ◌∷◌, nat_lt, Option, None, Some, if◌then◌else◌}
+use Rattle.pdb_addresses.specs.declared.sections.ImageSectionHeader.{ImageSectionHeader}
+use Rattle.pdb_addresses.specs.Places.{Place}
+
+-- where sections start and end
+abbrev pub bounds : List ImageSectionHeader → List ℕ
+bounds [] = []
+bounds (s ∷ sections) = s.virtual_address ∷ (s.virtual_address + s.virtual_size) ∷ bounds sections
+
+-- the lesser of a number and the distance to a bound, if that lies past the address
+abbrev pub nearer : ℕ → ℕ → ℕ → ℕ
+nearer address bound far = if nat_lt address bound then min far (bound - address) else far
+
+-- the lesser of a number and the distance to the next bound past an address
+abbrev pub up_to_next : List ℕ → ℕ → ℕ → ℕ
+up_to_next [] address limit = limit
+up_to_next (b ∷ others) address limit = nearer address b (up_to_next others address limit)
+
+-- a place so many bytes on in its section; none stays none
+abbrev pub moved : ℕ → Option Place → Option Place
+moved k None = None
+moved k (Some p) = Some (record { section = p.section; offset = p.offset + k })

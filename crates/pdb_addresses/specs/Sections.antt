@@ -1,0 +1,83 @@
+-- Section headers, the places of addresses, and the addresses of places.
+use Rattle.std.specs.Prelude.{ℕ, ◌+◌, ◌-◌, Bool, not, List, [], ◌∷◌, nat_lt, nat_le, ◌==◌, Option, None, Some, if◌then◌else◌, slice_get, position, take, Result, Ok, bit_and}
+use Rattle.std.specs.Int.{w16, w32}
+use Rattle.pdb_container.specs.Fault.{Fault, ◌>>=◌}
+use Rattle.pdb_container.specs.Fields.{Reader, number_at, bytes_of, entries}
+use Rattle.pdb_addresses.specs.declared.sections.ImageSectionHeader.{ImageSectionHeader}
+use Rattle.pdb_addresses.specs.declared.sections.SectionCharacteristics.{SectionCharacteristics}
+use Rattle.pdb_addresses.specs.Numbers.{in_32_bits}
+use Rattle.pdb_addresses.specs.Places.{Place}
+
+-- a section header, 40 bytes
+unfoldable pub section_header_at : Reader ImageSectionHeader
+section_header_at bytes = do
+  name ← bytes_of 8 bytes
+  virtual_size ← number_at w32 name.1
+  virtual_address ← number_at w32 virtual_size.1
+  size_of_raw_data ← number_at w32 virtual_address.1
+  pointer_to_raw_data ← number_at w32 size_of_raw_data.1
+  pointer_to_relocations ← number_at w32 pointer_to_raw_data.1
+  pointer_to_line_numbers ← number_at w32 pointer_to_relocations.1
+  number_of_relocations ← number_at w16 pointer_to_line_numbers.1
+  number_of_line_numbers ← number_at w16 number_of_relocations.1
+  characteristics ← number_at w32 number_of_line_numbers.1
+  Ok (
+    record {
+      name = name.0;
+      virtual_size = virtual_size.0;
+      virtual_address = virtual_address.0;
+      size_of_raw_data = size_of_raw_data.0;
+      pointer_to_raw_data = pointer_to_raw_data.0;
+      pointer_to_relocations = pointer_to_relocations.0;
+      pointer_to_line_numbers = pointer_to_line_numbers.0;
+      number_of_relocations = number_of_relocations.0;
+      number_of_line_numbers = number_of_line_numbers.0;
+      characteristics = record { 0 = characteristics.0 };
+    },
+    characteristics.1,
+  )
+
+-- the section headers of a stream, to its end
+abbrev pub section_headers_of : List ℕ → Result (List ImageSectionHeader) Fault
+section_headers_of bytes = entries section_header_at bytes
+
+-- the bytes before the first NUL, or all of them
+abbrev pub text_in : List ℕ → Option ℕ → List ℕ
+text_in bytes None = bytes
+text_in bytes (Some end) = take end bytes
+
+abbrev pub text_before_nul : List ℕ → List ℕ
+text_before_nul bytes = text_in bytes (position (λ byte. byte == 0) bytes)
+
+-- code may run in a section
+abbrev pub may_execute : SectionCharacteristics → Bool
+may_execute c = not (bit_and c.0 0x20000000 == 0)
+
+-- the section of a number, counted from 1
+abbrev pub section_at : List ImageSectionHeader → ℕ → Option ImageSectionHeader
+section_at sections number = if number == 0 then None else slice_get sections (number - 1)
+
+-- an offset in the section of a number, if it is a place's: numbers past 65535 have none
+abbrev pub place_in : ℕ → ℕ → Option Place
+place_in number offset = if nat_le number 65535 then Some (record { section = number; offset = offset }) else None
+
+-- The place of an address among the sections from a number on: they are walked while their virtual address is at
+-- most the address, and the first that holds it has it.
+abbrev pub place_from : ℕ → List ImageSectionHeader → ℕ → Option Place
+place_from number [] address = None
+place_from number (s ∷ sections) address =
+    if nat_lt address s.virtual_address then None
+    else (if nat_lt (address - s.virtual_address) s.virtual_size then place_in number (address - s.virtual_address)
+    else place_from (number + 1) sections address)
+
+-- the place of an address
+abbrev pub place : List ImageSectionHeader → ℕ → Option Place
+place sections address = place_from 1 sections address
+
+abbrev pub address_behind : Option ImageSectionHeader → ℕ → Option ℕ
+address_behind None offset = None
+address_behind (Some s) offset = in_32_bits (s.virtual_address + offset)
+
+-- the address of a place
+abbrev pub address : List ImageSectionHeader → ℕ → ℕ → Option ℕ
+address sections section offset = address_behind (section_at sections section) offset

@@ -1,0 +1,98 @@
+//! Places in the sections of the space in which a database was written.
+
+ghost use Rattle.std.specs.Prelude.{◌≡◌, ◌+◌, ◌-◌, ◌%◌, ◌^◌, min, option_map};
+ghost use Rattle.pdb_addresses.specs.Addresses.{IsOrdered, outer_of_place, place_outside};
+ghost use Rattle.pdb_addresses.specs.Numbers.{in_32_bits, image_address, internal_address};
+ghost use Rattle.pdb_addresses.specs.Places.{compared, image_place, internal_place_at};
+ghost use Rattle.pdb_addresses.specs.Sections.{address as address_of};
+
+use crate::address_map::AddressMap;
+use crate::internal_rva::PdbInternalRva;
+use crate::rva::Rva;
+use crate::section_offset::SectionOffset;
+use std::cmp::Ordering;
+
+/// A place in the space in which the database was written: a section's number, counted from 1, and an offset in it in
+/// bytes.
+#[derive(Clone, Copy, Debug, Default, PartialEq, Eq, Hash)]
+pub struct PdbInternalSectionOffset {
+    /// In bytes from the section's start.
+    pub offset: u32,
+    /// The section's number, counted from 1.
+    pub section: u16,
+}
+
+/// Places in one section compare by their offsets; places in two sections don't compare.
+impl PartialOrd for PdbInternalSectionOffset {
+    ghost use Rattle.std.specs.Prelude.{refl};
+    ghost use Rattle.pdb_addresses.specs.ComparedLaws.{compared_laws};
+
+    ghost partial_cmp = { λ a b. compared a.section a.offset b.section b.offset };
+
+    ghost laws = { compared_laws (λ p. p.section) (λ p. p.offset) (λ x y. refl) };
+
+    fn partial_cmp(&self, other: &PdbInternalSectionOffset) -> Option<Ordering> {
+        if self.section == other.section {
+            Some(self.offset.cmp(&other.offset))
+        } else {
+            None
+        }
+    }
+}
+
+impl PdbInternalSectionOffset {
+    /// The address in the image of its internal address; `None` where there is no such address, or the map sends it
+    /// nowhere.
+    pub fn to_rva(self, map: &AddressMap<'_>) -> Option<Rva>
+        requires { IsOrdered map.now }
+        ensures { result ≡ option_map image_address (outer_of_place map.now self.section self.offset) }
+    {
+        self.to_internal_rva(map)?.to_rva(map)
+    }
+
+    /// Its internal address; `None` past 32 bits, and for a section that isn't there.
+    pub fn to_internal_rva(self, map: &AddressMap<'_>) -> Option<PdbInternalRva>
+        ensures { result ≡ option_map internal_address (address_of map.now.internal self.section self.offset) }
+    {
+        map.internal_sections()
+            .address(self.section, self.offset)
+            .map(PdbInternalRva)
+    }
+
+    /// The image's place of its address; `None` where there is no such address, the map sends it nowhere, or no section
+    /// holds what it becomes.
+    pub fn to_section_offset(self, map: &AddressMap<'_>) -> Option<SectionOffset>
+        requires { IsOrdered map.now }
+        ensures { result ≡ option_map image_place (place_outside map.now self.section self.offset) }
+    {
+        self.to_internal_rva(map)?.to_section_offset(map)
+    }
+
+    /// The place so many bytes on, in the same section; `None` past 32 bits.
+    pub fn checked_add(self, offset: u32) -> Option<PdbInternalSectionOffset>
+        ensures { result ≡ option_map (internal_place_at self) (in_32_bits (self.offset + offset)) }
+    {
+        let offset = self.offset.checked_add(offset)?;
+        Some(PdbInternalSectionOffset { offset, ..self })
+    }
+
+    /// The place so many bytes on, in the same section, at most 0xffffffff.
+    pub fn saturating_add(self, offset: u32) -> PdbInternalSectionOffset
+        ensures { result ≡ internal_place_at self (min (self.offset + offset) (2 ^ 32 - 1)) }
+    {
+        PdbInternalSectionOffset {
+            offset: self.offset.saturating_add(offset),
+            ..self
+        }
+    }
+
+    /// The place so many bytes on, in the same section, going on from 0 past 0xffffffff.
+    pub fn wrapping_add(self, offset: u32) -> PdbInternalSectionOffset
+        ensures { result ≡ internal_place_at self ((self.offset + offset) % 2 ^ 32) }
+    {
+        PdbInternalSectionOffset {
+            offset: self.offset.wrapping_add(offset),
+            ..self
+        }
+    }
+}

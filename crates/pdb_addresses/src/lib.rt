@@ -1,0 +1,23 @@
+//! The addresses of an image, and those of the space in which its database was written.
+#![tactic(auto)]
+
+mod address_map;
+mod internal_rva;
+mod internal_section_offset;
+pub mod laws;
+mod omap;
+mod ranges;
+mod rva;
+mod section_list;
+mod section_offset;
+mod section_run;
+mod sections;
+
+pub use address_map::AddressMap;
+pub use internal_rva::PdbInternalRva;
+pub use internal_section_offset::PdbInternalSectionOffset;
+pub use omap::{OMAPRecord, parse_omap};
+pub use ranges::{PdbInternalRvaRangeIter, RvaRangeIter};
+pub use rva::Rva;
+pub use section_offset::SectionOffset;
+pub use sections::{ImageSectionHeader, SectionCharacteristics, parse_section_headers};

@@ -1,0 +1,129 @@
+//! The headers of an image's sections.
+
+ghost use Rattle.std.specs.Prelude.{◌≡◌, [], length, ◌<◌, ◌==◌, position, IfSome};
+ghost use Rattle.std.specs.Str.{IsUtf8};
+ghost use Rattle.pdb_container.specs.Buffer.{Reads};
+ghost use Rattle.pdb_container.specs.Fault.{Gives};
+ghost use Rattle.pdb_container.specs.Fields.{bytes_of};
+ghost use Rattle.pdb_addresses.specs.Sections.{section_headers_of, text_before_nul, may_execute};
+
+use pdb_container::{FromBuffer, ParseBuffer, Result};
+use std::alloc::Global;
+
+/// What may be done in a section.
+#[derive(Clone, Copy, Debug, Default, PartialEq, Eq)]
+pub struct SectionCharacteristics(pub u32);
+
+impl SectionCharacteristics {
+    /// Whether code may run in it.
+    pub fn execute(self) -> bool
+        ensures { result ≡ may_execute self }
+    {
+        self.0 & 0x2000_0000 != 0
+    }
+}
+
+/// What the header of a section says.
+#[derive(Clone, Copy, Debug, Default, PartialEq, Eq)]
+pub struct ImageSectionHeader {
+    /// The name, filled up with NULs.
+    pub name: [u8; 8],
+    /// The size in memory, in bytes.
+    pub virtual_size: u32,
+    /// The address in memory, in bytes from the image's start.
+    pub virtual_address: u32,
+    /// The size in the image's file, in bytes.
+    pub size_of_raw_data: u32,
+    /// Where it begins in the image's file, in bytes.
+    pub pointer_to_raw_data: u32,
+    /// Where its relocations begin in the image's file, in bytes.
+    pub pointer_to_relocations: u32,
+    /// Where its line numbers begin in the image's file, in bytes.
+    pub pointer_to_line_numbers: u32,
+    /// How many relocations it has.
+    pub number_of_relocations: u16,
+    /// How many line numbers it has.
+    pub number_of_line_numbers: u16,
+    /// What may be done in it.
+    pub characteristics: SectionCharacteristics,
+}
+
+/// A section header, 40 bytes; `UnexpectedEof` where fewer are left.
+impl FromBuffer for ImageSectionHeader {
+    ghost use Rattle.pdb_addresses.specs.Sections.{section_header_at};
+
+    ghost read = { section_header_at };
+
+    #[tactic(auto, unfolding(crate::specs::Sections::section_header_at))]
+    fn from_buffer(buffer: &mut ParseBuffer<'_>) -> Result<ImageSectionHeader> {
+        Ok(ImageSectionHeader {
+            name: parse_name(buffer)?,
+            virtual_size: buffer.parse_u32()?,
+            virtual_address: buffer.parse_u32()?,
+            size_of_raw_data: buffer.parse_u32()?,
+            pointer_to_raw_data: buffer.parse_u32()?,
+            pointer_to_relocations: buffer.parse_u32()?,
+            pointer_to_line_numbers: buffer.parse_u32()?,
+            number_of_relocations: buffer.parse_u16()?,
+            number_of_line_numbers: buffer.parse_u16()?,
+            characteristics: SectionCharacteristics(buffer.parse_u32()?),
+        })
+    }
+}
+
+/// The next eight bytes; `UnexpectedEof` where fewer are left.
+fn parse_name(buffer: &mut ParseBuffer<'_>) -> Result<[u8; 8]>
+    ensures { Reads (λ name. name) result buffer.old buffer.new (bytes_of 8) }
+{
+    let bytes = buffer.take(8)?;
+    let mut name = [0; 8];
+    name.copy_from_slice(bytes);
+    Ok(name)
+}
+
+impl ImageSectionHeader {
+    /// The name: the bytes before the first NUL, and nothing where they aren't UTF-8.
+    pub fn name(&self) -> &str
+        ensures text { IsUtf8 (text_before_nul self.now.name) → result.now ≡ text_before_nul self.now.name }
+        ensures other { (IsUtf8 (text_before_nul self.now.name) → ⊥) → result.now ≡ [] }
+    {
+        match std::str::from_utf8(before_nul(&self.name)) {
+            Ok(name) => name,
+            Err(_) => "",
+        }
+    }
+}
+
+/// The bytes before the first NUL, or all of them.
+fn before_nul(bytes: &[u8]) -> &[u8]
+    ensures { result.now ≡ text_before_nul bytes.now }
+{
+    match nul_in(bytes) {
+        None => bytes,
+        Some(end) => &bytes[..end],
+    }
+}
+
+/// Where the first NUL is.
+fn nul_in(bytes: &[u8]) -> Option<usize>
+    ensures value { result ≡ position (λ byte. byte == 0) bytes.now }
+    ensures within { IfSome result (λ n. n < length bytes.now) }
+{
+    bytes.iter().position(|byte| *byte == 0)
+}
+
+/// The section headers of a stream, to its end; `UnexpectedEof` where the last one is cut.
+#[tactic(auto, using(pdb_container::proofs::Entries::entries_start, pdb_container::proofs::Entries::entries_more, pdb_container::proofs::Entries::entries_fail, pdb_container::proofs::Entries::entries_end, pdb_container::proofs::Entries::entries_done))]
+pub fn parse_section_headers(alloc: Global, bytes: &[u8]) -> Result<Vec<ImageSectionHeader>>
+    ensures { Gives (λ v. v.items) ⊥ result (section_headers_of bytes.now) }
+{
+    let mut buffer = ParseBuffer::from(bytes);
+    let mut sections = Vec::new(alloc);
+    for _ in 0..bytes.len() {
+        if buffer.is_empty() {
+            break;
+        }
+        sections.push(buffer.parse::<ImageSectionHeader>()?)?;
+    }
+    Ok(sections)
+}

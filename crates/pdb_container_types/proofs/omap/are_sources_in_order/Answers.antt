@@ -1,6 +1,0 @@
-use Rattle.std.proofs.Common.{arith}
-use Rattle.pdb_container_types.proofs.OmapLemmas.{in_order_done}
-use Rattle.pdb_container_types.proofs.omap.are_sources_in_order.Goals as goal
-
-pub returns : goal.returns
-returns c = in_order_done c.args.records.now c.loop-i.i (omega arith) c.loop-i.invariant

@@ -1,0 +1,5 @@
+pub mod Bits
+pub mod IdIndex
+pub mod Index
+pub mod RecordFields
+pub mod TypeIndex

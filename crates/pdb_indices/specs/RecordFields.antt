@@ -1,0 +1,91 @@
+-- Fields of records: each is a value and the bytes behind it, or the fault of what is missing.
+use Rattle.std.specs.Prelude.{ℕ, ◌||◌, List, Option, Some, None, Ok, Err, nat_lt, ◌==◌, if◌then◌else◌, Result, zero, suc, [], ◌∷◌}
+use Rattle.std.specs.Int.{w8, w16, w32, w64}
+use Rattle.pdb_container.specs.declared.error.Error.{Error}
+use Rattle.pdb_container.specs.Fault.{Fault, UnexpectedNumericPrefix, ◌>>=◌, Gives}
+use Rattle.pdb_container.specs.Fields.{Reader, number_at, signed_at, c_string_at, pascal_string_at}
+use Rattle.pdb_indices.specs.declared.index.TypeIndex.{TypeIndex}
+use Rattle.pdb_indices.specs.declared.index.IdIndex.{IdIndex}
+use Rattle.pdb_indices.specs.declared.variant.Variant.{Variant}
+use Rattle.pdb_indices.specs.declared.variant.Variant.TheVariants as variants
+
+-- A call gave what reading gives and went behind it, unless memory was refused.
+abbrev pub GivesAll : {X Y : Type 0} → (X → Y) → Result X Error → List ℕ → Result (Y × List ℕ) Fault → Type 0
+GivesAll view result new read = Gives (λ x. (view x, new)) ⊥ result read
+
+-- ---- indices
+
+unfoldable pub type_index_at : Reader TypeIndex
+type_index_at bytes = do
+  n ← number_at w32 bytes
+  Ok (record { 0 = n.0 }, n.1)
+
+unfoldable pub id_index_at : Reader IdIndex
+id_index_at bytes = do
+  n ← number_at w32 bytes
+  Ok (record { 0 = n.0 }, n.1)
+
+-- an index, none at 0 and at 0xffff
+unfoldable pub optional_type_index_at : Reader (Option TypeIndex)
+optional_type_index_at bytes = do
+  n ← number_at w32 bytes
+  if n.0 == 0 || n.0 == 0xffff then Ok (None, n.1) else Ok (Some record { 0 = n.0 }, n.1)
+
+unfoldable pub optional_id_index_at : Reader (Option IdIndex)
+optional_id_index_at bytes = do
+  n ← number_at w32 bytes
+  if n.0 == 0 || n.0 == 0xffff then Ok (None, n.1) else Ok (Some record { 0 = n.0 }, n.1)
+
+-- ---- numbers that say their own width
+
+-- an unsigned number: the prefix itself, or what stands behind it
+abbrev pub numeric_behind : ℕ → Reader ℕ
+numeric_behind prefix bytes =
+    if nat_lt prefix 0x8000 then Ok (prefix, bytes)
+    else (if prefix == 0x8000 then number_at w8 bytes
+    else (if prefix == 0x8002 then number_at w16 bytes
+    else (if prefix == 0x8004 then number_at w32 bytes
+    else (if prefix == 0x800a then number_at w64 bytes
+    else Err (UnexpectedNumericPrefix prefix)))))
+
+unfoldable pub numeric_at : Reader ℕ
+numeric_at bytes = do
+  prefix ← number_at w16 bytes
+  numeric_behind prefix.0 prefix.1
+
+abbrev pub as_value : {A B : Type 0} → (A → B) → Result (A × List ℕ) Fault → Result (B × List ℕ) Fault
+as_value make read = read >>= λ x. Ok (make x.0, x.1)
+
+-- a number with its width, signed or not
+abbrev pub variant_behind : ℕ → Reader Variant
+variant_behind prefix bytes =
+    if nat_lt prefix 0x8000 then Ok (variants.U16 prefix, bytes)
+    else (if prefix == 0x8000 then as_value variants.U8 (number_at w8 bytes)
+    else (if prefix == 0x8001 then as_value variants.I16 (signed_at w16 bytes)
+    else (if prefix == 0x8002 then as_value variants.U16 (number_at w16 bytes)
+    else (if prefix == 0x8003 then as_value variants.I32 (signed_at w32 bytes)
+    else (if prefix == 0x8004 then as_value variants.U32 (number_at w32 bytes)
+    else (if prefix == 0x8009 then as_value variants.I64 (signed_at w64 bytes)
+    else (if prefix == 0x800a then as_value variants.U64 (number_at w64 bytes)
+    else Err (UnexpectedNumericPrefix prefix))))))))
+
+unfoldable pub variant_at : Reader Variant
+variant_at bytes = do
+  prefix ← number_at w16 bytes
+  variant_behind prefix.0 prefix.1
+
+-- ---- names
+
+-- a name: a C string in the records of leaves above 0x1500, else a Pascal string
+unfoldable pub name_at : ℕ → Reader (List ℕ)
+name_at leaf bytes = if nat_lt 0x1500 leaf then c_string_at bytes else pascal_string_at bytes
+
+-- ---- lists
+
+-- so many values, one behind the other
+unfoldable pub many_at : {A : Type 0} → Reader A → ℕ → Reader (List A)
+many_at one zero bytes = Ok ([], bytes)
+many_at one (suc n) bytes = do
+  first ← one bytes
+  others ← many_at one n first.1
+  Ok (first.0 ∷ others.0, others.1)

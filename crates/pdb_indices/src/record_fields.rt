@@ -1,0 +1,80 @@
+//! Fields of records.
+
+ghost use Rattle.std.specs.Prelude.{◌≡◌};
+ghost use Rattle.pdb_container.specs.Buffer.{rest, ReadsAll};
+ghost use Rattle.pdb_container.specs.RawString.{raw_bytes};
+ghost use Rattle.pdb_indices.specs.RecordFields.{GivesAll, type_index_at, id_index_at, optional_type_index_at, optional_id_index_at, name_at, many_at};
+
+use crate::index::{IdIndex, TypeIndex};
+use pdb_container::{FromBuffer, ParseBuffer, RawString, Result};
+use std::alloc::Global;
+
+impl FromBuffer for TypeIndex {
+    ghost read = { type_index_at };
+
+    #[tactic(auto, unfolding(crate::specs::RecordFields::type_index_at))]
+    fn from_buffer(buffer: &mut ParseBuffer<'_>) -> Result<TypeIndex> {
+        Ok(TypeIndex(buffer.parse_u32()?))
+    }
+}
+
+impl FromBuffer for IdIndex {
+    ghost read = { id_index_at };
+
+    #[tactic(auto, unfolding(crate::specs::RecordFields::id_index_at))]
+    fn from_buffer(buffer: &mut ParseBuffer<'_>) -> Result<IdIndex> {
+        Ok(IdIndex(buffer.parse_u32()?))
+    }
+}
+
+/// The index of a type, or none where the number is 0 or 0xffff.
+#[tactic(auto, unfolding(crate::specs::RecordFields::optional_type_index_at))]
+pub fn parse_optional_type_index(buffer: &mut ParseBuffer<'_>) -> Result<Option<TypeIndex>>
+    ensures { ReadsAll (λ x. x) result (rest buffer.new) (optional_type_index_at (rest buffer.old)) }
+{
+    let number = buffer.parse_u32()?;
+    if number == 0 || number == 0xffff {
+        return Ok(None);
+    }
+    Ok(Some(TypeIndex(number)))
+}
+
+/// The index of an id, or none where the number is 0 or 0xffff.
+#[tactic(auto, unfolding(crate::specs::RecordFields::optional_id_index_at))]
+pub fn parse_optional_id_index(buffer: &mut ParseBuffer<'_>) -> Result<Option<IdIndex>>
+    ensures { ReadsAll (λ x. x) result (rest buffer.new) (optional_id_index_at (rest buffer.old)) }
+{
+    let number = buffer.parse_u32()?;
+    if number == 0 || number == 0xffff {
+        return Ok(None);
+    }
+    Ok(Some(IdIndex(number)))
+}
+
+/// A name in a record with that leaf: a C string above 0x1500, else a Pascal string.
+#[tactic(auto, unfolding(crate::specs::RecordFields::name_at))]
+pub fn parse_name<'t>(buffer: &mut ParseBuffer<'t>, leaf: u16) -> Result<RawString<'t>>
+    ensures { ReadsAll raw_bytes result (rest buffer.new) (name_at leaf (rest buffer.old)) }
+{
+    if leaf > 0x1500 {
+        buffer.parse_cstring()
+    } else {
+        buffer.parse_u8_pascal_string()
+    }
+}
+
+/// So many values, one behind the other. The room for them grows with what is read, and not with what is promised.
+#[tactic(auto, using(crate::proofs::Many::many_start, crate::proofs::Many::many_more, crate::proofs::Many::many_fail, crate::proofs::Many::many_done))]
+pub fn parse_many<T: FromBuffer + Drop>(
+    alloc: Global,
+    buffer: &mut ParseBuffer<'_>,
+    count: u32,
+) -> Result<Vec<T>>
+    ensures { GivesAll (λ v. v.items) result (rest buffer.new) (many_at T.read count (rest buffer.old)) }
+{
+    let mut values = Vec::new(alloc);
+    for _ in 0..count {
+        values.push(buffer.parse::<T>()?)?;
+    }
+    Ok(values)
+}

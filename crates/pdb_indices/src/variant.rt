@@ -1,0 +1,55 @@
+//! Numbers that say their own width.
+
+ghost use Rattle.std.specs.Prelude.{◌≡◌};
+ghost use Rattle.pdb_container.specs.Buffer.{rest, ReadsAll};
+ghost use Rattle.pdb_indices.specs.RecordFields.{numeric_at, variant_at};
+
+use pdb_container::{Error, ParseBuffer, Result};
+
+/// A number as it is stored, with its width and whether it is signed.
+#[derive(Clone, Copy, Debug, PartialEq, Eq, Hash)]
+pub enum Variant {
+    U8(u8),
+    U16(u16),
+    U32(u32),
+    U64(u64),
+    I8(i8),
+    I16(i16),
+    I32(i32),
+    I64(i64),
+}
+
+/// An unsigned number. `UnexpectedNumericPrefix`, `UnexpectedEof`.
+#[tactic(auto, unfolding(crate::specs::RecordFields::numeric_at))]
+pub fn parse_numeric(buffer: &mut ParseBuffer<'_>) -> Result<u64>
+    ensures { ReadsAll (λ x. x) result (rest buffer.new) (numeric_at (rest buffer.old)) }
+{
+    let prefix = buffer.parse_u16()?;
+    match prefix {
+        0..0x8000 => Ok(u64::from(prefix)),
+        0x8000 => Ok(u64::from(buffer.parse_u8()?)),
+        0x8002 => Ok(u64::from(buffer.parse_u16()?)),
+        0x8004 => Ok(u64::from(buffer.parse_u32()?)),
+        0x800a => buffer.parse_u64(),
+        _ => Err(Error::UnexpectedNumericPrefix(prefix)),
+    }
+}
+
+/// A number as it is stored. `UnexpectedNumericPrefix`, `UnexpectedEof`.
+#[tactic(auto, unfolding(crate::specs::RecordFields::variant_at))]
+pub fn parse_variant(buffer: &mut ParseBuffer<'_>) -> Result<Variant>
+    ensures { ReadsAll (λ x. x) result (rest buffer.new) (variant_at (rest buffer.old)) }
+{
+    let prefix = buffer.parse_u16()?;
+    match prefix {
+        0..0x8000 => Ok(Variant::U16(prefix)),
+        0x8000 => Ok(Variant::U8(buffer.parse_u8()?)),
+        0x8001 => Ok(Variant::I16(buffer.parse_i16()?)),
+        0x8002 => Ok(Variant::U16(buffer.parse_u16()?)),
+        0x8003 => Ok(Variant::I32(buffer.parse_i32()?)),
+        0x8004 => Ok(Variant::U32(buffer.parse_u32()?)),
+        0x8009 => Ok(Variant::I64(buffer.parse_i64()?)),
+        0x800a => Ok(Variant::U64(buffer.parse_u64()?)),
+        _ => Err(Error::UnexpectedNumericPrefix(prefix)),
+    }
+}

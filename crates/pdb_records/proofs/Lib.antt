@@ -1,0 +1,2 @@
+pub mod Dimensions
+pub mod FieldLists

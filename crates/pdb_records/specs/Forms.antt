@@ -1,0 +1,113 @@
+-- What a record says, with the bytes of its names and the elements of its lists in place of where they lie.
+use Rattle.std.specs.Prelude.{ℕ, List, Option}
+use Rattle.pdb_indices.specs.declared.index.TypeIndex.{TypeIndex}
+use Rattle.pdb_records.specs.declared.primitive.PrimitiveType.{PrimitiveType}
+use Rattle.pdb_indices.specs.declared.variant.Variant.{Variant}
+use Rattle.pdb_records.specs.declared.type_attributes.TypeProperties.{TypeProperties}
+use Rattle.pdb_records.specs.declared.type_attributes.FieldAttributes.{FieldAttributes}
+use Rattle.pdb_records.specs.declared.type_data.ClassKind.{ClassKind}
+use Rattle.pdb_records.specs.declared.type_data.MemberFunctionType.{MemberFunctionType}
+use Rattle.pdb_records.specs.declared.type_data.BaseClassType.{BaseClassType}
+use Rattle.pdb_records.specs.declared.type_data.VirtualBaseClassType.{VirtualBaseClassType}
+use Rattle.pdb_records.specs.declared.type_data.VirtualFunctionTablePointerType.{VirtualFunctionTablePointerType}
+use Rattle.pdb_records.specs.declared.type_data.ProcedureType.{ProcedureType}
+use Rattle.pdb_records.specs.declared.type_data.PointerType.{PointerType}
+use Rattle.pdb_records.specs.declared.type_data.ModifierType.{ModifierType}
+use Rattle.pdb_records.specs.declared.type_data.BitfieldType.{BitfieldType}
+use Rattle.pdb_records.specs.declared.type_data.MethodListEntry.{MethodListEntry}
+
+pub record ClassForm : Type 0 where
+  pub kind : ClassKind
+  pub count : ℕ
+  pub properties : TypeProperties
+  pub fields : Option TypeIndex
+  pub derived_from : Option TypeIndex
+  pub vtable_shape : Option TypeIndex
+  pub size : ℕ
+  pub name : List ℕ
+  pub unique_name : Option (List ℕ)
+
+pub record MemberForm : Type 0 where
+  pub attributes : FieldAttributes
+  pub field_type : TypeIndex
+  pub offset : ℕ
+  pub name : List ℕ
+
+pub record OverloadedMethodForm : Type 0 where
+  pub count : ℕ
+  pub method_list : TypeIndex
+  pub name : List ℕ
+
+pub record MethodForm : Type 0 where
+  pub attributes : FieldAttributes
+  pub method_type : TypeIndex
+  pub vtable_offset : Option ℕ
+  pub name : List ℕ
+
+pub record StaticMemberForm : Type 0 where
+  pub attributes : FieldAttributes
+  pub field_type : TypeIndex
+  pub name : List ℕ
+
+pub record NestedForm : Type 0 where
+  pub attributes : FieldAttributes
+  pub nested_type : TypeIndex
+  pub name : List ℕ
+
+pub record EnumerationForm : Type 0 where
+  pub count : ℕ
+  pub properties : TypeProperties
+  pub underlying_type : TypeIndex
+  pub fields : TypeIndex
+  pub name : List ℕ
+  pub unique_name : Option (List ℕ)
+
+pub record EnumerateForm : Type 0 where
+  pub attributes : FieldAttributes
+  pub value : Variant
+  pub name : List ℕ
+
+pub record ArrayForm : Type 0 where
+  pub element_type : TypeIndex
+  pub indexing_type : TypeIndex
+  pub stride : Option ℕ
+  pub dimensions : List ℕ
+
+pub record UnionForm : Type 0 where
+  pub count : ℕ
+  pub properties : TypeProperties
+  pub fields : TypeIndex
+  pub size : ℕ
+  pub name : List ℕ
+  pub unique_name : Option (List ℕ)
+
+-- a type that is no list of members
+pub data PlainForm : Type 0 where
+  Primitive : PrimitiveType → PlainForm
+  Class : ClassForm → PlainForm
+  Member : MemberForm → PlainForm
+  MemberFunction : MemberFunctionType → PlainForm
+  OverloadedMethod : OverloadedMethodForm → PlainForm
+  Method : MethodForm → PlainForm
+  StaticMember : StaticMemberForm → PlainForm
+  Nested : NestedForm → PlainForm
+  BaseClass : BaseClassType → PlainForm
+  VirtualBaseClass : VirtualBaseClassType → PlainForm
+  VirtualFunctionTablePointer : VirtualFunctionTablePointerType → PlainForm
+  Procedure : ProcedureType → PlainForm
+  Pointer : PointerType → PlainForm
+  Modifier : ModifierType → PlainForm
+  Enumeration : EnumerationForm → PlainForm
+  Enumerate : EnumerateForm → PlainForm
+  Array : ArrayForm → PlainForm
+  Union : UnionForm → PlainForm
+  Bitfield : BitfieldType → PlainForm
+  ArgumentList : List TypeIndex → PlainForm
+  MethodList : List MethodListEntry → PlainForm
+  -- what is none: a list of members
+  NotPlain : PlainForm
+
+-- a type; a list of members has no such list among them
+pub data TypeForm : Type 0 where
+  Plain : PlainForm → TypeForm
+  FieldList : List PlainForm → Option TypeIndex → TypeForm

@@ -1,0 +1,124 @@
+//! Records that are lists, or hold one.
+
+ghost use Rattle.std.specs.Prelude.{◌≡◌, ◌<◌, length, IfOk};
+ghost use Rattle.pdb_container.specs.Buffer.{rest, ReadsAll};
+ghost use Rattle.pdb_container.specs.Fault.{Gives};
+ghost use Rattle.pdb_container.specs.Fields.{entries};
+ghost use Rattle.pdb_indices.specs.RecordFields.{GivesAll};
+ghost use Rattle.pdb_records.specs.Shapes.{array_form};
+ghost use Rattle.pdb_records.specs.TypeRecords.{argument_list_at, method_list_entry_at, method_list_at, dimension_at, dimensions_at, stride_at, array_at};
+
+use crate::parse_member::parse_vtable_offset;
+use crate::type_attributes::FieldAttributes;
+use crate::type_data::{ArgumentList, ArrayType, MethodList, MethodListEntry};
+use pdb_container::{Error, ParseBuffer, Result};
+use pdb_indices::{TypeIndex, parse_many, parse_numeric};
+use std::alloc::Global;
+
+#[tactic(auto, unfolding(crate::specs::TypeRecords::argument_list_at))]
+pub fn parse_argument_list(alloc: Global, buffer: &mut ParseBuffer<'_>) -> Result<ArgumentList>
+    ensures { GivesAll (λ list. list.arguments.items) result (rest buffer.new) (argument_list_at (rest buffer.old)) }
+{
+    let count = buffer.parse_u32()?;
+    let arguments = parse_many::<TypeIndex>(alloc, buffer, count)?;
+    Ok(ArgumentList { arguments })
+}
+
+#[tactic(auto, unfolding(crate::specs::TypeRecords::method_list_entry_at))]
+fn parse_method_list_entry(buffer: &mut ParseBuffer<'_>) -> Result<MethodListEntry>
+    ensures { ReadsAll (λ x. x) result (rest buffer.new) (method_list_entry_at (rest buffer.old)) }
+{
+    let attributes = FieldAttributes::new(buffer.parse_u16()?);
+    buffer.parse_u16()?;
+    let method_type = buffer.parse()?;
+    let vtable_offset = parse_vtable_offset(buffer, attributes)?;
+    Ok(MethodListEntry {
+        attributes,
+        method_type,
+        vtable_offset,
+    })
+}
+
+#[tactic(auto, using(pdb_container::proofs::Entries::entries_start, pdb_container::proofs::Entries::entries_more, pdb_container::proofs::Entries::entries_fail, pdb_container::proofs::Entries::entries_end, pdb_container::proofs::Entries::entries_done))]
+fn parse_methods(alloc: Global, bytes: &[u8]) -> Result<Vec<MethodListEntry>>
+    ensures { Gives (λ v. v.items) ⊥ result (entries method_list_entry_at bytes.now) }
+{
+    let mut buffer = ParseBuffer::from(bytes);
+    let mut methods = Vec::new(alloc);
+    for _ in 0..bytes.len() {
+        if buffer.is_empty() {
+            break;
+        }
+        methods.push(parse_method_list_entry(&mut buffer)?)?;
+    }
+    Ok(methods)
+}
+
+#[tactic(auto, unfolding(crate::specs::TypeRecords::method_list_at))]
+pub fn parse_method_list(alloc: Global, buffer: &mut ParseBuffer<'_>) -> Result<MethodList>
+    ensures { GivesAll (λ list. list.methods.items) result (rest buffer.new) (method_list_at (rest buffer.old)) }
+{
+    let bytes = buffer.take(buffer.len())?;
+    let methods = parse_methods(alloc, bytes)?;
+    Ok(MethodList { methods })
+}
+
+/// A size in bytes. `UnimplementedFeature` past 32 bits.
+#[tactic(auto, unfolding(crate::specs::TypeRecords::dimension_at))]
+fn parse_dimension(buffer: &mut ParseBuffer<'_>) -> Result<u32>
+    ensures { ReadsAll (λ x. x) result (rest buffer.new) (dimension_at (rest buffer.old)) }
+{
+    let size = parse_numeric(buffer)?;
+    if size > 0xffff_ffff {
+        return Err(Error::UnimplementedFeature("u64 array sizes"));
+    }
+    Ok(size as u32)
+}
+
+/// The sizes of an array, one at least, and the zero byte behind them.
+#[tactic(auto, using(crate::proofs::Dimensions::dimensions_start, crate::proofs::Dimensions::dimensions_more, crate::proofs::Dimensions::dimensions_end, crate::proofs::Dimensions::dimensions_fail, crate::proofs::Dimensions::dimensions_unended, crate::proofs::Dimensions::dimensions_missing))]
+fn parse_dimensions(alloc: Global, buffer: &mut ParseBuffer<'_>) -> Result<Vec<u32>>
+    ensures dimensions { GivesAll (λ v. v.items) result (rest buffer.new) (dimensions_at (rest buffer.old)) }
+    ensures some { IfOk result (λ v. 0 < length v.items) }
+{
+    let mut dimensions = Vec::new(alloc);
+    let count = buffer.len();
+    for _ in 0..count {
+        dimensions.push(parse_dimension(buffer)?)?;
+        if buffer.peek_u8()? == 0 {
+            buffer.parse_u8()?;
+            return Ok(dimensions);
+        }
+    }
+    Err(Error::UnexpectedEof)
+}
+
+#[tactic(auto, unfolding(crate::specs::TypeRecords::stride_at))]
+fn parse_stride(buffer: &mut ParseBuffer<'_>, is_strided: bool) -> Result<Option<u32>>
+    ensures { ReadsAll (λ x. x) result (rest buffer.new) (stride_at is_strided (rest buffer.old)) }
+{
+    if !is_strided {
+        return Ok(None);
+    }
+    Ok(Some(buffer.parse_u32()?))
+}
+
+#[tactic(auto, unfolding(crate::specs::TypeRecords::array_at))]
+pub fn parse_array(
+    alloc: Global,
+    buffer: &mut ParseBuffer<'_>,
+    is_strided: bool,
+) -> Result<ArrayType>
+    ensures { GivesAll array_form result (rest buffer.new) (array_at is_strided (rest buffer.old)) }
+{
+    let element_type = buffer.parse()?;
+    let indexing_type = buffer.parse()?;
+    let stride = parse_stride(buffer, is_strided)?;
+    let dimensions = parse_dimensions(alloc, buffer)?;
+    Ok(ArrayType {
+        element_type,
+        indexing_type,
+        stride,
+        dimensions,
+    })
+}

@@ -1,0 +1,169 @@
+//! Records of members.
+
+ghost use Rattle.pdb_container.specs.Buffer.{rest, ReadsAll};
+ghost use Rattle.pdb_records.specs.Shapes.{enumerate_form, member_form, static_member_form, overloaded_method_form, method_form, nested_form};
+ghost use Rattle.pdb_records.specs.TypeRecords.{enumerate_at, member_at, static_member_at, overloaded_method_at, vtable_offset_at, method_at, nested_at, base_class_at, virtual_base_class_at, virtual_function_table_pointer_at};
+
+use crate::type_attributes::FieldAttributes;
+use crate::type_data::{
+    BaseClassType, ClassKind, EnumerateType, MemberType, MethodType, NestedType,
+    OverloadedMethodType, StaticMemberType, VirtualBaseClassType, VirtualFunctionTablePointerType,
+};
+use pdb_container::{ParseBuffer, Result};
+use pdb_indices::{parse_name, parse_numeric, parse_variant};
+
+#[tactic(auto, unfolding(crate::specs::TypeRecords::enumerate_at))]
+pub fn parse_enumerate<'t>(buffer: &mut ParseBuffer<'t>, leaf: u16) -> Result<EnumerateType<'t>>
+    ensures { ReadsAll enumerate_form result (rest buffer.new) (enumerate_at leaf (rest buffer.old)) }
+{
+    let attributes = FieldAttributes::new(buffer.parse_u16()?);
+    let value = parse_variant(buffer)?;
+    let name = parse_name(buffer, leaf)?;
+    Ok(EnumerateType {
+        attributes,
+        value,
+        name,
+    })
+}
+
+#[tactic(auto, unfolding(crate::specs::TypeRecords::member_at))]
+pub fn parse_data_member<'t>(buffer: &mut ParseBuffer<'t>, leaf: u16) -> Result<MemberType<'t>>
+    ensures { ReadsAll member_form result (rest buffer.new) (member_at leaf (rest buffer.old)) }
+{
+    let attributes = FieldAttributes::new(buffer.parse_u16()?);
+    let field_type = buffer.parse()?;
+    let offset = parse_numeric(buffer)?;
+    let name = parse_name(buffer, leaf)?;
+    Ok(MemberType {
+        attributes,
+        field_type,
+        offset,
+        name,
+    })
+}
+
+#[tactic(auto, unfolding(crate::specs::TypeRecords::static_member_at))]
+pub fn parse_static_member<'t>(
+    buffer: &mut ParseBuffer<'t>,
+    leaf: u16,
+) -> Result<StaticMemberType<'t>>
+    ensures { ReadsAll static_member_form result (rest buffer.new) (static_member_at leaf (rest buffer.old)) }
+{
+    let attributes = FieldAttributes::new(buffer.parse_u16()?);
+    let field_type = buffer.parse()?;
+    let name = parse_name(buffer, leaf)?;
+    Ok(StaticMemberType {
+        attributes,
+        field_type,
+        name,
+    })
+}
+
+#[tactic(auto, unfolding(crate::specs::TypeRecords::overloaded_method_at))]
+pub fn parse_overloaded_method<'t>(
+    buffer: &mut ParseBuffer<'t>,
+    leaf: u16,
+) -> Result<OverloadedMethodType<'t>>
+    ensures { ReadsAll overloaded_method_form result (rest buffer.new) (overloaded_method_at leaf (rest buffer.old)) }
+{
+    let count = buffer.parse_u16()?;
+    let method_list = buffer.parse()?;
+    let name = parse_name(buffer, leaf)?;
+    Ok(OverloadedMethodType {
+        count,
+        method_list,
+        name,
+    })
+}
+
+/// The place in the table of methods, of a method that introduces one.
+#[tactic(auto, unfolding(crate::specs::TypeRecords::vtable_offset_at))]
+pub fn parse_vtable_offset(
+    buffer: &mut ParseBuffer<'_>,
+    attributes: FieldAttributes,
+) -> Result<Option<u32>>
+    ensures { ReadsAll (λ x. x) result (rest buffer.new) (vtable_offset_at attributes (rest buffer.old)) }
+{
+    if !attributes.is_intro_virtual() {
+        return Ok(None);
+    }
+    Ok(Some(buffer.parse_u32()?))
+}
+
+#[tactic(auto, unfolding(crate::specs::TypeRecords::method_at))]
+pub fn parse_method<'t>(buffer: &mut ParseBuffer<'t>, leaf: u16) -> Result<MethodType<'t>>
+    ensures { ReadsAll method_form result (rest buffer.new) (method_at leaf (rest buffer.old)) }
+{
+    let attributes = FieldAttributes::new(buffer.parse_u16()?);
+    let method_type = buffer.parse()?;
+    let vtable_offset = parse_vtable_offset(buffer, attributes)?;
+    let name = parse_name(buffer, leaf)?;
+    Ok(MethodType {
+        attributes,
+        method_type,
+        vtable_offset,
+        name,
+    })
+}
+
+#[tactic(auto, unfolding(crate::specs::TypeRecords::nested_at))]
+pub fn parse_nested<'t>(buffer: &mut ParseBuffer<'t>, leaf: u16) -> Result<NestedType<'t>>
+    ensures { ReadsAll nested_form result (rest buffer.new) (nested_at leaf (rest buffer.old)) }
+{
+    let attributes = FieldAttributes::new(buffer.parse_u16()?);
+    let nested_type = buffer.parse()?;
+    let name = parse_name(buffer, leaf)?;
+    Ok(NestedType {
+        attributes,
+        nested_type,
+        name,
+    })
+}
+
+#[tactic(auto, unfolding(crate::specs::TypeRecords::base_class_at))]
+pub fn parse_base_class(buffer: &mut ParseBuffer<'_>, kind: ClassKind) -> Result<BaseClassType>
+    ensures { ReadsAll (λ x. x) result (rest buffer.new) (base_class_at kind (rest buffer.old)) }
+{
+    let attributes = FieldAttributes::new(buffer.parse_u16()?);
+    let base_class = buffer.parse()?;
+    let offset = parse_numeric(buffer)?;
+    Ok(BaseClassType {
+        kind,
+        attributes,
+        base_class,
+        offset,
+    })
+}
+
+#[tactic(auto, unfolding(crate::specs::TypeRecords::virtual_base_class_at))]
+pub fn parse_virtual_base_class(
+    buffer: &mut ParseBuffer<'_>,
+    direct: bool,
+) -> Result<VirtualBaseClassType>
+    ensures { ReadsAll (λ x. x) result (rest buffer.new) (virtual_base_class_at direct (rest buffer.old)) }
+{
+    let attributes = FieldAttributes::new(buffer.parse_u16()?);
+    let base_class = buffer.parse()?;
+    let base_pointer = buffer.parse()?;
+    let base_pointer_offset = parse_numeric(buffer)?;
+    let virtual_base_offset = parse_numeric(buffer)?;
+    Ok(VirtualBaseClassType {
+        direct,
+        attributes,
+        base_class,
+        base_pointer,
+        base_pointer_offset,
+        virtual_base_offset,
+    })
+}
+
+#[tactic(auto, unfolding(crate::specs::TypeRecords::virtual_function_table_pointer_at))]
+pub fn parse_virtual_function_table_pointer(
+    buffer: &mut ParseBuffer<'_>,
+) -> Result<VirtualFunctionTablePointerType>
+    ensures { ReadsAll (λ x. x) result (rest buffer.new) (virtual_function_table_pointer_at (rest buffer.old)) }
+{
+    buffer.parse_u16()?;
+    let table = buffer.parse()?;
+    Ok(VirtualFunctionTablePointerType { table })
+}

@@ -1,0 +1,243 @@
+//! Records of types that are no members.
+
+ghost use Rattle.std.specs.Prelude.{option_map};
+ghost use Rattle.pdb_container.specs.Buffer.{rest, ReadsAll};
+ghost use Rattle.pdb_container.specs.RawString.{raw_bytes};
+ghost use Rattle.pdb_records.specs.Shapes.{class_form, union_form, enumeration_form};
+ghost use Rattle.pdb_records.specs.TypeRecords.{modifier_at, pointer_attributes_at, containing_class_at, pointer_at, procedure_at, member_function_at, bitfield_at, unique_name_at, class_at, field_count_at, newer_struct_at, union_at, enumeration_at};
+
+use crate::type_attributes::{FunctionAttributes, PointerAttributes, TypeProperties};
+use crate::type_data::{
+    BitfieldType, ClassKind, ClassType, EnumerationType, MemberFunctionType, ModifierType,
+    PointerType, ProcedureType, UnionType,
+};
+use pdb_container::{Error, ParseBuffer, RawString, Result};
+use pdb_indices::{TypeIndex, parse_name, parse_numeric, parse_optional_type_index};
+
+#[tactic(auto, unfolding(crate::specs::TypeRecords::modifier_at))]
+pub fn parse_modifier(buffer: &mut ParseBuffer<'_>) -> Result<ModifierType>
+    ensures { ReadsAll (λ x. x) result (rest buffer.new) (modifier_at (rest buffer.old)) }
+{
+    let underlying_type = buffer.parse()?;
+    let words = buffer.parse_u16()?;
+    Ok(ModifierType {
+        underlying_type,
+        constant: words & 1 != 0,
+        volatile: words & 2 != 0,
+        unaligned: words & 4 != 0,
+    })
+}
+
+#[tactic(auto, unfolding(crate::specs::TypeRecords::pointer_attributes_at))]
+fn parse_pointer_attributes(buffer: &mut ParseBuffer<'_>) -> Result<PointerAttributes>
+    ensures { ReadsAll (λ x. x) result (rest buffer.new) (pointer_attributes_at (rest buffer.old)) }
+{
+    let attributes = PointerAttributes::new(buffer.parse_u32()?);
+    if !attributes.is_known() {
+        return Err(Error::UnimplementedFeature("pointer kind or mode"));
+    }
+    Ok(attributes)
+}
+
+#[tactic(auto, unfolding(crate::specs::TypeRecords::containing_class_at))]
+fn parse_containing_class(
+    buffer: &mut ParseBuffer<'_>,
+    attributes: PointerAttributes,
+) -> Result<Option<TypeIndex>>
+    ensures { ReadsAll (λ x. x) result (rest buffer.new) (containing_class_at attributes (rest buffer.old)) }
+{
+    if !attributes.is_to_member() {
+        return Ok(None);
+    }
+    Ok(Some(buffer.parse()?))
+}
+
+#[tactic(auto, unfolding(crate::specs::TypeRecords::pointer_at))]
+pub fn parse_pointer(buffer: &mut ParseBuffer<'_>) -> Result<PointerType>
+    ensures { ReadsAll (λ x. x) result (rest buffer.new) (pointer_at (rest buffer.old)) }
+{
+    let underlying_type = buffer.parse()?;
+    let attributes = parse_pointer_attributes(buffer)?;
+    let containing_class = parse_containing_class(buffer, attributes)?;
+    Ok(PointerType {
+        underlying_type,
+        attributes,
+        containing_class,
+    })
+}
+
+#[tactic(auto, unfolding(crate::specs::TypeRecords::procedure_at))]
+pub fn parse_procedure(buffer: &mut ParseBuffer<'_>) -> Result<ProcedureType>
+    ensures { ReadsAll (λ x. x) result (rest buffer.new) (procedure_at (rest buffer.old)) }
+{
+    let return_type = parse_optional_type_index(buffer)?;
+    let attributes = FunctionAttributes::new(buffer.parse_u16()?);
+    let parameter_count = buffer.parse_u16()?;
+    let argument_list = buffer.parse()?;
+    Ok(ProcedureType {
+        return_type,
+        attributes,
+        parameter_count,
+        argument_list,
+    })
+}
+
+#[tactic(auto, unfolding(crate::specs::TypeRecords::member_function_at))]
+pub fn parse_member_function(buffer: &mut ParseBuffer<'_>) -> Result<MemberFunctionType>
+    ensures { ReadsAll (λ x. x) result (rest buffer.new) (member_function_at (rest buffer.old)) }
+{
+    let return_type = buffer.parse()?;
+    let class_type = buffer.parse()?;
+    let this_pointer_type = parse_optional_type_index(buffer)?;
+    let attributes = FunctionAttributes::new(buffer.parse_u16()?);
+    let parameter_count = buffer.parse_u16()?;
+    let argument_list = buffer.parse()?;
+    let this_adjustment = buffer.parse_u32()?;
+    Ok(MemberFunctionType {
+        return_type,
+        class_type,
+        this_pointer_type,
+        attributes,
+        parameter_count,
+        argument_list,
+        this_adjustment,
+    })
+}
+
+#[tactic(auto, unfolding(crate::specs::TypeRecords::bitfield_at))]
+pub fn parse_bitfield(buffer: &mut ParseBuffer<'_>) -> Result<BitfieldType>
+    ensures { ReadsAll (λ x. x) result (rest buffer.new) (bitfield_at (rest buffer.old)) }
+{
+    let underlying_type = buffer.parse()?;
+    let length = buffer.parse_u8()?;
+    let position = buffer.parse_u8()?;
+    Ok(BitfieldType {
+        underlying_type,
+        length,
+        position,
+    })
+}
+
+/// A class, a struct or an interface, in a record with that leaf.
+/// The unique name in a record with that leaf, where the properties say that it has one.
+#[tactic(auto, unfolding(crate::specs::TypeRecords::unique_name_at))]
+fn parse_unique_name<'t>(
+    buffer: &mut ParseBuffer<'t>,
+    leaf: u16,
+    properties: TypeProperties,
+) -> Result<Option<RawString<'t>>>
+    ensures { ReadsAll (option_map raw_bytes) result (rest buffer.new) (unique_name_at leaf properties (rest buffer.old)) }
+{
+    if !properties.has_unique_name() {
+        return Ok(None);
+    }
+    Ok(Some(parse_name(buffer, leaf)?))
+}
+
+#[tactic(auto, unfolding(crate::specs::TypeRecords::class_at))]
+pub fn parse_class<'t>(
+    buffer: &mut ParseBuffer<'t>,
+    leaf: u16,
+    kind: ClassKind,
+) -> Result<ClassType<'t>>
+    ensures { ReadsAll class_form result (rest buffer.new) (class_at leaf kind (rest buffer.old)) }
+{
+    let count = buffer.parse_u16()?;
+    let properties = TypeProperties::new(buffer.parse_u16()?);
+    let fields = parse_optional_type_index(buffer)?;
+    let derived_from = parse_optional_type_index(buffer)?;
+    let vtable_shape = parse_optional_type_index(buffer)?;
+    let size = parse_numeric(buffer)?;
+    let name = parse_name(buffer, leaf)?;
+    let unique_name = parse_unique_name(buffer, leaf, properties)?;
+    Ok(ClassType {
+        kind,
+        count,
+        properties,
+        fields,
+        derived_from,
+        vtable_shape,
+        size,
+        name,
+        unique_name,
+    })
+}
+
+/// How many members a struct has, as newer compilers write it. `UnimplementedFeature` past 65535.
+#[tactic(auto, unfolding(crate::specs::TypeRecords::field_count_at))]
+fn parse_field_count(buffer: &mut ParseBuffer<'_>) -> Result<u16>
+    ensures { ReadsAll (λ x. x) result (rest buffer.new) (field_count_at (rest buffer.old)) }
+{
+    let count = parse_numeric(buffer)?;
+    if count > 65535 {
+        return Err(Error::UnimplementedFeature("field count"));
+    }
+    Ok(count as u16)
+}
+
+/// A struct as newer compilers write it, in a record with that leaf.
+#[tactic(auto, unfolding(crate::specs::TypeRecords::newer_struct_at))]
+pub fn parse_newer_struct<'t>(buffer: &mut ParseBuffer<'t>, leaf: u16) -> Result<ClassType<'t>>
+    ensures { ReadsAll class_form result (rest buffer.new) (newer_struct_at leaf (rest buffer.old)) }
+{
+    let properties = TypeProperties::new(buffer.parse_u16()?);
+    buffer.parse_u16()?;
+    let fields = parse_optional_type_index(buffer)?;
+    let derived_from = parse_optional_type_index(buffer)?;
+    let vtable_shape = parse_optional_type_index(buffer)?;
+    let count = parse_field_count(buffer)?;
+    let size = parse_numeric(buffer)?;
+    let name = parse_name(buffer, leaf)?;
+    let unique_name = parse_unique_name(buffer, leaf, properties)?;
+    Ok(ClassType {
+        kind: ClassKind::Struct,
+        count,
+        properties,
+        fields,
+        derived_from,
+        vtable_shape,
+        size,
+        name,
+        unique_name,
+    })
+}
+
+#[tactic(auto, unfolding(crate::specs::TypeRecords::union_at))]
+pub fn parse_union<'t>(buffer: &mut ParseBuffer<'t>, leaf: u16) -> Result<UnionType<'t>>
+    ensures { ReadsAll union_form result (rest buffer.new) (union_at leaf (rest buffer.old)) }
+{
+    let count = buffer.parse_u16()?;
+    let properties = TypeProperties::new(buffer.parse_u16()?);
+    let fields = buffer.parse()?;
+    let size = parse_numeric(buffer)?;
+    let name = parse_name(buffer, leaf)?;
+    let unique_name = parse_unique_name(buffer, leaf, properties)?;
+    Ok(UnionType {
+        count,
+        properties,
+        fields,
+        size,
+        name,
+        unique_name,
+    })
+}
+
+#[tactic(auto, unfolding(crate::specs::TypeRecords::enumeration_at))]
+pub fn parse_enumeration<'t>(buffer: &mut ParseBuffer<'t>, leaf: u16) -> Result<EnumerationType<'t>>
+    ensures { ReadsAll enumeration_form result (rest buffer.new) (enumeration_at leaf (rest buffer.old)) }
+{
+    let count = buffer.parse_u16()?;
+    let properties = TypeProperties::new(buffer.parse_u16()?);
+    let underlying_type = buffer.parse()?;
+    let fields = buffer.parse()?;
+    let name = parse_name(buffer, leaf)?;
+    let unique_name = parse_unique_name(buffer, leaf, properties)?;
+    Ok(EnumerationType {
+        count,
+        properties,
+        underlying_type,
+        fields,
+        name,
+        unique_name,
+    })
+}

@@ -1,8 +1,0 @@
-use Rattle.pdb_rows.proofs.RowFacts as facts
-use Rattle.pdb_rows.proofs.definitions.no_lines.Goals as goal
-
-pub returns-clause-loads : goal.returns-clause-loads
-returns-clause-loads c = facts.no_lines_loads
-
-pub returns-clause-answers : goal.returns-clause-answers
-returns-clause-answers c = facts.no_lines_answers
