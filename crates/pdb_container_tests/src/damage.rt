@@ -79,9 +79,24 @@ fn damaged_files(rt: HostRuntime) -> Result<(), Fail> {
         (&[], 0, None, Ok(5000)),
         // Headers.
         (&[(0, 0)], 0, None, Err(Error::UnrecognizedFileFormat)),
-        (&[(PAGE_SIZE, 0x80)], 0, None, Err(Error::InvalidPageSize(0x80))),
-        (&[(PAGE_SIZE, 0x300)], 0, None, Err(Error::InvalidPageSize(0x300))),
-        (&[(PAGE_SIZE, 0x100_0000)], 0, None, Err(Error::InvalidPageSize(0x100_0000))),
+        (
+            &[(PAGE_SIZE, 0x80)],
+            0,
+            None,
+            Err(Error::InvalidPageSize(0x80)),
+        ),
+        (
+            &[(PAGE_SIZE, 0x300)],
+            0,
+            None,
+            Err(Error::InvalidPageSize(0x300)),
+        ),
+        (
+            &[(PAGE_SIZE, 0x100_0000)],
+            0,
+            None,
+            Err(Error::InvalidPageSize(0x100_0000)),
+        ),
         (&[(LIST_PAGE, 0)], 0, None, Err(out_of_range(0))),
         (&[(LIST_PAGE, 24)], 0, None, Err(out_of_range(24))),
         (&[(PAGES_USED, 0)], 0, None, Err(out_of_range(1))),
@@ -90,10 +105,20 @@ fn damaged_files(rt: HostRuntime) -> Result<(), Fail> {
         // Directories: a page past the number used, one past the file's end, no count, too few sizes, sizes alone, and
         // the pages of stream 0 alone.
         (&[(DIRECTORY_PAGE, 24)], 0, None, Err(out_of_range(24))),
-        (&[(PAGES_USED, 900), (LIST_PAGE, 900)], 0, None, Err(PAST_END)),
+        (
+            &[(PAGES_USED, 900), (LIST_PAGE, 900)],
+            0,
+            None,
+            Err(PAST_END),
+        ),
         (&[(DIRECTORY_SIZE, 3)], 0, None, Err(Error::UnexpectedEof)),
         (&[(DIRECTORY_SIZE, 16)], 0, None, Err(Error::UnexpectedEof)),
-        (&[(DIRECTORY_SIZE, 16)], 4, None, Err(Error::StreamNotFound(4))),
+        (
+            &[(DIRECTORY_SIZE, 16)],
+            4,
+            None,
+            Err(Error::StreamNotFound(4)),
+        ),
         (&[(DIRECTORY_SIZE, 20)], 2, None, Ok(0)),
         (&[(DIRECTORY_SIZE, 100)], 0, None, Ok(5000)),
         (&[(DIRECTORY_SIZE, 100)], 3, None, Err(Error::UnexpectedEof)),
@@ -101,13 +126,23 @@ fn damaged_files(rt: HostRuntime) -> Result<(), Fail> {
         // end.
         (&[(PAGE, 0)], 3, None, Ok(10)),
         (&[(PAGE, 0)], 0, Some(1), Err(out_of_range(0))),
-        (&[(PAGES_USED, 900), (PAGE, 900)], 0, Some(513), Err(PAST_END)),
+        (
+            &[(PAGES_USED, 900), (PAGE, 900)],
+            0,
+            Some(513),
+            Err(PAST_END),
+        ),
         (&[(PAGES_USED, 900), (PAGE, 900)], 0, Some(512), Ok(512)),
         // As much as the one page of stream 3 holds, and more; stream 0 takes that page, or is absent.
         (&[(SIZE_3, 256)], 3, None, Ok(256)),
         (&[(SIZE_3, 257)], 3, Some(0), Err(Error::UnexpectedEof)),
         (&[(SIZE_0, 5121)], 3, None, Err(Error::UnexpectedEof)),
-        (&[(SIZE_0, u32::MAX)], 0, None, Err(Error::StreamNotFound(0))),
+        (
+            &[(SIZE_0, u32::MAX)],
+            0,
+            None,
+            Err(Error::StreamNotFound(0)),
+        ),
     ];
     for (numbers, stream, limit, length) in rows {
         let bytes = damaged(rt.alloc(), numbers)?;

@@ -1,13 +1,28 @@
 //! What is reported on a file.
 
-use crate::files::File;
-use crate::runs::{assert_row, run_on, run_over};
-use pdb_container::Error as Cause;
-use pdb_report::{Error, LoadFault, RunFault};
+use crate::files::{F0, File, run_on, told};
+use pdb_samples::Change;
+use std::alloc::Global;
 use std::test::Fail;
 
 /// The report on an address in `f`.
 const IN_F: &str = "0x00001014\n  f at ??:??\n";
+
+/// Whether a run over a file writes this, tells this of its fault, and ends with the status of it.
+fn is_reported(
+    alloc: Global,
+    file: File,
+    input: &str,
+    report: &str,
+    fault: &str,
+) -> Result<bool, Fail> {
+    let run = run_on(alloc, file, input.as_bytes())?;
+    if run.report.as_slice() != report.as_bytes() {
+        return Ok(false);
+    }
+    let (status, errors) = told(alloc, run.outcome)?;
+    Ok(errors.as_slice() == fault.as_bytes() && status == u8::from(!fault.is_empty()))
+}
 
 #[test]
 fn addresses_of_f0(rt: HostRuntime) -> Result<(), Fail> {
@@ -38,7 +53,10 @@ fn addresses_of_f0(rt: HostRuntime) -> Result<(), Fail> {
         ),
     ];
     for (input, report) in rows {
-        assert_row(&rt, File::F0, input.as_bytes(), report, "")?;
+        assert!(rt;
+            is_reported(rt.alloc(), F0, input, report, "")?,
+            "at {input}"
+        );
     }
     Ok(())
 }
@@ -51,76 +69,47 @@ fn refused_files(rt: HostRuntime) -> Result<(), Fail> {
         // A file that ends too early.
         (File::CutDbi, "fault: IoError(UnexpectedEof)\n"),
         // What is not answered yet.
-        (File::F, "fault: NotYet\n"),
-        (File::AddressMap(3), "fault: NotYet\n"),
-        (File::AddressMap(4), "fault: NotYet\n"),
-        (File::AddressMap(10), "fault: NotYet\n"),
-        (File::TwoContributions, "fault: NotYet\n"),
-        (File::PublicSymbol, "fault: NotYet\n"),
-        (File::OlderLines, "fault: NotYet\n"),
-        (File::Thunk, "fault: NotYet\n"),
-        (File::SeparatedCode, "fault: NotYet\n"),
-        (File::InlineSite, "fault: NotYet\n"),
-        (File::TypedProcedure, "fault: NotYet\n"),
-        (File::NestedProcedure, "fault: NotYet\n"),
-    ];
-    for (file, told) in rows {
-        assert_row(&rt, file, b"1014\n", "", told)?;
-    }
-    Ok(())
-}
-
-#[test]
-fn files_that_report_alike(rt: HostRuntime) -> Result<(), Fail> {
-    let files = [
-        File::PermutedPages,
-        File::DirectoryReordered,
-        File::DamagedModule,
-        File::MissingModule,
-        File::AddressMap(9),
-        File::Long,
-    ];
-    for file in files {
-        assert_row(&rt, file, b"1014\n", IN_F, "")?;
-    }
-    Ok(())
-}
-
-#[test]
-fn odd_names(rt: HostRuntime) -> Result<(), Fail> {
-    let rows = [
-        (File::Named(b"f\xff"), "0x00001014\n  f\u{fffd} at ??:??\n"),
-        (File::Named(b""), "0x00001014\n  <name omitted> at ??:??\n"),
-    ];
-    for (file, report) in rows {
-        assert_row(&rt, file, b"1014\n", report, "")?;
-    }
-    Ok(())
-}
-
-#[test]
-fn outcomes(rt: HostRuntime) -> Result<(), Fail> {
-    let rows = [
+        (File::With(Change::LineData), "fault: NotYet\n"),
+        (File::With(Change::FurtherStream(3)), "fault: NotYet\n"),
+        (File::With(Change::FurtherStream(4)), "fault: NotYet\n"),
+        (File::With(Change::FurtherStream(10)), "fault: NotYet\n"),
+        (File::With(Change::SecondContribution), "fault: NotYet\n"),
         (
-            File::Elf,
-            LoadFault::Pdb(Error::PdbError(Cause::UnrecognizedFileFormat)),
+            File::With(Change::PublicSymbol(0x34, b"?p@@YAXXZ")),
+            "fault: NotYet\n",
         ),
-        (File::F, LoadFault::NotYet),
+        (File::With(Change::OlderLines), "fault: NotYet\n"),
+        (File::With(Change::Thunk), "fault: NotYet\n"),
+        (File::With(Change::SeparatedCode), "fault: NotYet\n"),
+        (File::With(Change::InlineSite), "fault: NotYet\n"),
+        (
+            File::With(Change::TypedProcedure(0x1000)),
+            "fault: NotYet\n",
+        ),
+        (File::With(Change::NestedProcedure), "fault: NotYet\n"),
     ];
-    for (file, fault) in rows {
-        let run = run_on(&rt, file, b"1014\n", "")?;
-        assert_eq!(rt; run.outcome, Err(RunFault::Load(fault)));
+    for (row, (file, fault)) in rows.into_iter().enumerate() {
+        let is_refused = is_reported(rt.alloc(), file, "1014\n", "", fault)?;
+        assert!(rt; is_refused, "row {row}");
     }
-    let run = run_on(&rt, File::F0, b"1014\n", IN_F)?;
-    assert_eq!(rt; run.outcome, Ok(()));
     Ok(())
 }
 
-// The only test that fails where some allocation is refused, and the others ask again.
 #[test]
-fn first_call_in_ample_memory(rt: HostRuntime) -> Result<(), Fail> {
-    let bytes = File::F0.made(rt.alloc())?;
-    let run = run_over(rt.alloc(), bytes, b"1014\n".as_slice());
-    run.outcome?;
+fn answered_files(rt: HostRuntime) -> Result<(), Fail> {
+    let rows = [
+        (Change::PermutedPages, IN_F),
+        (Change::DirectoryReordered, IN_F),
+        (Change::DamagedModule, IN_F),
+        (Change::MissingModule, IN_F),
+        (Change::FurtherStream(9), IN_F),
+        (Change::Long, IN_F),
+        (Change::Name(b"f\xff"), "0x00001014\n  f\u{fffd} at ??:??\n"),
+        (Change::Name(b""), "0x00001014\n  <name omitted> at ??:??\n"),
+    ];
+    for (row, (change, report)) in rows.into_iter().enumerate() {
+        let is_answered = is_reported(rt.alloc(), File::With(change), "1014\n", report, "")?;
+        assert!(rt; is_answered, "row {row}");
+    }
     Ok(())
 }
