@@ -34,70 +34,73 @@ fn are_printed(alloc: Global) -> Result<bool, Fail> {
     Ok(first.as_str() == "PDB error: StreamNotFound(5)" && second.as_str() == "Out of memory")
 }
 
+/// Whether each call answers as written.
+fn are_right(alloc: Global) -> Result<[bool; 3], Fail> {
+    Ok([is_answered(alloc)?, are_copied(alloc)?, are_printed(alloc)?])
+}
+
 // The only test that fails where some allocation is refused, and the others ask again.
 #[test]
 fn first_calls_in_ample_memory(rt: HostRuntime) -> Result<(), Fail> {
-    assert!(rt; is_answered(rt.alloc())?);
-    assert!(rt; are_copied(rt.alloc())?);
-    assert!(rt; are_printed(rt.alloc())?);
+    assert_eq!(rt; are_right(rt.alloc())?, [true; 3]);
     Ok(())
 }
 
+/// Lines, and the addresses that they stand for.
+const ADDRESSES: &[(&[u8], Option<u32>)] = &[
+    (b"1014", Some(0x1014)),
+    (b"0x1014", Some(0x1014)),
+    (b"0X1014\r", Some(0x1014)),
+    (b"deadBEEF", Some(0xdead_beef)),
+    (b"00000000", Some(0)),
+    (b"000000001", None),
+    (b"", None),
+    (b"0x", None),
+    (b"0x0x1", None),
+    (b"1\r\r", None),
+    (b" 1", None),
+    (b"12g4", None),
+];
+
 #[test]
 fn addresses(rt: HostRuntime) {
-    let rows: [(&[u8], Option<u32>); 12] = [
-        (b"1014", Some(0x1014)),
-        (b"0x1014", Some(0x1014)),
-        (b"0X1014\r", Some(0x1014)),
-        (b"deadBEEF", Some(0xdead_beef)),
-        (b"00000000", Some(0)),
-        (b"000000001", None),
-        (b"", None),
-        (b"0x", None),
-        (b"0x0x1", None),
-        (b"1\r\r", None),
-        (b" 1", None),
-        (b"12g4", None),
-    ];
-    for (line, address) in rows {
-        assert_eq!(rt; parse_address(line), address, "at {line:?}");
+    for (line, address) in ADDRESSES {
+        assert_eq!(rt; parse_address(*line), *address, "at {line:?}");
     }
+}
+
+/// Whether this is told of a fault, and the status is 1.
+fn is_told(alloc: Global, fault: RunFault, text: &str) -> Result<bool, Fail> {
+    let (status, errors) = told(alloc, Err(fault))?;
+    Ok(status == 1 && errors.as_slice() == text.as_bytes())
+}
+
+/// Whether faults are told that no file here has.
+fn are_told(alloc: Global) -> Result<[bool; 3], Fail> {
+    let decreasing = RunFault::Load(LoadFault::AddressTableDecreases);
+    Ok([
+        is_told(alloc, decreasing, "fault: AddressTableDecreases\n")?,
+        is_told(
+            alloc,
+            RunFault::Read(ErrorKind::BrokenPipe),
+            "fault: Read(BrokenPipe)\n",
+        )?,
+        is_told(
+            alloc,
+            RunFault::Write(ErrorKind::WriteZero),
+            "fault: Write(WriteZero)\n",
+        )?,
+    ])
 }
 
 #[test]
 fn told_faults(rt: HostRuntime) -> Result<(), Fail> {
-    let cut = Error::PdbError(Cause::IoError(ErrorKind::UnexpectedEof));
-    let rows = [
-        (
-            RunFault::Load(LoadFault::Pdb(cut)),
-            "fault: IoError(UnexpectedEof)\n",
-        ),
-        (
-            RunFault::Load(LoadFault::AddressTableDecreases),
-            "fault: AddressTableDecreases\n",
-        ),
-        (RunFault::ReversedRange, "fault: ReversedRange\n"),
-        (
-            RunFault::Read(ErrorKind::BrokenPipe),
-            "fault: Read(BrokenPipe)\n",
-        ),
-        (
-            RunFault::Write(ErrorKind::WriteZero),
-            "fault: Write(WriteZero)\n",
-        ),
-        (RunFault::InputTooLong, "fault: InputTooLong\n"),
-        (RunFault::OutOfMemory, "fault: OutOfMemory\n"),
-    ];
-    for (fault, text) in rows {
-        let (status, errors) = told(rt.alloc(), Err(fault))?;
-        assert_eq!(rt; status, 1);
-        assert_eq!(rt; errors.as_slice(), text.as_bytes());
-    }
+    assert_eq!(rt; are_told(rt.alloc())?, [true; 3]);
     Ok(())
 }
 
 /// The header, the debug information's header, the symbols and the line data of file F, where they lie.
-const PARTS: [(usize, &[u8]); 4] = [
+const PARTS: &[(usize, &[u8])] = &[
     (
         0,
         b"Microsoft C/C++ MSF 7.00\r\n\x1aDS\0\0\0\0\x01\0\0\0\0\0\0\x09\0\0\0\x44\0\0\0\0\0\0\0\x01\0\0\0",
@@ -124,8 +127,8 @@ fn sample_is_as_written_by_hand(rt: HostRuntime) -> Result<(), Fail> {
     let file = File::With(Change::LineData).bytes(rt.alloc())?;
     assert_eq!(rt; file.len(), 4096);
     for (start, part) in PARTS {
-        let rest = file.as_slice().get(start..).unwrap_or(&[]);
-        assert!(rt; rest.starts_with(part), "at {start}");
+        let rest = file.as_slice().get(*start..).unwrap_or(&[]);
+        assert!(rt; rest.starts_with(*part), "at {start}");
     }
     Ok(())
 }

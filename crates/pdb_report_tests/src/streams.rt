@@ -44,109 +44,168 @@ fn read_input(
     Ok(run_over(alloc, F0.bytes(alloc)?, reader))
 }
 
+/// How a run ends where a read failed, if one did.
+fn end_of_read(fault: Option<ErrorKind>) -> Outcome {
+    match fault {
+        None => Ok(()),
+        Some(ErrorKind::OutOfMemory) => Err(RunFault::OutOfMemory),
+        Some(kind) => Err(RunFault::Read(kind)),
+    }
+}
+
+/// Whether a run over file F0 ends as its reader does, with this report, or with a front of the whole one where memory was
+/// refused.
+fn is_read(
+    alloc: Global,
+    bytes: &[u8],
+    piece: usize,
+    fault: Option<ErrorKind>,
+    report: &[u8],
+) -> Result<bool, Fail> {
+    let run = read_input(alloc, bytes, piece, fault)?;
+    let found = run.report.as_slice();
+    let is_right = match fault {
+        Some(ErrorKind::OutOfMemory) => REPORT.starts_with(found),
+        _ => found == report,
+    };
+    Ok(is_right && run.outcome == end_of_read(fault))
+}
+
+/// The bytes that are read, how they end, and the report.
+const READERS: &[(&[u8], Option<ErrorKind>, &[u8])] = &[
+    (INPUT, None, REPORT),
+    (b"", Some(ErrorKind::BrokenPipe), b""),
+    (b"1014", Some(ErrorKind::BrokenPipe), b""),
+    (b"1014\n1050\n10", Some(ErrorKind::Interrupted), TWO_LINES),
+    (b"1014\n1050\n10", Some(ErrorKind::UnexpectedEof), TWO_LINES),
+    (INPUT, Some(ErrorKind::OutOfMemory), REPORT),
+];
+
 #[test]
 fn readers(rt: HostRuntime) -> Result<(), Fail> {
-    let rows: [(&'static [u8], Option<ErrorKind>, &'static [u8]); 5] = [
-        (INPUT, None, REPORT),
-        (b"", Some(ErrorKind::BrokenPipe), b""),
-        (b"1014", Some(ErrorKind::BrokenPipe), b""),
-        (b"1014\n1050\n10", Some(ErrorKind::Interrupted), TWO_LINES),
-        (b"1014\n1050\n10", Some(ErrorKind::UnexpectedEof), TWO_LINES),
-    ];
     for piece in [1, 3] {
-        for (bytes, fault, report) in rows {
-            let run = read_input(rt.alloc(), bytes, piece, fault)?;
-            assert_eq!(rt; run.report.as_slice(), report);
-            match fault {
-                None => assert_eq!(rt; run.outcome, Ok(())),
-                Some(kind) => assert_eq!(rt; run.outcome, Err(RunFault::Read(kind))),
-            }
+        for (bytes, fault, report) in READERS {
+            let is_right = is_read(rt.alloc(), *bytes, piece, *fault, *report)?;
+            assert!(rt; is_right, "pieces of {piece}, {fault:?}");
         }
     }
-    let run = read_input(rt.alloc(), INPUT, 3, Some(ErrorKind::OutOfMemory))?;
-    assert_eq!(rt; run.outcome, Err(RunFault::OutOfMemory));
-    assert!(rt; REPORT.starts_with(run.report.as_slice()));
     Ok(())
 }
 
-/// What a writer holds at the end of a run over file F0, the failures that were counted and their last kind, and how it
-/// ended.
-fn written(
+/// What a writer holds at the end of a run, the failures that were counted and their last kind, and how the run ended.
+#[derive(Drop)]
+struct Written {
+    bytes: Vec<u8>,
+    failures: (u64, Option<ErrorKind>),
+    outcome: Outcome,
+}
+
+/// A run over file F0 with a writer that takes pieces, so many bytes in all.
+fn write_report(
     alloc: Global,
     piece: usize,
     room: usize,
     fault: Option<ErrorKind>,
-) -> Result<(Vec<u8>, (u64, Option<ErrorKind>), Outcome), Fail> {
+) -> Result<Written, Fail> {
+    let file = F0.bytes(alloc)?;
     let mut inner = PieceWriter {
         written: line_buffer(alloc)?,
         piece,
         room,
         fault,
     };
-    let mut reader = Watched::new(INPUT);
     let mut writer = Watched::new(&mut inner);
-    let outcome = run_frames(alloc, F0.bytes(alloc)?, &mut reader, &mut writer);
+    let outcome = run_frames(alloc, file, &mut Watched::new(INPUT), &mut writer);
     let failures = (writer.failures(), writer.last_kind());
-    Ok((inner.written, failures, outcome))
+    Ok(Written {
+        bytes: inner.written,
+        failures,
+        outcome,
+    })
 }
+
+/// How a run ends where a write failed so, if one did.
+fn end_of_write(kind: Option<ErrorKind>) -> Outcome {
+    match kind {
+        None => Ok(()),
+        Some(ErrorKind::OutOfMemory) => Err(RunFault::OutOfMemory),
+        Some(kind) => Err(RunFault::Write(kind)),
+    }
+}
+
+/// Whether a run over file F0 ends as its writer does, whose last failure is of this kind, and the writer is full or has the
+/// whole report. Where memory is refused it runs once more.
+fn is_written(
+    alloc: Global,
+    piece: usize,
+    room: usize,
+    fault: Option<ErrorKind>,
+    kind: Option<ErrorKind>,
+) -> Result<bool, Fail> {
+    let mut last = write_report(alloc, piece, room, fault)?;
+    if last.failures.0 == 0 && last.outcome == Err(RunFault::OutOfMemory) {
+        last = write_report(alloc, piece, room, fault)?;
+    }
+    let bytes = last.bytes.as_slice();
+    Ok(
+        bytes.len() == room.min(REPORT.len())
+            && REPORT.starts_with(bytes)
+            && last.failures == (u64::from(kind.is_some()), kind)
+            && last.outcome == end_of_write(kind),
+    )
+}
+
+/// The most bytes at a call and in all, the failure then, and the kind of the last failure that is counted.
+const WRITERS: &[(usize, usize, Option<ErrorKind>, Option<ErrorKind>)] = &[
+    (1, usize::MAX, None, None),
+    (
+        9,
+        FRONT,
+        Some(ErrorKind::BrokenPipe),
+        Some(ErrorKind::BrokenPipe),
+    ),
+    (
+        9,
+        FRONT,
+        Some(ErrorKind::Interrupted),
+        Some(ErrorKind::Interrupted),
+    ),
+    (
+        9,
+        FRONT,
+        Some(ErrorKind::OutOfMemory),
+        Some(ErrorKind::OutOfMemory),
+    ),
+    // It stalls, and does not fail.
+    (9, FRONT, None, Some(ErrorKind::WriteZero)),
+];
 
 #[test]
 fn writers(rt: HostRuntime) -> Result<(), Fail> {
-    let rows = [
-        (1, usize::MAX, None, None),
-        (
-            9,
-            FRONT,
-            Some(ErrorKind::BrokenPipe),
-            Some(ErrorKind::BrokenPipe),
-        ),
-        (
-            9,
-            FRONT,
-            Some(ErrorKind::Interrupted),
-            Some(ErrorKind::Interrupted),
-        ),
-        // It stalls, and does not fail.
-        (9, FRONT, None, Some(ErrorKind::WriteZero)),
-        (
-            9,
-            FRONT,
-            Some(ErrorKind::OutOfMemory),
-            Some(ErrorKind::OutOfMemory),
-        ),
-    ];
-    for (piece, room, fault, kind) in rows {
-        let mut last = written(rt.alloc(), piece, room, fault)?;
-        if last.1.0 == 0 && last.2 == Err(RunFault::OutOfMemory) {
-            assert!(rt; REPORT.starts_with(last.0.as_slice()));
-            last = written(rt.alloc(), piece, room, fault)?;
-        }
-        let (bytes, failures, outcome) = last;
-        assert_eq!(rt; failures, (u64::from(kind.is_some()), kind));
-        assert_eq!(rt; bytes.as_slice(), &REPORT[..room.min(REPORT.len())]);
-        match kind {
-            None => assert_eq!(rt; outcome, Ok(())),
-            Some(ErrorKind::OutOfMemory) => assert_eq!(rt; outcome, Err(RunFault::OutOfMemory)),
-            Some(kind) => assert_eq!(rt; outcome, Err(RunFault::Write(kind))),
-        }
+    for (piece, room, fault, kind) in WRITERS {
+        let is_right = is_written(rt.alloc(), *piece, *room, *fault, *kind)?;
+        assert!(rt; is_right, "room for {room}, {fault:?}");
     }
     Ok(())
+}
+
+/// Whether a fault that can't be told whole leaves a front of the line.
+fn is_front_told(alloc: Global, room: usize) -> Result<bool, Fail> {
+    let mut errors = PieceWriter {
+        written: line_buffer(alloc)?,
+        piece: 9,
+        room,
+        fault: Some(ErrorKind::BrokenPipe),
+    };
+    let status = finish_run(Err(RunFault::InputTooLong), &mut errors);
+    let told = errors.written.as_slice();
+    Ok(status == 1 && told.len() == room && b"fault: InputTooLong\n".starts_with(told))
 }
 
 #[test]
 fn untold_faults(rt: HostRuntime) -> Result<(), Fail> {
     for room in [0, 3] {
-        let mut errors = PieceWriter {
-            written: line_buffer(rt.alloc())?,
-            piece: 9,
-            room,
-            fault: Some(ErrorKind::BrokenPipe),
-        };
-        assert_eq!(rt; finish_run(Err(RunFault::InputTooLong), &mut errors), 1);
-        assert_eq!(rt;
-            errors.written.as_slice(),
-            &b"fault: InputTooLong\n"[..room]
-        );
+        assert!(rt; is_front_told(rt.alloc(), room)?, "room for {room}");
     }
     Ok(())
 }

@@ -101,8 +101,15 @@ impl Container {
     /// How many pages the streams before this number take.
     fn pages_before(&self, number: usize) -> Result<u32> {
         let mut count = 0u32;
-        for bytes in self.streams.iter().take(number).flatten() {
-            count = count.saturating_add(self.pages_of(bytes.len())?);
+        let mut left = number;
+        for stream in &self.streams {
+            if left == 0 {
+                return Ok(count);
+            }
+            left -= 1;
+            if let Some(bytes) = stream {
+                count = count.saturating_add(self.pages_of(bytes.len())?);
+            }
         }
         Ok(count)
     }
@@ -156,9 +163,11 @@ impl Container {
     }
 
     fn push_streams(&self, file: &mut Vec<u8>) -> Result<()> {
-        for bytes in self.streams.iter().flatten() {
-            file.extend_from_slice(bytes.as_slice())?;
-            self.fill_page(file)?;
+        for stream in &self.streams {
+            if let Some(bytes) = stream {
+                file.extend_from_slice(bytes.as_slice())?;
+                self.fill_page(file)?;
+            }
         }
         Ok(())
     }

@@ -1,0 +1,7 @@
+//! Tests of what modules' own streams hold, where recorded cases can't show it.
+#![tactic(auto)]
+
+#[cfg(test)]
+mod beside;
+#[cfg(test)]
+mod vectors;

@@ -1,0 +1,7 @@
+//! Tests of an open program database, where recorded cases can't show it.
+#![tactic(auto)]
+
+#[cfg(test)]
+mod finder;
+#[cfg(test)]
+mod names;

@@ -1,0 +1,55 @@
+//! A million names of streams.
+
+use pdb_samples::{Container, PageOrder, SampleError, push_u32};
+use pdb_symbols_modules::{PDB, StreamNames};
+use std::alloc::Global;
+use std::test::Fail;
+
+/// How many entries there are: each names the end of one text from its own number on.
+const COUNT: u32 = 1_000_000;
+
+/// How many bytes the text has with its NUL.
+const LENGTH: u32 = 4_000_000;
+
+/// A stream of information with these names.
+fn information(alloc: Global) -> Result<Vec<u8>, SampleError> {
+    let mut stream = Vec::new(alloc);
+    push_u32(&mut stream, &[20_000_404, 1, 1, 0, 0, 0, 0, LENGTH])?;
+    stream.resize(32 + LENGTH as usize - 1, b'n')?;
+    stream.push(0)?;
+    push_u32(&mut stream, &[COUNT, COUNT, 0, 0])?;
+    for number in 0..COUNT {
+        push_u32(&mut stream, &[number, 7])?;
+    }
+    Ok(stream)
+}
+
+/// A file of an absent stream and this one.
+fn file(alloc: Global) -> Result<Vec<u8>, SampleError> {
+    let mut streams = Vec::new(alloc);
+    streams.push(None)?;
+    streams.push(Some(information(alloc)?))?;
+    let container = Container {
+        page_size: 0x1000,
+        streams,
+        order: PageOrder::Natural,
+    };
+    container.bytes(alloc)
+}
+
+/// How many names there are, and how many bytes the first and the last have.
+fn said(names: &StreamNames<'_>) -> (usize, Option<usize>, Option<usize>) {
+    let first = names.iter().next().map(|entry| entry.name.len());
+    let last = names.iter().last().map(|entry| entry.name.len());
+    (names.iter().count(), first, last)
+}
+
+// Where each name were looked for from its own start on, this would take minutes.
+#[test]
+fn many_names_in_linear_time(rt: HostRuntime) -> Result<(), Fail> {
+    let mut database = PDB::open(rt.alloc(), file(rt.alloc())?)?;
+    let information = database.pdb_information(rt.alloc())?;
+    let names = information.stream_names(rt.alloc())?;
+    assert_eq!(rt; said(&names), (1_000_000, Some(3_999_999), Some(3_000_000)));
+    Ok(())
+}

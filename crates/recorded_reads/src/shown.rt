@@ -1,0 +1,46 @@
+//! Answers as texts.
+
+use pdb_container::{Error, FallibleIterator, Result};
+use std::alloc::Global;
+use std::fmt::Debug;
+
+/// A value as a text.
+pub fn shown<T: Debug>(alloc: Global, value: &T) -> Result<String> {
+    Ok(format!(in alloc; "{value:?}")?)
+}
+
+/// Appends a value.
+pub fn push<T: Debug>(alloc: Global, text: &mut String, value: &T) -> Result<()> {
+    let shown = format!(in alloc; "{value:?}; ")?;
+    Ok(text.push_str(shown.as_str())?)
+}
+
+/// What an iterator answers up to its end: each item with `; ` behind it, and then `end` or its fault. Behind that nothing
+/// may come.
+pub fn listed<T: Debug + Drop, I: FallibleIterator<Item = T, Error = Error>>(
+    alloc: Global,
+    iterator: &mut I,
+) -> Result<String> {
+    let mut text = String::new(alloc);
+    for _ in 0..100_000u32 {
+        match iterator.next() {
+            Ok(Some(item)) => push(alloc, &mut text, &item)?,
+            end => {
+                text.push_str(end_text(alloc, end)?.as_str())?;
+                break;
+            }
+        }
+    }
+    if !matches!(iterator.next(), Ok(None)) {
+        text.push_str(", and more")?;
+    }
+    Ok(text)
+}
+
+/// How a list ends.
+fn end_text<T: Drop>(alloc: Global, end: Result<Option<T>>) -> Result<String> {
+    match end {
+        Ok(_) => Ok("end".to_string(alloc)?),
+        Err(fault) => shown(alloc, &fault),
+    }
+}

@@ -1,0 +1,47 @@
+//! Bytes that words spell.
+
+use pdb_container::{Error, Result};
+use std::alloc::Global;
+
+/// Says that a case asks nothing that there is.
+pub fn not_a_case() -> Error {
+    Error::UnimplementedFeature("no such case")
+}
+
+/// The value of a hexadecimal digit.
+fn digit(byte: u8) -> u8 {
+    match byte {
+        b'0'..=b'9' => byte - b'0',
+        b'a'..=b'f' => byte - b'a' + 10,
+        _ => 0,
+    }
+}
+
+/// The bytes that two digits each spell; `-` spells none.
+pub fn bytes_of(alloc: Global, word: &str) -> Result<Vec<u8>> {
+    let mut bytes = Vec::new(alloc);
+    for pair in word.as_bytes().chunks(2) {
+        if let [high, low] = pair {
+            bytes.push(digit(*high).wrapping_mul(16) | digit(*low))?;
+        }
+    }
+    Ok(bytes)
+}
+
+/// Writes bytes over those of a file, as `PLACE:BYTES,PLACE:BYTES`; `-` changes none.
+pub fn change(alloc: Global, file: &mut [u8], changes: &str) -> Result<()> {
+    for change in changes.split(',') {
+        if let Some((place, bytes)) = change.split_once(':') {
+            let place = place.parse::<usize>().unwrap_or(0);
+            write_over(file, place, &bytes_of(alloc, bytes)?);
+        }
+    }
+    Ok(())
+}
+
+/// Writes bytes over those of a file from a place on.
+fn write_over(file: &mut [u8], place: usize, bytes: &[u8]) {
+    for (old, new) in file.iter_mut().skip(place).zip(bytes) {
+        *old = *new;
+    }
+}
