@@ -1,8 +1,7 @@
 use crate::error::{Result, SampleError};
-use std::alloc::Global;
 
 /// Appends numbers of two bytes each, the low byte first.
-pub fn push_u16(bytes: &mut Vec<u8>, values: &[u16]) -> Result<()> {
+pub(crate) fn push_u16(bytes: &mut Vec<u8>, values: &[u16]) -> Result<()> {
     for value in values {
         bytes.extend_from_slice(&value.to_le_bytes())?;
     }
@@ -18,17 +17,10 @@ pub fn push_u32(bytes: &mut Vec<u8>, values: &[u32]) -> Result<()> {
 }
 
 /// Appends a text and the zero byte that ends it.
-pub fn push_text(bytes: &mut Vec<u8>, text: &[u8]) -> Result<()> {
+pub(crate) fn push_text(bytes: &mut Vec<u8>, text: &[u8]) -> Result<()> {
     bytes.extend_from_slice(text)?;
     bytes.push(0)?;
     Ok(())
-}
-
-/// The bytes of numbers of four bytes each.
-pub fn words(alloc: Global, values: &[u32]) -> Result<Vec<u8>> {
-    let mut bytes = Vec::new(alloc);
-    push_u32(&mut bytes, values)?;
-    Ok(bytes)
 }
 
 /// Appends zero bytes up to the next multiple of `unit`, which is none of 0.

@@ -76,14 +76,6 @@ impl Container {
         Ok(file)
     }
 
-    /// Writes over bytes of a stream.
-    pub fn damage(&mut self, stream: usize, at: usize, part: &[u8]) -> Result<()> {
-        match self.streams.get_mut(stream) {
-            Some(Some(bytes)) => overwrite(bytes.as_mut_slice(), at, part),
-            _ => Err(SampleError::DoesNotFit),
-        }
-    }
-
     fn page_bytes(&self) -> Result<usize>
         ensures { IfOk result (λ size. 0 < size) }
     {

@@ -8,35 +8,14 @@ const VERSION: u32 = 19990903;
 /// What a module's symbols begin with.
 const SYMBOLS_SIGNATURE: u32 = 4;
 
-/// The version of contributions that take four bytes more than others.
-const LONG_CONTRIBUTIONS: u32 = 0xeffe_0000 + 20140516;
+/// The version of contributions.
+const CONTRIBUTIONS: u32 = 0xeffe_0000 + 19970605;
 
 /// The number that names no stream.
-pub const NO_STREAM: u16 = 0xffff;
+pub(crate) const NO_STREAM: u16 = 0xffff;
 
-/// Where the sizes of the parts stand, in the order of the parts.
-const SIZES: [usize; 7] = [24, 28, 32, 36, 40, 52, 48];
-
-/// A section of the image.
-#[derive(Clone, Copy)]
-pub struct Section {
-    pub name: [u8; 8],
-    pub virtual_size: u32,
-    pub virtual_address: u32,
-    pub characteristics: u32,
-}
-
-/// What a module contributes to a section.
-#[derive(Clone, Copy)]
-pub struct Contribution {
-    pub section: u16,
-    pub offset: u32,
-    pub size: u32,
-    pub characteristics: u32,
-    pub module: u16,
-    pub data_crc: u32,
-    pub reloc_crc: u32,
-}
+/// Where the sizes of the module list, the contributions and the optional header stand.
+const SIZES: [usize; 3] = [24, 28, 48];
 
 /// A module and its stream.
 #[derive(Drop)]
@@ -62,45 +41,17 @@ pub enum ModuleSymbols {
 /// The debug information's stream, but for the modules.
 #[derive(Drop)]
 pub struct DebugInformation {
-    pub age: u32,
-    pub machine: u16,
-    pub flags: u16,
-    pub global_symbols: u16,
-    pub public_symbols: u16,
+    /// The number of the symbol records' stream.
     pub symbol_records: u16,
-    pub contributions_version: u32,
-    pub contributions: Vec<Contribution>,
+    /// The contributions, of 28 bytes each.
+    pub contributions: Vec<u8>,
     /// The streams that the optional header names, by their places.
     pub optional_header: Vec<u16>,
-    pub section_map: Vec<u8>,
-    pub file_info: Vec<u8>,
-    pub type_server_map: Vec<u8>,
-    pub edit_and_continue: Vec<u8>,
-    /// A number that stands among the sizes and is none.
-    pub mfc_index: u32,
-}
-
-impl Section {
-    /// Appends the section's header.
-    pub fn push(&self, bytes: &mut Vec<u8>) -> Result<()> {
-        bytes.extend_from_slice(&self.name)?;
-        push_u32(bytes, &[self.virtual_size, self.virtual_address])?;
-        push_u32(bytes, &[0, 0, 0, 0, 0, self.characteristics])
-    }
-}
-
-impl Contribution {
-    fn push(&self, bytes: &mut Vec<u8>) -> Result<()> {
-        push_u16(bytes, &[self.section, 0])?;
-        push_u32(bytes, &[self.offset, self.size, self.characteristics])?;
-        push_u16(bytes, &[self.module, 0])?;
-        push_u32(bytes, &[self.data_crc, self.reloc_crc])
-    }
 }
 
 impl Module {
     /// Appends what the module's stream holds.
-    pub fn push_stream(&self, bytes: &mut Vec<u8>) -> Result<()> {
+    pub(crate) fn push_stream(&self, bytes: &mut Vec<u8>) -> Result<()> {
         match &self.symbols {
             ModuleSymbols::Records(records) => {
                 push_u32(bytes, &[SYMBOLS_SIGNATURE])?;
@@ -152,17 +103,14 @@ impl DebugInformation {
         Ok(())
     }
 
-    /// Appends the header, without the sizes.
+    /// Appends the header, without the sizes: for the machine 0x8664, without streams of global and public symbols.
     fn push_header(&self, bytes: &mut Vec<u8>) -> Result<()> {
-        push_u32(bytes, &[SIGNATURE, VERSION, self.age])?;
-        push_u16(bytes, &[self.global_symbols, 0, self.public_symbols, 0])?;
-        push_u16(bytes, &[self.symbol_records, 0])?;
-        push_u32(bytes, &[0, 0, 0, 0, 0, self.mfc_index, 0, 0])?;
-        push_u16(bytes, &[self.flags, self.machine, 0, 0])
+        push_u32(bytes, &[SIGNATURE, VERSION, 1])?;
+        push_u16(bytes, &[NO_STREAM, 0, NO_STREAM, 0, self.symbol_records, 0])?;
+        push_u32(bytes, &[0, 0, 0, 0, 0, 0, 0, 0, 0x8664 << 16, 0])
     }
 
-    /// Appends a part: modules, contributions, the section map, file information, the type server map, edit and continue, or
-    /// the optional header.
+    /// Appends a part: the module list, the contributions or the optional header.
     fn push_part(
         &self,
         bytes: &mut Vec<u8>,
@@ -170,27 +118,16 @@ impl DebugInformation {
         modules: &[Module],
         first: u16,
     ) -> Result<()> {
-        let part = match part {
-            0 => return push_modules(bytes, modules, first),
-            1 => return self.push_contributions(bytes),
-            2 => &self.section_map,
-            3 => &self.file_info,
-            4 => &self.type_server_map,
-            5 => &self.edit_and_continue,
-            _ => return push_u16(bytes, self.optional_header.as_slice()),
-        };
-        bytes.extend_from_slice(part.as_slice())?;
-        Ok(())
+        match part {
+            0 => push_modules(bytes, modules, first),
+            1 => self.push_contributions(bytes),
+            _ => push_u16(bytes, self.optional_header.as_slice()),
+        }
     }
 
     fn push_contributions(&self, bytes: &mut Vec<u8>) -> Result<()> {
-        push_u32(bytes, &[self.contributions_version])?;
-        for contribution in &self.contributions {
-            contribution.push(bytes)?;
-            if self.contributions_version == LONG_CONTRIBUTIONS {
-                push_u32(bytes, &[0])?;
-            }
-        }
+        push_u32(bytes, &[CONTRIBUTIONS])?;
+        bytes.extend_from_slice(self.contributions.as_slice())?;
         Ok(())
     }
 }

@@ -12,17 +12,10 @@ mod rows;
 mod streams;
 mod symbols;
 
-pub use bytes::{overwrite, push_text, push_u16, push_u32, words};
+pub use bytes::{overwrite, push_u32};
 pub use container::{Container, PageOrder};
-pub use database::{Information, ItemTable, NamedStream, ProgramDatabase};
-pub use debug_information::{
-    Contribution, DebugInformation, Module, ModuleSymbols, NO_STREAM, Section,
-};
+pub use database::ProgramDatabase;
+pub use debug_information::{DebugInformation, Module, ModuleSymbols};
 pub use error::{Result, SampleError};
-pub use line_data::push_subsection;
-pub use rows::{
-    Change, cut_dbi, file_f, file_f0, file_with, module_of_symbols, push_public, symbols_of_f,
-    with_address_maps, with_c11,
-};
+pub use rows::{Change, cut_dbi, file_f, file_with, module_of_symbols};
 pub use streams::{PieceReader, PieceWriter};
-pub use symbols::{Procedure, push_end, push_record};

@@ -1,6 +1,3 @@
-use crate::bytes::{pad_to, push_u32};
-use crate::error::Result;
-
 /// The line data of file F, in numbers of four bytes: the checksums name the file at 1 of the names table. The lines are
 /// those of 0x20 bytes at 0x10 of section 1, of the file at 0: two rows at 0 and 8 of them, for lines 5 and 7.
 pub(crate) const LINE_DATA_OF_F: [u32; 16] = [
@@ -21,10 +18,3 @@ pub(crate) const LINE_DATA_OF_F: [u32; 16] = [
     8,
     0x8000_0007,
 ];
-
-/// Appends a subsection of a module's line data, with its kind and length.
-pub fn push_subsection(into: &mut Vec<u8>, kind: u32, bytes: &Vec<u8>) -> Result<()> {
-    push_u32(into, &[kind, u32::try_from(bytes.len())?])?;
-    into.extend_from_slice(bytes.as_slice())?;
-    pad_to(into, 4)
-}

@@ -1,9 +1,7 @@
-use crate::bytes::{push_text, push_u16, push_u32, words};
+use crate::bytes::{push_text, push_u16, push_u32};
 use crate::container::PageOrder;
-use crate::database::{Information, ItemTable, ProgramDatabase};
-use crate::debug_information::{
-    Contribution, DebugInformation, Module, ModuleSymbols, NO_STREAM, Section,
-};
+use crate::database::ProgramDatabase;
+use crate::debug_information::{DebugInformation, Module, ModuleSymbols, NO_STREAM};
 use crate::error::{Result, SampleError};
 use crate::line_data::LINE_DATA_OF_F;
 use crate::symbols::{FIRST_PLACE, Procedure, begin_record, end_record, push_end, push_record};
@@ -30,44 +28,21 @@ const SEPARATED: &[u8; 28] = &[0; 28];
 /// The payload of an inline site in the record at 4, of the inlinee 0x1000 and without annotations. Its end isn't known yet.
 const SITE: &[u8; 12] = b"\x04\0\0\0\0\0\0\0\0\x10\0\0";
 
-/// Code that may be run and read.
-const EXECUTABLE: u32 = 0x6000_0020;
+/// The header of file F's section: 0x100 bytes at 0x1000 that may be run and read.
+const TEXT: &[u8; 40] = b".text\0\0\0\0\x01\0\0\0\x10\0\0\0\0\0\0\0\0\0\0\
+    \0\0\0\0\0\0\0\0\0\0\0\0\x20\0\0\x60";
+
+/// What module 0 contributes to section 1: its first 0x40 bytes.
+const CODE: [u32; 7] = [1, 0, 0x40, 0x6000_0020, 0, 0, 0];
 
 /// Its second contribution, where there is one.
-const SECOND: Contribution = Contribution {
-    section: 1,
-    offset: 0x80,
-    size: 0x10,
-    characteristics: EXECUTABLE,
-    module: 0,
-    data_crc: 0,
-    reloc_crc: 0,
-};
+const SECOND: [u32; 7] = [1, 0x80, 0x10, 0x6000_0020, 0, 0, 0];
 
 /// The number of the debug information's stream.
 const DEBUG_STREAM: usize = 3;
 
 /// The number of the first further stream, behind module 0's and the names table.
 const FURTHER_STREAM: u16 = 9;
-
-/// The section of file F.
-const TEXT: Section = Section {
-    name: *b".text\0\0\0",
-    virtual_size: 0x100,
-    virtual_address: 0x1000,
-    characteristics: EXECUTABLE,
-};
-
-/// What module 0 contributes to it.
-const CODE: Contribution = Contribution {
-    section: 1,
-    offset: 0,
-    size: 0x40,
-    characteristics: EXECUTABLE,
-    module: 0,
-    data_crc: 0,
-    reloc_crc: 0,
-};
 
 /// How a file differs from file F0.
 #[derive(Clone, Copy)]
@@ -116,16 +91,6 @@ pub fn file_f(alloc: Global) -> Result<ProgramDatabase> {
     file_with(alloc, Change::LineData)
 }
 
-/// File F without its line data.
-pub fn file_f0(alloc: Global) -> Result<ProgramDatabase> {
-    file_with(alloc, Change::Nothing)
-}
-
-/// File F0 with four bytes of the older line data.
-pub fn with_c11(alloc: Global) -> Result<ProgramDatabase> {
-    file_with(alloc, Change::OlderLines)
-}
-
 /// File F0 but for one thing.
 pub fn file_with(alloc: Global, change: Change) -> Result<ProgramDatabase> {
     let mut records = Vec::new(alloc);
@@ -160,39 +125,20 @@ fn empty(alloc: Global) -> ProgramDatabase {
     ProgramDatabase {
         page_size: 0x100,
         order: PageOrder::Natural,
-        information: Information {
-            signature: 1,
-            age: 1,
-            guid: [0; 16],
-            named_streams: Vec::new(alloc),
-        },
-        types: ItemTable::new(alloc),
-        ids: ItemTable::new(alloc),
         debug: debug_information(alloc),
         sections: Vec::new(alloc),
         modules: Vec::new(alloc),
         symbol_records: Vec::new(alloc),
-        names: None,
+        names: Vec::new(alloc),
         further_streams: Vec::new(alloc),
     }
 }
 
 fn debug_information(alloc: Global) -> DebugInformation {
     DebugInformation {
-        age: 1,
-        machine: 0x8664,
-        flags: 0,
-        global_symbols: NO_STREAM,
-        public_symbols: NO_STREAM,
         symbol_records: 5,
-        contributions_version: 0xeffe_0000 + 19970605,
         contributions: Vec::new(alloc),
         optional_header: Vec::new(alloc),
-        section_map: Vec::new(alloc),
-        file_info: Vec::new(alloc),
-        type_server_map: Vec::new(alloc),
-        edit_and_continue: Vec::new(alloc),
-        mfc_index: 0,
     }
 }
 
@@ -205,28 +151,18 @@ fn fill(
 ) -> Result<()> {
     let module = module_of_symbols(alloc, b"a.obj", records)?;
     database.modules.push(module)?;
-    database.names = Some(Vec::from_slice(alloc, b"\0a.c\0")?);
+    database.names.extend_from_slice(b"\0a.c\0")?;
     fill_addresses(database)?;
     change.apply(alloc, database)
 }
 
 /// Adds the section, the contribution and the optional header.
 fn fill_addresses(database: &mut ProgramDatabase) -> Result<()> {
-    database.sections.push(TEXT)?;
+    database.sections.extend_from_slice(TEXT)?;
     let debug = &mut database.debug;
-    debug.contributions.push(CODE)?;
+    push_u32(&mut debug.contributions, &CODE)?;
     debug.optional_header.resize(11, NO_STREAM)?;
     set_number(debug, 5, 6)
-}
-
-/// The procedure `f` of this type, the records that lie in it, and its end. The first record in it lies at 48 of the
-/// module's stream.
-pub fn symbols_of_f(alloc: Global, type_index: u32, inner: Vec<u8>) -> Result<Vec<u8>> {
-    let mut records = Vec::new(alloc);
-    push_f(&mut records, type_index, b"f")?;
-    records.extend_from_slice(inner.as_slice())?;
-    push_end(&mut records, 0, SCOPE_END)?;
-    Ok(records)
 }
 
 /// Appends the record of `f`, of this type and name.
@@ -292,10 +228,7 @@ impl Change {
             Change::PublicSymbol(offset, name) => {
                 push_public(&mut database.symbol_records, offset, name)
             }
-            Change::SecondContribution => {
-                database.debug.contributions.push(SECOND)?;
-                Ok(())
-            }
+            Change::SecondContribution => push_u32(&mut database.debug.contributions, &SECOND),
             Change::DamagedModule => push_second_module(alloc, &mut database.modules, true),
             Change::MissingModule => push_second_module(alloc, &mut database.modules, false),
             Change::FurtherStream(place) => {
@@ -363,7 +296,7 @@ fn set_number(debug: &mut DebugInformation, place: usize, stream: u16) -> Result
 }
 
 /// Appends the record of a public symbol of a function in section 1.
-pub fn push_public(records: &mut Vec<u8>, offset: u32, name: &[u8]) -> Result<()> {
+fn push_public(records: &mut Vec<u8>, offset: u32, name: &[u8]) -> Result<()> {
     let start = begin_record(records, PUBLIC)?;
     push_u32(records, &[2, offset])?;
     push_u16(records, &[1])?;
@@ -379,27 +312,4 @@ pub fn cut_dbi(alloc: Global) -> Result<Vec<u8>> {
     let mut file = database.bytes(alloc)?;
     file.truncate(file.len().saturating_sub(0x100 - 100));
     Ok(file)
-}
-
-/// File F whose sections are the same in the image and before its code was moved. Stream 9 maps addresses of the image:
-/// those from 0x2000 on to 0x1010, and those from 0x2008 on to nothing. Stream 10 maps back, from 0x1010 on to 0x2000.
-pub fn with_address_maps(alloc: Global) -> Result<ProgramDatabase> {
-    let mut database = file_f(alloc)?;
-    add_maps(alloc, &mut database)?;
-    Ok(database)
-}
-
-fn add_maps(alloc: Global, database: &mut ProgramDatabase) -> Result<()> {
-    for (place, stream) in [(3, 9), (4, 10), (10, 6)] {
-        set_number(&mut database.debug, place, stream)?;
-    }
-    let streams = &mut database.further_streams;
-    push_words(alloc, streams, &[0x2000, 0x1010, 0x2008, 0])?;
-    push_words(alloc, streams, &[0x1010, 0x2000])
-}
-
-/// Adds a stream of numbers of four bytes.
-fn push_words(alloc: Global, streams: &mut Vec<Option<Vec<u8>>>, values: &[u32]) -> Result<()> {
-    streams.push(Some(words(alloc, values)?))?;
-    Ok(())
 }

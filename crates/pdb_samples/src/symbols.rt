@@ -12,7 +12,7 @@ const END: usize = 8;
 
 /// A procedure of section 1, and the record in which it lies, or 0.
 #[derive(Clone, Copy)]
-pub struct Procedure<'t> {
+pub(crate) struct Procedure<'t> {
     pub parent: u32,
     pub offset: u32,
     pub length: u32,
@@ -22,7 +22,7 @@ pub struct Procedure<'t> {
 
 impl Procedure<'_> {
     /// Appends the procedure's record, whose end isn't known yet.
-    pub fn push(&self, records: &mut Vec<u8>) -> Result<()> {
+    pub(crate) fn push(&self, records: &mut Vec<u8>) -> Result<()> {
         let start = begin_record(records, GLOBAL_PROCEDURE)?;
         push_u32(records, &[self.parent, 0, 0, self.length, 0, self.length])?;
         push_u32(records, &[self.type_index, self.offset])?;
@@ -34,14 +34,14 @@ impl Procedure<'_> {
 }
 
 /// Appends the record of this kind and payload, filled up with zero bytes to a multiple of four. Its length counts these.
-pub fn push_record(records: &mut Vec<u8>, kind: u16, payload: &[u8]) -> Result<()> {
+pub(crate) fn push_record(records: &mut Vec<u8>, kind: u16, payload: &[u8]) -> Result<()> {
     let start = begin_record(records, kind)?;
     records.extend_from_slice(payload)?;
     end_record(records, start)
 }
 
 /// Appends the end of the scope that the record at `start` of the records opens.
-pub fn push_end(records: &mut Vec<u8>, start: usize, kind: u16) -> Result<()> {
+pub(crate) fn push_end(records: &mut Vec<u8>, start: usize, kind: u16) -> Result<()> {
     let place = FIRST_PLACE.saturating_add(u32::try_from(records.len())?);
     overwrite(
         records.as_mut_slice(),
