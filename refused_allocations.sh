@@ -6,13 +6,13 @@
 #
 #   ./refused_allocations.sh CRATE [FIRST [LAST]]
 #
-# CRATE is pdb_rows or container_rows; FIRST and LAST are the first and the last N, 1 and 100000 if left out.
+# CRATE is pdb_report_tests or pdb_container_tests; FIRST and LAST are the first and the last N, 1 and 100000 if left out.
 set -u
 case "${1:-}" in
-    pdb_rows) canary=rows::first_call_in_ample_memory ;;
-    container_rows) canary=layouts::first_calls_in_ample_memory ;;
+    pdb_report_tests) canary=calls::first_calls_in_ample_memory ;;
+    pdb_container_tests) canary=calls::first_calls_in_ample_memory ;;
     *)
-        echo "usage: $0 pdb_rows|container_rows [FIRST [LAST]]"
+        echo "usage: $0 pdb_report_tests|pdb_container_tests [FIRST [LAST]]"
         exit 2
         ;;
 esac

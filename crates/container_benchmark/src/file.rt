@@ -27,7 +27,7 @@ const DIRECTORY_PAGE: u32 = 4;
 
 /// The bytes of a container with so many streams.
 pub fn container_of(alloc: Global, streams: u32) -> Result<Vec<u8>, AllocError>
-    requires { streams ≤ MOST_STREAMS }
+    requires { streams ≤ 2 ^ 10 }
 {
     let first = first_stream_page(streams);
     let mut file = Vec::with_capacity(alloc, end_of(first + STREAM_PAGES * streams))?;
@@ -43,29 +43,29 @@ pub fn container_of(alloc: Global, streams: u32) -> Result<Vec<u8>, AllocError>
 
 /// Where so many pages end, in bytes.
 fn end_of(pages: u32) -> usize
-    ensures { result ≡ PAGE_SIZE * pages }
+    ensures { result ≡ 4096 * pages }
 {
     PAGE_SIZE * pages as usize
 }
 
 /// The size of the directory: the count of the streams, their sizes and the numbers of their pages.
 fn directory_size(streams: u32) -> u32
-    requires { streams ≤ MOST_STREAMS }
-    ensures { result ≡ 4 * (1 + streams + STREAM_PAGES * streams) }
+    requires { streams ≤ 2 ^ 10 }
+    ensures { result ≡ 4 * (1 + streams + 256 * streams) }
 {
     4 * (1 + streams + STREAM_PAGES * streams)
 }
 
 fn directory_pages(streams: u32) -> u32
-    requires { streams ≤ MOST_STREAMS }
-    ensures { result ≤ STREAM_PAGES + 2 }
+    requires { streams ≤ 2 ^ 10 }
+    ensures { result ≤ 258 }
 {
     directory_size(streams).div_ceil(PAGE_SIZE as u32)
 }
 
 fn first_stream_page(streams: u32) -> u32
-    requires { streams ≤ MOST_STREAMS }
-    ensures { result ≤ DIRECTORY_PAGE + STREAM_PAGES + 2 }
+    requires { streams ≤ 2 ^ 10 }
+    ensures { result ≤ 262 }
 {
     DIRECTORY_PAGE + directory_pages(streams)
 }
@@ -77,7 +77,7 @@ fn push_number(file: &mut Vec<u8>, number: u32) -> Result<(), AllocError> {
 /// The magic, the size of a page, the free page map, the pages used, the directory's size, a reserved number, and
 /// the page of the list.
 fn push_header(file: &mut Vec<u8>, streams: u32) -> Result<(), AllocError>
-    requires { streams ≤ MOST_STREAMS }
+    requires { streams ≤ 2 ^ 10 }
 {
     file.extend_from_slice(&MAGIC)?;
     push_number(file, PAGE_SIZE as u32)?;
@@ -89,7 +89,7 @@ fn push_header(file: &mut Vec<u8>, streams: u32) -> Result<(), AllocError>
 }
 
 fn push_list(file: &mut Vec<u8>, streams: u32) -> Result<(), AllocError>
-    requires { streams ≤ MOST_STREAMS }
+    requires { streams ≤ 2 ^ 10 }
 {
     for page in 0..directory_pages(streams) {
         push_number(file, DIRECTORY_PAGE + page)?;
@@ -98,7 +98,7 @@ fn push_list(file: &mut Vec<u8>, streams: u32) -> Result<(), AllocError>
 }
 
 fn push_directory(file: &mut Vec<u8>, streams: u32) -> Result<(), AllocError>
-    requires { streams ≤ MOST_STREAMS }
+    requires { streams ≤ 2 ^ 10 }
 {
     push_number(file, streams)?;
     for _ in 0..streams {
@@ -108,7 +108,7 @@ fn push_directory(file: &mut Vec<u8>, streams: u32) -> Result<(), AllocError>
 }
 
 fn push_page_numbers(file: &mut Vec<u8>, first: u32, count: u32) -> Result<(), AllocError>
-    requires { first + count + RUN_PAGES < 2 ^ 32 }
+    requires { first + count + 128 < 2 ^ 32 }
 {
     for place in 0..count {
         push_number(file, first + page_at(place))?;
@@ -118,8 +118,8 @@ fn push_page_numbers(file: &mut Vec<u8>, first: u32, count: u32) -> Result<(), A
 
 /// Which of the streams' pages is read at a place among them, from 0.
 fn page_at(place: u32) -> u32
-    requires { place + RUN_PAGES < 2 ^ 32 }
-    ensures { result < place + RUN_PAGES }
+    requires { place + 128 < 2 ^ 32 }
+    ensures { result < place + 128 }
 {
     let index = place % RUN_PAGES;
     if place / RUN_PAGES % 2 == 0 {
@@ -130,7 +130,7 @@ fn page_at(place: u32) -> u32
 }
 
 fn push_content(file: &mut Vec<u8>, streams: u32) -> Result<(), AllocError>
-    requires { streams ≤ MOST_STREAMS }
+    requires { streams ≤ 2 ^ 10 }
 {
     for page in 0..STREAM_PAGES * streams {
         push_page(file, page)?;

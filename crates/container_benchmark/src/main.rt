@@ -6,7 +6,7 @@
 //! is taken. Both are done once untimed before. The output says what was read, and the error output how long it took.
 #![tactic(auto)]
 
-ghost use Rattle.std.specs.Prelude.{◌≡◌, ◌≤◌, IfOk};
+ghost use Rattle.std.specs.Prelude.{◌≡◌, ◌≤◌, ◌^◌, IfOk};
 ghost use Rattle.container_benchmark.specs.Streams.{AreFirst};
 
 mod file;
@@ -31,7 +31,7 @@ fn main(rt: HostRuntime) -> Result<()> {
 
 /// How many streams to read, 1 to `MOST_STREAMS`: the program's first word, or 64.
 fn streams_asked(rt: &(impl Env + AllocGlobal)) -> Result<u32>
-    ensures { IfOk result (λ count. count ≤ MOST_STREAMS) }
+    ensures { IfOk result (λ count. count ≤ 2 ^ 10) }
 {
     let Some(word) = env::args(rt)?.nth(1) else {
         return Ok(64);

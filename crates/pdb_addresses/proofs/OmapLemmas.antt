@@ -3,13 +3,13 @@ use Rattle.std.proofs.Common.{◌≡◌, ◌≢◌, ℕ, zero, suc, ◌+◌, ◌
 use Rattle.std.specs.Prelude.{Option, None, option_and_then}
 use Rattle.std.specs.List.Sorted.{IsPartitionPoint}
 use Rattle.std.proofs.lemmas.Option.{slice_get-get_or}
-use Rattle.std.specs.Bool.{Decides}
 use Rattle.std.specs.List.{AllAdjacentBelow}
 use Rattle.std.proofs.lemmas.List.{get_or_default}
 use Rattle.std.proofs.lemmas.List.Sorted.{all_adjacent_more, IsNonDecreasingBy-from_all_adjacent}
 use Rattle.std.proofs.lemmas.Bool.{le-leb, lt-leb, leb-true, leb-false, ne_eqb}
+use Rattle.pdb_addresses.proofs.Ordered.{sources_decided}
 use Rattle.pdb_addresses.specs.declared.omap.OMAPRecord.{OMAPRecord}
-use Rattle.pdb_addresses.specs.Omap.{source, AreSourcesInOrder, number_or, record_at, last_number, sent_by, sent}
+use Rattle.pdb_addresses.specs.Omap.{source, are_sources_in_order, number_or, record_at, last_number, sent_by, sent}
 
 abbrev no_record : OMAPRecord
 no_record = record { source_address = 0; target_address = 0 }
@@ -96,8 +96,12 @@ in_order_more records i d lt le so_far = record {
       (λ e. rw (get_or_default records (i - 1) e d (omega arith), get_or_default records i e d lt) le);
 }
 
-pub in_order_done : (records : List OMAPRecord) (i : ℕ) → length records ≤ i → IsInOrderTo records i → Decides true (AreSourcesInOrder records)
-in_order_done records i past so_far = (λ e. IsNonDecreasingBy-from_all_adjacent source records (λ k d lt. so_far.each k d (omega arith)), λ e. refl)
+pub in_order_done : (records : List OMAPRecord) (i : ℕ) → length records ≤ i → IsInOrderTo records i → true ≡ are_sources_in_order records
+in_order_done records i past so_far = sym ((sources_decided records).1 (IsNonDecreasingBy-from_all_adjacent source records (λ k d lt. so_far.each k d (omega arith))))
 
-pub falls : (records : List OMAPRecord) (i : ℕ) (d : OMAPRecord) → i < length records → source (get_or records i d) < source (get_or records (i - 1) d) → Decides false (AreSourcesInOrder records)
-falls records i d lt below = (λ e. absurd cc, λ order. let le = order (i - 1) i d (omega arith) lt in absurd (omega arith))
+false_unless : (b : Bool) → (b ≡ true → ⊥) → false ≡ b
+false_unless false none = refl
+false_unless true none = absurd (none refl)
+
+pub falls : (records : List OMAPRecord) (i : ℕ) (d : OMAPRecord) → i < length records → source (get_or records i d) < source (get_or records (i - 1) d) → false ≡ are_sources_in_order records
+falls records i d lt below = false_unless (are_sources_in_order records) (λ e. let le = (sources_decided records).0 e (i - 1) i d (omega arith) lt in absurd (omega arith))

@@ -1,5 +1,5 @@
 -- Whether a map is ordered, as it is computed and as it is said.
-use Rattle.std.proofs.Common.{◌≡◌, ℕ, zero, suc, ◌<◌, ◌≤◌, Bool, true, false, List, [], ◌∷◌, length, get_or, Option, None, Some, refl, sym, arith}
+use Rattle.std.proofs.Common.{◌≡◌, ℕ, zero, suc, ◌<◌, ◌≤◌, Bool, true, false, List, [], ◌∷◌, length, get_or, Option, None, Some, refl, sym, ◌∙◌, arith}
 use Rattle.std.proofs.lemmas.Bool.{le-leb, leb-true}
 use Rattle.std.specs.Bool.{Decides}
 use Rattle.std.specs.Cmp.{first_so, second_so}
@@ -31,7 +31,7 @@ rises n (r ∷ records) first order =
     rw (le-leb n r.source_address (first r (omega arith)))
     (rises r.source_address records (λ d lt. order 0 1 d (omega arith) (omega arith)) (λ i j d le lt. order (suc i) (suc j) d (omega arith) (omega arith)))
 
-sources_decided : (records : List OMAPRecord) → Decides (are_sources_in_order records) (AreSourcesInOrder records)
+pub sources_decided : (records : List OMAPRecord) → Decides (are_sources_in_order records) (AreSourcesInOrder records)
 sources_decided records = (λ e. risen 0 records e, λ order. rises 0 records (λ d lt. omega arith) order)
 
 map_decided : (omap : Option (List OMAPRecord)) → Decides (is_in_order omap) (IsInOrder omap)
@@ -48,11 +48,12 @@ ordered_decided m = (
   λ order. rw ((map_decided m.to_internal).1 order.to_internal, (map_decided m.to_image).1 order.to_image) refl,
 )
 
--- and so it is each answer that decides that
-alike : (a b : Bool) → (a ≡ true → b ≡ true) → (b ≡ true → a ≡ true) → a ≡ b
-alike true b f g = sym (f refl)
-alike false true f g = g refl
-alike false false f g = refl
+-- and so an answer decides it that asks one way, and then the other
+pub first_decides : (m : Map) (first : Bool) → first ≡ is_in_order m.to_internal → first ≡ false → Decides first (IsOrdered m)
+first_decides m first e none = (λ f. absurd cc, λ order. e ∙ (map_decided m.to_internal).1 order.to_internal)
 
-pub decided_is : (m : Map) (b : Bool) → Decides b (IsOrdered m) → b ≡ is_ordered m
-decided_is m b d = alike b (is_ordered m) (λ e. (ordered_decided m).1 (d.0 e)) (λ e. d.1 ((ordered_decided m).0 e))
+pub second_decides : (m : Map) (first second : Bool) → first ≡ is_in_order m.to_internal → first ≡ true → second ≡ is_in_order m.to_image → Decides second (IsOrdered m)
+second_decides m first second e so g = (
+  λ f. record { to_internal = (map_decided m.to_internal).0 (sym e ∙ so); to_image = (map_decided m.to_image).0 (sym g ∙ f) },
+  λ order. g ∙ (map_decided m.to_image).1 order.to_image,
+)

@@ -2,7 +2,7 @@
 
 ghost use Rattle.std.specs.Prelude.{◌≡◌, option_map};
 ghost use Rattle.std.specs.Bool.{Decides};
-ghost use Rattle.pdb_addresses.specs.Addresses.{map_of, IsInOrder, IsOrdered, is_ordered, inner, outer};
+ghost use Rattle.pdb_addresses.specs.Addresses.{map_of, IsInOrder, IsOrdered, is_in_order as in_order, is_ordered, inner, outer};
 ghost use Rattle.pdb_addresses.specs.Omap.{translated, records_of};
 
 use crate::omap::{OMAPRecord, are_sources_in_order, lookup};
@@ -122,7 +122,7 @@ impl<'s> AddressMap<'s> {
 
 /// Whether no source of a map lies below the one before it.
 fn is_in_order(omap: Option<&[OMAPRecord]>) -> bool
-    ensures { Decides result (IsInOrder (records_of omap.entry)) }
+    ensures { result ≡ in_order (records_of omap.entry) }
 {
     match omap {
         None => true,

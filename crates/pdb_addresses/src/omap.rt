@@ -1,11 +1,10 @@
 //! Maps that tell where a tool has moved an image's code.
 
 ghost use Rattle.std.specs.Prelude.{◌≡◌, ◌≤◌, ◌<◌, length};
-ghost use Rattle.std.specs.Bool.{Decides};
 ghost use Rattle.std.specs.List.{AllWithin};
 ghost use Rattle.pdb_container.specs.Fault.{Gives};
 ghost use Rattle.pdb_container.specs.Fields.{entries};
-ghost use Rattle.pdb_addresses.specs.Omap.{AreSourcesInOrder, omap_record_at, omap_of, last_number as number_of_last, sent_by as sent_by_record, sent};
+ghost use Rattle.pdb_addresses.specs.Omap.{AreSourcesInOrder, are_sources_in_order as in_order, omap_record_at, omap_of, last_number as number_of_last, sent_by as sent_by_record, sent};
 
 use pdb_container::{Error, FromBuffer, ParseBuffer, Result};
 use std::alloc::Global;
@@ -65,7 +64,7 @@ fn parse_records(alloc: Global, bytes: &[u8]) -> Result<Vec<OMAPRecord>>
 /// Whether no source lies below the one before it.
 #[tactic(auto, using(crate::proofs::OmapLemmas::in_order_start, crate::proofs::OmapLemmas::in_order_more, crate::proofs::OmapLemmas::in_order_done, crate::proofs::OmapLemmas::falls))]
 pub(crate) fn are_sources_in_order(records: &[OMAPRecord]) -> bool
-    ensures { Decides result (AreSourcesInOrder records.now) }
+    ensures { result ≡ in_order records.now }
 {
     for i in 1..records.len() {
         if records[i].source_address < records[i - 1].source_address {

@@ -1,5 +1,5 @@
 -- Faults: what an error of the system counts as, and when an answer is excused.
-use Rattle.std.specs.Prelude.{◌≡◌, ◌≢◌, ℕ, ◌+◌, ◌-◌, ◌^◌, ◌≤◌, ◌⊎◌, min, Bool, if◌then◌else◌, Result, Ok, Err}
+use Rattle.std.specs.Prelude.{◌≡◌, ◌≢◌, ℕ, ◌+◌, ◌-◌, ◌^◌, ◌≤◌, ◌⊎◌, min, Bool, if◌then◌else◌, Option, Some, None, Result, Ok, Err}
 use Rattle.std.specs.declared.io.ErrorKind.{ErrorKind}
 use Rattle.std.specs.declared.io.ErrorKind.TheVariants as kinds
 use Rattle.std.specs.declared.io.Error as io
@@ -66,6 +66,11 @@ fault_of (errors.NotACrossModuleRef a) = NotACrossModuleRef a
 fault_of (errors.CrossModuleRefNotFound a) = CrossModuleRefNotFound a
 fault_of (errors.Kept a) = Kept a
 fault_of errors.OutOfMemory = UnexpectedEof
+
+-- the fault that an error says: none is said by want of memory
+abbrev pub said : Error → Option Fault
+said errors.OutOfMemory = None
+said e = Some (fault_of e)
 
 -- an error as the fault that is kept of a module's stream; any other error stays as it is
 abbrev pub kept_of : Error → Result ModuleFault Error

@@ -1,6 +1,7 @@
 //! Laws of the definitions: functions that do nothing, whose contracts are proved.
 
 ghost use Rattle.std.specs.Prelude.{◌≡◌, ◌↔◌, ℕ, List, Option, Ok, true};
+ghost use Rattle.std.specs.Ordering.{nat_cmp};
 ghost use Rattle.pdb_container.specs.Alike.{ReadAlike, AreAlike, HaveSameStream, HaveSameStreams};
 ghost use Rattle.pdb_container.specs.Container.{stream};
 ghost use Rattle.pdb_container.specs.Paged.{IsStream, IsLimited};
@@ -10,8 +11,10 @@ ghost use Rattle.pdb_container.specs.declared.raw_string.RawString.{RawString as
 ghost use Rattle.pdb_container.specs.declared.string_table.StringRef.{StringRef as Offset};
 ghost use Rattle.pdb_container.specs.declared.source.SourceSlice.{SourceSlice as Slice};
 ghost use Rattle.pdb_container.specs.declared.error.ModuleFault.{ModuleFault as KeptFault};
+ghost use Rattle.pdb_container.specs.declared.error.Error.{Error as AnyError};
+ghost use Rattle.pdb_container.specs.Fault.{said};
 
-use crate::error::ModuleFault;
+use crate::error::{Error, ModuleFault};
 use crate::raw_string::RawString;
 use crate::source::SourceSlice;
 use crate::string_table::StringRef;
@@ -50,9 +53,14 @@ pub fn equal_texts_hash_alike()
     ensures hash { (a b : Text) → raw_bytes a ≡ raw_bytes b → ⟦<RawString<'static> as Hash>⟧.hash_input a ≡ ⟦<RawString<'static> as Hash>⟧.hash_input b }
 {}
 
-/// Offsets of names, slices and kept faults are equal exactly where they are one and the same: `==` leaves out no part of them.
+/// Offsets of names, slices and kept faults are equal exactly where they are one and the same, and errors where they say
+/// the same fault, or both that memory was refused: `==` leaves out no part of them. Offsets come in the order of their
+/// numbers.
 pub fn equal_values_are_one()
     ensures offsets { (a b : Offset) → (⟦<StringRef as PartialEq>⟧.eq a b ≡ true) ↔ (a ≡ b) }
+    ensures order { (a b : Offset) → ⟦<StringRef as Ord>⟧.cmp a b ≡ nat_cmp a.0 b.0 }
     ensures slices { (a b : Slice) → (⟦<SourceSlice as PartialEq>⟧.eq a b ≡ true) ↔ (a ≡ b) }
     ensures kept { (a b : KeptFault) → (⟦<ModuleFault as PartialEq>⟧.eq a b ≡ true) ↔ (a ≡ b) }
+    ensures equal_errors { (a b : AnyError) → ⟦<Error as PartialEq>⟧.eq a b ≡ true → said a ≡ said b }
+    ensures same_faults { (a b : AnyError) → said a ≡ said b → ⟦<Error as PartialEq>⟧.eq a b ≡ true }
 {}

@@ -15,13 +15,10 @@ fn stream_of(description: &Container, number: u32, limit: usize) -> Result<&[u8]
 }
 
 /// The first number and limit, of some, at which the file of the description answers another stream.
-fn first_wrong(
-    alloc: Global,
-    description: &Container,
-) -> Result<Option<(u32, usize)>, Fail> {
+fn first_wrong(alloc: Global, description: &Container) -> Result<Option<(u32, usize)>, Fail> {
     let bytes = file(alloc, description)?;
     let mut opened = open(alloc, bytes.as_slice())?;
-    let count = description.streams.len() as u32;
+    let count = u32::try_from(description.streams.len())?;
     for number in [0, 5, 9, 199, 999, count.saturating_sub(1), count, u32::MAX] {
         for limit in [0, 1, 0x100, 0x101, usize::MAX] {
             let answer = get(&mut opened, alloc, number, Some(limit));

@@ -32,6 +32,7 @@ pub enum FileChecksum<'a> {
 pub struct FileInfo<'a> {
     /// Where its name is in the table of names.
     pub name: StringRef,
+    /// The sum over its bytes.
     pub checksum: FileChecksum<'a>,
 }
 

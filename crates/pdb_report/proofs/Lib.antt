@@ -9,6 +9,7 @@ pub mod ProcedureSteps
 pub mod FrameSteps
 pub mod LoadingSteps
 pub mod ModuleSteps
+pub mod PublicSteps
 pub mod OpeningSteps
 pub mod KeptSteps
 pub mod ShortLines

@@ -8,7 +8,8 @@ use Rattle.pdb_report.specs.declared.fault.LoadFault.{LoadFault}
 use Rattle.pdb_report.specs.declared.fault.LoadFault.TheVariants as faults
 use Rattle.pdb_report.specs.declared.pdb_addr2line.Error.TheVariants as contexts
 use Rattle.pdb_report.specs.Loading.{none_or}
-use Rattle.pdb_report.specs.Faults.{load_fault_of, lifted, Fails, LoadingFault}
+use Rattle.pdb_report.specs.declared.pdb_addr2line.Error as context
+use Rattle.pdb_report.specs.Faults.{ContextFault, context_error_of, load_fault_of, load_fault_in_context, lifted, in_context, in_loading, FailsInContext, Fails, LoadingFault}
 
 pub load_fails : {A B : Type 0} (e : Error) (read : Result A Fault) (f : A → Result B LoadingFault)
     → (IsOutside e ⊥ ⊎ (read ≡ Err (fault_of e))) → Fails (load_fault_of e) (lifted read >>= f)
@@ -68,3 +69,20 @@ fails_on faults.OutOfMemory read f h = tt
 fails_on (faults.Pdb contexts.OutOfMemory) read f h = h
 fails_on (faults.Pdb (contexts.PdbError errors.OutOfMemory)) read f h = h
 fails_on e read f h = ap (λ r. r >>= f) h
+
+-- ---- faults of a context
+
+-- a call that reads fails in the middle of a context's
+pub context_fails : {A B : Type 0} (e : Error) (read : Result A Fault) (f : A → Result B ContextFault)
+    → (IsOutside e ⊥ ⊎ (read ≡ Err (fault_of e))) → FailsInContext (context_error_of e) (in_context read >>= f)
+context_fails errors.OutOfMemory read f h = tt
+context_fails (errors.IoError kind) read f (inl h) = absurd h.1
+context_fails (errors.IoError kind) read f (inr h) = ap (λ r. in_context r >>= f) h
+context_fails e read f (inl h) = absurd h
+context_fails e read f (inr h) = ap (λ r. in_context r >>= f) h
+
+-- a context's call fails in the middle of a load
+pub contributions_fail : {A B : Type 0} (e : context.Error) (read : Result A ContextFault) (f : A → Result B LoadingFault) → FailsInContext e read → Fails (load_fault_in_context e) (in_loading read >>= f)
+contributions_fail contexts.OutOfMemory read f h = tt
+contributions_fail (contexts.PdbError errors.OutOfMemory) read f h = h
+contributions_fail (contexts.PdbError e) read f h = ap (λ r. in_loading r >>= f) h

@@ -1,59 +1,46 @@
--- The procedures of all modules, and those of the module of a number.
-use Rattle.std.proofs.Common.{◌≡◌, ℕ, zero, suc, ◌+◌, ◌<◌, ◌≤◌, Bool, true, false, cond, ◌||◌, List, [], ◌∷◌, ◌++◌, length, get_or, take, Ok, Err, refl, sym, ap, ◌∙◌, arith}
-use Rattle.std.specs.Prelude.{map}
-use Rattle.std.specs.List.{list_any}
-use Rattle.std.proofs.lemmas.List.{take_more, take_all, map-append}
-use Rattle.pdb_container.specs.Fault.{refuse, ◌>>=◌}
+-- The symbols of all modules, place by place.
+use Rattle.std.proofs.Common.{◌≡◌, ℕ, zero, suc, ◌+◌, ◌<◌, ◌≤◌, ◌⊎◌, inl, inr, Bool, true, false, cond, ◌||◌, ◌&&◌, List, [], ◌∷◌, ◌++◌, length, get_or, take, Result, Ok, Err, refl, sym, ap, ◌∙◌, arith}
+use Rattle.std.specs.Prelude.{Option, None, Some, IfSome, IsSome, map, option_map, nat_eq}
+use Rattle.std.specs.List.{list_any, dedup, dedup_from}
+use Rattle.std.specs.List.Sorted.{IsPermutation}
+use Rattle.std.proofs.lemmas.Bool.{eqb-true, cases_Bool}
+use Rattle.std.proofs.lemmas.List.{take_more, take_all}
+use Rattle.std.proofs.lemmas.List.Folds.{list_any-append}
+use Rattle.std.proofs.lemmas.List.Sorted.{list_any-IsPermutation}
+use Rattle.pdb_container.specs.Fault.{Fault, refuse, ◌>>=◌}
 use Rattle.pdb_report.specs.declared.fault.LoadFault.{LoadFault}
 use Rattle.pdb_report.specs.declared.fault.LoadFault.TheVariants as faults
 use Rattle.pdb_report.specs.declared.pdb_addr2line.Error.TheVariants as contexts
 use Rattle.pdb_container.specs.declared.error.Error.TheVariants as errors
 use Rattle.pdb_report.specs.Faults.{LoadingFault, NotYet, Fails, loading_fault_of}
-use Rattle.pdb_symbols_modules.specs.Streams.{Streams}
+use Rattle.pdb_modules.specs.ModuleStream.{ModuleStream}
+use Rattle.pdb_modules.specs.ModuleStream.{symbols_in as symbol_bytes_in}
+use Rattle.pdb_symbols_modules.specs.Streams.{Streams, stream_if_named}
 use Rattle.pdb_symbols_modules.specs.Modules.{Module}
-use Rattle.pdb_report.specs.Procedures.{Procedure, symbols_in}
-use Rattle.pdb_report.specs.Loading.{own_stream, has_other_symbols}
-use Rattle.pdb_report.specs.Kept.{plain_procedures, module_procedures, all_procedures}
+use Rattle.pdb_symbols_modules.specs.Opened.{module_info}
+use Rattle.pdb_symbols_modules.specs.Shared.{module_stream, info_in}
+use Rattle.pdb_report.specs.Procedures.{Procedure, symbols_in, own_symbols, has_other}
+use Rattle.pdb_report.specs.Kept.{list_or_none}
+use Rattle.pdb_report.specs.Loading.{symbols_place, with_symbols, if_read, has_others_at, has_other_symbols}
 
--- ---- one module more
+-- ---- a loop that ends where one is refused
 
 or_false : (b : Bool) → (b || false) ≡ b
 or_false true = refl
 or_false false = refl
 
-any_append : {X : Type 0} (test : X → Bool) (xs : List X) (y : X) → list_any test (xs ++ y ∷ []) ≡ (list_any test xs || test y)
-any_append test [] y = or_false (test y)
-any_append test (x ∷ xs) y = rw (any_append test xs y) (elim (test x) as (λ b. (b || (list_any test xs || test y)) ≡ ((b || list_any test xs) || test y)) [ true ↦ refl | false ↦ refl ])
+not_refused : (b : Bool) (u : Unit {0}) → refuse b NotYet ≡ Ok u → b ≡ false
+not_refused true u h = absurd cc
+not_refused false u h = refl
 
--- a module that was read has no other symbols, and these procedures
-read_well : (other : Bool) (own all : List Procedure) → cond other (Err NotYet) (Ok own) ≡ Ok all → (other ≡ false) × (own ≡ all)
-read_well true own all h = absurd cc
-read_well false own all h = (refl, cc)
+pub refused_more : {X : Type 0} (test : X → Bool) (xs : List X) (i : ℕ) (x : X) (u : Unit {0}) → i < length xs → x ≡ get_or xs i x → refuse (test x) NotYet ≡ Ok u
+    → list_any test (take i xs) ≡ false → list_any test (take (i + 1) xs) ≡ false
+refused_more test xs i x u lt is passed so_far =
+    ap (list_any test) (take_more xs i x lt ∙ ap (λ y. take i xs ++ y ∷ []) (sym is)) ∙ list_any-append test (take i xs) (x ∷ [])
+    ∙ ap (λ b. b || (test x || false)) so_far ∙ or_false (test x) ∙ not_refused (test x) u passed
 
-opened : (s : Streams) (m : Module) → plain_procedures (own_stream s m >>= symbols_in) ≡ cond (has_other_symbols s m) (Err NotYet) (Ok (module_procedures s m))
-unfolding plain_procedures
-opened s m = elim (has_other_symbols s m) as (λ b. (refuse b NotYet >>= λ plain. Ok (module_procedures s m)) ≡ cond b (Err NotYet) (Ok (module_procedures s m))) [ true ↦ refl | false ↦ refl ]
-
-pub modules_more : (s : Streams) (modules : List Module) (i : ℕ) (m : Module) (front : List (List Procedure)) (own : List Procedure) → i < length modules → m ≡ get_or modules i m
-    → plain_procedures (own_stream s m >>= symbols_in) ≡ Ok own
-    → front ≡ map (module_procedures s) (take i modules) → list_any (has_other_symbols s) (take i modules) ≡ false
-    → (front ++ own ∷ [] ≡ map (module_procedures s) (take (i + 1) modules)) × (list_any (has_other_symbols s) (take (i + 1) modules) ≡ false)
-modules_more s modules i m front own lt is read so_far plain =
-    let here = read_well (has_other_symbols s m) (module_procedures s m) own (sym (opened s m) ∙ read) in
-    let more : take (i + 1) modules ≡ take i modules ++ m ∷ [] = take_more modules i m lt ∙ ap (λ x. take i modules ++ x ∷ []) (sym is) in (
-      ap (λ xs. xs ++ own ∷ []) so_far ∙ ap (λ x. map (module_procedures s) (take i modules) ++ x ∷ []) (sym here.1)
-          ∙ sym (map-append (module_procedures s) (take i modules) (m ∷ [])) ∙ sym (ap (map (module_procedures s)) more),
-      ap (list_any (has_other_symbols s)) more ∙ any_append (has_other_symbols s) (take i modules) m ∙ ap (λ b. b || has_other_symbols s m) plain ∙ here.0,
-    )
-
-pub modules_all : (s : Streams) (modules : List Module) (i : ℕ) (front : List (List Procedure)) → length modules ≤ i
-    → front ≡ map (module_procedures s) (take i modules) → list_any (has_other_symbols s) (take i modules) ≡ false
-    → all_procedures s modules ≡ Ok front
-unfolding all_procedures
-modules_all s modules i front past so_far plain =
-    let whole : take i modules ≡ modules = take_all i modules past in
-    let none : list_any (has_other_symbols s) modules ≡ false = sym (ap (list_any (has_other_symbols s)) whole) ∙ plain in
-    rw none (ap Ok (sym (so_far ∙ ap (map (module_procedures s)) whole)))
+pub refused_all : {X : Type 0} (test : X → Bool) (xs : List X) (i : ℕ) → length xs ≤ i → list_any test (take i xs) ≡ false → refuse (list_any test xs) NotYet ≡ Ok tt
+refused_all test xs i past so_far = ap (λ b. refuse b NotYet) (sym (ap (list_any test) (take_all i xs past)) ∙ so_far)
 
 any_true : {X : Type 0} (test : X → Bool) (xs : List X) (i : ℕ) (x : X) → i < length xs → x ≡ get_or xs i x → test x ≡ true → list_any test xs ≡ true
 any_true test [] i x lt is h = absurd (omega arith)
@@ -61,22 +48,70 @@ any_true test (y ∷ ys) zero x lt is h = ap (λ b. b || list_any test ys) (ap t
 any_true test (y ∷ ys) (suc i) x lt is h =
     ap (λ b. test y || b) (any_true test ys i x (omega arith) is h) ∙ elim (test y) as (λ b. (b || true) ≡ true) [ true ↦ refl | false ↦ refl ]
 
--- a module that was not read has other symbols
-read_ill : (other : Bool) (own : List Procedure) (f : LoadingFault) → cond other (Err NotYet) (Ok own) ≡ Err f → (other ≡ true) × (NotYet ≡ f)
-read_ill true own f h = (refl, cc)
-read_ill false own f h = absurd cc
+-- what is refused with a fault is refused by its test
+refused_by : (b : Bool) (f : LoadingFault) → refuse b NotYet ≡ Err f → (b ≡ true) × (refuse true NotYet ≡ Err f)
+refused_by true f h = (refl, h)
+refused_by false f h = absurd cc
 
-refused : (s : Streams) (modules : List Module) (i : ℕ) (m : Module) (f : LoadingFault) → i < length modules → m ≡ get_or modules i m
-    → plain_procedures (own_stream s m >>= symbols_in) ≡ Err f → all_procedures s modules ≡ Err f
-unfolding all_procedures
-refused s modules i m f lt is read =
-    let here = read_ill (has_other_symbols s m) (module_procedures s m) f (sym (opened s m) ∙ read) in
-    let found : list_any (has_other_symbols s) modules ≡ true = any_true (has_other_symbols s) modules i m lt is here.0 in
-    rw found (ap (λ (t : LoadingFault). Err t) here.1)
+-- one test that refuses where another one does fails as that one
+refused_alike : (a b : Bool) (e : LoadFault) → (a ≡ true → b ≡ true) → Fails e (refuse a NotYet) → Fails e (refuse b NotYet)
+refused_alike a b faults.OutOfMemory more h = tt
+refused_alike a b (faults.Pdb contexts.OutOfMemory) more h = h
+refused_alike a b (faults.Pdb (contexts.PdbError errors.OutOfMemory)) more h = h
+refused_alike a b e more h = let by = refused_by a (loading_fault_of e) h in ap (λ t. refuse t NotYet) (more by.0) ∙ by.1
 
-pub modules_fail : (s : Streams) (modules : List Module) (i : ℕ) (m : Module) (e : LoadFault) → i < length modules → m ≡ get_or modules i m
-    → Fails e (plain_procedures (own_stream s m >>= symbols_in)) → Fails e (all_procedures s modules)
-modules_fail s modules i m faults.OutOfMemory lt is h = tt
-modules_fail s modules i m (faults.Pdb contexts.OutOfMemory) lt is h = h
-modules_fail s modules i m (faults.Pdb (contexts.PdbError errors.OutOfMemory)) lt is h = h
-modules_fail s modules i m e lt is h = refused s modules i m (loading_fault_of e) lt is h
+pub refused_fail : {X : Type 0} (test : X → Bool) (xs : List X) (i : ℕ) (x : X) (e : LoadFault) → i < length xs → x ≡ get_or xs i x → Fails e (refuse (test x) NotYet) → Fails e (refuse (list_any test xs) NotYet)
+refused_fail test xs i x e lt is h = refused_alike (test x) (list_any test xs) e (any_true test xs i x lt is) h
+
+-- ---- the places of all modules
+
+twice : (a b c : Bool) → b ≡ a → (a || c) ≡ (a || (b || c))
+twice true b c e = refl
+twice false b c e = ap (λ t. t || c) (sym e)
+
+-- each place once is all of them
+once_from : {X : Type 0} (test : X → Bool) (same : X → X → Bool) → ((x y : X) → same x y ≡ true → x ≡ y) → (k : X) (xs : List X) → list_any test (dedup_from same k xs) ≡ list_any test (k ∷ xs)
+once_from test same ties k [] = refl
+once_from test same ties k (x ∷ xs) = elim (cases_Bool (same x k)) [
+  | inl e ↦ rw e (once_from test same ties k xs ∙ twice (test k) (test x) (list_any test xs) (ap test (ties x k e)))
+  | inr e ↦ rw e (ap (λ b. test k || b) (once_from test same ties x xs))
+]
+
+once : {X : Type 0} (test : X → Bool) (same : X → X → Bool) → ((x y : X) → same x y ≡ true → x ≡ y) → (xs : List X) → list_any test (dedup same xs) ≡ list_any test xs
+once test same ties [] = refl
+once test same ties (x ∷ xs) = once_from test same ties x xs
+
+abbrev pub same_place : ℕ × ℕ → ℕ × ℕ → Bool
+same_place p q = nat_eq p.0 q.0 && nat_eq p.1 q.1
+
+both : (a b : Bool) → (a && b) ≡ true → (a ≡ true) × (b ≡ true)
+both true true h = (refl, refl)
+both true false h = absurd cc
+both false b h = absurd cc
+
+equal_places : (p q : ℕ × ℕ) → same_place p q ≡ true → p ≡ q
+equal_places (a, b) (c, d) h =
+    let parts = both (nat_eq a c) (nat_eq b d) h in
+    ap (λ x. (x, b)) (eqb-true a c parts.0) ∙ ap (λ y. (c, y)) (eqb-true b d parts.1)
+
+pub places_alike : (test : ℕ × ℕ → Bool) (all sorted few : List (ℕ × ℕ)) → IsPermutation all sorted → few ≡ dedup same_place sorted → list_any test few ≡ list_any test all
+places_alike test all sorted few moved is = ap (list_any test) is ∙ once test same_place equal_places sorted ∙ sym (list_any-IsPermutation test all sorted moved)
+
+-- a module's symbols are where its entry says
+own_place : (s : Streams) (m : Module) → has_others_at s (symbols_place m) ≡ has_other_symbols s m
+unfolding module_info info_in symbols_in symbol_bytes_in
+own_place s m = elim (stream_if_named s m.stream) as (λ r. has_other (own_symbols (option_map (with_symbols m.symbols_size) (if_read r))) ≡ has_other ((r >>= λ found. Ok (option_map (module_stream m) found)) >>= own_symbols)) [
+  | Ok None ↦ refl
+  | Ok (Some bytes) ↦ refl
+  | Err e ↦ refl
+]
+
+pub modules_at_places : (s : Streams) (modules : List Module) → list_any (has_others_at s) (map symbols_place modules) ≡ list_any (has_other_symbols s) modules
+modules_at_places s [] = refl
+modules_at_places s (m ∷ modules) = ap (λ b. b || list_any (has_others_at s) (map symbols_place modules)) (own_place s m) ∙ ap (λ b. has_other_symbols s m || b) (modules_at_places s modules)
+
+-- ---- what is kept
+
+pub kept_is : (found : Option (List Procedure)) (all : List Procedure) → IsSome found → IfSome found (λ own. own ≡ all) → list_or_none found ≡ all
+kept_is None all there right = absurd cc
+kept_is (Some own) all there right = right

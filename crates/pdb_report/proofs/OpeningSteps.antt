@@ -1,7 +1,8 @@
 -- The steps of opening a file: where one fails, and what is kept at the end.
 use Rattle.std.proofs.Common.{◌≡◌, ℕ, zero, suc, ◌⊎◌, Bool, true, false, List, [], ◌∷◌, Result, Ok, Err, refl, sym, ap, ◌∙◌}
-use Rattle.std.specs.Prelude.{Option, None, Some, map, slice_get}
-use Rattle.std.specs.List.{list_any}
+use Rattle.std.specs.Prelude.{Option, None, Some, option_map, slice_get}
+use Rattle.std.specs.BTreeMap.{BTreeMap}
+use Rattle.std.specs.List.{All, list_any}
 use Rattle.pdb_container.specs.declared.error.Error.{Error}
 use Rattle.pdb_container.specs.declared.error.Error.TheVariants as errors
 use Rattle.pdb_container.specs.Fault.{Fault, fault_of, IsOutside, HasRisen, refuse, ◌>>=◌}
@@ -10,18 +11,18 @@ use Rattle.pdb_report.specs.declared.fault.LoadFault.TheVariants as faults
 use Rattle.pdb_report.specs.declared.pdb_addr2line.Error.TheVariants as contexts
 use Rattle.pdb_container.specs.Listing.{whole}
 use Rattle.pdb_addresses.specs.Addresses.{Map, IsOrdered}
-use Rattle.pdb_symbols_modules.specs.Opened.{debug_information}
-use Rattle.pdb_symbols_modules.specs.Opened.{module_stream as own_stream_of}
+use Rattle.pdb_symbols_modules.specs.Opened.{debug_information, module_info}
 use Rattle.pdb_report.specs.declared.pdb_addr2line.contributions.ModuleSectionContribution.{ModuleSectionContribution}
 use Rattle.pdb_report.specs.Faults.{LoadingFault, NotYet, lifted, load_fault_of, loading_fault_of, Fails}
 use Rattle.pdb_report.specs.RunFaults.{OnLoad, run_fault_of}
 use Rattle.pdb_symbols_modules.specs.Streams.{Streams, streams, fault_in}
-use Rattle.pdb_symbols_modules.specs.Dbi.{Dbi, dbi_of}
+use Rattle.pdb_symbols_modules.specs.Dbi.{Dbi}
 use Rattle.pdb_symbols_modules.specs.Modules.{Module, modules_of}
-use Rattle.pdb_report.specs.Procedures.{Procedure, symbols_in, procedures, procedures_of}
-use Rattle.pdb_report.specs.Shared.{number, named, module_in, module_of, module_number, module_stream, info_from, shared, provider}
-use Rattle.pdb_report.specs.Loading.{load_fault, Refuses, IsFileFault, Parts, none_or, loaded_behind, loaded, own_stream, has_other_symbols, answerable}
-use Rattle.pdb_report.specs.Kept.{module_procedures, all_procedures, list_or_none, procedures_at, tables, IsKept}
+use Rattle.pdb_report.specs.Procedures.{Procedure, procedures}
+use Rattle.pdb_symbols_modules.specs.Shared.{module_of_number, shared, provider}
+use Rattle.pdb_report.specs.Loading.{load_fault, Refuses, IsFileFault, Parts, none_or, loaded_behind, loaded, has_other_symbols, answerable}
+use Rattle.pdb_report.specs.Kept.{list_or_none, procedures_at, listed_procedures, tables, IsKept}
+use Rattle.pdb_symbols_modules.proofs.Provided.{module_listed, provided, past_the_list}
 use Rattle.pdb_report.proofs.Lifting.{fails_on, loads_on, opening_fails}
 
 -- ---- what is left of a load
@@ -31,12 +32,12 @@ abbrev checked : Streams → Parts → Result Parts LoadingFault
 checked s parts = refuse (list_any (has_other_symbols s) parts.modules) NotYet >>= λ plain. Ok parts
 
 -- behind a container that is open
-opened : (s : Streams) → s.open_fault ≡ None → answerable s ≡ ((lifted (debug_information s) >>= loaded_behind (shared s)) >>= checked s)
+opened : (s : Streams) → s.open_fault ≡ None → answerable s ≡ ((lifted (debug_information (shared s)) >>= loaded_behind (shared s)) >>= checked s)
 unfolding answerable loaded shared debug_information
 opened s h = rw h refl
 
 -- behind stream 3
-behind_dbi : (s : Streams) (dbi : Dbi) → s.open_fault ≡ None → debug_information s ≡ Ok dbi → answerable s ≡ (loaded_behind (shared s) dbi >>= checked s)
+behind_dbi : (s : Streams) (dbi : Dbi) → s.open_fault ≡ None → debug_information (shared s) ≡ Ok dbi → answerable s ≡ (loaded_behind (shared s) dbi >>= checked s)
 behind_dbi s dbi h read = opened s h ∙ ap (λ r. (lifted r >>= loaded_behind (shared s)) >>= checked s) read
 
 -- ---- where a step fails
@@ -45,81 +46,59 @@ pub container_fails : (s : Streams) (e : LoadFault) → Fails e (lifted (none_or
 unfolding answerable loaded shared
 container_fails s e h = fails_on e _ (checked s) (fails_on e (lifted (none_or s.open_fault)) _ h)
 
-pub dbi_fails : (s : Streams) (e : Error) → s.open_fault ≡ None → (IsOutside e (HasRisen 0 0) ⊎ (debug_information s ≡ Err (fault_of e))) → Fails (load_fault_of e) (answerable s)
-dbi_fails s e h read = rw (opened s h) (fails_on (load_fault_of e) _ (checked s) (loads_on e (debug_information s) (loaded_behind (shared s)) read))
+pub dbi_fails : (s : Streams) (e : Error) → s.open_fault ≡ None → (IsOutside e (HasRisen 0 0) ⊎ (debug_information (shared s) ≡ Err (fault_of e))) → Fails (load_fault_of e) (answerable s)
+dbi_fails s e h read = rw (opened s h) (fails_on (load_fault_of e) _ (checked s) (loads_on e (debug_information (shared s)) (loaded_behind (shared s)) read))
 
-pub parts_fail : (s : Streams) (e : LoadFault) (dbi : Dbi) → s.open_fault ≡ None → debug_information s ≡ Ok dbi → Fails e (loaded_behind (shared s) dbi) → Fails e (answerable s)
+pub parts_fail : (s : Streams) (e : LoadFault) (dbi : Dbi) → s.open_fault ≡ None → debug_information (shared s) ≡ Ok dbi → Fails e (loaded_behind (shared s) dbi) → Fails e (answerable s)
 parts_fail s e dbi h read failed = rw (behind_dbi s dbi h read) (fails_on e (loaded_behind (shared s) dbi) (checked s) failed)
 
--- the check fails as reading the modules does
+-- the check fails
 some_is : (f g : LoadingFault) → Some f ≡ Some g → f ≡ g
 some_is f g h = cc
 
-checks_alike : (b : Bool) (own : List (List Procedure)) (parts : Parts) (f : LoadingFault) → (refuse b NotYet >>= λ plain. Ok own) ≡ Err f → (refuse b NotYet >>= λ plain. Ok parts) ≡ Err f
-checks_alike true own parts f e = ap (λ (t : LoadingFault). Err t) (some_is NotYet f (ap fault_in e))
-checks_alike false own parts f e = absurd cc
+checks_alike : (b : Bool) (parts : Parts) (f : LoadingFault) → refuse b NotYet ≡ Err f → (refuse b NotYet >>= λ plain. Ok parts) ≡ Err f
+checks_alike true parts f e = ap (λ (t : LoadingFault). Err t) (some_is NotYet f (ap fault_in e))
+checks_alike false parts f e = absurd cc
 
-check_fails : (s : Streams) (parts : Parts) (f : LoadingFault) → all_procedures s parts.modules ≡ Err f → checked s parts ≡ Err f
-unfolding all_procedures
-check_fails s parts f h = checks_alike (list_any (has_other_symbols s) parts.modules) (map (module_procedures s) parts.modules) parts f h
-
-pub modules_are_ill : (s : Streams) (e : LoadFault) (dbi : Dbi) (parts : Parts) → s.open_fault ≡ None → debug_information s ≡ Ok dbi → loaded_behind (shared s) dbi ≡ Ok parts
-    → Fails e (all_procedures s parts.modules) → Fails e (answerable s)
+pub modules_are_ill : (s : Streams) (e : LoadFault) (dbi : Dbi) (parts : Parts) → s.open_fault ≡ None → debug_information (shared s) ≡ Ok dbi → loaded_behind (shared s) dbi ≡ Ok parts
+    → Fails e (refuse (list_any (has_other_symbols s) parts.modules) NotYet) → Fails e (answerable s)
 modules_are_ill s faults.OutOfMemory dbi parts h read load failed = tt
 modules_are_ill s (faults.Pdb contexts.OutOfMemory) dbi parts h read load failed = failed
 modules_are_ill s (faults.Pdb (contexts.PdbError errors.OutOfMemory)) dbi parts h read load failed = failed
-modules_are_ill s e dbi parts h read load failed = behind_dbi s dbi h read ∙ ap (λ r. r >>= checked s) load ∙ check_fails s parts (loading_fault_of e) failed
+modules_are_ill s e dbi parts h read load failed =
+    behind_dbi s dbi h read ∙ ap (λ r. r >>= checked s) load ∙ checks_alike (list_any (has_other_symbols s) parts.modules) parts (loading_fault_of e) failed
 
 -- ---- what is kept
 
-passes_alike : (b : Bool) (own all : List (List Procedure)) (parts : Parts) → (refuse b NotYet >>= λ plain. Ok own) ≡ Ok all → ((refuse b NotYet >>= λ plain. Ok parts) ≡ Ok parts) × (all ≡ own)
-passes_alike true own all parts e = absurd cc
-passes_alike false own all parts e = (refl, cc)
+passes_alike : (b : Bool) (parts : Parts) (u : Unit {0}) → refuse b NotYet ≡ Ok u → (refuse b NotYet >>= λ plain. Ok parts) ≡ Ok parts
+passes_alike true parts u e = absurd cc
+passes_alike false parts u e = refl
 
-check_passes : (s : Streams) (parts : Parts) (all : List (List Procedure)) → all_procedures s parts.modules ≡ Ok all → (checked s parts ≡ Ok parts) × (all ≡ map (module_procedures s) parts.modules)
-unfolding all_procedures
-check_passes s parts all h = passes_alike (list_any (has_other_symbols s) parts.modules) (map (module_procedures s) parts.modules) all parts h
-
-in_turn : {A B C : Type 0} (r : Result A Fault) (f : A → Result B Fault) (g : B → Result C Fault) → ((r >>= f) >>= g) ≡ (r >>= λ x. f x >>= g)
-in_turn (Ok x) f g = refl
-in_turn (Err e) f g = refl
-
--- a module's entry by its number
-entry_at : (s : Streams) (dbi : Dbi) (modules : List Module) (k : ℕ) → debug_information s ≡ Ok dbi → whole (modules_of dbi.modules) ≡ Ok modules → module_of (s.at 3) k ≡ module_in (slice_get modules k)
-unfolding module_of debug_information
-entry_at s dbi modules k h listed =
-    sym (in_turn (s.at 3) dbi_of (λ d. whole (modules_of d.modules) >>= λ found. module_in (slice_get found k))) ∙ rw (h, listed) refl
-
-provided : (s : Streams) (k : ℕ) (found : Option Module) → module_of (s.at 3) k ≡ module_in found → procedures (provider s k) ≡ list_or_none (elim found [ None ↦ None | Some m ↦ Some (module_procedures s m) ])
-unfolding provider info_from module_stream module_number named own_stream
-provided s k None h = rw h refl
-provided s k (Some m) h = rw h (ap (λ r. procedures_of (r >>= symbols_in)) (in_turn (number m.stream) s.at (λ bytes. Ok (own_stream_of m bytes))))
-
-entry_procedures : (s : Streams) (modules : List Module) (k : ℕ) → list_or_none (elim (slice_get modules k) [ None ↦ None | Some m ↦ Some (module_procedures s m) ]) ≡ procedures_at (map (module_procedures s) modules) k
-entry_procedures s [] k = refl
-entry_procedures s (m ∷ modules) zero = refl
-entry_procedures s (m ∷ modules) (suc k) = entry_procedures s modules k
+-- what the file gives of a module, by its entry
+given : (s : Streams) (k : ℕ) (found : Option Module) → module_of_number (s.at 3) k ≡ Ok found → procedures (provider s k) ≡ list_or_none (option_map (λ entry. procedures (module_info s entry)) found)
+given s k None h = ap procedures (past_the_list s k h)
+given s k (Some m) h = ap procedures (provided s k m h)
 
 no_fault : (r : Result Parts LoadingFault) (t : Map × List ModuleSectionContribution) → tables r ≡ Ok t → fault_in r ≡ None
 no_fault (Ok parts) t h = refl
 no_fault (Err e) t h = absurd cc
 
-pub is_kept : (file : List ℕ) (dbi : Dbi) (parts : Parts) (all : List (List Procedure)) → (streams file).open_fault ≡ None → debug_information (streams file) ≡ Ok dbi
-    → loaded_behind (shared (streams file)) dbi ≡ Ok parts → whole (modules_of dbi.modules) ≡ Ok parts.modules → all_procedures (streams file) parts.modules ≡ Ok all
-    → IsOrdered parts.map → IsKept file parts.map parts.contributions all
-is_kept file dbi parts all h read load listed found ordered =
+pub is_kept : (file : List ℕ) (dbi : Dbi) (parts : Parts) (kept : BTreeMap ℕ (List Procedure)) (u : Unit {0}) → (streams file).open_fault ≡ None → debug_information (shared (streams file)) ≡ Ok dbi
+    → loaded_behind (shared (streams file)) dbi ≡ Ok parts → whole (modules_of dbi.modules) ≡ Ok parts.modules → refuse (list_any (has_other_symbols (streams file)) parts.modules) NotYet ≡ Ok u
+    → All (λ c. procedures_at kept c.«module» ≡ listed_procedures (streams file) parts.modules c.«module») parts.contributions
+    → IsOrdered parts.map → IsKept file parts.map parts.contributions kept
+is_kept file dbi parts kept u h read load listed plain found ordered =
     let s = streams file in
-    let passed = check_passes s parts all found in
     record {
-      tables_are = ap tables (behind_dbi s dbi h read ∙ ap (λ r. r >>= checked s) load ∙ passed.0);
+      tables_are = ap tables (behind_dbi s dbi h read ∙ ap (λ r. r >>= checked s) load ∙ passes_alike (list_any (has_other_symbols s) parts.modules) parts u plain);
       ordered = ordered;
-      procedures_are = λ k. provided s k (slice_get parts.modules k) (entry_at s dbi parts.modules k read listed) ∙ entry_procedures s parts.modules k ∙ ap (λ xs. procedures_at xs k) (sym passed.1);
+      procedures_are = λ k d lt. found k d lt ∙ sym (given s _ (slice_get parts.modules _) (module_listed s dbi parts.modules _ read listed));
     }
 
 -- a file that is kept has no load fault
-pub kept_loads : (file : List ℕ) (addresses : Map) (contributions : List ModuleSectionContribution) (all : List (List Procedure))
-    → IsKept file addresses contributions all → fault_in (answerable (streams file)) ≡ None
-kept_loads file addresses contributions all kept = no_fault (answerable (streams file)) (addresses, contributions) kept.tables_are
+pub kept_loads : (file : List ℕ) (addresses : Map) (contributions : List ModuleSectionContribution) (kept : BTreeMap ℕ (List Procedure))
+    → IsKept file addresses contributions kept → fault_in (answerable (streams file)) ≡ None
+kept_loads file addresses contributions kept is = no_fault (answerable (streams file)) (addresses, contributions) is.tables_are
 
 -- a failed load is a load fault
 pub refuses : (e : LoadFault) (s : Streams) → Fails e (answerable s) → Refuses e (load_fault s)

@@ -1,5 +1,5 @@
 -- The steps of the loops over symbols and procedures.
-use Rattle.std.proofs.Common.{◌≡◌, ℕ, ◌+◌, ◌<◌, ◌≤◌, Bool, true, false, cond, ltb, ◌||◌, ◌&&◌, List, [], ◌∷◌, ◌++◌, length, get_or, drop, Ok, refl, sym, ap, ◌∙◌, arith, inl, inr}
+use Rattle.std.proofs.Common.{◌≡◌, ℕ, ◌+◌, ◌<◌, ◌≤◌, Bool, true, false, cond, ltb, ◌||◌, ◌&&◌, List, [], ◌∷◌, ◌++◌, length, get_or, drop, Result, Ok, Err, refl, sym, ap, ◌∙◌, arith, inl, inr}
 use Rattle.std.specs.Prelude.{Option, None, Some, max}
 use Rattle.std.specs.List.{list_any}
 use Rattle.std.specs.Prelude.{◌==◌}
@@ -10,9 +10,35 @@ use Rattle.std.proofs.lemmas.Bool.Decides.{nat_tests}
 use Rattle.std.proofs.lemmas.Bool.{lt-ltb, le-ltb, cases_lt}
 use Rattle.std.proofs.lemmas.List.{drop_more, drop_all}
 use Rattle.pdb_addresses.specs.declared.internal_section_offset.PdbInternalSectionOffset.{PdbInternalSectionOffset}
-use Rattle.pdb_symbols.specs.Kinds.{is_procedure}
-use Rattle.pdb_symbols.specs.Symbols.{Symbol, kind_of}
-use Rattle.pdb_report.specs.Procedures.{Procedure, procedure_of, is_at, place_cmp, has_start, contains, later, over, if_over, is_inside, is_other, end_in, has_inner, has_other, onto_new, with_code, procedures_behind}
+use Rattle.pdb_container.specs.Fault.{Fault}
+use Rattle.pdb_symbols.specs.Forms as forms
+use Rattle.pdb_symbols.specs.Forms.{SymbolForm}
+use Rattle.pdb_symbols.specs.Kinds.{is_public, is_procedure, is_thunk, is_separated_code, is_inline_site}
+use Rattle.pdb_symbols.specs.Records.{as_form, end_of, form_of, symbol_form_of}
+use Rattle.pdb_symbols.specs.Symbols.{Symbol, kind_of, payload_of}
+use Rattle.pdb_report.specs.Procedures.{Procedure, as_procedure, procedure_of, is_at, place_cmp, has_start, contains, later, over, if_over, is_inside, is_other, end_in, has_inner, has_other, onto_new, with_code, procedures_behind}
+
+-- ---- symbols of other kinds
+
+either : (b : Bool) (x y : Result SymbolForm Fault) → as_procedure x ≡ None → as_procedure y ≡ None → as_procedure (cond b x y) ≡ None
+either true x y hx hy = hx
+either false x y hx hy = hy
+
+other_form : {A : Type 0} (make : A → SymbolForm) (read : Result A Fault) → ((form : A) → as_procedure (Ok (make form)) ≡ None) → as_procedure (as_form make read) ≡ None
+other_form make (Ok form) h = h form
+other_form make (Err e) h = refl
+
+end_form : (kind : ℕ) → as_procedure (end_of kind) ≡ None
+unfolding end_of
+end_form kind = either (kind == 0x0006) _ _ refl (either (kind == 0x114f) _ _ refl (either (kind == 0x114e) _ _ refl refl))
+
+pub no_procedure : (s : Symbol) → is_procedure (kind_of s) ≡ false → procedure_of s ≡ None
+unfolding symbol_form_of form_of
+no_procedure s h =
+    either (is_public (kind_of s)) _ _ (other_form forms.Public _ (λ form. refl)) (rw h
+    (either (is_thunk (kind_of s)) _ _ (other_form forms.Thunk _ (λ form. refl))
+    (either (is_separated_code (kind_of s)) _ _ (other_form forms.SeparatedCode _ (λ form. refl))
+    (either (is_inline_site (kind_of s)) _ _ (other_form forms.InlineSite _ (λ form. refl)) (end_form (kind_of s))))))
 
 -- ---- the procedures that are kept
 

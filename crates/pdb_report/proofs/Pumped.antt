@@ -57,7 +57,7 @@ taken_too_long text text' ra rb rc wa wb wc kept start chunk piece n left limit 
 
 pub taken_part : (text text' : List ℕ → List ℕ) (ra rb rc wa wb wc : Option (List ℕ)) (kept start chunk piece : List ℕ) (n m left limit : ℕ) → Taken text ra rb wa wb kept start left limit
     → text' ≡ text → m ≤ n → piece ≡ take m chunk → Consumes rb rc (take n chunk) → ((out : List ℕ) × Appends wb wc out × Begins out (flat_map text' (kept_lines start piece)))
-    → (taken : List ℕ) × (out : List ℕ) × Consumes ra rc taken × Appends wa wc out × Begins out (flat_map text (kept_lines kept taken))
+    → (taken : List ℕ) × Consumes ra rc taken × ((out : List ℕ) × Appends wa wc out × Begins out (flat_map text (kept_lines kept taken)))
 taken_part text text' ra rb rc wa wb wc kept start chunk piece n m left limit (taken, consumed, counted, done, behind) et short is read (out, written, (more, begins)) =
     let before = flat_map text (kept_lines kept taken) in
     let tail = drop m (take n chunk) in
@@ -65,15 +65,17 @@ taken_part text text' ra rb rc wa wb wc kept start chunk piece n m left limit (t
     let k = kept_rest kept taken in
     let rest = flat_map text (kept_lines (kept_rest k piece) tail) in (
       taken ++ take n chunk,
-      before ++ out,
       Consumes-trans ra rb rc taken (take n chunk) consumed read,
-      Appends-trans wa wb wc _ out done written,
       (
-        more ++ rest,
-        joined text kept taken (take n chunk) ∙ ap (λ l. before ++ l) (
-            ap (λ l. flat_map text (kept_lines k l)) whole ∙ joined text k piece tail
-            ∙ ap (λ l. l ++ rest) (sym (same_answers text text' start k piece et behind) ∙ begins)
-            ∙ append_assoc out more rest)
-            ∙ sym (append_assoc before out (more ++ rest)),
+        before ++ out,
+        Appends-trans wa wb wc _ out done written,
+        (
+          more ++ rest,
+          joined text kept taken (take n chunk) ∙ ap (λ l. before ++ l) (
+              ap (λ l. flat_map text (kept_lines k l)) whole ∙ joined text k piece tail
+              ∙ ap (λ l. l ++ rest) (sym (same_answers text text' start k piece et behind) ∙ begins)
+              ∙ append_assoc out more rest)
+              ∙ sym (append_assoc before out (more ++ rest)),
+        ),
       ),
     )

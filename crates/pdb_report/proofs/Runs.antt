@@ -54,11 +54,11 @@ module _ (text : List ℕ → List ℕ) (short : (line : List ℕ) → text (tak
             ∙ append_assoc (flat_map text (kept_lines [] taken)) later last,
       )
 
-  pub run_part : (ra rb wa wb : Option (List ℕ)) (s : List ℕ) → s ≡ [] → ((taken : List ℕ) × (out : List ℕ) × Consumes ra rb taken × Appends wa wb out × Begins out (flat_map text (kept_lines s taken)))
+  pub run_part : (ra rb wa wb : Option (List ℕ)) (s : List ℕ) → s ≡ [] → ((taken : List ℕ) × Consumes ra rb taken × ((out : List ℕ) × Appends wa wb out × Begins out (flat_map text (kept_lines s taken))))
       → IfSome ra (λ input. (out : List ℕ) × Appends wa wb out × Begins out (report text input))
   run_part None rb wa wb s e h = tt
-  run_part (Some input) None wa wb s e h = absurd h.2
-  run_part (Some input) (Some rest) wa wb s e (taken, out, consumed, written, (more, begins)) =
+  run_part (Some input) None wa wb s e h = absurd h.1
+  run_part (Some input) (Some rest) wa wb s e (taken, consumed, (out, written, (more, begins))) =
       let later = report_begins taken rest in (
         out,
         written,

@@ -11,10 +11,11 @@ use Rattle.pdb_symbols_modules.specs.Streams.{Streams}
 use Rattle.pdb_addresses.specs.Addresses.{Map, inner_place, outer_of_place}
 use Rattle.pdb_addresses.specs.Numbers.{in_32_bits}
 use Rattle.pdb_addresses.specs.Places.{internal_place}
+use Rattle.pdb_report.specs.declared.pdb_addr2line.contributions.ModuleSectionContribution.{ModuleSectionContribution}
 use Rattle.pdb_report.specs.Contributions.{holder}
 use Rattle.pdb_report.specs.Procedures.{Procedure, procedures, over}
 use Rattle.pdb_modules.specs.ModuleStream.{ModuleStream}
-use Rattle.pdb_report.specs.Shared.{Provider, provider}
+use Rattle.pdb_symbols_modules.specs.Shared.{Provider, provider}
 use Rattle.pdb_report.specs.Loading.{Parts, answerable}
 
 -- a function's name, and the file and line of an address in it; each may be missing
@@ -32,7 +33,7 @@ pub data Answer : Type 0 where
 
 -- what an answer in one module depends on, besides the parts
 pub record Scope : Type 0 where
-  pub own : Result ModuleStream Fault
+  pub own : Result (Option ModuleStream) Fault
 
 unfoldable pub scope : Provider → ℕ → Scope
 scope provided m = record { own = provided m }
@@ -58,9 +59,9 @@ found addresses (Some q) = found_at q (outer_of_place addresses (q.offset).secti
 unfoldable pub answer_in : Parts → Scope → PdbInternalSectionOffset → Answer
 answer_in p in_module place = found p.map (over (procedures in_module.own) place)
 
-abbrev pub answer_held : Parts → Provider → PdbInternalSectionOffset → Option ℕ → Answer
+abbrev pub answer_held : Parts → Provider → PdbInternalSectionOffset → Option ModuleSectionContribution → Answer
 answer_held p provided place None = Nothing
-answer_held p provided place (Some m) = answer_in p (scope provided m) place
+answer_held p provided place (Some c) = answer_in p (scope provided c.«module») place
 
 abbrev pub answer_at : Parts → Provider → Option PdbInternalSectionOffset → Answer
 answer_at p provided None = Nothing

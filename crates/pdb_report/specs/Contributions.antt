@@ -1,12 +1,12 @@
 -- What modules hold of sections, by the contributions of stream 3.
-use Rattle.std.specs.Prelude.{ℕ, ◌+◌, ◌-◌, ◌^◌, Bool, false, ◌&&◌, min, List, length, map, nat_lt, nat_le, ◌==◌, Option, None, Some, Result, Ok}
+use Rattle.std.specs.Prelude.{ℕ, ◌+◌, ◌-◌, ◌^◌, Bool, false, ◌&&◌, min, List, map, nat_lt, nat_le, ◌==◌, Option, None, Some, Result, Ok}
 use Rattle.std.specs.List.{filter, find}
-use Rattle.pdb_container.specs.Fault.{◌>>=◌, refuse}
+use Rattle.pdb_container.specs.Fault.{◌>>=◌}
 use Rattle.pdb_addresses.specs.declared.sections.ImageSectionHeader.{ImageSectionHeader}
 use Rattle.pdb_addresses.specs.declared.internal_section_offset.PdbInternalSectionOffset.{PdbInternalSectionOffset}
 use Rattle.pdb_symbols_modules.specs.declared.contributions.DBISectionContribution.{DBISectionContribution}
 use Rattle.pdb_report.specs.declared.pdb_addr2line.contributions.ModuleSectionContribution.{ModuleSectionContribution}
-use Rattle.pdb_report.specs.Faults.{LoadingFault, NotYet, lifted}
+use Rattle.pdb_report.specs.Faults.{ContextFault, in_context}
 use Rattle.pdb_container.specs.Listing.{whole}
 use Rattle.pdb_addresses.specs.Sections.{section_at, may_execute}
 use Rattle.pdb_symbols_modules.specs.Contributions.{contributions_of}
@@ -33,19 +33,14 @@ spans_of sections all = map span_of (filter (is_kept sections) all)
 
 -- What the modules hold. Consecutive entries of one module and section would be merged, and their order and overlaps
 -- checked: of several entries that count none is answered yet.
-unfoldable pub held_of : List ImageSectionHeader → List ℕ → Result (List ModuleSectionContribution) LoadingFault
+unfoldable pub held_of : List ImageSectionHeader → List ℕ → Result (List ModuleSectionContribution) ContextFault
 held_of sections bytes = do
-  all ← lifted (contributions_of bytes >>= whole)
-  few ← refuse (nat_lt 1 (length (spans_of sections all))) NotYet
+  all ← in_context (contributions_of bytes >>= whole)
   Ok (spans_of sections all)
 
 abbrev pub holds : PdbInternalSectionOffset → ModuleSectionContribution → Bool
 holds p c = (c.section == p.section) && (nat_le c.start p.offset && nat_lt p.offset c.end)
 
-abbrev pub module_of : Option ModuleSectionContribution → Option ℕ
-module_of None = None
-module_of (Some c) = Some c.«module»
-
--- the module that holds a place
-abbrev pub holder : List ModuleSectionContribution → PdbInternalSectionOffset → Option ℕ
-holder contributions p = module_of (find (holds p) contributions)
+-- by what a module holds a place
+abbrev pub holder : List ModuleSectionContribution → PdbInternalSectionOffset → Option ModuleSectionContribution
+holder contributions p = find (holds p) contributions

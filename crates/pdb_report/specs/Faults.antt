@@ -35,10 +35,35 @@ loading_fault_of faults.AddressTableDecreases = AddressTableDecreases
 loading_fault_of faults.NotYet = NotYet
 loading_fault_of faults.OutOfMemory = NotYet
 
+abbrev pub load_fault_in_context : context.Error → LoadFault
+load_fault_in_context contexts.OutOfMemory = faults.OutOfMemory
+load_fault_in_context e = faults.Pdb e
+
+-- a fault of the container is one of a context
+abbrev pub in_context : {A : Type 0} → Result A Fault → Result A ContextFault
+in_context (Ok x) = Ok x
+in_context (Err e) = Err (PdbError e)
+
+-- a fault of a context is one of loading
+abbrev pub in_loading : {A : Type 0} → Result A ContextFault → Result A LoadingFault
+in_loading (Ok x) = Ok x
+in_loading (Err e) = Err (Pdb e)
+
 -- a fault of the container is one of loading
 abbrev pub lifted : {A : Type 0} → Result A Fault → Result A LoadingFault
 lifted (Ok x) = Ok x
 lifted (Err e) = Err (Pdb (PdbError e))
+
+-- A call of a context fails: memory was short, or reading has that fault.
+abbrev pub FailsInContext : {Y : Type 0} → context.Error → Result Y ContextFault → Type 0
+FailsInContext contexts.OutOfMemory read = Unit {0}
+FailsInContext (contexts.PdbError errors.OutOfMemory) read = ⊥
+FailsInContext (contexts.PdbError e) read = read ≡ Err (PdbError (fault_of e))
+
+-- What a call of a context returned, seen by view, is what reading gives, unless memory was short.
+abbrev pub GivesInContext : {X Y : Type 0} → (X → Y) → Result X context.Error → Result Y ContextFault → Type 0
+GivesInContext view (Ok x) read = read ≡ Ok (view x)
+GivesInContext view (Err e) read = FailsInContext e read
 
 -- A call answers the fault: memory was short, or reading has that fault.
 abbrev pub Fails : {Y : Type 0} → LoadFault → Result Y LoadingFault → Type 0

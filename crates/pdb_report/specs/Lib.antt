@@ -9,5 +9,4 @@ pub mod Loading
 pub mod Procedures
 pub mod RunFaults
 pub mod Seen
-pub mod Shared
 pub mod Watched

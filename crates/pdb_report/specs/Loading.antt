@@ -1,29 +1,27 @@
 -- What is read of a file before any question, and the fault that keeps it from being loaded.
-use Rattle.std.specs.Prelude.{◌≡◌, ℕ, Bool, ◌||◌, List, [], nat_lt, Option, None, Some, if◌then◌else◌, Result, Ok, Err}
+use Rattle.std.specs.Prelude.{◌≡◌, ℕ, Bool, not, ◌||◌, List, length, nat_lt, Option, None, Some, option_map, Result, Ok, Err}
 use Rattle.std.specs.List.{list_any}
-use Rattle.pdb_container.specs.Fault.{Fault, GlobalSymbolsNotFound, ◌>>=◌, refuse, guard}
-use Rattle.pdb_addresses.specs.declared.sections.ImageSectionHeader.{ImageSectionHeader}
+use Rattle.pdb_container.specs.Fault.{Fault, ◌>>=◌, refuse}
 use Rattle.pdb_report.specs.declared.pdb_addr2line.contributions.ModuleSectionContribution.{ModuleSectionContribution}
 use Rattle.pdb_report.specs.declared.fault.LoadFault.{LoadFault}
 use Rattle.pdb_report.specs.declared.fault.LoadFault.TheVariants as faults
 use Rattle.pdb_report.specs.declared.pdb_addr2line.Error.TheVariants as contexts
 use Rattle.pdb_container.specs.declared.error.Error.TheVariants as errors
-use Rattle.pdb_report.specs.Faults.{LoadingFault, NotYet, lifted, loading_fault_of}
-use Rattle.pdb_symbols_modules.specs.Streams.{Streams, fault_in}
-use Rattle.pdb_symbols_modules.specs.Dbi.{Dbi, dbi_of}
+use Rattle.pdb_report.specs.Faults.{LoadingFault, NotYet, AddressTableDecreases, lifted, in_loading, loading_fault_of}
+use Rattle.pdb_symbols_modules.specs.Streams.{Streams, fault_in, stream_if_named}
+use Rattle.pdb_symbols_modules.specs.Dbi.{Dbi}
 use Rattle.pdb_symbols_modules.specs.Modules.{Module, modules_of}
-use Rattle.pdb_symbols_modules.specs.OptionalHeader.{optional_at, to_source_place, from_source_place, sections_place, original_sections_place}
-use Rattle.pdb_addresses.specs.Addresses.{Map, map_of}
-use Rattle.pdb_addresses.specs.Sections.{section_headers_of}
-use Rattle.pdb_items.specs.Items.{table_of}
-use Rattle.pdb_container.specs.Listing.{whole}
+use Rattle.pdb_symbols_modules.specs.OptionalHeader.{optional_at, to_source_place, from_source_place, original_sections_place}
+use Rattle.pdb_addresses.specs.Addresses.{Map, is_ordered}
+use Rattle.pdb_container.specs.Listing.{Listing, whole}
 use Rattle.pdb_symbols.specs.Kinds.{is_public}
 use Rattle.pdb_symbols.specs.Symbols.{Symbol, kind_of, symbols_from}
 use Rattle.pdb_modules.specs.ModuleStream.{ModuleStream}
-use Rattle.pdb_symbols_modules.specs.Opened.{module_stream}
+use Rattle.pdb_symbols_modules.specs.AddressTables.{address_map_by}
+use Rattle.pdb_symbols_modules.specs.Opened.{debug_information, types, ids, global_symbols_by, module_info}
+use Rattle.pdb_symbols_modules.specs.Shared.{Shared, shared, optional_in}
 use Rattle.pdb_report.specs.Contributions.{held_of}
-use Rattle.pdb_report.specs.Procedures.{symbols_in, has_other}
-use Rattle.pdb_report.specs.Shared.{Bytes, number, Shared, shared}
+use Rattle.pdb_report.specs.Procedures.{own_symbols, has_other}
 
 -- what every question goes over
 pub record Parts : Type 0 where
@@ -39,12 +37,6 @@ abbrev pub none_or : Option Fault → Result (Unit {0}) Fault
 none_or None = Ok tt
 none_or (Some e) = Err e
 
--- the symbol records, in the stream that a number names, of which a file has to have one
-unfoldable pub symbol_records_in : ℕ → Bytes → Bytes
-symbol_records_in n symbols = do
-  named ← guard (nat_lt n 65535) GlobalSymbolsNotFound
-  symbols
-
 -- a number that names a stream
 abbrev pub is_named : ℕ → Bool
 is_named n = nat_lt n 65535
@@ -57,58 +49,69 @@ unmapped optional_header = do
   original ← lifted (optional_at original_sections_place optional_header)
   refuse (is_named to_source || is_named from_source || is_named original) NotYet
 
--- the section headers of the stream that a number names; no stream is no sections
-unfoldable pub sections_in : ℕ → Bytes → Result (List ImageSectionHeader) Fault
-sections_in n headers = if nat_lt n 65535 then headers >>= section_headers_of else Ok []
-
--- The address tables: the optional header, and the section headers.
-unfoldable pub address_tables : List ℕ → Bytes → Result Map LoadingFault
-address_tables optional_header headers = do
-  plain ← unmapped optional_header
-  image ← lifted (optional_at sections_place optional_header)
-  sections ← lifted (sections_in image headers)
-  Ok (map_of None sections None None)
+-- The address tables, which may not decrease.
+unfoldable pub address_tables : Shared → Dbi → Result Map LoadingFault
+address_tables c dbi = do
+  plain ← unmapped dbi.optional_header
+  map ← lifted (address_map_by (optional_in c dbi))
+  ordered ← refuse (not (is_ordered map)) AddressTableDecreases
+  Ok map
 
 -- a public symbol
 abbrev pub is_public_symbol : Symbol → Bool
 is_public_symbol s = is_public (kind_of s)
 
+-- whether one of the symbols is public, which have to be there to their end
+unfoldable pub has_public : Listing Symbol → Result Bool Fault
+has_public symbols = do
+  all ← whole symbols
+  Ok (list_any is_public_symbol all)
+
 -- a module that says it has line data
 abbrev pub has_lines : Module → Bool
 has_lines m = nat_lt 0 m.c11_lines_size || nat_lt 0 m.c13_lines_size
 
--- The steps behind stream 3, in their order, and in each step the first fault. Public symbols and line data aren't
--- answered yet.
+-- The steps behind stream 3, in their order, and in each step the first fault. Several contributions, public symbols and
+-- line data aren't answered yet.
 unfoldable pub loaded_behind : Shared → Dbi → Result Parts LoadingFault
 loaded_behind c dbi = do
-  symbol_bytes ← lifted (symbol_records_in dbi.symbol_records_stream c.symbols)
-  types ← lifted (c.types >>= table_of)
-  ids ← lifted (c.ids >>= table_of)
-  map ← address_tables dbi.optional_header c.section_headers
+  symbol_bytes ← lifted (global_symbols_by dbi.symbol_records_stream c.symbols)
+  types ← lifted (types c)
+  ids ← lifted (ids c)
+  map ← address_tables c dbi
   modules ← lifted (whole (modules_of dbi.modules))
-  symbols ← lifted (whole (symbols_from symbol_bytes 0))
-  contributions ← held_of map.image dbi.contributions
-  no_publics ← refuse (list_any is_public_symbol symbols) NotYet
-  no_lines ← refuse (list_any has_lines modules) NotYet
+  public ← lifted (has_public (symbols_from symbol_bytes 0))
+  contributions ← in_loading (held_of map.image dbi.contributions)
+  answered ← refuse (nat_lt 1 (length contributions) || public || list_any has_lines modules) NotYet
   Ok record { map = map; modules = modules; contributions = contributions }
 
 -- All steps: the container, stream 3, and those behind it.
 unfoldable pub loaded : Shared → Result Parts LoadingFault
 loaded c = do
   opened ← lifted (none_or c.open_fault)
-  dbi ← lifted (c.dbi >>= dbi_of)
+  dbi ← lifted (debug_information c)
   loaded_behind c dbi
 
--- a module by its entry: its stream, if one is named
-unfoldable pub own_stream : Streams → Module → Result ModuleStream Fault
-own_stream s m = do
-  n ← number m.stream
-  bytes ← s.at n
-  Ok (module_stream m bytes)
+-- where a module's symbols are: the number of its stream, and their size
+abbrev pub symbols_place : Module → ℕ × ℕ
+symbols_place m = (m.stream, m.symbols_size)
+
+-- a stream of which so many bytes are symbols
+abbrev pub with_symbols : ℕ → List ℕ → ModuleStream
+with_symbols size bytes = record { bytes = bytes; symbols_size = size; c11_lines_size = 0; c13_lines_size = 0 }
+
+-- the stream of a number, where there is one and it can be read
+abbrev pub if_read : Result (Option (List ℕ)) Fault → Option (List ℕ)
+if_read (Ok found) = found
+if_read (Err e) = None
+
+-- the symbols there, if they can be read, have some that aren't answered yet
+abbrev pub has_others_at : Streams → ℕ × ℕ → Bool
+has_others_at s place = has_other (own_symbols (option_map (with_symbols place.1) (if_read (stream_if_named s place.0))))
 
 -- a module whose symbols can be read has some that aren't answered yet
 abbrev pub has_other_symbols : Streams → Module → Bool
-has_other_symbols s m = has_other (own_stream s m >>= symbols_in)
+has_other_symbols s m = has_other (module_info s m >>= own_symbols)
 
 -- The parts of a file whose modules have no such symbols. That check reads the modules' streams, and so it stands
 -- behind loading and not in it.

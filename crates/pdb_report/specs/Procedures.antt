@@ -29,6 +29,11 @@ procedure_of s = as_procedure (symbol_form_of s)
 unfoldable pub symbols_in : ModuleStream → Result (List Symbol) Fault
 symbols_in m = symbol_bytes_in m >>= λ bytes. whole (symbols_from bytes 4)
 
+-- those of a module by its own stream; without one it has none
+abbrev pub own_symbols : Option ModuleStream → Result (List Symbol) Fault
+own_symbols None = Ok []
+own_symbols (Some m) = symbols_in m
+
 -- ---- procedures
 
 -- where a procedure's code begins, how many bytes it has, and its name
@@ -68,8 +73,8 @@ procedures_of (Err e) = []
 procedures_of (Ok symbols) = procedures_behind [] symbols
 
 -- a module's procedures: none where its stream isn't there or its symbols can't be read to their end
-abbrev pub procedures : Result ModuleStream Fault → List Procedure
-procedures own = procedures_of (own >>= symbols_in)
+abbrev pub procedures : Result (Option ModuleStream) Fault → List Procedure
+procedures own = procedures_of (own >>= own_symbols)
 
 -- the place lies in the procedure, whose end may lie past 32 bits
 abbrev pub contains : Procedure → PdbInternalSectionOffset → Bool

@@ -4,7 +4,9 @@ use Rattle.std.specs.declared.io.Error.{Error}
 use Rattle.std.specs.declared.io.ErrorKind.{ErrorKind}
 use Rattle.std.specs.declared.io.ErrorKind.TheVariants.{WriteZero}
 use Rattle.std.specs.IoError.{error_kind}
+use Rattle.std.specs.Io.KnownBytes.{Appends, Consumes}
 use Rattle.pdb_report.specs.declared.watched.Watched.{Watched}
+use Rattle.pdb_report.specs.Lines.{Begins}
 
 -- the reader or the writer itself
 abbrev pub inner_of : {T : Type 0} → Watched T → T
@@ -31,3 +33,15 @@ abbrev pub WatchesWrite : {T : Type 0} → Watched T → Watched T → List ℕ 
 WatchesWrite old new bytes (Ok (suc n)) = IsQuiet old new
 WatchesWrite old new bytes (Ok zero) = (0 < length bytes → Fails old new WriteZero) × (length bytes ≡ 0 → IsQuiet old new)
 WatchesWrite old new bytes (Err e) = Fails old new (error_kind e)
+
+-- the text was written behind what the writer holds, where that is known
+abbrev pub Writes : {T : Type 0} → (T → Option (List ℕ)) → Watched T → Watched T → List ℕ → Type 0
+Writes contents old new text = Appends (contents (inner_of old)) (contents (inner_of new)) text
+
+-- a front of the text was written
+abbrev pub WritesFront : {T : Type 0} → (T → Option (List ℕ)) → Watched T → Watched T → List ℕ → Type 0
+WritesFront contents old new text = (out : List ℕ) × Writes contents old new out × Begins out text
+
+-- the bytes were taken from what the reader has left, where that is known
+abbrev pub Takes : {T : Type 0} → (T → Option (List ℕ)) → Watched T → Watched T → List ℕ → Type 0
+Takes remaining old new bytes = Consumes (remaining (inner_of old)) (remaining (inner_of new)) bytes

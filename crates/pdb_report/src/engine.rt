@@ -2,9 +2,9 @@
 
 ghost use Rattle.std.specs.Prelude.{◌≡◌, ℕ, List, OnOk, OnErr, IfErr, IfSome, [], ◌∷◌, length, ◌<◌, ◌≤◌, take};
 ghost use Rattle.std.specs.List.{flat_map};
-ghost use Rattle.std.specs.Io.KnownBytes.{Appends, Consumes, IsAtEnd};
-ghost use Rattle.pdb_report.specs.Watched.{inner_of, Fails, IsQuiet};
-ghost use Rattle.pdb_report.specs.Lines.{kept_lines, kept_rest, report, report_of_ended, Begins};
+ghost use Rattle.std.specs.Io.KnownBytes.{IsAtEnd};
+ghost use Rattle.pdb_report.specs.Watched.{inner_of, Fails, IsQuiet, Writes, WritesFront, Takes};
+ghost use Rattle.pdb_report.specs.Lines.{kept_lines, kept_rest, report, report_of_ended};
 ghost use Rattle.pdb_report.specs.RunFaults.{OnRead, OnWrite, OnTooLong, IsOfWriting, IsOfRunning};
 
 use crate::answers::Answers;
@@ -31,7 +31,7 @@ pub fn run<A: Answers, R: Read, W: Write>(
     // Every line is answered, and nothing else is written.
     requires { (line : List ℕ) → A.text answers.old (take 12 line) ≡ A.text answers.old line }
     ensures ok { OnOk result (IfSome (R.remaining (inner_of reader.old)) (λ input. (length input ≤ limit)
-        × Appends (W.contents (inner_of writer.old)) (W.contents (inner_of writer.new)) (report (A.text answers.old) input))) }
+        × Writes W.contents writer.old writer.new (report (A.text answers.old) input))) }
     // No call failed unnoticed, and no fault is made up.
     ensures quiet { OnOk result (IsQuiet reader.old reader.new × IsQuiet writer.old writer.new) }
     ensures same { A.text answers.new ≡ A.text answers.old }
@@ -39,13 +39,12 @@ pub fn run<A: Answers, R: Read, W: Write>(
     ensures read_fails { IfErr result (λ fault. OnRead fault (λ kind. Fails reader.old reader.new kind)) }
     ensures write_fails { IfErr result (λ fault. OnWrite fault (λ kind. Fails writer.old writer.new kind)) }
     // The lines that were read whole before a failed read are answered.
-    ensures read_out { IfErr result (λ fault. OnRead fault (λ _. (taken : List ℕ) × Consumes (R.remaining (inner_of reader.old)) (R.remaining (inner_of reader.new)) taken
-        × Appends (W.contents (inner_of writer.old)) (W.contents (inner_of writer.new)) (report_of_ended (A.text answers.old) taken))) }
+    ensures read_out { IfErr result (λ fault. OnRead fault (λ _. (taken : List ℕ) × Takes R.remaining reader.old reader.new taken
+        × Writes W.contents writer.old writer.new (report_of_ended (A.text answers.old) taken))) }
     ensures too_long { IfErr result (λ fault. OnTooLong fault (IfSome (R.remaining (inner_of reader.old)) (λ input. (limit < length input)
-        × Appends (W.contents (inner_of writer.old)) (W.contents (inner_of writer.new)) (report_of_ended (A.text answers.old) (take limit input))))) }
+        × Writes W.contents writer.old writer.new (report_of_ended (A.text answers.old) (take limit input))))) }
     // At each fault a front of the report is out.
-    ensures part { OnErr result (IfSome (R.remaining (inner_of reader.old)) (λ input. (out : List ℕ)
-        × Appends (W.contents (inner_of writer.old)) (W.contents (inner_of writer.new)) out × Begins out (report (A.text answers.old) input))) }
+    ensures part { OnErr result (IfSome (R.remaining (inner_of reader.old)) (λ input. WritesFront W.contents writer.old writer.new (report (A.text answers.old) input))) }
 {
     let mut start = LineStart::new();
     match pump(alloc, answers, reader, writer, &mut start, limit) {
@@ -73,23 +72,22 @@ fn pump<A: Answers, R: Read, W: Write>(
     start: &mut LineStart,
     limit: u64,
 ) -> Result<(), RunFault>
-    ensures ok { OnOk result ((taken : List ℕ) × Consumes (R.remaining (inner_of reader.old)) (R.remaining (inner_of reader.new)) taken
+    ensures ok { OnOk result ((taken : List ℕ) × Takes R.remaining reader.old reader.new taken
         × IsAtEnd (R.remaining (inner_of reader.new)) × (length taken ≤ limit)
-        × Appends (W.contents (inner_of writer.old)) (W.contents (inner_of writer.new)) (flat_map (A.text answers.old) (kept_lines start.old taken))
+        × Writes W.contents writer.old writer.new (flat_map (A.text answers.old) (kept_lines start.old taken))
         × (start.new ≡ kept_rest start.old taken)) }
     ensures quiet { OnOk result (IsQuiet reader.old reader.new × IsQuiet writer.old writer.new) }
     ensures same { A.text answers.new ≡ A.text answers.old }
     ensures kind { IfErr result IsOfRunning }
     ensures read_fails { IfErr result (λ fault. OnRead fault (λ kind. Fails reader.old reader.new kind)) }
     ensures write_fails { IfErr result (λ fault. OnWrite fault (λ kind. Fails writer.old writer.new kind)) }
-    ensures read_out { IfErr result (λ fault. OnRead fault (λ _. (taken : List ℕ) × Consumes (R.remaining (inner_of reader.old)) (R.remaining (inner_of reader.new)) taken
-        × Appends (W.contents (inner_of writer.old)) (W.contents (inner_of writer.new)) (flat_map (A.text answers.old) (kept_lines start.old taken)))) }
-    ensures too_long { IfErr result (λ fault. OnTooLong fault ((taken : List ℕ) × Consumes (R.remaining (inner_of reader.old)) (R.remaining (inner_of reader.new)) taken
+    ensures read_out { IfErr result (λ fault. OnRead fault (λ _. (taken : List ℕ) × Takes R.remaining reader.old reader.new taken
+        × Writes W.contents writer.old writer.new (flat_map (A.text answers.old) (kept_lines start.old taken)))) }
+    ensures too_long { IfErr result (λ fault. OnTooLong fault ((taken : List ℕ) × Takes R.remaining reader.old reader.new taken
         × (limit < length taken)
-        × Appends (W.contents (inner_of writer.old)) (W.contents (inner_of writer.new)) (flat_map (A.text answers.old) (kept_lines start.old (take limit taken))))) }
-    ensures part { OnErr result ((taken : List ℕ) × (out : List ℕ) × Consumes (R.remaining (inner_of reader.old)) (R.remaining (inner_of reader.new)) taken
-        × Appends (W.contents (inner_of writer.old)) (W.contents (inner_of writer.new)) out
-        × Begins out (flat_map (A.text answers.old) (kept_lines start.old taken))) }
+        × Writes W.contents writer.old writer.new (flat_map (A.text answers.old) (kept_lines start.old (take limit taken))))) }
+    ensures part { OnErr result ((taken : List ℕ) × Takes R.remaining reader.old reader.new taken
+        × WritesFront W.contents writer.old writer.new (flat_map (A.text answers.old) (kept_lines start.old taken))) }
 {
     let mut chunk = [0u8; 4096];
     let mut left = limit;
@@ -126,13 +124,13 @@ fn feed<A: Answers, W: Write>(
     start: &mut LineStart,
     bytes: &[u8],
 ) -> Result<(), RunFault>
-    ensures ok { OnOk result (Appends (W.contents (inner_of writer.old)) (W.contents (inner_of writer.new)) (flat_map (A.text answers.old) (kept_lines start.old bytes.now))) }
+    ensures ok { OnOk result (Writes W.contents writer.old writer.new (flat_map (A.text answers.old) (kept_lines start.old bytes.now))) }
     ensures rest { OnOk result (start.new ≡ kept_rest start.old bytes.now) }
     ensures same { A.text answers.new ≡ A.text answers.old }
     ensures quiet { OnOk result (IsQuiet writer.old writer.new) }
     ensures kind { IfErr result IsOfWriting }
     ensures fails { IfErr result (λ fault. OnWrite fault (λ kind. Fails writer.old writer.new kind)) }
-    ensures part { OnErr result ((out : List ℕ) × Appends (W.contents (inner_of writer.old)) (W.contents (inner_of writer.new)) out × Begins out (flat_map (A.text answers.old) (kept_lines start.old bytes.now))) }
+    ensures part { OnErr result (WritesFront W.contents writer.old writer.new (flat_map (A.text answers.old) (kept_lines start.old bytes.now))) }
 {
     for byte in bytes {
         feed_byte(alloc, answers, writer, start, *byte)?;
@@ -151,13 +149,13 @@ fn feed_byte<A: Answers, W: Write>(
     start: &mut LineStart,
     byte: u8,
 ) -> Result<(), RunFault>
-    ensures ok { OnOk result (Appends (W.contents (inner_of writer.old)) (W.contents (inner_of writer.new)) (flat_map (A.text answers.old) (kept_lines start.old (byte ∷ [])))) }
+    ensures ok { OnOk result (Writes W.contents writer.old writer.new (flat_map (A.text answers.old) (kept_lines start.old (byte ∷ [])))) }
     ensures rest { OnOk result (start.new ≡ kept_rest start.old (byte ∷ [])) }
     ensures same { A.text answers.new ≡ A.text answers.old }
     ensures quiet { OnOk result (IsQuiet writer.old writer.new) }
     ensures kind { IfErr result IsOfWriting }
     ensures fails { IfErr result (λ fault. OnWrite fault (λ kind. Fails writer.old writer.new kind)) }
-    ensures part { OnErr result ((out : List ℕ) × Appends (W.contents (inner_of writer.old)) (W.contents (inner_of writer.new)) out × Begins out (flat_map (A.text answers.old) (kept_lines start.old (byte ∷ [])))) }
+    ensures part { OnErr result (WritesFront W.contents writer.old writer.new (flat_map (A.text answers.old) (kept_lines start.old (byte ∷ [])))) }
 {
     if byte != b'\n' {
         start.push(byte);
@@ -182,12 +180,12 @@ fn answer_line<A: Answers, W: Write>(
     writer: &mut Watched<W>,
     line: &[u8],
 ) -> Result<(), RunFault>
-    ensures ok { OnOk result (Appends (W.contents (inner_of writer.old)) (W.contents (inner_of writer.new)) (A.text answers.old line.now)) }
+    ensures ok { OnOk result (Writes W.contents writer.old writer.new (A.text answers.old line.now)) }
     ensures same { A.text answers.new ≡ A.text answers.old }
     ensures quiet { OnOk result (IsQuiet writer.old writer.new) }
     ensures kind { IfErr result IsOfWriting }
     ensures fails { IfErr result (λ fault. OnWrite fault (λ kind. Fails writer.old writer.new kind)) }
-    ensures part { OnErr result ((out : List ℕ) × Appends (W.contents (inner_of writer.old)) (W.contents (inner_of writer.new)) out × Begins out (A.text answers.old line.now)) }
+    ensures part { OnErr result (WritesFront W.contents writer.old writer.new (A.text answers.old line.now)) }
 {
     let Ok(text) = answers.answer(alloc, line) else {
         return Err(RunFault::OutOfMemory);
@@ -203,10 +201,10 @@ fn answer_line<A: Answers, W: Write>(
 /// # Errors
 /// The kind of that failure.
 fn write_all<W: Write>(writer: &mut Watched<W>, bytes: &[u8]) -> Result<(), ErrorKind>
-    ensures ok { OnOk result (Appends (W.contents (inner_of writer.old)) (W.contents (inner_of writer.new)) bytes.now) }
+    ensures ok { OnOk result (Writes W.contents writer.old writer.new bytes.now) }
     ensures quiet { OnOk result (IsQuiet writer.old writer.new) }
     ensures fails { IfErr result (λ kind. Fails writer.old writer.new kind) }
-    ensures part { OnErr result ((out : List ℕ) × Appends (W.contents (inner_of writer.old)) (W.contents (inner_of writer.new)) out × Begins out bytes.now) }
+    ensures part { OnErr result (WritesFront W.contents writer.old writer.new bytes.now) }
 {
     let mut rest = bytes;
     while !rest.is_empty() {

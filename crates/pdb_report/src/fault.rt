@@ -54,6 +54,19 @@ impl From<pdb_container::Error> for LoadFault {
     }
 }
 
+impl From<pdb_addr2line::Error> for LoadFault {
+    ghost use Rattle.pdb_report.specs.Faults.{load_fault_in_context};
+
+    ghost from_gives = { λ cause e. e ≡ load_fault_in_context cause };
+
+    fn from(cause: pdb_addr2line::Error) -> LoadFault {
+        match cause {
+            pdb_addr2line::Error::OutOfMemory => LoadFault::OutOfMemory,
+            cause => LoadFault::Pdb(cause),
+        }
+    }
+}
+
 impl From<AllocError> for LoadFault {
     ghost from_gives = { λ _ e. e ≡ load_faults.OutOfMemory };
 

@@ -29,10 +29,14 @@ impl Model for Procedure {
     ghost view = { λ p. record { offset = p.offset; len = p.len; name = p.name.items } };
 }
 
-/// What a symbol says, if it is a procedure that can be read.
+/// What a symbol says, if it is a procedure that can be read. No symbol of another kind is parsed.
+#[tactic(auto, using(crate::proofs::ProcedureSteps::no_procedure))]
 fn parse_procedure<'t>(symbol: &Symbol<'t>) -> Option<ProcedureSymbol<'t>>
     ensures { option_map procedure_form result ≡ procedure_of symbol.now }
 {
+    if !is_procedure(symbol.raw_kind()) {
+        return None;
+    }
     match symbol.parse() {
         Ok(SymbolData::Procedure(procedure)) => Some(procedure),
         _ => None,

@@ -1,13 +1,12 @@
 //! The report on an input.
 
-ghost use Rattle.std.specs.Prelude.{◌≡◌, ℕ, List, OnOk, OnErr, IfErr, IfSome, None, ◌⊎◌, length, take, ◌<◌, ◌≤◌};
-ghost use Rattle.std.specs.Io.KnownBytes.{Appends, Consumes};
+ghost use Rattle.std.specs.Prelude.{◌≡◌, ℕ, ◌^◌, List, OnOk, OnErr, IfErr, IfSome, None, ◌⊎◌, length, take, ◌<◌, ◌≤◌};
 ghost use Rattle.pdb_report.specs.Answers.{line_text};
-ghost use Rattle.pdb_report.specs.Lines.{report, report_of_ended, Begins};
+ghost use Rattle.pdb_report.specs.Lines.{report, report_of_ended};
 ghost use Rattle.pdb_report.specs.Loading.{load_fault, IsFileFault};
 ghost use Rattle.pdb_report.specs.RunFaults.{OnLoad, OnRead, OnWrite, OnTooLong, OnMemory, UnlessLoad, IsOfFrames};
 ghost use Rattle.pdb_symbols_modules.specs.Streams.{streams};
-ghost use Rattle.pdb_report.specs.Watched.{inner_of, Fails, IsQuiet};
+ghost use Rattle.pdb_report.specs.Watched.{inner_of, Fails, IsQuiet, Writes, WritesFront, Takes};
 
 use crate::engine::run;
 use crate::fault::RunFault;
@@ -40,20 +39,19 @@ pub fn run_frames<R: Read, W: Write>(
     // Want of memory is answered with both ends untouched, or where there is none.
     ensures memory { IfErr result (λ fault. OnMemory fault ((load_fault (streams bytes.items) ≡ None) ⊎ ((reader.new ≡ reader.old) × (writer.new ≡ writer.old)))) }
     // Where the run ends well, the report on the whole input is out, and neither end failed.
-    ensures ok { OnOk result (IfSome (R.remaining (inner_of reader.old)) (λ input. (length input ≤ INPUT_LIMIT)
-        × Appends (W.contents (inner_of writer.old)) (W.contents (inner_of writer.new)) (report (line_text (streams bytes.items)) input))) }
+    ensures ok { OnOk result (IfSome (R.remaining (inner_of reader.old)) (λ input. (length input ≤ 2 ^ 30)
+        × Writes W.contents writer.old writer.new (report (line_text (streams bytes.items)) input))) }
     ensures quiet { OnOk result (IsQuiet reader.old reader.new × IsQuiet writer.old writer.new) }
     // A failed read or write is one of this call, with its kind.
     ensures read_fails { IfErr result (λ fault. OnRead fault (λ kind. Fails reader.old reader.new kind)) }
     ensures write_fails { IfErr result (λ fault. OnWrite fault (λ kind. Fails writer.old writer.new kind)) }
     // The complete lines before a failed read, and those of a too long input, are answered.
-    ensures read_out { IfErr result (λ fault. OnRead fault (λ _. (taken : List ℕ) × Consumes (R.remaining (inner_of reader.old)) (R.remaining (inner_of reader.new)) taken
-        × Appends (W.contents (inner_of writer.old)) (W.contents (inner_of writer.new)) (report_of_ended (line_text (streams bytes.items)) taken))) }
-    ensures too_long { IfErr result (λ fault. OnTooLong fault (IfSome (R.remaining (inner_of reader.old)) (λ input. (INPUT_LIMIT < length input)
-        × Appends (W.contents (inner_of writer.old)) (W.contents (inner_of writer.new)) (report_of_ended (line_text (streams bytes.items)) (take INPUT_LIMIT input))))) }
+    ensures read_out { IfErr result (λ fault. OnRead fault (λ _. (taken : List ℕ) × Takes R.remaining reader.old reader.new taken
+        × Writes W.contents writer.old writer.new (report_of_ended (line_text (streams bytes.items)) taken))) }
+    ensures too_long { IfErr result (λ fault. OnTooLong fault (IfSome (R.remaining (inner_of reader.old)) (λ input. (2 ^ 30 < length input)
+        × Writes W.contents writer.old writer.new (report_of_ended (line_text (streams bytes.items)) (take (2 ^ 30) input))))) }
     // At every fault what is out is the front of the report.
-    ensures part { OnErr result (IfSome (R.remaining (inner_of reader.old)) (λ input. (out : List ℕ)
-        × Appends (W.contents (inner_of writer.old)) (W.contents (inner_of writer.new)) out × Begins out (report (line_text (streams bytes.items)) input))) }
+    ensures part { OnErr result (IfSome (R.remaining (inner_of reader.old)) (λ input. WritesFront W.contents writer.old writer.new (report (line_text (streams bytes.items)) input))) }
 {
     match Symbolizer::open(alloc, bytes) {
         Ok(mut symbolizer) => run(alloc, &mut symbolizer, reader, writer, INPUT_LIMIT),

@@ -13,13 +13,14 @@ use crate::address::parse_address;
 use crate::answers::Answers;
 use crate::fault::LoadFault;
 use crate::loading::{Database, load_parts};
-use crate::modules::{ModuleProcedures, read_modules};
+use crate::modules::{ModuleProcedures, check_modules, read_modules};
 use crate::pdb_addr2line::contributions::{ModuleSectionContribution, holder};
 use crate::pdb_addr2line::frames::{FunctionFrames, append_answer, procedure_frames};
 use crate::pdb_module_data::{Procedure, over};
 use pdb_addresses::{AddressMap, Rva};
 use pdb_symbols_modules::PDB;
 use std::alloc::{AllocError, Global};
+use std::collections::BTreeMap;
 use std::marker::Model;
 
 /// A program database that was loaded, with what answers need of it. Its value in contracts is the file's bytes.
@@ -28,7 +29,7 @@ pub struct Symbolizer {
     pdb: Database,
     address_map: AddressMap<'static>,
     contributions: Vec<ModuleSectionContribution>,
-    modules: Vec<ModuleProcedures>,
+    procedures: BTreeMap<u16, ModuleProcedures>,
 }
 
 impl Model for Symbolizer {
@@ -39,7 +40,7 @@ impl Model for Symbolizer {
 
     ghost view = { λ s. s.pdb.items };
 
-    ghost invariant = { λ s. IsKept s.pdb.items s.address_map s.contributions.items s.modules.items };
+    ghost invariant = { λ s. IsKept s.pdb.items s.address_map s.contributions.items s.procedures };
 }
 
 /// Loads an open program database, and keeps what answers need.
@@ -50,20 +51,26 @@ fn load(alloc: Global, mut pdb: Database) -> Result<Symbolizer, LoadFault>
 {
     let debug_information = pdb.debug_information(alloc)?;
     let parts = load_parts(&mut pdb, alloc, &debug_information)?;
-    let modules = read_modules(&mut pdb, alloc, parts.modules.as_slice())?;
+    check_modules(&mut pdb, alloc, parts.modules.as_slice())?;
+    let procedures = read_modules(
+        &mut pdb,
+        alloc,
+        parts.modules.as_slice(),
+        parts.contributions.as_slice(),
+    )?;
     Ok(Symbolizer {
         pdb,
         address_map: parts.address_map,
         contributions: parts.contributions,
-        modules,
+        procedures,
     })
 }
 
-/// The procedures of the module of a number, counted from 0; none past the last module.
-fn procedures_of(modules: &[ModuleProcedures], module: u16) -> &[Procedure]
-    ensures { result.now ≡ procedures_at modules.now «module» }
+/// The procedures of the module of a number, counted from 0; none where none are kept.
+fn procedures_of(kept: &BTreeMap<u16, ModuleProcedures>, module: u16) -> &[Procedure]
+    ensures { result.now ≡ procedures_at kept.now «module» }
 {
-    match modules.get(usize::from(module)) {
+    match kept.get(&module) {
         None => &[],
         Some(procedures) => procedures.as_slice(),
     }
@@ -74,19 +81,19 @@ fn frames_at(
     alloc: Global,
     address_map: &AddressMap<'static>,
     contributions: &[ModuleSectionContribution],
-    modules: &[ModuleProcedures],
+    procedures: &BTreeMap<u16, ModuleProcedures>,
     address: u32,
 ) -> Result<Option<FunctionFrames>, AllocError>
     requires { IsOrdered address_map.now }
-    ensures { IfOk result (λ f. answer_seen f ≡ kept_answer address_map.now contributions.now modules.now address) }
+    ensures { IfOk result (λ f. answer_seen f ≡ kept_answer address_map.now contributions.now procedures.now address) }
 {
     let Some(place) = Rva(address).to_internal_offset(address_map) else {
         return Ok(None);
     };
-    let Some(module) = holder(contributions, place) else {
+    let Some(held) = holder(contributions, place) else {
         return Ok(None);
     };
-    match over(procedures_of(modules, module), place) {
+    match over(procedures_of(procedures, held.module), place) {
         None => Ok(None),
         Some(procedure) => procedure_frames(alloc, address_map, procedure),
     }
@@ -120,7 +127,7 @@ impl Symbolizer {
             alloc,
             &self.address_map,
             self.contributions.as_slice(),
-            self.modules.as_slice(),
+            &self.procedures,
             address,
         )
     }

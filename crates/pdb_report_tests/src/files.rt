@@ -1,59 +1,24 @@
-//! The files that the tests report on.
+//! The files that the tests report on, and reports on them.
 
-use pdb_samples::{
-    Module, ModuleSymbols, PageOrder, Procedure, ProgramDatabase, Result, SampleError, Scope,
-    Symbol, SymbolPlace, cut_dbi, file_f, file_f0, file_of_symbols, scope_end, symbols_of_f,
-    with_address_map_number, with_c11, with_directory_reordered, with_inline_site,
-    with_nested_procedure, with_permuted_pages, with_public_symbol, with_thunk,
-    with_two_contributions, with_typed_procedure,
-};
+use pdb_report::{RunFault, Watched, finish_run, run_frames};
+use pdb_samples::{Change, Result, SampleError, cut_dbi, file_with};
 use std::alloc::Global;
+use std::io::Read;
+use std::test::Fail;
 
-/// The kind of separated code's symbol.
-const SEPARATED_CODE: u16 = 0x1132;
-
-/// A file. Where nothing else is said it is file F0 but for one thing.
-#[derive(Debug, Clone, Copy)]
+/// A file.
+#[derive(Clone, Copy)]
 pub enum File {
     /// Four bytes that another format begins with.
     Elf,
-    /// File F, which has line data.
-    F,
-    /// File F0, which has none.
-    F0,
-    /// Its debug information reaches past its end.
+    /// File F0 where its debug information reaches past its end.
     CutDbi,
-    /// Its pages lie in another order.
-    PermutedPages,
-    /// Its directory's pages lie in another order.
-    DirectoryReordered,
-    /// Its optional header names a stream at this place.
-    AddressMap(usize),
-    /// Two contributions.
-    TwoContributions,
-    /// A public symbol.
-    PublicSymbol,
-    /// Line data of the older form.
-    OlderLines,
-    /// A thunk.
-    Thunk,
-    /// Separated code.
-    SeparatedCode,
-    /// An inline site.
-    InlineSite,
-    /// A procedure with a type.
-    TypedProcedure,
-    /// A procedure in another.
-    NestedProcedure,
-    /// A second module whose stream can't be read.
-    DamagedModule,
-    /// A second module whose stream isn't there.
-    MissingModule,
-    /// Its streams' pages lie last to first, behind a further stream of 4096 bytes.
-    Long,
-    /// Its procedure has this name.
-    Named(&'static [u8]),
+    /// File F0 but for one thing.
+    With(Change),
 }
+
+/// File F0.
+pub const F0: File = File::With(Change::Nothing);
 
 impl File {
     /// The file's bytes. The second call's where the first finds no memory.
@@ -69,77 +34,47 @@ impl File {
         match self {
             File::Elf => Ok(Vec::from_slice(alloc, b"\x7fELF")?),
             File::CutDbi => cut_dbi(alloc),
-            File::PermutedPages => with_permuted_pages(alloc),
-            File::DirectoryReordered => with_directory_reordered(alloc),
-            described => described.description(alloc)?.bytes(alloc),
-        }
-    }
-
-    /// What is described; file F0 for a file that has no description.
-    fn description(self, alloc: Global) -> Result<ProgramDatabase> {
-        match self {
-            File::F => file_f(alloc),
-            File::AddressMap(place) => with_address_map_number(alloc, place),
-            File::TwoContributions => with_two_contributions(alloc),
-            File::PublicSymbol => with_public_symbol(alloc, 0x34, b"?p@@YAXXZ"),
-            File::OlderLines => with_c11(alloc),
-            File::Thunk => with_thunk(alloc),
-            File::SeparatedCode => with_separated_code(alloc),
-            File::InlineSite => with_inline_site(alloc),
-            File::TypedProcedure => with_typed_procedure(alloc, 0x1000),
-            File::NestedProcedure => with_nested_procedure(alloc),
-            File::DamagedModule => with_second_module(alloc, true),
-            File::MissingModule => with_second_module(alloc, false),
-            File::Long => long(alloc),
-            File::Named(name) => with_name(alloc, name),
-            _ => file_f0(alloc),
+            File::With(change) => file_with(alloc, change)?.bytes(alloc),
         }
     }
 }
 
-/// File F0 with separated code behind `f`.
-fn with_separated_code(alloc: Global) -> Result<ProgramDatabase> {
-    let mut symbols = symbols_of_f(alloc, 0, Vec::new(alloc))?;
-    symbols.push(Symbol::Scope(Scope {
-        kind: SEPARATED_CODE,
-        parent: SymbolPlace::At(0),
-        end: SymbolPlace::Of(3),
-        rest: vec![in alloc; 0u8; 20]?,
-    }))?;
-    symbols.push(scope_end(alloc))?;
-    file_of_symbols(alloc, symbols)
+/// What a run wrote, and how it ended.
+#[derive(Drop)]
+pub struct Run {
+    pub report: Vec<u8>,
+    pub outcome: std::result::Result<(), RunFault>,
 }
 
-/// File F0 with a second module of four bytes of symbols that can't be read, or, without a stream, are not there.
-fn with_second_module(alloc: Global, has_stream: bool) -> Result<ProgramDatabase> {
-    let mut database = file_f0(alloc)?;
-    database.modules.push(Module {
-        name: Vec::from_slice(alloc, b"b.obj")?,
-        object_name: Vec::from_slice(alloc, b"b.obj")?,
-        symbols: ModuleSymbols::Bytes(vec![in alloc; 0xffu8; 4]?),
-        c11: Vec::new(alloc),
-        c13: Vec::new(alloc),
-        has_stream,
-    })?;
-    Ok(database)
+/// A run over these bytes.
+pub fn run_over<R: Read + Drop>(alloc: Global, bytes: Vec<u8>, input: R) -> Run {
+    let mut report = Vec::new(alloc);
+    let mut reader = Watched::new(input);
+    let mut writer = Watched::new(&mut report);
+    let outcome = run_frames(alloc, bytes, &mut reader, &mut writer);
+    Run { report, outcome }
 }
 
-/// File F0 with all that a reader needs past its first 4096 bytes.
-fn long(alloc: Global) -> Result<ProgramDatabase> {
-    let mut database = file_f0(alloc)?;
-    database
-        .further_streams
-        .push(Some(vec![in alloc; 0u8; 4096]?))?;
-    database.order = PageOrder::StreamsReversed;
-    Ok(database)
+/// A run over a file; the second one where the first finds no memory.
+pub fn run_on(alloc: Global, file: File, input: &[u8]) -> Result<Run> {
+    let run = run_over(alloc, file.bytes(alloc)?, input);
+    match run.outcome {
+        Err(RunFault::OutOfMemory) => Ok(run_over(alloc, file.bytes(alloc)?, input)),
+        _ => Ok(run),
+    }
 }
 
-/// File F0 with another name of its procedure.
-fn with_name(alloc: Global, name: &[u8]) -> Result<ProgramDatabase> {
-    let mut procedure = Procedure::new(1, 0x10, 0x20, Vec::from_slice(alloc, name)?);
-    procedure.end = SymbolPlace::Of(1);
-    let mut symbols = Vec::new(alloc);
-    symbols.push(Symbol::Procedure(procedure))?;
-    symbols.push(scope_end(alloc))?;
-    file_of_symbols(alloc, symbols)
+/// An empty list with room for the bytes of some lines.
+pub fn line_buffer(alloc: Global) -> Result<Vec<u8>> {
+    Ok(Vec::with_capacity(alloc, 256).or_else(|_| Vec::with_capacity(alloc, 256))?)
+}
+
+/// The status of a run that ended so, and what is told of its fault.
+pub fn told(
+    alloc: Global,
+    outcome: std::result::Result<(), RunFault>,
+) -> std::result::Result<(u8, Vec<u8>), Fail> {
+    let mut errors = line_buffer(alloc)?;
+    let status = finish_run(outcome, &mut errors);
+    Ok((status, errors))
 }

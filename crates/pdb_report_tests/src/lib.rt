@@ -3,15 +3,11 @@
 #![tactic(auto)]
 
 #[cfg(test)]
-mod damage;
+mod calls;
 pub mod definitions;
 #[cfg(test)]
 mod files;
 #[cfg(test)]
-mod parts;
-#[cfg(test)]
 mod rows;
-#[cfg(test)]
-mod runs;
 #[cfg(test)]
 mod streams;

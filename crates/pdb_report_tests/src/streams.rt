@@ -1,191 +1,211 @@
 //! Readers and writers that misbehave.
 
-use crate::files::File;
-use crate::runs::{Run, line_buffer, run_over};
+use crate::files::{F0, Run, line_buffer, run_over};
 use pdb_report::{RunFault, Watched, finish_run, run_frames};
-use pdb_samples::{FailingReader, FailingWriter, OneByteReader, OneByteWriter, StallingWriter};
+use pdb_samples::{PieceReader, PieceWriter};
 use std::alloc::Global;
-use std::io::{ErrorKind, Read, Write};
+use std::io::ErrorKind;
 use std::test::Fail;
 
 const INPUT: &[u8] = b"1014\n1050\n1014";
 
 const REPORT: &[u8] = b"0x00001014\n  f at ??:??\n0x00001050\n  ??\n0x00001014\n  f at ??:??\n";
 
+/// The report on the first two lines of the input.
+const TWO_LINES: &[u8] = b"0x00001014\n  f at ??:??\n0x00001050\n  ??\n";
+
 /// How many bytes of the report are out at a fault.
 const FRONT: usize = 30;
 
-/// A run over file F0 with a writer. Where memory is refused it ends without a success.
-fn write_report<W: Write>(
-    alloc: Global,
-    writer: &mut Watched<W>,
-) -> Result<Result<(), RunFault>, Fail> {
-    let bytes = File::F0.bytes(alloc)?;
-    let mut reader = Watched::new(INPUT);
-    Ok(run_frames(alloc, bytes, &mut reader, writer))
-}
+/// How a run ends.
+type Outcome = Result<(), RunFault>;
 
-/// A run over file F0 with a reader, and once more where memory is refused.
-fn read_input<R: Read + Drop, F: Fn() -> R>(alloc: Global, input: F) -> Result<Run, Fail>
-    requires { F.IsAlwaysCallable input }
-{
-    let run = run_over(alloc, File::F0.bytes(alloc)?, input());
-    if !run.lacked_memory() {
+/// A run over file F0 with a reader that gives pieces of these bytes; the second one where the first finds no memory.
+fn read_input(
+    alloc: Global,
+    bytes: &[u8],
+    piece: usize,
+    fault: Option<ErrorKind>,
+) -> Result<Run, Fail> {
+    let reader = PieceReader {
+        bytes,
+        piece,
+        fault,
+    };
+    let run = run_over(alloc, F0.bytes(alloc)?, reader);
+    if run.outcome != Err(RunFault::OutOfMemory) {
         return Ok(run);
     }
-    Ok(run_over(alloc, File::F0.bytes(alloc)?, input()))
-}
-
-#[test]
-fn one_byte_at_a_time(rt: HostRuntime) -> Result<(), Fail> {
-    let run = read_input(rt.alloc(), || OneByteReader { bytes: INPUT })?;
-    assert_eq!(rt; run.report.as_slice(), REPORT);
-    assert_eq!(rt; run.outcome, Ok(()));
-    let mut is_whole = false;
-    for _ in 0..2 {
-        let written = line_buffer(rt.alloc())?;
-        let mut writer = OneByteWriter { written };
-        let outcome = write_report(rt.alloc(), &mut Watched::new(&mut writer))?;
-        if outcome == Err(RunFault::OutOfMemory) {
-            assert!(rt; REPORT.starts_with(writer.written.as_slice()));
-        } else {
-            is_whole = true;
-            assert_eq!(rt; outcome, Ok(()));
-            assert_eq!(rt; writer.written.as_slice(), REPORT);
-        }
-    }
-    assert!(rt; is_whole);
-    Ok(())
-}
-
-#[test]
-fn failed_reads(rt: HostRuntime) -> Result<(), Fail> {
-    let rows: [(&'static [u8], &'static [u8]); 3] = [
-        (b"", b""),
-        (
-            b"1014\n1050\n10",
-            b"0x00001014\n  f at ??:??\n0x00001050\n  ??\n",
-        ),
-        (b"1014", b""),
-    ];
-    for kind in [
-        ErrorKind::BrokenPipe,
-        ErrorKind::Interrupted,
-        ErrorKind::UnexpectedEof,
-    ] {
-        for (bytes, report) in rows {
-            let run = read_input(
-                rt.alloc(),
-                move || FailingReader {
-                    bytes,
-                    piece: 3,
-                    kind,
-                },
-            )?;
-            assert_eq!(rt; run.report.as_slice(), report);
-            assert_eq!(rt; run.outcome, Err(RunFault::Read(kind)));
-        }
-    }
-    Ok(())
-}
-
-#[test]
-fn read_without_memory(rt: HostRuntime) -> Result<(), Fail> {
-    let run = read_input(
-        rt.alloc(),
-        || FailingReader {
-            bytes: b"1014\n",
-            piece: 3,
-            kind: ErrorKind::OutOfMemory,
-        },
-    )?;
-    assert_eq!(rt; run.outcome, Err(RunFault::OutOfMemory));
-    assert!(rt; REPORT.starts_with(run.report.as_slice()));
-    Ok(())
-}
-
-#[test]
-fn failed_writes(rt: HostRuntime) -> Result<(), Fail> {
-    for kind in [ErrorKind::BrokenPipe, ErrorKind::Interrupted] {
-        let mut is_told = false;
-        for _ in 0..2 {
-            let written = line_buffer(rt.alloc())?;
-            let mut inner = FailingWriter {
-                written,
-                room: FRONT,
-                kind,
-            };
-            let mut writer = Watched::new(&mut inner);
-            let outcome = write_report(rt.alloc(), &mut writer)?;
-            let failures = (writer.failures(), writer.last_kind());
-            if outcome == Err(RunFault::OutOfMemory) {
-                assert_eq!(rt; failures, (0, None));
-            } else {
-                is_told = true;
-                assert_eq!(rt; outcome, Err(RunFault::Write(kind)));
-                assert_eq!(rt; failures, (1, Some(kind)));
-                assert_eq!(rt; inner.written.len(), FRONT);
-            }
-            assert!(rt; REPORT.starts_with(inner.written.as_slice()));
-        }
-        assert!(rt; is_told);
-    }
-    Ok(())
-}
-
-#[test]
-fn write_without_memory(rt: HostRuntime) -> Result<(), Fail> {
-    let written = line_buffer(rt.alloc())?;
-    let mut inner = FailingWriter {
-        written,
-        room: FRONT,
-        kind: ErrorKind::OutOfMemory,
+    let reader = PieceReader {
+        bytes,
+        piece,
+        fault,
     };
-    let outcome = write_report(rt.alloc(), &mut Watched::new(&mut inner))?;
-    assert_eq!(rt; outcome, Err(RunFault::OutOfMemory));
-    assert!(rt; REPORT.starts_with(inner.written.as_slice()));
+    Ok(run_over(alloc, F0.bytes(alloc)?, reader))
+}
+
+/// How a run ends where a read failed, if one did.
+fn end_of_read(fault: Option<ErrorKind>) -> Outcome {
+    match fault {
+        None => Ok(()),
+        Some(ErrorKind::OutOfMemory) => Err(RunFault::OutOfMemory),
+        Some(kind) => Err(RunFault::Read(kind)),
+    }
+}
+
+/// Whether a run over file F0 ends as its reader does, with this report, or with a front of the whole one where memory was
+/// refused.
+fn is_read(
+    alloc: Global,
+    bytes: &[u8],
+    piece: usize,
+    fault: Option<ErrorKind>,
+    report: &[u8],
+) -> Result<bool, Fail> {
+    let run = read_input(alloc, bytes, piece, fault)?;
+    let found = run.report.as_slice();
+    let is_right = match fault {
+        Some(ErrorKind::OutOfMemory) => REPORT.starts_with(found),
+        _ => found == report,
+    };
+    Ok(is_right && run.outcome == end_of_read(fault))
+}
+
+/// The bytes that are read, how they end, and the report.
+const READERS: &[(&[u8], Option<ErrorKind>, &[u8])] = &[
+    (INPUT, None, REPORT),
+    (b"", Some(ErrorKind::BrokenPipe), b""),
+    (b"1014", Some(ErrorKind::BrokenPipe), b""),
+    (b"1014\n1050\n10", Some(ErrorKind::Interrupted), TWO_LINES),
+    (b"1014\n1050\n10", Some(ErrorKind::UnexpectedEof), TWO_LINES),
+    (INPUT, Some(ErrorKind::OutOfMemory), REPORT),
+];
+
+#[test]
+fn readers(rt: HostRuntime) -> Result<(), Fail> {
+    for piece in [1, 3] {
+        for (bytes, fault, report) in READERS {
+            let is_right = is_read(rt.alloc(), *bytes, piece, *fault, *report)?;
+            assert!(rt; is_right, "pieces of {piece}, {fault:?}");
+        }
+    }
     Ok(())
 }
 
-#[test]
-fn stalled_writes(rt: HostRuntime) -> Result<(), Fail> {
-    let mut is_told = false;
-    for _ in 0..2 {
-        let written = line_buffer(rt.alloc())?;
-        let mut inner = StallingWriter {
-            written,
-            room: FRONT,
-        };
-        let mut writer = Watched::new(&mut inner);
-        let outcome = write_report(rt.alloc(), &mut writer)?;
-        let failures = (writer.failures(), writer.last_kind());
-        if outcome == Err(RunFault::OutOfMemory) {
-            assert_eq!(rt; failures, (0, None));
-        } else {
-            is_told = true;
-            assert_eq!(rt; outcome, Err(RunFault::Write(ErrorKind::WriteZero)));
-            assert_eq!(rt; failures, (1, Some(ErrorKind::WriteZero)));
-            assert_eq!(rt; inner.written.len(), FRONT);
-        }
-        assert!(rt; REPORT.starts_with(inner.written.as_slice()));
+/// What a writer holds at the end of a run, the failures that were counted and their last kind, and how the run ended.
+#[derive(Drop)]
+struct Written {
+    bytes: Vec<u8>,
+    failures: (u64, Option<ErrorKind>),
+    outcome: Outcome,
+}
+
+/// A run over file F0 with a writer that takes pieces, so many bytes in all.
+fn write_report(
+    alloc: Global,
+    piece: usize,
+    room: usize,
+    fault: Option<ErrorKind>,
+) -> Result<Written, Fail> {
+    let file = F0.bytes(alloc)?;
+    let mut inner = PieceWriter {
+        written: line_buffer(alloc)?,
+        piece,
+        room,
+        fault,
+    };
+    let mut writer = Watched::new(&mut inner);
+    let outcome = run_frames(alloc, file, &mut Watched::new(INPUT), &mut writer);
+    let failures = (writer.failures(), writer.last_kind());
+    Ok(Written {
+        bytes: inner.written,
+        failures,
+        outcome,
+    })
+}
+
+/// How a run ends where a write failed so, if one did.
+fn end_of_write(kind: Option<ErrorKind>) -> Outcome {
+    match kind {
+        None => Ok(()),
+        Some(ErrorKind::OutOfMemory) => Err(RunFault::OutOfMemory),
+        Some(kind) => Err(RunFault::Write(kind)),
     }
-    assert!(rt; is_told);
+}
+
+/// Whether a run over file F0 ends as its writer does, whose last failure is of this kind, and the writer is full or has the
+/// whole report. Where memory is refused it runs once more.
+fn is_written(
+    alloc: Global,
+    piece: usize,
+    room: usize,
+    fault: Option<ErrorKind>,
+    kind: Option<ErrorKind>,
+) -> Result<bool, Fail> {
+    let mut last = write_report(alloc, piece, room, fault)?;
+    if last.failures.0 == 0 && last.outcome == Err(RunFault::OutOfMemory) {
+        last = write_report(alloc, piece, room, fault)?;
+    }
+    let bytes = last.bytes.as_slice();
+    Ok(
+        bytes.len() == room.min(REPORT.len())
+            && REPORT.starts_with(bytes)
+            && last.failures == (u64::from(kind.is_some()), kind)
+            && last.outcome == end_of_write(kind),
+    )
+}
+
+/// The most bytes at a call and in all, the failure then, and the kind of the last failure that is counted.
+const WRITERS: &[(usize, usize, Option<ErrorKind>, Option<ErrorKind>)] = &[
+    (1, usize::MAX, None, None),
+    (
+        9,
+        FRONT,
+        Some(ErrorKind::BrokenPipe),
+        Some(ErrorKind::BrokenPipe),
+    ),
+    (
+        9,
+        FRONT,
+        Some(ErrorKind::Interrupted),
+        Some(ErrorKind::Interrupted),
+    ),
+    (
+        9,
+        FRONT,
+        Some(ErrorKind::OutOfMemory),
+        Some(ErrorKind::OutOfMemory),
+    ),
+    // It stalls, and does not fail.
+    (9, FRONT, None, Some(ErrorKind::WriteZero)),
+];
+
+#[test]
+fn writers(rt: HostRuntime) -> Result<(), Fail> {
+    for (piece, room, fault, kind) in WRITERS {
+        let is_right = is_written(rt.alloc(), *piece, *room, *fault, *kind)?;
+        assert!(rt; is_right, "room for {room}, {fault:?}");
+    }
     Ok(())
+}
+
+/// Whether a fault that can't be told whole leaves a front of the line.
+fn is_front_told(alloc: Global, room: usize) -> Result<bool, Fail> {
+    let mut errors = PieceWriter {
+        written: line_buffer(alloc)?,
+        piece: 9,
+        room,
+        fault: Some(ErrorKind::BrokenPipe),
+    };
+    let status = finish_run(Err(RunFault::InputTooLong), &mut errors);
+    let told = errors.written.as_slice();
+    Ok(status == 1 && told.len() == room && b"fault: InputTooLong\n".starts_with(told))
 }
 
 #[test]
 fn untold_faults(rt: HostRuntime) -> Result<(), Fail> {
     for room in [0, 3] {
-        let written = line_buffer(rt.alloc())?;
-        let kind = ErrorKind::BrokenPipe;
-        let mut errors = FailingWriter {
-            written,
-            room,
-            kind,
-        };
-        assert_eq!(rt; finish_run(Err(RunFault::InputTooLong), &mut errors), 1);
-        assert!(rt; b"fault: InputTooLong\n".starts_with(errors.written.as_slice()));
-        assert_eq!(rt; finish_run(Ok(()), &mut errors), 0);
+        assert!(rt; is_front_told(rt.alloc(), room)?, "room for {room}");
     }
     Ok(())
 }

@@ -101,8 +101,15 @@ impl Container {
     /// How many pages the streams before this number take.
     fn pages_before(&self, number: usize) -> Result<u32> {
         let mut count = 0u32;
-        for bytes in self.streams.iter().take(number).flatten() {
-            count = count.saturating_add(self.pages_of(bytes.len())?);
+        let mut left = number;
+        for stream in &self.streams {
+            if left == 0 {
+                return Ok(count);
+            }
+            left -= 1;
+            if let Some(bytes) = stream {
+                count = count.saturating_add(self.pages_of(bytes.len())?);
+            }
         }
         Ok(count)
     }
@@ -145,13 +152,22 @@ impl Container {
     fn push_parts(&self, file: &mut Vec<u8>, layout: &Layout) -> Result<()> {
         self.push_header(file, layout)?;
         push_numbers(file, layout, layout.list, layout.directory)?;
-        pad_to(file, self.page_bytes()?)?;
-        self.push_directory(file)?;
-        push_numbers(file, layout, layout.directory, layout.streams)?;
-        pad_to(file, self.page_bytes()?)?;
-        for bytes in self.streams.iter().flatten() {
-            file.extend_from_slice(bytes.as_slice())?;
-            pad_to(file, self.page_bytes()?)?;
+        self.fill_page(file)?;
+        self.push_directory(file, layout)?;
+        self.push_streams(file)
+    }
+
+    /// Appends zero bytes up to the end of a page.
+    fn fill_page(&self, file: &mut Vec<u8>) -> Result<()> {
+        pad_to(file, self.page_bytes()?)
+    }
+
+    fn push_streams(&self, file: &mut Vec<u8>) -> Result<()> {
+        for stream in &self.streams {
+            if let Some(bytes) = stream {
+                file.extend_from_slice(bytes.as_slice())?;
+                self.fill_page(file)?;
+            }
         }
         Ok(())
     }
@@ -166,20 +182,17 @@ impl Container {
         if file.len() > self.page_bytes()? {
             return Err(SampleError::DoesNotFit);
         }
-        pad_to(file, self.page_bytes()?)
+        self.fill_page(file)
     }
 
-    /// Appends the count of the streams and their sizes.
-    fn push_directory(&self, file: &mut Vec<u8>) -> Result<()> {
+    /// Appends the count of the streams, their sizes and the numbers of their pages.
+    fn push_directory(&self, file: &mut Vec<u8>, layout: &Layout) -> Result<()> {
         push_u32(file, &[u32::try_from(self.streams.len())?])?;
         for stream in &self.streams {
-            let size = match stream {
-                Some(bytes) => u32::try_from(bytes.len())?,
-                None => ABSENT,
-            };
-            push_u32(file, &[size])?;
+            push_u32(file, &[size_of(stream)?])?;
         }
-        Ok(())
+        push_numbers(file, layout, layout.directory, layout.streams)?;
+        self.fill_page(file)
     }
 
     /// Writes each page to where it lies.
@@ -202,4 +215,12 @@ fn push_numbers(file: &mut Vec<u8>, layout: &Layout, before: u32, end: u32) -> R
         push_u32(file, &[layout.number(place.saturating_add(1))])?;
     }
     Ok(())
+}
+
+/// What the directory says of a stream's size.
+fn size_of(stream: &Option<Vec<u8>>) -> Result<u32> {
+    match stream {
+        Some(bytes) => Ok(u32::try_from(bytes.len())?),
+        None => Ok(ABSENT),
+    }
 }

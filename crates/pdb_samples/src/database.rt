@@ -97,24 +97,31 @@ impl Information {
     fn push_stream(&self, bytes: &mut Vec<u8>, names: Option<u32>) -> Result<()> {
         push_u32(bytes, &[INFORMATION_VERSION, self.signature, self.age])?;
         bytes.extend_from_slice(&self.guid)?;
+        self.push_names(bytes, names.is_some())?;
+        self.push_pairs(bytes, names)
+    }
+
+    /// Appends the size of the names and each name.
+    fn push_names(&self, bytes: &mut Vec<u8>, has_table: bool) -> Result<()> {
+        let at = bytes.len();
         push_u32(bytes, &[0])?;
-        let start = bytes.len();
-        if names.is_some() {
+        if has_table {
             push_text(bytes, NAMES)?;
         }
         for named in &self.named_streams {
             push_text(bytes, named.name.as_slice())?;
         }
-        write_size(bytes, start.saturating_sub(4), start)?;
-        self.push_pairs(bytes, names)
+        write_size(bytes, at, at.saturating_add(4))
     }
 
     /// Appends the hash table of the names: where each begins and the number of its stream.
     fn push_pairs(&self, bytes: &mut Vec<u8>, names: Option<u32>) -> Result<()> {
-        let named = u32::try_from(self.named_streams.len())?;
-        let count = named.saturating_add(u32::from(names.is_some()));
-        let present = 1u32.checked_shl(count).ok_or(SampleError::DoesNotFit)? - 1;
-        push_u32(bytes, &[count, 32, 1, present, 0])?;
+        push_places(
+            bytes,
+            self.named_streams
+                .len()
+                .saturating_add(usize::from(names.is_some())),
+        )?;
         let mut offset = 0usize;
         if let Some(stream) = names {
             push_u32(bytes, &[0, stream])?;
@@ -128,6 +135,13 @@ impl Information {
     }
 }
 
+/// Appends the front of a hash table with 32 places, of which so many are used.
+fn push_places(bytes: &mut Vec<u8>, count: usize) -> Result<()> {
+    let count = u32::try_from(count)?;
+    let used = 1u32.checked_shl(count).ok_or(SampleError::DoesNotFit)? - 1;
+    push_u32(bytes, &[count, 32, 1, used, 0])
+}
+
 impl ProgramDatabase {
     /// The file's bytes.
     pub fn bytes(&self, alloc: Global) -> Result<Vec<u8>> {
@@ -137,10 +151,7 @@ impl ProgramDatabase {
     /// The file's streams.
     pub fn container(&self, alloc: Global) -> Result<Container> {
         let mut streams = Vec::new(alloc);
-        self.push_fixed_streams(alloc, &mut streams)?;
-        self.push_module_streams(alloc, &mut streams)?;
-        self.push_names(alloc, &mut streams)?;
-        self.push_further_streams(alloc, &mut streams)?;
+        self.push_streams(alloc, &mut streams)?;
         Ok(Container {
             page_size: self.page_size,
             streams,
@@ -158,6 +169,13 @@ impl ProgramDatabase {
             stream = stream.saturating_add(u32::from(module.has_stream));
         }
         Ok(Some(stream))
+    }
+
+    fn push_streams(&self, alloc: Global, streams: &mut Streams) -> Result<()> {
+        self.push_fixed_streams(alloc, streams)?;
+        self.push_module_streams(alloc, streams)?;
+        self.push_names(alloc, streams)?;
+        self.push_further_streams(alloc, streams)
     }
 
     fn push_fixed_streams(&self, alloc: Global, streams: &mut Streams) -> Result<()> {

@@ -113,23 +113,26 @@ impl Module {
         Ok(())
     }
 
-    /// How many bytes the symbols, the older and the newer line data take.
-    fn sizes(&self) -> [usize; 3] {
-        let symbols = match &self.symbols {
+    /// How many bytes of symbols there are.
+    fn symbols_size(&self) -> usize {
+        match &self.symbols {
             ModuleSymbols::Records(records) => records.len().saturating_add(4),
             ModuleSymbols::Bytes(symbols) => symbols.len(),
-        };
-        [symbols, self.c11.len(), self.c13.len()]
+        }
     }
 
     /// Appends the module's entry, with the number of its stream.
     fn push_entry(&self, bytes: &mut Vec<u8>, stream: u16) -> Result<()> {
         let stream = if self.has_stream { stream } else { NO_STREAM };
-        push_u32(bytes, &[0, 0, 0, 0, 0, 0, 0, 0])?;
-        push_u16(bytes, &[0, stream])?;
-        for size in self.sizes() {
+        push_u32(bytes, &[0, 0, 0, 0, 0, 0, 0, 0, u32::from(stream) << 16])?;
+        for size in [self.symbols_size(), self.c11.len(), self.c13.len()] {
             push_u32(bytes, &[u32::try_from(size)?])?;
         }
+        self.push_names(bytes)
+    }
+
+    /// Appends the rest of the module's entry.
+    fn push_names(&self, bytes: &mut Vec<u8>) -> Result<()> {
         push_u32(bytes, &[0, 0, 0, 0])?;
         push_text(bytes, self.name.as_slice())?;
         push_text(bytes, self.object_name.as_slice())?;

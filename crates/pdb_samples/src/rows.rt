@@ -6,12 +6,14 @@ use crate::debug_information::{
 };
 use crate::error::{Result, SampleError};
 use crate::line_data::LINE_DATA_OF_F;
-use crate::symbols::{Procedure, push_end, push_record};
+use crate::symbols::{FIRST_PLACE, Procedure, begin_record, end_record, push_end, push_record};
 use std::alloc::Global;
 
 const SCOPE_END: u16 = 0x0006;
 
 const THUNK: u16 = 0x1102;
+
+const SEPARATED_CODE: u16 = 0x1132;
 
 const PUBLIC: u16 = 0x110e;
 
@@ -19,17 +21,28 @@ const INLINE_SITE: u16 = 0x114d;
 
 const INLINE_SITE_END: u16 = 0x114e;
 
-/// The place of a module's first record, which is `f`.
-const FIRST: u32 = 4;
-
-/// The place of the record behind `f`, the first of those that lie in it.
-const INNER: u32 = 48;
-
 /// The payload of a thunk `t` at 0x34 of section 1, of length 6. Its end isn't known yet.
 const THUNK_T: &[u8; 23] = b"\0\0\0\0\0\0\0\0\0\0\0\0\x34\0\0\0\x01\0\x06\0\0t\0";
 
+/// The payload of separated code, all zeros. Its end isn't known yet.
+const SEPARATED: &[u8; 28] = &[0; 28];
+
+/// The payload of an inline site in the record at 4, of the inlinee 0x1000 and without annotations. Its end isn't known yet.
+const SITE: &[u8; 12] = b"\x04\0\0\0\0\0\0\0\0\x10\0\0";
+
 /// Code that may be run and read.
 const EXECUTABLE: u32 = 0x6000_0020;
+
+/// Its second contribution, where there is one.
+const SECOND: Contribution = Contribution {
+    section: 1,
+    offset: 0x80,
+    size: 0x10,
+    characteristics: EXECUTABLE,
+    module: 0,
+    data_crc: 0,
+    reloc_crc: 0,
+};
 
 /// The number of the debug information's stream.
 const DEBUG_STREAM: usize = 3;
@@ -56,26 +69,69 @@ const CODE: Contribution = Contribution {
     reloc_crc: 0,
 };
 
+/// How a file differs from file F0.
+#[derive(Clone, Copy)]
+pub enum Change {
+    Nothing,
+    /// Line data, as in file F.
+    LineData,
+    /// Four bytes of the older line data.
+    OlderLines,
+    /// Another name of its procedure.
+    Name(&'static [u8]),
+    /// A type of its procedure.
+    TypedProcedure(u32),
+    /// A procedure `g` in `f`, at 0x18 of length 8.
+    NestedProcedure,
+    /// An inline site in `f`, of the inlinee 0x1000 and without annotations.
+    InlineSite,
+    /// A thunk `t` behind `f`, at 0x34 of length 6.
+    Thunk,
+    /// Separated code behind `f`.
+    SeparatedCode,
+    /// A public symbol of a function at this place of section 1.
+    PublicSymbol(u32, &'static [u8]),
+    /// A second contribution of its module, at 0x80 of size 0x10.
+    SecondContribution,
+    /// A second module of four bytes of symbols that can't be read.
+    DamagedModule,
+    /// The same module without a stream.
+    MissingModule,
+    /// Its optional header names a further stream at this place. The stream is empty.
+    FurtherStream(usize),
+    /// Its streams' pages lie in descending order. The debug information has three pages.
+    PermutedPages,
+    /// Its directory has three pages, in descending order: a hundred and twenty further streams are absent or empty in
+    /// turn.
+    DirectoryReordered,
+    /// All that a reader needs lies past its first 4096 bytes: its streams' pages lie in descending order, behind a further
+    /// stream of 4096 zeros.
+    Long,
+}
+
 /// One executable section at 0x1000 of size 0x100, of which module 0 contributes the first 0x40
 /// bytes. In it lies the procedure `f` at 0x10, of length 0x20 and no type. Its rows are line 5 at
 /// 0x10 and line 7 at 0x18, of the file `a.c`.
 pub fn file_f(alloc: Global) -> Result<ProgramDatabase> {
-    let mut database = file_f0(alloc)?;
-    if let Some(module) = database.modules.first_mut() {
-        push_u32(&mut module.c13, &LINE_DATA_OF_F)?;
-    }
-    Ok(database)
+    file_with(alloc, Change::LineData)
 }
 
 /// File F without its line data.
 pub fn file_f0(alloc: Global) -> Result<ProgramDatabase> {
-    file_of_symbols(alloc, symbols_of_f(alloc, 0, Vec::new(alloc))?)
+    file_with(alloc, Change::Nothing)
 }
 
-/// File F0 with these symbol records in its module.
-pub fn file_of_symbols(alloc: Global, records: Vec<u8>) -> Result<ProgramDatabase> {
+/// File F0 with four bytes of the older line data.
+pub fn with_c11(alloc: Global) -> Result<ProgramDatabase> {
+    file_with(alloc, Change::OlderLines)
+}
+
+/// File F0 but for one thing.
+pub fn file_with(alloc: Global, change: Change) -> Result<ProgramDatabase> {
+    let mut records = Vec::new(alloc);
+    push_symbols(&mut records, change)?;
     let mut database = empty(alloc);
-    fill(alloc, &mut database, records)?;
+    fill(alloc, &mut database, change, records)?;
     Ok(database)
 }
 
@@ -89,9 +145,14 @@ pub fn module_of_symbols(alloc: Global, name: &[u8], records: Vec<u8>) -> Result
         c13: Vec::new(alloc),
         has_stream: true,
     };
+    set_names(&mut module, name)?;
+    Ok(module)
+}
+
+fn set_names(module: &mut Module, name: &[u8]) -> Result<()> {
     module.name.extend_from_slice(name)?;
     module.object_name.extend_from_slice(name)?;
-    Ok(module)
+    Ok(())
 }
 
 /// A database without sections, modules and names.
@@ -135,39 +196,41 @@ fn debug_information(alloc: Global) -> DebugInformation {
     }
 }
 
-/// Adds what file F0 has, with these symbol records.
-fn fill(alloc: Global, database: &mut ProgramDatabase, records: Vec<u8>) -> Result<()> {
-    database
-        .modules
-        .push(module_of_symbols(alloc, b"a.obj", records)?)?;
-    database.sections.push(TEXT)?;
-    database.debug.contributions.push(CODE)?;
-    for place in 0..11 {
-        database
-            .debug
-            .optional_header
-            .push(if place == 5 { 6 } else { NO_STREAM })?;
-    }
+/// Adds what the file has, with these symbol records.
+fn fill(
+    alloc: Global,
+    database: &mut ProgramDatabase,
+    change: Change,
+    records: Vec<u8>,
+) -> Result<()> {
+    let module = module_of_symbols(alloc, b"a.obj", records)?;
+    database.modules.push(module)?;
     database.names = Some(Vec::from_slice(alloc, b"\0a.c\0")?);
-    Ok(())
+    fill_addresses(database)?;
+    change.apply(alloc, database)
+}
+
+/// Adds the section, the contribution and the optional header.
+fn fill_addresses(database: &mut ProgramDatabase) -> Result<()> {
+    database.sections.push(TEXT)?;
+    let debug = &mut database.debug;
+    debug.contributions.push(CODE)?;
+    debug.optional_header.resize(11, NO_STREAM)?;
+    set_number(debug, 5, 6)
 }
 
 /// The procedure `f` of this type, the records that lie in it, and its end. The first record in it lies at 48 of the
 /// module's stream.
 pub fn symbols_of_f(alloc: Global, type_index: u32, inner: Vec<u8>) -> Result<Vec<u8>> {
     let mut records = Vec::new(alloc);
-    push_f(&mut records, type_index, b"f", inner.as_slice())?;
+    push_f(&mut records, type_index, b"f")?;
+    records.extend_from_slice(inner.as_slice())?;
+    push_end(&mut records, 0, SCOPE_END)?;
     Ok(records)
 }
 
-/// File F0 with another name of its procedure.
-pub fn with_name(alloc: Global, name: &[u8]) -> Result<ProgramDatabase> {
-    let mut records = Vec::new(alloc);
-    push_f(&mut records, 0, name, &[])?;
-    file_of_symbols(alloc, records)
-}
-
-fn push_f(records: &mut Vec<u8>, type_index: u32, name: &[u8], inner: &[u8]) -> Result<()> {
+/// Appends the record of `f`, of this type and name.
+fn push_f(records: &mut Vec<u8>, type_index: u32, name: &[u8]) -> Result<()> {
     let procedure = Procedure {
         parent: 0,
         offset: 0x10,
@@ -175,88 +238,119 @@ fn push_f(records: &mut Vec<u8>, type_index: u32, name: &[u8], inner: &[u8]) -> 
         type_index,
         name,
     };
+    procedure.push(records)
+}
+
+/// Appends a procedure `g` in `f`, at 0x18 of length 8.
+fn push_g(records: &mut Vec<u8>) -> Result<()> {
+    let start = records.len();
+    let procedure = Procedure {
+        parent: FIRST_PLACE,
+        offset: 0x18,
+        length: 8,
+        type_index: 0,
+        name: b"g",
+    };
     procedure.push(records)?;
-    records.extend_from_slice(inner)?;
-    push_end(records, FIRST, 0, SCOPE_END)
+    push_end(records, start, SCOPE_END)
 }
 
-/// File F0 cut a hundred bytes after its debug information begins, which lies behind all else.
-/// More than 4096 bytes are left.
-pub fn cut_dbi(alloc: Global) -> Result<Vec<u8>> {
-    let mut database = with_long_stream(alloc)?;
-    database.order = PageOrder::StreamLast(DEBUG_STREAM);
-    let mut file = database.bytes(alloc)?;
-    file.truncate(file.len().saturating_sub(0x100 - 100));
-    Ok(file)
+/// Appends a scope with nothing in it.
+fn push_scope(records: &mut Vec<u8>, kind: u16, payload: &[u8], end: u16) -> Result<()> {
+    let start = records.len();
+    push_record(records, kind, payload)?;
+    push_end(records, start, end)
 }
 
-/// File F0 with a further stream of 4096 zeros.
-fn with_long_stream(alloc: Global) -> Result<ProgramDatabase> {
-    let mut database = file_f0(alloc)?;
-    let zeros = vec![in alloc; 0u8; 4096]?;
-    database.further_streams.push(Some(zeros))?;
-    Ok(database)
-}
-
-/// File F0 with all that a reader needs past its first 4096 bytes: its streams' pages lie in descending order, behind a
-/// further stream of 4096 zeros.
-pub fn with_long_stream_first(alloc: Global) -> Result<ProgramDatabase> {
-    let mut database = with_long_stream(alloc)?;
-    database.order = PageOrder::StreamsReversed;
-    Ok(database)
-}
-
-/// File F0 with its streams' pages in descending order. The debug information has three pages.
-pub fn with_permuted_pages(alloc: Global) -> Result<ProgramDatabase> {
-    let mut database = file_f0(alloc)?;
-    if let Some(module) = database.modules.first_mut() {
-        module.object_name.resize(400, b'x')?;
+/// Appends the symbols of the file's module to an empty list.
+fn push_symbols(records: &mut Vec<u8>, change: Change) -> Result<()> {
+    match change {
+        Change::Name(name) => push_f(records, 0, name)?,
+        Change::TypedProcedure(type_index) => push_f(records, type_index, b"f")?,
+        _ => push_f(records, 0, b"f")?,
     }
-    database.order = PageOrder::StreamsReversed;
-    Ok(database)
-}
-
-/// File F0 with a directory of three pages in descending order: a hundred and twenty further
-/// streams are absent or empty in turn.
-pub fn with_directory_reordered(alloc: Global) -> Result<ProgramDatabase> {
-    let mut database = file_f0(alloc)?;
-    for _ in 0..60 {
-        database.further_streams.push(None)?;
-        database.further_streams.push(Some(Vec::new(alloc)))?;
+    match change {
+        Change::NestedProcedure => push_g(records)?,
+        Change::InlineSite => push_scope(records, INLINE_SITE, SITE, INLINE_SITE_END)?,
+        _ => {}
     }
-    database.order = PageOrder::DirectoryReversed;
-    Ok(database)
-}
-
-/// File F0 with a second contribution of its module, at 0x80 of size 0x10.
-pub fn with_two_contributions(alloc: Global) -> Result<ProgramDatabase> {
-    let mut database = file_f0(alloc)?;
-    let mut second = CODE;
-    second.offset = 0x80;
-    second.size = 0x10;
-    database.debug.contributions.push(second)?;
-    Ok(database)
-}
-
-/// File F0 whose optional header names a further stream at this place. The stream is empty.
-pub fn with_address_map_number(alloc: Global, place: usize) -> Result<ProgramDatabase> {
-    let mut database = file_f0(alloc)?;
-    set_number(&mut database.debug, place, FURTHER_STREAM)?;
-    database.further_streams.push(Some(Vec::new(alloc)))?;
-    Ok(database)
-}
-
-/// File F whose sections are the same in the image and before its code was moved. Stream 9 maps addresses of the image:
-/// those from 0x2000 on to 0x1010, and those from 0x2008 on to nothing. Stream 10 maps back, from 0x1010 on to 0x2000.
-pub fn with_address_maps(alloc: Global) -> Result<ProgramDatabase> {
-    let mut database = file_f(alloc)?;
-    for (place, stream) in [(3, 9), (4, 10), (10, 6)] {
-        set_number(&mut database.debug, place, stream)?;
+    push_end(records, 0, SCOPE_END)?;
+    match change {
+        Change::Thunk => push_scope(records, THUNK, THUNK_T, SCOPE_END),
+        Change::SeparatedCode => push_scope(records, SEPARATED_CODE, SEPARATED, SCOPE_END),
+        _ => Ok(()),
     }
-    for map in [[0x2000, 0x1010, 0x2008, 0].as_slice(), &[0x1010, 0x2000]] {
-        database.further_streams.push(Some(words(alloc, map)?))?;
+}
+
+impl Change {
+    /// Changes file F0, but for its symbols.
+    fn apply(self, alloc: Global, database: &mut ProgramDatabase) -> Result<()> {
+        match self {
+            Change::LineData | Change::OlderLines | Change::PermutedPages => {
+                self.change_module(database)
+            }
+            Change::PublicSymbol(offset, name) => {
+                push_public(&mut database.symbol_records, offset, name)
+            }
+            Change::SecondContribution => {
+                database.debug.contributions.push(SECOND)?;
+                Ok(())
+            }
+            Change::DamagedModule => push_second_module(alloc, &mut database.modules, true),
+            Change::MissingModule => push_second_module(alloc, &mut database.modules, false),
+            Change::FurtherStream(place) => {
+                set_number(&mut database.debug, place, FURTHER_STREAM)?;
+                database.further_streams.push(Some(Vec::new(alloc)))?;
+                Ok(())
+            }
+            Change::DirectoryReordered | Change::Long => self.add_streams(alloc, database),
+            _ => Ok(()),
+        }
     }
-    Ok(database)
+
+    fn change_module(self, database: &mut ProgramDatabase) -> Result<()> {
+        let Some(module) = database.modules.first_mut() else {
+            return Ok(());
+        };
+        match self {
+            Change::LineData => push_u32(&mut module.c13, &LINE_DATA_OF_F),
+            Change::OlderLines => push_u32(&mut module.c11, &[0]),
+            _ => {
+                module.object_name.resize(400, b'x')?;
+                database.order = PageOrder::StreamsReversed;
+                Ok(())
+            }
+        }
+    }
+
+    fn add_streams(self, alloc: Global, database: &mut ProgramDatabase) -> Result<()> {
+        if let Change::Long = self {
+            database.order = PageOrder::StreamsReversed;
+            return push_zeros(alloc, &mut database.further_streams);
+        }
+        for _ in 0..60 {
+            database.further_streams.push(None)?;
+            database.further_streams.push(Some(Vec::new(alloc)))?;
+        }
+        database.order = PageOrder::DirectoryReversed;
+        Ok(())
+    }
+}
+
+/// Adds a stream of 4096 zeros.
+fn push_zeros(alloc: Global, streams: &mut Vec<Option<Vec<u8>>>) -> Result<()> {
+    streams.push(Some(vec![in alloc; 0u8; 4096]?))?;
+    Ok(())
+}
+
+/// Adds a module of four bytes of symbols that can't be read, or, without a stream, are not there.
+fn push_second_module(alloc: Global, modules: &mut Vec<Module>, has_stream: bool) -> Result<()> {
+    modules.push(module_of_symbols(alloc, b"b.obj", Vec::new(alloc))?)?;
+    if let Some(module) = modules.last_mut() {
+        module.symbols = ModuleSymbols::Bytes(vec![in alloc; 0xffu8; 4]?);
+        module.has_stream = has_stream;
+    }
+    Ok(())
 }
 
 /// Names a stream at a place of the optional header.
@@ -268,90 +362,44 @@ fn set_number(debug: &mut DebugInformation, place: usize, stream: u16) -> Result
     Ok(())
 }
 
-/// File F0 with this public symbol of a function in section 1.
-pub fn with_public_symbol(alloc: Global, offset: u32, name: &[u8]) -> Result<ProgramDatabase> {
-    let mut database = file_f0(alloc)?;
-    push_public(alloc, &mut database.symbol_records, offset, name)?;
-    Ok(database)
-}
-
 /// Appends the record of a public symbol of a function in section 1.
-pub fn push_public(alloc: Global, records: &mut Vec<u8>, offset: u32, name: &[u8]) -> Result<()> {
-    let mut payload = words(alloc, &[2, offset])?;
-    push_u16(&mut payload, &[1])?;
-    push_text(&mut payload, name)?;
-    push_record(records, PUBLIC, payload.as_slice())
+pub fn push_public(records: &mut Vec<u8>, offset: u32, name: &[u8]) -> Result<()> {
+    let start = begin_record(records, PUBLIC)?;
+    push_u32(records, &[2, offset])?;
+    push_u16(records, &[1])?;
+    push_text(records, name)?;
+    end_record(records, start)
 }
 
-/// File F0 with a thunk `t` behind `f`, at 0x34 of length 6.
-pub fn with_thunk(alloc: Global) -> Result<ProgramDatabase> {
-    with_scope_behind_f(alloc, THUNK, THUNK_T)
+/// File F0 cut a hundred bytes after its debug information begins, which lies behind all else, a further stream of 4096
+/// zeros too. More than 4096 bytes are left.
+pub fn cut_dbi(alloc: Global) -> Result<Vec<u8>> {
+    let mut database = file_with(alloc, Change::Long)?;
+    database.order = PageOrder::StreamLast(DEBUG_STREAM);
+    let mut file = database.bytes(alloc)?;
+    file.truncate(file.len().saturating_sub(0x100 - 100));
+    Ok(file)
 }
 
-/// File F0 with a scope behind `f` that this record opens. Its end is written over bytes 4 to 7 of the payload.
-pub fn with_scope_behind_f(alloc: Global, kind: u16, payload: &[u8]) -> Result<ProgramDatabase> {
-    let mut records = symbols_of_f(alloc, 0, Vec::new(alloc))?;
-    push_scope(&mut records, FIRST, kind, payload, SCOPE_END)?;
-    file_of_symbols(alloc, records)
-}
-
-/// Appends a scope with nothing in it, where the first record lies at `first`.
-fn push_scope(
-    records: &mut Vec<u8>,
-    first: u32,
-    kind: u16,
-    payload: &[u8],
-    end: u16,
-) -> Result<()> {
-    let start = records.len();
-    push_record(records, kind, payload)?;
-    push_end(records, first, start, end)
-}
-
-/// File F0 with an inline site in `f`, of the inlinee 0x1000 and without annotations.
-pub fn with_inline_site(alloc: Global) -> Result<ProgramDatabase> {
-    let mut inner = Vec::new(alloc);
-    let payload = b"\x04\0\0\0\0\0\0\0\0\x10\0\0";
-    push_scope(&mut inner, INNER, INLINE_SITE, payload, INLINE_SITE_END)?;
-    file_of_symbols(alloc, symbols_of_f(alloc, 0, inner)?)
-}
-
-/// File F0 with `f` of this type.
-pub fn with_typed_procedure(alloc: Global, type_index: u32) -> Result<ProgramDatabase> {
-    let records = symbols_of_f(alloc, type_index, Vec::new(alloc))?;
-    file_of_symbols(alloc, records)
-}
-
-/// File F0 with a procedure `g` in `f`, at 0x18 of length 8.
-pub fn with_nested_procedure(alloc: Global) -> Result<ProgramDatabase> {
-    let mut inner = Vec::new(alloc);
-    let procedure = Procedure {
-        parent: FIRST,
-        offset: 0x18,
-        length: 8,
-        type_index: 0,
-        name: b"g",
-    };
-    procedure.push(&mut inner)?;
-    push_end(&mut inner, INNER, 0, SCOPE_END)?;
-    file_of_symbols(alloc, symbols_of_f(alloc, 0, inner)?)
-}
-
-/// File F0 with a second module of four bytes of symbols that can't be read, or, without a stream, are not there.
-pub fn with_second_module(alloc: Global, has_stream: bool) -> Result<ProgramDatabase> {
-    let mut database = file_f0(alloc)?;
-    let mut module = module_of_symbols(alloc, b"b.obj", Vec::new(alloc))?;
-    module.symbols = ModuleSymbols::Bytes(vec![in alloc; 0xffu8; 4]?);
-    module.has_stream = has_stream;
-    database.modules.push(module)?;
+/// File F whose sections are the same in the image and before its code was moved. Stream 9 maps addresses of the image:
+/// those from 0x2000 on to 0x1010, and those from 0x2008 on to nothing. Stream 10 maps back, from 0x1010 on to 0x2000.
+pub fn with_address_maps(alloc: Global) -> Result<ProgramDatabase> {
+    let mut database = file_f(alloc)?;
+    add_maps(alloc, &mut database)?;
     Ok(database)
 }
 
-/// File F0 with four bytes of the older line data.
-pub fn with_c11(alloc: Global) -> Result<ProgramDatabase> {
-    let mut database = file_f0(alloc)?;
-    if let Some(module) = database.modules.first_mut() {
-        push_u32(&mut module.c11, &[0])?;
+fn add_maps(alloc: Global, database: &mut ProgramDatabase) -> Result<()> {
+    for (place, stream) in [(3, 9), (4, 10), (10, 6)] {
+        set_number(&mut database.debug, place, stream)?;
     }
-    Ok(database)
+    let streams = &mut database.further_streams;
+    push_words(alloc, streams, &[0x2000, 0x1010, 0x2008, 0])?;
+    push_words(alloc, streams, &[0x1010, 0x2000])
+}
+
+/// Adds a stream of numbers of four bytes.
+fn push_words(alloc: Global, streams: &mut Vec<Option<Vec<u8>>>, values: &[u32]) -> Result<()> {
+    streams.push(Some(words(alloc, values)?))?;
+    Ok(())
 }

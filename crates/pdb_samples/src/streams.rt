@@ -1,49 +1,27 @@
-ghost use Rattle.std.specs.Prelude.{◌≤◌, length, IfOk};
+ghost use Rattle.std.specs.Prelude.{◌≤◌, length};
 
 use std::io::{self, ErrorKind, Read, Write};
 
-/// Gives its bytes one at a time.
+/// Gives its bytes in pieces, and then its end at each call.
 #[derive(Drop)]
-pub struct OneByteReader<'t> {
+pub struct PieceReader<'t> {
     pub bytes: &'t [u8],
-}
-
-/// Gives its bytes in pieces, and then fails at each call.
-#[derive(Drop)]
-pub struct FailingReader<'t> {
-    pub bytes: &'t [u8],
-    /// The most bytes that a call gives; at 0 it is as if there were no bytes.
+    /// The most bytes that a call gives.
     pub piece: usize,
-    pub kind: ErrorKind,
+    /// The failure at its end, if it fails there.
+    pub fault: Option<ErrorKind>,
 }
 
-/// Never ends: gives its text over and over.
+/// Takes bytes in pieces, so many in all, and then none.
 #[derive(Drop)]
-pub struct EndlessReader<'t> {
-    pub text: &'t [u8],
-    /// What is left of the text before it begins again.
-    pub rest: &'t [u8],
-}
-
-/// Takes one byte at a call.
-#[derive(Drop)]
-pub struct OneByteWriter {
+pub struct PieceWriter {
     pub written: Vec<u8>,
-}
-
-/// Takes so many bytes in all, and then fails at each call.
-#[derive(Drop)]
-pub struct FailingWriter {
-    pub written: Vec<u8>,
+    /// The most bytes that a call takes.
+    pub piece: usize,
+    /// How many bytes it still takes.
     pub room: usize,
-    pub kind: ErrorKind,
-}
-
-/// Takes so many bytes in all, and then takes none, without a failure.
-#[derive(Drop)]
-pub struct StallingWriter {
-    pub written: Vec<u8>,
-    pub room: usize,
+    /// The failure once there is no room, if it fails then.
+    pub fault: Option<ErrorKind>,
 }
 
 /// Moves at most `most` bytes from the front of `from` into `to`, and says how many.
@@ -57,72 +35,26 @@ fn give(from: &mut &[u8], to: &mut [u8], most: usize) -> usize
     count
 }
 
-/// Appends as many of the bytes as there is room for, and says how many.
-fn take(written: &mut Vec<u8>, room: &mut usize, bytes: &[u8]) -> io::Result<usize>
-    ensures { IfOk result (λ count. count ≤ length bytes.now) }
-{
-    let count = bytes.len().min(*room);
-    written.extend_from_slice(&bytes[..count])?;
-    *room -= count;
-    Ok(count)
-}
-
-impl Read for OneByteReader<'_> {
+impl Read for PieceReader<'_> {
     fn read(&mut self, buf: &mut [u8]) -> io::Result<usize> {
-        Ok(give(&mut self.bytes, buf, 1))
-    }
-}
-
-impl Read for FailingReader<'_> {
-    fn read(&mut self, buf: &mut [u8]) -> io::Result<usize> {
-        if self.bytes.is_empty() || self.piece == 0 {
-            return Err(io::Error::from(self.kind));
+        match self.fault {
+            Some(kind) if self.bytes.is_empty() => Err(io::Error::from(kind)),
+            _ => Ok(give(&mut self.bytes, buf, self.piece)),
         }
-        Ok(give(&mut self.bytes, buf, self.piece))
     }
 }
 
-impl<'t> EndlessReader<'t> {
-    pub fn new(text: &'t [u8]) -> Self {
-        EndlessReader { text, rest: text }
-    }
-}
-
-impl Read for EndlessReader<'_> {
-    fn read(&mut self, buf: &mut [u8]) -> io::Result<usize> {
-        if self.rest.is_empty() {
-            self.rest = self.text;
+impl Write for PieceWriter {
+    fn write(&mut self, buf: &[u8]) -> io::Result<usize> {
+        match self.fault {
+            Some(kind) if self.room == 0 => Err(io::Error::from(kind)),
+            _ => {
+                let count = buf.len().min(self.piece).min(self.room);
+                self.written.extend_from_slice(&buf[..count])?;
+                self.room -= count;
+                Ok(count)
+            }
         }
-        Ok(give(&mut self.rest, buf, usize::MAX))
-    }
-}
-
-impl Write for OneByteWriter {
-    fn write(&mut self, buf: &[u8]) -> io::Result<usize> {
-        take(&mut self.written, &mut 1, buf)
-    }
-
-    fn flush(&mut self) -> io::Result<()> {
-        Ok(())
-    }
-}
-
-impl Write for FailingWriter {
-    fn write(&mut self, buf: &[u8]) -> io::Result<usize> {
-        if self.room == 0 {
-            return Err(io::Error::from(self.kind));
-        }
-        take(&mut self.written, &mut self.room, buf)
-    }
-
-    fn flush(&mut self) -> io::Result<()> {
-        Ok(())
-    }
-}
-
-impl Write for StallingWriter {
-    fn write(&mut self, buf: &[u8]) -> io::Result<usize> {
-        take(&mut self.written, &mut self.room, buf)
     }
 
     fn flush(&mut self) -> io::Result<()> {

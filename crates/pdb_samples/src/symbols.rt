@@ -1,9 +1,11 @@
 use crate::bytes::{overwrite, pad_to, push_text, push_u16, push_u32};
 use crate::error::Result;
-use std::alloc::Global;
 
 /// The kind of a procedure that is known to all modules.
 const GLOBAL_PROCEDURE: u16 = 0x1110;
+
+/// The place of a module's first record in its stream, behind the signature.
+pub(crate) const FIRST_PLACE: u32 = 4;
 
 /// The place of the end in a record that opens a scope: behind its length, its kind and its parent.
 const END: usize = 8;
@@ -38,9 +40,9 @@ pub fn push_record(records: &mut Vec<u8>, kind: u16, payload: &[u8]) -> Result<(
     end_record(records, start)
 }
 
-/// Appends the end of the scope that the record at `start` opens, where the first record lies at `first` of the stream.
-pub fn push_end(records: &mut Vec<u8>, first: u32, start: usize, kind: u16) -> Result<()> {
-    let place = first.saturating_add(u32::try_from(records.len())?);
+/// Appends the end of the scope that the record at `start` of the records opens.
+pub fn push_end(records: &mut Vec<u8>, start: usize, kind: u16) -> Result<()> {
+    let place = FIRST_PLACE.saturating_add(u32::try_from(records.len())?);
     overwrite(
         records.as_mut_slice(),
         start.saturating_add(END),
@@ -50,14 +52,14 @@ pub fn push_end(records: &mut Vec<u8>, first: u32, start: usize, kind: u16) -> R
 }
 
 /// Appends a length that isn't known yet, and a kind. Returns where the record begins.
-fn begin_record(records: &mut Vec<u8>, kind: u16) -> Result<usize> {
+pub(crate) fn begin_record(records: &mut Vec<u8>, kind: u16) -> Result<usize> {
     let start = records.len();
     push_u16(records, &[0, kind])?;
     Ok(start)
 }
 
 /// Fills up the last record, which begins at `start`, and writes its length.
-fn end_record(records: &mut Vec<u8>, start: usize) -> Result<()> {
+pub(crate) fn end_record(records: &mut Vec<u8>, start: usize) -> Result<()> {
     pad_to(records, 4)?;
     let length = records.len().saturating_sub(start).saturating_sub(2);
     let length = u16::try_from(length)?;

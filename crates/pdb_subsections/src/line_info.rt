@@ -29,5 +29,6 @@ pub struct LineInfo {
     pub column_start: Option<u32>,
     /// The last column, where one is given.
     pub column_end: Option<u32>,
+    /// What the code was made of.
     pub kind: LineInfoKind,
 }

@@ -29,6 +29,7 @@ pub const CROSS_MODULE_EXPORTS: u32 = 0xf8;
 pub struct DebugSubsection<'a> {
     /// What it holds; with bit 31 set it is to be passed over.
     pub kind: u32,
+    /// Its bytes, behind its kind and its length.
     pub bytes: &'a [u8],
 }
 

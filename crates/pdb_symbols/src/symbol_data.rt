@@ -8,14 +8,21 @@ use pdb_indices::{SymbolIndex, TypeIndex};
 /// What a symbol says, in the forms that are read.
 #[derive(Clone, Copy, Debug)]
 pub enum SymbolData<'t> {
+    /// A name that other modules see.
     Public(PublicSymbol<'t>),
+    /// A function's code.
     Procedure(ProcedureSymbol<'t>),
+    /// A piece of code that leads to another.
     Thunk(ThunkSymbol<'t>),
+    /// Code of a procedure that lies apart from it.
     SeparatedCode(SeparatedCodeSymbol),
+    /// An inlined call.
     InlineSite(InlineSiteSymbol<'t>),
     /// The end of a symbol that others lie in.
     ScopeEnd,
+    /// The end of a procedure.
     ProcedureEnd,
+    /// The end of an inlined call.
     InlineSiteEnd,
 }
 
@@ -32,6 +39,7 @@ pub struct PublicSymbol<'t> {
     pub msil: bool,
     /// Where it lies.
     pub offset: PdbInternalSectionOffset,
+    /// Its name as it is stored.
     pub name: RawString<'t>,
 }
 
@@ -60,6 +68,7 @@ pub struct ProcedureSymbol<'t> {
     pub offset: PdbInternalSectionOffset,
     /// Its flags as they are stored.
     pub flags: u8,
+    /// Its name as it is stored.
     pub name: RawString<'t>,
 }
 
@@ -78,6 +87,7 @@ pub struct ThunkSymbol<'t> {
     pub len: u16,
     /// What it leads to, as it is stored.
     pub kind: u8,
+    /// Its name as it is stored.
     pub name: RawString<'t>,
 }
 

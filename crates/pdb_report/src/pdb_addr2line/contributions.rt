@@ -1,16 +1,16 @@
 //! Which module holds which part of a section.
 
-ghost use Rattle.std.specs.Prelude.{◌≡◌, IfOk};
+ghost use Rattle.std.specs.Prelude.{◌≡◌, IfOk, option_map};
 ghost use Rattle.pdb_container.specs.Fault.{Gives};
 ghost use Rattle.pdb_container.specs.Listing.{whole};
 ghost use Rattle.pdb_report.specs.Contributions.{is_executable as is_executable_at, is_kept as is_kept_entry, span_of as span_of_entry, spans_of, held_of, holds as holds_place, holder as holder_of};
-ghost use Rattle.pdb_report.specs.Faults.{Loads};
+ghost use Rattle.pdb_report.specs.Faults.{GivesInContext};
 ghost use Rattle.pdb_report.specs.Loading.{behind};
 ghost use Rattle.pdb_symbols_modules.specs.Contributions.{contributions_of};
 
-use crate::fault::LoadFault;
-use pdb_addresses::{ImageSectionHeader, PdbInternalSectionOffset};
+use crate::pdb_addr2line::Error;
 use pdb_container::{FallibleIterator, Result as PdbResult};
+use pdb_addresses::{ImageSectionHeader, PdbInternalSectionOffset};
 use pdb_symbols_modules::{DBISectionContribution, DBISectionContributionIter, DebugInformation};
 use std::alloc::{AllocError, Global};
 
@@ -83,21 +83,17 @@ fn read_contributions(
     collect_contributions(alloc, iterator)
 }
 
-/// What the modules hold, by the contributions of stream 3. `UnexpectedEof`, `UnimplementedFeature`; `NotYet` for more
-/// than one that counts.
-#[tactic(auto, using(crate::proofs::Lifting::load_fails), unfolding(crate::specs::Contributions::held_of))]
+/// What the modules hold, by the contributions of stream 3. `UnexpectedEof`, `UnimplementedFeature`.
+#[tactic(auto, using(crate::proofs::Lifting::context_fails), unfolding(crate::specs::Contributions::held_of))]
 pub fn held_contributions(
     alloc: Global,
     sections: &[ImageSectionHeader],
     debug_information: &DebugInformation<'_>,
-) -> Result<Vec<ModuleSectionContribution>, LoadFault>
-    ensures { Loads (λ v. v.items) result (held_of sections.now debug_information.now.contributions) }
+) -> Result<Vec<ModuleSectionContribution>, Error>
+    ensures { GivesInContext (λ v. v.items) result (held_of sections.now debug_information.now.contributions) }
 {
     let entries = read_contributions(alloc, debug_information)?;
     let spans = kept_spans(alloc, sections, entries.as_slice())?;
-    if spans.len() > 1 {
-        return Err(LoadFault::NotYet);
-    }
     Ok(spans)
 }
 
@@ -121,12 +117,12 @@ fn holds(place: PdbInternalSectionOffset, span: ModuleSectionContribution) -> bo
     span.section == place.section && span.start <= place.offset && place.offset < span.end
 }
 
-/// The number of the module that holds the place, counted from 0.
-pub fn holder(spans: &[ModuleSectionContribution], place: PdbInternalSectionOffset) -> Option<u16>
-    ensures { result ≡ holder_of spans.now place }
+/// By what a module holds the place.
+pub fn holder(
+    spans: &[ModuleSectionContribution],
+    place: PdbInternalSectionOffset,
+) -> Option<&ModuleSectionContribution>
+    ensures { option_map (λ span. span.now) result ≡ holder_of spans.now place }
 {
-    match spans.iter().find(|span| holds(place, **span)) {
-        None => None,
-        Some(span) => Some(span.module),
-    }
+    spans.iter().find(|span| holds(place, **span))
 }

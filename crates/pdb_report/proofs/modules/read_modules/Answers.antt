@@ -1,20 +1,25 @@
-use Rattle.std.proofs.Common.{◌∙◌}
-use Rattle.pdb_symbols_modules.specs.Streams.{streams}
-use Rattle.pdb_report.proofs.ModuleSteps.{modules_more, modules_all}
+use Rattle.std.proofs.Common.{◌∙◌, sym, take}
+use Rattle.std.specs.Prelude.{IsSome}
+use Rattle.std.specs.BTreeMap.{get}
+use Rattle.std.specs.Ordering.{nat_cmp}
+use Rattle.std.proofs.lemmas.List.{take_all}
+use Rattle.std.proofs.lemmas.List.Elements.{All-more, All-same, All-weaker}
+use Rattle.pdb_report.proofs.ModuleSteps.{kept_is}
 use Rattle.pdb_report.proofs.modules.read_modules.Goals as goal
 
-pub loop-entry-preserved : goal.loop-entry-preserved
-loop-entry-preserved c =
-    let now = c.loop-entry.invariant in
-    let read = rw now.same at c.in_ok-procedures.ensures.exact in
-    let more = modules_more (streams c.args.pdb.now.items) c.args.entries.now c.loop-entry.entry-index c.entry-item.result c.loop-entry.modules.items c.in_ok-procedures.procedures c.loop-entry-test.true c.entry-item.is
-    read now.so_far now.plain in
+pub loop-contribution-preserved : goal.loop-contribution-preserved
+loop-contribution-preserved c =
+    let now = c.loop-contribution.invariant in
     record {
-      same = c.read_module.ensures.same ∙ now.same;
-      so_far = c.in_ok-push.ensures.items ∙ more.0;
-      plain = more.1;
+      same = c.keep.ensures.same ∙ now.same;
+      right = rw now.same at c.in_ok-keep.ensures.right;
+      there = All-more (λ x. IsSome (get nat_cmp c.keep.new.kept x.«module»)) c.args.contributions.now c.loop-contribution.contribution-index _ c.loop-contribution-test.true
+          (All-weaker _ _ (λ x. c.in_ok-keep.ensures.more x.«module») _ now.there) c.in_ok-keep.ensures.there;
     }
 
-pub returns-clause-exact : goal.returns-clause-exact
-returns-clause-exact c =
-    modules_all (streams c.args.pdb.now.items) c.args.entries.now c.loop-entry.entry-index c.loop-entry.modules.items c.loop-entry-test.false c.loop-entry.invariant.so_far c.loop-entry.invariant.plain
+pub returns-clause-kept : goal.returns-clause-kept
+returns-clause-kept c =
+    let at = c.loop-contribution in
+    λ k d lt. kept_is _ _
+        (All-same (λ x. IsSome (get nat_cmp at.kept x.«module»)) c.args.contributions.now (take at.contribution-index c.args.contributions.now) (sym (take_all at.contribution-index c.args.contributions.now c.loop-contribution-test.false)) at.invariant.there k d lt)
+        (at.invariant.right _)

@@ -1,15 +1,16 @@
-use Rattle.std.proofs.Common.{◌≡◌, take, false}
-use Rattle.std.specs.Prelude.{map}
-use Rattle.std.specs.List.{list_any}
+use Rattle.std.proofs.Common.{◌≡◌, ℕ, take}
+use Rattle.std.specs.Prelude.{IfSome, IsSome}
+use Rattle.std.specs.BTreeMap.{get}
+use Rattle.std.specs.List.{All}
+use Rattle.std.specs.Ordering.{nat_cmp}
 use Rattle.pdb_symbols_modules.specs.Streams.{streams}
-use Rattle.pdb_report.specs.Loading.{has_other_symbols}
-use Rattle.pdb_report.specs.Kept.{module_procedures}
+use Rattle.pdb_report.specs.Kept.{listed_procedures}
 use Rattle.pdb_report.proofs.modules.read_modules.Given as goal
 
--- the procedures of the modules so far, none of which has other symbols
-abbrev pub invariant-loop-entry : goal.invariant-loop-entry
-invariant-loop-entry l = record {
+-- the procedures of the modules so far are kept, and what is kept is right
+abbrev pub invariant-loop-contribution : goal.invariant-loop-contribution
+invariant-loop-contribution l = record {
   same : l.pdb.items ≡ l.fn.pdb.items;
-  so_far : l.modules.items ≡ map (module_procedures (streams l.fn.pdb.items)) (take l.entry-index l.entries);
-  plain : list_any (has_other_symbols (streams l.fn.pdb.items)) (take l.entry-index l.entries) ≡ false;
+  right : (m : ℕ) → IfSome (get nat_cmp l.kept m) (λ own. own ≡ listed_procedures (streams l.fn.pdb.items) l.entries m);
+  there : All (λ c. IsSome (get nat_cmp l.kept c.«module»)) (take l.contribution-index l.contributions);
 }

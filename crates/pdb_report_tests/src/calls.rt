@@ -1,0 +1,134 @@
+//! The public calls, each once in ample memory, and printed faults.
+
+use crate::files::{F0, File, run_over, told};
+use pdb_container::Error as Cause;
+use pdb_report::{Error, LoadFault, RunFault, Symbolizer, Watched, parse_address};
+use pdb_samples::Change;
+use std::alloc::Global;
+use std::io::ErrorKind;
+use std::test::Fail;
+
+/// Whether a file is opened and reported on.
+fn is_answered(alloc: Global) -> Result<bool, Fail> {
+    Symbolizer::open(alloc, F0.made(alloc)?)?;
+    let run = run_over(alloc, F0.made(alloc)?, b"1014\n".as_slice());
+    run.outcome?;
+    Ok(run.report.as_slice() == b"0x00001014\n  f at ??:??\n".as_slice())
+}
+
+/// Whether three bytes are read and written.
+fn are_copied(alloc: Global) -> Result<bool, Fail> {
+    let mut buffer = [0u8; 4];
+    let mut reader = Watched::new(b"abc".as_slice());
+    let mut writer = Watched::new(Vec::with_capacity(alloc, 4)?);
+    let read = reader.read(&mut buffer)?;
+    let written = writer.write(b"abc")?;
+    Ok((read, written, buffer) == (3, 3, *b"abc\0"))
+}
+
+/// Whether the causes of a context are printed.
+fn are_printed(alloc: Global) -> Result<bool, Fail> {
+    let error = Error::PdbError(Cause::StreamNotFound(5));
+    let first = format!(in alloc; "{error}")?;
+    let second = format!(in alloc; "{}", Error::OutOfMemory)?;
+    Ok(first.as_str() == "PDB error: StreamNotFound(5)" && second.as_str() == "Out of memory")
+}
+
+/// Whether each call answers as written.
+fn are_right(alloc: Global) -> Result<[bool; 3], Fail> {
+    Ok([is_answered(alloc)?, are_copied(alloc)?, are_printed(alloc)?])
+}
+
+// The only test that fails where some allocation is refused, and the others ask again.
+#[test]
+fn first_calls_in_ample_memory(rt: HostRuntime) -> Result<(), Fail> {
+    assert_eq!(rt; are_right(rt.alloc())?, [true; 3]);
+    Ok(())
+}
+
+/// Lines, and the addresses that they stand for.
+const ADDRESSES: &[(&[u8], Option<u32>)] = &[
+    (b"1014", Some(0x1014)),
+    (b"0x1014", Some(0x1014)),
+    (b"0X1014\r", Some(0x1014)),
+    (b"deadBEEF", Some(0xdead_beef)),
+    (b"00000000", Some(0)),
+    (b"000000001", None),
+    (b"", None),
+    (b"0x", None),
+    (b"0x0x1", None),
+    (b"1\r\r", None),
+    (b" 1", None),
+    (b"12g4", None),
+];
+
+#[test]
+fn addresses(rt: HostRuntime) {
+    for (line, address) in ADDRESSES {
+        assert_eq!(rt; parse_address(*line), *address, "at {line:?}");
+    }
+}
+
+/// Whether this is told of a fault, and the status is 1.
+fn is_told(alloc: Global, fault: RunFault, text: &str) -> Result<bool, Fail> {
+    let (status, errors) = told(alloc, Err(fault))?;
+    Ok(status == 1 && errors.as_slice() == text.as_bytes())
+}
+
+/// Whether faults are told that no file here has.
+fn are_told(alloc: Global) -> Result<[bool; 3], Fail> {
+    let decreasing = RunFault::Load(LoadFault::AddressTableDecreases);
+    Ok([
+        is_told(alloc, decreasing, "fault: AddressTableDecreases\n")?,
+        is_told(
+            alloc,
+            RunFault::Read(ErrorKind::BrokenPipe),
+            "fault: Read(BrokenPipe)\n",
+        )?,
+        is_told(
+            alloc,
+            RunFault::Write(ErrorKind::WriteZero),
+            "fault: Write(WriteZero)\n",
+        )?,
+    ])
+}
+
+#[test]
+fn told_faults(rt: HostRuntime) -> Result<(), Fail> {
+    assert_eq!(rt; are_told(rt.alloc())?, [true; 3]);
+    Ok(())
+}
+
+/// The header, the debug information's header, the symbols and the line data of file F, where they lie.
+const PARTS: &[(usize, &[u8])] = &[
+    (
+        0,
+        b"Microsoft C/C++ MSF 7.00\r\n\x1aDS\0\0\0\0\x01\0\0\0\0\0\0\x09\0\0\0\x44\0\0\0\0\0\0\0\x01\0\0\0",
+    ),
+    (
+        0x500,
+        b"\xff\xff\xff\xff\x77\x09\x31\x01\x01\0\0\0\xff\xff\0\0\xff\xff\0\0\x05\0\0\0\x4c\0\0\0\x20\0\0\0\
+        \0\0\0\0\0\0\0\0\0\0\0\0\0\0\0\0\x16\0\0\0\0\0\0\0\0\0\x64\x86\0\0\0\0",
+    ),
+    (
+        0x800,
+        b"\x04\0\0\0\x2a\0\x10\x11\0\0\0\0\x30\0\0\0\0\0\0\0\x20\0\0\0\0\0\0\0\x20\0\0\0\0\0\0\0\x10\0\0\0\
+        \x01\0\0f\0\0\0\0\x02\0\x06\0",
+    ),
+    (
+        0x834,
+        b"\xf4\0\0\0\x08\0\0\0\x01\0\0\0\0\0\0\0\xf2\0\0\0\x28\0\0\0\x10\0\0\0\x01\0\0\0\x20\0\0\0\0\0\0\0\
+        \x02\0\0\0\x1c\0\0\0\0\0\0\0\x05\0\0\x80\x08\0\0\0\x07\0\0\x80",
+    ),
+];
+
+#[test]
+fn sample_is_as_written_by_hand(rt: HostRuntime) -> Result<(), Fail> {
+    let file = File::With(Change::LineData).bytes(rt.alloc())?;
+    assert_eq!(rt; file.len(), 4096);
+    for (start, part) in PARTS {
+        let rest = file.as_slice().get(*start..).unwrap_or(&[]);
+        assert!(rt; rest.starts_with(*part), "at {start}");
+    }
+    Ok(())
+}
