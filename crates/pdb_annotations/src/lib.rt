@@ -4,8 +4,6 @@
 mod annotation;
 mod annotations;
 mod inline_site;
-#[cfg(test)]
-mod tests;
 
 pub use annotation::BinaryAnnotation;
 pub use annotations::{BinaryAnnotations, BinaryAnnotationsIter};

@@ -4,8 +4,6 @@
 mod exports;
 mod imports;
 pub mod laws;
-#[cfg(test)]
-mod tests;
 
 pub use exports::{CrossModuleExport, CrossModuleExportIter, CrossModuleExports};
 pub use imports::{CrossModuleImports, CrossModuleRef, ModuleRef};

@@ -4,8 +4,6 @@
 mod inlinee;
 mod line_iterator;
 mod origin;
-#[cfg(test)]
-mod tests;
 
 pub use inlinee::{Inlinee, InlineeIterator};
 pub use line_iterator::InlineeLineIterator;

@@ -9,8 +9,6 @@ mod line_program;
 mod mark;
 mod marks;
 mod run;
-#[cfg(test)]
-mod tests;
 
 pub use checksum::{FileChecksum, FileInfo, FileIterator};
 pub use line_iterator::LineIterator;

@@ -3,8 +3,6 @@
 
 mod line_info;
 mod subsection;
-#[cfg(test)]
-mod tests;
 
 pub use line_info::{LineInfo, LineInfoKind};
 pub use subsection::{

@@ -8,8 +8,6 @@ mod symbol;
 mod symbol_data;
 mod symbol_iter;
 mod symbol_table;
-#[cfg(test)]
-mod tests;
 
 pub use pdb_annotations::{BinaryAnnotations, InlineSiteSymbol};
 pub use symbol::Symbol;
