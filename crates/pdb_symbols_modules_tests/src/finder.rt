@@ -13,10 +13,7 @@ use std::test::Fail;
 type Said = (u32, Option<u32>, Result<u16>, Result<u16>);
 
 /// A table of ten types, which are their numbers, and of these bytes behind them. Its header promises sixteen.
-fn ten_types(
-    alloc: Global,
-    tail: &[u8],
-) -> std::result::Result<TypeInformation<'static>, Fail> {
+fn ten_types(alloc: Global, tail: &[u8]) -> std::result::Result<TypeInformation<'static>, Fail> {
     let mut description = file_f0(alloc)?;
     for number in 0..10u16 {
         description.types.push(number, &[])?;
@@ -67,7 +64,11 @@ fn item_finder(rt: HostRuntime) -> std::result::Result<(), Fail> {
             said(0x1007, None, Err(Error::TypeNotIndexed(4104, 4104))),
         ),
         (10, 0x1008, said(0x100f, None, Ok(8))),
-        (10, 0x100a, said(0x100f, None, Err(Error::TypeNotFound(4106)))),
+        (
+            10,
+            0x100a,
+            said(0x100f, None, Err(Error::TypeNotFound(4106))),
+        ),
         (
             10,
             0x1010,

@@ -37,7 +37,11 @@ pub fn ask(alloc: Global, map: &AddressMap<'_>, question: &Question<'_>) -> Resu
 fn section_names(alloc: Global, sections: &[ImageSectionHeader]) -> Result<String> {
     let mut text = String::new(alloc);
     for section in sections {
-        push(alloc, &mut text, &(section.name(), section.characteristics.execute()))?;
+        push(
+            alloc,
+            &mut text,
+            &(section.name(), section.characteristics.execute()),
+        )?;
     }
     Ok(text)
 }

@@ -42,11 +42,7 @@ fn run_file(rt: &(impl Files + Print + AllocGlobal), file: &str) -> Result<u64> 
 }
 
 /// Prints a case that is answered otherwise.
-fn run_case(
-    rt: &(impl Files + Print + AllocGlobal),
-    question: &str,
-    wanted: &str,
-) -> Result<()> {
+fn run_case(rt: &(impl Files + Print + AllocGlobal), question: &str, wanted: &str) -> Result<()> {
     let answer = told(rt, &question_of(question))?;
     if answer.as_str() == wanted {
         return Ok(());
@@ -63,10 +59,7 @@ fn told(rt: &(impl Files + AllocGlobal), question: &Question<'_>) -> Result<Stri
 }
 
 /// The answer to a question.
-fn answer(
-    rt: &(impl Files + AllocGlobal),
-    question: &Question<'_>,
-) -> Result<String> {
+fn answer(rt: &(impl Files + AllocGlobal), question: &Question<'_>) -> Result<String> {
     match question.subject {
         Subject::Number(number) => sums::ask(rt.alloc(), number, question),
         Subject::Bytes(bytes) => {
