@@ -2,6 +2,7 @@ pub mod AddressLemmas
 pub mod Hex
 pub mod Lifting
 pub mod LineLemmas
+pub mod Pieces
 pub mod Pumped
 pub mod Runs
 pub mod Writes

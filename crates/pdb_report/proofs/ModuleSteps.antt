@@ -42,11 +42,11 @@ refused_more test xs i x u lt is passed so_far =
 pub refused_all : {X : Type 0} (test : X → Bool) (xs : List X) (i : ℕ) → length xs ≤ i → list_any test (take i xs) ≡ false → refuse (list_any test xs) NotYet ≡ Ok tt
 refused_all test xs i past so_far = ap (λ b. refuse b NotYet) (sym (ap (list_any test) (take_all i xs past)) ∙ so_far)
 
-any_true : {X : Type 0} (test : X → Bool) (xs : List X) (i : ℕ) (x : X) → i < length xs → x ≡ get_or xs i x → test x ≡ true → list_any test xs ≡ true
-any_true test [] i x lt is h = absurd (omega arith)
-any_true test (y ∷ ys) zero x lt is h = ap (λ b. b || list_any test ys) (ap test (sym is) ∙ h)
-any_true test (y ∷ ys) (suc i) x lt is h =
-    ap (λ b. test y || b) (any_true test ys i x (omega arith) is h) ∙ elim (test y) as (λ b. (b || true) ≡ true) [ true ↦ refl | false ↦ refl ]
+any_at : {X : Type 0} (test : X → Bool) (xs : List X) (i : ℕ) (d : X) → i < length xs → test (get_or xs i d) ≡ true → list_any test xs ≡ true
+any_at test [] i d lt h = absurd (omega arith)
+any_at test (x ∷ xs) zero d lt h = ap (λ b. b || list_any test xs) h
+any_at test (x ∷ xs) (suc i) d lt h =
+    ap (λ b. test x || b) (any_at test xs i d (omega arith) h) ∙ elim (test x) as (λ b. (b || true) ≡ true) [ true ↦ refl | false ↦ refl ]
 
 -- what is refused with a fault is refused by its test
 refused_by : (b : Bool) (f : LoadingFault) → refuse b NotYet ≡ Err f → (b ≡ true) × (refuse true NotYet ≡ Err f)
@@ -60,8 +60,8 @@ refused_alike a b (faults.Pdb contexts.OutOfMemory) more h = h
 refused_alike a b (faults.Pdb (contexts.PdbError errors.OutOfMemory)) more h = h
 refused_alike a b e more h = let by = refused_by a (loading_fault_of e) h in ap (λ t. refuse t NotYet) (more by.0) ∙ by.1
 
-pub refused_fail : {X : Type 0} (test : X → Bool) (xs : List X) (i : ℕ) (x : X) (e : LoadFault) → i < length xs → x ≡ get_or xs i x → Fails e (refuse (test x) NotYet) → Fails e (refuse (list_any test xs) NotYet)
-refused_fail test xs i x e lt is h = refused_alike (test x) (list_any test xs) e (any_true test xs i x lt is) h
+pub refused_fail : {X : Type 0} (test : X → Bool) (xs : List X) (i : ℕ) (d : X) (e : LoadFault) → i < length xs → Fails e (refuse (test (get_or xs i d)) NotYet) → Fails e (refuse (list_any test xs) NotYet)
+refused_fail test xs i d e lt h = refused_alike (test (get_or xs i d)) (list_any test xs) e (any_at test xs i d lt) h
 
 -- ---- the places of all modules
 

@@ -9,4 +9,5 @@ pub mod Loading
 pub mod Procedures
 pub mod RunFaults
 pub mod Seen
+pub mod Told
 pub mod Watched

@@ -200,7 +200,7 @@ fn answer_line<A: Answers, W: Write>(
 ///
 /// # Errors
 /// The kind of that failure.
-fn write_all<W: Write>(writer: &mut Watched<W>, bytes: &[u8]) -> Result<(), ErrorKind>
+pub fn write_all<W: Write>(writer: &mut Watched<W>, bytes: &[u8]) -> Result<(), ErrorKind>
     ensures ok { OnOk result (Writes W.contents writer.old writer.new bytes.now) }
     ensures quiet { OnOk result (IsQuiet writer.old writer.new) }
     ensures fails { IfErr result (λ kind. Fails writer.old writer.new kind) }

@@ -10,15 +10,18 @@ mod finish;
 mod line_start;
 mod loading;
 mod modules;
+mod output;
 mod pdb_addr2line;
 mod pdb_module_data;
 mod report;
 mod symbolizer;
+mod told;
 mod watched;
 
 pub use address::parse_address;
 pub use fault::{LoadFault, RunFault};
 pub use finish::finish_run;
+pub use output::ErrorOutput;
 pub use pdb_addr2line::Error;
 pub use report::run_frames;
 pub use symbolizer::Symbolizer;

@@ -140,7 +140,10 @@ fn check_places(
     ensures exact { Loads (λ _. tt) result (refuse (list_any (has_others_at (streams pdb.old.items)) places.now) NotYet) }
 {
     for place in places {
-        check_place(pdb, alloc, *place)?;
+        match check_place(pdb, alloc, *place) {
+            Ok(()) => {}
+            Err(fault) => return Err(fault),
+        }
     }
     Ok(())
 }
