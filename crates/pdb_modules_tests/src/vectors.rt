@@ -4,7 +4,7 @@ use pdb_container::{Error, FallibleIterator, Result};
 use pdb_container_types::{IdIndex, Local, PdbInternalSectionOffset, SymbolIndex, TypeIndex};
 use pdb_symbols_modules::{
     BinaryAnnotation, BinaryAnnotations, CrossModuleExport, CrossModuleExports, CrossModuleImports,
-    InlineSiteSymbol, InlineeIterator, LineIterator, LineProgram, SymbolIter,
+    InlineSiteSymbol, InlineeIterator, LineProgram, SymbolIter,
 };
 use std::alloc::Global;
 use std::test::Fail;
@@ -23,8 +23,10 @@ const EXPORTS: &[u8] =
 /// Where a row begins, its length and its line.
 type Row = (u32, Option<u32>, u32);
 
-/// The rows of a module's line data.
-pub fn rows_of(alloc: Global, lines: &mut LineIterator<'_>) -> Result<Vec<Row>> {
+/// The rows of these line data.
+fn rows_in(alloc: Global, bytes: &[u8]) -> Result<Vec<Row>> {
+    let program = LineProgram::parse(alloc, bytes)?;
+    let mut lines = program.lines();
     let mut rows = Vec::new(alloc);
     for _ in 0..100 {
         match lines.next()? {
@@ -33,11 +35,6 @@ pub fn rows_of(alloc: Global, lines: &mut LineIterator<'_>) -> Result<Vec<Row>> 
         }
     }
     Ok(rows)
-}
-
-/// The rows of these line data.
-fn rows_in(alloc: Global, bytes: &[u8]) -> Result<Vec<Row>> {
-    rows_of(alloc, &mut LineProgram::parse(alloc, bytes)?.lines())
 }
 
 /// The rows of a call from 1:0x120 with these annotations.

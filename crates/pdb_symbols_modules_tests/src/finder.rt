@@ -2,36 +2,45 @@
 
 ghost use Rattle.std.specs.Prelude.{◌≡◌};
 
+use crate::files::database_of;
 use pdb_container::{Error, FallibleIterator, Result};
 use pdb_container_types::{TypeFinder, TypeIndex, TypeInformation, TypeIter};
-use pdb_samples::file_f0;
-use pdb_symbols_modules::PDB;
+use pdb_samples::{SampleError, push_u32};
 use std::alloc::Global;
 use std::test::Fail;
 
 /// What is known of blocks, the known end, and the kind at an index, asked twice.
 type Said = (u32, Option<u32>, Result<u16>, Result<u16>);
 
-/// A table of ten types, which are their numbers, and of these bytes behind them. Its header promises sixteen.
-fn ten_types(alloc: Global, tail: &[u8]) -> std::result::Result<TypeInformation<'static>, Fail> {
-    let mut description = file_f0(alloc)?;
-    for number in 0..10u16 {
-        description.types.push(number, &[])?;
-    }
-    description.types.records.extend_from_slice(tail)?;
-    description.types.maximum = 0x1010;
-    let bytes = description.bytes(alloc)?;
-    Ok(PDB::open(alloc, bytes)?.type_information(alloc)?)
+/// Ten items, each of which is its number in two bytes.
+const TEN: &[u8] =
+    b"\x02\0\x00\0\x02\0\x01\0\x02\0\x02\0\x02\0\x03\0\x02\0\x04\0\x02\0\x05\0\x02\0\x06\0\x02\0\x07\0\x02\0\x08\0\x02\0\x09\0";
+
+/// A stream of ten types and of these bytes behind them. Its header promises sixteen, from 0x1000 on.
+fn ten_types(alloc: Global, tail: &[u8]) -> std::result::Result<Vec<u8>, SampleError> {
+    let mut stream = Vec::new(alloc);
+    push_u32(&mut stream, &[20_040_203, 56, 0x1000, 0x1010])?;
+    stream.resize(56, 0)?;
+    stream.extend_from_slice(TEN)?;
+    stream.extend_from_slice(tail)?;
+    Ok(stream)
 }
 
-/// Takes so many steps of an iterator, and shows it to the finder behind each.
-fn show(finder: &mut TypeFinder<'_>, iterator: &mut TypeIter<'_>, steps: usize)
+/// The table of that stream.
+fn table(alloc: Global, tail: &[u8]) -> std::result::Result<TypeInformation<'static>, Fail> {
+    let mut database = database_of(alloc, 2, ten_types(alloc, tail)?)?;
+    Ok(database.type_information(alloc)?)
+}
+
+/// Takes so many steps of an iterator, and shows it to the finder behind each; a fault ends that.
+fn show(finder: &mut TypeFinder<'_>, iterator: &mut TypeIter<'_>, steps: usize) -> Result<()>
     requires { iterator.old.table ≡ finder.old.table }
 {
     for _ in 0..steps {
-        let _ = iterator.next();
+        iterator.next()?;
         finder.update(iterator);
     }
+    Ok(())
 }
 
 /// The kind of the item of an index.
@@ -42,10 +51,18 @@ fn kind_at(finder: &TypeFinder<'_>, index: u32) -> Result<u16> {
 /// What a finder says once it was shown so many steps.
 fn asked(alloc: Global, types: &TypeInformation<'_>, steps: usize, index: u32) -> Result<Said> {
     let mut finder = types.finder(alloc)?;
-    show(&mut finder, &mut types.iter(), steps);
-    let end = finder.end_index().map(u32::from);
+    let _ = show(&mut finder, &mut types.iter(), steps);
     let first = kind_at(&finder, index);
-    Ok((finder.max_index().0, end, first, kind_at(&finder, index)))
+    let again = kind_at(&finder, index);
+    Ok((finder.max_index().0, end_of(&finder), first, again))
+}
+
+/// The known end.
+fn end_of(finder: &TypeFinder<'_>) -> Option<u32> {
+    match finder.end_index() {
+        None => None,
+        Some(end) => Some(end.0),
+    }
 }
 
 /// What is said of an index where it is asked twice for the same.
@@ -55,7 +72,7 @@ fn said(last: u32, end: Option<u32>, kind: Result<u16>) -> Said {
 
 #[test]
 fn item_finder(rt: HostRuntime) -> std::result::Result<(), Fail> {
-    let types = ten_types(rt.alloc(), &[])?;
+    let types = table(rt.alloc(), &[])?;
     for (steps, index, wanted) in [
         (0, 0x74, said(0x1007, None, Err(Error::UnexpectedEof))),
         (
@@ -84,7 +101,7 @@ fn item_finder(rt: HostRuntime) -> std::result::Result<(), Fail> {
 
 #[test]
 fn bad_end(rt: HostRuntime) -> std::result::Result<(), Fail> {
-    let types = ten_types(rt.alloc(), &[1, 0])?;
+    let types = table(rt.alloc(), &[1, 0])?;
     for steps in [8, 10, 11, 12] {
         let found = asked(rt.alloc(), &types, steps, 0x100a)?;
         let wanted = said(0x100f, None, Err(Error::TypeTooShort));

@@ -1,7 +1,8 @@
 //! A million names of streams.
 
-use pdb_samples::{Container, PageOrder, SampleError, push_u32};
-use pdb_symbols_modules::{PDB, StreamNames};
+use crate::files::database_of;
+use pdb_samples::{SampleError, push_u32};
+use pdb_symbols_modules::StreamNames;
 use std::alloc::Global;
 use std::test::Fail;
 
@@ -24,19 +25,6 @@ fn information(alloc: Global) -> Result<Vec<u8>, SampleError> {
     Ok(stream)
 }
 
-/// A file of an absent stream and this one.
-fn file(alloc: Global) -> Result<Vec<u8>, SampleError> {
-    let mut streams = Vec::new(alloc);
-    streams.push(None)?;
-    streams.push(Some(information(alloc)?))?;
-    let container = Container {
-        page_size: 0x1000,
-        streams,
-        order: PageOrder::Natural,
-    };
-    container.bytes(alloc)
-}
-
 /// How many names there are, and how many bytes the first and the last have.
 fn said(names: &StreamNames<'_>) -> (usize, Option<usize>, Option<usize>) {
     let first = names.iter().next().map(|entry| entry.name.len());
@@ -47,7 +35,7 @@ fn said(names: &StreamNames<'_>) -> (usize, Option<usize>, Option<usize>) {
 // Where each name were looked for from its own start on, this would take minutes.
 #[test]
 fn many_names_in_linear_time(rt: HostRuntime) -> Result<(), Fail> {
-    let mut database = PDB::open(rt.alloc(), file(rt.alloc())?)?;
+    let mut database = database_of(rt.alloc(), 1, information(rt.alloc())?)?;
     let information = database.pdb_information(rt.alloc())?;
     let names = information.stream_names(rt.alloc())?;
     assert_eq!(rt; said(&names), (1_000_000, Some(3_999_999), Some(3_000_000)));
