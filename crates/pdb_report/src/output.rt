@@ -30,6 +30,7 @@ impl<W: Write> ErrorOutput for Watched<W> {
     ghost use Rattle.pdb_report.specs.Watched.{inner_of, failures_of, last_kind_of};
 
     ghost contents = { λ w. W.contents (inner_of w) };
+
     ghost failures = { λ w. Some (failures_of w, last_kind_of w) };
 
     #[tactic(auto, using(crate::proofs::Pieces::watched_puts))]
@@ -42,6 +43,7 @@ impl<W: Write> ErrorOutput for W {
     ghost use Rattle.std.specs.Prelude.{None};
 
     ghost contents = { λ w. W.contents w };
+
     ghost failures = { λ _. None };
 
     fn put(&mut self, bytes: &[u8]) -> Result<(), ErrorKind> {

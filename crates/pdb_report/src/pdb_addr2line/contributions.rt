@@ -9,8 +9,8 @@ ghost use Rattle.pdb_report.specs.Loading.{behind};
 ghost use Rattle.pdb_symbols_modules.specs.Contributions.{contributions_of};
 
 use crate::pdb_addr2line::Error;
-use pdb_container::{FallibleIterator, Result as PdbResult};
 use pdb_addresses::{ImageSectionHeader, PdbInternalSectionOffset};
+use pdb_container::{FallibleIterator, Result as PdbResult};
 use pdb_symbols_modules::{DBISectionContribution, DBISectionContributionIter, DebugInformation};
 use std::alloc::{AllocError, Global};
 

@@ -21,5 +21,5 @@ pub returns-clause-kept : goal.returns-clause-kept
 returns-clause-kept c =
     let at = c.loop-contribution in
     λ k d lt. kept_is _ _
-        (All-same (λ x. IsSome (get nat_cmp at.kept x.«module»)) c.args.contributions.now (take at.contribution-index c.args.contributions.now) (sym (take_all at.contribution-index c.args.contributions.now c.loop-contribution-test.false)) at.invariant.there k d lt)
-        (at.invariant.right _)
+    (All-same (λ x. IsSome (get nat_cmp at.kept x.«module»)) c.args.contributions.now (take at.contribution-index c.args.contributions.now) (sym (take_all at.contribution-index c.args.contributions.now c.loop-contribution-test.false)) at.invariant.there k d lt)
+    (at.invariant.right _)
