@@ -1,7 +1,7 @@
 -- What the calls of an open database in memory give is what loading goes over, where stream 3 was read.
-use Rattle.std.proofs.Common.{◌≡◌, ◌⊎◌, ℕ, List, Result, Ok, Err, sym, ap, ◌∙◌}
+use Rattle.std.proofs.Common.{◌≡◌, ◌⊎◌, ℕ, List, Result, Ok, Err}
 use Rattle.pdb_container.specs.declared.error.Error.{Error}
-use Rattle.pdb_container.specs.Fault.{Fault, fault_of, IsOutside, HasRisen, Gives, ◌>>=◌}
+use Rattle.pdb_container.specs.Fault.{fault_of, IsOutside, HasRisen, Gives}
 use Rattle.pdb_container.specs.Listing.{whole}
 use Rattle.pdb_addresses.specs.Addresses.{Map}
 use Rattle.pdb_items.specs.Items.{Table}

@@ -1,11 +1,11 @@
 -- The steps of opening a file: where one fails, and what is kept at the end.
-use Rattle.std.proofs.Common.{◌≡◌, ℕ, zero, suc, ◌⊎◌, Bool, true, false, List, [], ◌∷◌, Result, Ok, Err, refl, sym, ap, ◌∙◌}
+use Rattle.std.proofs.Common.{◌≡◌, ℕ, ◌⊎◌, Bool, true, false, List, Result, Ok, Err, refl, sym, ap, ◌∙◌}
 use Rattle.std.specs.Prelude.{Option, None, Some, option_map, slice_get}
 use Rattle.std.specs.BTreeMap.{BTreeMap}
 use Rattle.std.specs.List.{All, list_any}
 use Rattle.pdb_container.specs.declared.error.Error.{Error}
 use Rattle.pdb_container.specs.declared.error.Error.TheVariants as errors
-use Rattle.pdb_container.specs.Fault.{Fault, fault_of, IsOutside, HasRisen, refuse, ◌>>=◌}
+use Rattle.pdb_container.specs.Fault.{fault_of, IsOutside, HasRisen, refuse, ◌>>=◌}
 use Rattle.pdb_report.specs.declared.fault.LoadFault.{LoadFault}
 use Rattle.pdb_report.specs.declared.fault.LoadFault.TheVariants as faults
 use Rattle.pdb_report.specs.declared.pdb_addr2line.Error.TheVariants as contexts

@@ -15,7 +15,7 @@ use Rattle.pdb_symbols.specs.Forms as forms
 use Rattle.pdb_symbols.specs.Forms.{SymbolForm}
 use Rattle.pdb_symbols.specs.Kinds.{is_public, is_procedure, is_thunk, is_separated_code, is_inline_site}
 use Rattle.pdb_symbols.specs.Records.{as_form, end_of, form_of, symbol_form_of}
-use Rattle.pdb_symbols.specs.Symbols.{Symbol, kind_of, payload_of}
+use Rattle.pdb_symbols.specs.Symbols.{Symbol, kind_of}
 use Rattle.pdb_report.specs.Procedures.{Procedure, as_procedure, procedure_of, is_at, place_cmp, has_start, contains, later, over, if_over, is_inside, is_other, end_in, has_inner, has_other, onto_new, with_code, procedures_behind}
 
 -- ---- symbols of other kinds
