@@ -44,7 +44,7 @@ unfolding samples.cut_dbi count_ones first_words behind_header header_in front_i
 cut_dbi = refl
 
 pub no_lines_loads : load_fault (streams file_f0) ≡ None
-unfolding file_f0 count_ones first_words behind_header header_in front_in layout_of directory_of place_in stream_in stream bytes_at page_places c_string_at entries_within listing_within streams header_of dbi_of module_at optional_at section_header_at header_at fitting_header item_header_of table_of symbol_at next_within next symbols_within symbols_from type_index_at index_at optional_index_at place_at name_at procedure_of end_of form_of symbol_form_of signed symbol_bytes_in contribution_at contributions_of held_of symbols_in named symbols_number optional_number shared if_named optional_in module_info debug_information types ids global_symbols_by sections_by original_sections_by map_behind address_map_by unmapped address_tables has_public loaded_behind loaded answerable
+unfolding file_f0 count_ones first_words behind_header header_in front_in layout_of directory_of place_in stream_in stream bytes_at page_places c_string_at entries_within listing_within streams header_of dbi_of module_at optional_at section_header_at header_at fitting_header item_header_of table_of symbol_at next_within next symbols_within symbols_from type_index_at index_at optional_index_at place_at name_at procedure_of end_of form_of symbol_form_of signed symbol_bytes_in contribution_at contributions_of held_of symbols_in named symbols_number optional_number shared if_named optional_in info_in module_info debug_information types ids global_symbols_by sections_by original_sections_by map_behind address_map_by unmapped address_tables has_public loaded_behind loaded answerable
 no_lines_loads = refl
 
 pub no_lines_answers : report (line_text (streams file_f0)) (codes "1014\n") ≡ codes "0x00001014\n  f at ??:??\n"
