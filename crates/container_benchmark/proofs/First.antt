@@ -5,6 +5,7 @@ use Rattle.std.proofs.lemmas.List.{length-append, get_or_append_left, get_or-app
 use Rattle.pdb_container.specs.Container.{stream}
 use Rattle.container_benchmark.specs.Streams.{AreFirst}
 
+-- no streams are the first of a file
 pub first_none : (file : List ℕ) (streams : List (List ℕ)) → streams ≡ [] → AreFirst file 0 streams
 unfolding AreFirst
 first_none file streams e = rw e ((omega arith), λ n lt. absurd (omega arith))
@@ -22,6 +23,7 @@ at_more file n streams one k len before e lt =
       | inr h ↦ let last : k ≡ n = omega arith in rw (at_last streams one n k len last, last) e
     ]
 
+-- one stream more is still the first streams of the file
 pub first_more : (file : List ℕ) (n : ℕ) (streams : List (List ℕ)) (one : List ℕ) → AreFirst file n streams → stream file n None ≡ Ok one → AreFirst file (n + 1) (streams ++ one ∷ [])
 unfolding AreFirst
 first_more file n streams one h e = (omega (arith, h.0, length-append streams (one ∷ [])), λ k lt. at_more file n streams one k h.0 h.1 e lt)

@@ -16,7 +16,8 @@ const PAGE_SIZE: usize = 4096;
 /// How many pages a stream has.
 const STREAM_PAGES: u32 = 256;
 
-/// How many pages lie in one direction: a stream's first from the first to the last, its others from the last to the first.
+/// How many pages lie in one direction: a stream's first from the first to the last, its others from the last to the
+/// first.
 const RUN_PAGES: u32 = 128;
 
 /// The page that lists those of the directory. Before it lie the header and two pages that a reader passes over.

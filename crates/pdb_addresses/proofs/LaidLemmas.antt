@@ -3,22 +3,19 @@ use Rattle.std.proofs.Common.{◌≡◌, ◌≢◌, ℕ, zero, suc, ◌+◌, ◌
 use Rattle.std.specs.Prelude.{Option, None, Some, option_and_then}
 use Rattle.std.proofs.lemmas.Bool.{lt-ltb, le-ltb, le-leb, lt-leb, eq-eqb, ne_eqb, cases_lt, cases_eq}
 use Rattle.pdb_addresses.specs.declared.omap.OMAPRecord.{OMAPRecord}
-use Rattle.pdb_addresses.specs.Laid.{laid_out, with_first, each_for_itself, one_by_one, ArePartedFrom, AreParted}
-use Rattle.pdb_addresses.specs.Omap.{source, number_or, last_number, sent_by}
-use Rattle.pdb_addresses.specs.Ranges.{Run, below, kept, number_for, with_address, runs_by, runs}
-use Rattle.pdb_addresses.proofs.OmapLemmas.{goes, no_first, record_before}
+use Rattle.pdb_addresses.specs.PartedRuns.{laid_out, with_first, each_for_itself, one_by_one, ArePartedFrom, AreParted}
+use Rattle.pdb_addresses.specs.Omap.{source, record_number, last_number, sent_by}
+use Rattle.pdb_addresses.specs.Ranges.{TranslatedRun, below, kept, number_for, with_address, runs_by, runs}
+use Rattle.pdb_addresses.proofs.OmapLemmas.{no_record, goes, no_first, record_before}
 use Rattle.pdb_addresses.proofs.RangeSteps.{along_record}
 use Rattle.pdb_addresses.proofs.RunLemmas.{going}
-
-abbrev no_such : OMAPRecord
-no_such = record { source_address = 0; target_address = 0 }
 
 -- ---- runs of any numbers
 
 some_is_not_none : {X : Type 0} (o : Option ℕ) (n : ℕ) → o ≡ Some n → o ≡ None → X
 some_is_not_none o n e f = absurd cc
 
-one_more : (number : ℕ) (o : Option ℕ) (inner : List Run) → ((r : Run) (others : List Run) (x : ℕ) → inner ≡ r ∷ others → o ≡ Some x → number ≡ r.number → (r.start ≡ x + 1) × (r.start < r.end))
+one_more : (number : ℕ) (o : Option ℕ) (inner : List TranslatedRun) → ((r : TranslatedRun) (others : List TranslatedRun) (x : ℕ) → inner ≡ r ∷ others → o ≡ Some x → number ≡ r.number → (r.start ≡ x + 1) × (r.start < r.end))
     → laid_out (with_address number o inner) ≡ with_first o (laid_out inner)
 one_more number None inner next = refl
 one_more number (Some x) [] next = let e : x + 1 - x ≡ 1 = omega arith in rw e refl
@@ -32,7 +29,7 @@ one_more number (Some x) (r ∷ others) next = elim (cases_eq number r.number) [
       rw (ne_eqb number r.number other, e) refl
 ]
 
-parted_more : (number : ℕ) (o : Option ℕ) (inner : List Run) → AreParted inner → AreParted (with_address number o inner)
+parted_more : (number : ℕ) (o : Option ℕ) (inner : List TranslatedRun) → AreParted inner → AreParted (with_address number o inner)
 parted_more number None inner parted = parted
 parted_more number (Some x) [] parted = tt
 parted_more number (Some x) (r ∷ others) parted = elim (cases_eq number r.number) [
@@ -47,7 +44,7 @@ module _ (number : ℕ → ℕ) (becomes : ℕ → Option ℕ) where
   parted (suc n) a = parted_more (number a) (becomes a) (runs_by number becomes (a + 1) n) (parted n (a + 1))
 
   -- where the first run begins
-  record Head (a : ℕ) (r : Run) : Type 0 where
+  record Head (a : ℕ) (r : TranslatedRun) : Type 0 where
     away : ℕ
     by : number (a + away) ≡ r.number
     first : becomes (a + away) ≡ Some r.start
@@ -59,7 +56,7 @@ module _ (number : ℕ → ℕ) (becomes : ℕ → Option ℕ) where
   GoesOn = (a k x y : ℕ) → becomes a ≡ Some x → number (a + 1 + k) ≡ number a → becomes (a + 1 + k) ≡ Some y → becomes (a + 1) ≡ Some (x + 1)
 
   module _ (on : GoesOn) where
-    next_of : (a x : ℕ) (r : Run) → Head (a + 1) r → becomes a ≡ Some x → number a ≡ r.number → (r.start ≡ x + 1) × (r.start < r.end)
+    next_of : (a x : ℕ) (r : TranslatedRun) → Head (a + 1) r → becomes a ≡ Some x → number a ≡ r.number → (r.start ≡ x + 1) × (r.start < r.end)
     next_of a x r h e same =
         let next : becomes (a + 1) ≡ Some (x + 1) = on a h.away x r.start e (h.by ∙ sym same) h.first in
         let zero_on : a + 1 + 0 ≡ a + 1 = omega arith in
@@ -75,7 +72,7 @@ module _ (number : ℕ → ℕ) (becomes : ℕ → Option ℕ) where
     before_more a away is none zero lt = let at : a + 0 ≡ a = omega arith in ap becomes at ∙ is
     before_more a away is none (suc j) lt = let g : a + suc j ≡ a + 1 + j = omega arith in ap becomes g ∙ none j (omega arith)
 
-    head_step : (a : ℕ) (o : Option ℕ) (inner : List Run) (r : Run) (others : List Run) → becomes a ≡ o → ((s : Run) (more : List Run) → inner ≡ s ∷ more → Head (a + 1) s)
+    head_step : (a : ℕ) (o : Option ℕ) (inner : List TranslatedRun) (r : TranslatedRun) (others : List TranslatedRun) → becomes a ≡ o → ((s : TranslatedRun) (more : List TranslatedRun) → inner ≡ s ∷ more → Head (a + 1) s)
         → with_address (number a) o inner ≡ r ∷ others → Head a r
     head_step a None inner r others is heads e =
         let h = heads r others e in
@@ -104,7 +101,7 @@ module _ (number : ℕ → ℕ) (becomes : ℕ → Option ℕ) where
               subst (Head a) same (record { away = 0; by = ap number at; first = ap becomes at ∙ is; before = λ j lt. absurd (omega arith); some = omega arith })
         ]
 
-    head_of : (n a : ℕ) (r : Run) (others : List Run) → runs_by number becomes a n ≡ r ∷ others → Head a r
+    head_of : (n a : ℕ) (r : TranslatedRun) (others : List TranslatedRun) → runs_by number becomes a n ≡ r ∷ others → Head a r
     unfolding runs_by
     head_of zero a r others e = absurd cc
     head_of (suc n) a r others e = head_step a (becomes a) (runs_by number becomes (a + 1) n) r others refl (head_of n (a + 1)) e
@@ -119,11 +116,11 @@ module _ (number : ℕ → ℕ) (becomes : ℕ → Option ℕ) where
 
 -- ---- the numbers of records, however the sources lie
 
-few : (first m : ℕ) → m ≡ 0 → number_or first m ≡ first
+few : (first m : ℕ) → m ≡ 0 → record_number first m ≡ first
 few first zero e = refl
 few first (suc m) e = absurd (omega arith)
 
-many : (first m : ℕ) → m ≢ 0 → number_or first m ≡ suc m
+many : (first m : ℕ) → m ≢ 0 → record_number first m ≡ suc m
 many first zero some = absurd (some refl)
 many first (suc m) some = refl
 
@@ -196,14 +193,14 @@ goes_on_none a k x y e same f =
 
 -- what an address becomes by the record of a number that isn't 0, and what those behind it become
 kept_by : (records : List OMAPRecord) (a k n : ℕ) → last_number records a ≡ suc n → last_number records (a + k) ≡ suc n
-    → kept (Some records) (a + k) ≡ going (2 ^ 32 - 1) (sent_by a (get_or records n no_such)) k
+    → kept (Some records) (a + k) ≡ going (2 ^ 32 - 1) (sent_by a (get_or records n no_record)) k
 kept_by records a k n at there =
-    let h = number_holds records a n no_such at in
+    let h = number_holds records a n no_record at in
     let back : suc n - 1 ≡ n = omega arith in
-    let by : goes records (a + k) (suc n) ≡ sent_by (a + k) (get_or records n no_such) =
-    subst (λ i. goes records (a + k) (suc n) ≡ sent_by (a + k) (get_or records i no_such)) back (record_before records (a + k) (suc n) no_such (λ z. omega arith) (let p = h.0 in omega arith)) in
+    let by : goes records (a + k) (suc n) ≡ sent_by (a + k) (get_or records n no_record) =
+    subst (λ i. goes records (a + k) (suc n) ≡ sent_by (a + k) (get_or records i no_record)) back (record_before records (a + k) (suc n) no_record (λ z. omega arith) (let p = h.0 in omega arith)) in
     ap (λ i. option_and_then (below (2 ^ 32 - 1)) (goes records (a + k) i)) there
-    ∙ ap (option_and_then (below (2 ^ 32 - 1))) by ∙ along_record (get_or records n no_such) a k h.1
+    ∙ ap (option_and_then (below (2 ^ 32 - 1))) by ∙ along_record (get_or records n no_record) a k h.1
 
 goes_on_some : (records : List OMAPRecord) → GoesOn (number_for (Some records)) (kept (Some records))
 goes_on_some records a k x y e same f =
@@ -213,7 +210,7 @@ goes_on_some records a k x y e same f =
       | inl none ↦ some_is_not_none (kept (Some records) a) x e (ap (option_and_then (below top)) (no_first records a n none))
       | inr some ↦
           let number : n ≡ suc (n - 1) = omega arith in
-          let r = get_or records (n - 1) no_such in
+          let r = get_or records (n - 1) no_record in
           let g : a + 1 + k ≡ a + (1 + k) = omega arith in
           let at : a + 0 ≡ a = omega arith in
           let up = number_rises records a (a + 1) (omega arith) in
@@ -221,7 +218,7 @@ goes_on_some records a k x y e same f =
           let same_next : last_number records (a + 1) ≡ suc (n - 1) = omega arith in
           let far : last_number records (a + (1 + k)) ≡ suc (n - 1) = ap (last_number records) (sym g) ∙ same ∙ number in
           let here : option_and_then (below top) (sent_by a r) ≡ Some x =
-          sym (ap (option_and_then (below top)) (record_before records a n no_such some (let h = number_holds records a (n - 1) no_such number in let p = h.0 in omega arith))) ∙ e in
+          sym (ap (option_and_then (below top)) (record_before records a n no_record some (let h = number_holds records a (n - 1) no_record number in let p = h.0 in omega arith))) ∙ e in
           kept_by records a 1 (n - 1) number same_next
           ∙ going_on top k x y (sent_by a r) here (sym (kept_by records a (1 + k) (n - 1) number far) ∙ ap (kept (Some records)) (sym g) ∙ f)
     ]
@@ -230,8 +227,10 @@ pub goes_on : (omap : Option (List OMAPRecord)) → GoesOn (number_for omap) (ke
 goes_on None = goes_on_none
 goes_on (Some records) = goes_on_some records
 
+-- the runs of a range, laid end to end, are what its addresses become one by one
 pub laid_end_to_end : (omap : Option (List OMAPRecord)) (start end : ℕ) → laid_out (runs omap start end) ≡ one_by_one omap start end
 laid_end_to_end omap start end = laid (number_for omap) (kept omap) (goes_on omap) (end - start) start
 
+-- no two neighbours among the runs of a range came by one record
 pub runs_parted : (omap : Option (List OMAPRecord)) (start end : ℕ) → AreParted (runs omap start end)
 runs_parted omap start end = parted (number_for omap) (kept omap) (end - start) start

@@ -9,24 +9,25 @@ use Rattle.std.proofs.lemmas.List.Sorted.{all_adjacent_more, IsNonDecreasingBy-f
 use Rattle.std.proofs.lemmas.Bool.{le-leb, lt-leb, leb-true, leb-false, ne_eqb}
 use Rattle.pdb_addresses.proofs.Ordered.{sources_decided}
 use Rattle.pdb_addresses.specs.declared.omap.OMAPRecord.{OMAPRecord}
-use Rattle.pdb_addresses.specs.Omap.{source, are_sources_in_order, number_or, record_at, last_number, sent_by, sent}
+use Rattle.pdb_addresses.specs.Omap.{source, are_sources_in_order, record_number, record_at, last_number, sent_by, sent}
 
-abbrev no_record : OMAPRecord
+-- a record for places where a list has none
+abbrev pub no_record : OMAPRecord
 no_record = record { source_address = 0; target_address = 0 }
 
-first_counts : (n : ℕ) → 0 < number_or 1 n
+first_counts : (n : ℕ) → 0 < record_number 1 n
 first_counts zero = omega arith
 first_counts (suc n) = omega arith
 
-later_counts : (first n i : ℕ) → i < n → suc i < number_or first n
+later_counts : (first n i : ℕ) → i < n → suc i < record_number first n
 later_counts first zero i lt = absurd (omega arith)
 later_counts first (suc n) i lt = omega arith
 
-none_later : (n : ℕ) → n ≤ 0 → number_or 0 n ≤ 0
+none_later : (n : ℕ) → n ≤ 0 → record_number 0 n ≤ 0
 none_later zero le = omega arith
 none_later (suc n) le = absurd (omega arith)
 
-few_later : (first n m : ℕ) → first ≤ 1 → m ≤ n → number_or first m ≤ suc n
+few_later : (first n m : ℕ) → first ≤ 1 → m ≤ n → record_number first m ≤ suc n
 few_later first n zero one le = omega arith
 few_later first n (suc m) one le = omega arith
 
@@ -63,19 +64,24 @@ number_is records a (suc i) le at =
 
 -- ---- where a map sends an address
 
+-- where an address goes by the record of a number
 abbrev pub goes : List OMAPRecord → ℕ → ℕ → Option ℕ
 goes records a n = option_and_then (sent_by a) (record_at records n)
 
+-- by number 0 it goes nowhere
 pub no_first : (records : List OMAPRecord) (a n : ℕ) → n ≡ 0 → goes records a n ≡ None
 no_first records a n none = rw none refl
 
+-- by any other number it goes by the record before that place
 pub record_before : (records : List OMAPRecord) (a n : ℕ) (d : OMAPRecord) → n ≢ 0 → n ≤ length records → goes records a n ≡ sent_by a (get_or records (n - 1) d)
 record_before records a n d some le =
     rw (ne_eqb n 0 some, slice_get-get_or records (n - 1) d (omega arith)) refl
 
+-- where no source lies at or below the address, the map sends it nowhere
 pub sent_nowhere : (records : List OMAPRecord) (a n : ℕ) → n ≡ last_number records a → n ≡ 0 → sent records a ≡ None
 sent_nowhere records a n is none = ap (goes records a) (sym is) ∙ no_first records a n none
 
+-- else the last record with such a source sends it
 pub sent_somewhere : (records : List OMAPRecord) (a n : ℕ) (d : OMAPRecord) → n ≡ last_number records a → n ≢ 0 → n ≤ length records → sent records a ≡ sent_by a (get_or records (n - 1) d)
 sent_somewhere records a n d is some le = ap (goes records a) (sym is) ∙ record_before records a n d some le
 
@@ -86,9 +92,11 @@ pub record IsInOrderTo (records : List OMAPRecord) (i : ℕ) : Type 0 where
   pub some : 1 ≤ i
   pub each : AllAdjacentBelow (λ x y. source x ≤ source y) records i
 
+-- one source is in order
 pub in_order_start : (records : List OMAPRecord) → IsInOrderTo records 1
 in_order_start records = record { some = omega arith; each = λ k d lt. absurd (omega arith) }
 
+-- one source more that isn't below the one before it is still in order
 pub in_order_more : (records : List OMAPRecord) (i : ℕ) (d : OMAPRecord) → i < length records → source (get_or records (i - 1) d) ≤ source (get_or records i d) → IsInOrderTo records i → IsInOrderTo records (i + 1)
 in_order_more records i d lt le so_far = record {
   some = omega arith;
@@ -96,6 +104,7 @@ in_order_more records i d lt le so_far = record {
       (λ e. rw (get_or_default records (i - 1) e d (omega arith), get_or_default records i e d lt) le);
 }
 
+-- all sources in order: the test says so
 pub in_order_done : (records : List OMAPRecord) (i : ℕ) → length records ≤ i → IsInOrderTo records i → true ≡ are_sources_in_order records
 in_order_done records i past so_far = sym ((sources_decided records).1 (IsNonDecreasingBy-from_all_adjacent source records (λ k d lt. so_far.each k d (omega arith))))
 
@@ -103,5 +112,6 @@ false_unless : (b : Bool) → (b ≡ true → ⊥) → false ≡ b
 false_unless false none = refl
 false_unless true none = absurd (none refl)
 
+-- a source below the one before it: the test says so
 pub falls : (records : List OMAPRecord) (i : ℕ) (d : OMAPRecord) → i < length records → source (get_or records i d) < source (get_or records (i - 1) d) → false ≡ are_sources_in_order records
 falls records i d lt below = false_unless (are_sources_in_order records) (λ e. let le = (sources_decided records).0 e (i - 1) i d (omega arith) lt in absurd (omega arith))

@@ -10,7 +10,9 @@ use Rattle.pdb_addresses.specs.declared.sections.ImageSectionHeader.{ImageSectio
 use Rattle.pdb_addresses.specs.SectionOrder.{IsBehind, DoAscend, AreEnough}
 use Rattle.pdb_addresses.specs.SectionRun.{bounds, nearer, up_to_next}
 use Rattle.pdb_addresses.specs.Sections.{place_from}
+use Rattle.pdb_addresses.proofs.RunSteps.{past, passed}
 
+-- where a section begins
 abbrev pub start : ImageSectionHeader → ℕ
 start s = s.virtual_address
 
@@ -24,9 +26,11 @@ pub record DoAscendTo (sections : List ImageSectionHeader) (i : ℕ) : Type 0 wh
   pub some : 1 ≤ i
   pub each : AllAdjacentBelow IsBehind sections i
 
+-- one section ascends
 pub ascent_start : (sections : List ImageSectionHeader) → DoAscendTo sections 1
 ascent_start sections = record { some = omega arith; each = λ k d lt. absurd (omega arith) }
 
+-- one section more that begins behind the one before it still ascends
 pub ascent_more : (sections : List ImageSectionHeader) (i : ℕ) (d : ImageSectionHeader) → i < length sections → IsBehind (get_or sections (i - 1) d) (get_or sections i d) → DoAscendTo sections i → DoAscendTo sections (i + 1)
 ascent_more sections i d lt le so_far = record {
   some = omega arith;
@@ -34,21 +38,17 @@ ascent_more sections i d lt le so_far = record {
       (λ e. rw (get_or_default sections (i - 1) e d (omega arith), get_or_default sections i e d lt) le);
 }
 
+-- all sections ascend: the test says so
 pub ascent_done : (sections : List ImageSectionHeader) (i : ℕ) → length sections ≤ i → DoAscendTo sections i → Decides true (DoAscend sections)
 ascent_done sections i past so_far = (λ e k d lt. so_far.each k d (omega arith), λ e. refl)
 
+-- a section that begins before the end of the one before it: the test says so
 pub descends : (sections : List ImageSectionHeader) (i : ℕ) (d : ImageSectionHeader) → 1 ≤ i → i < length sections → start (get_or sections i d) < end (get_or sections (i - 1) d) → Decides false (DoAscend sections)
 descends sections i d some lt below =
     let same : i - 1 + 1 ≡ i = omega arith in
     (λ e. absurd cc, λ order. let le = subst (λ j. end (get_or sections (i - 1) d) ≤ start (get_or sections j d)) same (order (i - 1) d (omega arith)) in absurd (omega arith))
 
 -- ---- sections that lie before an address
-
-passed : (a b n : ℕ) → b ≤ a → nearer a b n ≡ n
-passed a b n le = rw (le-ltb a b le) refl
-
-past : (a b n : ℕ) → a < b → nearer a b n ≡ min n (b - a)
-past a b n lt = rw (lt-ltb a b lt) refl
 
 place_behind : (sections : List ImageSectionHeader) (number a n : ℕ) → ((k : ℕ) (d : ImageSectionHeader) → k < n → end (get_or sections k d) ≤ a) → n ≤ length sections
     → place_from number sections a ≡ place_from (number + n) (drop n sections) a
@@ -107,11 +107,13 @@ count_cut (s ∷ sections) a limit (suc k) beyond lt rise =
 
 -- ---- the sections that are enough
 
+-- all sections tell the place of an address as all of them do
 pub all_are_enough : (sections : List ImageSectionHeader) (a : ℕ) → AreEnough sections a 0 (length sections)
 all_are_enough sections a =
     let whole = take_rest sections 0 in
     record { order = omega arith; within = omega arith; place = ap (λ xs. place_from 1 xs a) whole; count = λ limit. ap (λ xs. up_to_next (bounds xs) a limit) whole }
 
+-- where sections ascend, their starts don't fall
 pub starts_rise : (sections : List ImageSectionHeader) → DoAscend sections → IsNonDecreasingBy start sections
 starts_rise sections order = IsNonDecreasingBy-from_all_adjacent start sections (λ k d lt. let le = order k d lt in omega arith)
 
@@ -174,6 +176,7 @@ nearest_two sections a begun order le low high =
           ∙ sym (count_behind sections a limit (begun - 1) before (omega arith));
     }
 
+-- where sections ascend, the last that begins at or below an address and the next one are enough for its place
 pub two_are_enough : (sections : List ImageSectionHeader) (a begun from to : ℕ) → from ≡ begun - 1 → to ≡ min (begun + 1) (length sections) → DoAscend sections → begun ≤ length sections
     → AllWithin (λ s. s.virtual_address ≤ a) sections 0 begun → AllWithin (λ s. a < s.virtual_address) sections begun (length sections)
     → AreEnough sections a from to

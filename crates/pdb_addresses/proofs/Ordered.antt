@@ -31,6 +31,7 @@ rises n (r ∷ records) first order =
     rw (le-leb n r.source_address (first r (omega arith)))
     (rises r.source_address records (λ d lt. order 0 1 d (omega arith) (omega arith)) (λ i j d le lt. order (suc i) (suc j) d (omega arith) (omega arith)))
 
+-- the test of a map's order decides whether it is in order
 pub sources_decided : (records : List OMAPRecord) → Decides (are_sources_in_order records) (AreSourcesInOrder records)
 sources_decided records = (λ e. risen 0 records e, λ order. rises 0 records (λ d lt. omega arith) order)
 
@@ -52,6 +53,7 @@ ordered_decided m = (
 pub first_decides : (m : Map) (first : Bool) → first ≡ is_in_order m.to_internal → first ≡ false → Decides first (IsOrdered m)
 first_decides m first e none = (λ f. absurd cc, λ order. e ∙ (map_decided m.to_internal).1 order.to_internal)
 
+-- where the first way is in order, the second decides whether both are
 pub second_decides : (m : Map) (first second : Bool) → first ≡ is_in_order m.to_internal → first ≡ true → second ≡ is_in_order m.to_image → Decides second (IsOrdered m)
 second_decides m first second e so g = (
   λ f. record { to_internal = (map_decided m.to_internal).0 (sym e ∙ so); to_image = (map_decided m.to_image).0 (sym g ∙ f) },

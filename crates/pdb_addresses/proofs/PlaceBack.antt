@@ -48,6 +48,7 @@ back sections a section offset index s there numbered low is small =
     let sum : s.virtual_address + offset ≡ a = omega arith in
     rw (ne_eqb section 0 some, n, there, sum, lt-ltb a (2 ^ 32) small) refl
 
+-- the place of an address has that address
 pub there_and_back : (sections : List ImageSectionHeader) (a : ℕ) (p : Place) → a < 2 ^ 32 → place sections a ≡ Some p → address sections p.section p.offset ≡ Some a
 there_and_back sections a p small e =
     let f = found sections 1 a p e in

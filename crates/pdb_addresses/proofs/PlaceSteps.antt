@@ -11,11 +11,13 @@ at : (sections : List ImageSectionHeader) (n i address : ℕ) (d : ImageSectionH
     → place_from n (drop i sections) address ≡ place_from n (get_or sections i d ∷ drop (i + 1) sections) address
 at sections n i address d lt = ap (λ (xs : List ImageSectionHeader). place_from n xs address) (drop_more sections i d lt)
 
+-- a section that begins past the address: it has no place
 pub place_stops : (sections : List ImageSectionHeader) (n i address : ℕ) (d : ImageSectionHeader) (all : Option Place) → i < length sections
     → address < (get_or sections i d).virtual_address → place_from n (drop i sections) address ≡ all → all ≡ None
 place_stops sections n i address d all lt below so_far =
     sym so_far ∙ at sections n i address d lt ∙ rw (lt-ltb address (get_or sections i d).virtual_address below) refl
 
+-- a section that holds the address: it has its place there
 pub place_holds : (sections : List ImageSectionHeader) (n i address : ℕ) (d : ImageSectionHeader) (all : Option Place) → i < length sections
     → (get_or sections i d).virtual_address ≤ address → address - (get_or sections i d).virtual_address < (get_or sections i d).virtual_size
     → place_from n (drop i sections) address ≡ all → all ≡ place_in n (address - (get_or sections i d).virtual_address)
@@ -23,6 +25,7 @@ place_holds sections n i address d all lt above inside so_far =
     sym so_far ∙ at sections n i address d lt
     ∙ rw (le-ltb address (get_or sections i d).virtual_address above, lt-ltb (address - (get_or sections i d).virtual_address) (get_or sections i d).virtual_size inside) refl
 
+-- a section that ends at or below the address: the walk goes on behind it
 pub place_goes_on : (sections : List ImageSectionHeader) (before i address : ℕ) (d : ImageSectionHeader) (all : Option Place) → i < length sections
     → (get_or sections i d).virtual_address ≤ address → (get_or sections i d).virtual_size ≤ address - (get_or sections i d).virtual_address
     → place_from (before + i + 1) (drop i sections) address ≡ all → place_from (before + (i + 1) + 1) (drop (i + 1) sections) address ≡ all
@@ -32,10 +35,12 @@ place_goes_on sections before i address d all lt above past so_far =
     (sym (at sections (before + i + 1) i address d lt
     ∙ rw (le-ltb address (get_or sections i d).virtual_address above, le-ltb (address - (get_or sections i d).virtual_address) (get_or sections i d).virtual_size past) refl) ∙ so_far)
 
+-- no section more: the address has no place
 pub place_ends : (sections : List ImageSectionHeader) (n i address : ℕ) (all : Option Place) → length sections ≤ i
     → place_from n (drop i sections) address ≡ all → all ≡ None
 place_ends sections n i address all past so_far = sym so_far ∙ ap (λ (xs : List ImageSectionHeader). place_from n xs address) (drop_all i sections past)
 
+-- a place of the image, taken as an internal one, is the internal place
 pub place_inside : (p : Option Place) → option_map as_internal (option_map image_place p) ≡ option_map internal_place p
 place_inside None = refl
 place_inside (Some p) = refl

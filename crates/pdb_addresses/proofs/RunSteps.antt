@@ -4,13 +4,15 @@ use Rattle.std.specs.Prelude.{nat_le}
 use Rattle.std.proofs.lemmas.Bool.{lt-ltb, le-ltb, cases_lt, cases_Bool}
 use Rattle.std.proofs.lemmas.List.{drop_more, drop_all}
 use Rattle.pdb_addresses.specs.declared.sections.ImageSectionHeader.{ImageSectionHeader}
-use Rattle.pdb_addresses.specs.SectionRun.{bounds, nearer, up_to_next, moved}
+use Rattle.pdb_addresses.specs.SectionRun.{bounds, nearer, up_to_next, place_on}
 use Rattle.pdb_addresses.specs.Sections.{place_in, place_from}
 
-past : (a b n : ℕ) → a < b → nearer a b n ≡ min n (b - a)
+-- a bound past the address is taken, if it is nearer
+pub past : (a b n : ℕ) → a < b → nearer a b n ≡ min n (b - a)
 past a b n lt = rw (lt-ltb a b lt) refl
 
-passed : (a b n : ℕ) → b ≤ a → nearer a b n ≡ n
+-- a bound at or below the address isn't taken
+pub passed : (a b n : ℕ) → b ≤ a → nearer a b n ≡ n
 passed a b n le = rw (le-ltb a b le) refl
 
 commute : (a b c n : ℕ) → nearer a b (nearer a c n) ≡ nearer a c (nearer a b n)
@@ -23,6 +25,7 @@ into : (bs : List ℕ) (a b n : ℕ) → nearer a b (up_to_next bs a n) ≡ up_t
 into [] a b n = refl
 into (c ∷ bs) a b n = commute a b c (up_to_next bs a n) ∙ ap (nearer a c) (into bs a b n)
 
+-- one section's bounds more taken into the count
 pub run_more : (sections : List ImageSectionHeader) (a i count total : ℕ) (d : ImageSectionHeader) → i < length sections
     → up_to_next (bounds (drop i sections)) a count ≡ total
     → up_to_next (bounds (drop (i + 1) sections)) a (nearer a ((get_or sections i d).virtual_address + (get_or sections i d).virtual_size) (nearer a (get_or sections i d).virtual_address count)) ≡ total
@@ -35,6 +38,7 @@ run_more sections a i count total d lt so_far =
     ap (nearer a s.virtual_address) (into others a end count) ∙ into others a s.virtual_address (nearer a end count) ∙ ap (up_to_next others a) (commute a s.virtual_address end count) in
     sym (now ∙ moved_in) ∙ so_far
 
+-- all bounds are taken: the count is the whole one
 pub run_done : (sections : List ImageSectionHeader) (a i count total : ℕ) → length sections ≤ i → up_to_next (bounds (drop i sections)) a count ≡ total → count ≡ total
 run_done sections a i count total le so_far = sym (ap (λ xs. up_to_next (bounds xs) a count) (drop_all i sections le)) ∙ so_far
 
@@ -49,14 +53,15 @@ below_it a b n k l lt = let e = past a b n l in omega arith
 some_left : (a b n : ℕ) → 1 ≤ n → 1 ≤ nearer a b n
 some_left a b n le = elim (cases_lt a b) [ inl l ↦ let e = past a b n l in omega arith | inr l ↦ let e = passed a b n l in omega arith ]
 
+-- the count is at least 1
 pub run_is_some : (bs : List ℕ) (a n : ℕ) → 1 ≤ n → 1 ≤ up_to_next bs a n
 run_is_some [] a n le = le
 run_is_some (b ∷ bs) a n le = some_left a b (up_to_next bs a n) (run_is_some bs a n le)
 
-in_section : (number offset k : ℕ) → place_in number (offset + k) ≡ moved k (place_in number offset)
+in_section : (number offset k : ℕ) → place_in number (offset + k) ≡ place_on k (place_in number offset)
 in_section number offset k = elim (cases_Bool (nat_le number 65535)) [ inl e ↦ rw e refl | inr e ↦ rw e refl ]
 
-places_from : (sections : List ImageSectionHeader) (number a n k : ℕ) → k < up_to_next (bounds sections) a n → place_from number sections (a + k) ≡ moved k (place_from number sections a)
+places_from : (sections : List ImageSectionHeader) (number a n k : ℕ) → k < up_to_next (bounds sections) a n → place_from number sections (a + k) ≡ place_on k (place_from number sections a)
 places_from [] number a n k lt = refl
 places_from (s ∷ sections) number a n k lt =
     let start = s.virtual_address in
@@ -76,5 +81,6 @@ places_from (s ∷ sections) number a n k lt =
       ]
     ]
 
-pub places_go_on : (sections : List ImageSectionHeader) (a n k : ℕ) → k < up_to_next (bounds sections) a n → place_from 1 sections (a + k) ≡ moved k (place_from 1 sections a)
+-- over the count the places go on one by one, or are none
+pub places_go_on : (sections : List ImageSectionHeader) (a n k : ℕ) → k < up_to_next (bounds sections) a n → place_from 1 sections (a + k) ≡ place_on k (place_from 1 sections a)
 places_go_on sections a n k lt = places_from sections 1 a n k lt

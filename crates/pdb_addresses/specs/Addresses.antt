@@ -1,4 +1,4 @@
--- The addresses of an image, and those of the space in which its database was written.
+-- RVAs: the addresses of an image, and those of the space in which its database was written.
 use Rattle.std.specs.Prelude.{ℕ, Bool, true, ◌&&◌, List, Option, None, Some, option_and_then}
 use Rattle.pdb_addresses.specs.declared.sections.ImageSectionHeader.{ImageSectionHeader}
 use Rattle.pdb_addresses.specs.declared.omap.OMAPRecord.{OMAPRecord}
@@ -18,11 +18,12 @@ abbrev pub map_of : Option (List ImageSectionHeader) → List ImageSectionHeader
 map_of None image to_internal to_image = record { internal = image; image = image; to_internal = None; to_image = None }
 map_of (Some original) image to_internal to_image = record { internal = original; image = image; to_internal = to_internal; to_image = to_image }
 
+-- a map, if there is one, has no source below the one before it
 abbrev pub IsInOrder : Option (List OMAPRecord) → Type 0
 IsInOrder None = Unit {0}
 IsInOrder (Some records) = AreSourcesInOrder records
 
--- the same, computed
+-- whether a map, if there is one, has no source below the one before it
 abbrev pub is_in_order : Option (List OMAPRecord) → Bool
 is_in_order None = true
 is_in_order (Some records) = are_sources_in_order records

@@ -8,7 +8,7 @@ use Rattle.std.specs.declared.cmp.Ordering.TheVariants.{Less, Equal}
 use Rattle.std.specs.Ordering.{nat_cmp, ordering_reverse}
 use Rattle.pdb_addresses.specs.Places.{compared}
 
--- where there is an answer, the sections are one
+-- where two places compare, their sections are one
 answered : (b : Bool) (r : Option Ordering) (o : Ordering) → cond b r None ≡ Some o → (b ≡ true) × (r ≡ Some o)
 answered true r o e = (refl, e)
 answered false r o e = absurd cc

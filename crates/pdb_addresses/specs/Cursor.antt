@@ -5,7 +5,7 @@ use Rattle.std.specs.declared.ops.Range.{Range}
 use Rattle.pdb_addresses.specs.declared.omap.OMAPRecord.{OMAPRecord}
 use Rattle.pdb_addresses.specs.Addresses.{IsInOrder}
 use Rattle.pdb_addresses.specs.Omap.{source, record_at, sent_by}
-use Rattle.pdb_addresses.specs.Ranges.{Run, below}
+use Rattle.pdb_addresses.specs.Ranges.{TranslatedRun, below}
 
 -- so many records have their sources at most the address, and the others at or past it
 pub record IsAtIn (records : List OMAPRecord) (number address : ℕ) : Type 0 where
@@ -13,11 +13,12 @@ pub record IsAtIn (records : List OMAPRecord) (number address : ℕ) : Type 0 wh
   pub before : AllWithin (λ r. source r ≤ address) records 0 number
   pub behind : AllWithin (λ r. address ≤ source r) records number (length records)
 
+-- so many records of a map have their sources at most the address, and the others at or past it; without a map none
 abbrev pub IsAt : Option (List OMAPRecord) → ℕ → ℕ → Type 0
 IsAt None number address = number ≡ 0
 IsAt (Some records) number address = IsAtIn records number address
 
--- the same, where the sources don't fall
+-- so many records have their sources at most the address, the others at or past it, and the sources don't fall
 pub record IsSteady (omap : Option (List OMAPRecord)) (number address : ℕ) : Type 0 where
   pub ordered : IsInOrder omap
   pub at : IsAt omap number address
@@ -50,11 +51,11 @@ abbrev pub run_between : Option (List OMAPRecord) → ℕ → ℕ → ℕ → Op
 run_between omap number from stop = option_and_then (cut_run (2 ^ 32 - 1) (stop - from)) (sent_by_number omap number from)
 
 -- a run in front of others, if there is one
-abbrev pub in_front : ℕ → Option (Range ℕ) → List Run → List Run
-in_front number None others = others
-in_front number (Some r) others = record { number = number; start = r.start; end = r.end } ∷ others
+abbrev pub run_in_front : ℕ → Option (Range ℕ) → List TranslatedRun → List TranslatedRun
+run_in_front number None others = others
+run_in_front number (Some r) others = record { number = number; start = r.start; end = r.end } ∷ others
 
 -- the next run, and what comes behind it
-abbrev pub GivesRun : List Run → Option (Range ℕ) → List Run → Type 0
+abbrev pub GivesRun : List TranslatedRun → Option (Range ℕ) → List TranslatedRun → Type 0
 GivesRun due None left = (due ≡ []) × (left ≡ [])
-GivesRun due (Some r) left = (number : ℕ) × (due ≡ in_front number (Some r) left)
+GivesRun due (Some r) left = (number : ℕ) × (due ≡ run_in_front number (Some r) left)

@@ -1,7 +1,7 @@
 pub mod Addresses
 pub mod ComparedLaws
 pub mod Cursor
-pub mod Laid
+pub mod PartedRuns
 pub mod Numbers
 pub mod Omap
 pub mod Places

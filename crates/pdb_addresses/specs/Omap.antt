@@ -1,4 +1,5 @@
--- Maps that tell where a tool has moved an image's code: lists of a source and a target.
+-- OMAPs, which tell where a tool has moved an image's code: lists of a source and a target.
+-- The layout is that of the pdb crate's OMAP records, which the Windows debugging interface has too.
 use Rattle.std.specs.Prelude.{ℕ, zero, suc, ◌+◌, ◌-◌, ◌%◌, Bool, true, not, ◌&&◌, List, [], ◌∷◌, length, nat_le, ◌==◌, Option, None, Some, if◌then◌else◌, slice_get, option_and_then, option_map, Result, Ok, codes}
 use Rattle.std.specs.Borrow.{Bor}
 use Rattle.std.specs.Int.{w32}
@@ -8,19 +9,20 @@ use Rattle.pdb_container.specs.Fields.{Reader, number_at, entries}
 use Rattle.pdb_addresses.specs.declared.omap.OMAPRecord.{OMAPRecord}
 use Rattle.pdb_addresses.specs.Numbers.{in_32_bits}
 
--- a record, 8 bytes
+-- an OMAP record, 8 bytes: the source, and the target
 unfoldable pub omap_record_at : Reader OMAPRecord
 omap_record_at bytes = do
   source ← number_at w32 bytes
   target ← number_at w32 source.1
   Ok (record { source_address = source.0; target_address = target.0 }, target.1)
 
--- the records of a stream, which is made of whole ones
+-- the OMAP records of a stream, which is made of whole ones
 unfoldable pub omap_of : List ℕ → Result (List OMAPRecord) Fault
 omap_of bytes = do
   whole ← refuse (not (length bytes % 8 == 0)) (InvalidStreamLength (codes "OMAP"))
   entries omap_record_at bytes
 
+-- the source of an OMAP record: the address from which on it counts
 abbrev pub source : OMAPRecord → ℕ
 source r = r.source_address
 
@@ -38,14 +40,14 @@ abbrev pub are_sources_in_order : List OMAPRecord → Bool
 are_sources_in_order records = rise_from 0 records
 
 -- the number of a record that is there or isn't, behind so many others
-abbrev pub number_or : ℕ → ℕ → ℕ
-number_or first zero = first
-number_or first (suc n) = suc (suc n)
+abbrev pub record_number : ℕ → ℕ → ℕ
+record_number first zero = first
+record_number first (suc n) = suc (suc n)
 
 -- The number of the last record with source at most an address, counted from 1; 0 where there is none.
 abbrev pub last_number : List OMAPRecord → ℕ → ℕ
 last_number [] address = 0
-last_number (r ∷ records) address = number_or (if nat_le r.source_address address then 1 else 0) (last_number records address)
+last_number (r ∷ records) address = record_number (if nat_le r.source_address address then 1 else 0) (last_number records address)
 
 -- the record of a number, counted from 1
 abbrev pub record_at : List OMAPRecord → ℕ → Option OMAPRecord

@@ -21,13 +21,13 @@ abbrev pub kept : Option (List OMAPRecord) → ℕ → Option ℕ
 kept omap address = option_and_then (below (2 ^ 32 - 1)) (translated omap address)
 
 -- what addresses one behind the other became, all by the record of one number
-pub record Run : Type 0 where
+pub record TranslatedRun : Type 0 where
   pub number : ℕ
   pub start : ℕ
   pub end : ℕ
 
 -- One more address in front: it goes into the first run if that came by the same record, and else is a run of its own.
-abbrev pub with_address : ℕ → Option ℕ → List Run → List Run
+abbrev pub with_address : ℕ → Option ℕ → List TranslatedRun → List TranslatedRun
 with_address number None runs = runs
 with_address number (Some n) [] = record { number = number; start = n; end = n + 1 } ∷ []
 with_address number (Some n) (r ∷ runs) =
@@ -35,20 +35,20 @@ with_address number (Some n) (r ∷ runs) =
     else record { number = number; start = n; end = n + 1 } ∷ r ∷ runs
 
 -- what so many addresses from one on become, where each goes by a record and becomes something or nothing
-unfoldable pub runs_by : (ℕ → ℕ) → (ℕ → Option ℕ) → ℕ → ℕ → List Run
+unfoldable pub runs_by : (ℕ → ℕ) → (ℕ → Option ℕ) → ℕ → ℕ → List TranslatedRun
 runs_by number becomes from zero = []
 runs_by number becomes from (suc count) = with_address (number from) (becomes from) (runs_by number becomes (from + 1) count)
 
 -- what the addresses of a range become, address by address, those that go by one record in one run
-abbrev pub runs : Option (List OMAPRecord) → ℕ → ℕ → List Run
+abbrev pub runs : Option (List OMAPRecord) → ℕ → ℕ → List TranslatedRun
 runs omap start end = runs_by (number_for omap) (kept omap) start (end - start)
 
 -- a run as addresses of the image
-abbrev pub image_range : Run → Range Rva
+abbrev pub image_range : TranslatedRun → Range Rva
 image_range r = record { start = image_address r.start; end = image_address r.end }
 
 -- a run as internal addresses
-abbrev pub internal_range : Run → Range PdbInternalRva
+abbrev pub internal_range : TranslatedRun → Range PdbInternalRva
 internal_range r = record { start = internal_address r.start; end = internal_address r.end }
 
 -- the addresses of the image that a range of internal addresses becomes

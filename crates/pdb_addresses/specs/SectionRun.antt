@@ -18,6 +18,6 @@ up_to_next [] address limit = limit
 up_to_next (b ∷ others) address limit = nearer address b (up_to_next others address limit)
 
 -- a place so many bytes on in its section; none stays none
-abbrev pub moved : ℕ → Option Place → Option Place
-moved k None = None
-moved k (Some p) = Some (record { section = p.section; offset = p.offset + k })
+abbrev pub place_on : ℕ → Option Place → Option Place
+place_on k None = None
+place_on k (Some p) = Some (record { section = p.section; offset = p.offset + k })

@@ -1,4 +1,5 @@
 -- Section headers, the places of addresses, and the addresses of places.
+-- A header's layout is IMAGE_SECTION_HEADER of the PE format, as the pdb crate reads it.
 use Rattle.std.specs.Prelude.{ℕ, ◌+◌, ◌-◌, Bool, not, List, [], ◌∷◌, nat_lt, nat_le, ◌==◌, Option, None, Some, if◌then◌else◌, slice_get, position, take, Result, Ok, bit_and}
 use Rattle.std.specs.Int.{w16, w32}
 use Rattle.pdb_container.specs.Fault.{Fault, ◌>>=◌}
@@ -41,13 +42,14 @@ section_header_at bytes = do
 abbrev pub section_headers_of : List ℕ → Result (List ImageSectionHeader) Fault
 section_headers_of bytes = entries section_header_at bytes
 
--- the bytes before the first NUL, or all of them
-abbrev pub text_in : List ℕ → Option ℕ → List ℕ
-text_in bytes None = bytes
-text_in bytes (Some end) = take end bytes
+-- the bytes before a place, if it is known, or all of them
+abbrev pub text_to : List ℕ → Option ℕ → List ℕ
+text_to bytes None = bytes
+text_to bytes (Some end) = take end bytes
 
+-- the bytes before the first NUL, or all of them
 abbrev pub text_before_nul : List ℕ → List ℕ
-text_before_nul bytes = text_in bytes (position (λ byte. byte == 0) bytes)
+text_before_nul bytes = text_to bytes (position (λ byte. byte == 0) bytes)
 
 -- code may run in a section
 abbrev pub may_execute : SectionCharacteristics → Bool
@@ -74,6 +76,7 @@ place_from number (s ∷ sections) address =
 abbrev pub place : List ImageSectionHeader → ℕ → Option Place
 place sections address = place_from 1 sections address
 
+-- the address at an offset in a section that may be missing, if it has 32 bits
 abbrev pub address_behind : Option ImageSectionHeader → ℕ → Option ℕ
 address_behind None offset = None
 address_behind (Some s) offset = in_32_bits (s.virtual_address + offset)

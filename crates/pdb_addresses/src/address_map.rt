@@ -32,8 +32,8 @@ impl<'s> Model for AddressMap<'s> {
 
 impl<'s> AddressMap<'s> {
     /// A map of these parts. `original_sections` are those of the space in which the database was written; without them
-    /// that space is the image's, and the other two aren't used. `to_original` leads from addresses of the image into that
-    /// space, `to_image` from there to the image; without one of them addresses keep their numbers that way.
+    /// that space is the image's, and the other two aren't used. `to_original` leads from addresses of the image into
+    /// that space, `to_image` from there to the image; without one of them addresses keep their numbers that way.
     pub fn new(
         original_sections: Option<Vec<ImageSectionHeader>>,
         image_sections: Vec<ImageSectionHeader>,

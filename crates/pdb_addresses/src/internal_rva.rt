@@ -1,4 +1,4 @@
-//! Addresses of the space in which a database was written.
+//! Internal RVAs: addresses of the space in which a database was written.
 
 ghost use Rattle.std.specs.Prelude.{◌≡◌, ◌+◌, ◌-◌, ◌%◌, ◌^◌, min, option_map};
 ghost use Rattle.pdb_addresses.specs.Addresses.{IsOrdered, outer, outer_place};
@@ -12,8 +12,8 @@ use crate::rva::Rva;
 use crate::section_list::internal;
 use crate::section_offset::SectionOffset;
 
-/// An address in the space in which the database was written, in bytes from the image's start. It is that of the image
-/// where no tool has moved the image's code since.
+/// An internal RVA: an address in the space in which the database was written, in bytes from the image's start. It is
+/// that of the image where no tool has moved the image's code since.
 #[derive(Clone, Copy, Debug, Default, PartialEq, Eq, PartialOrd, Ord, Hash)]
 pub struct PdbInternalRva(pub u32);
 

@@ -1,4 +1,4 @@
-//! Places in the sections of the space in which a database was written.
+//! Internal section offsets: places in the sections of the space in which a database was written.
 
 ghost use Rattle.std.specs.Prelude.{◌≡◌, ◌+◌, ◌-◌, ◌%◌, ◌^◌, min, option_map};
 ghost use Rattle.pdb_addresses.specs.Addresses.{IsOrdered, outer_of_place, place_outside};
@@ -12,8 +12,8 @@ use crate::rva::Rva;
 use crate::section_offset::SectionOffset;
 use std::cmp::Ordering;
 
-/// A place in the space in which the database was written: a section's number, counted from 1, and an offset in it in
-/// bytes.
+/// An internal section offset: a place in the space in which the database was written, as a section's number, counted
+/// from 1, and an offset in it in bytes.
 #[derive(Clone, Copy, Debug, Default, PartialEq, Eq, Hash)]
 pub struct PdbInternalSectionOffset {
     /// In bytes from the section's start.

@@ -4,7 +4,7 @@ ghost use Rattle.std.specs.Prelude.{◌≡◌, ◌≢◌, ◌↔◌, ◌<◌, �
 ghost use Rattle.std.specs.declared.cmp.Ordering.TheVariants.{Equal};
 ghost use Rattle.std.specs.Bool.{Decides};
 ghost use Rattle.pdb_addresses.specs.Addresses.{Map, IsOrdered, is_ordered, inner, outer};
-ghost use Rattle.pdb_addresses.specs.Laid.{laid_out, one_by_one, AreParted};
+ghost use Rattle.pdb_addresses.specs.PartedRuns.{laid_out, one_by_one, AreParted};
 ghost use Rattle.pdb_addresses.specs.Places.{Place};
 ghost use Rattle.pdb_addresses.specs.Ranges.{runs};
 ghost use Rattle.pdb_addresses.specs.Sections.{place, address};
@@ -54,7 +54,7 @@ pub fn compared_places()
     ensures internal_none { (a b : InternalPlace) → (⟦<PdbInternalSectionOffset as PartialOrd>⟧.partial_cmp a b ≡ None) ↔ (a.section ≢ b.section) }
 {}
 
-/// `==` of addresses and places answers true exactly for one and the same value, and equal values hash alike.
+/// `==` of addresses and places returns true exactly for one and the same value, and equal values hash alike.
 pub fn equal_hash_alike()
     ensures image_address { (a b : ImageAddress) → ((⟦<Rva as PartialEq>⟧.eq a b ≡ true) ↔ (a ≡ b)) × (a ≡ b → ⟦<Rva as Hash>⟧.hash_input a ≡ ⟦<Rva as Hash>⟧.hash_input b) }
     ensures internal_address { (a b : InternalAddress) → ((⟦<PdbInternalRva as PartialEq>⟧.eq a b ≡ true) ↔ (a ≡ b)) × (a ≡ b → ⟦<PdbInternalRva as Hash>⟧.hash_input a ≡ ⟦<PdbInternalRva as Hash>⟧.hash_input b) }

@@ -1,21 +1,20 @@
-//! Maps that tell where a tool has moved an image's code.
+//! OMAPs: maps that tell where a tool has moved an image's code.
 
 ghost use Rattle.std.specs.Prelude.{◌≡◌, ◌≤◌, ◌<◌, length};
 ghost use Rattle.std.specs.List.{AllWithin};
 ghost use Rattle.pdb_container.specs.Fault.{Gives};
-ghost use Rattle.pdb_container.specs.Fields.{entries};
-ghost use Rattle.pdb_addresses.specs.Omap.{AreSourcesInOrder, are_sources_in_order as in_order, omap_record_at, omap_of, last_number as number_of_last, sent_by as sent_by_record, sent};
+ghost use Rattle.pdb_addresses.specs.Omap.{AreSourcesInOrder, are_sources_in_order as in_order, omap_of, last_number as number_of_last, sent_by as sent_by_record, sent};
 
-use pdb_container::{Error, FromBuffer, ParseBuffer, Result};
+use pdb_container::{Error, FromBuffer, ParseBuffer, Result, parse_entries};
 use std::alloc::Global;
 
-/// A record of a map between image and internal addresses: from its source on, and up to the next record's, addresses
-/// lie as far past its target as they lie past its source.
+/// An OMAP record, of a map between image and internal addresses: from its source on, and up to the next record's,
+/// addresses lie as far past its target as they lie past its source.
 #[derive(Clone, Copy, Debug, Default, PartialEq, Eq)]
 pub struct OMAPRecord {
-    /// The first address that goes by the record.
+    /// The source: the first address that goes by the record.
     pub source_address: u32,
-    /// What that address becomes; 0 where addresses that go by the record become nothing.
+    /// The target: what that address becomes; 0 where addresses that go by the record become nothing.
     pub target_address: u32,
 }
 
@@ -42,23 +41,7 @@ pub fn parse_omap(alloc: Global, bytes: &[u8]) -> Result<Vec<OMAPRecord>>
     if bytes.len() % 8 != 0 {
         return Err(Error::InvalidStreamLength("OMAP"));
     }
-    parse_records(alloc, bytes)
-}
-
-/// Records one behind the other, to the end.
-#[tactic(auto, using(pdb_container::proofs::Entries::entries_start, pdb_container::proofs::Entries::entries_more, pdb_container::proofs::Entries::entries_fail, pdb_container::proofs::Entries::entries_end, pdb_container::proofs::Entries::entries_done))]
-fn parse_records(alloc: Global, bytes: &[u8]) -> Result<Vec<OMAPRecord>>
-    ensures { Gives (λ v. v.items) ⊥ result (entries omap_record_at bytes.now) }
-{
-    let mut buffer = ParseBuffer::from(bytes);
-    let mut records = Vec::new(alloc);
-    for _ in 0..bytes.len() {
-        if buffer.is_empty() {
-            break;
-        }
-        records.push(buffer.parse::<OMAPRecord>()?)?;
-    }
-    Ok(records)
+    parse_entries(alloc, bytes)
 }
 
 /// Whether no source lies below the one before it.

@@ -3,7 +3,7 @@
 ghost use Rattle.std.specs.Prelude.{◌≡◌, ◌+◌, ◌-◌, ◌<◌, ◌≤◌, length, option_map, option_and_then, slice_get};
 ghost use Rattle.std.specs.Iterator.{at_most};
 ghost use Rattle.pdb_addresses.specs.Addresses.{IsInOrder, IsOrdered};
-ghost use Rattle.pdb_addresses.specs.Cursor.{IsAt, IsAtIn, left_of, next_source as next_source_of, source_before as source_before_of, sent_by_number, run_between as run_between_of, in_front, GivesRun};
+ghost use Rattle.pdb_addresses.specs.Cursor.{IsAt, IsAtIn, left_of, next_source as next_source_of, source_before as source_before_of, sent_by_number, run_between as run_between_of, run_in_front, GivesRun};
 ghost use Rattle.pdb_addresses.specs.Omap.{source, record_at, records_of, sent_by as sent_by_record};
 ghost use Rattle.pdb_addresses.specs.Ranges.{runs, image_ranges, internal_ranges, GivesNext};
 
@@ -104,7 +104,7 @@ fn step(omap: Option<&[OMAPRecord]>, at: Cursor, end: u32) -> (Option<Range<u32>
     requires some { at.address < end }
     ensures at { IsAt (records_of omap.entry) result.1.number result.1.address }
     ensures bound { result.1.address ≤ end }
-    ensures runs { runs (records_of omap.entry) at.address end ≡ in_front at.number result.0 (runs (records_of omap.entry) result.1.address end) }
+    ensures runs { runs (records_of omap.entry) at.address end ≡ run_in_front at.number result.0 (runs (records_of omap.entry) result.1.address end) }
     ensures on { left_of (records_of omap.entry) result.1.number + (end - result.1.address) < left_of (records_of omap.entry) at.number + (end - at.address) }
 {
     match source_before(omap, at.number, end) {
@@ -155,9 +155,9 @@ impl<'t> Model for RangeIter<'t> {
     ghost use Rattle.std.specs.Prelude.{List};
     ghost use Rattle.pdb_addresses.specs.Cursor.{IsSteady};
     ghost use Rattle.pdb_addresses.specs.Omap.{records_of};
-    ghost use Rattle.pdb_addresses.specs.Ranges.{Run, runs};
+    ghost use Rattle.pdb_addresses.specs.Ranges.{TranslatedRun, runs};
 
-    ghost Value = { List Run };
+    ghost Value = { List TranslatedRun };
 
     ghost view = { λ i. runs (records_of i.omap) i.cursor.address i.end };
 
@@ -186,8 +186,8 @@ impl<'t> RangeIter<'t> {
     }
 }
 
-/// What a range of internal addresses becomes in the image, in the order of the range: one range for all addresses that
-/// go by one record. Addresses that become nothing are left out, and those that become 0xffffffff.
+/// What a range of internal RVAs becomes in the image, in the order of the range: one range for all addresses that go
+/// by one record. Addresses that become nothing are left out, and those that become 0xffffffff.
 #[derive(Debug, Drop)]
 pub struct RvaRangeIter<'t>(RangeIter<'t>);
 
@@ -215,8 +215,8 @@ impl<'t> Iterator for RvaRangeIter<'t> {
     }
 }
 
-/// What a range of addresses of the image becomes among the internal ones, in the order of the range: one range for all
-/// addresses that go by one record. Addresses that become nothing are left out, and those that become 0xffffffff.
+/// What a range of RVAs becomes among the internal ones, in the order of the range: one range for all addresses that go
+/// by one record. Addresses that become nothing are left out, and those that become 0xffffffff.
 #[derive(Debug, Drop)]
 pub struct PdbInternalRvaRangeIter<'t>(RangeIter<'t>);
 

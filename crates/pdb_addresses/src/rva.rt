@@ -1,4 +1,4 @@
-//! Addresses of an image.
+//! RVAs: addresses of an image.
 
 ghost use Rattle.std.specs.Prelude.{◌≡◌, ◌+◌, ◌-◌, ◌%◌, ◌^◌, min, option_map};
 ghost use Rattle.pdb_addresses.specs.Addresses.{IsOrdered, inner, inner_place};
@@ -11,7 +11,7 @@ use crate::internal_rva::PdbInternalRva;
 use crate::internal_section_offset::PdbInternalSectionOffset;
 use crate::section_offset::SectionOffset;
 
-/// An address in the image as it was loaded, in bytes from its start.
+/// An RVA: an address in the image as it was loaded, in bytes from its start.
 #[derive(Clone, Copy, Debug, Default, PartialEq, Eq, PartialOrd, Ord, Hash)]
 pub struct Rva(pub u32);
 

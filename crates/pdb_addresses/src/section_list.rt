@@ -14,8 +14,8 @@ use crate::sections::ImageSectionHeader;
 use std::marker::Model;
 use std::ops::Range;
 
-/// The sections of a space, and whether each begins at or past the end of the one before it. Where they do, as in an image
-/// that a loader takes, what concerns an address is found by halving, and else by a walk over all of them.
+/// The sections of a space, and whether each begins at or past the end of the one before it. Where they do, as in an
+/// image that a loader takes, what concerns an address is found by halving, and else by a walk over all of them.
 #[derive(Debug, Drop)]
 pub(crate) struct SectionList {
     headers: Vec<ImageSectionHeader>,
@@ -59,7 +59,8 @@ impl SectionList {
         place_among(&self.headers[near.start..near.end], near.start, address)
     }
 
-    /// The place of an address, and the lesser of `limit` and the distance to the next start or end of a section past it.
+    /// The place of an address, and the lesser of `limit` and the distance to the next start or end of a section past
+    /// it.
     pub(crate) fn run(&self, address: u32, limit: u32) -> (Option<SectionOffset>, u32)
         ensures place { result.0 ≡ option_map image_place (place_of self.now address) }
         ensures count { result.1 ≡ up_to_next (bounds self.now) address limit }

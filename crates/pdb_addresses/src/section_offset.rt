@@ -1,4 +1,4 @@
-//! Places in the sections of an image.
+//! Section offsets: places in the sections of an image.
 
 ghost use Rattle.std.specs.Prelude.{◌≡◌, ◌+◌, ◌-◌, ◌%◌, ◌^◌, min, option_map};
 ghost use Rattle.pdb_addresses.specs.Addresses.{IsOrdered, inner_of_place, place_inside};
@@ -12,7 +12,8 @@ use crate::internal_section_offset::PdbInternalSectionOffset;
 use crate::rva::Rva;
 use std::cmp::Ordering;
 
-/// A place in the image as it was loaded: a section's number, counted from 1, and an offset in it in bytes.
+/// A section offset: a place in the image as it was loaded, as a section's number, counted from 1, and an offset in it
+/// in bytes.
 #[derive(Clone, Copy, Debug, Default, PartialEq, Eq, Hash)]
 pub struct SectionOffset {
     /// In bytes from the section's start.
@@ -57,8 +58,8 @@ impl SectionOffset {
         self.to_rva(map)?.to_internal_rva(map)
     }
 
-    /// The internal place of its address; `None` where there is no such address, the map sends it nowhere, or no section
-    /// holds what it becomes.
+    /// The internal place of its address; `None` where there is no such address, the map sends it nowhere, or no
+    /// section holds what it becomes.
     pub fn to_internal_offset(self, map: &AddressMap<'_>) -> Option<PdbInternalSectionOffset>
         requires { IsOrdered map.now }
         ensures { result ≡ option_map internal_place (place_inside map.now self.section self.offset) }

@@ -1,16 +1,16 @@
-//! The headers of an image's sections.
+//! Section headers of an image (IMAGE_SECTION_HEADER of the PE format).
 
-ghost use Rattle.std.specs.Prelude.{◌≡◌, [], length, ◌<◌, ◌==◌, position, IfSome};
+ghost use Rattle.std.specs.Prelude.{◌≡◌, []};
 ghost use Rattle.std.specs.Str.{IsUtf8};
 ghost use Rattle.pdb_container.specs.Buffer.{Reads};
 ghost use Rattle.pdb_container.specs.Fault.{Gives};
 ghost use Rattle.pdb_container.specs.Fields.{bytes_of};
 ghost use Rattle.pdb_addresses.specs.Sections.{section_headers_of, text_before_nul, may_execute};
 
-use pdb_container::{FromBuffer, ParseBuffer, Result};
+use pdb_container::{FromBuffer, ParseBuffer, Result, nul_in, parse_entries};
 use std::alloc::Global;
 
-/// What may be done in a section.
+/// Section characteristics: what may be done in a section.
 #[derive(Clone, Copy, Debug, Default, PartialEq, Eq)]
 pub struct SectionCharacteristics(pub u32);
 
@@ -23,7 +23,7 @@ impl SectionCharacteristics {
     }
 }
 
-/// What the header of a section says.
+/// A section header: what the PE format says of a section.
 #[derive(Clone, Copy, Debug, Default, PartialEq, Eq)]
 pub struct ImageSectionHeader {
     /// The name, filled up with NULs.
@@ -104,26 +104,9 @@ fn before_nul(bytes: &[u8]) -> &[u8]
     }
 }
 
-/// Where the first NUL is.
-fn nul_in(bytes: &[u8]) -> Option<usize>
-    ensures value { result ≡ position (λ byte. byte == 0) bytes.now }
-    ensures within { IfSome result (λ n. n < length bytes.now) }
-{
-    bytes.iter().position(|byte| *byte == 0)
-}
-
 /// The section headers of a stream, to its end; `UnexpectedEof` where the last one is cut.
-#[tactic(auto, using(pdb_container::proofs::Entries::entries_start, pdb_container::proofs::Entries::entries_more, pdb_container::proofs::Entries::entries_fail, pdb_container::proofs::Entries::entries_end, pdb_container::proofs::Entries::entries_done))]
 pub fn parse_section_headers(alloc: Global, bytes: &[u8]) -> Result<Vec<ImageSectionHeader>>
     ensures { Gives (λ v. v.items) ⊥ result (section_headers_of bytes.now) }
 {
-    let mut buffer = ParseBuffer::from(bytes);
-    let mut sections = Vec::new(alloc);
-    for _ in 0..bytes.len() {
-        if buffer.is_empty() {
-            break;
-        }
-        sections.push(buffer.parse::<ImageSectionHeader>()?)?;
-    }
-    Ok(sections)
+    parse_entries(alloc, bytes)
 }

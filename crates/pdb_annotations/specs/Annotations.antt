@@ -1,4 +1,5 @@
--- Annotations of inline sites.
+-- Binary annotations of inline sites (S_INLINESITE).
+-- The opcodes are BinaryAnnotationOpcode of microsoft-pdb's cvinfo.h, as the pdb crate reads them.
 use Rattle.std.specs.Prelude.{ℕ, ◌/◌, ◌%◌, ◌^◌, nat_le, ◌==◌, Bool, true, false, List, [], ◌∷◌, Option, None, Some, Ok, Err, if◌then◌else◌}
 use Rattle.pdb_container.specs.Fault.{Fault, UnknownBinaryAnnotation, ◌>>=◌}
 use Rattle.pdb_container.specs.Fields.{Reader}
@@ -9,11 +10,11 @@ use Rattle.pdb_annotations.specs.declared.annotation.BinaryAnnotation.{BinaryAnn
 use Rattle.pdb_annotations.specs.declared.annotation.BinaryAnnotation.TheVariants as kinds
 use Rattle.pdb_annotations.specs.declared.annotations.BinaryAnnotations.{BinaryAnnotations}
 
--- the bytes that spell them
+-- the bytes that spell binary annotations
 abbrev pub annotation_bytes : BinaryAnnotations → List ℕ
 annotation_bytes a = a.bytes.now
 
--- an annotation of one operand, by its opcode
+-- a binary annotation of one operand, by its opcode and that operand
 abbrev pub with_operand : ℕ → ℕ → BinaryAnnotation
 with_operand opcode n =
     if opcode == 1 then kinds.CodeOffset n
@@ -29,13 +30,13 @@ with_operand opcode n =
     else (if opcode == 11 then kinds.ChangeCodeOffsetAndLineOffset (n % 2 ^ 4) (signed_of (n / 2 ^ 4))
     else kinds.ChangeColumnEnd n))))))))))
 
--- one operand
+-- a binary annotation of one operand, behind its opcode
 unfoldable pub with_operand_at : ℕ → Reader BinaryAnnotation
 with_operand_at opcode bytes = do
   operand ← compressed_at bytes
   Ok (with_operand opcode operand.0, operand.1)
 
--- two operands: a length, then an offset
+-- the binary annotation of two operands, a length and then an offset, behind its opcode
 unfoldable pub with_length_at : Reader BinaryAnnotation
 with_length_at bytes = do
   length ← compressed_at bytes
@@ -49,7 +50,7 @@ behind_opcode opcode bytes =
     else (if nat_le opcode 13 then with_operand_at opcode bytes
     else Err (UnknownBinaryAnnotation opcode))
 
--- an annotation, or the end, which has opcode 0
+-- a binary annotation, or the end, which has opcode 0
 unfoldable pub annotation_or_end : Reader (Option BinaryAnnotation)
 annotation_or_end bytes = do
   opcode ← compressed_at bytes
@@ -61,7 +62,7 @@ until_end fault [] = ending fault
 until_end fault (None ∷ others) = ending None
 until_end fault (Some x ∷ others) = before x (until_end fault others)
 
--- the annotations that bytes spell
+-- the binary annotations that bytes spell, and how they end
 unfoldable pub annotations_of : List ℕ → Listing BinaryAnnotation
 annotations_of bytes = until_end (listing annotation_or_end bytes).fault (listing annotation_or_end bytes).items
 

@@ -1,4 +1,5 @@
 -- Numbers in one, two or four bytes, as annotations spell them.
+-- The layout is that of CVUncompressData in microsoft-pdb's cvinfo.h.
 use Rattle.std.specs.Prelude.{ℕ, ℤ, ◌+◌, ◌*◌, ◌/◌, ◌%◌, ◌^◌, nat_lt, ◌==◌, if◌then◌else◌, Ok, Err}
 use Rattle.std.specs.Int.{w8}
 use Rattle.pdb_container.specs.Fault.{InvalidCompressedAnnotation, ◌>>=◌}
@@ -27,12 +28,12 @@ behind_first first bytes =
     else (if nat_lt first 0xe0 then others_at first bytes
     else Err InvalidCompressedAnnotation))
 
--- a number
+-- a compressed number, in one, two or four bytes
 unfoldable pub compressed_at : Reader ℕ
 compressed_at bytes = do
   first ← number_at w8 bytes
   behind_first first.0 first.1
 
--- a number with a sign in bit 0 and its magnitude in the others
+-- a number whose sign is bit 0, with its magnitude in the others
 abbrev pub signed_of : ℕ → ℤ
 signed_of n = if n % 2 == 0 then pos (n / 2) else neg_ℤ (pos (n / 2))

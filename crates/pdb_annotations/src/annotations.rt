@@ -1,4 +1,4 @@
-//! Annotations, in bytes and one by one.
+//! Binary annotations, in bytes and one by one.
 
 ghost use Rattle.std.specs.Prelude.{◌≡◌, None, length};
 ghost use Rattle.pdb_container.specs.Buffer.{rest};
@@ -9,21 +9,21 @@ use crate::annotation::{BinaryAnnotation, parse_annotation};
 use pdb_container::{Error, FallibleIterator, ParseBuffer, Result};
 use std::marker::Model;
 
-/// The annotations of an inline site, in bytes.
+/// Binary annotations of an inline site, in bytes.
 #[derive(Clone, Copy, Debug)]
 pub struct BinaryAnnotations<'t> {
     bytes: &'t [u8],
 }
 
 impl<'t> BinaryAnnotations<'t> {
-    /// The annotations that these bytes spell.
+    /// The binary annotations that these bytes spell.
     pub fn new(bytes: &'t [u8]) -> BinaryAnnotations<'t>
         ensures { annotation_bytes result ≡ bytes.now }
     {
         BinaryAnnotations { bytes }
     }
 
-    /// The annotations one by one, up to the first end.
+    /// The binary annotations one by one, up to the first end.
     pub fn iter(&self) -> BinaryAnnotationsIter<'t>
         ensures { result ≡ annotations_of (annotation_bytes self.now) }
     {
@@ -34,7 +34,7 @@ impl<'t> BinaryAnnotations<'t> {
     }
 }
 
-/// Annotations one by one. One that can't be read is answered as its fault, `UnexpectedEof`,
+/// An iterator over binary annotations. One that can't be read is returned as its fault, `UnexpectedEof`,
 /// `InvalidCompressedAnnotation` or `UnknownBinaryAnnotation`, and none comes behind it.
 #[derive(Debug, Drop)]
 pub struct BinaryAnnotationsIter<'t> {

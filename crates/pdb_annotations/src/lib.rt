@@ -1,4 +1,5 @@
-//! Inline sites: the annotations that tell where an inlined call's code lies, and of which lines it was made.
+//! Binary annotations of inline sites (`S_INLINESITE`): where an inlined call's code lies, and of which lines it was
+//! made. The opcodes are those of microsoft-pdb's cvinfo.h (BinaryAnnotationOpcode), as the pdb crate reads them.
 #![tactic(auto)]
 
 mod annotation;

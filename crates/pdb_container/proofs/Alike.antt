@@ -20,6 +20,7 @@ not_both : {A : Type 0} (r : Result A Fault) (e : Fault) → r ≡ Err e → IsO
 not_both (Ok x) e h there = absurd cc
 not_both (Err f) e h there = absurd cc
 
+-- two files that read alike at a number have the same stream there
 pub same_stream : (a b : List ℕ) (n : ℕ) → ReadAlike a b n → HaveSameStream a b n
 same_stream a b n (both_fail e p q) = record { whole = p ∙ sym q; limited = λ there k. absurd (not_both (stream a n None) e p there) }
 same_stream a b n (both_read x y s t len same) =
@@ -33,5 +34,6 @@ one_fault : (a b : List ℕ) → OpenAlike a b → result_err (layout_of a) ≡ 
 one_fault a b (both_refused f p q) = rw (p, q) refl
 one_fault a b (both_open p q) = no_fault (layout_of a) p ∙ sym (no_fault (layout_of b) q)
 
+-- two files that open and read alike have the same streams
 pub same_streams : (a b : List ℕ) → AreAlike a b → HaveSameStreams a b
 same_streams a b h = record { refused = one_fault a b h.opens; streams = λ n. same_stream a b n (h.reads n) }

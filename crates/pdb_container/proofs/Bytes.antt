@@ -19,6 +19,7 @@ below file at = ltb at (length file)
 abbrev byte : List ℕ → ℕ → ℕ
 byte file at = get_or file at 0
 
+-- what is false at the right is false
 pub and_false : (b : Bool) → (b && false) ≡ false
 and_false true = refl
 and_false false = refl
@@ -37,15 +38,18 @@ bytes_of_range file a (suc n) h =
     let e = drop_more file a 0 (omega arith) in
     rw (e, bytes_of_range file (a + 1) n (omega arith)) refl
 
+-- no places have no bytes
 pub bytes_at_none : (file : List ℕ) (a n : ℕ) → n ≡ 0 → bytes_at file (range_with_len a n) ≡ Ok []
 unfolding bytes_at
 bytes_at_none file a zero h = refl
 bytes_at_none file a (suc n) h = absurd cc
 
+-- places in a row within the file have the file's bytes there
 pub bytes_at_range : (file : List ℕ) (a n : ℕ) → a + n ≤ length file → bytes_at file (range_with_len a n) ≡ Ok (take n (drop a file))
 unfolding bytes_at
 bytes_at_range file a n h = rw (all_below file a n h, bytes_of_range file a n h) refl
 
+-- places in a row that go past the file's end are refused
 pub bytes_at_past : (file : List ℕ) (a n : ℕ) → 0 < n → length file < a + n → bytes_at file (range_with_len a n) ≡ Err (IoError UnexpectedEof)
 unfolding bytes_at
 bytes_at_past file a zero p h = absurd (omega arith)
@@ -53,15 +57,19 @@ bytes_at_past file a (suc n) p h = rw (not_all_below file a n h) refl
 
 -- ---- whether slices lie within the file
 
+-- no places are within the file
 pub ok_none : (file : List ℕ) (a n : ℕ) → n ≡ 0 → is_ok (bytes_at file (range_with_len a n)) ≡ true
 ok_none file a n h = ap is_ok (bytes_at_none file a n h)
 
+-- places in a row up to the file's end are within it
 pub ok_range : (file : List ℕ) (a n : ℕ) → a + n ≤ length file → is_ok (bytes_at file (range_with_len a n)) ≡ true
 ok_range file a n h = ap is_ok (bytes_at_range file a n h)
 
+-- places in a row past the file's end are not
 pub ok_past : (file : List ℕ) (a n : ℕ) → 0 < n → length file < a + n → is_ok (bytes_at file (range_with_len a n)) ≡ false
 ok_past file a n p h = ap is_ok (bytes_at_past file a n p h)
 
+-- places in a row that are within the file end at or before its end
 pub ok_fits : (file : List ℕ) (a n : ℕ) → is_ok (bytes_at file (range_with_len a n)) ≡ true → 0 < n → a + n ≤ length file
 ok_fits file a n h p =
     elim (cases_lt (length file) (a + n)) [
@@ -85,6 +93,7 @@ both true true x y e = refl
 both true false x y e = refl
 both false b x y e = refl
 
+-- the bytes of places behind others are those of the first behind those of the second
 pub bytes_at_append : (file xs ys : List ℕ) → bytes_at file (xs ++ ys) ≡ joined (bytes_at file xs) (bytes_at file ys)
 unfolding bytes_at
 bytes_at_append file xs ys =
@@ -94,6 +103,7 @@ bytes_at_append file xs ys =
 abbrev pub with_front : List ℕ → Result (List ℕ) Fault → Result (List ℕ) Fault
 with_front front read = read >>= λ y. Ok (front ++ y)
 
+-- bytes in front of what is joined may be joined before
 pub regroup : (front x : List ℕ) (read : Result (List ℕ) Fault) → with_front front (joined (Ok x) read) ≡ with_front (front ++ x) read
 regroup front x (Ok y) = ap (λ (z : List ℕ). Ok z) (sym (append_assoc front x y))
 regroup front x (Err e) = refl
@@ -115,12 +125,14 @@ one_ok : (file : List ℕ) (slices : List SourceSlice) (i : ℕ) (d : SourceSlic
     → is_ok (bytes_at file (places_of (drop i slices))) ≡ (is_ok (bytes_at file (slice_places (get_or slices i d))) && is_ok (bytes_at file (places_of (drop (i + 1) slices))))
 one_ok file slices i d lt = rw (drop_more slices i d lt) (ok_append file (slice_places (get_or slices i d)) (places_of (drop (i + 1) slices)))
 
+-- one slice more that lies within the file
 pub within_more : (file : List ℕ) (slices : List SourceSlice) (i : ℕ) (d : SourceSlice) → i < length slices
     → is_ok (bytes_at file (slice_places (get_or slices i d))) ≡ true
     → is_ok (bytes_at file (places_of (drop i slices))) ≡ is_ok (bytes_at file (places_of slices))
     → is_ok (bytes_at file (places_of (drop (i + 1) slices))) ≡ is_ok (bytes_at file (places_of slices))
 within_more file slices i d lt h so_far = sym (one_ok file slices i d lt ∙ ap (λ b. b && is_ok (bytes_at file (places_of (drop (i + 1) slices)))) h) ∙ so_far
 
+-- a slice that doesn't lie within the file
 pub within_fail : (file : List ℕ) (slices : List SourceSlice) (i : ℕ) (d : SourceSlice) → i < length slices
     → is_ok (bytes_at file (slice_places (get_or slices i d))) ≡ false
     → is_ok (bytes_at file (places_of (drop i slices))) ≡ is_ok (bytes_at file (places_of slices))
@@ -128,6 +140,7 @@ pub within_fail : (file : List ℕ) (slices : List SourceSlice) (i : ℕ) (d : S
 within_fail file slices i d lt h so_far =
     not_ok_ends file (places_of slices) (sym so_far ∙ one_ok file slices i d lt ∙ ap (λ b. b && is_ok (bytes_at file (places_of (drop (i + 1) slices)))) h)
 
+-- all slices lie within the file
 pub within_done : (file : List ℕ) (slices : List SourceSlice) (i : ℕ) → length slices ≤ i
     → is_ok (bytes_at file (places_of (drop i slices))) ≡ is_ok (bytes_at file (places_of slices))
     → is_ok (bytes_at file (places_of slices)) ≡ true
@@ -143,6 +156,7 @@ one_within file (s ∷ slices) zero d lt h = (and_parts _ _ (sym (ok_append file
 one_within file (s ∷ slices) (suc i) d lt h =
     one_within file slices i d (omega arith) (and_parts _ _ (sym (ok_append file (slice_places s) (places_of slices)) ∙ h)).1
 
+-- one slice's bytes more behind those in front
 pub goes_on : (file front part : List ℕ) (slices : List SourceSlice) (i : ℕ) (d : SourceSlice) → i < length slices
     → bytes_at file (slice_places (get_or slices i d)) ≡ Ok part
     → with_front front (bytes_at file (places_of (drop i slices))) ≡ bytes_at file (places_of slices)
@@ -150,6 +164,7 @@ pub goes_on : (file front part : List ℕ) (slices : List SourceSlice) (i : ℕ)
 goes_on file front part slices i d lt h so_far =
     sym (regroup front part (bytes_at file (places_of (drop (i + 1) slices)))) ∙ sym (rw (slices_more file slices i d lt, h) refl) ∙ so_far
 
+-- all slices' bytes are read
 pub is_done : (file front : List ℕ) (slices : List SourceSlice) (i : ℕ) → length slices ≤ i
     → with_front front (bytes_at file (places_of (drop i slices))) ≡ bytes_at file (places_of slices)
     → bytes_at file (places_of slices) ≡ Ok front

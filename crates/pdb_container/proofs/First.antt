@@ -22,6 +22,7 @@ first size = record { offset = 0; size = size } ∷ []
 place : (file : List ℕ) (size : ℕ) → bytes_at file (places_of (first size)) ≡ bytes_at file (range_with_len 0 size)
 place file size = ap (bytes_at file) (append-nil (range_with_len 0 size))
 
+-- the bytes at the first places of a file are its first bytes
 pub first_is : (file v : List ℕ) (size : ℕ) → 0 < size → bytes_at file (places_of (first size)) ≡ Ok v → (size ≤ length file) × (v ≡ take size file)
 first_is file v size pos e =
     elim (cases_lt (length file) size) [
@@ -41,6 +42,7 @@ pub not_past : (kind : ErrorKind) → (kind ≢ kinds.UnexpectedEof) → fault_o
 not_past kinds.OutOfMemory ne e = cc
 not_past kind ne e = ne cc
 
+-- so many first places have so many bytes
 pub first_len : (file v : List ℕ) (size : ℕ) → 0 < size → bytes_at file (places_of (first size)) ≡ Ok v → length v ≡ size
 first_len file v size pos e = let h = first_is file v size pos e in rw (h.1) (omega (arith, length-take size file, h.0))
 
@@ -50,6 +52,7 @@ pub first_err : (file : List ℕ) (size : ℕ) (e : Error) (failed : Type 0) →
 first_err file size e failed pos (inl h) = inl h
 first_err file size e failed pos (inr h) = inr (first_fault file size (fault_of e) pos h)
 
+-- a view of a file's first bytes fails by what is outside, or since the file is shorter
 pub first_on : {X : Type 0} (file : List ℕ) (size : ℕ) (failed : Type 0) (r : Result X io.Error) → 0 < size
     → IfErr r (λ e. IsOutside (error_of e) failed ⊎ (bytes_at file (places_of (first size)) ≡ Err (fault_of (error_of e))))
     → IfErr r (λ e. IsOutside (error_of e) failed ⊎ ((length file < size) × (fault_of (error_of e) ≡ IoError kinds.UnexpectedEof)))

@@ -3,7 +3,7 @@ use Rattle.std.proofs.Common.{◌≡◌, ℕ, ◌≤◌, List, take, drop, min, 
 use Rattle.std.proofs.lemmas.List.{length-take, get_or-take, take-append-drop}
 use Rattle.std.proofs.lemmas.List.FromFn.{take-map-range_with_len}
 use Rattle.pdb_container.specs.Fault.{Fault, ◌>>=◌}
-use Rattle.pdb_container.specs.Container.{layout_of, directory_of, place_in, stream_in, stream}
+use Rattle.pdb_container.specs.Container.{layout_of, directory_of, stream_pages_in, stream_in, stream}
 use Rattle.pdb_container.specs.Paged.{HasNoPlace, by_header, by_directory, by_numbers, IsLimited}
 use Rattle.pdb_container.specs.Places.{bytes_at, page_places, IsPaged}
 use Rattle.pdb_container.proofs.Bytes.{bytes_at_append}
@@ -17,6 +17,7 @@ paged_front file pages v size count k h =
       there = λ i lt. h.there i (omega arith);
     }
 
+-- a limit cuts a stream that is there to its first bytes
 pub limit_cuts : (file : List ℕ) (n k : ℕ) (bytes : List ℕ) → stream file n None ≡ Ok bytes → stream file n (Some k) ≡ Ok (take k bytes)
 limit_cuts file n k bytes h =
     let s = is_stream file n None bytes h in
@@ -53,12 +54,13 @@ unfolding stream stream_in
 limit_keeps file n k e =
     bind_kept (layout_of file) (λ h. stream_in h file n (Some k)) (λ h. stream_in h file n None) e
     (λ h. bind_kept (directory_of h file)
-    (λ d. place_in h.page_size h.pages_used n d >>= λ found. bytes_at file (page_places h.page_size found.1 (min found.0 k)))
-    (λ d. place_in h.page_size h.pages_used n d >>= λ found. bytes_at file (page_places h.page_size found.1 found.0)) e
-    (λ d. bind_kept (place_in h.page_size h.pages_used n d)
+    (λ d. stream_pages_in h.page_size h.pages_used n d >>= λ found. bytes_at file (page_places h.page_size found.1 (min found.0 k)))
+    (λ d. stream_pages_in h.page_size h.pages_used n d >>= λ found. bytes_at file (page_places h.page_size found.1 found.0)) e
+    (λ d. bind_kept (stream_pages_in h.page_size h.pages_used n d)
     (λ found. bytes_at file (page_places h.page_size found.1 (min found.0 k)))
     (λ found. bytes_at file (page_places h.page_size found.1 found.0)) e
     (λ found. more_fails file found.1 h.page_size found.0 (min found.0 k) e (omega arith))))
 
+-- what a limit makes of a stream, whole
 pub is_limited : (file : List ℕ) (n : ℕ) → IsLimited file n
 is_limited file n = record { cut = limit_cuts file n; checked = no_place file n; kept = limit_keeps file n }

@@ -51,21 +51,26 @@ module _ {A : Type 0} (one : Reader A) where
 
 -- ---- what was gathered, before what is still to come
 
+-- values in front of a listing
 abbrev pub onto : {A : Type 0} → List A → Listing A → Listing A
 onto front l = record { items = front ++ l.items; fault = l.fault }
 
+-- no values in front of a listing
 pub gather_start : {A : Type 0} (l : Listing A) → onto [] l ≡ l
 gather_start l = refl
 
+-- the first value of a listing moved to those in front
 pub gather_more : {A : Type 0} (front : List A) (l others total : Listing A) (x : A) → l ≡ before x others → onto front l ≡ total → onto (front ++ x ∷ []) others ≡ total
 gather_more {A} front l others total x step so_far =
     let now : onto front l ≡ onto (front ++ x ∷ []) others = ap (onto front) step ∙ ap (λ (xs : List A). record { items = xs; fault = others.fault }) (sym (append_assoc front (x ∷ []) others.items)) in
     sym now ∙ so_far
 
+-- a listing that ended well: those in front are the whole of it
 pub gather_end : {A : Type 0} (front : List A) (l total : Listing A) → l ≡ ending None → onto front l ≡ total → whole total ≡ Ok front
 gather_end {A} front l total end so_far =
     let now : total ≡ onto front (ending None) = sym so_far ∙ ap (onto front) end in
     ap whole now ∙ ap (λ (xs : List A). Ok xs) (append-nil front)
 
+-- a listing that ended with a fault: the whole of it has that fault
 pub gather_fault : {A : Type 0} (front : List A) (l total : Listing A) (e : Fault) → l ≡ ending (Some e) → onto front l ≡ total → whole total ≡ Err e
 gather_fault {A} front l total e end so_far = ap whole (sym so_far ∙ ap (onto front) end)

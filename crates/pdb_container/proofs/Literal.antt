@@ -10,7 +10,7 @@ use Rattle.pdb_container.specs.Fault.{Fault}
 use Rattle.pdb_container.specs.Fault.{IoError}
 use Rattle.pdb_container.specs.Fault.{◌>>=◌}
 use Rattle.std.specs.Prelude.{Option, Result}
-use Rattle.pdb_container.specs.Container.{layout_of, directory_of, place_in, at_most, stream_in, stream}
+use Rattle.pdb_container.specs.Container.{layout_of, directory_of, stream_pages_in, at_most, stream_in, stream}
 use Rattle.pdb_container.specs.Paged.{IsStream}
 use Rattle.pdb_container.specs.Places.{bytes_at, page_places, IsPaged}
 
@@ -36,6 +36,7 @@ all_at test [] i h lt = absurd (omega arith)
 all_at test (x ∷ xs) zero h lt = (both_true (test x) (list_all test xs) h).0
 all_at test (x ∷ xs) (suc i) h lt = all_at test xs i (both_true (test x) (list_all test xs) h).1 (omega arith)
 
+-- bytes that were read of pages are the file's, byte by byte
 pub is_paged : (file pages v : List ℕ) (size count : ℕ) → bytes_at file (page_places size pages count) ≡ Ok v → IsPaged file size pages count v
 unfolding bytes_at page_places
 is_paged file pages v size count h =
@@ -73,12 +74,13 @@ bind_ok : {A B : Type 0} (r : Result A Fault) (f : A → Result B Fault) (y : B)
 bind_ok (Ok x) f y h = (x, refl, h)
 bind_ok (Err e) f y h = absurd cc
 
+-- a stream that was read is the file's, byte by byte
 pub is_stream : (file : List ℕ) (n : ℕ) (limit : Option ℕ) (bytes : List ℕ) → stream file n limit ≡ Ok bytes → IsStream file n limit bytes
 unfolding stream stream_in
 is_stream file n limit bytes h =
     let a = bind_ok (layout_of file) (λ l. stream_in l file n limit) bytes h in
-    let b = bind_ok (directory_of a.0 file) (λ d. place_in a.0.page_size a.0.pages_used n d >>= λ found. bytes_at file (page_places a.0.page_size found.1 (at_most limit found.0))) bytes a.2 in
-    let c = bind_ok (place_in a.0.page_size a.0.pages_used n b.0) (λ found. bytes_at file (page_places a.0.page_size found.1 (at_most limit found.0))) bytes b.2 in
+    let b = bind_ok (directory_of a.0 file) (λ d. stream_pages_in a.0.page_size a.0.pages_used n d >>= λ found. bytes_at file (page_places a.0.page_size found.1 (at_most limit found.0))) bytes a.2 in
+    let c = bind_ok (stream_pages_in a.0.page_size a.0.pages_used n b.0) (λ found. bytes_at file (page_places a.0.page_size found.1 (at_most limit found.0))) bytes b.2 in
     record {
       layout = a.0;
       opens = a.1;

@@ -6,7 +6,7 @@ use Rattle.std.specs.Int.{w32, from_le_bytes}
 use Rattle.pdb_container.specs.Fault.{Fault, UnexpectedEof}
 use Rattle.pdb_container.specs.Fields.{number_at, bytes_of}
 
--- what stands in the second part of an answer
+-- what stands in the second part of a result
 abbrev answer : {X Y : Type 0} → Bool → X → Y → Result (X × Y) Fault
 answer short x y = cond short (Err UnexpectedEof) (Ok (x, y))
 
@@ -29,6 +29,7 @@ own_length size names bytes h =
       | inr le ↦ let e : length names ≡ size = omega (arith, n) in (rw e h, omega (arith, e))
     ]
 
+-- the names of a string table lie behind three numbers, and in the stated size
 pub names_behind : (bytes x y z names left : List ℕ) (a b size : ℕ) → number_at w32 bytes ≡ Ok (a, x) → number_at w32 x ≡ Ok (b, y) → number_at w32 y ≡ Ok (size, z)
     → bytes_of size z ≡ Ok (names, left) → (names ≡ take (length names) (drop 12 bytes)) × (length names ≤ length (drop 12 bytes))
 names_behind bytes x y z names left a b size h i j k =

@@ -4,21 +4,25 @@ use Rattle.pdb_container.specs.declared.error.Error.{Error}
 use Rattle.pdb_container.specs.declared.error.Error.TheVariants.{OutOfMemory, IoError}
 use Rattle.pdb_container.specs.Fault.{HasRisen, IsOutside}
 
+-- an error outside, with no source, is one outside with any
 pub outside_alone : (e : Error) (failed : Type 0) → IsOutside e ⊥ → IsOutside e failed
 outside_alone OutOfMemory failed h = tt
 outside_alone (IoError kind) failed h = absurd h.1
 outside_alone e failed h = absurd h
 
+-- a count that rose up to a time has risen up to a later time
 pub outside_earlier : (e : Error) (a b c : ℕ) → b ≤ c → IsOutside e (HasRisen a b) → IsOutside e (HasRisen a c)
 outside_earlier OutOfMemory a b c le h = tt
 outside_earlier (IoError kind) a b c le h = (h.0, omega arith)
 outside_earlier e a b c le h = absurd h
 
+-- a count that rose since a time has risen since an earlier time
 pub outside_later : (e : Error) (a b c : ℕ) → a ≤ b → IsOutside e (HasRisen b c) → IsOutside e (HasRisen a c)
 outside_later OutOfMemory a b c le h = tt
 outside_later (IoError kind) a b c le h = (h.0, omega arith)
 outside_later e a b c le h = absurd h
 
+-- an error outside by a later state's count is one outside by some state with the same bytes
 pub outside_with : {S : Type 0} (bytes : S → List ℕ) (count : S → ℕ) (before after : S) (e : Error) → bytes after ≡ bytes before → IsOutside e (HasRisen (count before) (count after))
     → IsOutside e ((last : S) × (bytes last ≡ bytes before) × HasRisen (count before) (count last))
 outside_with bytes count before after OutOfMemory same h = tt

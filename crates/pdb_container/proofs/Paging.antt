@@ -41,16 +41,20 @@ page_places_is size pages count pos le =
     (omega (arith, length-take count (flat_map (page size) pages), flat_len size pages))
     (λ k lt. get_or-take count (flat_map (page size) pages) k 0 lt ∙ flat_at size pages k pos (omega arith))
 
+-- one page's places more
 pub flat_more : (size : ℕ) (pages : List ℕ) (i d : ℕ) → i < length pages → flat_map (page size) (take (i + 1) pages) ≡ flat_map (page size) (take i pages) ++ page size (get_or pages i d)
 flat_more size pages i d lt =
     rw (take_more pages i d lt, flat_map-append (page size) (take i pages) (get_or pages i d ∷ []), append-nil (page size (get_or pages i d))) refl
 
+-- so many pages have as many places
 pub flat_front_len : (size : ℕ) (pages : List ℕ) (i : ℕ) → i ≤ length pages → length (flat_map (page size) (take i pages)) ≡ i * size
 flat_front_len size pages i le = rw (flat_len size (take i pages), length-take-le i pages le) refl
 
+-- the first places of pages, laid end to end, are those of the definition
 pub page_places_at : (size : ℕ) (pages : List ℕ) (i count : ℕ) → length pages ≤ i → 0 < size → count ≤ length pages * size → take count (flat_map (page size) (take i pages)) ≡ page_places size pages count
 page_places_at size pages i count whole pos le = rw (take_all i pages whole) (page_places_is size pages count pos le)
 
+-- so many pages are enough for so many bytes
 pub pages_enough : (size pages : ℕ) → 0 < pages → size ≤ div_ceil size pages * pages
 pages_enough size pages pos = grind (arith, common_steps)
 
@@ -63,6 +67,7 @@ at_len file places v read = elim (cases_Bool (list_all (λ at. ltb at (length fi
   | inr some ↦ let e = rw some at read in absurd cc
 ]
 
+-- so many places have so many bytes
 pub paged_len : (file : List ℕ) (size : ℕ) (pages : List ℕ) (count : ℕ) (v : List ℕ) → bytes_at file (page_places size pages count) ≡ Ok v → length v ≡ count
 unfolding page_places
 paged_len file size pages count v read =

@@ -9,6 +9,7 @@ use Rattle.pdb_container.specs.Fields.{bytes_of, c_string_at}
 there : (bytes : List ℕ) (end : ℕ) → end < length bytes → bytes_of (end + 1) bytes ≡ Ok (take (end + 1) bytes, drop (end + 1) bytes)
 there bytes end within = rw (le-ltb (length bytes) (end + 1) (omega arith)) refl
 
+-- dropping to the end and past it are one
 pub drop_within : (n : ℕ) (bytes : List ℕ) → drop (min n (length bytes)) bytes ≡ drop n bytes
 drop_within n bytes =
     elim (cases_lt (length bytes) n) [
@@ -16,9 +17,11 @@ drop_within n bytes =
       | inr h ↦ let e : min n (length bytes) ≡ n = omega arith in rw e refl
     ]
 
+-- bytes up to a NUL that is there aren't missing
 pub text_missing : (bytes : List ℕ) (end : ℕ) (e : Fault) → end < length bytes → bytes_of (end + 1) bytes ≡ Err e → ⊥
 text_missing bytes end e within h = let wrong = sym h ∙ there bytes end within in absurd cc
 
+-- the bytes up to the first NUL are a C string
 pub text_read : (bytes text left : List ℕ) (end : ℕ) → end < length bytes → position (λ byte. byte == 0) bytes ≡ Some end → bytes_of (end + 1) bytes ≡ Ok (text, left)
     → c_string_at bytes ≡ Ok (take end text, left)
 unfolding c_string_at

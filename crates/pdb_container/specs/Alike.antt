@@ -10,7 +10,8 @@ pub data OpenAlike (a b : List ℕ) : Type 0 where
   both_refused : (fault : Fault) → layout_of a ≡ Err fault → layout_of b ≡ Err fault → OpenAlike a b
   both_open : IsOk (layout_of a) → IsOk (layout_of b) → OpenAlike a b
 
--- They read alike at stream n: both have one fault there, or as many bytes, and byte i, by each file's own pages, is the same.
+-- They read alike at stream n: both have one fault there, or as many bytes, and byte i, by each file's own pages, is
+-- the same.
 pub data ReadAlike (a b : List ℕ) (n : ℕ) : Type 0 where
   both_fail : (fault : Fault) → stream a n None ≡ Err fault → stream b n None ≡ Err fault → ReadAlike a b n
   both_read : (x y : List ℕ) → IsStream a n None x → IsStream b n None y → length x ≡ length y

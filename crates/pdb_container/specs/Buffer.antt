@@ -1,4 +1,4 @@
--- Bytes that are read in order, and what a call on them may answer and leave.
+-- Bytes that are read in order, and what a call on them may return and leave.
 use Rattle.std.specs.Prelude.{◌≡◌, ℕ, ◌-◌, ◌||◌, List, length, take, drop, nat_lt, if◌then◌else◌, Result, Ok, Err}
 use Rattle.std.specs.Int.{next_multiple_of}
 use Rattle.pdb_container.specs.declared.error.Error.{Error}
@@ -18,22 +18,23 @@ rest b = drop b.pos b.bytes
 abbrev pub behind : Buffer → List ℕ → Buffer
 behind b left = record { bytes = b.bytes; pos = length b.bytes - length left }
 
--- A call gave what reading the bytes that are left gives and went behind it; or it gave reading's fault and stayed.
+-- A call returned what reading the bytes that are left gives and advanced past it; or it returned reading's fault and
+-- stayed.
 abbrev pub Reads : {X Y : Type 0} → (X → Y) → Result X Error → Buffer → Buffer → Reader Y → Type 0
 Reads view (Ok x) old new read = (read (rest old) ≡ Ok (view x, rest new)) × (new ≡ behind old (rest new))
 Reads view (Err e) old new read = IsOfBytes e × (read (rest old) ≡ Err (fault_of e)) × (new ≡ old)
 
--- The same of several calls in a row: where one of them is refused, the ones before it have gone on.
-abbrev pub ReadsOn : {X Y : Type 0} → (X → Y) → Result X Error → Buffer → Buffer → Reader Y → Type 0
-ReadsOn view (Ok x) old new read = (read (rest old) ≡ Ok (view x, rest new)) × (new ≡ behind old (rest new))
-ReadsOn view (Err e) old new read = IsOfBytes e × (read (rest old) ≡ Err (fault_of e)) × (new.bytes ≡ old.bytes)
+-- As `Reads`, of several calls in a row: where one of them is refused, the ones before it have advanced.
+abbrev pub ReadsInSteps : {X Y : Type 0} → (X → Y) → Result X Error → Buffer → Buffer → Reader Y → Type 0
+ReadsInSteps view (Ok x) old new read = (read (rest old) ≡ Ok (view x, rest new)) × (new ≡ behind old (rest new))
+ReadsInSteps view (Err e) old new read = IsOfBytes e × (read (rest old) ≡ Err (fault_of e)) × (new.bytes ≡ old.bytes)
 
--- The same of several calls in a row, of the bytes that are left alone.
-abbrev pub ReadsAll : {X Y : Type 0} → (X → Y) → Result X Error → List ℕ → Result (Y × List ℕ) Fault → Type 0
-ReadsAll view (Ok x) new read = read ≡ Ok (view x, new)
-ReadsAll view (Err e) new read = IsOfBytes e × (read ≡ Err (fault_of e))
+-- As `ReadsInSteps`, of the bytes that are left alone.
+abbrev pub ParsesFront : {X Y : Type 0} → (X → Y) → Result X Error → List ℕ → Result (Y × List ℕ) Fault → Type 0
+ParsesFront view (Ok x) new read = read ≡ Ok (view x, new)
+ParsesFront view (Err e) new read = IsOfBytes e × (read ≡ Err (fault_of e))
 
--- A call left the buffer as it was to be; or it gave the fault and changed nothing.
+-- A call left the buffer as it was to be; or it returned the fault and changed nothing.
 abbrev pub Moves : {X : Type 0} → Result X Error → Buffer → Buffer → Result Buffer Fault → Type 0
 Moves (Ok x) old new moved = moved ≡ Ok new
 Moves (Err e) old new moved = IsOfBytes e × (moved ≡ Err (fault_of e)) × (new ≡ old)

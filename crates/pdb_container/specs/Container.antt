@@ -1,4 +1,5 @@
--- The streams of a container, as a function of the file's bytes.
+-- The streams of an MSF container, as a function of the file's bytes.
+-- The layout is that of MSF in microsoft-pdb's msf.h, which LLVM's The MSF File Format describes.
 use Rattle.std.specs.Prelude.{ℕ, ◌+◌, ◌-◌, ◌*◌, ◌/◌, ◌^◌, ◌&&◌, Bool, zero, suc, List, [], ◌∷◌, ◌++◌, codes, length, take, drop, map, min, slice_index, nat_lt, nat_le, nat_eq, ◌==◌, if◌then◌else◌, Option, Some, None, Result, Ok, Err}
 use Rattle.std.specs.List.{range_with_len, sum_by, starts_with}
 use Rattle.std.specs.Int.{w32, from_le_bytes, is_power_of_two, div_ceil}
@@ -22,7 +23,7 @@ word_at bytes at = from_le_bytes w32 (take 4 (drop at bytes))
 unfoldable pub first_words : List ℕ → ℕ → List ℕ
 first_words bytes n = map (λ i. word_at bytes (4 * i)) (range_with_len 0 n)
 
--- all of them; fewer than four bytes at the end are none
+-- the numbers that the bytes spell, by four bytes each; fewer than four bytes at the end are none
 abbrev pub words : List ℕ → List ℕ
 words bytes = first_words bytes (length bytes / 4)
 
@@ -35,6 +36,7 @@ pages_in used (suc n) (page ∷ numbers) = do
   others ← pages_in used n numbers
   Ok (page ∷ others)
 
+-- whether a number is a page size: a power of two from 0x100 to 0x800000 bytes
 abbrev pub IsPageSize : ℕ → Bool
 IsPageSize size = is_power_of_two size && (nat_le 0x100 size && nat_le size 0x800000)
 
@@ -62,6 +64,7 @@ header_in front = do
 unfoldable pub front_in : List ℕ → Result (List ℕ) Fault
 front_in file = if nat_lt (length file) 4096 then Err UnrecognizedFileFormat else Ok (take 4096 file)
 
+-- what the MSF header of a file says, or its first fault
 unfoldable pub layout_of : List ℕ → Result Layout Fault
 layout_of file = do
   front ← front_in file
@@ -85,15 +88,16 @@ page_count page_size size = if size == absent then 0 else div_ceil size page_siz
 
 -- The size and the pages of stream n, in the directory's numbers: a count, so many sizes, and then the
 -- page numbers of each stream in order.
-unfoldable pub place_in : ℕ → ℕ → ℕ → List ℕ → Result (ℕ × List ℕ) Fault
-place_in page_size used n [] = Err UnexpectedEof
-place_in page_size used n (count ∷ numbers) = do
+unfoldable pub stream_pages_in : ℕ → ℕ → ℕ → List ℕ → Result (ℕ × List ℕ) Fault
+stream_pages_in page_size used n [] = Err UnexpectedEof
+stream_pages_in page_size used n (count ∷ numbers) = do
   known ← refuse (nat_le count n) (StreamNotFound n)
   whole ← refuse (nat_lt (length numbers) count) UnexpectedEof
   present ← refuse (slice_index numbers n == absent) (StreamNotFound n)
   pages ← pages_in used (page_count page_size (slice_index numbers n)) (drop (count + sum_by (page_count page_size) (take n numbers)) numbers)
   Ok (slice_index numbers n, pages)
 
+-- a size in bytes, cut to a limit if there is one
 abbrev pub at_most : Option ℕ → ℕ → ℕ
 at_most None size = size
 at_most (Some limit) size = min size limit
@@ -102,7 +106,7 @@ at_most (Some limit) size = min size limit
 unfoldable pub stream_in : Layout → List ℕ → ℕ → Option ℕ → Result (List ℕ) Fault
 stream_in h file n limit = do
   directory ← directory_of h file
-  found ← place_in h.page_size h.pages_used n directory
+  found ← stream_pages_in h.page_size h.pages_used n directory
   bytes_at file (page_places h.page_size found.1 (at_most limit found.0))
 
 -- the first bytes of stream n of a file

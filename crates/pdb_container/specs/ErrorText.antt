@@ -8,6 +8,7 @@ use Rattle.pdb_container.specs.declared.error.Error.TheVariants as errors
 use Rattle.pdb_container.specs.declared.error.ModuleFault.{ModuleFault}
 use Rattle.pdb_container.specs.declared.error.ModuleFault.TheVariants as kept
 
+-- what the kind of an input or output error prints: its name
 abbrev pub kind_text : ErrorKind → List ℕ
 kind_text kinds.NotFound = codes "NotFound"
 kind_text kinds.PermissionDenied = codes "PermissionDenied"
@@ -17,6 +18,7 @@ kind_text kinds.WriteZero = codes "WriteZero"
 kind_text kinds.BrokenPipe = codes "BrokenPipe"
 kind_text kind = codes "Other"
 
+-- what the kept fault of a module's stream prints: its name, and its values in parentheses
 abbrev pub module_fault_text : ModuleFault → List ℕ
 module_fault_text (kept.StreamNotFound value) = codes "StreamNotFound(" ++ decimal value ++ codes ")"
 module_fault_text (kept.PageReferenceOutOfRange value) = codes "PageReferenceOutOfRange(" ++ decimal value ++ codes ")"

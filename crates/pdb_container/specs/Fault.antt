@@ -1,4 +1,4 @@
--- Faults: what an error of the system counts as, and when an answer is excused.
+-- Faults: what an error of the system counts as, and when a call may fail for another cause.
 use Rattle.std.specs.Prelude.{◌≡◌, ◌≢◌, ℕ, ◌+◌, ◌-◌, ◌^◌, ◌≤◌, ◌⊎◌, min, Bool, if◌then◌else◌, Option, Some, None, Result, Ok, Err}
 use Rattle.std.specs.declared.io.ErrorKind.{ErrorKind}
 use Rattle.std.specs.declared.io.ErrorKind.TheVariants as kinds
@@ -10,7 +10,7 @@ use Rattle.std.specs.Prelude.{List}
 use Rattle.pdb_container.specs.declared.error.ModuleFault.{ModuleFault}
 use Rattle.pdb_container.specs.declared.error.ModuleFault.TheVariants as kept
 
--- a fault of a definition: one for each variant of the crate's error but want of memory, which is in no definition
+-- a fault of a definition: one for each variant of the crate's error but out of memory, which is in no definition
 pub data Fault : Type 0 where
   UnrecognizedFileFormat : Fault
   InvalidPageSize : ℕ → Fault
@@ -38,7 +38,7 @@ pub data Fault : Type 0 where
   CrossModuleRefNotFound : ℕ → Fault
   Kept : ModuleFault → Fault
 
--- what fault an error is; want of memory is none, and its value there stands in no promise
+-- what fault an error is; out of memory is none, and its value there stands in no promise
 abbrev pub fault_of : Error → Fault
 fault_of errors.UnrecognizedFileFormat = UnrecognizedFileFormat
 fault_of (errors.InvalidPageSize a) = InvalidPageSize a
@@ -67,7 +67,7 @@ fault_of (errors.CrossModuleRefNotFound a) = CrossModuleRefNotFound a
 fault_of (errors.Kept a) = Kept a
 fault_of errors.OutOfMemory = UnexpectedEof
 
--- the fault that an error says: none is said by want of memory
+-- the fault that an error says: none is said by out of memory
 abbrev pub said : Error → Option Fault
 said errors.OutOfMemory = None
 said e = Some (fault_of e)
@@ -81,6 +81,7 @@ kept_of errors.UnexpectedEof = Ok kept.UnexpectedEof
 kept_of e = Err e
 
 infixl 10 ◌>>=◌
+-- a reading, and another one by its value; or the first fault
 abbrev pub ◌>>=◌ : {F A B : Type 0} → Result A F → (A → Result B F) → Result B F
 (Ok x) >>= f = f x
 (Err e) >>= f = Err e
@@ -93,11 +94,12 @@ guard holds fault = if holds then Ok tt else Err fault
 abbrev pub refuse : {F : Type 0} → Bool → F → Result (Unit {0}) F
 refuse wrong fault = if wrong then Err fault else Ok tt
 
--- want of memory is a fault of its own, whichever way it came
+-- out of memory is a fault of its own, whichever way it came
 abbrev pub error_of_kind : ErrorKind → Error
 error_of_kind kinds.OutOfMemory = errors.OutOfMemory
 error_of_kind kind = errors.IoError kind
 
+-- an error of input or output as an error of a container
 abbrev pub error_of : io.Error → Error
 error_of cause = error_of_kind (error_kind cause)
 
@@ -111,17 +113,17 @@ IsOutside errors.OutOfMemory failed = Unit {0}
 IsOutside (errors.IoError kind) failed = (kind ≢ kinds.UnexpectedEof) × failed
 IsOutside e failed = ⊥
 
--- What a call returned, seen by view, is what reading gives, unless what is outside stood in the way.
+-- What a call returned, seen by view, is what reading gives, unless memory was short or the source failed.
 abbrev pub Gives : {X Y : Type 0} → (X → Y) → Type 0 → Result X Error → Result Y Fault → Type 0
 Gives view failed (Ok x) read = read ≡ Ok (view x)
 Gives view failed (Err e) read = IsOutside e failed ⊎ (read ≡ Err (fault_of e))
 
--- a fault of the file or of the bytes, and not want of memory
+-- a fault of the file or of the bytes, and not out of memory
 abbrev pub IsOfBytes : Error → Type 0
 IsOfBytes errors.OutOfMemory = ⊥
 IsOfBytes e = Unit {0}
 
--- The same of a call that takes no memory and reads from no source: it always is what reading gives.
+-- What a call that takes no memory and reads from no source returned, seen by view, always is what reading gives.
 abbrev pub Parses : {X Y : Type 0} → (X → Y) → Result X Error → Result Y Fault → Type 0
 Parses view (Ok x) read = read ≡ Ok (view x)
 Parses view (Err e) read = IsOfBytes e × (read ≡ Err (fault_of e))

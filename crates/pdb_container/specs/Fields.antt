@@ -1,8 +1,10 @@
 -- Fields of bytes that are read in order: a field is a value and the bytes behind it, or the fault of what is missing.
-use Rattle.std.specs.Prelude.{ℕ, ℤ, zero, suc, ◌+◌, List, [], ◌∷◌, length, take, drop, Option, Some, None, Result, Ok, Err, nat_lt, ◌==◌, if◌then◌else◌, position}
-use Rattle.std.specs.Int.{Width, byte_len, from_le_bytes, cast_signed}
+-- Strings are those of CodeView records (microsoft-pdb's cvinfo.h): ended by a NUL, or behind their length.
+use Rattle.std.specs.Prelude.{ℕ, ℤ, zero, suc, ◌+◌, ◌-◌, List, [], ◌∷◌, length, take, drop, Option, Some, None, Result, Ok, Err, nat_lt, ◌==◌, if◌then◌else◌, position}
+use Rattle.std.specs.Int.{Width, byte_len, from_le_bytes, cast_signed, next_multiple_of}
 use Rattle.pdb_container.specs.Fault.{Fault, UnexpectedEof, ◌>>=◌}
 
+-- a reading of one field: from bytes to its value and the bytes behind it, or to the fault of what is missing
 abbrev pub Reader : Type 0 → Type 0
 Reader A = List ℕ → Result (A × List ℕ) Fault
 
@@ -13,6 +15,10 @@ number_at w bytes = if nat_lt (length bytes) (byte_len w) then Err UnexpectedEof
 -- a number in two's complement, its lowest byte first
 abbrev pub signed_at : Width → Reader ℤ
 signed_at w bytes = number_at w bytes >>= λ x. Ok (cast_signed w x.0, x.1)
+
+-- how many bytes lie from a place to the next multiple of four
+abbrev pub padding : ℕ → ℕ
+padding place = next_multiple_of place 4 - place
 
 -- the next n bytes
 abbrev pub bytes_of : ℕ → Reader (List ℕ)
@@ -41,6 +47,7 @@ entries_within one (suc steps) (b ∷ bytes) = do
   others ← entries_within one steps first.1
   Ok (first.0 ∷ others)
 
--- Entries one behind the other, to the end of the bytes. Each takes a byte at least, so there are no more of them than bytes.
+-- Entries one behind the other, to the end of the bytes. Each takes a byte at least, so there are no more of them than
+-- bytes.
 abbrev pub entries : {A : Type 0} → Reader A → List ℕ → Result (List A) Fault
 entries one bytes = entries_within one (length bytes) bytes

@@ -4,6 +4,7 @@ use Rattle.pdb_container.specs.declared.msf.Header.{Header}
 use Rattle.std.specs.Int.{div_ceil}
 use Rattle.pdb_container.specs.Container.{Layout}
 
+-- the code's MSF header, as the definitions see it
 abbrev pub layout : Header → Layout
 layout h = record { page_size = h.page_size; pages_used = h.pages_used; directory_size = h.directory_size; list_pages = h.list_pages.items }
 

@@ -1,5 +1,5 @@
 pub mod Alike
-pub mod Answers
+pub mod SourceAnswers
 pub mod Buffer
 pub mod Container
 pub mod ErrorText
@@ -7,7 +7,7 @@ pub mod Fault
 pub mod Fields
 pub mod Header
 pub mod Listing
-pub mod Names
+pub mod StringTable
 pub mod Paged
 pub mod Pages
 pub mod Places

@@ -17,8 +17,8 @@ ending fault = record { items = []; fault = fault }
 abbrev pub before : {A : Type 0} → A → Listing A → Listing A
 before x others = record { items = x ∷ others.items; fault = others.fault }
 
--- A value that was read of so many bytes, before those in the bytes behind it; or the fault. These have to be fewer: a value
--- that takes no byte would come again and again, and ends the list. No reading that is used gives one.
+-- A value that was read of so many bytes, before those in the bytes behind it; or the fault. These have to be fewer: a
+-- value that takes no byte would come again and again, and ends the list. No reading that is used gives one.
 abbrev pub onward : {A : Type 0} → (List ℕ → Listing A) → ℕ → Result (A × List ℕ) Fault → Listing A
 onward others count (Ok read) = if nat_lt (length read.1) count then before read.0 (others read.1) else ending None
 onward others count (Err e) = ending (Some e)
@@ -42,8 +42,8 @@ whole_with (Some e) items = Err e
 abbrev pub whole : {A : Type 0} → Listing A → Result (List A) Fault
 whole l = whole_with l.fault l.items
 
--- What an iterator gave of what was still to come, and what comes behind that: after an end or a fault nothing. Its fault is
--- the list's, and never want of memory.
+-- What an iterator returned of what was still to come, and what comes behind that: after an end or a fault nothing. Its
+-- fault is the list's, and never out of memory.
 abbrev pub Advances : {X A : Type 0} → (X → A) → Listing A → Result (Option X) Error → Listing A → Type 0
 Advances view old (Ok (Some x)) new = old ≡ before (view x) new
 Advances view old (Ok None) new = (old ≡ ending None) × (new ≡ ending None)

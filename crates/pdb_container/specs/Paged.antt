@@ -1,7 +1,7 @@
 -- A stream byte by byte, and under a limit.
 use Rattle.std.specs.Prelude.{◌≡◌, ℕ, List, take, Option, Some, None, Ok, Err}
 use Rattle.pdb_container.specs.Fault.{Fault}
-use Rattle.pdb_container.specs.Container.{Layout, layout_of, directory_of, place_in, at_most, stream}
+use Rattle.pdb_container.specs.Container.{Layout, layout_of, directory_of, stream_pages_in, at_most, stream}
 use Rattle.pdb_container.specs.Places.{IsPaged}
 
 -- The bytes of stream n of a file, or its first ones: there are as many as the directory says or the limit leaves, and
@@ -12,15 +12,16 @@ pub record IsStream (file : List ℕ) (n : ℕ) (limit : Option ℕ) (bytes : Li
   pub numbers : List ℕ
   pub directory : directory_of layout file ≡ Ok numbers
   pub found : ℕ × List ℕ
-  pub place : place_in layout.page_size layout.pages_used n numbers ≡ Ok found
+  pub place : stream_pages_in layout.page_size layout.pages_used n numbers ≡ Ok found
   pub paged : IsPaged file layout.page_size found.1 (at_most limit found.0) bytes
 
--- Stream n has no place in the file, by a fault of the header, of the directory, or of the stream's number or page numbers.
+-- Stream n has no place in the file, by a fault of the header, of the directory, or of the stream's number or page
+-- numbers.
 pub data HasNoPlace (file : List ℕ) (n : ℕ) (fault : Fault) : Type 0 where
   by_header : layout_of file ≡ Err fault → HasNoPlace file n fault
   by_directory : (h : Layout) → layout_of file ≡ Ok h → directory_of h file ≡ Err fault → HasNoPlace file n fault
   by_numbers : (h : Layout) (numbers : List ℕ) → layout_of file ≡ Ok h → directory_of h file ≡ Ok numbers
-      → place_in h.page_size h.pages_used n numbers ≡ Err fault → HasNoPlace file n fault
+      → stream_pages_in h.page_size h.pages_used n numbers ≡ Err fault → HasNoPlace file n fault
 
 -- What a limit makes of stream n of a file.
 pub record IsLimited (file : List ℕ) (n : ℕ) : Type 0 where

@@ -10,6 +10,7 @@ use Rattle.pdb_container.specs.declared.source.SourceSlice.{SourceSlice}
 abbrev pub slice_places : SourceSlice → List ℕ
 slice_places s = range_with_len s.offset s.size
 
+-- the places of slices, slice by slice
 abbrev pub places_of : List SourceSlice → List ℕ
 places_of slices = flat_map slice_places slices
 

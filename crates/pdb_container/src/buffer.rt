@@ -1,17 +1,18 @@
-//! Bytes that are read in order.
+//! Parse buffers: bytes that are read in order.
 
-ghost use Rattle.std.specs.Prelude.{◌≡◌, ◌<◌, ◌-◌, drop, length, min, position, ◌==◌, ◌+◌, IfOk, IfSome};
+ghost use Rattle.std.specs.Prelude.{◌≡◌, ◌<◌, ◌-◌, drop, length, min, ◌==◌, ◌+◌, IfOk};
 ghost use Rattle.std.specs.Int.{w8, w16, w32, w64};
-ghost use Rattle.pdb_container.specs.Buffer.{rest, Reads, ReadsOn, Moves, peeked, truncated, aligned};
+ghost use Rattle.pdb_container.specs.Buffer.{rest, Reads, ReadsInSteps, Moves, peeked, truncated, aligned};
 ghost use Rattle.pdb_container.specs.Fault.{Parses};
 ghost use Rattle.pdb_container.specs.Fields.{Reader, bytes_of, number_at, signed_at, c_string_at, pascal_string_at};
 ghost use Rattle.pdb_container.specs.RawString.{raw_bytes};
 
 use crate::error::{Error, Result};
+use crate::numbers::nul_in;
 use crate::raw_string::RawString;
 use std::marker::Model;
 
-/// Bytes that are read in order. A call that is refused leaves them and the place in them as they were.
+/// A parse buffer: bytes that are read in order. A call that is refused leaves them and the place in them as they were.
 #[derive(Debug, Drop)]
 pub struct ParseBuffer<'b> {
     bytes: &'b [u8],
@@ -40,14 +41,14 @@ impl<'b> From<&'b [u8]> for ParseBuffer<'b> {
     }
 }
 
-/// What can be read of bytes that are read in order.
+/// A value that can be read at the place of a parse buffer.
 pub trait FromBuffer {
     /// What the bytes that are left say: a value and the bytes behind it, or the fault.
     ghost read: { Reader Self };
 
     /// The value at the buffer's place. Where it is refused, the place may have moved.
     fn from_buffer(buffer: &mut ParseBuffer<'_>) -> Result<Self>
-        ensures { ReadsOn (λ x. x) result buffer.old buffer.new read };
+        ensures { ReadsInSteps (λ x. x) result buffer.old buffer.new read };
 }
 
 impl<'b> ParseBuffer<'b> {
@@ -66,7 +67,7 @@ impl<'b> ParseBuffer<'b> {
         self.len() == 0
     }
 
-    /// The place of the next byte, counted from 0.
+    /// The place of the next byte, in bytes counted from 0.
     #[tactic(auto, unfolding(crate::specs::Buffer::rest))]
     pub fn pos(&self) -> usize
         ensures pos { result ≡ self.now.pos }
@@ -75,7 +76,7 @@ impl<'b> ParseBuffer<'b> {
         self.pos
     }
 
-    /// Goes to a place, or to the end where the place lies past it.
+    /// Goes to a place in bytes, or to the end where the place lies past it.
     #[tactic(auto, using(crate::proofs::Taking::drop_within), unfolding(crate::specs::Buffer::rest))]
     pub fn seek(&mut self, pos: usize)
         ensures place { self.new ≡ record { bytes = self.old.bytes; pos = min pos (length self.old.bytes) } }
@@ -96,7 +97,8 @@ impl<'b> ParseBuffer<'b> {
         Ok(())
     }
 
-    /// Goes to the least multiple of `alignment`, which is at least 1, at or past the place; `UnexpectedEof` past the end.
+    /// Goes to the least multiple of `alignment`, which is at least 1, at or past the place; `UnexpectedEof` past the
+    /// end.
     #[tactic(auto, unfolding(crate::specs::Buffer::aligned))]
     pub fn align(&mut self, alignment: usize) -> Result<()>
         requires { 0 < alignment }
@@ -242,7 +244,7 @@ impl<'b> ParseBuffer<'b> {
         }
     }
 
-    /// The bytes before the next NUL, which is read too; `UnexpectedEof` where there is no NUL.
+    /// A C string: the bytes before the next NUL, which is read too; `UnexpectedEof` where there is no NUL.
     #[tactic(auto, using(crate::proofs::Taking::text_read, crate::proofs::Taking::text_missing), unfolding(crate::specs::Fields::c_string_at))]
     pub fn parse_cstring(&mut self) -> Result<RawString<'b>>
         ensures value { Reads raw_bytes result self.old self.new c_string_at }
@@ -255,7 +257,7 @@ impl<'b> ParseBuffer<'b> {
         Ok(RawString::from(&text[..end]))
     }
 
-    /// A length in one byte and so many bytes; `UnexpectedEof` where any is missing.
+    /// A Pascal string: a length in one byte and so many bytes; `UnexpectedEof` where any is missing.
     #[tactic(auto, unfolding(crate::specs::Fields::pascal_string_at))]
     pub fn parse_u8_pascal_string(&mut self) -> Result<RawString<'b>>
         ensures value { Reads raw_bytes result self.old self.new pascal_string_at }
@@ -271,12 +273,4 @@ impl<'b> ParseBuffer<'b> {
             }
         }
     }
-}
-
-/// Where the first NUL is.
-fn nul_in(bytes: &[u8]) -> Option<usize>
-    ensures value { result ≡ position (λ byte. byte == 0) bytes.now }
-    ensures within { IfSome result (λ n. n < length bytes.now) }
-{
-    bytes.iter().position(|byte| *byte == 0)
 }

@@ -1,4 +1,4 @@
-//! Why a call on a container failed.
+//! Errors of reading a program database.
 
 ghost use Rattle.std.specs.Prelude.{◌≡◌};
 ghost use Rattle.pdb_container.specs.declared.error.Error.TheVariants.{OutOfMemory};
@@ -10,20 +10,20 @@ use std::alloc::{AllocError, AllocFailed};
 use std::io::ErrorKind;
 use std::{fmt, io};
 
-/// What a call on a program database answers.
+/// What a call on a program database returns.
 pub type Result<T> = std::result::Result<T, Error>;
 
 /// Why a call on a program database failed. It prints as its variant's name and, in parentheses, its
 /// values.
 #[derive(Clone, Copy, Debug, PartialEq, Eq)]
 pub enum Error {
-    /// The file's first 4096 bytes are not there, or don't begin with the magic of the format.
+    /// The file's first 4096 bytes are not there, or don't begin with the magic of a big MSF container.
     UnrecognizedFileFormat,
-    /// The page size, which is no power of two from 0x100 to 0x800000.
+    /// An MSF page size in bytes that is no power of two from 0x100 to 0x800000.
     InvalidPageSize(u32),
-    /// A page number, which is not from 1 to the number of pages used.
+    /// An MSF page number that is not from 1 to the number of pages used.
     PageReferenceOutOfRange(u32),
-    /// The stream's number, at which the directory has no stream.
+    /// The number of a stream that the MSF directory doesn't have.
     StreamNotFound(u32),
     /// No stream has the name.
     StreamNameNotFound,
@@ -39,9 +39,9 @@ pub enum Error {
     GlobalSymbolsNotFound,
     /// A symbol's length leaves no room for its kind.
     SymbolTooShort,
-    /// The symbol's kind is iterated over, and not parsed.
+    /// The kind (`S_*`) of a symbol that has no form here.
     UnimplementedSymbolKind(u16),
-    /// The header of types or ids contradicts itself; the text says how.
+    /// The header of types (TPI) or ids (IPI) contradicts itself; the text says how.
     InvalidTypeInformationHeader(&'static str),
     /// A type's or an id's length leaves no room for its leaf.
     TypeTooShort,
@@ -49,38 +49,38 @@ pub enum Error {
     TypeNotFound(u32),
     /// The index, which lies past the known blocks, and the first index that is not known.
     TypeNotIndexed(u32, u32),
-    /// The prefix begins no number.
+    /// The prefix of a numeric leaf that begins no number.
     UnexpectedNumericPrefix(u16),
-    /// The leaf is not parsed.
+    /// The leaf (`LF_*`) of a record that has no form here.
     UnimplementedTypeKind(u16),
-    /// The kind of a file's checksum is unknown.
+    /// The kind of a source file's checksum that is unknown.
     UnimplementedFileChecksumKind(u8),
-    /// The file index, which lies past the checksums.
+    /// The file index, in bytes, at or past the end of the checksums.
     InvalidFileChecksumOffset(u32),
-    /// The byte begins no compressed number.
+    /// A byte of binary annotations that begins no compressed number.
     InvalidCompressedAnnotation,
-    /// The opcode of an annotation is unknown.
+    /// The opcode of a binary annotation that is unknown.
     UnknownBinaryAnnotation(u32),
-    /// The index leads to no other module.
+    /// The index of a type or an id that leads to no other module: its bit 31 is not set.
     NotACrossModuleRef(u32),
-    /// The module's imports lack the index.
+    /// The index of a type or an id that the module's imports lack.
     CrossModuleRefNotFound(u32),
     /// The fault of a module's stream, which was kept when the module was read.
     Kept(ModuleFault),
-    /// Memory was refused.
+    /// Out of memory.
     OutOfMemory,
 }
 
 /// Why a module's stream can't be read, as it is kept for later calls.
 #[derive(Clone, Copy, Debug, PartialEq, Eq)]
 pub enum ModuleFault {
-    /// As the variant of [`Error`] of that name.
+    /// The number of a stream that the MSF directory doesn't have.
     StreamNotFound(u32),
-    /// As the variant of [`Error`] of that name.
+    /// An MSF page number that is not from 1 to the number of pages used.
     PageReferenceOutOfRange(u32),
-    /// As the variant of [`Error`] of that name.
+    /// The source failed; `UnexpectedEof` where a page lies past its end.
     IoError(ErrorKind),
-    /// As the variant of [`Error`] of that name.
+    /// Bytes end where more are needed.
     UnexpectedEof,
 }
 
@@ -202,7 +202,8 @@ impl From<ModuleFault> for Error {
     }
 }
 
-/// The fault of a module's stream, as it is kept. Want of memory, and whatever else no stream answers, stays an error.
+/// The fault of a module's stream, as it is kept. Out of memory, and whatever else is no fault of a stream, stays an
+/// error.
 impl TryFrom<Error> for ModuleFault {
     type Error = Error;
 

@@ -2,7 +2,7 @@
 
 ghost use Rattle.std.specs.Prelude.{◌≡◌, Option, Result, Ok, None, IfErr, ⊤};
 
-/// An iterator whose steps may fail. After an error it answers `None`.
+/// An iterator whose steps may fail. After an error it returns `None`.
 pub trait FallibleIterator {
     /// What it goes over.
     type Item;
@@ -10,10 +10,10 @@ pub trait FallibleIterator {
     /// Why a step fails.
     type Error;
 
-    /// Whether it answers nothing more: it does so from its first error on.
+    /// Whether it returns nothing more: it does so from its first error on.
     ghost has_ended: { Self → Type 0 };
 
-    /// What may be answered at a state, and the state behind it.
+    /// What may be returned at a state, and the state behind it.
     ghost next_gives: { Self → Result (Option Self.Item) Self.Error → Self → Type 0 };
 
     /// The next item; `None` at the end, and after an error.

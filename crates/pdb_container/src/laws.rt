@@ -53,8 +53,8 @@ pub fn equal_texts_hash_alike()
     ensures hash { (a b : Text) → raw_bytes a ≡ raw_bytes b → ⟦<RawString<'static> as Hash>⟧.hash_input a ≡ ⟦<RawString<'static> as Hash>⟧.hash_input b }
 {}
 
-/// Offsets of names, slices and kept faults are equal exactly where they are one and the same, and errors where they say
-/// the same fault, or both that memory was refused: `==` leaves out no part of them. Offsets come in the order of their
+/// Offsets of names, slices and kept faults are equal exactly where they are one and the same, and errors where they
+/// say the same fault, or both that memory ran out: `==` leaves out no part of them. Offsets come in the order of their
 /// numbers.
 pub fn equal_values_are_one()
     ensures offsets { (a b : Offset) → (⟦<StringRef as PartialEq>⟧.eq a b ≡ true) ↔ (a ≡ b) }

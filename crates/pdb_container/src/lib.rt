@@ -1,8 +1,9 @@
-//! The container of a program database: a file's pages, the streams that lie in them, and the
-//! numbers in a stream's bytes.
+//! The MSF container of a program database: a file's pages, the streams that lie in them, and the numbers in a stream's
+//! bytes. The format is that of microsoft-pdb's msf.h and of LLVM's The MSF File Format.
 #![tactic(auto)]
 
 mod buffer;
+mod entry_list;
 mod error;
 mod fallible_iterator;
 pub mod laws;
@@ -14,9 +15,11 @@ mod source;
 mod string_table;
 
 pub use buffer::{FromBuffer, ParseBuffer};
+pub use entry_list::parse_entries;
 pub use error::{Error, ModuleFault, Result, kind_name};
 pub use fallible_iterator::FallibleIterator;
 pub use msf::{BigMSF, Msf, Stream, open_msf};
+pub use numbers::{nul_in, padding_behind, word_at};
 pub use page_list::PageList;
 pub use raw_string::RawString;
 pub use source::{ReadView, Source, SourceSlice};

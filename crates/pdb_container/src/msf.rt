@@ -1,15 +1,16 @@
-//! Streams in the pages of a file.
+//! MSF streams: the header, the directory, and the pages in which each stream lies.
 
 ghost use Rattle.std.specs.Prelude.{◌≡◌, ◌+◌, ◌*◌, ◌<◌, ◌≤◌, ◌^◌, ◌-◌, List, ℕ, map, length, vec_len, take, drop, IfOk, IfErr, IsOk, ◌⊎◌};
 ghost use Rattle.std.specs.List.{sum_by};
-ghost use Rattle.pdb_container.specs.Container.{words, word_at as word_in, header_in, front_in, behind_header as behind, pages_in, layout_of, directory_of, stream_in, stream, place_in, page_count, at_most, list_count as lists_for};
-ghost use Rattle.pdb_container.specs.Answers.{AnswersFrom};
+ghost use Rattle.pdb_container.specs.Container.{words, header_in, front_in, behind_header as behind, pages_in, layout_of, directory_of, stream_in, stream, stream_pages_in, page_count, at_most, list_count as lists_for};
+ghost use Rattle.pdb_container.specs.SourceAnswers.{AnswersFrom};
 ghost use Rattle.pdb_container.specs.Header.{layout, IsSound};
 ghost use Rattle.std.specs.declared.io.ErrorKind.TheVariants.{UnexpectedEof};
 ghost use Rattle.pdb_container.specs.Fault.{error_of, fault_of, IoError, Gives, HasRisen, IsOutside};
 ghost use Rattle.pdb_container.specs.Places.{bytes_at, page_places, IsPaged};
 
 use crate::error::{Error, Result};
+use crate::numbers::word_at;
 use crate::page_list::PageList;
 use crate::source::{ReadView, Source, SourceSlice};
 use std::alloc::Global;
@@ -29,7 +30,7 @@ const HEADER_SIZE: usize = 52;
 /// How many bytes the header and its list of pages lie in.
 const HEADER_VIEW: usize = 4096;
 
-/// What the header says.
+/// The MSF header, as far as it is used: page size in bytes, pages used, directory size in bytes, and its list pages.
 #[derive(Debug, Drop)]
 pub struct Header {
     page_size: u32,
@@ -38,7 +39,7 @@ pub struct Header {
     list_pages: Vec<u32>,
 }
 
-/// A stream's bytes.
+/// An MSF stream: its bytes.
 #[derive(Debug, Drop)]
 pub struct Stream<'s> {
     view: ReadView,
@@ -143,7 +144,7 @@ fn pages_for(page_size: u32, size: u32) -> u32
 }
 
 /// The size and the pages of a stream, by the directory's numbers.
-#[tactic(auto, using(crate::proofs::Paging::pages_enough), unfolding(crate::specs::Container::place_in))]
+#[tactic(auto, using(crate::proofs::Paging::pages_enough), unfolding(crate::specs::Container::stream_pages_in))]
 fn place_of(
     alloc: Global,
     page_size: u32,
@@ -152,7 +153,7 @@ fn place_of(
     number: u32,
 ) -> Result<(u32, Vec<u32>)>
     requires { 0 < page_size }
-    ensures exact { Gives (λ found. (found.0, found.1.items)) ⊥ result (place_in page_size used number directory.now) }
+    ensures exact { Gives (λ found. (found.0, found.1.items)) ⊥ result (stream_pages_in page_size used number directory.now) }
     ensures enough { IfOk result (λ found. found.0 ≤ vec_len found.1 * page_size) }
     ensures few { IfOk result (λ found. vec_len found.1 < 2 ^ 32) }
 {
@@ -314,13 +315,6 @@ fn list_count(page_size: u32, directory_size: u32) -> usize
     (4 * directory_size.div_ceil(page_size)).div_ceil(page_size) as usize
 }
 
-fn word_at(bytes: &[u8], at: usize) -> u32
-    requires { at + 4 ≤ length bytes.now }
-    ensures { result ≡ word_in bytes.now at }
-{
-    u32::from_le_bytes([bytes[at], bytes[at + 1], bytes[at + 2], bytes[at + 3]])
-}
-
 /// The first bytes of a source.
 #[tactic(auto, using(crate::proofs::First::first_is, crate::proofs::First::first_len, crate::proofs::First::first_on))]
 fn read_first<S: Source>(source: &mut S, alloc: Global, size: usize) -> io::Result<ReadView>
@@ -351,20 +345,20 @@ fn read_front<S: Source>(source: &mut S, alloc: Global) -> Result<ReadView>
     }
 }
 
-/// The streams of a container.
+/// An MSF container: numbered streams over a source.
 pub trait Msf<'s, S: Source> {
     /// The source of the container's bytes.
     ghost source: { Self → S };
 
-    /// The bytes of a stream, or its first `limit` bytes; the directory is read anew. A call that is refused changes no
-    /// later answer. `StreamNotFound`, `PageReferenceOutOfRange`, `UnexpectedEof`; `IoError` past the file's end, and where
-    /// the source failed.
+    /// An MSF stream by its number, or its first `limit` bytes; the directory is read anew. A call that is refused
+    /// changes no later result. `StreamNotFound`, `PageReferenceOutOfRange`, `UnexpectedEof`; `IoError` past the file's
+    /// end, and where the source failed.
     fn get(&mut self, alloc: Global, stream_number: u32, limit: Option<usize>) -> Result<Stream<'s>>
         ensures { AnswersFrom S.bytes S.failures (source self.old) (source self.new) (λ s. s) result
             (stream (S.bytes (source self.old)) stream_number limit) };
 }
 
-/// An open container in the format with big pages, over a source, which is its value in contracts.
+/// An open big MSF container over a source, which is its value in contracts.
 #[derive(Drop)]
 pub struct BigMSF<'s, S: Source> {
     source: S,
@@ -402,8 +396,9 @@ impl<'s, S: Source> Msf<'s, S> for BigMSF<'s, S> {
     }
 }
 
-/// Opens the container that a source holds: its header and the numbers of its list pages, in the first 4096 bytes.
-/// `UnrecognizedFileFormat`, `InvalidPageSize`, `PageReferenceOutOfRange`, `UnexpectedEof`; `IoError` where the source failed.
+/// Opens the MSF container that a source holds: its header and the numbers of its list pages, in the first 4096 bytes.
+/// `UnrecognizedFileFormat`, `InvalidPageSize`, `PageReferenceOutOfRange`, `UnexpectedEof`; `IoError` where the source
+/// failed.
 #[tactic(auto, using(crate::proofs::Outside::outside_alone, crate::proofs::Outside::outside_with), unfolding(crate::specs::Container::layout_of))]
 pub fn open_msf<'s, S: Source + Drop>(alloc: Global, mut source: S) -> Result<BigMSF<'s, S>>
     ensures file { IfOk result (λ m. (S.bytes m ≡ S.bytes source) × (S.failures source ≤ S.failures m) × IsOk (layout_of (S.bytes source))) }

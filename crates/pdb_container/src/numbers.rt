@@ -1,10 +1,35 @@
-//! Numbers as values that are read in order.
+//! Numbers as values that are read in order; numbers and NULs at places of bytes.
 
 ghost use Rattle.std.specs.Int.{w8, w16, w32, w64};
-ghost use Rattle.pdb_container.specs.Fields.{number_at, signed_at};
+ghost use Rattle.std.specs.Prelude.{◌≡◌, ◌+◌, ◌<◌, ◌≤◌, ◌==◌, length, position, IfSome};
+ghost use Rattle.pdb_container.specs.Container.{word_at as word_in};
+ghost use Rattle.pdb_container.specs.Fields.{number_at, signed_at, padding};
 
 use crate::buffer::{FromBuffer, ParseBuffer};
 use crate::error::Result;
+
+/// The number in the four bytes from a place on, its lowest byte first.
+pub fn word_at(bytes: &[u8], at: usize) -> u32
+    requires { at + 4 ≤ length bytes.now }
+    ensures { result ≡ word_in bytes.now at }
+{
+    u32::from_le_bytes([bytes[at], bytes[at + 1], bytes[at + 2], bytes[at + 3]])
+}
+
+/// Where the first NUL is.
+pub fn nul_in(bytes: &[u8]) -> Option<usize>
+    ensures value { result ≡ position (λ byte. byte == 0) bytes.now }
+    ensures within { IfSome result (λ n. n < length bytes.now) }
+{
+    bytes.iter().position(|byte| *byte == 0)
+}
+
+/// How many bytes lie from a place to the next multiple of 4.
+pub fn padding_behind(place: usize) -> usize
+    ensures { result ≡ padding place }
+{
+    (4 - place % 4) % 4
+}
 
 impl FromBuffer for u8 {
     ghost read = { number_at w8 };

@@ -1,4 +1,4 @@
-//! Pages of a source, joined into slices.
+//! Lists of MSF pages, joined into slices of the source.
 
 ghost use Rattle.std.specs.Prelude.{[], ◌≡◌, ◌+◌, ◌*◌, ◌<◌, ◌≤◌, ◌^◌, ◌++◌, length, take, OnOk, OnErr, IsOkUnless};
 ghost use Rattle.pdb_container.specs.Pages.{page, AreApart};
@@ -9,7 +9,7 @@ use crate::source::SourceSlice;
 use std::alloc::Global;
 use std::marker::Model;
 
-/// Pages, one after the other, and perhaps cut.
+/// A list of MSF pages, one after the other, and perhaps cut.
 #[derive(Debug, Drop)]
 pub struct PageList {
     page_size: usize,
@@ -30,7 +30,7 @@ impl Model for PageList {
 }
 
 impl PageList {
-    /// No pages of so many bytes each, 1 to 0x800000.
+    /// A list of no pages, of so many bytes each, 1 to 0x800000.
     pub fn new(alloc: Global, page_size: usize) -> PageList
         requires { (0 < page_size) × (page_size ≤ 0x800000) }
         ensures { result ≡ record { page_size = page_size; places = [] } }
@@ -78,7 +78,8 @@ impl PageList {
         self.len = self.len.min(bytes);
     }
 
-    /// The slices whose bytes, joined end to end, are those of the pages. None is empty, and none ends where the next begins.
+    /// The slices whose bytes, joined end to end, are those of the pages. None is empty, and none ends where the next
+    /// begins.
     pub fn source_slices(&self) -> &[SourceSlice]
         ensures joined { places_of result.now ≡ self.now.places }
         ensures apart { AreApart result.now }

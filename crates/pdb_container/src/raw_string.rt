@@ -1,4 +1,4 @@
-//! Texts of a database.
+//! Raw strings: texts of a database whose encoding isn't known.
 
 ghost use Rattle.std.specs.Prelude.{◌≡◌, ◌==◌, length, IsOk, IfOk, IsOkUnless};
 ghost use Rattle.std.specs.Cow.{cow_str_bytes, IsBorrowedStr};
@@ -12,8 +12,8 @@ use std::alloc::Global;
 use std::borrow::CowStr;
 use std::fmt;
 
-/// A text whose encoding isn't known, mostly UTF-8: a name of a symbol, a type, a module or a file. It prints as UTF-8 with
-/// U+FFFD for what is no character.
+/// A raw string: a text whose encoding isn't known, mostly UTF-8, as the name of a symbol, a type, a module or a file.
+/// It prints as UTF-8 with U+FFFD for what is no character.
 #[derive(Clone, Copy, PartialEq, Eq, Hash)]
 pub struct RawString<'b>(&'b [u8]);
 

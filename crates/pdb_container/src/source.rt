@@ -1,4 +1,4 @@
-//! Where a container's bytes come from.
+//! Sources: where a container's bytes come from.
 
 ghost use Rattle.std.specs.Prelude.{◌≡◌, ℕ, ◌+◌, ◌≤◌, ◌-◌, ◌^◌, List, length, min, is_ok, IsOk, IfSome, IfOk, IfErr, MatchOption, ◌⊎◌};
 ghost use Rattle.std.specs.declared.io.ErrorKind.TheVariants.{UnexpectedEof};
@@ -11,16 +11,16 @@ use std::io;
 use std::io::ErrorKind;
 use std::marker::Model;
 
-/// Some bytes of a source, one after the other.
+/// A slice of a source: some bytes, one after the other.
 #[derive(Clone, Copy, Debug, PartialEq, Eq)]
 pub struct SourceSlice {
     /// Where they begin, in bytes from the source's beginning.
     pub offset: u64,
-    /// How many bytes.
+    /// How many bytes there are.
     pub size: usize,
 }
 
-/// Bytes that a source gave.
+/// A view of a source: the bytes that it returned.
 #[derive(Debug, Drop)]
 pub struct ReadView {
     bytes: Vec<u8>,
@@ -48,7 +48,7 @@ impl ReadView {
     }
 }
 
-/// Fixed bytes that may be read anywhere.
+/// A source: fixed bytes that may be read anywhere.
 pub trait Source {
     /// The bytes, which no call changes.
     ghost bytes: { Self → List ℕ };
@@ -59,7 +59,7 @@ pub trait Source {
     /// The bytes at the slices, joined.
     ///
     /// # Errors
-    /// `UnexpectedEof` past the end, and only there. Any other failure but want of memory raises the count of failures.
+    /// `UnexpectedEof` past the end, and only there. Any other failure but out of memory raises the count of failures.
     fn view(&mut self, alloc: Global, slices: &[SourceSlice]) -> io::Result<ReadView>
         ensures same { bytes self.new ≡ bytes self.old }
         ensures counts { failures self.old ≤ failures self.new }

@@ -1,9 +1,9 @@
-//! The table of names that lines and modules refer to.
+//! The string table (`/names`): the names that lines and modules refer to. Its layout is microsoft-pdb's nmt.h.
 
 ghost use Rattle.std.specs.Prelude.{◌≡◌, ◌≤◌, length, take, drop, IfOk};
 ghost use Rattle.std.specs.Cow.{cow_str_bytes};
 ghost use Rattle.pdb_container.specs.Fault.{Gives, Parses};
-ghost use Rattle.pdb_container.specs.Names.{names_of, name_in, text_in};
+ghost use Rattle.pdb_container.specs.StringTable.{names_of, name_in, text_in};
 ghost use Rattle.pdb_container.specs.RawString.{raw_bytes};
 
 use crate::buffer::ParseBuffer;
@@ -20,11 +20,11 @@ const SIGNATURE: u32 = 0xeffe_effe;
 /// How many bytes lie before the names.
 const HEADER_SIZE: usize = 12;
 
-/// Where a name begins among a table's names, in bytes.
+/// An offset into the string table (`/names`): where a name begins among the table's names, in bytes.
 #[derive(Clone, Copy, Debug, PartialEq, Eq, PartialOrd, Ord, Hash)]
 pub struct StringRef(pub u32);
 
-/// A table of names, in a stream of its own.
+/// The string table (`/names`): names in a stream of their own.
 #[derive(Debug, Drop)]
 pub struct StringTable<'s> {
     stream: Stream<'s>,
@@ -51,7 +51,7 @@ impl<'s> StringTable<'s> {
     }
 
     /// The name at a place among the names; `UnexpectedEof` outside them, and where no NUL among them ends it.
-    #[tactic(auto, unfolding(crate::specs::Names::name_in))]
+    #[tactic(auto, unfolding(crate::specs::StringTable::name_in))]
     pub fn get(&self, offset: StringRef) -> Result<RawString<'_>>
         ensures { Parses raw_bytes result (name_in self.now offset.0) }
     {
@@ -91,7 +91,7 @@ impl StringRef {
 }
 
 /// The names of a table that these bytes are.
-#[tactic(auto, using(crate::proofs::Names::names_behind), unfolding(crate::specs::Names::names_of))]
+#[tactic(auto, using(crate::proofs::Names::names_behind), unfolding(crate::specs::StringTable::names_of))]
 fn names_in(bytes: &[u8]) -> Result<&[u8]>
     ensures value { Parses (λ names. names.now) result (names_of bytes.now) }
     ensures place { IfOk result (λ names. names.now ≡ take (length names.now) (drop 12 bytes.now)) }

@@ -7,7 +7,7 @@ use Rattle.std.specs.Simd.{first_chunks}
 use Rattle.pdb_container.specs.Fault.{Fault, UnexpectedEof}
 use Rattle.pdb_container.specs.Fields.{number_at, bytes_of, entries_within}
 use Rattle.pdb_indices.specs.RecordFields.{many_at}
-use Rattle.pdb_cross_modules.specs.Exports.{export_at, export_in, exports_in, exports_of}
+use Rattle.pdb_cross_modules.specs.Exports.{export_at, export_in, exports_by_eight, exports_of}
 
 -- the first chunks of bytes lie in any front that has them
 chunks_in_front : (size n m : ℕ) (bytes : List ℕ) → n * size ≤ m → first_chunks size n (take m bytes) ≡ first_chunks size n bytes
@@ -61,6 +61,7 @@ numbers_read n bytes part left taken = elim (cases_lt (length bytes) (4 * n)) [
       rw (count, front, behind, chunks_in_front 4 n (4 * n) bytes (omega arith)) (all_there n bytes le)
 ]
 
+-- numbers whose bytes are missing are missing
 pub numbers_missing : (n : ℕ) (bytes : List ℕ) (e : Fault) → bytes_of (4 * n) bytes ≡ Err e → numbers n bytes ≡ Err e
 numbers_missing n bytes e refused = elim (cases_lt (length bytes) (4 * n)) [
   | inl lt ↦
@@ -89,7 +90,7 @@ pair_missing bytes few = elim (cases_lt (length bytes) 4) [
   | inr le ↦ rw (le-ltb (length bytes) 4 le, lt-ltb (length (drop 4 bytes)) 4 (omega (arith, length-drop 4 bytes))) refl
 ]
 
-all_whole : (n steps : ℕ) (bytes : List ℕ) → length bytes ≡ 8 * n → n ≤ steps → entries_within export_at steps bytes ≡ Ok (exports_in (first_chunks 8 n bytes))
+all_whole : (n steps : ℕ) (bytes : List ℕ) → length bytes ≡ 8 * n → n ≤ steps → entries_within export_at steps bytes ≡ Ok (exports_by_eight (first_chunks 8 n bytes))
 unfolding entries_within
 all_whole zero steps [] whole enough = refl
 all_whole zero steps (b ∷ bytes) whole enough = absurd (omega arith)
@@ -107,8 +108,10 @@ last_cut (suc n) (suc steps) (b ∷ bytes) some few enough =
     let left = length-drop 8 (b ∷ bytes) in
     rw (pair_read (b ∷ bytes) (omega arith), last_cut n steps (drop 8 (b ∷ bytes)) (omega (arith, left)) (omega (arith, left)) (omega arith)) refl
 
-pub exports_whole : (bytes : List ℕ) → length bytes % 8 ≡ 0 → exports_of bytes ≡ Ok (exports_in (first_chunks 8 (length bytes / 8) bytes))
+-- bytes that are made of whole entries are exports, eight bytes each
+pub exports_whole : (bytes : List ℕ) → length bytes % 8 ≡ 0 → exports_of bytes ≡ Ok (exports_by_eight (first_chunks 8 (length bytes / 8) bytes))
 exports_whole bytes whole = all_whole (length bytes / 8) (length bytes) bytes (omega arith) (omega arith)
 
+-- bytes that aren't made of whole entries are refused
 pub exports_cut : (bytes : List ℕ) → length bytes % 8 ≢ 0 → exports_of bytes ≡ Err UnexpectedEof
 exports_cut bytes cut = last_cut (length bytes / 8) (length bytes) bytes (omega arith) (omega arith) (omega arith)

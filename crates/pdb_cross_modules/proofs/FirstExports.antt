@@ -42,8 +42,10 @@ none_found : (exports : List Export) (local : ℕ) → Lack exports local → fi
 none_found [] local lack = refl
 none_found (e ∷ exports) local lack = passed e exports local lack.0 ∙ none_found exports local lack.1
 
+-- an export is found exactly where it is the first of its index
 pub found : (exports : List Export) (local global : ℕ) → (first_export exports local ≡ Some global) ↔ IsFirst exports local global
 found exports local global = (first_is exports local global, is_first exports local global)
 
+-- none is found exactly where no export has the index
 pub missing : (exports : List Export) (local : ℕ) → (first_export exports local ≡ None) ↔ Lack exports local
 missing exports local = (none_there exports local, none_found exports local)

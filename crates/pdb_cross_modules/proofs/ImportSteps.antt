@@ -9,6 +9,7 @@ use Rattle.pdb_container.proofs.Entries.{entries_front, entries_more}
 use Rattle.pdb_cross_modules.specs.declared.imports.ImportedModule.{ImportedModule}
 use Rattle.pdb_cross_modules.specs.Imports.{Import, import_in, import_at}
 
+-- the view of the element at a place is the element at that place of the views
 pub mapped_at : {A B : Type 0} (view : A → B) (xs : List A) (place : ℕ) → slice_get (map view xs) place ≡ option_map view (slice_get xs place)
 mapped_at view xs place = slice_get-map view xs place
 

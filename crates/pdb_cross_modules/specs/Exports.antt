@@ -1,4 +1,5 @@
--- What a module gives to other modules: by which indices it knows this, and where it stands in the file's tables.
+-- Cross-module exports: by which indices a module knows what it gives, and where that stands in the file's tables.
+-- The layout is that of LocalIdAndGlobalIdPair in microsoft-pdb's cvinfo.h, as the pdb crate reads it.
 use Rattle.std.specs.Prelude.{◌≡◌, ◌≢◌, ℕ, ◌==◌, List, ◌∷◌, ◌++◌, map, Option, option_map, Result, Ok, if◌then◌else◌}
 use Rattle.std.specs.Int.{w32}
 use Rattle.std.specs.List.{find, AllByRecursion}
@@ -12,11 +13,11 @@ use Rattle.pdb_cross_modules.specs.declared.exports.CrossModuleExport.{CrossModu
 use Rattle.pdb_cross_modules.specs.declared.exports.CrossModuleExport.TheVariants as forms
 use Rattle.pdb_cross_modules.specs.declared.exports.Export.{Export}
 
--- an index as the module names it, and the index in the file's table
+-- an export: an index as the module names it, and the index in the TPI or the IPI
 abbrev pub Entry : Type 0
 Entry = Export
 
--- such a pair
+-- an export, 8 bytes: both indices
 unfoldable pub export_at : Reader Export
 export_at bytes = do
   local ← number_at w32 bytes
@@ -27,7 +28,7 @@ export_at bytes = do
 abbrev pub exports_of : List ℕ → Result (List Export) Fault
 exports_of bytes = entries export_at bytes
 
--- the index in the file's table for one as the module names it: the first export of that counts
+-- the index in the TPI or the IPI for one as the module names it: the first export of that counts
 abbrev pub first_export : List Export → ℕ → Option ℕ
 first_export exports local = option_map (λ e. e.global) (find (λ e. e.local == local) exports)
 
@@ -51,6 +52,6 @@ IsFirst exports local global = (front others : List Export) × Lack front local 
 abbrev pub export_in : List ℕ → Export
 export_in chunk = record { local = word_at chunk 0; global = word_at chunk 4 }
 
--- the same of each 8 bytes
-abbrev pub exports_in : List (List ℕ) → List Export
-exports_in chunks = map export_in chunks
+-- the exports in chunks of 8 bytes each
+abbrev pub exports_by_eight : List (List ℕ) → List Export
+exports_by_eight chunks = map export_in chunks

@@ -1,4 +1,5 @@
--- What a module takes from other modules: of which modules, and by which indices these know it.
+-- Cross-module imports, what a module takes from other modules: of which modules, and by which indices these know it.
+-- The layout is that of CrossScopeReferences in microsoft-pdb's cvinfo.h, as the pdb crate reads it.
 use Rattle.std.specs.Prelude.{ℕ, ◌/◌, ◌%◌, ◌^◌, List, map, slice_get, Option, option_map, option_and_then, Result, Ok, ok_or}
 use Rattle.std.specs.Int.{w32, from_le_bytes}
 use Rattle.pdb_container.specs.Fault.{Fault, NotACrossModuleRef, CrossModuleRefNotFound, ◌>>=◌, guard}
@@ -13,7 +14,7 @@ pub record Import : Type 0 where
   pub name : ℕ
   pub locals : List ℕ
 
--- the name, how many indices, and these
+-- a named module: the name's offset, how many indices, and these
 unfoldable pub import_at : Reader Import
 import_at bytes = do
   name ← number_at w32 bytes
@@ -29,7 +30,7 @@ imports_of bytes = entries import_at bytes
 abbrev pub module_of : ℕ → ℕ
 module_of index = index / 2 ^ 20 % 2 ^ 11
 
--- and which of its entries, counted from 0: bits 0 to 19
+-- which of that module's entries an index into another module means, counted from 0: bits 0 to 19
 abbrev pub entry_of : ℕ → ℕ
 entry_of index = index % 2 ^ 20
 
@@ -58,10 +59,10 @@ imported imports index = do
 abbrev pub numbers_in : List (List ℕ) → List ℕ
 numbers_in chunks = map (from_le_bytes w32) chunks
 
--- a module as it is kept
+-- a named module as it is kept
 abbrev pub import_in : ImportedModule → Import
 import_in m = record { name = m.name.0.0; locals = numbers_in m.locals.now }
 
--- an answer, whose index counts as this number
+-- a reference that was returned, whose index counts as this number
 abbrev pub reference : {I : Type 0} → (I → ℕ) → CrossModuleRef I → Imported
 reference number r = record { name = r.0.0.0; local = number r.1.0 }

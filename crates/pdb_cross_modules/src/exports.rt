@@ -1,8 +1,8 @@
-//! What a module gives to other modules.
+//! Cross-module exports (`DEBUG_S_CROSSSCOPEEXPORTS`): what a module gives to other modules.
 
 ghost use Rattle.std.specs.Prelude.{◌≡◌, ◌==◌, length, map, option_map, Ok};
 ghost use Rattle.pdb_container.specs.Fault.{Parses};
-ghost use Rattle.pdb_cross_modules.specs.Exports.{exports_of, exports_in, export_in, export_form, first_export};
+ghost use Rattle.pdb_cross_modules.specs.Exports.{exports_of, exports_by_eight, export_in, export_form, first_export};
 
 use pdb_container::{Error, Result};
 use pdb_indices::{IdIndex, ItemIndex, Local, TypeIndex};
@@ -15,7 +15,7 @@ struct Export {
     global: u32,
 }
 
-/// What a module gives to other modules: its index as the module names it, and its index in the file's table.
+/// A cross-module export: an index as the module names it, and the index in the TPI or the IPI.
 #[derive(Clone, Copy, Debug, PartialEq, Eq)]
 pub enum CrossModuleExport {
     /// A type.
@@ -24,7 +24,7 @@ pub enum CrossModuleExport {
     Id(Local<IdIndex>, IdIndex),
 }
 
-/// What a module gives to other modules, in the order of its entries.
+/// The cross-module exports of a module (`DEBUG_S_CROSSSCOPEEXPORTS`), in the order of their entries.
 #[derive(Debug, Drop)]
 pub struct CrossModuleExports<'a> {
     pairs: &'a [[u8; 8]],
@@ -32,12 +32,12 @@ pub struct CrossModuleExports<'a> {
 
 impl<'a> Model for CrossModuleExports<'a> {
     ghost use Rattle.std.specs.Prelude.{List};
-    ghost use Rattle.pdb_cross_modules.specs.Exports.{exports_in};
+    ghost use Rattle.pdb_cross_modules.specs.Exports.{exports_by_eight};
     ghost use Rattle.pdb_cross_modules.specs.declared.exports.Export.{Export as Pair};
 
     ghost Value = { List Pair };
 
-    ghost view = { λ e. exports_in e.pairs.now };
+    ghost view = { λ e. exports_by_eight e.pairs.now };
 }
 
 /// The exports of a module that gives nothing.
@@ -52,8 +52,8 @@ impl<'a> Default for CrossModuleExports<'a> {
 }
 
 impl<'a> CrossModuleExports<'a> {
-    /// The exports that these bytes spell: for each the index as the module names it and the index in the file's table, four
-    /// bytes each. `UnexpectedEof` where bytes are missing.
+    /// The cross-module exports that these bytes spell: for each the index as the module names it and the index in the
+    /// TPI or the IPI, four bytes each. `UnexpectedEof` where bytes are missing.
     #[tactic(auto, using(crate::proofs::Chunks::exports_whole, crate::proofs::Chunks::exports_cut))]
     pub fn parse(bytes: &'a [u8]) -> Result<CrossModuleExports<'a>>
         ensures { Parses (λ exports. exports) result (exports_of bytes.now) }
@@ -65,29 +65,29 @@ impl<'a> CrossModuleExports<'a> {
         Ok(CrossModuleExports { pairs })
     }
 
-    /// How many exports.
+    /// How many cross-module exports there are.
     pub fn len(&self) -> usize
         ensures { result ≡ length self.now }
     {
         self.pairs.len()
     }
 
-    /// Whether there is no export.
+    /// Whether there is no cross-module export.
     pub fn is_empty(&self) -> bool
         ensures { result ≡ (length self.now == 0) }
     {
         self.pairs.is_empty()
     }
 
-    /// The exports in the order of their entries.
+    /// The cross-module exports in the order of their entries.
     pub fn exports(&self) -> CrossModuleExportIter<'_>
         ensures { result ≡ map export_form self.now }
     {
         CrossModuleExportIter { left: self.pairs }
     }
 
-    /// The index in the file's table for an index as the module names it, by the first export of that; `None` exactly where no
-    /// export has it. It is never an error.
+    /// The index in the TPI or the IPI for an index as the module names it, by the first export of that; `None` exactly
+    /// where no export has it. It is never an error.
     pub fn resolve_import<I: ItemIndex>(&self, import: Local<I>) -> Result<Option<I>>
         ensures { result ≡ Ok (option_map I.index (first_export self.now (I.number import.0))) }
     {
@@ -99,7 +99,7 @@ impl<'a> CrossModuleExports<'a> {
     }
 }
 
-/// An iterator over what a module gives to other modules.
+/// An iterator over cross-module exports.
 #[derive(Debug, Drop)]
 pub struct CrossModuleExportIter<'e> {
     left: &'e [[u8; 8]],
@@ -107,12 +107,12 @@ pub struct CrossModuleExportIter<'e> {
 
 impl<'e> Model for CrossModuleExportIter<'e> {
     ghost use Rattle.std.specs.Prelude.{List, map};
-    ghost use Rattle.pdb_cross_modules.specs.Exports.{exports_in, export_form};
+    ghost use Rattle.pdb_cross_modules.specs.Exports.{exports_by_eight, export_form};
     ghost use Rattle.pdb_cross_modules.specs.declared.exports.CrossModuleExport.{CrossModuleExport as Given};
 
     ghost Value = { List Given };
 
-    ghost view = { λ i. map export_form (exports_in i.left.now) };
+    ghost view = { λ i. map export_form (exports_by_eight i.left.now) };
 }
 
 impl<'e> Iterator for CrossModuleExportIter<'e> {
@@ -158,7 +158,7 @@ fn form_of(export: Export) -> CrossModuleExport
 /// The index in the file's table by the first of these exports of an index.
 #[tactic(auto, using(crate::proofs::ExportSteps::first_more, crate::proofs::ExportSteps::first_found, crate::proofs::ExportSteps::first_missing))]
 fn first_global(pairs: &[[u8; 8]], local: u32) -> Option<u32>
-    ensures { result ≡ first_export (exports_in pairs.now) local }
+    ensures { result ≡ first_export (exports_by_eight pairs.now) local }
 {
     for pair in pairs {
         let export = read_pair(pair);

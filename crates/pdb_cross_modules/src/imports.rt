@@ -1,8 +1,8 @@
-//! What a module takes from other modules.
+//! Cross-module imports (`DEBUG_S_CROSSSCOPEIMPORTS`): what a module takes from other modules.
 
 ghost use Rattle.std.specs.Prelude.{◌≡◌, map, [], option_map, slice_get};
 ghost use Rattle.std.specs.Int.{w32};
-ghost use Rattle.pdb_container.specs.Buffer.{rest, ReadsAll};
+ghost use Rattle.pdb_container.specs.Buffer.{rest, ParsesFront};
 ghost use Rattle.pdb_container.specs.Fault.{Gives, Parses};
 ghost use Rattle.pdb_container.specs.Fields.{number_at};
 ghost use Rattle.pdb_indices.specs.RecordFields.{many_at};
@@ -13,11 +13,11 @@ use pdb_indices::{ItemIndex, Local};
 use std::alloc::Global;
 use std::marker::Model;
 
-/// A module that another one names: where its name begins in the table of names.
+/// A module that another one names: where its name begins in the string table.
 #[derive(Clone, Copy, Debug, PartialEq, Eq, PartialOrd, Ord, Hash)]
 pub struct ModuleRef(pub StringRef);
 
-/// What an index stands for in another module: that module, and the index as it names it.
+/// A cross-module reference: what an index stands for in another module, as that module and the index as it names it.
 #[derive(Clone, Copy, Debug, PartialEq, Eq, PartialOrd, Ord, Hash)]
 pub struct CrossModuleRef<I>(pub ModuleRef, pub Local<I>);
 
@@ -28,7 +28,8 @@ struct ImportedModule<'a> {
     locals: &'a [[u8; 4]],
 }
 
-/// What a module takes from other modules: the modules, and for each the indices as it names them.
+/// The cross-module imports of a module (`DEBUG_S_CROSSSCOPEIMPORTS`): the modules, and for each the indices as it
+/// names them.
 #[derive(Debug, Drop)]
 pub struct CrossModuleImports<'a> {
     modules: Vec<ImportedModule<'a>>,
@@ -44,7 +45,7 @@ impl<'a> Model for CrossModuleImports<'a> {
 }
 
 impl<'a> CrossModuleImports<'a> {
-    /// The imports of a module that takes nothing.
+    /// The cross-module imports of a module that takes nothing.
     pub fn empty(alloc: Global) -> CrossModuleImports<'a>
         ensures { result ≡ [] }
     {
@@ -53,7 +54,8 @@ impl<'a> CrossModuleImports<'a> {
         }
     }
 
-    /// The imports that these bytes spell: for each module its name, how many indices, and these, four bytes each.
+    /// The cross-module imports that these bytes spell: for each module its name, how many indices, and these, four
+    /// bytes each.
     ///
     /// # Errors
     /// `UnexpectedEof` where bytes are missing; `OutOfMemory`.
@@ -64,11 +66,12 @@ impl<'a> CrossModuleImports<'a> {
         Ok(CrossModuleImports { modules })
     }
 
-    /// What an index of this module stands for in another module. Bits 20 to 30 of the index pick the other module, and bits
-    /// 0 to 19 the entry, both counted from 0.
+    /// The cross-module reference of an index: what it stands for in another module. Bits 20 to 30 of the index pick
+    /// the other module, and bits 0 to 19 the entry, both counted from 0.
     ///
     /// # Errors
-    /// `NotACrossModuleRef` for an index without bit 31, `CrossModuleRefNotFound` where there is no such module or entry.
+    /// `NotACrossModuleRef` for an index without bit 31, `CrossModuleRefNotFound` where there is no such module or
+    /// entry.
     pub fn resolve_import<I: ItemIndex>(&self, index: I) -> Result<CrossModuleRef<I>>
         ensures { Parses (reference I.number) result (imported self.now (I.number index)) }
     {
@@ -105,7 +108,7 @@ fn parse_modules<'a>(alloc: Global, bytes: &'a [u8]) -> Result<Vec<ImportedModul
 /// The module at the buffer's place; the place may have moved where it is refused.
 #[tactic(auto, unfolding(crate::specs::Imports::import_at))]
 fn parse_module<'a>(buffer: &mut ParseBuffer<'a>) -> Result<ImportedModule<'a>>
-    ensures { ReadsAll import_in result (rest buffer.new) (import_at (rest buffer.old)) }
+    ensures { ParsesFront import_in result (rest buffer.new) (import_at (rest buffer.old)) }
 {
     let name = ModuleRef(StringRef(buffer.parse_u32()?));
     let count = buffer.parse_u32()?;
@@ -116,7 +119,7 @@ fn parse_module<'a>(buffer: &mut ParseBuffer<'a>) -> Result<ImportedModule<'a>>
 /// So many indices, four bytes each.
 #[tactic(auto, using(crate::proofs::Chunks::numbers_read, crate::proofs::Chunks::numbers_missing))]
 fn parse_locals<'a>(buffer: &mut ParseBuffer<'a>, count: u32) -> Result<&'a [[u8; 4]]>
-    ensures { ReadsAll (λ locals. numbers_in locals.now) result (rest buffer.new) (many_at (number_at w32) count (rest buffer.old)) }
+    ensures { ParsesFront (λ locals. numbers_in locals.now) result (rest buffer.new) (many_at (number_at w32) count (rest buffer.old)) }
 {
     let bytes = buffer.take(4 * count as usize)?;
     let (locals, _) = bytes.as_chunks::<4>();

@@ -1,4 +1,6 @@
-//! What modules name of one another: the types and ids that a module takes from other modules, and those that it gives.
+//! Cross-module imports (`DEBUG_S_CROSSSCOPEIMPORTS`) and exports (`DEBUG_S_CROSSSCOPEEXPORTS`): the types and ids that
+//! a module takes from other modules, and those that it gives. The layouts are those of microsoft-pdb's cvinfo.h, as
+//! the pdb crate reads them.
 #![tactic(auto)]
 
 mod exports;

@@ -9,15 +9,18 @@ use Rattle.pdb_indices.specs.RecordFields.{many_at}
 abbrev pub many_front : {A : Type 0} → List A → Result (List A × List ℕ) Fault → Result (List A × List ℕ) Fault
 many_front front read = read >>= λ x. Ok (front ++ x.0, x.1)
 
-regroup : {A : Type 0} (front : List A) (x : A) (read : Result (List A × List ℕ) Fault) → many_front front (read >>= λ others. Ok (x ∷ others.0, others.1)) ≡ many_front (front ++ x ∷ []) read
+-- a value that is read first may stand in front of the others
+pub regroup : {A : Type 0} (front : List A) (x : A) (read : Result (List A × List ℕ) Fault) → many_front front (read >>= λ others. Ok (x ∷ others.0, others.1)) ≡ many_front (front ++ x ∷ []) read
 regroup {A} front x (Ok others) = ap (λ (xs : List A). Ok (xs, others.1)) (sym (append_assoc front (x ∷ []) others.0))
 regroup front x (Err e) = refl
 
+-- no value in front of all of so many
 pub many_start : {A : Type 0} (one : Reader A) (count : ℕ) (bytes : List ℕ) → many_front [] (many_at one (count - 0) bytes) ≡ many_at one count bytes
 many_start {A} one count bytes =
     let k : count - 0 ≡ count = omega arith in
     rw k (elim (many_at one count bytes) as (λ (r : Result (List A × List ℕ) Fault). many_front [] r ≡ r) [ Ok xs ↦ refl | Err e ↦ refl ])
 
+-- one value more in front, and one less to come
 pub many_more : {A : Type 0} (one : Reader A) (front : List A) (count i : ℕ) (bytes rest : List ℕ) (x : A) (total : Result (List A × List ℕ) Fault) → i < count → one bytes ≡ Ok (x, rest)
     → many_front front (many_at one (count - i) bytes) ≡ total → many_front (front ++ x ∷ []) (many_at one (count - (i + 1)) rest) ≡ total
 unfolding many_at
@@ -27,6 +30,7 @@ many_more one front count i bytes rest x total lt read so_far =
     rw (k, read) (regroup front x (many_at one (count - (i + 1)) rest)) in
     sym now ∙ so_far
 
+-- a value that is refused refuses all
 pub many_fail : {A : Type 0} (one : Reader A) (front : List A) (count i : ℕ) (bytes : List ℕ) (e : Fault) (total : Result (List A × List ℕ) Fault) → i < count → one bytes ≡ Err e
     → many_front front (many_at one (count - i) bytes) ≡ total → total ≡ Err e
 unfolding many_at
@@ -35,6 +39,7 @@ many_fail one front count i bytes e total lt read so_far =
     let now : many_front front (many_at one (count - i) bytes) ≡ Err e = rw (k, read) refl in
     sym so_far ∙ now
 
+-- as many values as were asked for
 pub many_done : {A : Type 0} (one : Reader A) (front : List A) (count i : ℕ) (bytes : List ℕ) (total : Result (List A × List ℕ) Fault) → count ≤ i
     → many_front front (many_at one (count - i) bytes) ≡ total → total ≡ Ok (front, bytes)
 unfolding many_at

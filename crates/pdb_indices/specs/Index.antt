@@ -1,7 +1,8 @@
 -- Indices as numbers of 32 bits.
+-- That bit 31 leads into another module is in microsoft-pdb's cvinfo.h and in the pdb crate.
 use Rattle.std.specs.Prelude.{ℕ, ◌^◌, Bool, not, ◌==◌}
 use Rattle.std.specs.Int.RustNames.{bit_and}
 
--- bit 31
+-- whether an index leads into another module: bit 31
 abbrev pub is_cross_module : ℕ → Bool
 is_cross_module n = not (bit_and n (2 ^ 31) == 0)

@@ -1,4 +1,5 @@
 -- Fields of records: each is a value and the bytes behind it, or the fault of what is missing.
+-- Numeric leaves and names are those of microsoft-pdb's cvinfo.h and of LLVM's CodeView Type Records.
 use Rattle.std.specs.Prelude.{ℕ, ◌||◌, List, Option, Some, None, Ok, Err, nat_lt, ◌==◌, if◌then◌else◌, Result, zero, suc, [], ◌∷◌}
 use Rattle.std.specs.Int.{w8, w16, w32, w64}
 use Rattle.pdb_container.specs.declared.error.Error.{Error}
@@ -9,28 +10,31 @@ use Rattle.pdb_indices.specs.declared.index.IdIndex.{IdIndex}
 use Rattle.pdb_indices.specs.declared.variant.Variant.{Variant}
 use Rattle.pdb_indices.specs.declared.variant.Variant.TheVariants as variants
 
--- A call gave what reading gives and went behind it, unless memory was refused.
-abbrev pub GivesAll : {X Y : Type 0} → (X → Y) → Result X Error → List ℕ → Result (Y × List ℕ) Fault → Type 0
-GivesAll view result new read = Gives (λ x. (view x, new)) ⊥ result read
+-- A call returned what reading gives and advanced past it, unless memory was short.
+abbrev pub GivesFront : {X Y : Type 0} → (X → Y) → Result X Error → List ℕ → Result (Y × List ℕ) Fault → Type 0
+GivesFront view result new read = Gives (λ x. (view x, new)) ⊥ result read
 
 -- ---- indices
 
+-- the index of a type, 4 bytes
 unfoldable pub type_index_at : Reader TypeIndex
 type_index_at bytes = do
   n ← number_at w32 bytes
   Ok (record { 0 = n.0 }, n.1)
 
+-- the index of an id, 4 bytes
 unfoldable pub id_index_at : Reader IdIndex
 id_index_at bytes = do
   n ← number_at w32 bytes
   Ok (record { 0 = n.0 }, n.1)
 
--- an index, none at 0 and at 0xffff
+-- the index of a type, 4 bytes: none at 0 and at 0xffff
 unfoldable pub optional_type_index_at : Reader (Option TypeIndex)
 optional_type_index_at bytes = do
   n ← number_at w32 bytes
   if n.0 == 0 || n.0 == 0xffff then Ok (None, n.1) else Ok (Some record { 0 = n.0 }, n.1)
 
+-- the index of an id, 4 bytes: none at 0 and at 0xffff
 unfoldable pub optional_id_index_at : Reader (Option IdIndex)
 optional_id_index_at bytes = do
   n ← number_at w32 bytes
@@ -38,7 +42,7 @@ optional_id_index_at bytes = do
 
 -- ---- numbers that say their own width
 
--- an unsigned number: the prefix itself, or what stands behind it
+-- an unsigned number by its prefix: the prefix itself below 0x8000, or what stands behind it
 abbrev pub numeric_behind : ℕ → Reader ℕ
 numeric_behind prefix bytes =
     if nat_lt prefix 0x8000 then Ok (prefix, bytes)
@@ -48,15 +52,17 @@ numeric_behind prefix bytes =
     else (if prefix == 0x800a then number_at w64 bytes
     else Err (UnexpectedNumericPrefix prefix)))))
 
+-- an unsigned number that says its own width (LF_CHAR, LF_USHORT, LF_ULONG, LF_UQUADWORD)
 unfoldable pub numeric_at : Reader ℕ
 numeric_at bytes = do
   prefix ← number_at w16 bytes
   numeric_behind prefix.0 prefix.1
 
+-- a field that was read, made a value of another kind
 abbrev pub as_value : {A B : Type 0} → (A → B) → Result (A × List ℕ) Fault → Result (B × List ℕ) Fault
 as_value make read = read >>= λ x. Ok (make x.0, x.1)
 
--- a number with its width, signed or not
+-- a number with its width by its prefix, signed or not: the prefix itself below 0x8000, or what stands behind it
 abbrev pub variant_behind : ℕ → Reader Variant
 variant_behind prefix bytes =
     if nat_lt prefix 0x8000 then Ok (variants.U16 prefix, bytes)
@@ -69,6 +75,7 @@ variant_behind prefix bytes =
     else (if prefix == 0x800a then as_value variants.U64 (number_at w64 bytes)
     else Err (UnexpectedNumericPrefix prefix))))))))
 
+-- a number with the width that it says, signed or not (LF_CHAR to LF_UQUADWORD)
 unfoldable pub variant_at : Reader Variant
 variant_at bytes = do
   prefix ← number_at w16 bytes

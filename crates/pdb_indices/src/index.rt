@@ -3,7 +3,7 @@
 ghost use Rattle.std.specs.Prelude.{◌≡◌, ◌<◌, ◌^◌, ℕ};
 ghost use Rattle.pdb_indices.specs.Index.{is_cross_module};
 
-/// The index of an item: a number of 32 bits, which tells types and ids apart by its own type.
+/// An index of the TPI (types) or the IPI (ids): a number of 32 bits, which tells types and ids apart by its own type.
 pub trait ItemIndex: Copy + Default + PartialEq + PartialOrd + From<u32> + Into<u32> {
     /// The index as a number.
     ghost number: { Self → ℕ };
@@ -28,7 +28,7 @@ pub trait ItemIndex: Copy + Default + PartialEq + PartialOrd + From<u32> + Into<
     ghost to_number: { (x : Self) (n : ℕ) → Self.Into.converts x n → n ≡ number x };
 }
 
-/// The index of a type.
+/// A type index: the index of a type in the TPI (stream 2).
 #[derive(Clone, Copy, Debug, Default, PartialEq, Eq, PartialOrd, Ord, Hash)]
 pub struct TypeIndex(pub u32);
 
@@ -69,7 +69,7 @@ impl ItemIndex for TypeIndex {
     ghost to_number = { type_index_into };
 }
 
-/// The index of an id: of a function, a text or a place in the source.
+/// An id index: the index of a function, a text or a place in the source in the IPI (stream 4).
 #[derive(Clone, Copy, Debug, Default, PartialEq, Eq, PartialOrd, Ord, Hash)]
 pub struct IdIndex(pub u32);
 
@@ -110,7 +110,7 @@ impl ItemIndex for IdIndex {
     ghost to_number = { id_index_into };
 }
 
-/// An index as one module names it, which leads into another module where bit 31 is set.
+/// A cross-module index: an index as one module names it, which leads into another module where bit 31 is set.
 #[derive(Clone, Copy, Debug, Default, PartialEq, Eq, PartialOrd, Ord, Hash)]
 pub struct Local<I>(pub I);
 

@@ -11,7 +11,7 @@ use crate::index::{IdIndex, Local, TypeIndex};
 use crate::numbers::{FileIndex, SymbolIndex};
 use std::hash::Hash;
 
-/// `==` of indices answers true exactly for one and the same index, and equal ones hash alike.
+/// `==` of indices returns true exactly for one and the same index, and equal ones hash alike.
 pub fn equal_indices_hash_alike()
     ensures types { (a b : TypeNumber) → ((⟦<TypeIndex as PartialEq>⟧.eq a b ≡ true) ↔ (a ≡ b)) × (a ≡ b → ⟦<TypeIndex as Hash>⟧.hash_input a ≡ ⟦<TypeIndex as Hash>⟧.hash_input b) }
     ensures ids { (a b : IdNumber) → ((⟦<IdIndex as PartialEq>⟧.eq a b ≡ true) ↔ (a ≡ b)) × (a ≡ b → ⟦<IdIndex as Hash>⟧.hash_input a ≡ ⟦<IdIndex as Hash>⟧.hash_input b) }
@@ -21,7 +21,7 @@ pub fn equal_indices_hash_alike()
     ensures local_ids { (a b : LocalOf IdNumber) → ((⟦<Local<IdIndex> as PartialEq>⟧.eq a b ≡ true) ↔ (a ≡ b)) × (a ≡ b → ⟦<Local<IdIndex> as Hash>⟧.hash_input a ≡ ⟦<Local<IdIndex> as Hash>⟧.hash_input b) }
 {}
 
-/// `==` of indices as a module names them answers what `==` of the indices does.
+/// `==` of indices as a module names them returns what `==` of the indices does.
 pub fn equal_locals<I: PartialEq>()
     ensures { (a b : LocalOf I) → ⟦<Local<I> as PartialEq>⟧.eq a b ≡ I.eq a.0 b.0 }
 {}

@@ -1,4 +1,5 @@
-//! Indices, and the fields of records: what all readers of records stand on.
+//! Indices of types and ids, numeric leaves, and the fields of CodeView records: what all readers of records stand on.
+//! The layouts are those of microsoft-pdb's cvinfo.h and of LLVM's CodeView Type Records.
 #![tactic(auto)]
 
 mod index;

@@ -1,9 +1,9 @@
-//! Numbers that name a file of the source, and a symbol.
+//! File indices and symbol indices.
 
-/// The number of a file in a module's line data: the place of its checksum.
+/// A file index: the place of a file's entry among its module's checksums (`DEBUG_S_FILECHKSMS`), in bytes.
 #[derive(Clone, Copy, Debug, Default, PartialEq, Eq, PartialOrd, Ord, Hash)]
 pub struct FileIndex(pub u32);
 
-/// The number of a symbol: its place in the bytes of its list.
+/// A symbol index: the place of a symbol in the bytes of its list.
 #[derive(Clone, Copy, Debug, Default, PartialEq, Eq, PartialOrd, Ord, Hash)]
 pub struct SymbolIndex(pub u32);

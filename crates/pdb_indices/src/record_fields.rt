@@ -1,9 +1,9 @@
-//! Fields of records.
+//! Fields of CodeView records: indices, names, and values one behind the other.
 
 ghost use Rattle.std.specs.Prelude.{◌≡◌};
-ghost use Rattle.pdb_container.specs.Buffer.{rest, ReadsAll};
+ghost use Rattle.pdb_container.specs.Buffer.{rest, ParsesFront};
 ghost use Rattle.pdb_container.specs.RawString.{raw_bytes};
-ghost use Rattle.pdb_indices.specs.RecordFields.{GivesAll, type_index_at, id_index_at, optional_type_index_at, optional_id_index_at, name_at, many_at};
+ghost use Rattle.pdb_indices.specs.RecordFields.{GivesFront, type_index_at, id_index_at, optional_type_index_at, optional_id_index_at, name_at, many_at};
 
 use crate::index::{IdIndex, TypeIndex};
 use pdb_container::{FromBuffer, ParseBuffer, RawString, Result};
@@ -27,10 +27,10 @@ impl FromBuffer for IdIndex {
     }
 }
 
-/// The index of a type, or none where the number is 0 or 0xffff.
+/// A type index, or none where the number is 0 or 0xffff.
 #[tactic(auto, unfolding(crate::specs::RecordFields::optional_type_index_at))]
 pub fn parse_optional_type_index(buffer: &mut ParseBuffer<'_>) -> Result<Option<TypeIndex>>
-    ensures { ReadsAll (λ x. x) result (rest buffer.new) (optional_type_index_at (rest buffer.old)) }
+    ensures { ParsesFront (λ x. x) result (rest buffer.new) (optional_type_index_at (rest buffer.old)) }
 {
     let number = buffer.parse_u32()?;
     if number == 0 || number == 0xffff {
@@ -39,10 +39,10 @@ pub fn parse_optional_type_index(buffer: &mut ParseBuffer<'_>) -> Result<Option<
     Ok(Some(TypeIndex(number)))
 }
 
-/// The index of an id, or none where the number is 0 or 0xffff.
+/// An id index, or none where the number is 0 or 0xffff.
 #[tactic(auto, unfolding(crate::specs::RecordFields::optional_id_index_at))]
 pub fn parse_optional_id_index(buffer: &mut ParseBuffer<'_>) -> Result<Option<IdIndex>>
-    ensures { ReadsAll (λ x. x) result (rest buffer.new) (optional_id_index_at (rest buffer.old)) }
+    ensures { ParsesFront (λ x. x) result (rest buffer.new) (optional_id_index_at (rest buffer.old)) }
 {
     let number = buffer.parse_u32()?;
     if number == 0 || number == 0xffff {
@@ -54,7 +54,7 @@ pub fn parse_optional_id_index(buffer: &mut ParseBuffer<'_>) -> Result<Option<Id
 /// A name in a record with that leaf: a C string above 0x1500, else a Pascal string.
 #[tactic(auto, unfolding(crate::specs::RecordFields::name_at))]
 pub fn parse_name<'t>(buffer: &mut ParseBuffer<'t>, leaf: u16) -> Result<RawString<'t>>
-    ensures { ReadsAll raw_bytes result (rest buffer.new) (name_at leaf (rest buffer.old)) }
+    ensures { ParsesFront raw_bytes result (rest buffer.new) (name_at leaf (rest buffer.old)) }
 {
     if leaf > 0x1500 {
         buffer.parse_cstring()
@@ -70,7 +70,7 @@ pub fn parse_many<T: FromBuffer + Drop>(
     buffer: &mut ParseBuffer<'_>,
     count: u32,
 ) -> Result<Vec<T>>
-    ensures { GivesAll (λ v. v.items) result (rest buffer.new) (many_at T.read count (rest buffer.old)) }
+    ensures { GivesFront (λ v. v.items) result (rest buffer.new) (many_at T.read count (rest buffer.old)) }
 {
     let mut values = Vec::new(alloc);
     for _ in 0..count {

@@ -1,28 +1,36 @@
-//! Numbers that say their own width.
+//! Numeric leaves (`LF_CHAR` to `LF_UQUADWORD`): numbers that say their own width.
 
 ghost use Rattle.std.specs.Prelude.{◌≡◌};
-ghost use Rattle.pdb_container.specs.Buffer.{rest, ReadsAll};
+ghost use Rattle.pdb_container.specs.Buffer.{rest, ParsesFront};
 ghost use Rattle.pdb_indices.specs.RecordFields.{numeric_at, variant_at};
 
 use pdb_container::{Error, ParseBuffer, Result};
 
-/// A number as it is stored, with its width and whether it is signed.
+/// A numeric leaf: a number as it is stored, with its width and whether it is signed.
 #[derive(Clone, Copy, Debug, PartialEq, Eq, Hash)]
 pub enum Variant {
+    /// `LF_CHAR` (0x8000): one byte.
     U8(u8),
+    /// `LF_USHORT` (0x8002): two bytes; or a prefix below 0x8000, which is the number itself.
     U16(u16),
+    /// `LF_ULONG` (0x8004): four bytes.
     U32(u32),
+    /// `LF_UQUADWORD` (0x800a): eight bytes.
     U64(u64),
+    /// One byte in two's complement, which no record spells.
     I8(i8),
+    /// `LF_SHORT` (0x8001): two bytes in two's complement.
     I16(i16),
+    /// `LF_LONG` (0x8003): four bytes in two's complement.
     I32(i32),
+    /// `LF_QUADWORD` (0x8009): eight bytes in two's complement.
     I64(i64),
 }
 
-/// An unsigned number. `UnexpectedNumericPrefix`, `UnexpectedEof`.
+/// A numeric leaf that is no negative number. `UnexpectedNumericPrefix`, `UnexpectedEof`.
 #[tactic(auto, unfolding(crate::specs::RecordFields::numeric_at))]
 pub fn parse_numeric(buffer: &mut ParseBuffer<'_>) -> Result<u64>
-    ensures { ReadsAll (λ x. x) result (rest buffer.new) (numeric_at (rest buffer.old)) }
+    ensures { ParsesFront (λ x. x) result (rest buffer.new) (numeric_at (rest buffer.old)) }
 {
     let prefix = buffer.parse_u16()?;
     match prefix {
@@ -35,10 +43,10 @@ pub fn parse_numeric(buffer: &mut ParseBuffer<'_>) -> Result<u64>
     }
 }
 
-/// A number as it is stored. `UnexpectedNumericPrefix`, `UnexpectedEof`.
+/// A numeric leaf as it is stored. `UnexpectedNumericPrefix`, `UnexpectedEof`.
 #[tactic(auto, unfolding(crate::specs::RecordFields::variant_at))]
 pub fn parse_variant(buffer: &mut ParseBuffer<'_>) -> Result<Variant>
-    ensures { ReadsAll (λ x. x) result (rest buffer.new) (variant_at (rest buffer.old)) }
+    ensures { ParsesFront (λ x. x) result (rest buffer.new) (variant_at (rest buffer.old)) }
 {
     let prefix = buffer.parse_u16()?;
     match prefix {

@@ -2,6 +2,6 @@
 use Rattle.pdb_inlinees.specs.Inlinees.{InlinedFunction}
 use Rattle.pdb_inlinees.specs.declared.inlinee.Inlinee.{Inlinee}
 
--- what is known of an inlined function
+-- the code's inlinee, as the definitions see it
 abbrev pub inlined_function : Inlinee → InlinedFunction
 inlined_function i = record { index = i.index; file = i.file; line = i.line }

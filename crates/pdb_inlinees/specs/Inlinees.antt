@@ -1,4 +1,5 @@
--- Inlined functions, as a module lists them.
+-- Inlinees (DEBUG_S_INLINEELINES): inlined functions, as a module lists them.
+-- The layout is that of InlineeSourceLine and InlineeSourceLineEx in microsoft-pdb's cvinfo.h.
 use Rattle.std.specs.Prelude.{ℕ, ◌*◌, ◌==◌, Bool, List, [], Result, Ok, if◌then◌else◌}
 use Rattle.std.specs.Int.{w32}
 use Rattle.pdb_container.specs.Fault.{Fault, ◌>>=◌}
@@ -7,7 +8,7 @@ use Rattle.pdb_container.specs.Listing.{Listing, listing}
 use Rattle.pdb_indices.specs.declared.index.IdIndex.{IdIndex}
 use Rattle.pdb_indices.specs.declared.numbers.FileIndex.{FileIndex}
 
--- an inlined function, the file of its text and the line at which that begins
+-- an inlinee: the id of an inlined function, the file of its text and the line at which that begins
 pub record InlinedFunction : Type 0 where
   pub index : IdIndex
   pub file : FileIndex
@@ -23,7 +24,7 @@ files_at bytes = do
 abbrev pub further_files_at : Bool → Reader (List ℕ)
 further_files_at has_files bytes = if has_files then files_at bytes else Ok ([], bytes)
 
--- an entry, which may have further files
+-- an inlinee, which may have further files
 unfoldable pub inlinee_at : Bool → Reader InlinedFunction
 inlinee_at has_files bytes = do
   index ← number_at w32 bytes
@@ -32,7 +33,7 @@ inlinee_at has_files bytes = do
   files ← further_files_at has_files line.1
   Ok (record { index = record { 0 = index.0 }; file = record { 0 = file.0 }; line = line.0 }, files.1)
 
--- the entries of a subsection: behind a number 1 they have further files, behind any other they have none
+-- the inlinees of a subsection: behind a number 1 they have further files, behind any other they have none
 unfoldable pub inlinees_of : List ℕ → Result (Listing InlinedFunction) Fault
 inlinees_of bytes = do
   signature ← number_at w32 bytes

@@ -2,4 +2,4 @@ pub mod Inlinee
 pub mod Inlinees
 pub mod Operands
 pub mod InlinedRows
-pub mod ToCome
+pub mod RowsToCome

@@ -42,9 +42,10 @@ offset_change (kinds.ChangeCodeOffsetAndLineOffset offset line) = Some offset
 offset_change (kinds.ChangeCodeLengthAndCodeOffset length offset) = Some offset
 offset_change a = None
 
-abbrev pub file_of : BinaryAnnotation → Option FileIndex
-file_of (kinds.ChangeFile file) = Some file
-file_of a = None
+-- the file that holds from here on
+abbrev pub changed_file : BinaryAnnotation → Option FileIndex
+changed_file (kinds.ChangeFile file) = Some file
+changed_file a = None
 
 -- what is added to the line modulo 2^32: a line back is 2^32 - 1 lines on
 abbrev pub line_change : BinaryAnnotation → Option ℕ
@@ -62,10 +63,12 @@ abbrev pub range_kind : BinaryAnnotation → Option LineInfoKind
 range_kind (kinds.ChangeRangeKind kind) = if kind == 0 then Some made_of.Expression else (if kind == 1 then Some made_of.Statement else None)
 range_kind a = None
 
+-- the first column that holds from here on
 abbrev pub first_column : BinaryAnnotation → Option ℕ
 first_column (kinds.ChangeColumnStart column) = Some column
 first_column a = None
 
+-- the last column that holds from here on
 abbrev pub last_column : BinaryAnnotation → Option ℕ
 last_column (kinds.ChangeColumnEnd column) = Some column
 last_column a = None

@@ -1,7 +1,7 @@
-//! Inlined functions.
+//! Inlinees (`DEBUG_S_INLINEELINES`): inlined functions.
 
 ghost use Rattle.std.specs.Prelude.{◌≡◌, ◌<◌, ◌≤◌, [], None, length, IfOk};
-ghost use Rattle.pdb_container.specs.Buffer.{rest, ReadsAll};
+ghost use Rattle.pdb_container.specs.Buffer.{rest, ParsesFront};
 ghost use Rattle.pdb_container.specs.Fault.{Parses};
 ghost use Rattle.pdb_container.specs.Listing.{ending, Advances};
 ghost use Rattle.pdb_annotations.specs.Annotations.{annotation_bytes};
@@ -9,8 +9,8 @@ ghost use Rattle.pdb_inlinees.specs.Inlinee.{inlined_function};
 ghost use Rattle.pdb_inlinees.specs.Inlinees.{files_at, further_files_at, inlinee_at, inlinees_of};
 ghost use Rattle.pdb_inlinees.specs.InlinedRows.{inlined_rows};
 
+use crate::annotation_state::AnnotationState;
 use crate::line_iterator::InlineeLineIterator;
-use crate::origin::Origin;
 use pdb_addresses::PdbInternalSectionOffset;
 use pdb_annotations::InlineSiteSymbol;
 use pdb_container::{Error, FallibleIterator, ParseBuffer, Result};
@@ -18,7 +18,7 @@ use pdb_indices::{FileIndex, IdIndex};
 use pdb_subsections::LineInfoKind;
 use std::marker::{Model, PhantomData};
 
-/// A function that was inlined: its id, and the file and line at which its text begins.
+/// An inlinee: a function that was inlined, by its id, with the file and line at which its text begins.
 #[derive(Clone, Copy, Debug)]
 pub struct Inlinee<'a> {
     index: IdIndex,
@@ -28,14 +28,14 @@ pub struct Inlinee<'a> {
 }
 
 impl<'a> Inlinee<'a> {
-    /// The function's id.
+    /// The inlinee's id in the IPI.
     pub fn index(&self) -> IdIndex
         ensures { result ≡ (inlined_function self.now).index }
     {
         self.index
     }
 
-    /// The rows of a call of it, where the procedure around the call begins at `parent_offset`.
+    /// The line rows of a call of the inlinee, where the procedure around the call begins at `parent_offset`.
     pub fn lines(
         &self,
         parent_offset: PdbInternalSectionOffset,
@@ -43,7 +43,7 @@ impl<'a> Inlinee<'a> {
     ) -> InlineeLineIterator<'a>
         ensures { result ≡ inlined_rows parent_offset (inlined_function self.now) (annotation_bytes inline_site.now.annotations) }
     {
-        let origin = Origin {
+        let origin = AnnotationState {
             section: parent_offset.section,
             offset: parent_offset.offset,
             base: 0,
@@ -67,7 +67,7 @@ fn no_bytes<'a>() -> &'a [u8]
 /// The further files of an entry, as bytes, behind their count.
 #[tactic(auto, unfolding(crate::specs::Inlinees::files_at))]
 fn take_files<'a>(buffer: &mut ParseBuffer<'a>) -> Result<&'a [u8]>
-    ensures value { ReadsAll (λ files. files.now) result (rest buffer.new) (files_at (rest buffer.old)) }
+    ensures value { ParsesFront (λ files. files.now) result (rest buffer.new) (files_at (rest buffer.old)) }
     ensures taken { IfOk result (λ _. length (rest buffer.new) ≤ length (rest buffer.old)) }
 {
     let count = buffer.parse_u32()?;
@@ -76,7 +76,7 @@ fn take_files<'a>(buffer: &mut ParseBuffer<'a>) -> Result<&'a [u8]>
 
 /// The further files of an entry, as bytes; none, where entries have none.
 fn take_further_files<'a>(buffer: &mut ParseBuffer<'a>, has_files: bool) -> Result<&'a [u8]>
-    ensures value { ReadsAll (λ files. files.now) result (rest buffer.new) (further_files_at has_files (rest buffer.old)) }
+    ensures value { ParsesFront (λ files. files.now) result (rest buffer.new) (further_files_at has_files (rest buffer.old)) }
     ensures taken { IfOk result (λ _. length (rest buffer.new) ≤ length (rest buffer.old)) }
 {
     if has_files {
@@ -89,7 +89,7 @@ fn take_further_files<'a>(buffer: &mut ParseBuffer<'a>, has_files: bool) -> Resu
 /// An entry, which may have further files.
 #[tactic(auto, unfolding(crate::specs::Inlinees::inlinee_at))]
 fn parse_entry<'a>(buffer: &mut ParseBuffer<'a>, has_files: bool) -> Result<Inlinee<'a>>
-    ensures value { ReadsAll inlined_function result (rest buffer.new) (inlinee_at has_files (rest buffer.old)) }
+    ensures value { ParsesFront inlined_function result (rest buffer.new) (inlinee_at has_files (rest buffer.old)) }
     ensures taken { IfOk result (λ _. length (rest buffer.new) < length (rest buffer.old)) }
 {
     let index = IdIndex(buffer.parse_u32()?);
@@ -104,7 +104,7 @@ fn parse_entry<'a>(buffer: &mut ParseBuffer<'a>, has_files: bool) -> Result<Inli
     })
 }
 
-/// The inlined functions of a module, one by one. One that can't be read is answered as `UnexpectedEof`, and none comes
+/// An iterator over the inlinees of a module. One that can't be read is returned as `UnexpectedEof`, and none comes
 /// behind it.
 #[derive(Debug, Drop)]
 pub struct InlineeIterator<'a> {
@@ -125,7 +125,7 @@ impl<'a> Model for InlineeIterator<'a> {
 }
 
 impl<'a> InlineeIterator<'a> {
-    /// The entries in the bytes of a subsection of inlined functions; `UnexpectedEof` where these are fewer than four.
+    /// The inlinees in the bytes of a `DEBUG_S_INLINEELINES`; `UnexpectedEof` where these are fewer than four.
     #[tactic(auto, unfolding(crate::specs::Inlinees::inlinees_of))]
     pub fn parse(bytes: &'a [u8]) -> Result<InlineeIterator<'a>>
         ensures { Parses (λ i. i) result (inlinees_of bytes.now) }
@@ -139,7 +139,7 @@ impl<'a> InlineeIterator<'a> {
         })
     }
 
-    /// No entries, as of a module without such a subsection.
+    /// No inlinees, as of a module without `DEBUG_S_INLINEELINES`.
     pub fn empty() -> InlineeIterator<'a>
         ensures { result ≡ ending None }
     {

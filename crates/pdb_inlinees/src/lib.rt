@@ -1,9 +1,10 @@
-//! Inlined functions: which functions were inlined in a module, and the rows of their calls.
+//! Inlinees (`DEBUG_S_INLINEELINES`): which functions were inlined in a module, and the rows of their calls. The
+//! layouts are those of microsoft-pdb's cvinfo.h, as the pdb crate reads them.
 #![tactic(auto)]
 
+mod annotation_state;
 mod inlinee;
 mod line_iterator;
-mod origin;
 
 pub use inlinee::{Inlinee, InlineeIterator};
 pub use line_iterator::InlineeLineIterator;

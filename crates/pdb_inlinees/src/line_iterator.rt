@@ -2,13 +2,14 @@
 
 ghost use Rattle.std.specs.Prelude.{◌≡◌, ◌∷◌, [], List, None, Some, IfSome, IsSome, if◌then◌else◌};
 ghost use Rattle.pdb_container.specs.Listing.{ending, Advances};
+ghost use Rattle.pdb_addresses.specs.Numbers.{distance};
 ghost use Rattle.pdb_annotations.specs.Annotations.{is_emitting};
 ghost use Rattle.pdb_annotations.specs.declared.annotation.BinaryAnnotation.{BinaryAnnotation as Annotation};
-ghost use Rattle.pdb_inlinees.specs.InlinedRows.{all_rows, place_behind, distance, length_by};
+ghost use Rattle.pdb_inlinees.specs.InlinedRows.{all_rows, place_behind, length_by};
 ghost use Rattle.pdb_inlinees.specs.Operands.{own_length, given_length};
-ghost use Rattle.pdb_inlinees.specs.ToCome.{completed, rows_ahead, to_come, in_front};
+ghost use Rattle.pdb_inlinees.specs.RowsToCome.{completed, rows_ahead, to_come, row_in_front};
 
-use crate::origin::Origin;
+use crate::annotation_state::AnnotationState;
 use pdb_annotations::{BinaryAnnotation, BinaryAnnotationsIter};
 use pdb_container::{Error, FallibleIterator, Result};
 use pdb_subsections::{LineInfo, LineInfoKind};
@@ -26,14 +27,14 @@ fn length_of(annotation: BinaryAnnotation) -> Option<u32>
 
 /// The offset of the row that an annotation gives.
 #[tactic(auto, using(crate::proofs::OneMore::place_more))]
-fn place_at(origin: Origin, annotation: BinaryAnnotation) -> u32
+fn place_at(origin: AnnotationState, annotation: BinaryAnnotation) -> u32
     ensures { result ≡ place_behind origin (annotation ∷ []) }
 {
     origin.behind(annotation).place()
 }
 
 /// How far that row lies behind an offset, if the annotation gives one and it doesn't lie before that.
-fn distance_at(origin: Origin, start: u32, annotation: BinaryAnnotation) -> Option<u32>
+fn distance_at(origin: AnnotationState, start: u32, annotation: BinaryAnnotation) -> Option<u32>
     ensures { result ≡ (if is_emitting annotation then distance start (place_behind origin (annotation ∷ [])) else None) }
 {
     if annotation.emits_line_info() {
@@ -55,7 +56,7 @@ fn length_before(annotation: BinaryAnnotation) -> Option<u32>
 
 /// The length that an annotation gives a row that began before it.
 #[tactic(auto, unfolding(crate::specs::InlinedRows::length_by))]
-fn length_at(origin: Origin, row: LineInfo, annotation: BinaryAnnotation) -> Option<u32>
+fn length_at(origin: AnnotationState, row: LineInfo, annotation: BinaryAnnotation) -> Option<u32>
     ensures { result ≡ length_by origin row.offset.offset row.kind [] annotation }
 {
     if row.kind == origin.kind {
@@ -78,15 +79,15 @@ fn complete(row: LineInfo, length: Option<u32>) -> LineInfo
 /// What an annotation leaves: what is in force behind it, a row that waits for its length, and a row that is whole.
 #[derive(Clone, Copy)]
 struct Passed {
-    origin: Origin,
+    origin: AnnotationState,
     waiting: Option<LineInfo>,
     whole: Option<LineInfo>,
 }
 
 /// One step over an annotation, where a row may wait for its length.
 #[tactic(auto, using(crate::proofs::Steps::first_row, crate::proofs::Steps::next_row, crate::proofs::Steps::still_none, crate::proofs::Steps::still_open))]
-fn pass(origin: Origin, waiting: Option<LineInfo>, annotation: BinaryAnnotation) -> Passed
-    ensures rows { (after : List Annotation) → rows_ahead origin waiting (annotation ∷ after) ≡ in_front result.whole (rows_ahead result.origin result.waiting after) }
+fn pass(origin: AnnotationState, waiting: Option<LineInfo>, annotation: BinaryAnnotation) -> Passed
+    ensures rows { (after : List Annotation) → rows_ahead origin waiting (annotation ∷ after) ≡ row_in_front result.whole (rows_ahead result.origin result.waiting after) }
     ensures waits { IfSome result.whole (λ _. IsSome result.waiting) }
 {
     let next = origin.behind(annotation);
@@ -109,19 +110,19 @@ fn pass(origin: Origin, waiting: Option<LineInfo>, annotation: BinaryAnnotation)
     }
 }
 
-/// The rows of an inlined call, one by one. Where an annotation can't be read its fault is answered in place of the row
-/// before it, and none comes behind it.
+/// An iterator over the rows of an inlined call. Where an annotation can't be read its fault is returned in place of
+/// the row before it, and none comes behind it.
 #[derive(Debug, Drop)]
 pub struct InlineeLineIterator<'a> {
     annotations: BinaryAnnotationsIter<'a>,
-    origin: Origin,
+    origin: AnnotationState,
     waiting: Option<LineInfo>,
 }
 
 impl<'a> Model for InlineeLineIterator<'a> {
     ghost use Rattle.pdb_container.specs.Listing.{Listing};
     ghost use Rattle.pdb_subsections.specs.declared.line_info.LineInfo.{LineInfo};
-    ghost use Rattle.pdb_inlinees.specs.ToCome.{to_come};
+    ghost use Rattle.pdb_inlinees.specs.RowsToCome.{to_come};
 
     ghost Value = { Listing LineInfo };
 
@@ -133,7 +134,7 @@ impl<'a> InlineeLineIterator<'a> {
     #[tactic(auto, using(crate::proofs::Steps::from_first))]
     pub(crate) fn over(
         annotations: BinaryAnnotationsIter<'a>,
-        origin: Origin,
+        origin: AnnotationState,
     ) -> InlineeLineIterator<'a>
         ensures { result ≡ all_rows origin annotations.entry }
     {

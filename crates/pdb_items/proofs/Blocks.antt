@@ -4,8 +4,9 @@ use Rattle.std.proofs.Math.ListN.{replicate, set, length-replicate}
 use Rattle.std.proofs.lemmas.List.{get_or-replicate}
 use Rattle.std.proofs.lemmas.Grind.{get_or_default_zero}
 use Rattle.std.specs.List.{slice_get}
-use Rattle.pdb_items.specs.Items.{Table, ItemList, items_from, items_of, item_number, item_or_end}
-use Rattle.pdb_items.specs.Walking.{items_behind, IsPlaceAt, IsKept}
+use Rattle.pdb_container.specs.Listing.{Listing}
+use Rattle.pdb_items.specs.Items.{Table, items_from, items_of, item_number, item_or_end}
+use Rattle.pdb_items.specs.KeptPlaces.{items_behind, IsPlaceAt, IsKeptOfTable}
 use Rattle.pdb_items.proofs.Walks.{before_start}
 
 -- the first block's place is 0
@@ -14,7 +15,8 @@ first_place t fits k place none start =
     let here : t.minimum + 8 * k ≡ t.minimum = omega arith in
     rw (here, start) (omega arith, before_start t fits)
 
-pub kept_start : (t : Table) (n : ℕ) → t.minimum < 2 ^ 32 → n ≡ length t.bytes / 32 + 1 → IsKept t (replicate n 0) 1 None
+-- the place of the first block is kept at once
+pub kept_start : (t : Table) (n : ℕ) → t.minimum < 2 ^ 32 → n ≡ length t.bytes / 32 + 1 → IsKeptOfTable t (replicate n 0) 1 None
 kept_start t n fits size = record {
   some = omega arith;
   room = length-replicate {A = ℕ} n 0 ∙ size;
@@ -24,13 +26,14 @@ kept_start t n fits size = record {
 }
 
 -- each item takes four bytes, so that a block that is behind the known ones has room
-pub room_left : (t : Table) (places : List ℕ) (blocks place : ℕ) (end : Option ℕ) → IsKept t places blocks end → IsPlaceAt t (t.minimum + 8 * blocks) place → blocks < length places
+pub room_left : (t : Table) (places : List ℕ) (blocks place : ℕ) (end : Option ℕ) → IsKeptOfTable t places blocks end → IsPlaceAt t (t.minimum + 8 * blocks) place → blocks < length places
 room_left t places blocks place end kept here =
     let far = here.1.far in
     let room = kept.room in
     omega arith
 
-pub kept_more : (t : Table) (places : List ℕ) (blocks place : ℕ) (end : Option ℕ) → IsKept t places blocks end → IsPlaceAt t (t.minimum + 8 * blocks) place → IsKept t (set places blocks place) (blocks + 1) end
+-- the place of one block more
+pub kept_more : (t : Table) (places : List ℕ) (blocks place : ℕ) (end : Option ℕ) → IsKeptOfTable t places blocks end → IsPlaceAt t (t.minimum + 8 * blocks) place → IsKeptOfTable t (set places blocks place) (blocks + 1) end
 kept_more t places blocks place end kept here =
     let lt = room_left t places blocks place end kept here in
     record {
@@ -50,11 +53,12 @@ element_behind xs zero m = let e : 0 + m ≡ m = omega arith in rw e refl
 element_behind [] (suc n) m = refl
 element_behind (x ∷ xs) (suc n) m = let e : suc n + m ≡ suc (n + m) = omega arith in rw e (element_behind xs n m)
 
-number_from : (list : ItemList) (n m : ℕ) → item_number (items_behind n list) m ≡ item_number list (n + m)
+number_from : (list : Listing (List ℕ)) (n m : ℕ) → item_number (items_behind n list) m ≡ item_number list (n + m)
 unfolding item_number
 number_from list n m = ap (λ (item : Option (List ℕ)). item_or_end item list.fault) (element_behind list.items n m)
 
-pub known_number : (t : Table) (places : List ℕ) (blocks : ℕ) (end : Option ℕ) (index place : ℕ) → IsKept t places blocks end → t.minimum ≤ index → index < t.minimum + 8 * blocks
+-- an index of a known block is that many items behind the block's place as behind its first index
+pub known_number : (t : Table) (places : List ℕ) (blocks : ℕ) (end : Option ℕ) (index place : ℕ) → IsKeptOfTable t places blocks end → t.minimum ≤ index → index < t.minimum + 8 * blocks
     → place ≡ get_or places ((index - t.minimum) / 8) place
     → item_number (items_from (index - (index - t.minimum) % 8) (drop place t.bytes)) ((index - t.minimum) % 8) ≡ item_number (items_of t) (index - t.minimum)
 known_number t places blocks end index place kept low known is =
@@ -65,5 +69,5 @@ known_number t places blocks end index place kept low known is =
     let read : place ≡ get_or places block 0 = is ∙ get_or_default_zero places block place (omega arith) in
     let first : index - skip ≡ t.minimum + 8 * block = omega arith in
     let number : t.minimum + 8 * block - t.minimum + skip ≡ index - t.minimum = omega arith in
-    let at = ap (λ (list : ItemList). item_number list skip) (sym here.1.list) in
+    let at = ap (λ (list : Listing (List ℕ)). item_number list skip) (sym here.1.list) in
     rw (first, read) (at ∙ number_from (items_of t) (t.minimum + 8 * block - t.minimum) skip ∙ ap (item_number (items_of t)) number)

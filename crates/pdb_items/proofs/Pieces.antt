@@ -4,13 +4,16 @@ use Rattle.std.specs.Prelude.{codes, nat_lt}
 use Rattle.std.specs.Int.{w16}
 use Rattle.pdb_container.specs.Fault.{Fault, InvalidTypeInformationHeader, TypeTooShort, ◌>>=◌, refuse}
 use Rattle.pdb_container.specs.Fields.{number_at, bytes_of}
-use Rattle.pdb_items.specs.Items.{piece_at, followed, before, ending, items_within, items_from}
+use Rattle.pdb_container.specs.Listing.{before, ending}
+use Rattle.pdb_items.specs.Items.{piece_at, followed, items_within, items_from}
 
+-- no byte has no item
 pub items_end : (index : ℕ) (bytes : List ℕ) → length bytes ≡ 0 → items_from index bytes ≡ ending None
 unfolding items_from items_within
 items_end index [] none = refl
 items_end index (b ∷ bytes) none = absurd (omega arith)
 
+-- bytes left where no index is left end the list badly
 pub items_full : (index : ℕ) (bytes : List ℕ) → length bytes ≢ 0 → index ≡ 2 ^ 32 - 1 → items_from index bytes ≡ ending (Some (InvalidTypeInformationHeader (codes "maximum")))
 unfolding items_from items_within
 items_full index [] some full = absurd (some refl)
@@ -29,9 +32,11 @@ from_step index bytes some free =
     let room : 2 ^ 32 - 1 - index ≡ suc (2 ^ 32 - 1 - (index + 1)) = omega arith in
     rw room (within_step (2 ^ 32 - 1 - (index + 1)) bytes some)
 
+-- an item that was read stands before those behind it
 pub items_next : (index : ℕ) (bytes left item : List ℕ) → length bytes ≢ 0 → index + 1 < 2 ^ 32 → piece_at bytes ≡ Ok (item, left) → items_from index bytes ≡ before item (items_from (index + 1) left)
 items_next index bytes left item some free read = from_step index bytes some free ∙ ap (followed (items_from (index + 1))) read
 
+-- an item that is refused ends the list with its fault
 pub items_fail : (index : ℕ) (bytes : List ℕ) (e : Fault) → length bytes ≢ 0 → index + 1 < 2 ^ 32 → piece_at bytes ≡ Err e → items_from index bytes ≡ ending (Some e)
 items_fail index bytes e some free read = from_step index bytes some free ∙ ap (followed (items_from (index + 1))) read
 
@@ -51,6 +56,7 @@ in_full bytes left item n others read more =
     let e = long_enough others left item n more in
     omega (arith, number_takes bytes others n read, bytes_take n others left item e.1, e.0)
 
+-- an item takes four bytes at least
 pub piece_takes : (bytes left item : List ℕ) → piece_at bytes ≡ Ok (item, left) → 4 + length left ≤ length bytes
 unfolding piece_at
 piece_takes bytes left item =

@@ -1,8 +1,10 @@
--- Tables of types (stream 2) and of ids (stream 4): the header, the list of items, and the item of an index.
+-- Tables of types (TPI, stream 2) and of ids (IPI, stream 4): the header, the list of items, and the item of an index.
+-- The layout is that of LLVM's The PDB TPI and IPI Streams.
 use Rattle.std.specs.Prelude.{ℕ, zero, suc, ◌+◌, ◌-◌, ◌^◌, List, [], ◌∷◌, length, drop, nat_lt, nat_le, if◌then◌else◌, Option, Some, None, Result, Ok, Err, codes, slice_get}
 use Rattle.std.specs.Int.{w16, w32}
 use Rattle.pdb_container.specs.Fault.{Fault, UnexpectedEof, InvalidTypeInformationHeader, TypeTooShort, TypeNotFound, ◌>>=◌, refuse}
 use Rattle.pdb_container.specs.Fields.{Reader, number_at, bytes_of}
+use Rattle.pdb_container.specs.Listing.{Listing, before, ending}
 use Rattle.pdb_items.specs.declared.header.Header.{Header}
 
 -- ---- the header
@@ -40,6 +42,7 @@ pub record Table : Type 0 where
   pub maximum : ℕ
   pub bytes : List ℕ
 
+-- the table with this header, and with these bytes as its items
 abbrev pub table_in : Header → List ℕ → Table
 table_in h items = record { minimum = h.minimum_index; maximum = h.maximum_index; bytes = items }
 
@@ -58,36 +61,23 @@ piece_at bytes = do
   long ← refuse (nat_lt size.0 2) TypeTooShort
   bytes_of size.0 size.1
 
--- items in their order, and the fault at which they end, if they don't end well
-pub record ItemList : Type 0 where
-  pub items : List (List ℕ)
-  pub fault : Option Fault
-
--- an item before others
-abbrev pub before : List ℕ → ItemList → ItemList
-before item others = record { items = item ∷ others.items; fault = others.fault }
-
--- no item, and this end
-abbrev pub ending : Option Fault → ItemList
-ending fault = record { items = []; fault = fault }
-
 -- an item that was read, before the others in the bytes behind it; or the fault at which the list ends
-abbrev pub followed : (List ℕ → ItemList) → Result (List ℕ × List ℕ) Fault → ItemList
+abbrev pub followed : (List ℕ → Listing (List ℕ)) → Result (List ℕ × List ℕ) Fault → Listing (List ℕ)
 followed others (Ok read) = before read.0 (others read.1)
 followed others (Err e) = ending (Some e)
 
 -- the items that the bytes hold, one behind the other, where so many indices are left for them
-unfoldable pub items_within : ℕ → List ℕ → ItemList
+unfoldable pub items_within : ℕ → List ℕ → Listing (List ℕ)
 items_within room [] = ending None
 items_within zero (b ∷ bytes) = ending (Some (InvalidTypeInformationHeader (codes "maximum")))
 items_within (suc room) (b ∷ bytes) = followed (items_within room) (piece_at (b ∷ bytes))
 
 -- the items that the bytes hold, the first with this index; 0xffffffff is no item's index
-unfoldable pub items_from : ℕ → List ℕ → ItemList
+unfoldable pub items_from : ℕ → List ℕ → Listing (List ℕ)
 items_from index bytes = items_within (2 ^ 32 - 1 - index) bytes
 
 -- the items of a table
-abbrev pub items_of : Table → ItemList
+abbrev pub items_of : Table → Listing (List ℕ)
 items_of t = items_from t.minimum t.bytes
 
 -- ---- the item of an index
@@ -99,19 +89,19 @@ item_or_end None None = Ok None
 item_or_end None (Some e) = Err e
 
 -- item number n, counted from 0; past a good end none, past a bad one the fault
-unfoldable pub item_number : ItemList → ℕ → Result (Option (List ℕ)) Fault
+unfoldable pub item_number : Listing (List ℕ) → ℕ → Result (Option (List ℕ)) Fault
 item_number list n = item_or_end (slice_get list.items n) list.fault
 
 -- the bytes of an item that has to be there
-abbrev pub found : ℕ → Result (Option (List ℕ)) Fault → Result (List ℕ) Fault
-found index (Ok (Some item)) = Ok item
-found index (Ok None) = Err (TypeNotFound index)
-found index (Err e) = Err e
+abbrev pub found_or_fault : ℕ → Result (Option (List ℕ)) Fault → Result (List ℕ) Fault
+found_or_fault index (Ok (Some item)) = Ok item
+found_or_fault index (Ok None) = Err (TypeNotFound index)
+found_or_fault index (Err e) = Err e
 
 -- The bytes of the item of an index, by the whole list. Indices below the table's have an empty item.
 unfoldable pub item_at : Table → ℕ → Result (List ℕ) Fault
 item_at t index =
-    if nat_le t.maximum index then Err (TypeNotFound index) else (if nat_lt index t.minimum then Ok [] else found index (item_number (items_of t) (index - t.minimum)))
+    if nat_le t.maximum index then Err (TypeNotFound index) else (if nat_lt index t.minimum then Ok [] else found_or_fault index (item_number (items_of t) (index - t.minimum)))
 
 -- the first index past the list
 abbrev pub past_list : Table → ℕ

@@ -1,5 +1,5 @@
 pub mod Item
 pub mod Items
-pub mod Parsing
-pub mod Tables
-pub mod Walking
+pub mod ItemType
+pub mod IteratorAndFinder
+pub mod KeptPlaces

@@ -1,21 +1,24 @@
-//! The header of types and of ids.
+//! The header of the TPI or the IPI.
 
 ghost use Rattle.std.specs.Prelude.{◌≡◌, ◌≤◌, length, IfOk};
-ghost use Rattle.pdb_container.specs.Buffer.{ReadsOn};
+ghost use Rattle.pdb_container.specs.Buffer.{ReadsInSteps};
 ghost use Rattle.pdb_container.specs.Fault.{Parses};
 ghost use Rattle.pdb_items.specs.Items.{header_at, fitting_header, item_header_of};
 
 use pdb_container::{Error, ParseBuffer, Result};
 
-/// The header's own size in bytes, the first index of the table, and the first past the table.
+/// The header of the TPI (types) or the IPI (ids), as far as it is used.
 #[derive(Clone, Copy, Debug)]
 pub struct Header {
+    /// The header's own size, in bytes.
     pub header_size: u32,
+    /// The first index of the table.
     pub minimum_index: u32,
+    /// The first index past the table.
     pub maximum_index: u32,
 }
 
-/// The header of a stream of items; an empty stream is a table without indices. `UnexpectedEof`,
+/// The header of a TPI or IPI stream; an empty stream is a table without indices. `UnexpectedEof`,
 /// `InvalidTypeInformationHeader`.
 #[tactic(auto, unfolding(crate::specs::Items::item_header_of))]
 pub fn parse_header(bytes: &[u8]) -> Result<Header>
@@ -36,7 +39,7 @@ pub fn parse_header(bytes: &[u8]) -> Result<Header>
 
 #[tactic(auto, unfolding(crate::specs::Items::header_at))]
 fn read_fields(buffer: &mut ParseBuffer<'_>) -> Result<Header>
-    ensures { ReadsOn (λ h. h) result buffer.old buffer.new header_at }
+    ensures { ReadsInSteps (λ h. h) result buffer.old buffer.new header_at }
 {
     let _version = buffer.parse_u32()?;
     let header_size = buffer.parse_u32()?;

@@ -1,4 +1,4 @@
-//! One item of a table.
+//! An item of the TPI or the IPI.
 
 ghost use Rattle.std.specs.Prelude.{◌≡◌, ◌==◌, length};
 ghost use Rattle.std.specs.Int.{w16};
@@ -8,7 +8,7 @@ ghost use Rattle.pdb_container.specs.Fields.{number_at};
 ghost use Rattle.pdb_records.specs.IdForms.{id_shape};
 ghost use Rattle.pdb_records.specs.IdRecords.{id_form_of};
 ghost use Rattle.pdb_items.specs.Item.{item_bytes};
-ghost use Rattle.pdb_items.specs.Parsing.{type_of_item};
+ghost use Rattle.pdb_items.specs.ItemType.{type_of_item};
 ghost use Rattle.pdb_records.specs.Shapes.{shape};
 
 use pdb_container::{ParseBuffer, Result};
@@ -19,7 +19,8 @@ use std::alloc::Global;
 /// The first index of a type that has a record.
 const FIRST_RECORD: u32 = 0x1000;
 
-/// A type or an id of a table: its index, and its bytes, which begin with the leaf. An index below the table's has no bytes.
+/// An item of the TPI or the IPI, a type or an id: its index, and its record, which begins with the leaf. An index
+/// below the table's has no bytes.
 #[derive(Clone, Copy, Debug)]
 pub struct Item<'t, I> {
     pub(crate) index: I,
@@ -27,14 +28,14 @@ pub struct Item<'t, I> {
 }
 
 impl<'t, I: ItemIndex> Item<'t, I> {
-    /// The index.
+    /// The index of the type or of the id.
     pub fn index(&self) -> I
         ensures { result ≡ self.now.index }
     {
         self.index
     }
 
-    /// How many bytes.
+    /// How many bytes the record has.
     pub fn len(&self) -> usize
         ensures { result ≡ length (item_bytes self.now) }
     {
@@ -48,14 +49,14 @@ impl<'t, I: ItemIndex> Item<'t, I> {
         self.raw_bytes().is_empty()
     }
 
-    /// The bytes.
+    /// The bytes of the record, which begin with the leaf.
     pub fn raw_bytes(&self) -> &'t [u8]
         ensures { result.now ≡ item_bytes self.now }
     {
         self.bytes
     }
 
-    /// The leaf, which says what form the item has; `UnexpectedEof` where its two bytes are missing.
+    /// The leaf (`LF_*`), which says what form the item has; `UnexpectedEof` where its two bytes are missing.
     pub fn raw_kind(&self) -> Result<u16>
         ensures { Parses (λ leaf. leaf) result (peeked (number_at w16) (item_bytes self.now)) }
     {
@@ -67,8 +68,8 @@ impl<'t> Item<'t, TypeIndex> {
     /// What the type is: below index 0x1000 by the index alone, and else by the record.
     ///
     /// # Errors
-    /// `TypeNotFound` below 0x1000, `UnimplementedTypeKind` for a leaf without a form, `UnexpectedEof` and others for a record
-    /// that can't be read; `OutOfMemory`.
+    /// `TypeNotFound` below 0x1000, `UnimplementedTypeKind` for a leaf without a form, `UnexpectedEof` and others for a
+    /// record that can't be read; `OutOfMemory`.
     pub fn parse(&self, alloc: Global) -> Result<TypeData<'t>>
         ensures { Gives shape ⊥ result (type_of_item self.now.index.0 (item_bytes self.now)) }
     {
@@ -85,7 +86,8 @@ impl<'t> Item<'t, IdIndex> {
     /// What the id is, by its record.
     ///
     /// # Errors
-    /// `UnimplementedTypeKind` for a leaf without a form, `UnexpectedEof` for a record that can't be read; `OutOfMemory`.
+    /// `UnimplementedTypeKind` for a leaf without a form, `UnexpectedEof` for a record that can't be read;
+    /// `OutOfMemory`.
     pub fn parse(&self, alloc: Global) -> Result<IdData<'t>>
         ensures { Gives id_shape ⊥ result (id_form_of (item_bytes self.now)) }
     {

@@ -1,11 +1,11 @@
-//! Items by their indices.
+//! Finders: items of the TPI or the IPI by their indices.
 
 ghost use Rattle.std.specs.Prelude.{◌≡◌, ◌+◌, ◌-◌, ◌*◌, ◌<◌, ◌≤◌, ◌^◌, length, drop, option_map, is_some, ◌||◌, IfOk, IsOkUnless};
 ghost use Rattle.pdb_container.specs.Fault.{Parses};
 ghost use Rattle.pdb_items.specs.Item.{item_bytes};
-ghost use Rattle.pdb_items.specs.Items.{table_in, items_of, item_number, found};
-ghost use Rattle.pdb_items.specs.Tables.{fresh_finding, first_unknown, last_known, known_end, shown, find_in};
-ghost use Rattle.pdb_items.specs.Walking.{IsPlaceAt, IsEnd, seen};
+ghost use Rattle.pdb_items.specs.Items.{table_in, items_of, item_number, found_or_fault};
+ghost use Rattle.pdb_items.specs.IteratorAndFinder.{fresh_finding, first_unknown, last_known, known_end, shown, find_in};
+ghost use Rattle.pdb_items.specs.KeptPlaces.{IsPlaceAt, IsEnd, seen};
 
 use crate::header::Header;
 use crate::item::Item;
@@ -16,8 +16,8 @@ use pdb_indices::ItemIndex;
 use std::alloc::Global;
 use std::marker::{Model, PhantomData};
 
-/// Finds items by their indices. It knows the places of blocks of eight indices, of the first at once and of each further
-/// one from an iterator that is shown to it as it goes over the table.
+/// A finder of items by their indices. It knows the places of blocks of eight indices, of the first at once and of each
+/// further one from an iterator that is shown to it as it goes over the table.
 #[derive(Drop)]
 pub struct ItemFinder<'t, I> {
     header: Header,
@@ -31,14 +31,14 @@ pub struct ItemFinder<'t, I> {
 impl<'t, I> Model for ItemFinder<'t, I> {
     ghost use Rattle.std.specs.Prelude.{is_some};
     ghost use Rattle.pdb_items.specs.Items.{table_in};
-    ghost use Rattle.pdb_items.specs.Tables.{Finding};
-    ghost use Rattle.pdb_items.specs.Walking.{IsKept};
+    ghost use Rattle.pdb_items.specs.IteratorAndFinder.{Finding};
+    ghost use Rattle.pdb_items.specs.KeptPlaces.{IsKeptOfTable};
 
     ghost Value = { Finding };
 
     ghost view = { λ f. record { table = table_in f.header f.items.now; blocks = f.blocks; is_end_known = is_some f.end } };
 
-    ghost invariant = { λ f. IsKept (table_in f.header f.items.now) f.places.items f.blocks f.end };
+    ghost invariant = { λ f. IsKeptOfTable (table_in f.header f.items.now) f.places.items f.blocks f.end };
 }
 
 impl<'t, I: ItemIndex> ItemFinder<'t, I> {
@@ -59,7 +59,7 @@ impl<'t, I: ItemIndex> ItemFinder<'t, I> {
         })
     }
 
-    /// The last index of the known blocks.
+    /// The last index of the known blocks of items.
     pub fn max_index(&self) -> I
         ensures { result ≡ I.index (last_known self.now) }
     {
@@ -67,7 +67,7 @@ impl<'t, I: ItemIndex> ItemFinder<'t, I> {
         I::from(last.min(u64::from(u32::MAX)) as u32)
     }
 
-    /// The first index past the list, once an iterator was shown that had answered `None` at a good end.
+    /// The first index past the list, once an iterator was shown that had returned `None` at a good end.
     pub fn end_index(&self) -> Option<I>
         ensures { result ≡ option_map I.index (known_end self.now) }
     {
@@ -77,8 +77,8 @@ impl<'t, I: ItemIndex> ItemFinder<'t, I> {
         }
     }
 
-    /// Learns from an iterator of the same table: the place of the block behind the known ones, where the iterator stands at
-    /// its first index, and the end of the list, where it answered that.
+    /// Learns from an iterator of the same table: the place of the block behind the known ones, where the iterator
+    /// stands at its first index, and the end of the list, where it returned that.
     pub fn update(&mut self, iterator: &ItemIter<'_, I>)
         requires { iterator.now.table ≡ self.old.table }
         ensures { self.new ≡ shown iterator.now self.old }
@@ -89,7 +89,7 @@ impl<'t, I: ItemIndex> ItemFinder<'t, I> {
         self.add_end(iterator.end());
     }
 
-    /// The item of an index.
+    /// The item (a type or an id) of an index.
     ///
     /// # Errors
     /// `TypeNotIndexed` past the known blocks, `TypeNotFound` at or past the table's maximum and past a good end of its
@@ -115,7 +115,7 @@ impl<'t, I: ItemIndex> ItemFinder<'t, I> {
     }
 
     /// The bytes of the item of an index.
-    #[tactic(auto, unfolding(crate::specs::Tables::find_in, crate::specs::Items::item_at))]
+    #[tactic(auto, unfolding(crate::specs::IteratorAndFinder::find_in, crate::specs::Items::item_at))]
     fn piece_of(&self, index: u32, lengths: &mut u32) -> Result<&'t [u8]>
         requires none { lengths.old ≡ 0 }
         ensures item { Parses (λ piece. piece.now) result (find_in self.now index) }
@@ -140,7 +140,7 @@ impl<'t, I: ItemIndex> ItemFinder<'t, I> {
         requires known { index < first_unknown self.now }
         requires none { lengths.old ≡ 0 }
         ensures few { lengths.new ≤ 8 }
-        ensures item { Parses (λ piece. piece.now) result (found index (item_number (items_of self.now.table) (index - self.now.table.minimum))) }
+        ensures item { Parses (λ piece. piece.now) result (found_or_fault index (item_number (items_of self.now.table) (index - self.now.table.minimum))) }
     {
         match self.known_piece(index, lengths) {
             Ok(Some(piece)) => Ok(piece),

@@ -1,9 +1,9 @@
-//! Tables of types and of ids.
+//! The TPI (types) and the IPI (ids).
 
 ghost use Rattle.std.specs.Prelude.{◌≡◌, ◌-◌, ◌==◌, IfOk, IsOkUnless};
 ghost use Rattle.pdb_container.specs.Fault.{Parses};
 ghost use Rattle.pdb_items.specs.Items.{table_of};
-ghost use Rattle.pdb_items.specs.Tables.{fresh_iteration, fresh_finding};
+ghost use Rattle.pdb_items.specs.IteratorAndFinder.{fresh_iteration, fresh_finding};
 
 use crate::header::{Header, parse_header};
 use crate::item::Item;
@@ -15,31 +15,31 @@ use pdb_indices::{IdIndex, ItemIndex, TypeIndex};
 use std::alloc::Global;
 use std::marker::{Model, PhantomData};
 
-/// The table of types.
+/// The TPI: the table of types (stream 2).
 pub type TypeInformation<'s> = ItemInformation<'s, TypeIndex>;
 
-/// The table of ids.
+/// The IPI: the table of ids (stream 4).
 pub type IdInformation<'s> = ItemInformation<'s, IdIndex>;
 
-/// A finder of types.
+/// A finder of types by their indices.
 pub type TypeFinder<'t> = ItemFinder<'t, TypeIndex>;
 
-/// A finder of ids.
+/// A finder of ids by their indices.
 pub type IdFinder<'t> = ItemFinder<'t, IdIndex>;
 
-/// An iterator over types.
+/// An iterator over the types of the TPI.
 pub type TypeIter<'t> = ItemIter<'t, TypeIndex>;
 
-/// An iterator over ids.
+/// An iterator over the ids of the IPI.
 pub type IdIter<'t> = ItemIter<'t, IdIndex>;
 
-/// A type of a table.
+/// A type of the TPI.
 pub type Type<'t> = Item<'t, TypeIndex>;
 
-/// An id of a table.
+/// An id of the IPI.
 pub type Id<'t> = Item<'t, IdIndex>;
 
-/// A table of types or of ids.
+/// The TPI or the IPI: a table of types or of ids.
 #[derive(Drop)]
 pub struct ItemInformation<'s, I> {
     stream: Stream<'s>,
@@ -75,7 +75,7 @@ impl<'s, I: ItemIndex> ItemInformation<'s, I> {
         })
     }
 
-    /// The first index of the table.
+    /// The first index of the table, by its header.
     pub fn minimum_index(&self) -> I
         ensures { result ≡ I.index self.now.minimum }
     {
@@ -103,7 +103,7 @@ impl<'s, I: ItemIndex> ItemInformation<'s, I> {
         self.len() == 0
     }
 
-    /// The items in their order.
+    /// The items (types or ids) in their order.
     pub fn iter(&self) -> ItemIter<'_, I>
         ensures { result ≡ fresh_iteration self.now }
     {

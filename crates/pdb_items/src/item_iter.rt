@@ -1,12 +1,12 @@
-//! Items in their order.
+//! Iterators over the items of the TPI or the IPI, in their order.
 
 ghost use Rattle.std.specs.Prelude.{◌≡◌, length};
 ghost use Rattle.pdb_container.specs.Fault.{Parses};
 ghost use Rattle.pdb_container.specs.Buffer.{rest};
 ghost use Rattle.pdb_items.specs.Item.{found_bytes, HasIndex};
 ghost use Rattle.pdb_items.specs.Items.{table_in};
-ghost use Rattle.pdb_items.specs.Walking.{IsPlaceAt};
-ghost use Rattle.pdb_items.specs.Tables.{fresh_iteration, end_of, HasEnded, next_answer, behind_answer};
+ghost use Rattle.pdb_items.specs.KeptPlaces.{IsPlaceAt};
+ghost use Rattle.pdb_items.specs.IteratorAndFinder.{fresh_iteration, answered_end, HasEnded, next_answer, iteration_behind};
 
 use crate::header::Header;
 use crate::item::Item;
@@ -15,18 +15,18 @@ use pdb_container::{Error, FallibleIterator, ParseBuffer, Result};
 use pdb_indices::ItemIndex;
 use std::marker::{Model, PhantomData};
 
-/// How far an iterator has come.
+/// How far an iterator over items has come.
 #[derive(Clone, Copy, Debug, PartialEq, Eq)]
 pub enum Progress {
-    /// Neither end was answered.
+    /// No end was returned.
     Reading,
-    /// The list ended well, and `None` was answered.
+    /// The list ended well, and `None` was returned.
     Ended,
-    /// The list's fault was answered.
+    /// The list's fault was returned.
     Failed,
 }
 
-/// The items of a table in their order. Where the list ends badly its fault is answered once.
+/// An iterator over the items of a table in their order. Where the list ends badly its fault is returned once.
 #[derive(Drop)]
 pub struct ItemIter<'t, I> {
     header: Header,
@@ -40,10 +40,10 @@ impl<'t, I> Model for ItemIter<'t, I> {
     ghost use Rattle.std.specs.Prelude.{◌≡◌};
     ghost use Rattle.pdb_container.specs.Buffer.{rest};
     ghost use Rattle.pdb_items.specs.Items.{table_in};
-    ghost use Rattle.pdb_items.specs.Tables.{Iteration, ended_well};
-    ghost use Rattle.pdb_items.specs.Walking.{IsBefore, IsRightEnd};
+    ghost use Rattle.pdb_items.specs.IteratorAndFinder.{ItemIteration, ended_well};
+    ghost use Rattle.pdb_items.specs.KeptPlaces.{IsBefore, IsRightEnd};
 
-    ghost Value = { Iteration };
+    ghost Value = { ItemIteration };
 
     ghost view = { λ it. record { table = table_in it.header it.buffer.bytes; index = it.index; progress = it.progress } };
 
@@ -82,9 +82,9 @@ impl<'t, I> ItemIter<'t, I> {
         self.buffer.pos()
     }
 
-    /// The first index past the list, once `None` was answered at a good end.
+    /// The first index past the list, once `None` was returned at a good end.
     pub(crate) fn end(&self) -> Option<u32>
-        ensures { result ≡ end_of self.now }
+        ensures { result ≡ answered_end self.now }
     {
         match self.progress {
             Progress::Ended => Some(self.index),
@@ -102,7 +102,7 @@ impl<'t, I: ItemIndex> FallibleIterator for ItemIter<'t, I> {
 
     ghost next_gives = { λ old result new. Parses found_bytes result (next_answer old)
         × HasIndex result (I.index old.index)
-        × (new ≡ behind_answer old (next_answer old)) };
+        × (new ≡ iteration_behind old (next_answer old)) };
 
     #[tactic(auto, using(crate::proofs::Walks::number_here, crate::proofs::Walks::number_end, crate::proofs::Walks::number_fault, crate::proofs::Walks::end_here, crate::proofs::Walks::before_next))]
     fn next(&mut self) -> Result<Option<Item<'t, I>>> {

@@ -1,19 +1,19 @@
 //! Items, one behind the other.
 
 ghost use Rattle.std.specs.Prelude.{◌≡◌, ◌+◌, ◌-◌, ◌^◌, ◌<◌, ◌≤◌, length, drop};
-ghost use Rattle.pdb_container.specs.Buffer.{rest, ReadsOn};
+ghost use Rattle.pdb_container.specs.Buffer.{rest, ReadsInSteps};
 ghost use Rattle.pdb_container.specs.Fault.{Parses};
 ghost use Rattle.pdb_items.specs.Items.{piece_at, items_from, item_number};
-ghost use Rattle.pdb_items.specs.Walking.{Steps, seen};
+ghost use Rattle.pdb_items.specs.KeptPlaces.{Steps, seen};
 
 use pdb_container::{Error, ParseBuffer, Result};
 
-/// The item at the buffer's place, without its length; the place may have moved where it is refused. Counts the length that
-/// it reads.
+/// The item at the buffer's place, without its length; the place may have moved where it is refused. Counts the length
+/// that it reads.
 #[tactic(auto, unfolding(crate::specs::Items::piece_at))]
 fn parse_piece<'b>(buffer: &mut ParseBuffer<'b>, lengths: &mut u32) -> Result<&'b [u8]>
     requires { lengths.old < 2 ^ 32 - 1 }
-    ensures item { ReadsOn (λ piece. piece.now) result buffer.old buffer.new piece_at }
+    ensures item { ReadsInSteps (λ piece. piece.now) result buffer.old buffer.new piece_at }
     ensures count { lengths.new ≡ lengths.old + 1 }
 {
     *lengths += 1;
@@ -24,8 +24,8 @@ fn parse_piece<'b>(buffer: &mut ParseBuffer<'b>, lengths: &mut u32) -> Result<&'
     buffer.take(usize::from(size))
 }
 
-/// The item at the buffer's place, which would get this index; `None` at the end. At an end the place stays. Counts a length
-/// that it reads.
+/// The item at the buffer's place, which would get this index; `None` at the end. At an end the place stays. Counts a
+/// length that it reads.
 #[tactic(auto, using(crate::proofs::Pieces::items_end, crate::proofs::Pieces::items_full, crate::proofs::Pieces::items_next, crate::proofs::Pieces::items_fail, crate::proofs::Pieces::piece_takes))]
 pub fn next_piece<'b>(
     buffer: &mut ParseBuffer<'b>,
@@ -77,7 +77,7 @@ pub fn walk<'b>(
     next_piece(&mut buffer, first + skip, lengths)
 }
 
-/// The bytes from a place on.
+/// The bytes behind a place.
 pub fn behind(bytes: &[u8], place: usize) -> &[u8]
     requires { place ≤ length bytes.now }
     ensures { result.now ≡ drop place bytes.now }

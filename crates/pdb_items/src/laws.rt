@@ -4,7 +4,7 @@ ghost use Rattle.std.specs.Prelude.{◌≡◌, ◌<◌};
 ghost use Rattle.pdb_container.specs.Fault.{Parses};
 ghost use Rattle.pdb_items.specs.Item.{item_bytes};
 ghost use Rattle.pdb_items.specs.Items.{item_at};
-ghost use Rattle.pdb_items.specs.Tables.{first_unknown, shown};
+ghost use Rattle.pdb_items.specs.IteratorAndFinder.{first_unknown, shown};
 
 use crate::item::Item;
 use crate::item_finder::ItemFinder;
@@ -12,9 +12,9 @@ use crate::item_iter::ItemIter;
 use pdb_container::Result;
 use pdb_indices::ItemIndex;
 
-/// An index that a finder knows has one answer, by the whole table, whatever is shown to the finder in between; and what is
-/// shown is known then.
-#[tactic(auto, unfolding(crate::specs::Tables::find_in))]
+/// An index that a finder knows has one answer, by the whole table, whatever is shown to the finder in between; and
+/// what is shown is known then.
+#[tactic(auto, unfolding(crate::specs::IteratorAndFinder::find_in))]
 pub fn one_answer<'t, I: ItemIndex>(
     finder: &mut ItemFinder<'t, I>,
     iterator: &ItemIter<'_, I>,
@@ -31,7 +31,8 @@ pub fn one_answer<'t, I: ItemIndex>(
     (before, finder.find(index))
 }
 
-/// Finders of two tables, each shown an iterator of its own table, know what that one told, and stay finders of these tables.
+/// Finders of two tables, each shown an iterator of its own table, know what that one told, and stay finders of these
+/// tables.
 pub fn two_finders<'s, 't, I: ItemIndex>(
     first: &mut ItemFinder<'s, I>,
     of_first: &ItemIter<'_, I>,

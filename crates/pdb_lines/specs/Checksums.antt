@@ -1,22 +1,22 @@
--- Checksums of files, one behind the other.
+-- Checksums of source files (DEBUG_S_FILECHKSMS), one behind the other.
+-- The layout is that of the pdb crate's DEBUG_S_FILECHKSMS, with CV_SourceChksum_t of microsoft-pdb's cvinfo.h.
 use Rattle.std.specs.Prelude.{ℕ, ◌-◌, List, length, drop, nat_le, ◌==◌, if◌then◌else◌, Result, Ok}
 use Rattle.std.specs.Int.{w8, w32}
 use Rattle.pdb_container.specs.Fault.{Fault, UnimplementedFileChecksumKind, InvalidFileChecksumOffset, ◌>>=◌, guard, refuse}
-use Rattle.pdb_container.specs.Fields.{Reader, number_at, bytes_of}
+use Rattle.pdb_container.specs.Fields.{Reader, number_at, bytes_of, padding}
 use Rattle.pdb_container.specs.Listing.{Listing, listing}
-use Rattle.pdb_subsections.specs.Subsections.{padding}
 use Rattle.pdb_lines.specs.declared.checksum.FileChecksum.{FileChecksum}
 use Rattle.pdb_lines.specs.declared.checksum.FileChecksum.TheVariants as sums
 use Rattle.pdb_lines.specs.declared.checksum.FileInfo.{FileInfo}
 
--- the sum over a file's bytes, by how it was made
+-- the checksum of a source file, by how it was made
 pub data Checksum : Type 0 where
   no_sum : Checksum
   md5 : List ℕ → Checksum
   sha_1 : List ℕ → Checksum
   sha_256 : List ℕ → Checksum
 
--- where a file's name is, and its checksum
+-- a source file: where its name is in the string table, and its checksum
 pub record File : Type 0 where
   pub name : ℕ
   pub checksum : Checksum
@@ -25,8 +25,8 @@ pub record File : Type 0 where
 abbrev pub checksum_of : ℕ → List ℕ → Checksum
 checksum_of kind bytes = if kind == 0 then no_sum else (if kind == 1 then md5 bytes else (if kind == 2 then sha_1 bytes else sha_256 bytes))
 
--- A file in a list of so many bytes: its name, the size and the kind of its checksum, the checksum, and what is missing to a
--- multiple of 4 from the list's start. An unknown kind comes before bytes that are missing behind it.
+-- A file in a list of so many bytes: its name, the size and the kind of its checksum, the checksum, and what is missing
+-- to a multiple of 4 from the list's start. An unknown kind comes before bytes that are missing behind it.
 unfoldable pub file_at : ℕ → Reader File
 file_at whole bytes = do
   name ← number_at w32 bytes
@@ -52,13 +52,13 @@ file_in list place = do
   read ← file_at (length list) (drop place list)
   Ok read.0
 
--- a checksum as it is answered
+-- a checksum as it is returned
 abbrev pub checksum_seen : FileChecksum → Checksum
 checksum_seen sums.None = no_sum
 checksum_seen (sums.Md5 bytes) = md5 bytes.now
 checksum_seen (sums.Sha1 bytes) = sha_1 bytes.now
 checksum_seen (sums.Sha256 bytes) = sha_256 bytes.now
 
--- a file as it is answered
+-- a file as it is returned
 abbrev pub file_seen : FileInfo → File
 file_seen file = record { name = file.name.0; checksum = checksum_seen file.checksum }

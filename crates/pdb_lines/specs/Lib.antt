@@ -1,5 +1,5 @@
 pub mod Checksums
-pub mod Left
-pub mod Marks
-pub mod Rows
-pub mod Runs
+pub mod MarksLeft
+pub mod LineMarks
+pub mod LineRows
+pub mod LinesSubsections

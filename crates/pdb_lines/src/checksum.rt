@@ -1,20 +1,19 @@
-//! Checksums of files.
+//! Checksums of source files (`DEBUG_S_FILECHKSMS`).
 
 ghost use Rattle.std.specs.Prelude.{◌≡◌, ◌<◌, drop, length, IfOk, None};
-ghost use Rattle.pdb_container.specs.Buffer.{rest, ReadsOn};
+ghost use Rattle.pdb_container.specs.Buffer.{rest, ReadsInSteps};
 ghost use Rattle.pdb_container.specs.Fault.{Parses};
 ghost use Rattle.pdb_container.specs.Listing.{ending, Advances};
 ghost use Rattle.pdb_lines.specs.Checksums.{checksum_of, file_at, files_of, file_in, checksum_seen, file_seen};
 
-use pdb_container::{Error, FallibleIterator, ParseBuffer, Result, StringRef};
+use pdb_container::{Error, FallibleIterator, ParseBuffer, Result, StringRef, padding_behind};
 use pdb_indices::FileIndex;
-use pdb_subsections::padding_behind;
 use std::marker::Model;
 
 /// The kind of a checksum by SHA-256, the last that is known.
 const SHA_256: u8 = 3;
 
-/// A sum over a file's bytes, by which its version can be told.
+/// The checksum of a source file: a sum over its bytes, by which its version can be told.
 #[derive(Clone, Copy, Debug, PartialEq, Eq)]
 pub enum FileChecksum<'a> {
     /// No sum was made.
@@ -27,10 +26,10 @@ pub enum FileChecksum<'a> {
     Sha256(&'a [u8]),
 }
 
-/// A file that code was made from.
+/// A source file that code was made from: an entry of `DEBUG_S_FILECHKSMS`.
 #[derive(Clone, Copy, Debug, PartialEq, Eq)]
 pub struct FileInfo<'a> {
-    /// Where its name is in the table of names.
+    /// Where its name is in the string table.
     pub name: StringRef,
     /// The sum over its bytes.
     pub checksum: FileChecksum<'a>,
@@ -48,11 +47,11 @@ fn checksum_by(kind: u8, bytes: &[u8]) -> FileChecksum<'_>
     }
 }
 
-/// The file at the buffer's place in a list. An unknown kind is refused before the checksum's bytes are read, so that it comes
-/// before `UnexpectedEof` where these are missing. Where it is refused, the place may have moved.
+/// The file at the buffer's place in a list. An unknown kind is refused before the checksum's bytes are read, so that
+/// it comes before `UnexpectedEof` where these are missing. Where it is refused, the place may have moved.
 #[tactic(auto, unfolding(crate::specs::Checksums::file_at))]
 fn parse_file<'a>(buffer: &mut ParseBuffer<'a>) -> Result<FileInfo<'a>>
-    ensures value { ReadsOn file_seen result buffer.old buffer.new (file_at (length buffer.old.bytes)) }
+    ensures value { ReadsInSteps file_seen result buffer.old buffer.new (file_at (length buffer.old.bytes)) }
     ensures taken { IfOk result (λ _. length (rest buffer.new) < length (rest buffer.old)) }
 {
     let name = StringRef(buffer.parse_u32()?);
@@ -81,7 +80,7 @@ pub(crate) fn file_in_list(list: &[u8], index: FileIndex) -> Result<FileInfo<'_>
     parse_file(&mut buffer)
 }
 
-/// The files of a list, in their order. A fault is answered once.
+/// An iterator over the source files of a module, in their order. A fault is returned once.
 #[derive(Debug, Drop)]
 pub struct FileIterator<'a> {
     list: &'a [u8],

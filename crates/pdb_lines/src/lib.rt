@@ -1,14 +1,14 @@
-//! Lines of a module's code, and the files that they are in.
+//! Lines of a module's code (`DEBUG_S_LINES`), and the files that they are in (`DEBUG_S_FILECHKSMS`). The layouts are
+//! those of microsoft-pdb's cvinfo.h, as the pdb crate reads them.
 #![tactic(auto)]
 
-mod block;
 mod checksum;
-mod entries;
 mod line_iterator;
+mod line_mark;
+mod line_marks;
 mod line_program;
-mod mark;
-mod marks;
-mod run;
+mod lines_block;
+mod lines_subsection;
 
 pub use checksum::{FileChecksum, FileInfo, FileIterator};
 pub use line_iterator::LineIterator;

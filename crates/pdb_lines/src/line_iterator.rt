@@ -2,14 +2,14 @@
 
 ghost use Rattle.std.specs.Prelude.{◌≡◌, None, option_map};
 ghost use Rattle.pdb_container.specs.Listing.{Listing, ending, before, Advances};
-ghost use Rattle.pdb_lines.specs.declared.mark.Mark.{Mark as MarkOf};
-ghost use Rattle.pdb_lines.specs.Marks.{marks_of};
-ghost use Rattle.pdb_lines.specs.Rows.{distance_to, closer as closer_of, with_length, with_row, rows_behind, rows_of, GivesRow};
-ghost use Rattle.pdb_lines.specs.Left.{left_in};
+ghost use Rattle.pdb_lines.specs.declared.line_mark.LineMark.{LineMark as MarkValue};
+ghost use Rattle.pdb_lines.specs.LineMarks.{marks_of};
+ghost use Rattle.pdb_lines.specs.LineRows.{distance_to, closer as closer_of, with_length, with_row, rows_with_begun, rows_of, GivesRow};
+ghost use Rattle.pdb_lines.specs.MarksLeft.{left_in};
 
-use crate::mark::Mark;
-use crate::marks::Marks;
-use crate::run::LineRun;
+use crate::line_mark::LineMark;
+use crate::line_marks::LineMarks;
+use crate::lines_subsection::LinesSubsection;
 use pdb_addresses::PdbInternalSectionOffset;
 use pdb_container::{Error, FallibleIterator, Result};
 use pdb_subsections::LineInfo;
@@ -57,41 +57,42 @@ fn up_to_mark(row: Option<LineInfo>, section: u16, place: u64) -> Option<LineInf
 
 /// A mark behind a row that may have begun: the row that is done, and the one that has begun.
 #[tactic(auto, using(crate::proofs::RowSteps::behind_entry, crate::proofs::RowSteps::behind_end))]
-fn pass(row: Option<LineInfo>, mark: Mark) -> (Option<LineInfo>, Option<LineInfo>)
-    ensures { (others : Listing MarkOf) → rows_behind row (before mark others) ≡ with_row result.0 (rows_behind result.1 others) }
+fn pass(row: Option<LineInfo>, mark: LineMark) -> (Option<LineInfo>, Option<LineInfo>)
+    ensures { (others : Listing MarkValue) → rows_with_begun row (before mark others) ≡ with_row result.0 (rows_with_begun result.1 others) }
 {
     match mark {
-        Mark::Entry(section, place, begun) => (up_to_mark(row, section, place), begun),
-        Mark::End(section, place) => (None, up_to_mark(row, section, place)),
+        LineMark::Entry(section, place, begun) => (up_to_mark(row, section, place), begun),
+        LineMark::End(section, place) => (None, up_to_mark(row, section, place)),
     }
 }
 
-/// Rows of lines, in their order: by section and offset of their subsections, and in a subsection by the order of the file. A
-/// fault is answered once. It comes in place of the row before it too, whose length isn't known.
+/// An iterator over rows of lines, in their order: by section and offset of their subsections, and in a subsection by
+/// the order of the file. A fault is returned once. It comes in place of the row before it too, whose length isn't
+/// known.
 #[derive(Debug, Drop)]
 pub struct LineIterator<'a> {
-    marks: Marks<'a>,
+    marks: LineMarks<'a>,
     row: Option<LineInfo>,
 }
 
 impl<'a> Model for LineIterator<'a> {
     ghost use Rattle.pdb_container.specs.Listing.{Listing};
     ghost use Rattle.pdb_subsections.specs.declared.line_info.LineInfo.{LineInfo as Row};
-    ghost use Rattle.pdb_lines.specs.Left.{left_in};
-    ghost use Rattle.pdb_lines.specs.Rows.{rows_behind};
+    ghost use Rattle.pdb_lines.specs.MarksLeft.{left_in};
+    ghost use Rattle.pdb_lines.specs.LineRows.{rows_with_begun};
 
     ghost Value = { Listing Row };
 
-    ghost view = { λ it. rows_behind it.row (left_in it.marks) };
+    ghost view = { λ it. rows_with_begun it.row (left_in it.marks) };
 }
 
 /// The next row behind one that may have begun and before these marks, and the row that has begun then.
 #[tactic(auto, using(crate::proofs::RowSteps::last_row, crate::proofs::RowSteps::lost_row))]
 fn next_row(
     row: Option<LineInfo>,
-    marks: &mut Marks<'_>,
+    marks: &mut LineMarks<'_>,
 ) -> Result<(Option<LineInfo>, Option<LineInfo>)>
-    ensures { GivesRow (rows_behind row (left_in marks.old)) result (left_in marks.new) }
+    ensures { GivesRow (rows_with_begun row (left_in marks.old)) result (left_in marks.new) }
 {
     let mut row = row;
     while let Some(mark) = marks.next()? {
@@ -105,12 +106,12 @@ fn next_row(
 }
 
 impl<'a> LineIterator<'a> {
-    /// The rows of runs.
-    pub(crate) fn new(runs: &'a [LineRun<'a>]) -> LineIterator<'a>
-        ensures { result ≡ rows_of (marks_of runs.now) }
+    /// The rows of subsections.
+    pub(crate) fn new(subsections: &'a [LinesSubsection<'a>]) -> LineIterator<'a>
+        ensures { result ≡ rows_of (marks_of subsections.now) }
     {
         LineIterator {
-            marks: Marks::new(runs),
+            marks: LineMarks::new(subsections),
             row: None,
         }
     }

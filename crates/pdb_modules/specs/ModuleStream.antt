@@ -1,4 +1,5 @@
 -- A module's own stream: its symbols, and its line data with their subsections.
+-- The layout is that of LLVM's The Module Information Stream, as the pdb crate reads it.
 use Rattle.std.specs.Prelude.{ℕ, ◌+◌, List, [], ◌∷◌, length, take, drop, nat_lt, ◌==◌, not, Option, None, Some, Result, Ok, Err, codes}
 use Rattle.std.specs.Int.{w32}
 use Rattle.pdb_container.specs.Fault.{Fault, UnexpectedEof, UnimplementedFeature, ◌>>=◌, refuse}
@@ -7,9 +8,9 @@ use Rattle.pdb_container.specs.Listing.{Listing, ending}
 use Rattle.pdb_cross_modules.specs.Exports.{Entry, exports_of}
 use Rattle.pdb_cross_modules.specs.Imports.{Import, imports_of}
 use Rattle.pdb_inlinees.specs.Inlinees.{InlinedFunction, inlinees_of}
-use Rattle.pdb_lines.specs.Runs.{Program, program_of}
+use Rattle.pdb_lines.specs.LinesSubsections.{Program, program_of}
 use Rattle.pdb_subsections.specs.Subsections.{inlinees_kind, imports_kind, exports_kind, subsections_of, first_of}
-use Rattle.pdb_symbols.specs.Iteration.{Iteration, iteration_at}
+use Rattle.pdb_symbols.specs.Iteration.{SymbolIteration, iteration_at}
 
 -- the stream's bytes, and the sizes of its parts: symbols, line data in an older form, line data
 pub record ModuleStream : Type 0 where
@@ -29,14 +30,14 @@ signed (b ∷ bytes) = do
   Ok (b ∷ bytes)
 
 -- the list of symbols: the first bytes of the stream, with the signature
-unfoldable pub symbols_in : ModuleStream → Result (List ℕ) Fault
-symbols_in m = do
+unfoldable pub symbol_list_bytes : ModuleStream → Result (List ℕ) Fault
+symbol_list_bytes m = do
   whole ← refuse (nat_lt (length m.bytes) m.symbols_size) UnexpectedEof
   signed (take m.symbols_size m.bytes)
 
 -- the symbols from a place on
-abbrev pub iteration_in : ModuleStream → ℕ → Result Iteration Fault
-iteration_in m place = symbols_in m >>= λ bytes. Ok (iteration_at bytes place)
+abbrev pub iteration_in : ModuleStream → ℕ → Result SymbolIteration Fault
+iteration_in m place = symbol_list_bytes m >>= λ bytes. Ok (iteration_at bytes place)
 
 -- ---- line data
 
@@ -47,6 +48,7 @@ line_data_in m = do
   whole ← refuse (nat_lt (length m.bytes) (m.symbols_size + m.c13_lines_size)) UnexpectedEof
   Ok (take m.c13_lines_size (drop m.symbols_size m.bytes))
 
+-- the line program of a module: its subsections of lines (DEBUG_S_LINES) and its checksums
 unfoldable pub line_program_in : ModuleStream → Result Program Fault
 line_program_in m = do
   bytes ← line_data_in m
@@ -63,16 +65,19 @@ abbrev pub said_or : {A : Type 0} → A → (List ℕ → Result A Fault) → Op
 said_or other read None = Ok other
 said_or other read (Some bytes) = read bytes
 
+-- the inlined functions of a module (DEBUG_S_INLINEELINES), and how their list ends
 unfoldable pub inlinees_in : ModuleStream → Result (Listing InlinedFunction) Fault
 inlinees_in m = do
   found ← subsection_in m inlinees_kind
   said_or (ending None) inlinees_of found
 
+-- what a module takes from other modules (DEBUG_S_CROSSSCOPEIMPORTS)
 unfoldable pub imports_in : ModuleStream → Result (List Import) Fault
 imports_in m = do
   found ← subsection_in m imports_kind
   said_or [] imports_of found
 
+-- what a module gives to other modules (DEBUG_S_CROSSSCOPEEXPORTS)
 unfoldable pub exports_in : ModuleStream → Result (List Entry) Fault
 exports_in m = do
   found ← subsection_in m exports_kind

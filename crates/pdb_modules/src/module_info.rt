@@ -1,8 +1,8 @@
-//! What a module's own stream holds.
+//! Module information: what a module's own stream holds.
 
 ghost use Rattle.std.specs.Prelude.{◌≡◌, ◌<◌, ◌^◌, length, IfOk};
 ghost use Rattle.pdb_container.specs.Fault.{Gives, Parses};
-ghost use Rattle.pdb_modules.specs.ModuleStream.{signed as signed_bytes, symbols_in, iteration_in, line_data_in, line_program_in, subsection_in, inlinees_in, imports_in, exports_in};
+ghost use Rattle.pdb_modules.specs.ModuleStream.{signed as signed_bytes, symbol_list_bytes, iteration_in, line_data_in, line_program_in, subsection_in, inlinees_in, imports_in, exports_in};
 ghost use Rattle.pdb_subsections.specs.Subsections.{bytes_seen};
 
 use pdb_container::{Error, ParseBuffer, Result, Stream};
@@ -18,7 +18,8 @@ use std::marker::Model;
 /// Where the first symbol stands, behind the signature.
 const FIRST_SYMBOL: SymbolIndex = SymbolIndex(4);
 
-/// What a module's own stream holds: it depends on the stream's bytes and on the three sizes of its parts alone.
+/// A module's information: what its own stream holds, which depends on the stream's bytes and on the three sizes of its
+/// parts alone.
 #[derive(Debug, Drop)]
 pub struct ModuleInfo<'s> {
     stream: Stream<'s>,
@@ -36,7 +37,8 @@ impl<'s> Model for ModuleInfo<'s> {
 }
 
 impl<'s> ModuleInfo<'s> {
-    /// A module by its stream and the sizes of that stream's parts in bytes: symbols, line data in an older form, line data.
+    /// The information of a module by its stream and the sizes of that stream's parts in bytes: symbols, C11 line data,
+    /// C13 line data.
     pub fn new(
         stream: Stream<'s>,
         symbols_size: u32,
@@ -53,18 +55,18 @@ impl<'s> ModuleInfo<'s> {
         }
     }
 
-    /// The symbols in their order.
+    /// The CodeView symbols in their order.
     ///
     /// # Errors
-    /// `UnexpectedEof` where the stream is shorter than its symbols, `UnimplementedFeature` where they begin with another
-    /// signature.
+    /// `UnexpectedEof` where the stream is shorter than its symbols, `UnimplementedFeature` where they begin with
+    /// another signature.
     pub fn symbols(&self) -> Result<SymbolIter<'_>>
         ensures { Parses (λ it. it) result (iteration_in self.now 4) }
     {
         self.symbols_at(FIRST_SYMBOL)
     }
 
-    /// The symbols from a place of the stream on.
+    /// The CodeView symbols from a place of the stream on, in bytes.
     ///
     /// # Errors
     /// As [`ModuleInfo::symbols`].
@@ -75,11 +77,11 @@ impl<'s> ModuleInfo<'s> {
         Ok(SymbolIter::over(symbols, index))
     }
 
-    /// The module's lines and files.
+    /// The line program: the module's lines (`DEBUG_S_LINES`) and files (`DEBUG_S_FILECHKSMS`).
     ///
     /// # Errors
-    /// `UnimplementedFeature` for line data in the older form, `UnexpectedEof` where the stream or a part of it is short,
-    /// `OutOfMemory`.
+    /// `UnimplementedFeature` for line data in the older form, `UnexpectedEof` where the stream or a part of it is
+    /// short, `OutOfMemory`.
     #[tactic(auto, unfolding(crate::specs::ModuleStream::line_program_in))]
     pub fn line_program(&self, alloc: Global) -> Result<LineProgram<'_>>
         ensures { Gives (λ p. p) ⊥ result (line_program_in self.now) }
@@ -88,7 +90,8 @@ impl<'s> ModuleInfo<'s> {
         LineProgram::parse(alloc, line_data)
     }
 
-    /// The functions that were inlined into the module; none where it has no list of them.
+    /// The inlinees (`DEBUG_S_INLINEELINES`): functions that were inlined into the module; none where it has no list of
+    /// them.
     ///
     /// # Errors
     /// As [`ModuleInfo::line_program`], without memory.
@@ -102,7 +105,8 @@ impl<'s> ModuleInfo<'s> {
         }
     }
 
-    /// The names of types and ids that other modules hold; none where it has no table of them.
+    /// The cross-module imports (`DEBUG_S_CROSSSCOPEIMPORTS`): types and ids of other modules; none where it has no
+    /// table of them.
     ///
     /// # Errors
     /// As [`ModuleInfo::line_program`].
@@ -116,7 +120,8 @@ impl<'s> ModuleInfo<'s> {
         }
     }
 
-    /// The types and ids that it lends to other modules; none where it has no table of them.
+    /// The cross-module exports (`DEBUG_S_CROSSSCOPEEXPORTS`): types and ids that it lends; none where it has no table
+    /// of them.
     ///
     /// # Errors
     /// As [`ModuleInfo::line_program`], without memory.
@@ -131,9 +136,9 @@ impl<'s> ModuleInfo<'s> {
     }
 
     /// The bytes of the symbols, with their signature. `UnexpectedEof`, `UnimplementedFeature`.
-    #[tactic(auto, unfolding(crate::specs::ModuleStream::symbols_in))]
+    #[tactic(auto, unfolding(crate::specs::ModuleStream::symbol_list_bytes))]
     fn symbol_bytes(&self) -> Result<&[u8]>
-        ensures bytes { Parses (λ bytes. bytes.now) result (symbols_in self.now) }
+        ensures bytes { Parses (λ bytes. bytes.now) result (symbol_list_bytes self.now) }
         ensures few { IfOk result (λ bytes. length bytes.now < 2 ^ 32) }
     {
         let bytes = self.stream.as_slice();

@@ -5,17 +5,15 @@ use Rattle.std.specs.Int.{w8}
 use Rattle.pdb_container.specs.Fault.{Fault, UnexpectedEof, ◌>>=◌}
 use Rattle.pdb_container.specs.Fields.{number_at}
 use Rattle.pdb_records.specs.TypeRecords.{dimension_at, dimensions_within}
-use Rattle.pdb_indices.proofs.Many.{many_front}
+use Rattle.pdb_indices.proofs.Many.{many_front, regroup}
 
-regroup : (front : List ℕ) (x : ℕ) (read : Result (List ℕ × List ℕ) Fault) → many_front front (read >>= λ others. Ok (x ∷ others.0, others.1)) ≡ many_front (front ++ x ∷ []) read
-regroup front x (Ok others) = ap (λ (xs : List ℕ). Ok (xs, others.1)) (sym (append_assoc front (x ∷ []) others.0))
-regroup front x (Err e) = refl
-
+-- no dimension in front of all
 pub dimensions_start : (count : ℕ) (bytes : List ℕ) → many_front [] (dimensions_within (count - 0) bytes) ≡ dimensions_within count bytes
 dimensions_start count bytes =
     let k : count - 0 ≡ count = omega arith in
     rw k (elim (dimensions_within count bytes) as (λ (r : Result (List ℕ × List ℕ) Fault). many_front [] r ≡ r) [ Ok xs ↦ refl | Err e ↦ refl ])
 
+-- one dimension more, with no zero byte behind it
 pub dimensions_more : (front : List ℕ) (count i : ℕ) (bytes rest after : List ℕ) (x next : ℕ) (total : Result (List ℕ × List ℕ) Fault) → i < count
     → dimension_at bytes ≡ Ok (x, rest) → number_at w8 rest ≡ Ok (next, after) → next ≢ 0
     → many_front front (dimensions_within (count - i) bytes) ≡ total → many_front (front ++ x ∷ []) (dimensions_within (count - (i + 1)) rest) ≡ total
@@ -36,6 +34,7 @@ seen rest after y n peek none byte =
     let same : y ≡ n = same_ok y n (number_at w8 rest >>= λ b. Ok b.0) (ap (λ (r : Result (ℕ × List ℕ) Fault). r >>= λ b. Ok b.0) byte) peek in
     byte ∙ ap (λ (m : ℕ). Ok (m, after)) (same ∙ none)
 
+-- one dimension more, with the zero byte behind it
 pub dimensions_end : (front : List ℕ) (count i : ℕ) (bytes rest after : List ℕ) (x y n : ℕ) (total : Result (List ℕ × List ℕ) Fault) → i < count
     → dimension_at bytes ≡ Ok (x, rest) → (number_at w8 rest >>= λ byte. Ok byte.0) ≡ Ok n → n ≡ 0 → number_at w8 rest ≡ Ok (y, after)
     → many_front front (dimensions_within (count - i) bytes) ≡ total → total ≡ Ok (front ++ x ∷ [], after)
@@ -45,6 +44,7 @@ dimensions_end front count i bytes rest after x y n total lt read peek none byte
     let now : many_front front (dimensions_within (count - i) bytes) ≡ Ok (front ++ x ∷ [], after) = rw (k, read, seen rest after y n peek none byte) refl in
     sym so_far ∙ now
 
+-- a dimension that is refused refuses all
 pub dimensions_fail : (front : List ℕ) (count i : ℕ) (bytes : List ℕ) (e : Fault) (total : Result (List ℕ × List ℕ) Fault) → i < count → dimension_at bytes ≡ Err e
     → many_front front (dimensions_within (count - i) bytes) ≡ total → total ≡ Err e
 unfolding dimensions_within
@@ -53,6 +53,7 @@ dimensions_fail front count i bytes e total lt read so_far =
     let now : many_front front (dimensions_within (count - i) bytes) ≡ Err e = rw (k, read) refl in
     sym so_far ∙ now
 
+-- a dimension with no byte behind it refuses all
 pub dimensions_unended : (front : List ℕ) (count i : ℕ) (bytes rest : List ℕ) (x : ℕ) (e : Fault) (total : Result (List ℕ × List ℕ) Fault) → i < count
     → dimension_at bytes ≡ Ok (x, rest) → number_at w8 rest ≡ Err e
     → many_front front (dimensions_within (count - i) bytes) ≡ total → total ≡ Err e
@@ -62,6 +63,7 @@ dimensions_unended front count i bytes rest x e total lt read byte so_far =
     let now : many_front front (dimensions_within (count - i) bytes) ≡ Err e = rw (k, read, byte) refl in
     sym so_far ∙ now
 
+-- dimensions without a zero byte are refused
 pub dimensions_missing : (front : List ℕ) (count i : ℕ) (bytes : List ℕ) (total : Result (List ℕ × List ℕ) Fault) → count ≤ i
     → many_front front (dimensions_within (count - i) bytes) ≡ total → total ≡ Err UnexpectedEof
 unfolding dimensions_within

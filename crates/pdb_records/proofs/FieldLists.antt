@@ -7,6 +7,7 @@ use Rattle.pdb_records.specs.Forms as forms
 use Rattle.pdb_records.specs.Forms.{PlainForm, TypeForm}
 use Rattle.pdb_records.specs.TypeLeaves.{FieldForm, field_at, fields_within, with_field, with_continuation}
 
+-- no member known of all
 pub fields_start : (count : ℕ) (bytes : List ℕ) → fields_within (count - 0) [] None bytes ≡ fields_within count [] None bytes
 fields_start count bytes =
     let k : count - 0 ≡ count = omega arith in
@@ -19,6 +20,7 @@ unfolding fields_within
 step n fields continuation [] some = absurd (some refl)
 step n fields continuation (b ∷ bytes) some = refl
 
+-- one entry of a list of members more
 pub fields_more : (fields : List PlainForm) (continuation : Option TypeIndex) (count i : ℕ) (bytes rest : List ℕ) (next : FieldForm) (total : Result TypeForm Fault) → i < count → length bytes ≢ 0
     → field_at bytes ≡ Ok (next, rest) → fields_within (count - i) fields continuation bytes ≡ total
     → fields_within (count - (i + 1)) (with_field next fields) (with_continuation next continuation) rest ≡ total
@@ -28,6 +30,7 @@ fields_more fields continuation count i bytes rest next total lt some read so_fa
     rw (k, step (count - (i + 1)) fields continuation bytes some, read) refl in
     sym now ∙ so_far
 
+-- an entry that is refused refuses the list
 pub fields_fail : (fields : List PlainForm) (continuation : Option TypeIndex) (count i : ℕ) (bytes : List ℕ) (e : Fault) (total : Result TypeForm Fault) → i < count → length bytes ≢ 0
     → field_at bytes ≡ Err e → fields_within (count - i) fields continuation bytes ≡ total → total ≡ Err e
 fields_fail fields continuation count i bytes e total lt some read so_far =
@@ -35,6 +38,7 @@ fields_fail fields continuation count i bytes e total lt some read so_far =
     let now : fields_within (count - i) fields continuation bytes ≡ Err e = rw (k, step (count - (i + 1)) fields continuation bytes some, read) refl in
     sym so_far ∙ now
 
+-- an entry that the code refused refuses the list
 pub fields_refused : (fields : List PlainForm) (continuation : Option TypeIndex) (count i : ℕ) (bytes : List ℕ) (e : Error) (total : Result TypeForm Fault) → i < count → length bytes ≢ 0
     → (IsOutside e ⊥ ⊎ (field_at bytes ≡ Err (fault_of e))) → fields_within (count - i) fields continuation bytes ≡ total → IsOutside e ⊥ ⊎ (total ≡ Err (fault_of e))
 fields_refused fields continuation count i bytes e total lt some (inl outside) so_far = inl outside
@@ -50,10 +54,12 @@ unfolding fields_within
 no_step_left fields continuation [] = refl
 no_step_left fields continuation (b ∷ bytes) = refl
 
+-- no byte left: the members known are all
 pub fields_end : (fields : List PlainForm) (continuation : Option TypeIndex) (n : ℕ) (bytes : List ℕ) (total : Result TypeForm Fault) → length bytes ≡ 0
     → fields_within n fields continuation bytes ≡ total → total ≡ Ok (forms.FieldList fields continuation)
 fields_end fields continuation n bytes total none so_far = sym so_far ∙ nothing_left n fields continuation bytes none
 
+-- no step left: the members known are all
 pub fields_done : (fields : List PlainForm) (continuation : Option TypeIndex) (count i : ℕ) (bytes : List ℕ) (total : Result TypeForm Fault) → count ≤ i
     → fields_within (count - i) fields continuation bytes ≡ total → total ≡ Ok (forms.FieldList fields continuation)
 fields_done fields continuation count i bytes total past so_far =

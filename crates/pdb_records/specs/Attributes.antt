@@ -1,4 +1,5 @@
 -- Attributes of types, members and pointers: bits of a number, the lowest counted as bit 0.
+-- The bits are those of CV_prop_t, CV_fldattr_t, CV_funcattr_t and lfPointer in microsoft-pdb's cvinfo.h.
 use Rattle.std.specs.Prelude.{ℕ, ◌/◌, ◌%◌, ◌^◌, Bool, ◌||◌, ◌&&◌, not, ◌==◌, bit_and, nat_le, if◌then◌else◌}
 use Rattle.pdb_records.specs.declared.type_attributes.TypeProperties.{TypeProperties}
 use Rattle.pdb_records.specs.declared.type_attributes.FieldAttributes.{FieldAttributes}
@@ -26,14 +27,17 @@ names_unique p = has_bit p.0 0x200
 abbrev pub introduces : FieldAttributes → Bool
 introduces a = a.0 / 2 ^ 2 % 8 == 4 || a.0 / 2 ^ 2 % 8 == 6
 
+-- a constructor of a class: bit 9
 abbrev pub constructs : FunctionAttributes → Bool
 constructs a = has_bit a.0 0x200
 
 -- ---- pointers: bits 0 to 4 are the kind, 5 to 7 the mode, 13 to 18 the size
 
+-- the number of a pointer's kind: bits 0 to 4
 abbrev pub kind_number : PointerAttributes → ℕ
 kind_number a = a.0 % 32
 
+-- the number of a pointer's mode: bits 5 to 7
 abbrev pub mode_number : PointerAttributes → ℕ
 mode_number a = a.0 / 2 ^ 5 % 8
 
@@ -45,6 +49,7 @@ is_known_pointer a = nat_le (kind_number a) 0xc && nat_le (mode_number a) 4
 abbrev pub is_to_member : PointerAttributes → Bool
 is_to_member a = mode_number a == 2 || mode_number a == 3
 
+-- the kind of a pointer, by its number
 abbrev pub kind_numbered : ℕ → PointerKind
 kind_numbered n =
     if n == 0 then kinds.Near16
@@ -65,6 +70,7 @@ kind_numbered n =
 abbrev pub kind_of_pointer : PointerAttributes → PointerKind
 kind_of_pointer a = kind_numbered (kind_number a)
 
+-- the mode of a pointer, by its number: what it leads to
 abbrev pub mode_numbered : ℕ → PointerMode
 mode_numbered n =
     if n == 0 then modes.Pointer

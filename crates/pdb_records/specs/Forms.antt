@@ -16,6 +16,7 @@ use Rattle.pdb_records.specs.declared.type_data.ModifierType.{ModifierType}
 use Rattle.pdb_records.specs.declared.type_data.BitfieldType.{BitfieldType}
 use Rattle.pdb_records.specs.declared.type_data.MethodListEntry.{MethodListEntry}
 
+-- a class, struct or interface (LF_CLASS, LF_STRUCTURE, LF_INTERFACE, LF_STRUCTURE19); its size in bytes
 pub record ClassForm : Type 0 where
   pub kind : ClassKind
   pub count : ℕ
@@ -27,33 +28,39 @@ pub record ClassForm : Type 0 where
   pub name : List ℕ
   pub unique_name : Option (List ℕ)
 
+-- a member that each object has (LF_MEMBER), at an offset in bytes
 pub record MemberForm : Type 0 where
   pub attributes : FieldAttributes
   pub field_type : TypeIndex
   pub offset : ℕ
   pub name : List ℕ
 
+-- methods of one name (LF_METHOD): how many, and the index of their list
 pub record OverloadedMethodForm : Type 0 where
   pub count : ℕ
   pub method_list : TypeIndex
   pub name : List ℕ
 
+-- a method that is alone of its name (LF_ONEMETHOD); with its offset in the virtual table, if it introduces one
 pub record MethodForm : Type 0 where
   pub attributes : FieldAttributes
   pub method_type : TypeIndex
   pub vtable_offset : Option ℕ
   pub name : List ℕ
 
+-- a member that all objects share (LF_STMEMBER)
 pub record StaticMemberForm : Type 0 where
   pub attributes : FieldAttributes
   pub field_type : TypeIndex
   pub name : List ℕ
 
+-- a type that is named inside another one (LF_NESTTYPE, LF_NESTTYPEEX)
 pub record NestedForm : Type 0 where
   pub attributes : FieldAttributes
   pub nested_type : TypeIndex
   pub name : List ℕ
 
+-- an enumeration (LF_ENUM): how many values, the index of their list, and the type that holds one
 pub record EnumerationForm : Type 0 where
   pub count : ℕ
   pub properties : TypeProperties
@@ -62,17 +69,20 @@ pub record EnumerationForm : Type 0 where
   pub name : List ℕ
   pub unique_name : Option (List ℕ)
 
+-- a value of an enumeration (LF_ENUMERATE), with its name
 pub record EnumerateForm : Type 0 where
   pub attributes : FieldAttributes
   pub value : Variant
   pub name : List ℕ
 
+-- an array (LF_ARRAY, LF_STRIDED_ARRAY): its stride and its dimensions are sizes in bytes
 pub record ArrayForm : Type 0 where
   pub element_type : TypeIndex
   pub indexing_type : TypeIndex
   pub stride : Option ℕ
   pub dimensions : List ℕ
 
+-- a union (LF_UNION); its size in bytes
 pub record UnionForm : Type 0 where
   pub count : ℕ
   pub properties : TypeProperties

@@ -10,20 +10,24 @@ use Rattle.pdb_records.specs.declared.id_data.StringId.{StringId}
 use Rattle.pdb_records.specs.declared.id_data.UserDefinedTypeSourceId.{UserDefinedTypeSourceId}
 use Rattle.pdb_container.specs.RawString.{raw_bytes}
 
+-- a function (LF_FUNC_ID), with the id of the scope around it
 pub record FunctionForm : Type 0 where
   pub scope : Option IdIndex
   pub function_type : TypeIndex
   pub name : List ℕ
 
+-- a method (LF_MFUNC_ID), with its class
 pub record MemberFunctionForm : Type 0 where
   pub parent : TypeIndex
   pub function_type : TypeIndex
   pub name : List ℕ
 
+-- a text (LF_STRING_ID), with the id of a list of its parts, if it has one
 pub record StringForm : Type 0 where
   pub substrings : Option IdIndex
   pub name : List ℕ
 
+-- what a record of an id says
 pub data IdForm : Type 0 where
   Function : FunctionForm → IdForm
   MemberFunction : MemberFunctionForm → IdForm
@@ -32,12 +36,15 @@ pub data IdForm : Type 0 where
   String : StringForm → IdForm
   UserDefinedTypeSource : UserDefinedTypeSourceId → IdForm
 
+-- what a function's value says
 abbrev pub function_form : FunctionId → FunctionForm
 function_form t = record { scope = t.scope; function_type = t.function_type; name = raw_bytes t.name }
 
+-- what a method's value says
 abbrev pub member_function_form : MemberFunctionId → MemberFunctionForm
 member_function_form t = record { parent = t.parent; function_type = t.function_type; name = raw_bytes t.name }
 
+-- what a text's value says
 abbrev pub string_form : StringId → StringForm
 string_form t = record { substrings = t.substrings; name = raw_bytes t.name }
 

@@ -20,6 +20,7 @@ use Rattle.pdb_records.specs.TypeLeaves.{FieldForm, Field, Continuation, Padding
 use Rattle.pdb_records.specs.Forms as forms
 use Rattle.pdb_records.specs.Forms.{PlainForm, TypeForm}
 
+-- what the value of a class, struct or interface says
 abbrev pub class_form : ClassType → forms.ClassForm
 class_form t =
     record {
@@ -34,21 +35,27 @@ class_form t =
       unique_name = option_map raw_bytes t.unique_name;
     }
 
+-- what a member's value says
 abbrev pub member_form : MemberType → forms.MemberForm
 member_form t = record { attributes = t.attributes; field_type = t.field_type; offset = t.offset; name = raw_bytes t.name }
 
+-- what the value of methods of one name says
 abbrev pub overloaded_method_form : OverloadedMethodType → forms.OverloadedMethodForm
 overloaded_method_form t = record { count = t.count; method_list = t.method_list; name = raw_bytes t.name }
 
+-- what a method's value says
 abbrev pub method_form : MethodType → forms.MethodForm
 method_form t = record { attributes = t.attributes; method_type = t.method_type; vtable_offset = t.vtable_offset; name = raw_bytes t.name }
 
+-- what the value of a member that all objects share says
 abbrev pub static_member_form : StaticMemberType → forms.StaticMemberForm
 static_member_form t = record { attributes = t.attributes; field_type = t.field_type; name = raw_bytes t.name }
 
+-- what the value of a type named inside another one says
 abbrev pub nested_form : NestedType → forms.NestedForm
 nested_form t = record { attributes = t.attributes; nested_type = t.nested_type; name = raw_bytes t.name }
 
+-- what an enumeration's value says
 abbrev pub enumeration_form : EnumerationType → forms.EnumerationForm
 enumeration_form t =
     record {
@@ -60,12 +67,15 @@ enumeration_form t =
       unique_name = option_map raw_bytes t.unique_name;
     }
 
+-- what the value of an enumeration's value says
 abbrev pub enumerate_form : EnumerateType → forms.EnumerateForm
 enumerate_form t = record { attributes = t.attributes; value = t.value; name = raw_bytes t.name }
 
+-- what an array's value says
 abbrev pub array_form : ArrayType → forms.ArrayForm
 array_form t = record { element_type = t.element_type; indexing_type = t.indexing_type; stride = t.stride; dimensions = t.dimensions.items }
 
+-- what a union's value says
 abbrev pub union_form : UnionType → forms.UnionForm
 union_form t =
     record {
@@ -106,18 +116,22 @@ plain_level (open_data.FieldList t) = forms.NotPlain
 abbrev pub plain_shape : TypeData → PlainForm
 plain_shape t = plain_level (out-TypeData t)
 
+-- what the value of a list of members says
 abbrev pub field_list_shape : field_list.FieldList → TypeForm
 field_list_shape t = forms.FieldList (map plain_shape (field_list.out-FieldList t).fields.items) (field_list.out-FieldList t).continuation
 
+-- what a type's value says, opened by one level
 abbrev pub level : TypeData-F TypeData field_list.FieldList → TypeForm
 level (open_data.FieldList t) = field_list_shape t
 level t = forms.Plain (plain_level t)
 
+-- what a type's value says
 abbrev pub shape : TypeData → TypeForm
 shape t = level (out-TypeData t)
 
 -- ---- what stands in a list of members
 
+-- what an entry of a list of members says
 abbrev pub field_form : FieldEntry → FieldForm
 field_form (entries.Field t) = Field (plain_shape t)
 field_form (entries.Continuation index) = Continuation index

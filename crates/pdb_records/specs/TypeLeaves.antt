@@ -1,4 +1,5 @@
 -- Which record a leaf begins, and what the bytes of a type's record say.
+-- The leaves are LEAF_ENUM_e of microsoft-pdb's cvinfo.h; those that end with _ST are the older ones.
 use Rattle.std.specs.Prelude.{ℕ, zero, suc, ◌-◌, true, false, max, ◌||◌, List, [], ◌∷◌, ◌++◌, length, Option, Some, None, Result, Ok, Err, nat_le, ◌==◌, if◌then◌else◌}
 use Rattle.std.specs.Int.{w8, w16}
 use Rattle.pdb_container.specs.Fault.{Fault, UnimplementedTypeKind, ◌>>=◌}
@@ -10,7 +11,7 @@ use Rattle.pdb_records.specs.Forms.{PlainForm, TypeForm}
 use Rattle.pdb_indices.specs.RecordFields.{type_index_at, as_value}
 use Rattle.pdb_records.specs.TypeRecords.{modifier_at, pointer_at, procedure_at, member_function_at, bitfield_at, class_at, newer_struct_at, union_at, enumeration_at, enumerate_at, member_at, static_member_at, overloaded_method_at, method_at, nested_at, base_class_at, virtual_base_class_at, virtual_function_table_pointer_at, argument_list_at, method_list_at, array_at}
 
--- a type with members
+-- the record behind its leaf, of a type with members: class, struct, interface, union or enumeration
 unfoldable pub aggregate_at : ℕ → Reader PlainForm
 aggregate_at leaf bytes =
     if leaf == 0x1504 || leaf == 0x1004 then as_value forms.Class (class_at leaf kinds.Class bytes)
@@ -21,7 +22,7 @@ aggregate_at leaf bytes =
     else (if leaf == 0x1507 || leaf == 0x1007 then as_value forms.Enumeration (enumeration_at leaf bytes)
     else Err (UnimplementedTypeKind leaf))))))
 
--- a type that stands on its own, or a list of its parts
+-- the record behind its leaf, of a type that stands on its own, or of a list of its parts
 unfoldable pub type_at : ℕ → Reader PlainForm
 type_at leaf bytes =
     if leaf == 0x1001 then as_value forms.Modifier (modifier_at bytes)
@@ -35,7 +36,7 @@ type_at leaf bytes =
     else (if leaf == 0x1516 then as_value forms.Array (array_at true bytes)
     else aggregate_at leaf bytes))))))))
 
--- what a class inherits, and where its table of methods is
+-- the record behind its leaf, of what a class inherits, of where its table of methods is, or of a type
 unfoldable pub base_at : ℕ → Reader PlainForm
 base_at leaf bytes =
     if leaf == 0x1400 then as_value forms.BaseClass (base_class_at kinds.Class bytes)
@@ -45,7 +46,7 @@ base_at leaf bytes =
     else (if leaf == 0x1409 then as_value forms.VirtualFunctionTablePointer (virtual_function_table_pointer_at bytes)
     else type_at leaf bytes))))
 
--- a member, or a type that is no list of members
+-- the record behind its leaf, of a member, or of a type that is no list of members
 unfoldable pub plain_at : ℕ → Reader PlainForm
 plain_at leaf bytes =
     if leaf == 0x1502 || leaf == 0x403 then as_value forms.Enumerate (enumerate_at leaf bytes)
@@ -64,11 +65,13 @@ pub data FieldForm : Type 0 where
   Continuation : TypeIndex → FieldForm
   Padding : FieldForm
 
+-- LF_INDEX: the index of the list that continues a list of members, behind two unused bytes
 unfoldable pub continuation_at : Reader TypeIndex
 continuation_at bytes = do
   unused ← number_at w16 bytes
   type_index_at unused.1
 
+-- an entry of a list of members, behind its leaf
 unfoldable pub field_behind : ℕ → Reader FieldForm
 field_behind leaf bytes = if leaf == 0x1404 then as_value Continuation (continuation_at bytes) else as_value Field (plain_at leaf bytes)
 
@@ -76,17 +79,19 @@ field_behind leaf bytes = if leaf == 0x1404 then as_value Continuation (continua
 abbrev pub padding_at : ℕ → Reader FieldForm
 padding_at first bytes = as_value (λ skipped. Padding) (bytes_of (max 1 (first - 0xf0)) bytes)
 
+-- an entry of a list of members: padding bytes (LF_PAD0 and above), or a leaf and its record
 unfoldable pub field_at : Reader FieldForm
 field_at bytes = do
   first ← number_at w8 bytes
   if nat_le 0xf0 first.0 then padding_at first.0 bytes else (number_at w16 bytes >>= λ leaf. field_behind leaf.0 leaf.1)
 
+-- the members that are known behind an entry
 abbrev pub with_field : FieldForm → List PlainForm → List PlainForm
 with_field (Field form) fields = fields ++ form ∷ []
 with_field (Continuation index) fields = fields
 with_field Padding fields = fields
 
--- the last one counts
+-- the list that continues a list of members, behind an entry: the last one counts
 abbrev pub with_continuation : FieldForm → Option TypeIndex → Option TypeIndex
 with_continuation (Field form) continuation = continuation
 with_continuation (Continuation index) continuation = Some index
@@ -100,11 +105,13 @@ fields_within (suc steps) fields continuation (b ∷ bytes) = do
   next ← field_at (b ∷ bytes)
   fields_within steps (with_field next.0 fields) (with_continuation next.0 continuation) next.1
 
+-- LF_FIELDLIST: the members in the bytes, to their end, and the list that continues them
 abbrev pub field_list_of : List ℕ → Result TypeForm Fault
 field_list_of bytes = fields_within (length bytes) [] None bytes
 
 -- ---- a type's record
 
+-- what the bytes behind a leaf say: a list of members (LF_FIELDLIST), or another type
 unfoldable pub type_form_behind : ℕ → List ℕ → Result TypeForm Fault
 type_form_behind leaf bytes = if leaf == 0x1203 then field_list_of bytes else (plain_at leaf bytes >>= λ form. Ok (forms.Plain form.0))
 

@@ -1,4 +1,5 @@
--- Records of types, by their leaves: fields in order, and the fault of the first that can't be read.
+-- Records of types, by their leaves (LF_*): fields in order, and the fault of the first that can't be read.
+-- The layouts are those of microsoft-pdb's cvinfo.h and of LLVM's CodeView Type Records, as the pdb crate reads them.
 use Rattle.std.specs.Prelude.{ℕ, zero, suc, ◌-◌, ◌^◌, Bool, not, List, [], ◌∷◌, length, Option, Some, None, Ok, Err, nat_lt, ◌==◌, if◌then◌else◌, codes}
 use Rattle.std.specs.Int.{w8, w16, w32}
 use Rattle.pdb_container.specs.Fault.{UnexpectedEof, UnimplementedFeature, ◌>>=◌, refuse}
@@ -34,6 +35,7 @@ pointer_attributes_at bytes = do
 
 -- ---- types of values
 
+-- LF_MODIFIER: a type, and whether it is constant, volatile or unaligned
 unfoldable pub modifier_at : Reader ModifierType
 modifier_at bytes = do
   underlying ← type_index_at bytes
@@ -44,6 +46,7 @@ modifier_at bytes = do
 unfoldable pub containing_class_at : PointerAttributes → Reader (Option TypeIndex)
 containing_class_at attributes bytes = if is_to_member attributes then as_value Some (type_index_at bytes) else Ok (None, bytes)
 
+-- LF_POINTER: a type, attributes, and the class of a pointer to a member or a method
 unfoldable pub pointer_at : Reader PointerType
 pointer_at bytes = do
   underlying ← type_index_at bytes
@@ -51,6 +54,7 @@ pointer_at bytes = do
   class ← containing_class_at attributes.0 attributes.1
   Ok (record { underlying_type = underlying.0; attributes = attributes.0; containing_class = class.0 }, class.1)
 
+-- LF_PROCEDURE: the returned type if there is one, attributes, the number of parameters, and their list
 unfoldable pub procedure_at : Reader ProcedureType
 procedure_at bytes = do
   returned ← optional_type_index_at bytes
@@ -67,6 +71,7 @@ procedure_at bytes = do
     list.1,
   )
 
+-- LF_MFUNCTION: the returned type, the class, the type of `this`, what LF_PROCEDURE has, an adjustment
 unfoldable pub member_function_at : Reader MemberFunctionType
 member_function_at bytes = do
   returned ← type_index_at bytes
@@ -89,6 +94,7 @@ member_function_at bytes = do
     adjustment.1,
   )
 
+-- LF_BITFIELD: a type, the number of bits, and the place of the lowest
 unfoldable pub bitfield_at : Reader BitfieldType
 bitfield_at bytes = do
   underlying ← type_index_at bytes
@@ -102,6 +108,7 @@ bitfield_at bytes = do
 unfoldable pub unique_name_at : ℕ → TypeProperties → Reader (Option (List ℕ))
 unique_name_at leaf properties bytes = if names_unique properties then as_value Some (name_at leaf bytes) else Ok (None, bytes)
 
+-- LF_CLASS, LF_STRUCTURE, LF_INTERFACE: counts and indices, the size in bytes, the name, and the unique name
 unfoldable pub class_at : ℕ → ClassKind → Reader ClassForm
 class_at leaf kind bytes = do
   count ← number_at w16 bytes
@@ -134,7 +141,7 @@ field_count_at bytes = do
   large ← refuse (nat_lt 65535 count.0) (UnimplementedFeature (codes "field count"))
   Ok count
 
--- a struct as newer compilers write it: the count stands behind the indices
+-- LF_STRUCTURE19, a struct as newer compilers write it: the count stands behind the indices
 unfoldable pub newer_struct_at : ℕ → Reader ClassForm
 newer_struct_at leaf bytes = do
   properties ← number_at w16 bytes
@@ -161,6 +168,7 @@ newer_struct_at leaf bytes = do
     unique.1,
   )
 
+-- LF_UNION: the count, properties, the members, the size in bytes, the name, and the unique name
 unfoldable pub union_at : ℕ → Reader UnionForm
 union_at leaf bytes = do
   count ← number_at w16 bytes
@@ -181,6 +189,7 @@ union_at leaf bytes = do
     unique.1,
   )
 
+-- LF_ENUM: the count, properties, the type that holds a value, the values, the name, and the unique name
 unfoldable pub enumeration_at : ℕ → Reader EnumerationForm
 enumeration_at leaf bytes = do
   count ← number_at w16 bytes
@@ -203,6 +212,7 @@ enumeration_at leaf bytes = do
 
 -- ---- members
 
+-- LF_ENUMERATE: attributes, the value, and its name
 unfoldable pub enumerate_at : ℕ → Reader EnumerateForm
 enumerate_at leaf bytes = do
   attributes ← number_at w16 bytes
@@ -210,6 +220,7 @@ enumerate_at leaf bytes = do
   name ← name_at leaf value.1
   Ok (record { attributes = record { 0 = attributes.0 }; value = value.0; name = name.0 }, name.1)
 
+-- LF_MEMBER: attributes, the type, the offset in bytes, and the name
 unfoldable pub member_at : ℕ → Reader MemberForm
 member_at leaf bytes = do
   attributes ← number_at w16 bytes
@@ -218,6 +229,7 @@ member_at leaf bytes = do
   name ← name_at leaf offset.1
   Ok (record { attributes = record { 0 = attributes.0 }; field_type = type.0; offset = offset.0; name = name.0 }, name.1)
 
+-- LF_STMEMBER: attributes, the type, and the name
 unfoldable pub static_member_at : ℕ → Reader StaticMemberForm
 static_member_at leaf bytes = do
   attributes ← number_at w16 bytes
@@ -225,6 +237,7 @@ static_member_at leaf bytes = do
   name ← name_at leaf type.1
   Ok (record { attributes = record { 0 = attributes.0 }; field_type = type.0; name = name.0 }, name.1)
 
+-- LF_METHOD: how many methods have the name, their list, and the name
 unfoldable pub overloaded_method_at : ℕ → Reader OverloadedMethodForm
 overloaded_method_at leaf bytes = do
   count ← number_at w16 bytes
@@ -236,6 +249,7 @@ overloaded_method_at leaf bytes = do
 unfoldable pub vtable_offset_at : FieldAttributes → Reader (Option ℕ)
 vtable_offset_at attributes bytes = if introduces attributes then as_value Some (number_at w32 bytes) else Ok (None, bytes)
 
+-- LF_ONEMETHOD: attributes, the type, the offset in the virtual table if it introduces a method, and the name
 unfoldable pub method_at : ℕ → Reader MethodForm
 method_at leaf bytes = do
   attributes ← number_at w16 bytes
@@ -244,6 +258,7 @@ method_at leaf bytes = do
   name ← name_at leaf offset.1
   Ok (record { attributes = record { 0 = attributes.0 }; method_type = type.0; vtable_offset = offset.0; name = name.0 }, name.1)
 
+-- LF_NESTTYPE, LF_NESTTYPEEX: attributes, the type, and the name
 unfoldable pub nested_at : ℕ → Reader NestedForm
 nested_at leaf bytes = do
   attributes ← number_at w16 bytes
@@ -251,6 +266,7 @@ nested_at leaf bytes = do
   name ← name_at leaf type.1
   Ok (record { attributes = record { 0 = attributes.0 }; nested_type = type.0; name = name.0 }, name.1)
 
+-- LF_BCLASS, LF_BINTERFACE: attributes, the class, and its offset in bytes
 unfoldable pub base_class_at : ClassKind → Reader BaseClassType
 base_class_at kind bytes = do
   attributes ← number_at w16 bytes
@@ -258,6 +274,7 @@ base_class_at kind bytes = do
   offset ← numeric_at class.1
   Ok (record { kind = kind; attributes = record { 0 = attributes.0 }; base_class = class.0; offset = offset.0 }, offset.1)
 
+-- LF_VBCLASS (direct) and LF_IVBCLASS: attributes, the class, the pointer to bases, and two offsets
 unfoldable pub virtual_base_class_at : Bool → Reader VirtualBaseClassType
 virtual_base_class_at direct bytes = do
   attributes ← number_at w16 bytes
@@ -277,6 +294,7 @@ virtual_base_class_at direct bytes = do
     base_offset.1,
   )
 
+-- LF_VFUNCTAB: two unused bytes, and the type of the table of methods
 unfoldable pub virtual_function_table_pointer_at : Reader VirtualFunctionTablePointerType
 virtual_function_table_pointer_at bytes = do
   unused ← number_at w16 bytes
@@ -285,11 +303,13 @@ virtual_function_table_pointer_at bytes = do
 
 -- ---- lists
 
+-- LF_ARGLIST: types of parameters, behind their count in four bytes
 unfoldable pub argument_list_at : Reader (List TypeIndex)
 argument_list_at bytes = do
   count ← number_at w32 bytes
   many_at type_index_at count.0 count.1
 
+-- one of the methods of one name: attributes, two unused bytes, the type, and the offset as in LF_ONEMETHOD
 unfoldable pub method_list_entry_at : Reader MethodListEntry
 method_list_entry_at bytes = do
   attributes ← number_at w16 bytes
@@ -298,7 +318,7 @@ method_list_entry_at bytes = do
   offset ← vtable_offset_at record { 0 = attributes.0 } type.1
   Ok (record { attributes = record { 0 = attributes.0 }; method_type = type.0; vtable_offset = offset.0 }, offset.1)
 
--- methods one behind the other, to the end
+-- LF_METHODLIST: methods of one name one behind the other, to the end
 unfoldable pub method_list_at : Reader (List MethodListEntry)
 method_list_at bytes = do
   all ← bytes_of (length bytes) bytes
@@ -312,7 +332,8 @@ dimension_at bytes = do
   large ← refuse (nat_lt (2 ^ 32 - 1) size.0) (UnimplementedFeature (codes "u64 array sizes"))
   Ok size
 
--- Sizes, one at least, and the first zero byte behind one. Each takes two bytes at least, so there are fewer of them than bytes.
+-- Sizes, one at least, and the first zero byte behind one. Each takes two bytes at least, so there are fewer of them
+-- than bytes.
 unfoldable pub dimensions_within : ℕ → Reader (List ℕ)
 dimensions_within zero bytes = Err UnexpectedEof
 dimensions_within (suc steps) bytes = do
@@ -320,12 +341,15 @@ dimensions_within (suc steps) bytes = do
   next ← number_at w8 first.1
   if next.0 == 0 then Ok (first.0 ∷ [], next.1) else (dimensions_within steps first.1 >>= λ others. Ok (first.0 ∷ others.0, others.1))
 
+-- the dimensions of an array: sizes in bytes up to a zero byte
 abbrev pub dimensions_at : Reader (List ℕ)
 dimensions_at bytes = dimensions_within (length bytes) bytes
 
+-- the stride that LF_STRIDED_ARRAY has, in bytes
 unfoldable pub stride_at : Bool → Reader (Option ℕ)
 stride_at strided bytes = if strided then as_value Some (number_at w32 bytes) else Ok (None, bytes)
 
+-- LF_ARRAY, LF_STRIDED_ARRAY: the types of an element and of an index, the stride, and the dimensions
 unfoldable pub array_at : Bool → Reader ArrayForm
 array_at strided bytes = do
   element ← type_index_at bytes

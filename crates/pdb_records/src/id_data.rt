@@ -1,71 +1,86 @@
-//! What a record of an id says.
+//! What a record of an id says (`LF_FUNC_ID` to `LF_UDT_MOD_SRC_LINE`).
 
 use pdb_container::{RawString, StringRef};
 use pdb_indices::{IdIndex, TypeIndex};
 
-/// An id: of a function, a text or a place in the source.
+/// An id of the IPI: of a function, a text or a place in the source.
 #[derive(Debug, Drop)]
 pub enum IdData<'t> {
+    /// `LF_FUNC_ID`.
     Function(FunctionId<'t>),
+    /// `LF_MFUNC_ID`.
     MemberFunction(MemberFunctionId<'t>),
+    /// `LF_BUILDINFO`.
     BuildInfo(BuildInfoId),
+    /// `LF_SUBSTR_LIST`.
     StringList(StringListId),
+    /// `LF_STRING_ID`.
     String(StringId<'t>),
+    /// `LF_UDT_SRC_LINE` and `LF_UDT_MOD_SRC_LINE`.
     UserDefinedTypeSource(UserDefinedTypeSourceId),
 }
 
-/// A function that is no method.
+/// A function id (`LF_FUNC_ID`): a function that is no method.
 #[derive(Clone, Copy, Debug, PartialEq, Eq)]
 pub struct FunctionId<'t> {
-    /// The namespace that holds it.
+    /// The id of the namespace that holds it, if one does.
     pub scope: Option<IdIndex>,
+    /// The function's type.
     pub function_type: TypeIndex,
+    /// The function's name.
     pub name: RawString<'t>,
 }
 
-/// A method.
+/// A member function id (`LF_MFUNC_ID`): a method.
 #[derive(Clone, Copy, Debug, PartialEq, Eq)]
 pub struct MemberFunctionId<'t> {
-    /// The class that holds it.
+    /// The type of the class that holds it.
     pub parent: TypeIndex,
+    /// The method's type.
     pub function_type: TypeIndex,
+    /// The method's name.
     pub name: RawString<'t>,
 }
 
-/// How a module was built.
+/// Build information (`LF_BUILDINFO`): how a module was built.
 #[derive(Debug, Drop)]
 pub struct BuildInfoId {
+    /// The ids of texts: the folder, the tool, its source, its database and its words.
     pub arguments: Vec<IdIndex>,
 }
 
-/// Texts, one behind the other.
+/// A list of strings (`LF_SUBSTR_LIST`): the parts of a text, one behind the other.
 #[derive(Debug, Drop)]
 pub struct StringListId {
+    /// The indices of the parts.
     pub substrings: Vec<TypeIndex>,
 }
 
-/// A text.
+/// A string (`LF_STRING_ID`): a text.
 #[derive(Clone, Copy, Debug, PartialEq, Eq)]
 pub struct StringId<'t> {
-    /// The list of texts that stand before it.
+    /// The id of the list of its parts, if it has one.
     pub substrings: Option<IdIndex>,
+    /// The text.
     pub name: RawString<'t>,
 }
 
 /// The file in which a type is declared.
 #[derive(Clone, Copy, Debug, PartialEq, Eq)]
 pub enum UserDefinedTypeSourceFileRef {
-    /// Named by an id.
+    /// The id of a text that names it.
     Local(IdIndex),
-    /// Named in the names table, as a module's.
+    /// The module's number, and the name's offset in the string table, in bytes.
     Remote(u16, StringRef),
 }
 
-/// Where a type is declared.
+/// The source of a type (`LF_UDT_SRC_LINE`, `LF_UDT_MOD_SRC_LINE`): where it is declared.
 #[derive(Clone, Copy, Debug, PartialEq, Eq)]
 pub struct UserDefinedTypeSourceId {
+    /// The type.
     pub udt: TypeIndex,
+    /// The file.
     pub source_file: UserDefinedTypeSourceFileRef,
-    /// Counted from 1.
+    /// The line in that file, counted from 1.
     pub line: u32,
 }

@@ -1,4 +1,5 @@
-//! Records of types and ids, by their leaves.
+//! CodeView records of types and ids, by their leaves (`LF_*`). The layouts are those of microsoft-pdb's cvinfo.h and
+//! of LLVM's CodeView Type Records, as the pdb crate reads them.
 #![tactic(auto)]
 
 mod id_data;

@@ -1,10 +1,10 @@
 //! Records of ids.
 
-ghost use Rattle.pdb_container.specs.Buffer.{rest, ReadsAll};
+ghost use Rattle.pdb_container.specs.Buffer.{rest, ParsesFront};
 ghost use Rattle.pdb_container.specs.Fault.{Gives};
 ghost use Rattle.pdb_records.specs.IdForms.{id_shape, function_form, member_function_form, string_form};
 ghost use Rattle.pdb_records.specs.IdRecords.{function_id_at, member_function_id_at, build_info_at, string_list_at, string_at, source_at, module_source_at, id_form_behind, id_form_of};
-ghost use Rattle.pdb_indices.specs.RecordFields.{GivesAll};
+ghost use Rattle.pdb_indices.specs.RecordFields.{GivesFront};
 
 use crate::id_data::{
     BuildInfoId, FunctionId, IdData, MemberFunctionId, StringId, StringListId,
@@ -17,7 +17,7 @@ use std::alloc::Global;
 
 #[tactic(auto, unfolding(crate::specs::IdRecords::function_id_at))]
 fn parse_function<'t>(buffer: &mut ParseBuffer<'t>, leaf: u16) -> Result<FunctionId<'t>>
-    ensures { ReadsAll function_form result (rest buffer.new) (function_id_at leaf (rest buffer.old)) }
+    ensures { ParsesFront function_form result (rest buffer.new) (function_id_at leaf (rest buffer.old)) }
 {
     let scope = parse_optional_id_index(buffer)?;
     let function_type = buffer.parse()?;
@@ -34,7 +34,7 @@ fn parse_member_function<'t>(
     buffer: &mut ParseBuffer<'t>,
     leaf: u16,
 ) -> Result<MemberFunctionId<'t>>
-    ensures { ReadsAll member_function_form result (rest buffer.new) (member_function_id_at leaf (rest buffer.old)) }
+    ensures { ParsesFront member_function_form result (rest buffer.new) (member_function_id_at leaf (rest buffer.old)) }
 {
     let parent = buffer.parse()?;
     let function_type = buffer.parse()?;
@@ -48,7 +48,7 @@ fn parse_member_function<'t>(
 
 #[tactic(auto, unfolding(crate::specs::IdRecords::build_info_at))]
 fn parse_build_info(alloc: Global, buffer: &mut ParseBuffer<'_>) -> Result<BuildInfoId>
-    ensures { GivesAll (λ t. t.arguments.items) result (rest buffer.new) (build_info_at (rest buffer.old)) }
+    ensures { GivesFront (λ t. t.arguments.items) result (rest buffer.new) (build_info_at (rest buffer.old)) }
 {
     let count = buffer.parse_u16()?;
     let arguments = parse_many::<IdIndex>(alloc, buffer, u32::from(count))?;
@@ -57,7 +57,7 @@ fn parse_build_info(alloc: Global, buffer: &mut ParseBuffer<'_>) -> Result<Build
 
 #[tactic(auto, unfolding(crate::specs::IdRecords::string_list_at))]
 fn parse_string_list(alloc: Global, buffer: &mut ParseBuffer<'_>) -> Result<StringListId>
-    ensures { GivesAll (λ t. t.substrings.items) result (rest buffer.new) (string_list_at (rest buffer.old)) }
+    ensures { GivesFront (λ t. t.substrings.items) result (rest buffer.new) (string_list_at (rest buffer.old)) }
 {
     let count = buffer.parse_u32()?;
     let substrings = parse_many::<TypeIndex>(alloc, buffer, count)?;
@@ -66,7 +66,7 @@ fn parse_string_list(alloc: Global, buffer: &mut ParseBuffer<'_>) -> Result<Stri
 
 #[tactic(auto, unfolding(crate::specs::IdRecords::string_at))]
 fn parse_string<'t>(buffer: &mut ParseBuffer<'t>, leaf: u16) -> Result<StringId<'t>>
-    ensures { ReadsAll string_form result (rest buffer.new) (string_at leaf (rest buffer.old)) }
+    ensures { ParsesFront string_form result (rest buffer.new) (string_at leaf (rest buffer.old)) }
 {
     let substrings = parse_optional_id_index(buffer)?;
     let name = parse_name(buffer, leaf)?;
@@ -75,7 +75,7 @@ fn parse_string<'t>(buffer: &mut ParseBuffer<'t>, leaf: u16) -> Result<StringId<
 
 #[tactic(auto, unfolding(crate::specs::IdRecords::source_at))]
 fn parse_source(buffer: &mut ParseBuffer<'_>) -> Result<UserDefinedTypeSourceId>
-    ensures { ReadsAll (λ x. x) result (rest buffer.new) (source_at (rest buffer.old)) }
+    ensures { ParsesFront (λ x. x) result (rest buffer.new) (source_at (rest buffer.old)) }
 {
     let udt = buffer.parse()?;
     let source_file = UserDefinedTypeSourceFileRef::Local(buffer.parse()?);
@@ -89,7 +89,7 @@ fn parse_source(buffer: &mut ParseBuffer<'_>) -> Result<UserDefinedTypeSourceId>
 
 #[tactic(auto, unfolding(crate::specs::IdRecords::module_source_at))]
 fn parse_module_source(buffer: &mut ParseBuffer<'_>) -> Result<UserDefinedTypeSourceId>
-    ensures { ReadsAll (λ x. x) result (rest buffer.new) (module_source_at (rest buffer.old)) }
+    ensures { ParsesFront (λ x. x) result (rest buffer.new) (module_source_at (rest buffer.old)) }
 {
     let udt = buffer.parse()?;
     let file = StringRef(buffer.parse_u32()?);

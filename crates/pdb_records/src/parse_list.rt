@@ -1,10 +1,10 @@
 //! Records that are lists, or hold one.
 
 ghost use Rattle.std.specs.Prelude.{◌≡◌, ◌<◌, length, IfOk};
-ghost use Rattle.pdb_container.specs.Buffer.{rest, ReadsAll};
+ghost use Rattle.pdb_container.specs.Buffer.{rest, ParsesFront};
 ghost use Rattle.pdb_container.specs.Fault.{Gives};
 ghost use Rattle.pdb_container.specs.Fields.{entries};
-ghost use Rattle.pdb_indices.specs.RecordFields.{GivesAll};
+ghost use Rattle.pdb_indices.specs.RecordFields.{GivesFront};
 ghost use Rattle.pdb_records.specs.Shapes.{array_form};
 ghost use Rattle.pdb_records.specs.TypeRecords.{argument_list_at, method_list_entry_at, method_list_at, dimension_at, dimensions_at, stride_at, array_at};
 
@@ -15,9 +15,10 @@ use pdb_container::{Error, ParseBuffer, Result};
 use pdb_indices::{TypeIndex, parse_many, parse_numeric};
 use std::alloc::Global;
 
+/// `LF_ARGLIST`, behind its leaf. `UnexpectedEof`, `OutOfMemory`.
 #[tactic(auto, unfolding(crate::specs::TypeRecords::argument_list_at))]
 pub fn parse_argument_list(alloc: Global, buffer: &mut ParseBuffer<'_>) -> Result<ArgumentList>
-    ensures { GivesAll (λ list. list.arguments.items) result (rest buffer.new) (argument_list_at (rest buffer.old)) }
+    ensures { GivesFront (λ list. list.arguments.items) result (rest buffer.new) (argument_list_at (rest buffer.old)) }
 {
     let count = buffer.parse_u32()?;
     let arguments = parse_many::<TypeIndex>(alloc, buffer, count)?;
@@ -26,7 +27,7 @@ pub fn parse_argument_list(alloc: Global, buffer: &mut ParseBuffer<'_>) -> Resul
 
 #[tactic(auto, unfolding(crate::specs::TypeRecords::method_list_entry_at))]
 fn parse_method_list_entry(buffer: &mut ParseBuffer<'_>) -> Result<MethodListEntry>
-    ensures { ReadsAll (λ x. x) result (rest buffer.new) (method_list_entry_at (rest buffer.old)) }
+    ensures { ParsesFront (λ x. x) result (rest buffer.new) (method_list_entry_at (rest buffer.old)) }
 {
     let attributes = FieldAttributes::new(buffer.parse_u16()?);
     buffer.parse_u16()?;
@@ -54,9 +55,10 @@ fn parse_methods(alloc: Global, bytes: &[u8]) -> Result<Vec<MethodListEntry>>
     Ok(methods)
 }
 
+/// `LF_METHODLIST`, behind its leaf. `UnexpectedEof`, `OutOfMemory`.
 #[tactic(auto, unfolding(crate::specs::TypeRecords::method_list_at))]
 pub fn parse_method_list(alloc: Global, buffer: &mut ParseBuffer<'_>) -> Result<MethodList>
-    ensures { GivesAll (λ list. list.methods.items) result (rest buffer.new) (method_list_at (rest buffer.old)) }
+    ensures { GivesFront (λ list. list.methods.items) result (rest buffer.new) (method_list_at (rest buffer.old)) }
 {
     let bytes = buffer.take(buffer.len())?;
     let methods = parse_methods(alloc, bytes)?;
@@ -66,7 +68,7 @@ pub fn parse_method_list(alloc: Global, buffer: &mut ParseBuffer<'_>) -> Result<
 /// A size in bytes. `UnimplementedFeature` past 32 bits.
 #[tactic(auto, unfolding(crate::specs::TypeRecords::dimension_at))]
 fn parse_dimension(buffer: &mut ParseBuffer<'_>) -> Result<u32>
-    ensures { ReadsAll (λ x. x) result (rest buffer.new) (dimension_at (rest buffer.old)) }
+    ensures { ParsesFront (λ x. x) result (rest buffer.new) (dimension_at (rest buffer.old)) }
 {
     let size = parse_numeric(buffer)?;
     if size > 0xffff_ffff {
@@ -78,7 +80,7 @@ fn parse_dimension(buffer: &mut ParseBuffer<'_>) -> Result<u32>
 /// The sizes of an array, one at least, and the zero byte behind them.
 #[tactic(auto, using(crate::proofs::Dimensions::dimensions_start, crate::proofs::Dimensions::dimensions_more, crate::proofs::Dimensions::dimensions_end, crate::proofs::Dimensions::dimensions_fail, crate::proofs::Dimensions::dimensions_unended, crate::proofs::Dimensions::dimensions_missing))]
 fn parse_dimensions(alloc: Global, buffer: &mut ParseBuffer<'_>) -> Result<Vec<u32>>
-    ensures dimensions { GivesAll (λ v. v.items) result (rest buffer.new) (dimensions_at (rest buffer.old)) }
+    ensures dimensions { GivesFront (λ v. v.items) result (rest buffer.new) (dimensions_at (rest buffer.old)) }
     ensures some { IfOk result (λ v. 0 < length v.items) }
 {
     let mut dimensions = Vec::new(alloc);
@@ -95,7 +97,7 @@ fn parse_dimensions(alloc: Global, buffer: &mut ParseBuffer<'_>) -> Result<Vec<u
 
 #[tactic(auto, unfolding(crate::specs::TypeRecords::stride_at))]
 fn parse_stride(buffer: &mut ParseBuffer<'_>, is_strided: bool) -> Result<Option<u32>>
-    ensures { ReadsAll (λ x. x) result (rest buffer.new) (stride_at is_strided (rest buffer.old)) }
+    ensures { ParsesFront (λ x. x) result (rest buffer.new) (stride_at is_strided (rest buffer.old)) }
 {
     if !is_strided {
         return Ok(None);
@@ -103,13 +105,15 @@ fn parse_stride(buffer: &mut ParseBuffer<'_>, is_strided: bool) -> Result<Option
     Ok(Some(buffer.parse_u32()?))
 }
 
+/// `LF_ARRAY` or `LF_STRIDED_ARRAY`, behind its leaf. `UnexpectedEof`, `UnexpectedNumericPrefix`,
+/// `UnimplementedFeature` past 32 bits, `OutOfMemory`.
 #[tactic(auto, unfolding(crate::specs::TypeRecords::array_at))]
 pub fn parse_array(
     alloc: Global,
     buffer: &mut ParseBuffer<'_>,
     is_strided: bool,
 ) -> Result<ArrayType>
-    ensures { GivesAll array_form result (rest buffer.new) (array_at is_strided (rest buffer.old)) }
+    ensures { GivesFront array_form result (rest buffer.new) (array_at is_strided (rest buffer.old)) }
 {
     let element_type = buffer.parse()?;
     let indexing_type = buffer.parse()?;

@@ -1,6 +1,7 @@
-//! Records of members.
+//! Records of members, behind their leaves. Each is refused with `UnexpectedEof` where bytes are missing, and with
+//! `UnexpectedNumericPrefix` where a numeric leaf begins no number.
 
-ghost use Rattle.pdb_container.specs.Buffer.{rest, ReadsAll};
+ghost use Rattle.pdb_container.specs.Buffer.{rest, ParsesFront};
 ghost use Rattle.pdb_records.specs.Shapes.{enumerate_form, member_form, static_member_form, overloaded_method_form, method_form, nested_form};
 ghost use Rattle.pdb_records.specs.TypeRecords.{enumerate_at, member_at, static_member_at, overloaded_method_at, vtable_offset_at, method_at, nested_at, base_class_at, virtual_base_class_at, virtual_function_table_pointer_at};
 
@@ -12,9 +13,10 @@ use crate::type_data::{
 use pdb_container::{ParseBuffer, Result};
 use pdb_indices::{parse_name, parse_numeric, parse_variant};
 
+/// `LF_ENUMERATE`: a value of an enumeration.
 #[tactic(auto, unfolding(crate::specs::TypeRecords::enumerate_at))]
 pub fn parse_enumerate<'t>(buffer: &mut ParseBuffer<'t>, leaf: u16) -> Result<EnumerateType<'t>>
-    ensures { ReadsAll enumerate_form result (rest buffer.new) (enumerate_at leaf (rest buffer.old)) }
+    ensures { ParsesFront enumerate_form result (rest buffer.new) (enumerate_at leaf (rest buffer.old)) }
 {
     let attributes = FieldAttributes::new(buffer.parse_u16()?);
     let value = parse_variant(buffer)?;
@@ -26,9 +28,10 @@ pub fn parse_enumerate<'t>(buffer: &mut ParseBuffer<'t>, leaf: u16) -> Result<En
     })
 }
 
+/// `LF_MEMBER`: a data member.
 #[tactic(auto, unfolding(crate::specs::TypeRecords::member_at))]
 pub fn parse_data_member<'t>(buffer: &mut ParseBuffer<'t>, leaf: u16) -> Result<MemberType<'t>>
-    ensures { ReadsAll member_form result (rest buffer.new) (member_at leaf (rest buffer.old)) }
+    ensures { ParsesFront member_form result (rest buffer.new) (member_at leaf (rest buffer.old)) }
 {
     let attributes = FieldAttributes::new(buffer.parse_u16()?);
     let field_type = buffer.parse()?;
@@ -42,12 +45,13 @@ pub fn parse_data_member<'t>(buffer: &mut ParseBuffer<'t>, leaf: u16) -> Result<
     })
 }
 
+/// `LF_STMEMBER`: a static data member.
 #[tactic(auto, unfolding(crate::specs::TypeRecords::static_member_at))]
 pub fn parse_static_member<'t>(
     buffer: &mut ParseBuffer<'t>,
     leaf: u16,
 ) -> Result<StaticMemberType<'t>>
-    ensures { ReadsAll static_member_form result (rest buffer.new) (static_member_at leaf (rest buffer.old)) }
+    ensures { ParsesFront static_member_form result (rest buffer.new) (static_member_at leaf (rest buffer.old)) }
 {
     let attributes = FieldAttributes::new(buffer.parse_u16()?);
     let field_type = buffer.parse()?;
@@ -59,12 +63,13 @@ pub fn parse_static_member<'t>(
     })
 }
 
+/// `LF_METHOD`: methods of one name.
 #[tactic(auto, unfolding(crate::specs::TypeRecords::overloaded_method_at))]
 pub fn parse_overloaded_method<'t>(
     buffer: &mut ParseBuffer<'t>,
     leaf: u16,
 ) -> Result<OverloadedMethodType<'t>>
-    ensures { ReadsAll overloaded_method_form result (rest buffer.new) (overloaded_method_at leaf (rest buffer.old)) }
+    ensures { ParsesFront overloaded_method_form result (rest buffer.new) (overloaded_method_at leaf (rest buffer.old)) }
 {
     let count = buffer.parse_u16()?;
     let method_list = buffer.parse()?;
@@ -76,13 +81,13 @@ pub fn parse_overloaded_method<'t>(
     })
 }
 
-/// The place in the table of methods, of a method that introduces one.
+/// The offset in the virtual function table, in bytes, of a method that introduces one.
 #[tactic(auto, unfolding(crate::specs::TypeRecords::vtable_offset_at))]
 pub fn parse_vtable_offset(
     buffer: &mut ParseBuffer<'_>,
     attributes: FieldAttributes,
 ) -> Result<Option<u32>>
-    ensures { ReadsAll (λ x. x) result (rest buffer.new) (vtable_offset_at attributes (rest buffer.old)) }
+    ensures { ParsesFront (λ x. x) result (rest buffer.new) (vtable_offset_at attributes (rest buffer.old)) }
 {
     if !attributes.is_intro_virtual() {
         return Ok(None);
@@ -90,9 +95,10 @@ pub fn parse_vtable_offset(
     Ok(Some(buffer.parse_u32()?))
 }
 
+/// `LF_ONEMETHOD`: a method that is alone of its name.
 #[tactic(auto, unfolding(crate::specs::TypeRecords::method_at))]
 pub fn parse_method<'t>(buffer: &mut ParseBuffer<'t>, leaf: u16) -> Result<MethodType<'t>>
-    ensures { ReadsAll method_form result (rest buffer.new) (method_at leaf (rest buffer.old)) }
+    ensures { ParsesFront method_form result (rest buffer.new) (method_at leaf (rest buffer.old)) }
 {
     let attributes = FieldAttributes::new(buffer.parse_u16()?);
     let method_type = buffer.parse()?;
@@ -106,9 +112,10 @@ pub fn parse_method<'t>(buffer: &mut ParseBuffer<'t>, leaf: u16) -> Result<Metho
     })
 }
 
+/// `LF_NESTTYPE`, `LF_NESTTYPEEX`: a nested type.
 #[tactic(auto, unfolding(crate::specs::TypeRecords::nested_at))]
 pub fn parse_nested<'t>(buffer: &mut ParseBuffer<'t>, leaf: u16) -> Result<NestedType<'t>>
-    ensures { ReadsAll nested_form result (rest buffer.new) (nested_at leaf (rest buffer.old)) }
+    ensures { ParsesFront nested_form result (rest buffer.new) (nested_at leaf (rest buffer.old)) }
 {
     let attributes = FieldAttributes::new(buffer.parse_u16()?);
     let nested_type = buffer.parse()?;
@@ -120,9 +127,10 @@ pub fn parse_nested<'t>(buffer: &mut ParseBuffer<'t>, leaf: u16) -> Result<Neste
     })
 }
 
+/// `LF_BCLASS`, `LF_BINTERFACE`: a base class.
 #[tactic(auto, unfolding(crate::specs::TypeRecords::base_class_at))]
 pub fn parse_base_class(buffer: &mut ParseBuffer<'_>, kind: ClassKind) -> Result<BaseClassType>
-    ensures { ReadsAll (λ x. x) result (rest buffer.new) (base_class_at kind (rest buffer.old)) }
+    ensures { ParsesFront (λ x. x) result (rest buffer.new) (base_class_at kind (rest buffer.old)) }
 {
     let attributes = FieldAttributes::new(buffer.parse_u16()?);
     let base_class = buffer.parse()?;
@@ -135,12 +143,13 @@ pub fn parse_base_class(buffer: &mut ParseBuffer<'_>, kind: ClassKind) -> Result
     })
 }
 
+/// `LF_VBCLASS` (direct), `LF_IVBCLASS`: a virtual base class.
 #[tactic(auto, unfolding(crate::specs::TypeRecords::virtual_base_class_at))]
 pub fn parse_virtual_base_class(
     buffer: &mut ParseBuffer<'_>,
     direct: bool,
 ) -> Result<VirtualBaseClassType>
-    ensures { ReadsAll (λ x. x) result (rest buffer.new) (virtual_base_class_at direct (rest buffer.old)) }
+    ensures { ParsesFront (λ x. x) result (rest buffer.new) (virtual_base_class_at direct (rest buffer.old)) }
 {
     let attributes = FieldAttributes::new(buffer.parse_u16()?);
     let base_class = buffer.parse()?;
@@ -157,11 +166,12 @@ pub fn parse_virtual_base_class(
     })
 }
 
+/// `LF_VFUNCTAB`: the pointer to a virtual function table.
 #[tactic(auto, unfolding(crate::specs::TypeRecords::virtual_function_table_pointer_at))]
 pub fn parse_virtual_function_table_pointer(
     buffer: &mut ParseBuffer<'_>,
 ) -> Result<VirtualFunctionTablePointerType>
-    ensures { ReadsAll (λ x. x) result (rest buffer.new) (virtual_function_table_pointer_at (rest buffer.old)) }
+    ensures { ParsesFront (λ x. x) result (rest buffer.new) (virtual_function_table_pointer_at (rest buffer.old)) }
 {
     buffer.parse_u16()?;
     let table = buffer.parse()?;

@@ -1,10 +1,10 @@
 //! A type's record, by its leaf.
 
 ghost use Rattle.std.specs.Prelude.{◌≡◌, IfOk};
-ghost use Rattle.pdb_container.specs.Buffer.{rest, ReadsAll};
+ghost use Rattle.pdb_container.specs.Buffer.{rest, ParsesFront};
 ghost use Rattle.pdb_container.specs.Fault.{Gives};
 ghost use Rattle.pdb_records.specs.Forms.{Plain};
-ghost use Rattle.pdb_indices.specs.RecordFields.{GivesAll};
+ghost use Rattle.pdb_indices.specs.RecordFields.{GivesFront};
 ghost use Rattle.pdb_records.specs.Shapes.{shape, plain_shape, field_list_shape, field_form};
 ghost use Rattle.pdb_records.specs.TypeLeaves.{aggregate_at, type_at, base_at, plain_at, continuation_at, field_behind, field_at, field_list_of, type_form_behind, type_form_of};
 
@@ -27,7 +27,7 @@ use std::alloc::Global;
 /// A type with members. `UnimplementedTypeKind` at another leaf.
 #[tactic(auto, unfolding(crate::specs::TypeLeaves::aggregate_at))]
 fn parse_aggregate<'t>(buffer: &mut ParseBuffer<'t>, leaf: u16) -> Result<TypeData<'t>>
-    ensures form { ReadsAll plain_shape result (rest buffer.new) (aggregate_at leaf (rest buffer.old)) }
+    ensures form { ParsesFront plain_shape result (rest buffer.new) (aggregate_at leaf (rest buffer.old)) }
     ensures plain { IfOk result (λ t. shape t ≡ Plain (plain_shape t)) }
 {
     match leaf {
@@ -48,7 +48,7 @@ fn parse_aggregate<'t>(buffer: &mut ParseBuffer<'t>, leaf: u16) -> Result<TypeDa
 /// A type that is no list of members. `UnimplementedTypeKind` at another leaf.
 #[tactic(auto, unfolding(crate::specs::TypeLeaves::type_at))]
 fn parse_type<'t>(alloc: Global, buffer: &mut ParseBuffer<'t>, leaf: u16) -> Result<TypeData<'t>>
-    ensures form { GivesAll plain_shape result (rest buffer.new) (type_at leaf (rest buffer.old)) }
+    ensures form { GivesFront plain_shape result (rest buffer.new) (type_at leaf (rest buffer.old)) }
     ensures plain { IfOk result (λ t. shape t ≡ Plain (plain_shape t)) }
 {
     match leaf {
@@ -68,7 +68,7 @@ fn parse_type<'t>(alloc: Global, buffer: &mut ParseBuffer<'t>, leaf: u16) -> Res
 /// What a class inherits, its table of methods, or a type. `UnimplementedTypeKind` at another leaf.
 #[tactic(auto, unfolding(crate::specs::TypeLeaves::base_at))]
 fn parse_base<'t>(alloc: Global, buffer: &mut ParseBuffer<'t>, leaf: u16) -> Result<TypeData<'t>>
-    ensures form { GivesAll plain_shape result (rest buffer.new) (base_at leaf (rest buffer.old)) }
+    ensures form { GivesFront plain_shape result (rest buffer.new) (base_at leaf (rest buffer.old)) }
     ensures plain { IfOk result (λ t. shape t ≡ Plain (plain_shape t)) }
 {
     match leaf {
@@ -86,7 +86,7 @@ fn parse_base<'t>(alloc: Global, buffer: &mut ParseBuffer<'t>, leaf: u16) -> Res
 /// A member, or a type that is no list of members. `UnimplementedTypeKind` at another leaf.
 #[tactic(auto, unfolding(crate::specs::TypeLeaves::plain_at))]
 fn parse_plain<'t>(alloc: Global, buffer: &mut ParseBuffer<'t>, leaf: u16) -> Result<TypeData<'t>>
-    ensures form { GivesAll plain_shape result (rest buffer.new) (plain_at leaf (rest buffer.old)) }
+    ensures form { GivesFront plain_shape result (rest buffer.new) (plain_at leaf (rest buffer.old)) }
     ensures plain { IfOk result (λ t. shape t ≡ Plain (plain_shape t)) }
 {
     match leaf {
@@ -119,7 +119,7 @@ pub(crate) enum FieldEntry<'t> {
 /// The index of the list that continues this one, behind its leaf.
 #[tactic(auto, unfolding(crate::specs::TypeLeaves::continuation_at))]
 fn parse_continuation(buffer: &mut ParseBuffer<'_>) -> Result<TypeIndex>
-    ensures { ReadsAll (λ x. x) result (rest buffer.new) (continuation_at (rest buffer.old)) }
+    ensures { ParsesFront (λ x. x) result (rest buffer.new) (continuation_at (rest buffer.old)) }
 {
     buffer.parse_u16()?;
     buffer.parse()
@@ -132,7 +132,7 @@ fn parse_field_behind<'t>(
     buffer: &mut ParseBuffer<'t>,
     leaf: u16,
 ) -> Result<FieldEntry<'t>>
-    ensures { GivesAll field_form result (rest buffer.new) (field_behind leaf (rest buffer.old)) }
+    ensures { GivesFront field_form result (rest buffer.new) (field_behind leaf (rest buffer.old)) }
 {
     if leaf == LF_INDEX {
         return Ok(FieldEntry::Continuation(parse_continuation(buffer)?));
@@ -143,7 +143,7 @@ fn parse_field_behind<'t>(
 /// What stands next in a list of members. A byte from 0xf0 on begins padding, and its low four bits count it.
 #[tactic(auto, unfolding(crate::specs::TypeLeaves::field_at))]
 fn parse_field<'t>(alloc: Global, buffer: &mut ParseBuffer<'t>) -> Result<FieldEntry<'t>>
-    ensures { GivesAll field_form result (rest buffer.new) (field_at (rest buffer.old)) }
+    ensures { GivesFront field_form result (rest buffer.new) (field_at (rest buffer.old)) }
 {
     let first = buffer.peek_u8()?;
     if first >= 0xf0 {

@@ -1,7 +1,8 @@
-//! Records of types that are no members.
+//! Records of types that are no members, behind their leaves. Each is refused with `UnexpectedEof` where bytes are
+//! missing, and with `UnexpectedNumericPrefix` where a numeric leaf begins no number.
 
 ghost use Rattle.std.specs.Prelude.{option_map};
-ghost use Rattle.pdb_container.specs.Buffer.{rest, ReadsAll};
+ghost use Rattle.pdb_container.specs.Buffer.{rest, ParsesFront};
 ghost use Rattle.pdb_container.specs.RawString.{raw_bytes};
 ghost use Rattle.pdb_records.specs.Shapes.{class_form, union_form, enumeration_form};
 ghost use Rattle.pdb_records.specs.TypeRecords.{modifier_at, pointer_attributes_at, containing_class_at, pointer_at, procedure_at, member_function_at, bitfield_at, unique_name_at, class_at, field_count_at, newer_struct_at, union_at, enumeration_at};
@@ -14,9 +15,10 @@ use crate::type_data::{
 use pdb_container::{Error, ParseBuffer, RawString, Result};
 use pdb_indices::{TypeIndex, parse_name, parse_numeric, parse_optional_type_index};
 
+/// `LF_MODIFIER`: a constant, volatile or unaligned type.
 #[tactic(auto, unfolding(crate::specs::TypeRecords::modifier_at))]
 pub fn parse_modifier(buffer: &mut ParseBuffer<'_>) -> Result<ModifierType>
-    ensures { ReadsAll (λ x. x) result (rest buffer.new) (modifier_at (rest buffer.old)) }
+    ensures { ParsesFront (λ x. x) result (rest buffer.new) (modifier_at (rest buffer.old)) }
 {
     let underlying_type = buffer.parse()?;
     let words = buffer.parse_u16()?;
@@ -30,7 +32,7 @@ pub fn parse_modifier(buffer: &mut ParseBuffer<'_>) -> Result<ModifierType>
 
 #[tactic(auto, unfolding(crate::specs::TypeRecords::pointer_attributes_at))]
 fn parse_pointer_attributes(buffer: &mut ParseBuffer<'_>) -> Result<PointerAttributes>
-    ensures { ReadsAll (λ x. x) result (rest buffer.new) (pointer_attributes_at (rest buffer.old)) }
+    ensures { ParsesFront (λ x. x) result (rest buffer.new) (pointer_attributes_at (rest buffer.old)) }
 {
     let attributes = PointerAttributes::new(buffer.parse_u32()?);
     if !attributes.is_known() {
@@ -44,7 +46,7 @@ fn parse_containing_class(
     buffer: &mut ParseBuffer<'_>,
     attributes: PointerAttributes,
 ) -> Result<Option<TypeIndex>>
-    ensures { ReadsAll (λ x. x) result (rest buffer.new) (containing_class_at attributes (rest buffer.old)) }
+    ensures { ParsesFront (λ x. x) result (rest buffer.new) (containing_class_at attributes (rest buffer.old)) }
 {
     if !attributes.is_to_member() {
         return Ok(None);
@@ -52,9 +54,10 @@ fn parse_containing_class(
     Ok(Some(buffer.parse()?))
 }
 
+/// `LF_POINTER`: a pointer or a reference. `UnimplementedFeature` where its kind or mode is unknown.
 #[tactic(auto, unfolding(crate::specs::TypeRecords::pointer_at))]
 pub fn parse_pointer(buffer: &mut ParseBuffer<'_>) -> Result<PointerType>
-    ensures { ReadsAll (λ x. x) result (rest buffer.new) (pointer_at (rest buffer.old)) }
+    ensures { ParsesFront (λ x. x) result (rest buffer.new) (pointer_at (rest buffer.old)) }
 {
     let underlying_type = buffer.parse()?;
     let attributes = parse_pointer_attributes(buffer)?;
@@ -66,9 +69,10 @@ pub fn parse_pointer(buffer: &mut ParseBuffer<'_>) -> Result<PointerType>
     })
 }
 
+/// `LF_PROCEDURE`: the type of a function that is no method.
 #[tactic(auto, unfolding(crate::specs::TypeRecords::procedure_at))]
 pub fn parse_procedure(buffer: &mut ParseBuffer<'_>) -> Result<ProcedureType>
-    ensures { ReadsAll (λ x. x) result (rest buffer.new) (procedure_at (rest buffer.old)) }
+    ensures { ParsesFront (λ x. x) result (rest buffer.new) (procedure_at (rest buffer.old)) }
 {
     let return_type = parse_optional_type_index(buffer)?;
     let attributes = FunctionAttributes::new(buffer.parse_u16()?);
@@ -82,9 +86,10 @@ pub fn parse_procedure(buffer: &mut ParseBuffer<'_>) -> Result<ProcedureType>
     })
 }
 
+/// `LF_MFUNCTION`: the type of a method.
 #[tactic(auto, unfolding(crate::specs::TypeRecords::member_function_at))]
 pub fn parse_member_function(buffer: &mut ParseBuffer<'_>) -> Result<MemberFunctionType>
-    ensures { ReadsAll (λ x. x) result (rest buffer.new) (member_function_at (rest buffer.old)) }
+    ensures { ParsesFront (λ x. x) result (rest buffer.new) (member_function_at (rest buffer.old)) }
 {
     let return_type = buffer.parse()?;
     let class_type = buffer.parse()?;
@@ -104,9 +109,10 @@ pub fn parse_member_function(buffer: &mut ParseBuffer<'_>) -> Result<MemberFunct
     })
 }
 
+/// `LF_BITFIELD`: some bits of a number.
 #[tactic(auto, unfolding(crate::specs::TypeRecords::bitfield_at))]
 pub fn parse_bitfield(buffer: &mut ParseBuffer<'_>) -> Result<BitfieldType>
-    ensures { ReadsAll (λ x. x) result (rest buffer.new) (bitfield_at (rest buffer.old)) }
+    ensures { ParsesFront (λ x. x) result (rest buffer.new) (bitfield_at (rest buffer.old)) }
 {
     let underlying_type = buffer.parse()?;
     let length = buffer.parse_u8()?;
@@ -118,7 +124,6 @@ pub fn parse_bitfield(buffer: &mut ParseBuffer<'_>) -> Result<BitfieldType>
     })
 }
 
-/// A class, a struct or an interface, in a record with that leaf.
 /// The unique name in a record with that leaf, where the properties say that it has one.
 #[tactic(auto, unfolding(crate::specs::TypeRecords::unique_name_at))]
 fn parse_unique_name<'t>(
@@ -126,7 +131,7 @@ fn parse_unique_name<'t>(
     leaf: u16,
     properties: TypeProperties,
 ) -> Result<Option<RawString<'t>>>
-    ensures { ReadsAll (option_map raw_bytes) result (rest buffer.new) (unique_name_at leaf properties (rest buffer.old)) }
+    ensures { ParsesFront (option_map raw_bytes) result (rest buffer.new) (unique_name_at leaf properties (rest buffer.old)) }
 {
     if !properties.has_unique_name() {
         return Ok(None);
@@ -134,13 +139,14 @@ fn parse_unique_name<'t>(
     Ok(Some(parse_name(buffer, leaf)?))
 }
 
+/// `LF_CLASS`, `LF_STRUCTURE`, `LF_INTERFACE`, by its leaf.
 #[tactic(auto, unfolding(crate::specs::TypeRecords::class_at))]
 pub fn parse_class<'t>(
     buffer: &mut ParseBuffer<'t>,
     leaf: u16,
     kind: ClassKind,
 ) -> Result<ClassType<'t>>
-    ensures { ReadsAll class_form result (rest buffer.new) (class_at leaf kind (rest buffer.old)) }
+    ensures { ParsesFront class_form result (rest buffer.new) (class_at leaf kind (rest buffer.old)) }
 {
     let count = buffer.parse_u16()?;
     let properties = TypeProperties::new(buffer.parse_u16()?);
@@ -166,7 +172,7 @@ pub fn parse_class<'t>(
 /// How many members a struct has, as newer compilers write it. `UnimplementedFeature` past 65535.
 #[tactic(auto, unfolding(crate::specs::TypeRecords::field_count_at))]
 fn parse_field_count(buffer: &mut ParseBuffer<'_>) -> Result<u16>
-    ensures { ReadsAll (λ x. x) result (rest buffer.new) (field_count_at (rest buffer.old)) }
+    ensures { ParsesFront (λ x. x) result (rest buffer.new) (field_count_at (rest buffer.old)) }
 {
     let count = parse_numeric(buffer)?;
     if count > 65535 {
@@ -175,10 +181,10 @@ fn parse_field_count(buffer: &mut ParseBuffer<'_>) -> Result<u16>
     Ok(count as u16)
 }
 
-/// A struct as newer compilers write it, in a record with that leaf.
+/// `LF_STRUCTURE19`: a struct as newer compilers write it. `UnimplementedFeature` past 65535 members.
 #[tactic(auto, unfolding(crate::specs::TypeRecords::newer_struct_at))]
 pub fn parse_newer_struct<'t>(buffer: &mut ParseBuffer<'t>, leaf: u16) -> Result<ClassType<'t>>
-    ensures { ReadsAll class_form result (rest buffer.new) (newer_struct_at leaf (rest buffer.old)) }
+    ensures { ParsesFront class_form result (rest buffer.new) (newer_struct_at leaf (rest buffer.old)) }
 {
     let properties = TypeProperties::new(buffer.parse_u16()?);
     buffer.parse_u16()?;
@@ -202,9 +208,10 @@ pub fn parse_newer_struct<'t>(buffer: &mut ParseBuffer<'t>, leaf: u16) -> Result
     })
 }
 
+/// `LF_UNION`, by its leaf.
 #[tactic(auto, unfolding(crate::specs::TypeRecords::union_at))]
 pub fn parse_union<'t>(buffer: &mut ParseBuffer<'t>, leaf: u16) -> Result<UnionType<'t>>
-    ensures { ReadsAll union_form result (rest buffer.new) (union_at leaf (rest buffer.old)) }
+    ensures { ParsesFront union_form result (rest buffer.new) (union_at leaf (rest buffer.old)) }
 {
     let count = buffer.parse_u16()?;
     let properties = TypeProperties::new(buffer.parse_u16()?);
@@ -222,9 +229,10 @@ pub fn parse_union<'t>(buffer: &mut ParseBuffer<'t>, leaf: u16) -> Result<UnionT
     })
 }
 
+/// `LF_ENUM`, by its leaf.
 #[tactic(auto, unfolding(crate::specs::TypeRecords::enumeration_at))]
 pub fn parse_enumeration<'t>(buffer: &mut ParseBuffer<'t>, leaf: u16) -> Result<EnumerationType<'t>>
-    ensures { ReadsAll enumeration_form result (rest buffer.new) (enumeration_at leaf (rest buffer.old)) }
+    ensures { ParsesFront enumeration_form result (rest buffer.new) (enumeration_at leaf (rest buffer.old)) }
 {
     let count = buffer.parse_u16()?;
     let properties = TypeProperties::new(buffer.parse_u16()?);

@@ -1,4 +1,4 @@
-//! Types that have no record: their index says what they are.
+//! Primitive types, which have no record: their index says what they are (TYPE_ENUM_e of microsoft-pdb's cvinfo.h).
 
 ghost use Rattle.std.specs.Prelude.{◌≡◌};
 ghost use Rattle.pdb_container.specs.Fault.{Parses};
@@ -9,7 +9,7 @@ use crate::type_data::TypeData;
 use pdb_container::{Error, Result};
 use pdb_indices::TypeIndex;
 
-/// A type that has no record, or a pointer to one.
+/// A primitive type, which has no record, or a pointer to one.
 #[derive(Clone, Copy, Debug, PartialEq, Eq, Hash)]
 pub struct PrimitiveType {
     /// The type.
@@ -18,7 +18,7 @@ pub struct PrimitiveType {
     pub indirection: Option<Indirection>,
 }
 
-/// How a pointer to a primitive type is held.
+/// The indirection of a primitive type: how a pointer to it is held.
 #[derive(Clone, Copy, Debug, PartialEq, Eq, Hash)]
 pub enum Indirection {
     /// 16 bits.
@@ -37,7 +37,7 @@ pub enum Indirection {
     Near128,
 }
 
-/// Which type that has no record.
+/// The kind of a primitive type.
 #[derive(Clone, Copy, Debug, PartialEq, Eq, Hash)]
 pub enum PrimitiveKind {
     /// No type.

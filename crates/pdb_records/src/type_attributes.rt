@@ -1,9 +1,9 @@
-//! Attributes of types, members and pointers: bits of a number.
+//! Attributes of types, members and pointers: bits of a number, as microsoft-pdb's cvinfo.h has them.
 
 ghost use Rattle.std.specs.Prelude.{◌≡◌};
 ghost use Rattle.pdb_records.specs.Attributes.{is_forward, names_unique, introduces, constructs, kind_of_pointer, mode_of_pointer, points_constant, size_of_pointer, is_known_pointer, is_to_member};
 
-/// Properties of a class, a union or an enumeration.
+/// Type properties (CV_prop_t) of a class, a union or an enumeration.
 #[derive(Clone, Copy, Debug, Default, PartialEq, Eq, Hash)]
 pub struct TypeProperties(u16);
 
@@ -30,7 +30,7 @@ impl TypeProperties {
     }
 }
 
-/// Attributes of a member.
+/// Field attributes (CV_fldattr_t) of a member.
 #[derive(Clone, Copy, Debug, Default, PartialEq, Eq, Hash)]
 pub struct FieldAttributes(u16);
 
@@ -53,7 +53,7 @@ impl FieldAttributes {
 /// The bit of a function's attributes that marks a constructor.
 const CONSTRUCTOR: u16 = 0x200;
 
-/// Attributes of a function.
+/// Function attributes (CV_funcattr_t).
 #[derive(Clone, Copy, Debug, Default, PartialEq, Eq, Hash)]
 pub struct FunctionAttributes(u16);
 
@@ -73,7 +73,7 @@ impl FunctionAttributes {
     }
 }
 
-/// What a pointer holds.
+/// The kind of a pointer: what it holds.
 #[derive(Clone, Copy, Debug, PartialEq, Eq, Hash)]
 pub enum PointerKind {
     /// 16 bits.
@@ -104,7 +104,7 @@ pub enum PointerKind {
     Ptr64,
 }
 
-/// What a pointer leads to, and how it is written.
+/// The mode of a pointer: what it leads to, and how it is written.
 #[derive(Clone, Copy, Debug, PartialEq, Eq, Hash)]
 pub enum PointerMode {
     /// A pointer.
@@ -119,7 +119,7 @@ pub enum PointerMode {
     RValueReference,
 }
 
-/// Attributes of a pointer, of a known kind and mode.
+/// Pointer attributes, of a known kind and mode.
 #[derive(Clone, Copy, Debug, Default, PartialEq, Eq, Hash)]
 pub struct PointerAttributes(u32);
 

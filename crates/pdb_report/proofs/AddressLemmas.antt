@@ -34,5 +34,6 @@ either zero n = inl (omega arith)
 either (suc m) zero = inr (omega arith)
 either (suc m) (suc n) = elim (either m n) [ inl h ↦ inl (omega arith) | inr h ↦ inr (omega arith) ]
 
+-- the first twelve bytes of a line decide its address
 pub address-short : (line : List ℕ) → address_of (take 12 line) ≡ address_of line
 address-short line = short_if line (either 12 (length line))

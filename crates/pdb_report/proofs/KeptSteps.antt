@@ -13,8 +13,8 @@ use Rattle.pdb_report.specs.Contributions.{holds, holder}
 use Rattle.pdb_report.specs.Procedures.{Procedure, procedures, over}
 use Rattle.pdb_symbols_modules.specs.Shared.{Provider, provider}
 use Rattle.pdb_report.specs.Loading.{Parts, answerable}
-use Rattle.pdb_report.specs.Answers.{found, scope, answer_in, answer_held, answer_at, answer_of, answer}
-use Rattle.pdb_report.specs.Kept.{procedures_at, tables, IsKept, kept_held, kept_at, kept_answer}
+use Rattle.pdb_report.specs.AddressAnswer.{if_there, loaded_parts, procedure_answer, scope, answer_in, answer_by, answer}
+use Rattle.pdb_report.specs.KeptParts.{procedures_at, tables, IsKeptOfFile, kept_answer}
 
 -- what holds of all contributions holds of the one by which a module holds a place
 of_found : (P : ModuleSectionContribution → Type 0) (test : ModuleSectionContribution → Bool) (contributions : List ModuleSectionContribution) → All P contributions → IfSome (find test contributions) P
@@ -29,13 +29,16 @@ abbrev AreGiven : Provider → BTreeMap ℕ (List Procedure) → ModuleSectionCo
 AreGiven provided kept c = procedures_at kept c.«module» ≡ procedures (provided c.«module»)
 
 held : (p : Parts) (provided : Provider) (kept : BTreeMap ℕ (List Procedure)) (at : PdbInternalSectionOffset) (found_by : Option ModuleSectionContribution)
-    → IfSome found_by (AreGiven provided kept) → answer_held p provided at found_by ≡ kept_held p.map kept at found_by
+    → IfSome found_by (AreGiven provided kept)
+    → if_there found_by (λ c. answer_in p (scope provided c.«module») at) ≡ if_there found_by (λ c. if_there (over (procedures_at kept c.«module») at) (procedure_answer p.map))
 unfolding answer_in scope
 held p provided kept at None same = refl
-held p provided kept at (Some c) same = ap (λ qs. found p.map (over qs at)) (sym same)
+held p provided kept at (Some c) same = ap (λ qs. if_there (over qs at) (procedure_answer p.map)) (sym same)
 
 located : (p : Parts) (provided : Provider) (kept : BTreeMap ℕ (List Procedure)) (at : Option PdbInternalSectionOffset)
-    → All (AreGiven provided kept) p.contributions → answer_at p provided at ≡ kept_at p.map p.contributions kept at
+    → All (AreGiven provided kept) p.contributions
+    → if_there at (λ place. if_there (holder p.contributions place) (λ c. answer_in p (scope provided c.«module») place))
+    ≡ if_there at (λ place. if_there (holder p.contributions place) (λ c. if_there (over (procedures_at kept c.«module») place) (procedure_answer p.map)))
 located p provided kept None same = refl
 located p provided kept (Some at) same = held p provided kept at (holder p.contributions at) (of_found (AreGiven provided kept) (holds at) p.contributions same)
 
@@ -48,8 +51,8 @@ second_of (Ok t) = t.1
 second_of (Err e) = []
 
 answer_from : (read : Result Parts LoadingFault) (provided : Provider) (addresses : Map) (contributions : List ModuleSectionContribution) (kept : BTreeMap ℕ (List Procedure)) (a : ℕ)
-    → tables read ≡ Ok (addresses, contributions) → All (AreGiven provided kept) contributions → answer_of read provided a ≡ kept_answer addresses contributions kept a
-unfolding answer_of
+    → tables read ≡ Ok (addresses, contributions) → All (AreGiven provided kept) contributions → if_there (loaded_parts read) (λ p. answer_by p provided a) ≡ kept_answer addresses contributions kept a
+unfolding answer_by
 answer_from (Err e) provided addresses contributions kept a is same = absurd cc
 answer_from (Ok p) provided addresses contributions kept a is same =
     let first : p.map ≡ addresses = ap (λ t. first_of t addresses) is in
@@ -57,8 +60,9 @@ answer_from (Ok p) provided addresses contributions kept a is same =
     located p provided kept (option_map internal_place (inner_place p.map a)) (subst (All (AreGiven provided kept)) (sym second) same)
     ∙ ap (λ ss. kept_answer ss p.contributions kept a) first ∙ ap (λ cs. kept_answer addresses cs kept a) second
 
+-- the answer by what is kept of a file is the file's
 pub answer_kept : (file : List ℕ) (addresses : Map) (contributions : List ModuleSectionContribution) (kept : BTreeMap ℕ (List Procedure)) (a : ℕ)
-    → IsKept file addresses contributions kept → kept_answer addresses contributions kept a ≡ answer (streams file) a
+    → IsKeptOfFile file addresses contributions kept → kept_answer addresses contributions kept a ≡ answer (streams file) a
 unfolding answer
 answer_kept file addresses contributions kept a is =
     sym (answer_from (answerable (streams file)) (provider (streams file)) addresses contributions kept a is.tables_are is.procedures_are)

@@ -6,7 +6,7 @@ use Rattle.std.proofs.KnownBytes.{Appends-trans}
 use Rattle.std.specs.List.{flat_map}
 use Rattle.std.proofs.lemmas.Grind.{flat_map-append}
 use Rattle.std.proofs.lemmas.List.{take_more}
-use Rattle.pdb_report.specs.Lines.{onto, lines_of, onto_ended, ended_lines_of, report, report_of_ended, kept_lines, kept_rest, Begins}
+use Rattle.pdb_report.specs.InputLines.{onto, input_lines, onto_ended, ended_input_lines, report, report_of_ended, kept_lines, kept_rest, Begins}
 
 -- bytes that come in two pieces
 pub kept_lines-append : (kept xs ys : List ℕ) → kept_lines kept (xs ++ ys) ≡ kept_lines kept xs ++ kept_lines (kept_rest kept xs) ys
@@ -18,6 +18,7 @@ kept_lines-append kept (x ∷ xs) ys =
       | false ↦ kept_lines-append (take 12 (kept ++ x ∷ [])) xs ys
     ]
 
+-- what is kept behind bytes and further ones is kept in two steps
 pub kept_rest-append : (kept xs ys : List ℕ) → kept_rest kept (xs ++ ys) ≡ kept_rest (kept_rest kept xs) ys
 kept_rest-append kept [] ys = refl
 kept_rest-append kept (x ∷ xs) ys =
@@ -73,13 +74,13 @@ unfolding front_ended
 front_ended-onto line b [] = refl
 front_ended-onto line b (l ∷ ls) = ap (λ h. h ∷ ls) (append_assoc line (b ∷ []) l)
 
-ended_is : (line bs : List ℕ) → ended_from line bs ≡ front_ended line (ended_lines_of bs)
+ended_is : (line bs : List ℕ) → ended_from line bs ≡ front_ended line (ended_input_lines bs)
 unfolding ended_from front_ended
 ended_is line [] = refl
 ended_is line (b ∷ bs) =
-    elim (b == 10) as (λ t. cond t (line ∷ ended_from [] bs) (ended_from (line ++ b ∷ []) bs) ≡ front_ended line (cond t ([] ∷ ended_lines_of bs) (onto_ended b (ended_lines_of bs)))) [
-      | true ↦ ap (λ l. line ∷ l) (ended_is [] bs ∙ front_ended-nil (ended_lines_of bs)) ∙ ap (λ h. h ∷ ended_lines_of bs) (sym (append-nil line))
-      | false ↦ ended_is (line ++ b ∷ []) bs ∙ front_ended-onto line b (ended_lines_of bs)
+    elim (b == 10) as (λ t. cond t (line ∷ ended_from [] bs) (ended_from (line ++ b ∷ []) bs) ≡ front_ended line (cond t ([] ∷ ended_input_lines bs) (onto_ended b (ended_input_lines bs)))) [
+      | true ↦ ap (λ l. line ∷ l) (ended_is [] bs ∙ front_ended-nil (ended_input_lines bs)) ∙ ap (λ h. h ∷ ended_input_lines bs) (sym (append-nil line))
+      | false ↦ ended_is (line ++ b ∷ []) bs ∙ front_ended-onto line b (ended_input_lines bs)
     ]
 
 -- a line behind the last newline, if it has a byte
@@ -105,20 +106,20 @@ unfolding front
 front-onto line b [] = snoc_line line b
 front-onto line b (l ∷ ls) = ap (λ h. h ∷ ls) (append_assoc line (b ∷ []) l)
 
-lines_split : (line bs : List ℕ) → front line (lines_of bs) ≡ ended_from line bs ++ last_line (rest_from line bs)
+lines_split : (line bs : List ℕ) → front line (input_lines bs) ≡ ended_from line bs ++ last_line (rest_from line bs)
 unfolding ended_from rest_from front
 lines_split line [] = refl
 lines_split line (b ∷ bs) =
-    elim (b == 10) as (λ t. front line (cond t ([] ∷ lines_of bs) (onto b (lines_of bs))) ≡ cond t (line ∷ ended_from [] bs) (ended_from (line ++ b ∷ []) bs) ++ last_line (cond t (rest_from [] bs) (rest_from (line ++ b ∷ []) bs))) [
-      | true ↦ ap (λ h. h ∷ lines_of bs) (append-nil line) ∙ ap (λ l. line ∷ l) (sym (front-nil (lines_of bs)) ∙ lines_split [] bs)
-      | false ↦ sym (front-onto line b (lines_of bs)) ∙ lines_split (line ++ b ∷ []) bs
+    elim (b == 10) as (λ t. front line (cond t ([] ∷ input_lines bs) (onto b (input_lines bs))) ≡ cond t (line ∷ ended_from [] bs) (ended_from (line ++ b ∷ []) bs) ++ last_line (cond t (rest_from [] bs) (rest_from (line ++ b ∷ []) bs))) [
+      | true ↦ ap (λ h. h ∷ input_lines bs) (append-nil line) ∙ ap (λ l. line ∷ l) (sym (front-nil (input_lines bs)) ∙ lines_split [] bs)
+      | false ↦ sym (front-onto line b (input_lines bs)) ∙ lines_split (line ++ b ∷ []) bs
     ]
 
 -- ---- what the engine writes
 
 -- for the lines that a newline ends
 pub report_of_ended_is : (text : List ℕ → List ℕ) → ((line : List ℕ) → text (take 12 line) ≡ text line) → (bs : List ℕ) → flat_map text (kept_lines [] bs) ≡ report_of_ended text bs
-report_of_ended_is text short bs = kept_report text short [] bs ∙ ap (flat_map text) (ended_is [] bs ∙ front_ended-nil (ended_lines_of bs))
+report_of_ended_is text short bs = kept_report text short [] bs ∙ ap (flat_map text) (ended_is [] bs ∙ front_ended-nil (ended_input_lines bs))
 
 last_short : (text : List ℕ → List ℕ) → ((line : List ℕ) → text (take 12 line) ≡ text line) → (line : List ℕ) → flat_map text (last_line (take 12 line)) ≡ flat_map text (last_line line)
 last_short text short [] = refl
@@ -127,7 +128,7 @@ last_short text short (x ∷ xs) = ap (λ l. l ++ []) (short (x ∷ xs))
 -- for all
 pub report_is : (text : List ℕ → List ℕ) → ((line : List ℕ) → text (take 12 line) ≡ text line) → (bs : List ℕ) → report text bs ≡ flat_map text (kept_lines [] bs) ++ flat_map text (last_line (kept_rest [] bs))
 report_is text short bs =
-    ap (flat_map text) (sym (front-nil (lines_of bs)) ∙ lines_split [] bs)
+    ap (flat_map text) (sym (front-nil (input_lines bs)) ∙ lines_split [] bs)
     ∙ flat_map-append text (ended_from [] bs) (last_line (rest_from [] bs))
     ∙ ap (λ l. l ++ flat_map text (last_line (rest_from [] bs))) (sym (kept_report text short [] bs))
     ∙ ap (λ l. flat_map text (kept_lines [] bs) ++ l) (sym (last_short text short (rest_from [] bs)) ∙ ap (λ l. flat_map text (last_line l)) (sym (kept_rest_is [] bs)))
@@ -150,6 +151,7 @@ out_more text text' a b c kept kept' bytes i h et ek p q =
     let joined = ap (flat_map text) (kept_lines-more kept bytes i h) ∙ flat_map-append text (kept_lines kept (take i bytes)) (kept_lines (kept_rest kept (take i bytes)) (get_or bytes i 0 ∷ [])) in
     subst (λ (l : List ℕ). Appends a c l) (sym joined) (Appends-trans a b c _ _ p now)
 
+-- what is kept behind one byte more
 pub rest_more : (kept kept' kept'' bytes : List ℕ) (i : ℕ) → i < length bytes → kept' ≡ kept_rest kept (take i bytes) → kept'' ≡ kept_rest kept' (get_or bytes i 0 ∷ []) → kept'' ≡ kept_rest kept (take (i + 1) bytes)
 rest_more kept kept' kept'' bytes i h e e' = e' ∙ ap (λ k. kept_rest k (get_or bytes i 0 ∷ [])) e ∙ sym (kept_rest-more kept bytes i h)
 
@@ -168,6 +170,7 @@ begins_more text kept bytes i out h (more, p) =
           ∙ append_assoc (done ++ out) more rest,
     )
 
+-- a front of one line's text, behind the text of the lines before it, is a front of the text of all
 pub part_more : (text text' : List ℕ → List ℕ) (a b c : Option (List ℕ)) (kept kept' bytes : List ℕ) (i : ℕ) → i < length bytes → text' ≡ text → kept' ≡ kept_rest kept (take i bytes)
     → Appends a b (flat_map text (kept_lines kept (take i bytes)))
     → ((out : List ℕ) × Appends b c out × Begins out (flat_map text' (kept_lines kept' (get_or bytes i 0 ∷ []))))
@@ -178,6 +181,7 @@ part_more text text' a b c kept kept' bytes i h et ek p (out, q, begins) =
     (subst (λ (k : List ℕ). Begins out (flat_map text' (kept_lines k (get_or bytes i 0 ∷ [])))) ek begins) in
     (flat_map text (kept_lines kept (take i bytes)) ++ out, Appends-trans a b c _ out p q, begins_more text kept bytes i out h now)
 
+-- what holds, holds where a call failed
 pub on_err : {T E P : Type 0} (r : Result T E) → P → OnErr r P
 on_err (Ok x) p = tt
 on_err (Err e) p = p

@@ -10,16 +10,16 @@ use Rattle.std.proofs.lemmas.List.Sorted.{list_any-IsPermutation}
 use Rattle.pdb_container.specs.Fault.{refuse, ◌>>=◌}
 use Rattle.pdb_report.specs.declared.fault.LoadFault.{LoadFault}
 use Rattle.pdb_report.specs.declared.fault.LoadFault.TheVariants as faults
-use Rattle.pdb_report.specs.declared.pdb_addr2line.Error.TheVariants as contexts
+use Rattle.pdb_resolving.specs.declared.error.Error.TheVariants as contexts
 use Rattle.pdb_container.specs.declared.error.Error.TheVariants as errors
-use Rattle.pdb_report.specs.Faults.{LoadingFault, NotYet, Fails, loading_fault_of}
-use Rattle.pdb_modules.specs.ModuleStream.{symbols_in as symbol_bytes_in}
+use Rattle.pdb_report.specs.Faults.{LoadingFault, NotYet, FailsLoading, loading_fault_of}
+use Rattle.pdb_modules.specs.ModuleStream.{symbol_list_bytes as symbol_bytes_in}
 use Rattle.pdb_symbols_modules.specs.Streams.{Streams, stream_if_named}
 use Rattle.pdb_symbols_modules.specs.Modules.{Module}
-use Rattle.pdb_symbols_modules.specs.Opened.{module_info}
+use Rattle.pdb_symbols_modules.specs.DatabaseCalls.{module_info}
 use Rattle.pdb_symbols_modules.specs.Shared.{module_stream, info_in}
-use Rattle.pdb_report.specs.Procedures.{Procedure, symbols_in, own_symbols, has_other}
-use Rattle.pdb_report.specs.Kept.{list_or_none}
+use Rattle.pdb_report.specs.Procedures.{Procedure, symbols_of_stream, own_symbols, has_other}
+use Rattle.pdb_report.specs.KeptParts.{list_or_none}
 use Rattle.pdb_report.specs.Loading.{symbols_place, with_symbols, if_read, has_others_at, has_other_symbols}
 
 -- ---- a loop that ends where one is refused
@@ -32,12 +32,14 @@ not_refused : (b : Bool) (u : Unit {0}) → refuse b NotYet ≡ Ok u → b ≡ f
 not_refused true u h = absurd cc
 not_refused false u h = refl
 
+-- one more that isn't refused
 pub refused_more : {X : Type 0} (test : X → Bool) (xs : List X) (i : ℕ) (x : X) (u : Unit {0}) → i < length xs → x ≡ get_or xs i x → refuse (test x) NotYet ≡ Ok u
     → list_any test (take i xs) ≡ false → list_any test (take (i + 1) xs) ≡ false
 refused_more test xs i x u lt is passed so_far =
     ap (list_any test) (take_more xs i x lt ∙ ap (λ y. take i xs ++ y ∷ []) (sym is)) ∙ list_any-append test (take i xs) (x ∷ [])
     ∙ ap (λ b. b || (test x || false)) so_far ∙ or_false (test x) ∙ not_refused (test x) u passed
 
+-- none of all is refused
 pub refused_all : {X : Type 0} (test : X → Bool) (xs : List X) (i : ℕ) → length xs ≤ i → list_any test (take i xs) ≡ false → refuse (list_any test xs) NotYet ≡ Ok tt
 refused_all test xs i past so_far = ap (λ b. refuse b NotYet) (sym (ap (list_any test) (take_all i xs past)) ∙ so_far)
 
@@ -53,13 +55,14 @@ refused_by true f h = (refl, h)
 refused_by false f h = absurd cc
 
 -- one test that refuses where another one does fails as that one
-refused_alike : (a b : Bool) (e : LoadFault) → (a ≡ true → b ≡ true) → Fails e (refuse a NotYet) → Fails e (refuse b NotYet)
+refused_alike : (a b : Bool) (e : LoadFault) → (a ≡ true → b ≡ true) → FailsLoading e (refuse a NotYet) → FailsLoading e (refuse b NotYet)
 refused_alike a b faults.OutOfMemory more h = tt
 refused_alike a b (faults.Pdb contexts.OutOfMemory) more h = h
 refused_alike a b (faults.Pdb (contexts.PdbError errors.OutOfMemory)) more h = h
 refused_alike a b e more h = let by = refused_by a (loading_fault_of e) h in ap (λ t. refuse t NotYet) (more by.0) ∙ by.1
 
-pub refused_fail : {X : Type 0} (test : X → Bool) (xs : List X) (i : ℕ) (d : X) (e : LoadFault) → i < length xs → Fails e (refuse (test (get_or xs i d)) NotYet) → Fails e (refuse (list_any test xs) NotYet)
+-- one that is refused refuses all
+pub refused_fail : {X : Type 0} (test : X → Bool) (xs : List X) (i : ℕ) (d : X) (e : LoadFault) → i < length xs → FailsLoading e (refuse (test (get_or xs i d)) NotYet) → FailsLoading e (refuse (list_any test xs) NotYet)
 refused_fail test xs i d e lt h = refused_alike (test (get_or xs i d)) (list_any test xs) e (any_at test xs i d lt) h
 
 -- ---- the places of all modules
@@ -93,24 +96,27 @@ equal_places (a, b) (c, d) h =
     let parts = both (nat_eq a c) (nat_eq b d) h in
     ap (λ x. (x, b)) (eqb-true a c parts.0) ∙ ap (λ y. (c, y)) (eqb-true b d parts.1)
 
+-- places that are sorted, each once, are refused exactly where all places are
 pub places_alike : (test : ℕ × ℕ → Bool) (all sorted few : List (ℕ × ℕ)) → IsPermutation all sorted → few ≡ dedup same_place sorted → list_any test few ≡ list_any test all
 places_alike test all sorted few moved is = ap (list_any test) is ∙ once test same_place equal_places sorted ∙ sym (list_any-IsPermutation test all sorted moved)
 
 -- a module's symbols are where its entry says
 own_place : (s : Streams) (m : Module) → has_others_at s (symbols_place m) ≡ has_other_symbols s m
-unfolding module_info info_in symbols_in symbol_bytes_in
+unfolding module_info info_in symbols_of_stream symbol_bytes_in
 own_place s m = elim (stream_if_named s m.stream) as (λ r. has_other (own_symbols (option_map (with_symbols m.symbols_size) (if_read r))) ≡ has_other ((r >>= λ found. Ok (option_map (module_stream m) found)) >>= own_symbols)) [
   | Ok None ↦ refl
   | Ok (Some bytes) ↦ refl
   | Err e ↦ refl
 ]
 
+-- modules are refused exactly where the places of their symbols are
 pub modules_at_places : (s : Streams) (modules : List Module) → list_any (has_others_at s) (map symbols_place modules) ≡ list_any (has_other_symbols s) modules
 modules_at_places s [] = refl
 modules_at_places s (m ∷ modules) = ap (λ b. b || list_any (has_others_at s) (map symbols_place modules)) (own_place s m) ∙ ap (λ b. has_other_symbols s m || b) (modules_at_places s modules)
 
 -- ---- what is kept
 
+-- procedures that are kept of a module are the module's
 pub kept_is : (found : Option (List Procedure)) (all : List Procedure) → IsSome found → IfSome found (λ own. own ≡ all) → list_or_none found ≡ all
 kept_is None all there right = absurd cc
 kept_is (Some own) all there right = right

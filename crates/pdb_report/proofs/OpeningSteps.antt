@@ -8,12 +8,12 @@ use Rattle.pdb_container.specs.declared.error.Error.TheVariants as errors
 use Rattle.pdb_container.specs.Fault.{fault_of, IsOutside, HasRisen, refuse, ◌>>=◌}
 use Rattle.pdb_report.specs.declared.fault.LoadFault.{LoadFault}
 use Rattle.pdb_report.specs.declared.fault.LoadFault.TheVariants as faults
-use Rattle.pdb_report.specs.declared.pdb_addr2line.Error.TheVariants as contexts
+use Rattle.pdb_resolving.specs.declared.error.Error.TheVariants as contexts
 use Rattle.pdb_container.specs.Listing.{whole}
 use Rattle.pdb_addresses.specs.Addresses.{Map, IsOrdered}
-use Rattle.pdb_symbols_modules.specs.Opened.{debug_information, module_info}
+use Rattle.pdb_symbols_modules.specs.DatabaseCalls.{debug_information, module_info}
 use Rattle.pdb_report.specs.declared.pdb_addr2line.contributions.ModuleSectionContribution.{ModuleSectionContribution}
-use Rattle.pdb_report.specs.Faults.{LoadingFault, NotYet, lifted, load_fault_of, loading_fault_of, Fails}
+use Rattle.pdb_report.specs.Faults.{LoadingFault, NotYet, lifted, load_fault_of, loading_fault_of, FailsLoading}
 use Rattle.pdb_report.specs.RunFaults.{OnLoad, run_fault_of}
 use Rattle.pdb_symbols_modules.specs.Streams.{Streams, streams, fault_in}
 use Rattle.pdb_symbols_modules.specs.Dbi.{Dbi}
@@ -21,7 +21,7 @@ use Rattle.pdb_symbols_modules.specs.Modules.{Module, modules_of}
 use Rattle.pdb_report.specs.Procedures.{Procedure, procedures}
 use Rattle.pdb_symbols_modules.specs.Shared.{module_of_number, shared, provider}
 use Rattle.pdb_report.specs.Loading.{load_fault, Refuses, IsFileFault, Parts, none_or, loaded_behind, loaded, has_other_symbols, answerable}
-use Rattle.pdb_report.specs.Kept.{list_or_none, procedures_at, listed_procedures, tables, IsKept}
+use Rattle.pdb_report.specs.KeptParts.{list_or_none, procedures_at, listed_procedures, tables, IsKeptOfFile}
 use Rattle.pdb_symbols_modules.proofs.Provided.{module_listed, provided, past_the_list}
 use Rattle.pdb_report.proofs.Lifting.{fails_on, loads_on, opening_fails}
 
@@ -42,14 +42,17 @@ behind_dbi s dbi h read = opened s h ∙ ap (λ r. (lifted r >>= loaded_behind (
 
 -- ---- where a step fails
 
-pub container_fails : (s : Streams) (e : LoadFault) → Fails e (lifted (none_or s.open_fault)) → Fails e (answerable s)
+-- a container that isn't opened isn't loaded, with its fault
+pub container_fails : (s : Streams) (e : LoadFault) → FailsLoading e (lifted (none_or s.open_fault)) → FailsLoading e (answerable s)
 unfolding answerable loaded shared
 container_fails s e h = fails_on e _ (checked s) (fails_on e (lifted (none_or s.open_fault)) _ h)
 
-pub dbi_fails : (s : Streams) (e : Error) → s.open_fault ≡ None → (IsOutside e (HasRisen 0 0) ⊎ (debug_information (shared s) ≡ Err (fault_of e))) → Fails (load_fault_of e) (answerable s)
+-- a DBI stream that is refused isn't loaded, with its fault
+pub dbi_fails : (s : Streams) (e : Error) → s.open_fault ≡ None → (IsOutside e (HasRisen 0 0) ⊎ (debug_information (shared s) ≡ Err (fault_of e))) → FailsLoading (load_fault_of e) (answerable s)
 dbi_fails s e h read = rw (opened s h) (fails_on (load_fault_of e) _ (checked s) (loads_on e (debug_information (shared s)) (loaded_behind (shared s)) read))
 
-pub parts_fail : (s : Streams) (e : LoadFault) (dbi : Dbi) → s.open_fault ≡ None → debug_information (shared s) ≡ Ok dbi → Fails e (loaded_behind (shared s) dbi) → Fails e (answerable s)
+-- a later step that is refused isn't loaded, with its fault
+pub parts_fail : (s : Streams) (e : LoadFault) (dbi : Dbi) → s.open_fault ≡ None → debug_information (shared s) ≡ Ok dbi → FailsLoading e (loaded_behind (shared s) dbi) → FailsLoading e (answerable s)
 parts_fail s e dbi h read failed = rw (behind_dbi s dbi h read) (fails_on e (loaded_behind (shared s) dbi) (checked s) failed)
 
 -- the check fails
@@ -60,8 +63,9 @@ checks_alike : (b : Bool) (parts : Parts) (f : LoadingFault) → refuse b NotYet
 checks_alike true parts f e = ap (λ (t : LoadingFault). Err t) (some_is NotYet f (ap fault_in e))
 checks_alike false parts f e = absurd cc
 
+-- a module with symbols that aren't answered yet isn't loaded
 pub modules_are_ill : (s : Streams) (e : LoadFault) (dbi : Dbi) (parts : Parts) → s.open_fault ≡ None → debug_information (shared s) ≡ Ok dbi → loaded_behind (shared s) dbi ≡ Ok parts
-    → Fails e (refuse (list_any (has_other_symbols s) parts.modules) NotYet) → Fails e (answerable s)
+    → FailsLoading e (refuse (list_any (has_other_symbols s) parts.modules) NotYet) → FailsLoading e (answerable s)
 modules_are_ill s faults.OutOfMemory dbi parts h read load failed = tt
 modules_are_ill s (faults.Pdb contexts.OutOfMemory) dbi parts h read load failed = failed
 modules_are_ill s (faults.Pdb (contexts.PdbError errors.OutOfMemory)) dbi parts h read load failed = failed
@@ -83,10 +87,11 @@ no_fault : (r : Result Parts LoadingFault) (t : Map × List ModuleSectionContrib
 no_fault (Ok parts) t h = refl
 no_fault (Err e) t h = absurd cc
 
+-- what was kept of a loaded file is the file's
 pub is_kept : (file : List ℕ) (dbi : Dbi) (parts : Parts) (kept : BTreeMap ℕ (List Procedure)) (u : Unit {0}) → (streams file).open_fault ≡ None → debug_information (shared (streams file)) ≡ Ok dbi
     → loaded_behind (shared (streams file)) dbi ≡ Ok parts → whole (modules_of dbi.modules) ≡ Ok parts.modules → refuse (list_any (has_other_symbols (streams file)) parts.modules) NotYet ≡ Ok u
     → All (λ c. procedures_at kept c.«module» ≡ listed_procedures (streams file) parts.modules c.«module») parts.contributions
-    → IsOrdered parts.map → IsKept file parts.map parts.contributions kept
+    → IsOrdered parts.map → IsKeptOfFile file parts.map parts.contributions kept
 is_kept file dbi parts kept u h read load listed plain found ordered =
     let s = streams file in
     record {
@@ -97,11 +102,11 @@ is_kept file dbi parts kept u h read load listed plain found ordered =
 
 -- a file that is kept has no load fault
 pub kept_loads : (file : List ℕ) (addresses : Map) (contributions : List ModuleSectionContribution) (kept : BTreeMap ℕ (List Procedure))
-    → IsKept file addresses contributions kept → fault_in (answerable (streams file)) ≡ None
+    → IsKeptOfFile file addresses contributions kept → fault_in (answerable (streams file)) ≡ None
 kept_loads file addresses contributions kept is = no_fault (answerable (streams file)) (addresses, contributions) is.tables_are
 
 -- a failed load is a load fault
-pub refuses : (e : LoadFault) (s : Streams) → Fails e (answerable s) → Refuses e (load_fault s)
+pub refuses : (e : LoadFault) (s : Streams) → FailsLoading e (answerable s) → Refuses e (load_fault s)
 refuses faults.OutOfMemory s h = tt
 refuses (faults.Pdb contexts.OutOfMemory) s h = h
 refuses (faults.Pdb (contexts.PdbError errors.OutOfMemory)) s h = h

@@ -8,8 +8,8 @@ use Rattle.std.proofs.lemmas.List.{take_more, take_all, drop_more}
 use Rattle.std.proofs.lemmas.List.Concat.{flat_map-append}
 use Rattle.std.specs.declared.io.ErrorKind.{ErrorKind}
 use Rattle.pdb_report.specs.declared.watched.Watched.{Watched}
-use Rattle.pdb_report.specs.Told.{Count, HasFailed, PutsAll, PutsFront, Puts, Tells}
-use Rattle.pdb_report.specs.Watched.{inner_of, failures_of, last_kind_of, Fails, IsQuiet, Writes, WritesFront}
+use Rattle.pdb_report.specs.ToldFault.{Count, HasFailed, PutsAll, PutsFront, Puts, Tells}
+use Rattle.pdb_report.specs.Watched.{inner_of, failures_of, last_kind_of, CountsFailure, IsQuiet, Writes, WritesFront}
 
 module _ {X : Type 0} (text : X → List ℕ) where
   one_more : (pieces : List X) (i : ℕ) (d : X) → i < length pieces → flat_map text (take (i + 1) pieces) ≡ flat_map text (take i pieces) ++ text (get_or pieces i d)
@@ -41,13 +41,14 @@ module _ {X : Type 0} (text : X → List ℕ) where
       → PutsAll contents failures start now (flat_map text (take i pieces)) → PutsAll contents failures start now (flat_map text pieces)
   pieces_all contents failures start now pieces i past (quiet, written) = (quiet, subst (λ (l : List ℕ). Appends (contents start) (contents now) l) (ap (flat_map text) (take_all i pieces past)) written)
 
+-- a text that was put is told: whole, or a front of it
 pub told_either : {T : Type 0} (contents : T → Option (List ℕ)) (failures : T → Count) (old new : T) (result : Result (Unit {0}) ErrorKind) (line : List ℕ) → Puts contents failures old new result line → Tells contents failures old new line
 told_either contents failures old new (Ok done) line h = inl h
 told_either contents failures old new (Err kind) line h = inr h
 
 -- a watched writer counts its failures
 pub watched_puts : {W : Type 0} (contents : W → Option (List ℕ)) (old new : Watched W) (result : Result (Unit {0}) ErrorKind) (bytes : List ℕ)
-    → OnOk result (Writes contents old new bytes) → OnOk result (IsQuiet old new) → IfErr result (λ kind. Fails old new kind) → OnErr result (WritesFront contents old new bytes)
+    → OnOk result (Writes contents old new bytes) → OnOk result (IsQuiet old new) → IfErr result (λ kind. CountsFailure old new kind) → OnErr result (WritesFront contents old new bytes)
     → Puts (λ (w : Watched W). contents (inner_of w)) (λ (w : Watched W). Some (failures_of w, last_kind_of w)) old new result bytes
 watched_puts contents old new (Ok done) bytes all quiet fails front = (λ i. Some (quiet.same_failures i, quiet.same_kind i), all)
 watched_puts contents old new (Err kind) bytes all quiet fails front = ((fails.rose, (kind, fails.kind_kept)), front)

@@ -14,9 +14,9 @@ use Rattle.pdb_container.specs.Fault.{Fault}
 use Rattle.pdb_symbols.specs.Forms as forms
 use Rattle.pdb_symbols.specs.Forms.{SymbolForm}
 use Rattle.pdb_symbols.specs.Kinds.{is_public, is_procedure, is_thunk, is_separated_code, is_inline_site}
-use Rattle.pdb_symbols.specs.Records.{as_form, end_of, form_of, symbol_form_of}
+use Rattle.pdb_symbols.specs.Records.{as_form, end_form, form_of, symbol_form_of}
 use Rattle.pdb_symbols.specs.Symbols.{Symbol, kind_of}
-use Rattle.pdb_report.specs.Procedures.{Procedure, as_procedure, procedure_of, is_at, place_cmp, has_start, contains, later, over, if_over, is_inside, is_other, end_in, has_inner, has_other, onto_new, with_code, procedures_behind}
+use Rattle.pdb_report.specs.Procedures.{Procedure, as_procedure, parsed_procedure, is_at, place_cmp, has_start, contains, later, over, if_over, is_inside, is_other, end_in, has_inner, has_other, onto_new, with_code, procedures_behind}
 
 -- ---- symbols of other kinds
 
@@ -28,24 +28,27 @@ other_form : {A : Type 0} (make : A → SymbolForm) (read : Result A Fault) → 
 other_form make (Ok form) h = h form
 other_form make (Err e) h = refl
 
-end_form : (kind : ℕ) → as_procedure (end_of kind) ≡ None
-unfolding end_of
-end_form kind = either (kind == 0x0006) _ _ refl (either (kind == 0x114f) _ _ refl (either (kind == 0x114e) _ _ refl refl))
+end_is_none : (kind : ℕ) → as_procedure (end_form kind) ≡ None
+unfolding end_form
+end_is_none kind = either (kind == 0x0006) _ _ refl (either (kind == 0x114f) _ _ refl (either (kind == 0x114e) _ _ refl refl))
 
-pub no_procedure : (s : Symbol) → is_procedure (kind_of s) ≡ false → procedure_of s ≡ None
+-- a symbol of another kind is no procedure
+pub no_procedure : (s : Symbol) → is_procedure (kind_of s) ≡ false → parsed_procedure s ≡ None
 unfolding symbol_form_of form_of
 no_procedure s h =
     either (is_public (kind_of s)) _ _ (other_form forms.Public _ (λ form. refl)) (rw h
     (either (is_thunk (kind_of s)) _ _ (other_form forms.Thunk _ (λ form. refl))
     (either (is_separated_code (kind_of s)) _ _ (other_form forms.SeparatedCode _ (λ form. refl))
-    (either (is_inline_site (kind_of s)) _ _ (other_form forms.InlineSite _ (λ form. refl)) (end_form (kind_of s))))))
+    (either (is_inline_site (kind_of s)) _ _ (other_form forms.InlineSite _ (λ form. refl)) (end_is_none (kind_of s))))))
 
 -- ---- the procedures that are kept
 
+-- the procedures behind one symbol more
 pub kept_more : (kept : List Procedure) (symbols : List Symbol) (i : ℕ) (d : Symbol) (all : List Procedure) → i < length symbols
-    → procedures_behind kept (drop i symbols) ≡ all → procedures_behind (onto_new kept (with_code (procedure_of (get_or symbols i d)))) (drop (i + 1) symbols) ≡ all
+    → procedures_behind kept (drop i symbols) ≡ all → procedures_behind (onto_new kept (with_code (parsed_procedure (get_or symbols i d)))) (drop (i + 1) symbols) ≡ all
 kept_more kept symbols i d all lt so_far = sym (ap (procedures_behind kept) (drop_more symbols i d lt)) ∙ so_far
 
+-- the procedures behind all symbols
 pub kept_all : (kept : List Procedure) (symbols : List Symbol) (i : ℕ) (all : List Procedure) → length symbols ≤ i
     → procedures_behind kept (drop i symbols) ≡ all → kept ≡ all
 kept_all kept symbols i all past so_far = sym (ap (procedures_behind kept) (drop_all i symbols past)) ∙ so_far
@@ -99,6 +102,7 @@ over_at : (procedures : List Procedure) (i : ℕ) (d : Procedure) (place : PdbIn
     → over (drop i procedures) place ≡ later (if_over (get_or procedures i d) place) (over (drop (i + 1) procedures) place)
 over_at procedures i d place lt = ap (λ (qs : List Procedure). over qs place) (drop_more procedures i d lt)
 
+-- a later procedure that contains the place is the one over it
 pub over_takes : (best new : Option Procedure) (procedures : List Procedure) (i : ℕ) (d : Procedure) (place : PdbInternalSectionOffset) (all : Option Procedure) → i < length procedures
     → contains (get_or procedures i d) place ≡ true → new ≡ later best (Some (get_or procedures i d))
     → later best (over (drop i procedures) place) ≡ all → later new (over (drop (i + 1) procedures) place) ≡ all
@@ -108,6 +112,7 @@ over_takes best new procedures i d place all lt inside is so_far =
     rw is (later_assoc best (Some q) (over (drop (i + 1) procedures) place)
     ∙ ap (later best) (sym (over_at procedures i d place lt ∙ ap (λ o. later o (over (drop (i + 1) procedures) place)) here)) ∙ so_far)
 
+-- a procedure that doesn't is passed over
 pub over_passes : (best : Option Procedure) (procedures : List Procedure) (i : ℕ) (d : Procedure) (place : PdbInternalSectionOffset) (all : Option Procedure) → i < length procedures
     → contains (get_or procedures i d) place ≡ false
     → later best (over (drop i procedures) place) ≡ all → later best (over (drop (i + 1) procedures) place) ≡ all
@@ -120,6 +125,7 @@ best_none : (best : Option Procedure) → later best None ≡ best
 best_none None = refl
 best_none (Some q) = refl
 
+-- behind all procedures the best one is the one over the place
 pub over_ends : (best : Option Procedure) (procedures : List Procedure) (i : ℕ) (place : PdbInternalSectionOffset) (all : Option Procedure) → length procedures ≤ i
     → later best (over (drop i procedures) place) ≡ all → best ≡ all
 over_ends best procedures i place all past so_far =
@@ -134,6 +140,7 @@ none_inside : (symbols : List Symbol) → list_any (is_inside 0) symbols ≡ fal
 none_inside [] = refl
 none_inside (s ∷ symbols) = rw (inside_none s) (none_inside symbols)
 
+-- no procedure around the first symbol
 pub other_start : (symbols : List Symbol) → (list_any (is_inside 0) symbols || has_other (Ok symbols)) ≡ has_other (Ok symbols)
 other_start symbols = ap (λ b. b || has_other (Ok symbols)) (none_inside symbols)
 
@@ -171,17 +178,18 @@ regrouped false true false i = refl
 regrouped false false o i = refl
 
 other_step : (s : Symbol) (symbols : List Symbol) (end : ℕ) → is_other s ≡ false → is_inside end s ≡ false
-    → (list_any (is_inside end) (s ∷ symbols) || has_other (Ok (s ∷ symbols))) ≡ (list_any (is_inside (max end (end_in (procedure_of s)))) symbols || has_other (Ok symbols))
+    → (list_any (is_inside end) (s ∷ symbols) || has_other (Ok (s ∷ symbols))) ≡ (list_any (is_inside (max end (end_in (parsed_procedure s)))) symbols || has_other (Ok symbols))
 other_step s symbols end plain outside =
     let o = list_any is_other symbols in
     let i = has_inner symbols in
     let a = list_any (is_inside end) symbols in
-    let e = list_any (is_inside (end_in (procedure_of s))) symbols in
+    let e = list_any (is_inside (end_in (parsed_procedure s))) symbols in
     ap (λ t. (t || a) || ((is_other s || o) || (e || i))) outside ∙ ap (λ t. a || ((t || o) || (e || i))) plain
-    ∙ sym (regrouped a e o i) ∙ ap (λ t. t || (o || i)) (sym (any_inside_max end (end_in (procedure_of s)) symbols))
+    ∙ sym (regrouped a e o i) ∙ ap (λ t. t || (o || i)) (sym (any_inside_max end (end_in (parsed_procedure s)) symbols))
 
+-- one symbol more that is answered
 pub other_more : (symbols : List Symbol) (i end new : ℕ) (s : Symbol) (all : Bool) → i < length symbols → s ≡ get_or symbols i s → is_other s ≡ false → is_inside end s ≡ false
-    → new ≡ max end (end_in (procedure_of s))
+    → new ≡ max end (end_in (parsed_procedure s))
     → (list_any (is_inside end) (drop i symbols) || has_other (Ok (drop i symbols))) ≡ all
     → (list_any (is_inside new) (drop (i + 1) symbols) || has_other (Ok (drop (i + 1) symbols))) ≡ all
 other_more symbols i end new s all lt here plain outside is so_far =

@@ -7,7 +7,7 @@ use Rattle.std.proofs.KnownBytes.{Appends-trans, Consumes-trans}
 use Rattle.std.proofs.lemmas.List.{length-take}
 use Rattle.std.proofs.Math.Seq.{take-append-add}
 use Rattle.std.proofs.lemmas.Grind.{flat_map-append}
-use Rattle.pdb_report.specs.Lines.{kept_lines, kept_rest, Begins}
+use Rattle.pdb_report.specs.InputLines.{kept_lines, kept_rest, Begins}
 use Rattle.pdb_report.proofs.LineLemmas.{kept_lines-append, kept_rest-append}
 
 take_take : (m n : ℕ) (xs : List ℕ) → m ≤ n → take m (take n xs) ≡ take m xs
@@ -27,6 +27,7 @@ joined text kept taken piece = ap (flat_map text) (kept_lines-append kept taken 
 same_answers : (text text' : List ℕ → List ℕ) (start start' piece : List ℕ) → text' ≡ text → start ≡ start' → flat_map text' (kept_lines start piece) ≡ flat_map text (kept_lines start' piece)
 same_answers text text' start start' piece et es = ap (λ (t : List ℕ → List ℕ). flat_map t (kept_lines start piece)) et ∙ ap (λ (k : List ℕ). flat_map text (kept_lines k piece)) es
 
+-- one piece of input more that was read and answered
 pub taken_more : (text text' : List ℕ → List ℕ) (ra rb rc wa wb wc : Option (List ℕ)) (kept start start' chunk piece : List ℕ) (n left limit : ℕ) → Taken text ra rb wa wb kept start left limit
     → text' ≡ text → n ≤ length chunk → n ≤ left → piece ≡ take n chunk → Consumes rb rc (take n chunk) → Appends wb wc (flat_map text' (kept_lines start piece)) → start' ≡ kept_rest start piece
     → Taken text ra rc wa wc kept start' (left - n) limit
@@ -40,6 +41,7 @@ taken_more text text' ra rb rc wa wb wc kept start start' chunk piece n left lim
       rest ∙ ap (λ k. kept_rest k piece) behind ∙ ap (kept_rest (kept_rest kept taken)) is ∙ sym (kept_rest-append kept taken (take n chunk)),
     )
 
+-- a piece of input past the limit, of which the front up to the limit was answered
 pub taken_too_long : (text text' : List ℕ → List ℕ) (ra rb rc wa wb wc : Option (List ℕ)) (kept start chunk piece : List ℕ) (n left limit : ℕ) → Taken text ra rb wa wb kept start left limit
     → text' ≡ text → n ≤ length chunk → left < n → piece ≡ take left chunk → Consumes rb rc (take n chunk) → Appends wb wc (flat_map text' (kept_lines start piece))
     → (taken : List ℕ) × Consumes ra rc taken × (limit < length taken) × Appends wa wc (flat_map text (kept_lines kept (take limit taken)))
@@ -55,6 +57,7 @@ taken_too_long text text' ra rb rc wa wb wc kept start chunk piece n left limit 
           (Appends-trans wa wb wc _ _ done written),
     )
 
+-- a piece of input of which a front was answered
 pub taken_part : (text text' : List ℕ → List ℕ) (ra rb rc wa wb wc : Option (List ℕ)) (kept start chunk piece : List ℕ) (n m left limit : ℕ) → Taken text ra rb wa wb kept start left limit
     → text' ≡ text → m ≤ n → piece ≡ take m chunk → Consumes rb rc (take n chunk) → ((out : List ℕ) × Appends wb wc out × Begins out (flat_map text' (kept_lines start piece)))
     → (taken : List ℕ) × Consumes ra rc taken × ((out : List ℕ) × Appends wa wc out × Begins out (flat_map text (kept_lines kept taken)))

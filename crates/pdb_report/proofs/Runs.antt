@@ -9,7 +9,7 @@ use Rattle.std.proofs.lemmas.Grind.{flat_map-append}
 use Rattle.pdb_report.specs.declared.fault.RunFault.{RunFault}
 use Rattle.pdb_report.specs.declared.fault.RunFault.TheVariants.{Load, ReversedRange, Read, Write, InputTooLong, OutOfMemory}
 use Rattle.pdb_report.specs.RunFaults.{OnRead, OnTooLong}
-use Rattle.pdb_report.specs.Lines.{kept_lines, kept_rest, report, report_of_ended, Begins}
+use Rattle.pdb_report.specs.InputLines.{kept_lines, kept_rest, report, report_of_ended, Begins}
 use Rattle.pdb_report.proofs.LineLemmas.{last_line, kept_lines-append, report_is, report_of_ended_is}
 
 module _ (text : List ℕ → List ℕ) (short : (line : List ℕ) → text (take 12 line) ≡ text line) where

@@ -22,5 +22,6 @@ without_prefix line = if (nat_le 2 (length line) && (slice_index line 0 == 48)) 
 abbrev pub value_of : List ℕ → Option ℕ
 value_of digits = if (length digits == 0) || nat_lt 8 (length digits) then None else value_from 0 digits
 
+-- the address that a line stands for, if it is one
 abbrev pub address_of : List ℕ → Option ℕ
 address_of line = value_of (without_prefix (without_return line))

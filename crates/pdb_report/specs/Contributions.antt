@@ -1,4 +1,4 @@
--- What modules hold of sections, by the contributions of stream 3.
+-- What modules hold of sections, by the section contributions of the DBI stream.
 use Rattle.std.specs.Prelude.{ℕ, ◌+◌, ◌-◌, ◌^◌, Bool, false, ◌&&◌, min, List, map, nat_lt, nat_le, ◌==◌, Option, None, Some, Result, Ok}
 use Rattle.std.specs.List.{filter, find}
 use Rattle.pdb_container.specs.Fault.{◌>>=◌}
@@ -6,11 +6,12 @@ use Rattle.pdb_addresses.specs.declared.sections.ImageSectionHeader.{ImageSectio
 use Rattle.pdb_addresses.specs.declared.internal_section_offset.PdbInternalSectionOffset.{PdbInternalSectionOffset}
 use Rattle.pdb_symbols_modules.specs.declared.contributions.DBISectionContribution.{DBISectionContribution}
 use Rattle.pdb_report.specs.declared.pdb_addr2line.contributions.ModuleSectionContribution.{ModuleSectionContribution}
-use Rattle.pdb_report.specs.Faults.{ContextFault, in_context}
+use Rattle.pdb_resolving.specs.Fault as answers
 use Rattle.pdb_container.specs.Listing.{whole}
 use Rattle.pdb_addresses.specs.Sections.{section_at, may_execute}
 use Rattle.pdb_symbols_modules.specs.Contributions.{contributions_of}
 
+-- code may run in a section, if it is there
 abbrev pub executes_at : Option ImageSectionHeader → Bool
 executes_at None = false
 executes_at (Some s) = may_execute s.characteristics
@@ -33,11 +34,12 @@ spans_of sections all = map span_of (filter (is_kept sections) all)
 
 -- What the modules hold. Consecutive entries of one module and section would be merged, and their order and overlaps
 -- checked: of several entries that count none is answered yet.
-unfoldable pub held_of : List ImageSectionHeader → List ℕ → Result (List ModuleSectionContribution) ContextFault
+unfoldable pub held_of : List ImageSectionHeader → List ℕ → Result (List ModuleSectionContribution) answers.Fault
 held_of sections bytes = do
-  all ← in_context (contributions_of bytes >>= whole)
+  all ← answers.lifted (contributions_of bytes >>= whole)
   Ok (spans_of sections all)
 
+-- a module holds a place: it lies in the contribution's section, from its start to before its end
 abbrev pub holds : PdbInternalSectionOffset → ModuleSectionContribution → Bool
 holds p c = (c.section == p.section) && (nat_le c.start p.offset && nat_lt p.offset c.end)
 

@@ -5,7 +5,7 @@ use Rattle.pdb_container.specs.Fault.{Fault, ◌>>=◌, refuse}
 use Rattle.pdb_report.specs.declared.pdb_addr2line.contributions.ModuleSectionContribution.{ModuleSectionContribution}
 use Rattle.pdb_report.specs.declared.fault.LoadFault.{LoadFault}
 use Rattle.pdb_report.specs.declared.fault.LoadFault.TheVariants as faults
-use Rattle.pdb_report.specs.declared.pdb_addr2line.Error.TheVariants as contexts
+use Rattle.pdb_resolving.specs.declared.error.Error.TheVariants as contexts
 use Rattle.pdb_container.specs.declared.error.Error.TheVariants as errors
 use Rattle.pdb_report.specs.Faults.{LoadingFault, NotYet, AddressTableDecreases, lifted, in_loading, loading_fault_of}
 use Rattle.pdb_symbols_modules.specs.Streams.{Streams, fault_in, stream_if_named}
@@ -18,7 +18,7 @@ use Rattle.pdb_symbols.specs.Kinds.{is_public}
 use Rattle.pdb_symbols.specs.Symbols.{Symbol, kind_of, symbols_from}
 use Rattle.pdb_modules.specs.ModuleStream.{ModuleStream}
 use Rattle.pdb_symbols_modules.specs.AddressTables.{address_map_by}
-use Rattle.pdb_symbols_modules.specs.Opened.{debug_information, types, ids, global_symbols_by, module_info}
+use Rattle.pdb_symbols_modules.specs.DatabaseCalls.{debug_information, types, ids, global_symbols_by, module_info}
 use Rattle.pdb_symbols_modules.specs.Shared.{Shared, shared, optional_in}
 use Rattle.pdb_report.specs.Contributions.{held_of}
 use Rattle.pdb_report.specs.Procedures.{own_symbols, has_other}
@@ -30,16 +30,17 @@ pub record Parts : Type 0 where
   pub contributions : List ModuleSectionContribution
 
 -- a reading behind another one
-abbrev pub behind : {A B : Type 0} → Result A Fault → (A → Result B Fault) → Result B Fault
-behind read next = read >>= next
+abbrev pub read_behind : {A B : Type 0} → Result A Fault → (A → Result B Fault) → Result B Fault
+read_behind read next = read >>= next
 
+-- refused with the fault, if there is one
 abbrev pub none_or : Option Fault → Result (Unit {0}) Fault
 none_or None = Ok tt
 none_or (Some e) = Err e
 
 -- a number that names a stream
-abbrev pub is_named : ℕ → Bool
-is_named n = nat_lt n 65535
+abbrev pub names_stream : ℕ → Bool
+names_stream n = nat_lt n 65535
 
 -- A file with address maps, or with the sections before its code was moved, isn't answered yet.
 unfoldable pub unmapped : List ℕ → Result (Unit {0}) LoadingFault
@@ -47,7 +48,7 @@ unmapped optional_header = do
   to_source ← lifted (optional_at to_source_place optional_header)
   from_source ← lifted (optional_at from_source_place optional_header)
   original ← lifted (optional_at original_sections_place optional_header)
-  refuse (is_named to_source || is_named from_source || is_named original) NotYet
+  refuse (names_stream to_source || names_stream from_source || names_stream original) NotYet
 
 -- The address tables, which may not decrease.
 unfoldable pub address_tables : Shared → Dbi → Result Map LoadingFault
@@ -71,8 +72,8 @@ has_public symbols = do
 abbrev pub has_lines : Module → Bool
 has_lines m = nat_lt 0 m.c11_lines_size || nat_lt 0 m.c13_lines_size
 
--- The steps behind stream 3, in their order, and in each step the first fault. Several contributions, public symbols and
--- line data aren't answered yet.
+-- The steps behind stream 3, in their order, and in each step the first fault. Several contributions, public symbols
+-- and line data aren't answered yet.
 unfoldable pub loaded_behind : Shared → Dbi → Result Parts LoadingFault
 loaded_behind c dbi = do
   symbol_bytes ← lifted (global_symbols_by dbi.symbol_records_stream c.symbols)
@@ -125,14 +126,14 @@ answerable s = do
 abbrev pub load_fault : Streams → Option LoadingFault
 load_fault s = fault_in (answerable s)
 
--- The fault is the file's, and not want of memory.
+-- The fault is the file's, and not out of memory.
 abbrev pub IsFileFault : LoadFault → Option LoadingFault → Type 0
 IsFileFault faults.OutOfMemory fault = ⊥
 IsFileFault (faults.Pdb contexts.OutOfMemory) fault = ⊥
 IsFileFault (faults.Pdb (contexts.PdbError errors.OutOfMemory)) fault = ⊥
 IsFileFault e fault = fault ≡ Some (loading_fault_of e)
 
--- A file is refused for want of memory, or with its fault.
+-- A file is refused where memory ran out, or with its fault.
 abbrev pub Refuses : LoadFault → Option LoadingFault → Type 0
 Refuses faults.OutOfMemory fault = Unit {0}
 Refuses e fault = IsFileFault e fault

@@ -12,7 +12,7 @@ use Rattle.pdb_symbols.specs.Kinds.{is_procedure, is_thunk, is_separated_code, i
 use Rattle.pdb_symbols.specs.Records.{symbol_form_of}
 use Rattle.pdb_symbols.specs.Symbols.{Symbol, kind_of, symbols_from}
 use Rattle.pdb_modules.specs.ModuleStream.{ModuleStream}
-use Rattle.pdb_modules.specs.ModuleStream.{symbols_in as symbol_bytes_in}
+use Rattle.pdb_modules.specs.ModuleStream.{symbol_list_bytes as symbol_bytes_in}
 
 -- ---- symbols
 
@@ -22,17 +22,17 @@ as_procedure (Ok (forms.Procedure p)) = Some p
 as_procedure other = None
 
 -- the procedure of a symbol that is one and can be read
-abbrev pub procedure_of : Symbol → Option ProcedureForm
-procedure_of s = as_procedure (symbol_form_of s)
+abbrev pub parsed_procedure : Symbol → Option ProcedureForm
+parsed_procedure s = as_procedure (symbol_form_of s)
 
 -- a module's symbols, which have to be there to their end
-unfoldable pub symbols_in : ModuleStream → Result (List Symbol) Fault
-symbols_in m = symbol_bytes_in m >>= λ bytes. whole (symbols_from bytes 4)
+unfoldable pub symbols_of_stream : ModuleStream → Result (List Symbol) Fault
+symbols_of_stream m = symbol_bytes_in m >>= λ bytes. whole (symbols_from bytes 4)
 
--- those of a module by its own stream; without one it has none
+-- the symbols of a module by its own stream; without one it has none
 abbrev pub own_symbols : Option ModuleStream → Result (List Symbol) Fault
 own_symbols None = Ok []
-own_symbols (Some m) = symbols_in m
+own_symbols (Some m) = symbols_of_stream m
 
 -- ---- procedures
 
@@ -42,6 +42,7 @@ pub record Procedure : Type 0 where
   pub len : ℕ
   pub name : List ℕ
 
+-- whether two places are the same
 abbrev pub is_at : PdbInternalSectionOffset → PdbInternalSectionOffset → Bool
 is_at a b = (a.section == b.section) && (a.offset == b.offset)
 
@@ -66,8 +67,9 @@ onto_new kept (Some p) = if has_start kept p.offset then kept else kept ++ p ∷
 -- the procedures that are kept, and those of the symbols, in order; of those with one start the first
 abbrev pub procedures_behind : List Procedure → List Symbol → List Procedure
 procedures_behind kept [] = kept
-procedures_behind kept (s ∷ symbols) = procedures_behind (onto_new kept (with_code (procedure_of s))) symbols
+procedures_behind kept (s ∷ symbols) = procedures_behind (onto_new kept (with_code (parsed_procedure s))) symbols
 
+-- the procedures among symbols; none, where the symbols can't be read
 abbrev pub procedures_of : Result (List Symbol) Fault → List Procedure
 procedures_of (Err e) = []
 procedures_of (Ok symbols) = procedures_behind [] symbols
@@ -80,6 +82,7 @@ procedures own = procedures_of (own >>= own_symbols)
 abbrev pub contains : Procedure → PdbInternalSectionOffset → Bool
 contains q p = ((q.offset).section == p.section) && (nat_le (q.offset).offset p.offset && nat_lt p.offset ((q.offset).offset + q.len))
 
+-- a procedure, if it contains the place
 abbrev pub if_over : Procedure → PdbInternalSectionOffset → Option Procedure
 if_over q p = if contains q p then Some q else None
 
@@ -101,8 +104,9 @@ abbrev pub has_type : Option ProcedureForm → Bool
 has_type None = false
 has_type (Some p) = not (p.type_index.0 == 0)
 
+-- a symbol that isn't answered yet: a thunk, separated code, an inlined call, or a procedure with a type
 abbrev pub is_other : Symbol → Bool
-is_other s = is_thunk (kind_of s) || is_separated_code (kind_of s) || is_inline_site (kind_of s) || has_type (procedure_of s)
+is_other s = is_thunk (kind_of s) || is_separated_code (kind_of s) || is_inline_site (kind_of s) || has_type (parsed_procedure s)
 
 -- a procedure's symbol before an index
 abbrev pub is_inside : ℕ → Symbol → Bool
@@ -116,8 +120,9 @@ end_in (Some p) = p.end.0
 -- a procedure's symbol between another one and its end
 abbrev pub has_inner : List Symbol → Bool
 has_inner [] = false
-has_inner (s ∷ symbols) = list_any (is_inside (end_in (procedure_of s))) symbols || has_inner symbols
+has_inner (s ∷ symbols) = list_any (is_inside (end_in (parsed_procedure s))) symbols || has_inner symbols
 
+-- whether symbols, where they can be read, have some that aren't answered yet
 abbrev pub has_other : Result (List Symbol) Fault → Bool
 has_other (Err e) = false
 has_other (Ok symbols) = list_any is_other symbols || has_inner symbols

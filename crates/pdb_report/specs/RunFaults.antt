@@ -22,6 +22,7 @@ abbrev pub write_fault_of : ErrorKind → RunFault
 write_fault_of kinds.OutOfMemory = OutOfMemory
 write_fault_of kind = Write kind
 
+-- where the fault is a failed read, this is said of its kind
 abbrev pub OnRead : RunFault → (ErrorKind → Type 0) → Type 0
 OnRead (Read kind) P = P kind
 OnRead (Load fault) P = Unit {0}
@@ -30,6 +31,7 @@ OnRead (Write kind) P = Unit {0}
 OnRead InputTooLong P = Unit {0}
 OnRead OutOfMemory P = Unit {0}
 
+-- where the fault is a failed write, this is said of its kind
 abbrev pub OnWrite : RunFault → (ErrorKind → Type 0) → Type 0
 OnWrite (Write kind) P = P kind
 OnWrite (Load fault) P = Unit {0}
@@ -38,6 +40,7 @@ OnWrite (Read kind) P = Unit {0}
 OnWrite InputTooLong P = Unit {0}
 OnWrite OutOfMemory P = Unit {0}
 
+-- where the fault is that the input is too long, this is said
 abbrev pub OnTooLong : RunFault → Type 0 → Type 0
 OnTooLong InputTooLong P = P
 OnTooLong (Load fault) P = Unit {0}
@@ -46,7 +49,7 @@ OnTooLong (Read kind) P = Unit {0}
 OnTooLong (Write kind) P = Unit {0}
 OnTooLong OutOfMemory P = Unit {0}
 
--- a fault that writing an answer may have; want of memory has one name
+-- a fault that writing an answer may have; out of memory has one name
 abbrev pub IsOfWriting : RunFault → Type 0
 IsOfWriting (Write kind) = kind ≢ kinds.OutOfMemory
 IsOfWriting OutOfMemory = Unit {0}
@@ -64,7 +67,7 @@ IsOfRunning (Write kind) = kind ≢ kinds.OutOfMemory
 IsOfRunning InputTooLong = Unit {0}
 IsOfRunning OutOfMemory = Unit {0}
 
--- at a loading fault
+-- where the fault is one of loading, this is said of it
 abbrev pub OnLoad : RunFault → (LoadFault → Type 0) → Type 0
 OnLoad (Load fault) P = P fault
 OnLoad ReversedRange P = Unit {0}
@@ -73,7 +76,7 @@ OnLoad (Write kind) P = Unit {0}
 OnLoad InputTooLong P = Unit {0}
 OnLoad OutOfMemory P = Unit {0}
 
--- at every end that is neither a loading fault nor want of memory
+-- this is said of every end of a run that is neither a loading fault nor out of memory
 abbrev pub UnlessLoad : Result (Unit {0}) RunFault → Type 0 → Type 0
 UnlessLoad (Ok done) P = P
 UnlessLoad (Err (Load fault)) P = Unit {0}
@@ -92,7 +95,7 @@ IsOfFrames (Write kind) = kind ≢ kinds.OutOfMemory
 IsOfFrames InputTooLong = Unit {0}
 IsOfFrames OutOfMemory = Unit {0}
 
--- at want of memory
+-- where the fault is that memory was short, this is said
 abbrev pub OnMemory : RunFault → Type 0 → Type 0
 OnMemory OutOfMemory P = P
 OnMemory (Load fault) P = Unit {0}

@@ -6,20 +6,22 @@ use Rattle.std.specs.declared.io.ErrorKind.TheVariants.{WriteZero}
 use Rattle.std.specs.IoError.{error_kind}
 use Rattle.std.specs.Io.KnownBytes.{Appends, Consumes}
 use Rattle.pdb_report.specs.declared.watched.Watched.{Watched}
-use Rattle.pdb_report.specs.Lines.{Begins}
+use Rattle.pdb_report.specs.InputLines.{Begins}
 
 -- the reader or the writer itself
 abbrev pub inner_of : {T : Type 0} → Watched T → T
 inner_of w = w.inner
 
+-- how many calls of the reader or writer failed
 abbrev pub failures_of : {T : Type 0} → Watched T → ℕ
 failures_of w = w.failures
 
+-- how the last failed call failed, if one did
 abbrev pub last_kind_of : {T : Type 0} → Watched T → Option ErrorKind
 last_kind_of w = w.last_kind
 
 -- one call failed so: the count rose, unless it stood at its greatest, and the kind is kept
-pub record Fails {T : Type 0} (old new : Watched T) (kind : ErrorKind) : Type 0 where
+pub record CountsFailure {T : Type 0} (old new : Watched T) (kind : ErrorKind) : Type 0 where
   pub rose : failures_of new ≡ min (failures_of old + 1) (2 ^ 64 - 1)
   pub kind_kept : last_kind_of new ≡ Some kind
 
@@ -31,8 +33,8 @@ pub record IsQuiet {T : Type 0} (old new : Watched T) : Type 0 where
 -- a write fails by its error, and as `WriteZero` where it takes none of some bytes
 abbrev pub WatchesWrite : {T : Type 0} → Watched T → Watched T → List ℕ → Result ℕ Error → Type 0
 WatchesWrite old new bytes (Ok (suc n)) = IsQuiet old new
-WatchesWrite old new bytes (Ok zero) = (0 < length bytes → Fails old new WriteZero) × (length bytes ≡ 0 → IsQuiet old new)
-WatchesWrite old new bytes (Err e) = Fails old new (error_kind e)
+WatchesWrite old new bytes (Ok zero) = (0 < length bytes → CountsFailure old new WriteZero) × (length bytes ≡ 0 → IsQuiet old new)
+WatchesWrite old new bytes (Err e) = CountsFailure old new (error_kind e)
 
 -- the text was written behind what the writer holds, where that is known
 abbrev pub Writes : {T : Type 0} → (T → Option (List ℕ)) → Watched T → Watched T → List ℕ → Type 0

@@ -3,8 +3,8 @@
 ghost use Rattle.std.specs.Prelude.{◌≡◌, ℕ, List, OnOk, OnErr, IfErr, IfSome, [], ◌∷◌, length, ◌<◌, ◌≤◌, take};
 ghost use Rattle.std.specs.List.{flat_map};
 ghost use Rattle.std.specs.Io.KnownBytes.{IsAtEnd};
-ghost use Rattle.pdb_report.specs.Watched.{inner_of, Fails, IsQuiet, Writes, WritesFront, Takes};
-ghost use Rattle.pdb_report.specs.Lines.{kept_lines, kept_rest, report, report_of_ended};
+ghost use Rattle.pdb_report.specs.Watched.{inner_of, CountsFailure, IsQuiet, Writes, WritesFront, Takes};
+ghost use Rattle.pdb_report.specs.InputLines.{kept_lines, kept_rest, report, report_of_ended};
 ghost use Rattle.pdb_report.specs.RunFaults.{OnRead, OnWrite, OnTooLong, IsOfWriting, IsOfRunning};
 
 use crate::answers::Answers;
@@ -19,8 +19,8 @@ use std::io::{ErrorKind, Read, Write};
 ///
 /// # Errors
 /// `Read` and `Write` at the first call that failed, and `InputTooLong` past `limit` bytes. At `Read`,
-/// and at `InputTooLong` for the first `limit` bytes, the lines that newlines end are answered. Want of
-/// memory, in whichever call, is `OutOfMemory`.
+/// and at `InputTooLong` for the first `limit` bytes, the lines that newlines end are answered. `OutOfMemory`
+/// where memory ran out, in whichever call.
 pub fn run<A: Answers, R: Read, W: Write>(
     alloc: Global,
     answers: &mut A,
@@ -36,8 +36,8 @@ pub fn run<A: Answers, R: Read, W: Write>(
     ensures quiet { OnOk result (IsQuiet reader.old reader.new × IsQuiet writer.old writer.new) }
     ensures same { A.text answers.new ≡ A.text answers.old }
     ensures kind { IfErr result IsOfRunning }
-    ensures read_fails { IfErr result (λ fault. OnRead fault (λ kind. Fails reader.old reader.new kind)) }
-    ensures write_fails { IfErr result (λ fault. OnWrite fault (λ kind. Fails writer.old writer.new kind)) }
+    ensures read_fails { IfErr result (λ fault. OnRead fault (λ kind. CountsFailure reader.old reader.new kind)) }
+    ensures write_fails { IfErr result (λ fault. OnWrite fault (λ kind. CountsFailure writer.old writer.new kind)) }
     // The lines that were read whole before a failed read are answered.
     ensures read_out { IfErr result (λ fault. OnRead fault (λ _. (taken : List ℕ) × Takes R.remaining reader.old reader.new taken
         × Writes W.contents writer.old writer.new (report_of_ended (A.text answers.old) taken))) }
@@ -79,8 +79,8 @@ fn pump<A: Answers, R: Read, W: Write>(
     ensures quiet { OnOk result (IsQuiet reader.old reader.new × IsQuiet writer.old writer.new) }
     ensures same { A.text answers.new ≡ A.text answers.old }
     ensures kind { IfErr result IsOfRunning }
-    ensures read_fails { IfErr result (λ fault. OnRead fault (λ kind. Fails reader.old reader.new kind)) }
-    ensures write_fails { IfErr result (λ fault. OnWrite fault (λ kind. Fails writer.old writer.new kind)) }
+    ensures read_fails { IfErr result (λ fault. OnRead fault (λ kind. CountsFailure reader.old reader.new kind)) }
+    ensures write_fails { IfErr result (λ fault. OnWrite fault (λ kind. CountsFailure writer.old writer.new kind)) }
     ensures read_out { IfErr result (λ fault. OnRead fault (λ _. (taken : List ℕ) × Takes R.remaining reader.old reader.new taken
         × Writes W.contents writer.old writer.new (flat_map (A.text answers.old) (kept_lines start.old taken)))) }
     ensures too_long { IfErr result (λ fault. OnTooLong fault ((taken : List ℕ) × Takes R.remaining reader.old reader.new taken
@@ -129,7 +129,7 @@ fn feed<A: Answers, W: Write>(
     ensures same { A.text answers.new ≡ A.text answers.old }
     ensures quiet { OnOk result (IsQuiet writer.old writer.new) }
     ensures kind { IfErr result IsOfWriting }
-    ensures fails { IfErr result (λ fault. OnWrite fault (λ kind. Fails writer.old writer.new kind)) }
+    ensures fails { IfErr result (λ fault. OnWrite fault (λ kind. CountsFailure writer.old writer.new kind)) }
     ensures part { OnErr result (WritesFront W.contents writer.old writer.new (flat_map (A.text answers.old) (kept_lines start.old bytes.now))) }
 {
     for byte in bytes {
@@ -154,7 +154,7 @@ fn feed_byte<A: Answers, W: Write>(
     ensures same { A.text answers.new ≡ A.text answers.old }
     ensures quiet { OnOk result (IsQuiet writer.old writer.new) }
     ensures kind { IfErr result IsOfWriting }
-    ensures fails { IfErr result (λ fault. OnWrite fault (λ kind. Fails writer.old writer.new kind)) }
+    ensures fails { IfErr result (λ fault. OnWrite fault (λ kind. CountsFailure writer.old writer.new kind)) }
     ensures part { OnErr result (WritesFront W.contents writer.old writer.new (flat_map (A.text answers.old) (kept_lines start.old (byte ∷ [])))) }
 {
     if byte != b'\n' {
@@ -184,7 +184,7 @@ fn answer_line<A: Answers, W: Write>(
     ensures same { A.text answers.new ≡ A.text answers.old }
     ensures quiet { OnOk result (IsQuiet writer.old writer.new) }
     ensures kind { IfErr result IsOfWriting }
-    ensures fails { IfErr result (λ fault. OnWrite fault (λ kind. Fails writer.old writer.new kind)) }
+    ensures fails { IfErr result (λ fault. OnWrite fault (λ kind. CountsFailure writer.old writer.new kind)) }
     ensures part { OnErr result (WritesFront W.contents writer.old writer.new (A.text answers.old line.now)) }
 {
     let Ok(text) = answers.answer(alloc, line) else {
@@ -203,7 +203,7 @@ fn answer_line<A: Answers, W: Write>(
 pub fn write_all<W: Write>(writer: &mut Watched<W>, bytes: &[u8]) -> Result<(), ErrorKind>
     ensures ok { OnOk result (Writes W.contents writer.old writer.new bytes.now) }
     ensures quiet { OnOk result (IsQuiet writer.old writer.new) }
-    ensures fails { IfErr result (λ kind. Fails writer.old writer.new kind) }
+    ensures fails { IfErr result (λ kind. CountsFailure writer.old writer.new kind) }
     ensures part { OnErr result (WritesFront W.contents writer.old writer.new bytes.now) }
 {
     let mut rest = bytes;

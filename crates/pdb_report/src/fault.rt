@@ -2,9 +2,10 @@
 
 ghost use Rattle.std.specs.Prelude.{◌≡◌};
 ghost use Rattle.pdb_report.specs.declared.fault.LoadFault.TheVariants as load_faults;
+ghost use Rattle.pdb_report.specs.FaultText.{HasPlainName};
 ghost use Rattle.pdb_report.specs.RunFaults.{read_fault_of, write_fault_of, IsOfRunning, IsOfWriting};
 
-use crate::pdb_addr2line;
+use crate::pdb_addr2line::Error;
 use pdb_container::kind_name;
 use std::alloc::{AllocError, AllocFailed};
 use std::fmt;
@@ -13,13 +14,13 @@ use std::io::ErrorKind;
 /// Why a program database isn't loaded. `Pdb` prints what it holds, any other as its name.
 #[derive(Debug, Drop, PartialEq)]
 pub enum LoadFault {
-    /// The file can't be read, for this cause, which is never want of memory.
-    Pdb(pdb_addr2line::Error),
-    /// An address map's sources decrease.
+    /// The file can't be read, for this cause, which is never out of memory.
+    Pdb(Error),
+    /// The sources of an OMAP decrease.
     AddressTableDecreases,
     /// The file holds what isn't answered yet.
     NotYet,
-    /// Memory was refused.
+    /// Out of memory.
     OutOfMemory,
 }
 
@@ -27,7 +28,7 @@ pub enum LoadFault {
 /// values.
 #[derive(Debug, Drop, PartialEq)]
 pub enum RunFault {
-    /// The program database wasn't loaded, for this cause, which is never want of memory.
+    /// The program database wasn't loaded, for this cause, which is never out of memory.
     Load(LoadFault),
     /// The range's start lies above its end.
     ReversedRange,
@@ -37,7 +38,7 @@ pub enum RunFault {
     Write(ErrorKind),
     /// The input has more bytes than a run reads.
     InputTooLong,
-    /// Memory was refused.
+    /// Out of memory.
     OutOfMemory,
 }
 
@@ -49,19 +50,19 @@ impl From<pdb_container::Error> for LoadFault {
     fn from(cause: pdb_container::Error) -> LoadFault {
         match cause {
             pdb_container::Error::OutOfMemory => LoadFault::OutOfMemory,
-            cause => LoadFault::Pdb(pdb_addr2line::Error::PdbError(cause)),
+            cause => LoadFault::Pdb(Error::PdbError(cause)),
         }
     }
 }
 
-impl From<pdb_addr2line::Error> for LoadFault {
+impl From<Error> for LoadFault {
     ghost use Rattle.pdb_report.specs.Faults.{load_fault_in_context};
 
     ghost from_gives = { λ cause e. e ≡ load_fault_in_context cause };
 
-    fn from(cause: pdb_addr2line::Error) -> LoadFault {
+    fn from(cause: Error) -> LoadFault {
         match cause {
-            pdb_addr2line::Error::OutOfMemory => LoadFault::OutOfMemory,
+            Error::OutOfMemory => LoadFault::OutOfMemory,
             cause => LoadFault::Pdb(cause),
         }
     }
@@ -96,7 +97,7 @@ impl From<LoadFault> for RunFault {
     }
 }
 
-/// How a run ends where a read failed: want of memory is a fault of its own.
+/// How a run ends where a read failed: out of memory is a fault of its own.
 pub fn read_fault(kind: ErrorKind) -> RunFault
     ensures value { result ≡ read_fault_of kind }
     ensures kind { IsOfRunning result }
@@ -107,7 +108,7 @@ pub fn read_fault(kind: ErrorKind) -> RunFault
     }
 }
 
-/// How a run ends where a write failed: want of memory is a fault of its own.
+/// How a run ends where a write failed: out of memory is a fault of its own.
 pub fn write_fault(kind: ErrorKind) -> RunFault
     ensures value { result ≡ write_fault_of kind }
     ensures kind { IsOfWriting result }
@@ -115,6 +116,27 @@ pub fn write_fault(kind: ErrorKind) -> RunFault
     match kind {
         ErrorKind::OutOfMemory => RunFault::OutOfMemory,
         _ => RunFault::Write(kind),
+    }
+}
+
+/// The name of an error without values; the text of others begins otherwise.
+pub fn plain_name(cause: &Error) -> &'static str
+    ensures { HasPlainName cause.now result.now }
+{
+    match cause {
+        Error::ArgumentTypeNotArgumentList => "ArgumentTypeNotArgumentList",
+        Error::FunctionIdIsNotProcedureType => "FunctionIdIsNotProcedureType",
+        Error::MemberFunctionIdIsNotMemberFunctionType => "MemberFunctionIdIsNotMemberFunctionType",
+        Error::ProcedureLinesUnsuccessful => "ProcedureLinesUnsuccessful",
+        Error::ProcedureInlineRangesUnsuccessful => "ProcedureInlineRangesUnsuccessful",
+        Error::ExtendedModuleInfoUnsuccessful => "ExtendedModuleInfoUnsuccessful",
+        Error::ModuleImportsUnsuccessful => "ModuleImportsUnsuccessful",
+        Error::ModuleExportsUnsuccessful => "ModuleExportsUnsuccessful",
+        Error::CantResolveCrossModuleRefWithoutStringTable => {
+            "CantResolveCrossModuleRefWithoutStringTable"
+        }
+        Error::OutOfMemory => "OutOfMemory",
+        _ => "",
     }
 }
 
@@ -126,8 +148,31 @@ impl fmt::Display for LoadFault {
 
     fn fmt<W: fmt::Write>(&self, f: &mut fmt::Formatter<W>) -> fmt::Result {
         match self {
-            LoadFault::Pdb(pdb_addr2line::Error::PdbError(cause)) => write!(f, "{cause}"),
-            LoadFault::Pdb(pdb_addr2line::Error::OutOfMemory) => f.write_str("OutOfMemory"),
+            LoadFault::Pdb(Error::PdbError(cause)) => write!(f, "{cause}"),
+            LoadFault::Pdb(Error::FormatError(_)) => f.write_str("FormatError"),
+            LoadFault::Pdb(Error::UnorderedSectionContributions(module, section)) => {
+                write!(f, "UnorderedSectionContributions({module}, {section})")
+            }
+            LoadFault::Pdb(Error::OverlappingSectionContributions(section, earlier, later)) => {
+                write!(
+                    f,
+                    "OverlappingSectionContributions({section}, {earlier}, {later})"
+                )
+            }
+            LoadFault::Pdb(Error::ModuleNameNotFound(name)) => {
+                write!(f, "ModuleNameNotFound({name})")
+            }
+            LoadFault::Pdb(Error::LocalIndexNotInExports(n)) => {
+                write!(f, "LocalIndexNotInExports({n})")
+            }
+            LoadFault::Pdb(Error::OutOfRangeModuleIndex(n)) => {
+                write!(f, "OutOfRangeModuleIndex({n})")
+            }
+            LoadFault::Pdb(Error::ModuleInfoNotFound(n)) => write!(f, "ModuleInfoNotFound({n})"),
+            LoadFault::Pdb(Error::CircularTypeDefinition(n)) => {
+                write!(f, "CircularTypeDefinition({n})")
+            }
+            LoadFault::Pdb(cause) => f.write_str(plain_name(cause)),
             LoadFault::AddressTableDecreases => f.write_str("AddressTableDecreases"),
             LoadFault::NotYet => f.write_str("NotYet"),
             LoadFault::OutOfMemory => f.write_str("OutOfMemory"),

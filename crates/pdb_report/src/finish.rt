@@ -1,7 +1,7 @@
 //! The end of a run.
 
 ghost use Rattle.std.specs.Prelude.{◌≡◌, IsOk, IfErr};
-ghost use Rattle.pdb_report.specs.Told.{Tells, fault_line};
+ghost use Rattle.pdb_report.specs.ToldFault.{Tells, fault_line};
 
 use crate::fault::RunFault;
 use crate::output::ErrorOutput;

@@ -9,12 +9,14 @@ mod fault;
 mod finish;
 mod line_start;
 mod loading;
+mod lookup;
 mod modules;
 mod output;
 mod pdb_addr2line;
 mod pdb_module_data;
 mod report;
 mod symbolizer;
+mod texts;
 mod told;
 mod watched;
 

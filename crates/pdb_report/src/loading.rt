@@ -1,4 +1,4 @@
-//! What is read of a file before any question.
+//! Loading: what is read of a file before any question.
 
 ghost use Rattle.std.specs.Prelude.{◌≡◌, Ok, IfOk, nat_lt, ◌||◌, length};
 ghost use Rattle.std.specs.List.{list_any};
@@ -11,7 +11,7 @@ ghost use Rattle.pdb_symbols_modules.specs.Shared.{shared, optional_in};
 ghost use Rattle.pdb_symbols.specs.Iteration.{symbols_left};
 ghost use Rattle.pdb_symbols_modules.specs.Modules.{modules_of};
 ghost use Rattle.pdb_symbols_modules.specs.AddressTables.{address_map_by};
-ghost use Rattle.pdb_symbols_modules.specs.Opened.{debug_information as read_dbi, global_symbols_by};
+ghost use Rattle.pdb_symbols_modules.specs.DatabaseCalls.{debug_information as read_dbi, global_symbols_by};
 ghost use Rattle.pdb_symbols_modules.specs.OptionalHeader.{optional_at};
 ghost use Rattle.pdb_symbols_modules.specs.Streams.{streams};
 
@@ -31,11 +31,14 @@ use std::marker::Model;
 /// An open program database over a file's bytes.
 pub type Database = PDB<'static, Vec<u8>>;
 
-/// What every question goes over.
+/// The parts of a file, which every question goes over.
 #[derive(Debug, Drop)]
 pub struct Parts<'m> {
+    /// The sections of the image and of the database, with the OMAPs between them.
     pub address_map: AddressMap<'static>,
+    /// The modules of the DBI stream.
     pub modules: Vec<Module<'m>>,
+    /// The section contributions that count.
     pub contributions: Vec<ModuleSectionContribution>,
 }
 
@@ -122,7 +125,7 @@ fn collect_modules<'m>(alloc: Global, mut remaining: ModuleIter<'m>) -> Result<V
 }
 
 /// The modules of stream 3. `UnexpectedEof`.
-fn read_modules<'m>(
+fn read_module_list<'m>(
     alloc: Global,
     debug_information: &'m DebugInformation<'_>,
 ) -> Result<Vec<Module<'m>>>
@@ -169,8 +172,8 @@ fn is_unanswered(
     contributions.len() > 1 || has_public || has_lines(modules)
 }
 
-/// The parts behind stream 3, by what was read of it. Each step's first fault, in the order of the steps; `NotYet` for
-/// several contributions, public symbols and line data.
+/// The parts of a file behind the DBI, by what was read of it. Each step's first fault, in the order of the steps;
+/// `NotYet` for several contributions, public symbols and line data.
 #[tactic(auto, using(crate::proofs::Lifting::load_fails, crate::proofs::Lifting::fails_on, crate::proofs::Lifting::loads_on, crate::proofs::Lifting::contributions_fail), unfolding(crate::specs::Loading::loaded_behind))]
 pub fn load_parts<'m>(
     pdb: &mut Database,
@@ -187,7 +190,7 @@ pub fn load_parts<'m>(
     pdb.type_information(alloc)?;
     pdb.id_information(alloc)?;
     let address_map = read_address_tables(pdb, alloc, debug_information)?;
-    let modules = read_modules(alloc, debug_information)?;
+    let modules = read_module_list(alloc, debug_information)?;
     let has_public = has_public(symbol_records.iter())?;
     let contributions = held_contributions(
         alloc,

@@ -1,5 +1,5 @@
-//! What is read of the modules' own streams: whether some symbol isn't answered yet, and the procedures of those modules
-//! that hold something.
+//! What is read of the modules' own streams: whether some symbol isn't answered yet, and the procedures of those
+//! modules that hold something.
 
 ghost use Rattle.std.specs.Prelude.{◌≡◌, ℕ, Bool, IfOk, OnOk, IfSome, IsSome, Ok, [], map};
 ghost use Rattle.std.specs.BTreeMap.{get};
@@ -8,11 +8,11 @@ ghost use Rattle.std.specs.Ordering.{nat_cmp};
 ghost use Rattle.pdb_container.specs.Fault.{Gives, refuse};
 ghost use Rattle.pdb_container.specs.Listing.{whole};
 ghost use Rattle.pdb_report.specs.Faults.{Loads, NotYet};
-ghost use Rattle.pdb_report.specs.Kept.{procedures_at, listed_procedures};
+ghost use Rattle.pdb_report.specs.KeptParts.{procedures_at, listed_procedures};
 ghost use Rattle.pdb_report.specs.Loading.{symbols_place, if_read, has_others_at, has_other_symbols as has_others};
-ghost use Rattle.pdb_report.specs.Procedures.{symbols_in, procedures as procedures_by, procedures_of as procedures_among, has_other};
+ghost use Rattle.pdb_report.specs.Procedures.{symbols_of_stream, procedures as procedures_by, procedures_of as procedures_among, has_other};
 ghost use Rattle.pdb_symbols.specs.Iteration.{symbols_left};
-ghost use Rattle.pdb_symbols_modules.specs.Opened.{module_info};
+ghost use Rattle.pdb_symbols_modules.specs.DatabaseCalls.{module_info};
 ghost use Rattle.pdb_symbols_modules.specs.Streams.{streams, stream_if_named};
 
 use crate::fault::LoadFault;
@@ -73,9 +73,9 @@ fn collect_symbols<'t>(alloc: Global, mut remaining: SymbolIter<'t>) -> Result<V
 }
 
 /// A module's symbols, to their end. The faults of [`ModuleInfo::symbols`], `SymbolTooShort`, `UnexpectedEof`.
-#[tactic(auto, unfolding(crate::specs::Procedures::symbols_in))]
+#[tactic(auto, unfolding(crate::specs::Procedures::symbols_of_stream))]
 fn read_symbols<'i>(alloc: Global, info: &'i ModuleInfo<'_>) -> Result<Vec<Symbol<'i>>>
-    ensures { Gives (λ v. v.items) ⊥ result (symbols_in info.now) }
+    ensures { Gives (λ v. v.items) ⊥ result (symbols_of_stream info.now) }
 {
     let symbols = info.symbols()?;
     collect_symbols(alloc, symbols)
@@ -83,7 +83,7 @@ fn read_symbols<'i>(alloc: Global, info: &'i ModuleInfo<'_>) -> Result<Vec<Symbo
 
 /// `NotYet` where a module's symbols, if they can be read to their end, hold one that isn't answered yet.
 fn check_info(alloc: Global, info: &ModuleInfo<'_>) -> std::result::Result<(), LoadFault>
-    ensures { Loads (λ _. tt) result (refuse (has_other (symbols_in info.now)) NotYet) }
+    ensures { Loads (λ _. tt) result (refuse (has_other (symbols_of_stream info.now)) NotYet) }
 {
     match read_symbols(alloc, info) {
         Ok(symbols) => {
@@ -179,8 +179,8 @@ fn places_in_order(
     Ok(places)
 }
 
-/// `NotYet` where some module whose symbols can be read to their end has one that isn't answered yet. However many modules
-/// name a stream, it is read once for each size of its symbols, and none is kept.
+/// `NotYet` where some module whose symbols can be read to their end has one that isn't answered yet. However many
+/// modules name a stream, it is read once for each size of its symbols, and none is kept.
 #[tactic(auto, using(crate::proofs::ModuleSteps::modules_at_places))]
 pub fn check_modules(
     pdb: &mut Database,
@@ -199,7 +199,7 @@ fn procedures_in(
     alloc: Global,
     info: &ModuleInfo<'_>,
 ) -> std::result::Result<ModuleProcedures, AllocError>
-    ensures { IfOk result (λ m. m ≡ procedures_among (symbols_in info.now)) }
+    ensures { IfOk result (λ m. m ≡ procedures_among (symbols_of_stream info.now)) }
 {
     match read_symbols(alloc, info) {
         Ok(symbols) => {
@@ -267,7 +267,7 @@ fn keep(
 }
 
 /// The procedures of each module that holds something, by its number, counted from 0.
-pub fn read_modules(
+pub fn read_procedures(
     pdb: &mut Database,
     alloc: Global,
     entries: &[Module<'_>],

@@ -3,8 +3,8 @@
 ghost use Rattle.std.specs.Prelude.{◌≡◌, ℕ, List, Option, OnOk, OnErr};
 ghost use Rattle.std.specs.Io.KnownBytes.{Appends};
 ghost use Rattle.std.specs.declared.io.ErrorKind.{ErrorKind as Kind};
-ghost use Rattle.pdb_report.specs.Told.{Puts};
-ghost use Rattle.pdb_report.specs.Lines.{Begins};
+ghost use Rattle.pdb_report.specs.ToldFault.{Puts};
+ghost use Rattle.pdb_report.specs.InputLines.{Begins};
 
 use crate::engine::write_all;
 use crate::watched::Watched;

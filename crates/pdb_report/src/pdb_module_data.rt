@@ -4,7 +4,7 @@ ghost use Rattle.std.specs.Prelude.{◌≡◌, ℕ, ◌∷◌, [], IfOk, OnOk, O
 ghost use Rattle.std.specs.BTreeSet.{contains};
 ghost use Rattle.pdb_addresses.specs.declared.internal_section_offset.PdbInternalSectionOffset.{PdbInternalSectionOffset};
 ghost use Rattle.pdb_symbols.specs.Forms.{procedure_form};
-ghost use Rattle.pdb_report.specs.Procedures.{procedure_of, place_cmp, has_start, with_code as with_code_of, onto_new, procedures_behind, contains as contains_place, later as later_of, over as over_of, is_other as is_other_symbol, has_type as has_type_of, end_in, is_inside as is_inside_of, has_other};
+ghost use Rattle.pdb_report.specs.Procedures.{parsed_procedure, place_cmp, has_start, with_code as with_code_of, onto_new, procedures_behind, contains as contains_place, later as later_of, over as over_of, is_other as is_other_symbol, has_type as has_type_of, end_in, is_inside as is_inside_of, has_other};
 
 use pdb_addresses::PdbInternalSectionOffset;
 use pdb_symbols::kinds::{is_inline_site, is_procedure, is_separated_code, is_thunk};
@@ -13,11 +13,14 @@ use std::alloc::{AllocError, Global};
 use std::collections::BTreeSet;
 use std::marker::Model;
 
-/// A procedure: where its code begins, how many bytes it has, and its name.
+/// A procedure of a module: where its code begins, how many bytes it has, and its name.
 #[derive(Debug, Drop)]
 pub struct Procedure {
+    /// Where its code begins: a section's number, counted from 1, and an offset in bytes.
     pub offset: PdbInternalSectionOffset,
+    /// How many bytes of code it has.
     pub len: u32,
+    /// Its name as it is stored.
     pub name: Vec<u8>,
 }
 
@@ -32,7 +35,7 @@ impl Model for Procedure {
 /// What a symbol says, if it is a procedure that can be read. No symbol of another kind is parsed.
 #[tactic(auto, using(crate::proofs::ProcedureSteps::no_procedure))]
 fn parse_procedure<'t>(symbol: &Symbol<'t>) -> Option<ProcedureSymbol<'t>>
-    ensures { option_map procedure_form result ≡ procedure_of symbol.now }
+    ensures { option_map procedure_form result ≡ parsed_procedure symbol.now }
 {
     if !is_procedure(symbol.raw_kind()) {
         return None;
@@ -48,7 +51,7 @@ fn with_code(
     alloc: Global,
     symbol: &Symbol<'_>,
 ) -> std::result::Result<Option<Procedure>, AllocError>
-    ensures { IfOk result (λ p. p ≡ with_code_of (procedure_of symbol.now)) }
+    ensures { IfOk result (λ p. p ≡ with_code_of (parsed_procedure symbol.now)) }
 {
     match parse_procedure(symbol) {
         None => Ok(None),
@@ -128,7 +131,7 @@ fn later<'p>(best: Option<&'p Procedure>, next: &'p Procedure) -> Option<&'p Pro
     }
 }
 
-/// Of the procedures that contain the place the one with the greatest start.
+/// The procedure over a place: of those that contain it the one with the greatest start.
 #[tactic(auto, using(crate::proofs::ProcedureSteps::over_takes, crate::proofs::ProcedureSteps::over_passes, crate::proofs::ProcedureSteps::over_ends))]
 pub fn over(procedures: &[Procedure], place: PdbInternalSectionOffset) -> Option<&Procedure>
     ensures { option_map (λ q. q.now) result ≡ over_of procedures.now place }
@@ -142,7 +145,8 @@ pub fn over(procedures: &[Procedure], place: PdbInternalSectionOffset) -> Option
     best
 }
 
-/// Whether a symbol is one that isn't answered yet: a thunk, separated code, an inline site, or a procedure with a type.
+/// Whether a symbol is one that isn't answered yet: a thunk, separated code, an inline site, or a procedure with a
+/// type.
 fn is_other(symbol: &Symbol<'_>) -> bool
     ensures { result ≡ is_other_symbol symbol.now }
 {
@@ -152,7 +156,7 @@ fn is_other(symbol: &Symbol<'_>) -> bool
 
 /// Whether it is a procedure with a type.
 fn has_type(symbol: &Symbol<'_>) -> bool
-    ensures { result ≡ has_type_of (procedure_of symbol.now) }
+    ensures { result ≡ has_type_of (parsed_procedure symbol.now) }
 {
     match parse_procedure(symbol) {
         None => false,
@@ -162,7 +166,7 @@ fn has_type(symbol: &Symbol<'_>) -> bool
 
 /// The index at which it ends, if it is a procedure that can be read; else 0.
 fn end_of(symbol: &Symbol<'_>) -> u32
-    ensures { result ≡ end_in (procedure_of symbol.now) }
+    ensures { result ≡ end_in (parsed_procedure symbol.now) }
 {
     match parse_procedure(symbol) {
         None => 0,

@@ -1,12 +1,12 @@
 //! The report on an input.
 
 ghost use Rattle.std.specs.Prelude.{◌≡◌, ℕ, ◌^◌, List, OnOk, OnErr, IfErr, IfSome, None, ◌⊎◌, length, take, ◌<◌, ◌≤◌};
-ghost use Rattle.pdb_report.specs.Answers.{line_text};
-ghost use Rattle.pdb_report.specs.Lines.{report, report_of_ended};
+ghost use Rattle.pdb_report.specs.AddressText.{line_text};
+ghost use Rattle.pdb_report.specs.InputLines.{report, report_of_ended};
 ghost use Rattle.pdb_report.specs.Loading.{load_fault, IsFileFault};
 ghost use Rattle.pdb_report.specs.RunFaults.{OnLoad, OnRead, OnWrite, OnTooLong, OnMemory, UnlessLoad, IsOfFrames};
 ghost use Rattle.pdb_symbols_modules.specs.Streams.{streams};
-ghost use Rattle.pdb_report.specs.Watched.{inner_of, Fails, IsQuiet, Writes, WritesFront, Takes};
+ghost use Rattle.pdb_report.specs.Watched.{inner_of, CountsFailure, IsQuiet, Writes, WritesFront, Takes};
 
 use crate::engine::run;
 use crate::fault::RunFault;
@@ -31,20 +31,20 @@ pub fn run_frames<R: Read, W: Write>(
     reader: &mut Watched<R>,
     writer: &mut Watched<W>,
 ) -> Result<(), RunFault>
-    // The loading fault is answered where the file has one, with both ends untouched; every other end but want of
+    // The loading fault is returned where the file has one, with both ends untouched; every other end but out of
     // memory says that there is none.
     ensures load { IfErr result (λ fault. OnLoad fault (λ cause. IsFileFault cause (load_fault (streams bytes.items)) × ((reader.new ≡ reader.old) × (writer.new ≡ writer.old)))) }
     ensures loaded { UnlessLoad result (load_fault (streams bytes.items) ≡ None) }
     ensures kind { IfErr result IsOfFrames }
-    // Want of memory is answered with both ends untouched, or where there is none.
+    // Out of memory is returned with both ends untouched, or where there is none.
     ensures memory { IfErr result (λ fault. OnMemory fault ((load_fault (streams bytes.items) ≡ None) ⊎ ((reader.new ≡ reader.old) × (writer.new ≡ writer.old)))) }
     // Where the run ends well, the report on the whole input is out, and neither end failed.
     ensures ok { OnOk result (IfSome (R.remaining (inner_of reader.old)) (λ input. (length input ≤ 2 ^ 30)
         × Writes W.contents writer.old writer.new (report (line_text (streams bytes.items)) input))) }
     ensures quiet { OnOk result (IsQuiet reader.old reader.new × IsQuiet writer.old writer.new) }
     // A failed read or write is one of this call, with its kind.
-    ensures read_fails { IfErr result (λ fault. OnRead fault (λ kind. Fails reader.old reader.new kind)) }
-    ensures write_fails { IfErr result (λ fault. OnWrite fault (λ kind. Fails writer.old writer.new kind)) }
+    ensures read_fails { IfErr result (λ fault. OnRead fault (λ kind. CountsFailure reader.old reader.new kind)) }
+    ensures write_fails { IfErr result (λ fault. OnWrite fault (λ kind. CountsFailure writer.old writer.new kind)) }
     // The complete lines before a failed read, and those of a too long input, are answered.
     ensures read_out { IfErr result (λ fault. OnRead fault (λ _. (taken : List ℕ) × Takes R.remaining reader.old reader.new taken
         × Writes W.contents writer.old writer.new (report_of_ended (line_text (streams bytes.items)) taken))) }

@@ -1,29 +1,30 @@
-//! A file that was loaded, and the text that answers a line.
+//! A file that was loaded, and what answers a line of the input by it.
 
 ghost use Rattle.std.specs.Prelude.{◌≡◌, IfOk, OnOk, IfErr, None, Some, string_bytes};
-ghost use Rattle.pdb_addresses.specs.Addresses.{IsOrdered};
-ghost use Rattle.pdb_report.specs.Faults.{Fails};
+ghost use Rattle.pdb_report.specs.Faults.{FailsLoading};
 ghost use Rattle.pdb_report.specs.Loading.{answerable, load_fault, Refuses};
 ghost use Rattle.pdb_symbols_modules.specs.Streams.{streams};
-ghost use Rattle.pdb_report.specs.Answers.{answer, line_text, text_at};
-ghost use Rattle.pdb_report.specs.Kept.{kept_answer, procedures_at};
-ghost use Rattle.pdb_report.specs.Seen.{answer_seen};
+ghost use Rattle.pdb_report.specs.AddressAnswer.{answer};
+ghost use Rattle.pdb_report.specs.AddressText.{line_text, text_at};
+ghost use Rattle.pdb_report.specs.FramesAnswer.{answer_seen};
 
 use crate::address::parse_address;
 use crate::answers::Answers;
 use crate::fault::LoadFault;
 use crate::loading::{Database, load_parts};
-use crate::modules::{ModuleProcedures, check_modules, read_modules};
-use crate::pdb_addr2line::contributions::{ModuleSectionContribution, holder};
-use crate::pdb_addr2line::frames::{FunctionFrames, append_answer, procedure_frames};
-use crate::pdb_module_data::{Procedure, over};
-use pdb_addresses::{AddressMap, Rva};
+use crate::lookup::frames_at;
+use crate::modules::{ModuleProcedures, check_modules, read_procedures};
+use crate::pdb_addr2line::contributions::ModuleSectionContribution;
+use crate::pdb_addr2line::frames::FunctionFrames;
+use crate::texts::address_text;
+use pdb_addresses::AddressMap;
 use pdb_symbols_modules::PDB;
 use std::alloc::{AllocError, Global};
 use std::collections::BTreeMap;
 use std::marker::Model;
 
-/// A program database that was loaded, with what answers need of it. Its value in contracts is the file's bytes.
+/// A symbolizer: a program database that was loaded, with what answers need of it. Its value in contracts is the file's
+/// bytes.
 #[derive(Drop)]
 pub struct Symbolizer {
     pdb: Database,
@@ -34,25 +35,25 @@ pub struct Symbolizer {
 
 impl Model for Symbolizer {
     ghost use Rattle.std.specs.Prelude.{ℕ, List};
-    ghost use Rattle.pdb_report.specs.Kept.{IsKept};
+    ghost use Rattle.pdb_report.specs.KeptParts.{IsKeptOfFile};
 
     ghost Value = { List ℕ };
 
     ghost view = { λ s. s.pdb.items };
 
-    ghost invariant = { λ s. IsKept s.pdb.items s.address_map s.contributions.items s.procedures };
+    ghost invariant = { λ s. IsKeptOfFile s.pdb.items s.address_map s.contributions.items s.procedures };
 }
 
 /// Loads an open program database, and keeps what answers need.
 fn load(alloc: Global, mut pdb: Database) -> Result<Symbolizer, LoadFault>
     requires { (streams pdb.items).open_fault ≡ None }
     ensures ok { IfOk result (λ s. s ≡ pdb.entry.items) }
-    ensures err { IfErr result (λ e. Fails e (answerable (streams pdb.entry.items))) }
+    ensures err { IfErr result (λ e. FailsLoading e (answerable (streams pdb.entry.items))) }
 {
     let debug_information = pdb.debug_information(alloc)?;
     let parts = load_parts(&mut pdb, alloc, &debug_information)?;
     check_modules(&mut pdb, alloc, parts.modules.as_slice())?;
-    let procedures = read_modules(
+    let procedures = read_procedures(
         &mut pdb,
         alloc,
         parts.modules.as_slice(),
@@ -66,48 +67,15 @@ fn load(alloc: Global, mut pdb: Database) -> Result<Symbolizer, LoadFault>
     })
 }
 
-/// The procedures of the module of a number, counted from 0; none where none are kept.
-fn procedures_of(kept: &BTreeMap<u16, ModuleProcedures>, module: u16) -> &[Procedure]
-    ensures { result.now ≡ procedures_at kept.now «module» }
-{
-    match kept.get(&module) {
-        None => &[],
-        Some(procedures) => procedures.as_slice(),
-    }
-}
-
-/// The frames at an address of the image.
-fn frames_at(
-    alloc: Global,
-    address_map: &AddressMap<'static>,
-    contributions: &[ModuleSectionContribution],
-    procedures: &BTreeMap<u16, ModuleProcedures>,
-    address: u32,
-) -> Result<Option<FunctionFrames>, AllocError>
-    requires { IsOrdered address_map.now }
-    ensures { IfOk result (λ f. answer_seen f ≡ kept_answer address_map.now contributions.now procedures.now address) }
-{
-    let Some(place) = Rva(address).to_internal_offset(address_map) else {
-        return Ok(None);
-    };
-    let Some(held) = holder(contributions, place) else {
-        return Ok(None);
-    };
-    match over(procedures_of(procedures, held.module), place) {
-        None => Ok(None),
-        Some(procedure) => procedure_frames(alloc, address_map, procedure),
-    }
-}
-
 impl Symbolizer {
     /// Loads the program database of a file's bytes: everything that keeps the file from being answered is found here,
     /// and everything that answers need is read.
     ///
     /// # Errors
     /// The first fault, in the order in which a file is read: the container; stream 3 and its header; symbol records,
-    /// types and ids; section headers; the list of modules, the list of symbols, the contributions; the modules' symbols.
-    /// `NotYet` for address maps, several contributions, public symbols, line data, and symbols of modules other than
-    /// plain procedures.
+    /// types and ids; section headers; the list of modules, the list of symbols, the contributions; the modules'
+    /// symbols. `NotYet` for address maps, several contributions, public symbols, line data, and symbols of modules
+    /// other than plain procedures.
     #[tactic(auto, using(crate::proofs::OpeningSteps::container_fails, crate::proofs::OpeningSteps::refuses, crate::proofs::OpeningSteps::kept_loads))]
     pub fn open(alloc: Global, bytes: Vec<u8>) -> Result<Symbolizer, LoadFault>
         ensures ok { IfOk result (λ s. s ≡ bytes.items) }
@@ -133,7 +101,7 @@ impl Symbolizer {
     }
 
     /// What is written for a line of the input.
-    #[tactic(auto, unfolding(crate::specs::Answers::line_text))]
+    #[tactic(auto, unfolding(crate::specs::AddressText::line_text))]
     fn line_text(&self, alloc: Global, line: &[u8]) -> Result<String, AllocError>
         ensures { IfOk result (λ t. string_bytes t ≡ line_text (streams self.now) line.now) }
     {
@@ -148,14 +116,12 @@ impl Symbolizer {
         ensures { IfOk result (λ t. string_bytes t ≡ text_at (streams self.now) (Some address)) }
     {
         let frames = self.find_frames(alloc, address)?;
-        let mut text = format!(in alloc; "0x{address:08x}\n")?;
-        append_answer(&mut text, &frames)?;
-        Ok(text)
+        address_text(alloc, address, &frames)
     }
 }
 
 impl Answers for Symbolizer {
-    ghost use Rattle.pdb_report.specs.Answers.{line_text};
+    ghost use Rattle.pdb_report.specs.AddressText.{line_text};
     ghost use Rattle.pdb_symbols_modules.specs.Streams.{streams};
 
     ghost text = { λ s line. line_text (streams s) line };

@@ -7,7 +7,7 @@ ghost use Rattle.std.specs.IoError.{error_kind};
 
 use std::io::{self, ErrorKind, Read, Write};
 
-/// Wraps a reader or a writer, and keeps how many of its calls failed and how the last one did.
+/// A watched reader or writer: it keeps how many of its calls failed and how the last one did.
 #[derive(Drop)]
 pub struct Watched<T> {
     inner: T,
@@ -16,7 +16,7 @@ pub struct Watched<T> {
 }
 
 impl<T> Watched<T> {
-    ghost use Rattle.pdb_report.specs.Watched.{inner_of, failures_of, last_kind_of, Fails};
+    ghost use Rattle.pdb_report.specs.Watched.{inner_of, failures_of, last_kind_of, CountsFailure};
 
     /// Wraps a reader or a writer of which no call has failed yet.
     pub fn new(inner: T) -> Watched<T>
@@ -47,7 +47,7 @@ impl<T> Watched<T> {
 
     /// Counts a failure.
     fn note(&mut self, kind: ErrorKind)
-        ensures fails { Fails self.old self.new kind }
+        ensures fails { CountsFailure self.old self.new kind }
         ensures inner { inner_of self.new ≡ inner_of self.old }
     {
         self.failures = self.failures.saturating_add(1);
@@ -56,16 +56,16 @@ impl<T> Watched<T> {
 }
 
 impl<R: Read> Watched<R> {
-    ghost use Rattle.pdb_report.specs.Watched.{inner_of, Fails, IsQuiet};
+    ghost use Rattle.pdb_report.specs.Watched.{inner_of, CountsFailure, IsQuiet};
 
-    /// Reads at most `buf.len()` bytes into the front of `buf`, and answers how many they are.
+    /// Reads at most `buf.len()` bytes into the front of `buf`, and returns how many they are.
     ///
     /// # Errors
     /// As the wrapped reader's; each error counts as one failure, and nothing else does.
     pub fn read(&mut self, buf: &mut [u8]) -> io::Result<usize>
         ensures bound { ReadsAtMost result buf.new }
         ensures bytes { ReadConsumes (R.remaining (inner_of self.old)) (R.remaining (inner_of self.new)) result buf.new }
-        ensures watch { MatchResult result (λ _. IsQuiet self.old self.new) (λ e. Fails self.old self.new (error_kind e)) }
+        ensures watch { MatchResult result (λ _. IsQuiet self.old self.new) (λ e. CountsFailure self.old self.new (error_kind e)) }
     {
         match self.inner.read(buf) {
             Ok(count) => Ok(count),
@@ -80,7 +80,7 @@ impl<R: Read> Watched<R> {
 impl<W: Write> Watched<W> {
     ghost use Rattle.pdb_report.specs.Watched.{inner_of, WatchesWrite};
 
-    /// Writes a front of `buf`, and answers how many bytes it has.
+    /// Writes a front of `buf`, and returns how many bytes it has.
     ///
     /// # Errors
     /// As the wrapped writer's. Each error counts as one failure, and so does a write that takes none

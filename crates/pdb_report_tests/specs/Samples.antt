@@ -47,7 +47,8 @@ file_f0 =
 unfoldable pub elf : List ℕ
 elf = 127 ∷ 69 ∷ 76 ∷ 70 ∷ []
 
--- The same with one stream more, of 4096 zeros; stream 3 lies in the last page, and the file ends after 100 of its 194 bytes.
+-- The same with one stream more, of 4096 zeros; stream 3 lies in the last page, and the file ends after 100 of its 194
+-- bytes.
 unfoldable pub cut_dbi : List ℕ
 cut_dbi =
     (77 ∷ 105 ∷ 99 ∷ 114 ∷ 111 ∷ 115 ∷ 111 ∷ 102 ∷ 116 ∷ 32 ∷ 67 ∷ 47 ∷ 67 ∷ 43 ∷ 43 ∷ 32 ∷ 77 ∷ 83 ∷ 70 ∷ 32 ∷ 55 ∷ 46 ∷ 48 ∷ 48 ∷ 13 ∷ 10 ∷ 26 ∷ 68 ∷ 83 ∷ 0 ∷ 0 ∷ 0 ∷ 0 ∷ 1 ∷ 0 ∷ 0 ∷ 0 ∷ 0 ∷ 0 ∷ 0 ∷ 25 ∷ 0 ∷ 0 ∷ 0 ∷ 136 ∷ 0 ∷ 0 ∷ 0 ∷ 0 ∷ 0 ∷ 0 ∷ 0 ∷ 1 ∷ []) ++

@@ -3,9 +3,10 @@
 ghost use Rattle.std.specs.Prelude.{◌≡◌, Some, None, codes};
 ghost use Rattle.std.specs.declared.io.ErrorKind.TheVariants.{UnexpectedEof};
 ghost use Rattle.pdb_container.specs.Fault.{IoError, UnrecognizedFileFormat};
-ghost use Rattle.pdb_report.specs.Answers.{line_text};
-ghost use Rattle.pdb_report.specs.Faults.{Pdb, PdbError};
-ghost use Rattle.pdb_report.specs.Lines.{report};
+ghost use Rattle.pdb_report.specs.AddressText.{line_text};
+ghost use Rattle.pdb_report.specs.Faults.{Pdb};
+ghost use Rattle.pdb_resolving.specs.Fault.{PdbError};
+ghost use Rattle.pdb_report.specs.InputLines.{report};
 ghost use Rattle.pdb_report.specs.Loading.{load_fault};
 ghost use Rattle.pdb_symbols_modules.specs.Streams.{streams};
 ghost use Rattle.pdb_report_tests.specs.Samples as samples;

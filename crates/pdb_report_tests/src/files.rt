@@ -42,7 +42,9 @@ impl File {
 /// What a run wrote, and how it ended.
 #[derive(Drop)]
 pub struct Run {
+    /// The bytes that the run wrote.
     pub report: Vec<u8>,
+    /// How it ended.
     pub outcome: std::result::Result<(), RunFault>,
 }
 

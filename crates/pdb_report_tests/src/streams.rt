@@ -53,8 +53,8 @@ fn end_of_read(fault: Option<ErrorKind>) -> Outcome {
     }
 }
 
-/// Whether a run over file F0 ends as its reader does, with this report, or with a front of the whole one where memory was
-/// refused.
+/// Whether a run over file F0 ends as its reader does, with this report, or with a front of the whole one where memory
+/// was refused.
 fn is_read(
     alloc: Global,
     bytes: &[u8],
@@ -133,8 +133,8 @@ fn end_of_write(kind: Option<ErrorKind>) -> Outcome {
     }
 }
 
-/// Whether a run over file F0 ends as its writer does, whose last failure is of this kind, and the writer is full or has the
-/// whole report. Where memory is refused it runs once more.
+/// Whether a run over file F0 ends as its writer does, whose last failure is of this kind, and the writer is full or
+/// has the whole report. Where memory is refused it runs once more.
 fn is_written(
     alloc: Global,
     piece: usize,

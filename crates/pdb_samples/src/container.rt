@@ -15,9 +15,11 @@ const FIRST_VIEW: usize = 4096;
 /// The streams of a file and how they lie in its pages.
 #[derive(Drop)]
 pub struct Container {
+    /// The size of a page, in bytes.
     pub page_size: u32,
     /// The bytes of each stream, and `None` for an absent one.
     pub streams: Vec<Option<Vec<u8>>>,
+    /// In which order the pages lie.
     pub order: PageOrder,
 }
 

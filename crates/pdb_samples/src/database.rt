@@ -2,29 +2,12 @@ use crate::bytes::push_u32;
 use crate::container::{Container, PageOrder};
 use crate::debug_information::{DebugInformation, Module};
 use crate::error::Result;
+use crate::records::ItemTable;
 use std::alloc::Global;
 
 /// The number of the first module's stream. Ahead of it lie the old directory, the information,
 /// the types, the debug information, the ids, the symbol records and the section headers.
 const FIRST_MODULE_STREAM: u16 = 7;
-
-/// The streams of types and of ids: the header of a table without records.
-const NO_ITEMS: [u32; 14] = [
-    20040203,
-    56,
-    0x1000,
-    0x1000,
-    0,
-    0xffff_ffff,
-    4,
-    0x3_ffff,
-    0,
-    0,
-    0,
-    0,
-    0,
-    0,
-];
 
 /// How the information stream begins: the version, a signature, an age and the GUID.
 const INFORMATION: [u32; 7] = [20000404, 1, 1, 0, 0, 0, 0];
@@ -42,15 +25,27 @@ type Streams = Vec<Option<Vec<u8>>>;
 /// names table, and the further streams.
 #[derive(Drop)]
 pub struct ProgramDatabase {
+    /// The size of a page, in bytes.
     pub page_size: u32,
+    /// In which order the pages lie.
     pub order: PageOrder,
+    /// The DBI stream, but for the modules.
     pub debug: DebugInformation,
+    /// The table of types (TPI).
+    pub types: ItemTable,
+    /// The table of ids (IPI).
+    pub ids: ItemTable,
     /// The headers of the sections.
     pub sections: Vec<u8>,
+    /// The modules, in the order of their list.
     pub modules: Vec<Module>,
+    /// The bytes of the symbol records.
     pub symbol_records: Vec<u8>,
     /// The names of the names table, each with the zero byte that ends it.
     pub names: Vec<u8>,
+    /// Whether the names table is found by its name.
+    pub has_names: bool,
+    /// The streams behind these, and `None` for an absent one.
     pub further_streams: Vec<Option<Vec<u8>>>,
 }
 
@@ -71,8 +66,11 @@ impl ProgramDatabase {
         })
     }
 
-    /// The number of the names table's stream.
+    /// The number of the names table's stream, or 0xffff.
     fn names_stream(&self) -> u32 {
+        if !self.has_names {
+            return 0xffff;
+        }
         let mut stream = u32::from(FIRST_MODULE_STREAM);
         for module in &self.modules {
             stream = stream.saturating_add(u32::from(module.has_stream));
@@ -128,7 +126,8 @@ impl ProgramDatabase {
     fn push_fixed(&self, bytes: &mut Vec<u8>, number: u16) -> Result<()> {
         match number {
             1 => self.push_information(bytes),
-            2 | 4 => push_u32(bytes, &NO_ITEMS),
+            2 => self.types.push_stream(bytes),
+            4 => self.ids.push_stream(bytes),
             3 => self
                 .debug
                 .push(bytes, self.modules.as_slice(), FIRST_MODULE_STREAM),

@@ -20,10 +20,15 @@ const SIZES: [usize; 3] = [24, 28, 48];
 /// A module and its stream.
 #[derive(Drop)]
 pub struct Module {
+    /// Its name.
     pub name: Vec<u8>,
+    /// The name of its object file.
     pub object_name: Vec<u8>,
+    /// What its stream begins with.
     pub symbols: ModuleSymbols,
+    /// The bytes of its C11 line data.
     pub c11: Vec<u8>,
+    /// The bytes of its C13 line data.
     pub c13: Vec<u8>,
     /// Without one its entry names no stream, and keeps the sizes.
     pub has_stream: bool,
@@ -41,6 +46,8 @@ pub enum ModuleSymbols {
 /// The debug information's stream, but for the modules.
 #[derive(Drop)]
 pub struct DebugInformation {
+    /// The number of the image's machine.
+    pub machine: u16,
     /// The number of the symbol records' stream.
     pub symbol_records: u16,
     /// The contributions, of 28 bytes each.
@@ -103,11 +110,12 @@ impl DebugInformation {
         Ok(())
     }
 
-    /// Appends the header, without the sizes: for the machine 0x8664, without streams of global and public symbols.
+    /// Appends the header, without the sizes, and without streams of global and public symbols.
     fn push_header(&self, bytes: &mut Vec<u8>) -> Result<()> {
         push_u32(bytes, &[SIGNATURE, VERSION, 1])?;
         push_u16(bytes, &[NO_STREAM, 0, NO_STREAM, 0, self.symbol_records, 0])?;
-        push_u32(bytes, &[0, 0, 0, 0, 0, 0, 0, 0, 0x8664 << 16, 0])
+        let machine = u32::from(self.machine) << 16;
+        push_u32(bytes, &[0, 0, 0, 0, 0, 0, 0, 0, machine, 0])
     }
 
     /// Appends a part: the module list, the contributions or the optional header.

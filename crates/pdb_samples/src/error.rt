@@ -1,7 +1,7 @@
 use std::alloc::{AllocError, AllocFailed};
 use std::num::TryFromIntError;
 
-/// What making a sample answers.
+/// What making a sample returns.
 pub type Result<T> = std::result::Result<T, SampleError>;
 
 /// Why a sample could not be made.

@@ -1,5 +1,5 @@
-/// The line data of file F, in numbers of four bytes: the checksums name the file at 1 of the names table. The lines are
-/// those of 0x20 bytes at 0x10 of section 1, of the file at 0: two rows at 0 and 8 of them, for lines 5 and 7.
+/// The line data of file F, in numbers of four bytes: the checksums name the file at 1 of the names table. The lines
+/// are those of 0x20 bytes at 0x10 of section 1, of the file at 0: two rows at 0 and 8 of them, for lines 5 and 7.
 pub(crate) const LINE_DATA_OF_F: [u32; 16] = [
     0xf4,
     8,

@@ -4,10 +4,11 @@ use crate::database::ProgramDatabase;
 use crate::debug_information::{DebugInformation, Module, ModuleSymbols, NO_STREAM};
 use crate::error::{Result, SampleError};
 use crate::line_data::LINE_DATA_OF_F;
+use crate::records::ItemTable;
 use crate::symbols::{FIRST_PLACE, Procedure, begin_record, end_record, push_end, push_record};
 use std::alloc::Global;
 
-const SCOPE_END: u16 = 0x0006;
+pub(crate) const SCOPE_END: u16 = 0x0006;
 
 const THUNK: u16 = 0x1102;
 
@@ -15,9 +16,9 @@ const SEPARATED_CODE: u16 = 0x1132;
 
 const PUBLIC: u16 = 0x110e;
 
-const INLINE_SITE: u16 = 0x114d;
+pub(crate) const INLINE_SITE: u16 = 0x114d;
 
-const INLINE_SITE_END: u16 = 0x114e;
+pub(crate) const INLINE_SITE_END: u16 = 0x114e;
 
 /// The payload of a thunk `t` at 0x34 of section 1, of length 6. Its end isn't known yet.
 const THUNK_T: &[u8; 23] = b"\0\0\0\0\0\0\0\0\0\0\0\0\x34\0\0\0\x01\0\x06\0\0t\0";
@@ -25,7 +26,8 @@ const THUNK_T: &[u8; 23] = b"\0\0\0\0\0\0\0\0\0\0\0\0\x34\0\0\0\x01\0\x06\0\0t\0
 /// The payload of separated code, all zeros. Its end isn't known yet.
 const SEPARATED: &[u8; 28] = &[0; 28];
 
-/// The payload of an inline site in the record at 4, of the inlinee 0x1000 and without annotations. Its end isn't known yet.
+/// The payload of an inline site in the record at 4, of the inlinee 0x1000 and without annotations. Its end isn't known
+/// yet.
 const SITE: &[u8; 12] = b"\x04\0\0\0\0\0\0\0\0\x10\0\0";
 
 /// The header of file F's section: 0x100 bytes at 0x1000 that may be run and read.
@@ -47,6 +49,7 @@ const FURTHER_STREAM: u16 = 9;
 /// How a file differs from file F0.
 #[derive(Clone, Copy)]
 pub enum Change {
+    /// None: it is file F0.
     Nothing,
     /// Line data, as in file F.
     LineData,
@@ -79,8 +82,8 @@ pub enum Change {
     /// Its directory has three pages, in descending order: a hundred and twenty further streams are absent or empty in
     /// turn.
     DirectoryReordered,
-    /// All that a reader needs lies past its first 4096 bytes: its streams' pages lie in descending order, behind a further
-    /// stream of 4096 zeros.
+    /// All that a reader needs lies past its first 4096 bytes: its streams' pages lie in descending order, behind a
+    /// further stream of 4096 zeros.
     Long,
 }
 
@@ -126,16 +129,20 @@ fn empty(alloc: Global) -> ProgramDatabase {
         page_size: 0x100,
         order: PageOrder::Natural,
         debug: debug_information(alloc),
+        types: ItemTable::new(alloc),
+        ids: ItemTable::new(alloc),
         sections: Vec::new(alloc),
         modules: Vec::new(alloc),
         symbol_records: Vec::new(alloc),
         names: Vec::new(alloc),
+        has_names: true,
         further_streams: Vec::new(alloc),
     }
 }
 
 fn debug_information(alloc: Global) -> DebugInformation {
     DebugInformation {
+        machine: 0x8664,
         symbol_records: 5,
         contributions: Vec::new(alloc),
         optional_header: Vec::new(alloc),
@@ -192,7 +199,7 @@ fn push_g(records: &mut Vec<u8>) -> Result<()> {
 }
 
 /// Appends a scope with nothing in it.
-fn push_scope(records: &mut Vec<u8>, kind: u16, payload: &[u8], end: u16) -> Result<()> {
+pub(crate) fn push_scope(records: &mut Vec<u8>, kind: u16, payload: &[u8], end: u16) -> Result<()> {
     let start = records.len();
     push_record(records, kind, payload)?;
     push_end(records, start, end)

@@ -5,6 +5,7 @@ use std::io::{self, ErrorKind, Read, Write};
 /// Gives its bytes in pieces, and then its end at each call.
 #[derive(Drop)]
 pub struct PieceReader<'t> {
+    /// The bytes that are still to come.
     pub bytes: &'t [u8],
     /// The most bytes that a call gives.
     pub piece: usize,
@@ -15,6 +16,7 @@ pub struct PieceReader<'t> {
 /// Takes bytes in pieces, so many in all, and then none.
 #[derive(Drop)]
 pub struct PieceWriter {
+    /// The bytes that were taken.
     pub written: Vec<u8>,
     /// The most bytes that a call takes.
     pub piece: usize,

@@ -13,10 +13,15 @@ const END: usize = 8;
 /// A procedure of section 1, and the record in which it lies, or 0.
 #[derive(Clone, Copy)]
 pub(crate) struct Procedure<'t> {
+    /// The place of the record in which it lies, or 0.
     pub parent: u32,
+    /// Where its code begins in section 1, in bytes.
     pub offset: u32,
+    /// How many bytes of code it has.
     pub length: u32,
+    /// The index of its type; 0 for none.
     pub type_index: u32,
+    /// Its name.
     pub name: &'t [u8],
 }
 
@@ -33,7 +38,8 @@ impl Procedure<'_> {
     }
 }
 
-/// Appends the record of this kind and payload, filled up with zero bytes to a multiple of four. Its length counts these.
+/// Appends the record of this kind and payload, filled up with zero bytes to a multiple of four. Its length counts
+/// these.
 pub(crate) fn push_record(records: &mut Vec<u8>, kind: u16, payload: &[u8]) -> Result<()> {
     let start = begin_record(records, kind)?;
     records.extend_from_slice(payload)?;

@@ -12,6 +12,7 @@ not_ended_here {A} one bytes left x read lt end =
     let n = ap (λ (l : Listing A). l.items) e in
     absurd cc
 
+-- a listing that has ended well meets no fault
 pub not_ended_badly : {A : Type 0} (one : Reader A) (bytes : List ℕ) (e : Fault) → length bytes ≢ 0 → one bytes ≡ Err e → listing one bytes ≡ ending None → ⊥
 not_ended_badly {A} one bytes e some read end =
     let wrong : ending {A = A} (Some e) ≡ ending None = sym (listing_fault one bytes e some read) ∙ end in

@@ -3,7 +3,7 @@
 use pdb_addresses::PdbInternalSectionOffset;
 use pdb_indices::FileIndex;
 
-/// What a row's code was made of.
+/// The kind of a row: what its code was made of.
 #[derive(Clone, Copy, Debug, PartialEq, Eq)]
 pub enum LineInfoKind {
     /// An expression.
@@ -12,18 +12,18 @@ pub enum LineInfoKind {
     Statement,
 }
 
-/// A row: which lines and columns of a file the code from a place on was made of.
+/// A row of line data: which lines and columns of a file the code from a place on was made of.
 #[derive(Clone, Copy, Debug, PartialEq, Eq)]
 pub struct LineInfo {
-    /// Where the code begins.
+    /// Where the code begins: a section's number, counted from 1, and an offset in bytes.
     pub offset: PdbInternalSectionOffset,
     /// How many bytes of code there are, where that is known.
     pub length: Option<u32>,
-    /// The file, by its place among the module's checksums.
+    /// The file, by its place among the module's checksums, in bytes.
     pub file_index: FileIndex,
     /// The first line, counted from 1.
     pub line_start: u32,
-    /// The last line.
+    /// The last line, counted from 1.
     pub line_end: u32,
     /// The first column, where one is given.
     pub column_start: Option<u32>,

@@ -1,49 +1,42 @@
-//! Subsections of line data.
+//! Debug subsections (`DEBUG_S_*`) of C13 line data.
 
 ghost use Rattle.std.specs.Prelude.{◌≡◌, ◌<◌, ◌^◌, length, IfOk};
-ghost use Rattle.pdb_container.specs.Buffer.{rest, Reads, ReadsOn};
+ghost use Rattle.pdb_container.specs.Buffer.{rest, Reads, ReadsInSteps};
 ghost use Rattle.pdb_container.specs.Fault.{Parses};
 ghost use Rattle.pdb_container.specs.Listing.{ending, Advances};
-ghost use Rattle.pdb_subsections.specs.Subsections.{padding, subsection_at, subsections_of, subsection_seen, split_seen, first_of, bytes_seen};
+ghost use Rattle.pdb_subsections.specs.Subsections.{subsection_at, subsections_of, subsection_seen, split_seen, first_of, bytes_seen};
 
-use pdb_container::{Error, FallibleIterator, ParseBuffer, Result};
+use pdb_container::{Error, FallibleIterator, ParseBuffer, Result, padding_behind};
 use std::marker::Model;
 
-/// The kind of a subsection of lines.
+/// `DEBUG_S_LINES`: the kind of a subsection of lines.
 pub const LINES: u32 = 0xf2;
 
-/// The kind of a subsection of the checksums of files.
+/// `DEBUG_S_FILECHKSMS`: the kind of a subsection of the checksums of source files.
 pub const FILE_CHECKSUMS: u32 = 0xf4;
 
-/// The kind of a subsection of the lines of inlined functions.
+/// `DEBUG_S_INLINEELINES`: the kind of a subsection of inlinees.
 pub const INLINEE_LINES: u32 = 0xf6;
 
-/// The kind of a subsection of what is used from other modules.
+/// `DEBUG_S_CROSSSCOPEIMPORTS`: the kind of a subsection of what is used from other modules.
 pub const CROSS_MODULE_IMPORTS: u32 = 0xf7;
 
-/// The kind of a subsection of what other modules may use.
+/// `DEBUG_S_CROSSSCOPEEXPORTS`: the kind of a subsection of what other modules may use.
 pub const CROSS_MODULE_EXPORTS: u32 = 0xf8;
 
-/// A subsection of line data.
+/// A debug subsection of C13 line data.
 #[derive(Clone, Copy, Debug)]
 pub struct DebugSubsection<'a> {
-    /// What it holds; with bit 31 set it is to be passed over.
+    /// Its kind (`DEBUG_S_*`); with bit 31 set it is to be passed over.
     pub kind: u32,
     /// Its bytes, behind its kind and its length.
     pub bytes: &'a [u8],
 }
 
-/// How many bytes lie between a place and the next multiple of 4.
-pub fn padding_behind(place: usize) -> usize
-    ensures { result ≡ padding place }
-{
-    (4 - place % 4) % 4
-}
-
 /// The subsection at the buffer's place. Where it is refused, the place may have moved.
 #[tactic(auto, using(pdb_container::proofs::Taking::drop_within), unfolding(crate::specs::Subsections::subsection_at, pdb_container::specs::Buffer::rest))]
 fn parse_subsection<'a>(buffer: &mut ParseBuffer<'a>) -> Result<DebugSubsection<'a>>
-    ensures value { ReadsOn subsection_seen result buffer.old buffer.new subsection_at }
+    ensures value { ReadsInSteps subsection_seen result buffer.old buffer.new subsection_at }
     ensures taken { IfOk result (λ _. length (rest buffer.new) < length (rest buffer.old)) }
 {
     let kind = buffer.parse_u32()?;
@@ -64,7 +57,7 @@ fn split_subsection(bytes: &[u8]) -> Result<(DebugSubsection<'_>, &[u8])>
     Ok((subsection, &bytes[buffer.pos()..]))
 }
 
-/// The subsections of line data, in their order. A fault is answered once.
+/// An iterator over the debug subsections of line data, in their order. A fault is returned once.
 #[derive(Debug, Drop)]
 pub struct DebugSubsectionIterator<'a> {
     bytes: &'a [u8],
@@ -80,7 +73,7 @@ impl<'a> Model for DebugSubsectionIterator<'a> {
 }
 
 impl<'a> DebugSubsectionIterator<'a> {
-    /// The subsections in these bytes.
+    /// The debug subsections in these bytes.
     pub fn new(bytes: &'a [u8]) -> DebugSubsectionIterator<'a>
         ensures { result ≡ subsections_of bytes.now }
     {
@@ -117,7 +110,7 @@ impl<'a> FallibleIterator for DebugSubsectionIterator<'a> {
     }
 }
 
-/// The bytes of the first subsection of a kind, if there is one. A fault behind it isn't met.
+/// The bytes of the first debug subsection of a kind, if there is one. A fault behind it isn't met.
 pub fn find_subsection(bytes: &[u8], kind: u32) -> Result<Option<&[u8]>>
     ensures { Parses bytes_seen result (first_of kind (subsections_of bytes.now)) }
 {

@@ -2,7 +2,7 @@
 #![tactic(auto)]
 
 ghost use Rattle.std.specs.Prelude.{◌≡◌, option_map, map, string_bytes};
-ghost use Rattle.pdb_symbolizer.specs.Words.{file_of};
+ghost use Rattle.pdb_symbolizer.specs.Words.{file_word};
 
 pub use pdb_report::{
     Error, LoadFault, RunFault, Symbolizer, Watched, finish_run, parse_address, run_frames,
@@ -51,7 +51,7 @@ fn read_words(rt: &(impl Env + AllocGlobal)) -> io::Result<Vec<String>> {
 
 /// The file by which addresses are answered: the second of two words of which the first is `frames`.
 fn file_to_answer_by(words: &[String]) -> Option<&str>
-    ensures { option_map (λ file. file.now) result ≡ file_of (map string_bytes words.now) }
+    ensures { option_map (λ file. file.now) result ≡ file_word (map string_bytes words.now) }
 {
     match words {
         [task, file] if task.as_str() == "frames" => Some(file.as_str()),
@@ -59,7 +59,7 @@ fn file_to_answer_by(words: &[String]) -> Option<&str>
     }
 }
 
-/// Writes a text, and answers the status; a write that fails is ignored.
+/// Writes a text, and returns the status; a write that fails is ignored.
 fn told(stream: &mut impl Write, text: &str, status: u8) -> ExitCode {
     let _ = stream.write_all(text.as_bytes());
     ExitCode::from(status)

@@ -7,7 +7,7 @@ use Rattle.pdb_container.specs.Fault.{Fault, SymbolTooShort, ◌>>=◌, refuse}
 use Rattle.pdb_container.specs.Fields.{number_at, bytes_of}
 use Rattle.pdb_symbols.specs.Kinds.{is_padding}
 use Rattle.pdb_container.specs.Listing.{before, ending}
-use Rattle.pdb_symbols.specs.Symbols.{Symbol, kind_of, symbol_at, found_or, next_within, next, next_by_step, followed, symbols_within, symbols_from, IsFound}
+use Rattle.pdb_symbols.specs.Symbols.{Symbol, kind_of, symbol_at, found_or, next_within, next, next_by_step, symbol_before, symbols_within, symbols_from, IsFound}
 
 -- ---- what stands at a place
 
@@ -66,11 +66,13 @@ read_at bytes place found =
 pub is_read : (bytes : List ℕ) (place : ℕ) (s : Symbol) (behind : ℕ) → symbol_at bytes place ≡ Ok (s, behind) → IsRead bytes place s behind
 is_read bytes place s behind read = read_at bytes place (s, behind) read
 
+-- the place behind a symbol lies past its own
 pub behind_further : (bytes : List ℕ) (place : ℕ) (s : Symbol) (behind : ℕ) → symbol_at bytes place ≡ Ok (s, behind) → place < behind
 behind_further bytes place s behind read =
     let r = is_read bytes place s behind read in
     omega arith
 
+-- the place behind a symbol lies within the list
 pub behind_within : (bytes : List ℕ) (place : ℕ) (s : Symbol) (behind : ℕ) → symbol_at bytes place ≡ Ok (s, behind) → behind ≤ length bytes
 behind_within bytes place s behind read = (is_read bytes place s behind read).within
 
@@ -105,24 +107,29 @@ within_step : (n m : ℕ) (bytes : List ℕ) (place : ℕ) → length bytes - pl
 unfolding next_within
 within_step n m bytes place enough enough' = same_next n (suc m) bytes place enough enough'
 
+-- the search from a place, by what stands there
 pub next_steps : (bytes : List ℕ) (place : ℕ) → next bytes place ≡ next_by_step bytes place
 unfolding next
 next_steps bytes place = within_step (length bytes) (length bytes) bytes place (omega arith) (omega arith)
 
+-- at the list's end and past it no symbol is found
 pub next_past : (bytes : List ℕ) (place : ℕ) → length bytes ≤ place → next bytes place ≡ Ok None
 next_past bytes place past = next_steps bytes place ∙ rw (le-leb (length bytes) place past) refl
 
 pub next_fault : (bytes : List ℕ) (place : ℕ) (e : Fault) → place < length bytes → symbol_at bytes place ≡ Err e → next bytes place ≡ Err e
 next_fault bytes place e there read = next_steps bytes place ∙ rw (lt-leb (length bytes) place there, read) refl
 
+-- a symbol that stands there and is no padding is found
 pub next_found : (bytes : List ℕ) (place : ℕ) (s : Symbol) (behind : ℕ) → place < length bytes → symbol_at bytes place ≡ Ok (s, behind) → is_padding (kind_of s) ≡ false
     → next bytes place ≡ Ok (Some (s, behind))
 next_found bytes place s behind there read is = next_steps bytes place ∙ rw (lt-leb (length bytes) place there, read, is) refl
 
+-- behind padding the search goes on
 pub next_behind : (bytes : List ℕ) (place : ℕ) (s : Symbol) (behind : ℕ) → place < length bytes → symbol_at bytes place ≡ Ok (s, behind) → is_padding (kind_of s) ≡ true
     → next bytes place ≡ next bytes behind
 next_behind bytes place s behind there read is = next_steps bytes place ∙ rw (lt-leb (length bytes) place there, read, is) refl
 
+-- a symbol that is refused is the search's fault
 pub next_refused : (bytes : List ℕ) (place : ℕ) (e : Fault) (total : Result (Option (Symbol × ℕ)) Fault) → place < length bytes → symbol_at bytes place ≡ Err e → next bytes place ≡ total → total ≡ Err e
 next_refused bytes place e total there read so_far = sym so_far ∙ next_fault bytes place e there read
 
@@ -167,6 +174,7 @@ found_ahead (suc n) bytes place found e =
       | inr le ↦ let none = rw (le-leb (length bytes) place le) at e in absurd (cc)
     ]
 
+-- a symbol that is found stands at the place or later, and is found from its index on
 pub is_found : (bytes : List ℕ) (place : ℕ) (s : Symbol) (behind : ℕ) → next bytes place ≡ Ok (Some (s, behind)) → IsFound bytes place s behind
 unfolding next
 is_found bytes place s behind e =
@@ -185,9 +193,9 @@ is_found bytes place s behind e =
 -- ---- the symbols from a place on
 
 same_followed : (n m : ℕ) (bytes : List ℕ) (place : ℕ) → ((behind : ℕ) → place < behind → symbols_within n bytes behind ≡ symbols_within m bytes behind)
-    → followed (symbols_within n bytes) (next bytes place) ≡ followed (symbols_within m bytes) (next bytes place)
+    → symbol_before (symbols_within n bytes) (next bytes place) ≡ symbol_before (symbols_within m bytes) (next bytes place)
 same_followed n m bytes place same =
-    elim (next bytes place) as (λ (r : Result (Option (Symbol × ℕ)) Fault). next bytes place ≡ r → followed (symbols_within n bytes) r ≡ followed (symbols_within m bytes) r) [
+    elim (next bytes place) as (λ (r : Result (Option (Symbol × ℕ)) Fault). next bytes place ≡ r → symbol_before (symbols_within n bytes) r ≡ symbol_before (symbols_within m bytes) r) [
       | Ok (Some found) ↦ λ e.
           let f = is_found bytes place found.0 found.1 e in
           let past = f.past in
@@ -204,22 +212,27 @@ same_symbols zero (suc m) bytes place enough enough' = rw (next_past bytes place
 same_symbols (suc n) zero bytes place enough enough' = rw (next_past bytes place (omega arith)) refl
 same_symbols (suc n) (suc m) bytes place enough enough' = same_followed n m bytes place (λ behind further. same_symbols n m bytes behind (omega arith) (omega arith))
 
-from_step : (n m : ℕ) (bytes : List ℕ) (place : ℕ) → length bytes - place ≤ n → length bytes - place ≤ suc m → symbols_within n bytes place ≡ followed (symbols_within m bytes) (next bytes place)
+from_step : (n m : ℕ) (bytes : List ℕ) (place : ℕ) → length bytes - place ≤ n → length bytes - place ≤ suc m → symbols_within n bytes place ≡ symbol_before (symbols_within m bytes) (next bytes place)
 unfolding symbols_within
 from_step n m bytes place enough enough' = same_symbols n (suc m) bytes place enough enough'
 
-pub symbols_steps : (bytes : List ℕ) (place : ℕ) → symbols_from bytes place ≡ followed (symbols_from bytes) (next bytes place)
+-- the symbols from a place on, by the search from there
+pub symbols_steps : (bytes : List ℕ) (place : ℕ) → symbols_from bytes place ≡ symbol_before (symbols_from bytes) (next bytes place)
 unfolding symbols_from
 symbols_steps bytes place = from_step (length bytes) (length bytes) bytes place (omega arith) (omega arith)
 
+-- a symbol that is found stands before those behind it
 pub symbols_more : (bytes : List ℕ) (place : ℕ) (s : Symbol) (behind : ℕ) → next bytes place ≡ Ok (Some (s, behind)) → symbols_from bytes place ≡ before s (symbols_from bytes behind)
-symbols_more bytes place s behind e = symbols_steps bytes place ∙ ap (followed (symbols_from bytes)) e
+symbols_more bytes place s behind e = symbols_steps bytes place ∙ ap (symbol_before (symbols_from bytes)) e
 
+-- where none is found the symbols end
 pub symbols_end : (bytes : List ℕ) (place : ℕ) → next bytes place ≡ Ok None → symbols_from bytes place ≡ ending None
-symbols_end bytes place e = symbols_steps bytes place ∙ ap (followed (symbols_from bytes)) e
+symbols_end bytes place e = symbols_steps bytes place ∙ ap (symbol_before (symbols_from bytes)) e
 
+-- where the search has a fault the symbols end with it
 pub symbols_fault : (bytes : List ℕ) (place : ℕ) (fault : Fault) → next bytes place ≡ Err fault → symbols_from bytes place ≡ ending (Some fault)
-symbols_fault bytes place fault e = symbols_steps bytes place ∙ ap (followed (symbols_from bytes)) e
+symbols_fault bytes place fault e = symbols_steps bytes place ∙ ap (symbol_before (symbols_from bytes)) e
 
+-- at the list's end and past it there are no symbols
 pub symbols_past : (bytes : List ℕ) (place : ℕ) → length bytes ≤ place → symbols_from bytes place ≡ ending None
 symbols_past bytes place past = symbols_end bytes place (next_past bytes place past)

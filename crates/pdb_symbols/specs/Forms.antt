@@ -14,6 +14,7 @@ use Rattle.pdb_symbols.specs.declared.symbol_data.SeparatedCodeSymbol.{Separated
 use Rattle.pdb_symbols.specs.declared.symbol_data.SymbolData.{SymbolData}
 use Rattle.pdb_symbols.specs.declared.symbol_data.SymbolData.TheVariants as symbols
 
+-- a public symbol (S_PUB32): flags, the place of what it names, and its name
 pub record PublicForm : Type 0 where
   pub code : Bool
   pub function : Bool
@@ -22,6 +23,7 @@ pub record PublicForm : Type 0 where
   pub offset : PdbInternalSectionOffset
   pub name : List ℕ
 
+-- a procedure (S_GPROC32, S_LPROC32 and their like); its length and its debug offsets are in bytes
 pub record ProcedureForm : Type 0 where
   pub global : Bool
   pub dpc : Bool
@@ -36,6 +38,7 @@ pub record ProcedureForm : Type 0 where
   pub flags : ℕ
   pub name : List ℕ
 
+-- a thunk (S_THUNK32), code that only leads to other code; its length in bytes
 pub record ThunkForm : Type 0 where
   pub parent : Option SymbolIndex
   pub end : SymbolIndex
@@ -45,6 +48,7 @@ pub record ThunkForm : Type 0 where
   pub kind : ℕ
   pub name : List ℕ
 
+-- an inlined call (S_INLINESITE, S_INLINESITE2), with the bytes of its annotations
 pub record InlineSiteForm : Type 0 where
   pub parent : Option SymbolIndex
   pub end : SymbolIndex
@@ -52,6 +56,7 @@ pub record InlineSiteForm : Type 0 where
   pub invocations : Option ℕ
   pub annotations : List ℕ
 
+-- what a symbol says
 pub data SymbolForm : Type 0 where
   Public : PublicForm → SymbolForm
   Procedure : ProcedureForm → SymbolForm
@@ -62,9 +67,11 @@ pub data SymbolForm : Type 0 where
   ProcedureEnd : SymbolForm
   InlineSiteEnd : SymbolForm
 
+-- what the value of a public symbol says
 abbrev pub public_form : PublicSymbol → PublicForm
 public_form s = record { code = s.code; function = s.function; managed = s.managed; msil = s.msil; offset = s.offset; name = raw_bytes s.name }
 
+-- what a procedure's value says
 abbrev pub procedure_form : ProcedureSymbol → ProcedureForm
 procedure_form s =
     record {
@@ -82,9 +89,11 @@ procedure_form s =
       name = raw_bytes s.name;
     }
 
+-- what a thunk's value says
 abbrev pub thunk_form : ThunkSymbol → ThunkForm
 thunk_form s = record { parent = s.parent; end = s.end; next = s.next; offset = s.offset; len = s.len; kind = s.kind; name = raw_bytes s.name }
 
+-- what an inlined call's value says
 abbrev pub inline_site_form : InlineSiteSymbol → InlineSiteForm
 inline_site_form s = record { parent = s.parent; end = s.end; inlinee = s.inlinee; invocations = s.invocations; annotations = annotation_bytes s.annotations }
 

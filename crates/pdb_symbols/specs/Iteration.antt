@@ -5,16 +5,16 @@ use Rattle.pdb_container.specs.Listing.{Listing}
 use Rattle.pdb_symbols.specs.Symbols.{Symbol, next, symbols_from}
 
 -- the list's bytes, and the place from which the next symbol is looked for
-pub record Iteration : Type 0 where
+pub record SymbolIteration : Type 0 where
   pub bytes : List ℕ
   pub place : ℕ
 
--- from a place on
-abbrev pub iteration_at : List ℕ → ℕ → Iteration
+-- a list of symbols from a place on
+abbrev pub iteration_at : List ℕ → ℕ → SymbolIteration
 iteration_at bytes place = record { bytes = bytes; place = place }
 
 -- what is found next, and the place behind it
-abbrev pub found_next : Iteration → Result (Option (Symbol × ℕ)) Fault
+abbrev pub found_next : SymbolIteration → Result (Option (Symbol × ℕ)) Fault
 found_next it = next it.bytes it.place
 
 -- the symbol alone
@@ -23,12 +23,13 @@ symbol_of (Ok (Some found)) = Ok (Some found.0)
 symbol_of (Ok None) = Ok None
 symbol_of (Err e) = Err e
 
--- What is gone over behind an answer: from behind the symbol on; behind none and behind a fault from the list's end on.
-abbrev pub behind_answer : List ℕ → Result (Option (Symbol × ℕ)) Fault → Iteration
-behind_answer bytes (Ok (Some found)) = iteration_at bytes found.1
-behind_answer bytes (Ok None) = iteration_at bytes (length bytes)
-behind_answer bytes (Err e) = iteration_at bytes (length bytes)
+-- What is still to come behind a step: from behind the symbol on; behind none and behind a fault from the list's end
+-- on.
+abbrev pub symbols_behind : List ℕ → Result (Option (Symbol × ℕ)) Fault → SymbolIteration
+symbols_behind bytes (Ok (Some found)) = iteration_at bytes found.1
+symbols_behind bytes (Ok None) = iteration_at bytes (length bytes)
+symbols_behind bytes (Err e) = iteration_at bytes (length bytes)
 
 -- the symbols that are still to come, and how they end
-abbrev pub symbols_left : Iteration → Listing Symbol
+abbrev pub symbols_left : SymbolIteration → Listing Symbol
 symbols_left it = symbols_from it.bytes it.place

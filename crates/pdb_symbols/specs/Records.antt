@@ -1,4 +1,5 @@
--- Symbols by their kinds: fields in order, and the fault of the first that can't be read.
+-- CodeView symbols by their kinds (S_*): fields in order, and the fault of the first that can't be read.
+-- The layouts are those of microsoft-pdb's cvinfo.h and of LLVM's CodeView Symbol Records.
 use Rattle.std.specs.Prelude.{ℕ, List, Option, Some, None, Result, Ok, Err, nat_lt, ◌==◌, if◌then◌else◌}
 use Rattle.std.specs.Int.{w8, w16, w32}
 use Rattle.pdb_container.specs.Fault.{Fault, UnimplementedSymbolKind, ◌>>=◌}
@@ -35,16 +36,17 @@ place_at bytes = do
   Ok (record { offset = offset.0; section = section.0 }, section.1)
 
 -- a name: a C string, but for the older kinds a Pascal string
-unfoldable pub name_at : ℕ → Reader (List ℕ)
-name_at kind bytes = if nat_lt kind 0x1100 then pascal_string_at bytes else c_string_at bytes
+unfoldable pub symbol_name_at : ℕ → Reader (List ℕ)
+symbol_name_at kind bytes = if nat_lt kind 0x1100 then pascal_string_at bytes else c_string_at bytes
 
 -- ---- forms
 
+-- S_PUB32: flags, a place, and a name
 unfoldable pub public_of : ℕ → List ℕ → Result PublicForm Fault
 public_of kind bytes = do
   flags ← number_at w32 bytes
   place ← place_at flags.1
-  name ← name_at kind place.1
+  name ← symbol_name_at kind place.1
   Ok
       record {
         code = has_bit flags.0 1;
@@ -55,8 +57,9 @@ public_of kind bytes = do
         name = name.0;
       }
 
-unfoldable pub procedure_of : ℕ → List ℕ → Result ProcedureForm Fault
-procedure_of kind bytes = do
+-- S_GPROC32, S_LPROC32 and their like: indices, length, debug offsets, type, place, flags, and name
+unfoldable pub procedure_form : ℕ → List ℕ → Result ProcedureForm Fault
+procedure_form kind bytes = do
   parent ← optional_index_at bytes
   end ← index_at parent.1
   next ← optional_index_at end.1
@@ -66,7 +69,7 @@ procedure_of kind bytes = do
   type ← type_index_at debug_end.1
   place ← place_at type.1
   flags ← number_at w8 place.1
-  name ← name_at kind flags.1
+  name ← symbol_name_at kind flags.1
   Ok
       record {
         global = is_global kind;
@@ -83,6 +86,7 @@ procedure_of kind bytes = do
         name = name.0;
       }
 
+-- S_THUNK32: indices, a place, the length in bytes, the kind of thunk, and a name
 unfoldable pub thunk_of : ℕ → List ℕ → Result ThunkForm Fault
 thunk_of kind bytes = do
   parent ← optional_index_at bytes
@@ -91,7 +95,7 @@ thunk_of kind bytes = do
   place ← place_at next.1
   len ← number_at w16 place.1
   leads_to ← number_at w8 len.1
-  name ← name_at kind leads_to.1
+  name ← symbol_name_at kind leads_to.1
   Ok
       record {
         parent = parent.0;
@@ -103,7 +107,7 @@ thunk_of kind bytes = do
         name = name.0;
       }
 
--- both offsets stand before both sections
+-- S_SEPCODE: indices, the length, flags, and two places, of which both offsets stand before both sections
 unfoldable pub separated_code_of : List ℕ → Result SeparatedCodeSymbol Fault
 separated_code_of bytes = do
   parent ← optional_index_at bytes
@@ -124,11 +128,11 @@ separated_code_of bytes = do
         parent_offset = record { offset = parent_offset.0; section = parent_section.0 };
       }
 
--- how often an inlined call is called, which the newer kind says
+-- how often an inlined call is called, which S_INLINESITE2 alone says
 unfoldable pub invocations_at : ℕ → Reader (Option ℕ)
 invocations_at kind bytes = if kind == 0x115d then (number_at w32 bytes >>= λ n. Ok (Some n.0, n.1)) else Ok (None, bytes)
 
--- the annotations stand behind all fields, to the end
+-- S_INLINESITE, S_INLINESITE2: indices, the inlinee, and the annotations, which go to the record's end
 unfoldable pub inline_site_of : ℕ → List ℕ → Result InlineSiteForm Fault
 inline_site_of kind bytes = do
   parent ← optional_index_at bytes
@@ -146,25 +150,27 @@ inline_site_of kind bytes = do
 
 -- ---- the form of a kind
 
+-- a form that was read, as what a symbol says
 abbrev pub as_form : {A : Type 0} → (A → SymbolForm) → Result A Fault → Result SymbolForm Fault
 as_form make read = read >>= λ form. Ok (make form)
 
--- what has no fields
-unfoldable pub end_of : ℕ → Result SymbolForm Fault
-end_of kind =
+-- the end of a scope (S_END, S_PROC_ID_END, S_INLINESITE_END), which has no fields
+unfoldable pub end_form : ℕ → Result SymbolForm Fault
+end_form kind =
     if kind == 0x0006 then Ok forms.ScopeEnd
     else (if kind == 0x114f then Ok forms.ProcedureEnd
     else (if kind == 0x114e then Ok forms.InlineSiteEnd
     else Err (UnimplementedSymbolKind kind)))
 
+-- what a symbol of a kind says, by the bytes behind the kind
 unfoldable pub form_of : ℕ → List ℕ → Result SymbolForm Fault
 form_of kind bytes =
     if is_public kind then as_form forms.Public (public_of kind bytes)
-    else (if is_procedure kind then as_form forms.Procedure (procedure_of kind bytes)
+    else (if is_procedure kind then as_form forms.Procedure (procedure_form kind bytes)
     else (if is_thunk kind then as_form forms.Thunk (thunk_of kind bytes)
     else (if is_separated_code kind then as_form forms.SeparatedCode (separated_code_of bytes)
     else (if is_inline_site kind then as_form forms.InlineSite (inline_site_of kind bytes)
-    else end_of kind))))
+    else end_form kind))))
 
 -- what a symbol says
 unfoldable pub symbol_form_of : Symbol → Result SymbolForm Fault

@@ -1,4 +1,5 @@
 -- Lists of symbols: what stands at a place of their bytes, and the symbols from a place on.
+-- The layout is that of LLVM's CodeView Symbol Records, as the pdb crate reads it.
 use Rattle.std.specs.Prelude.{◌≡◌, ℕ, zero, suc, ◌+◌, ◌≤◌, List, length, take, drop, false, nat_lt, nat_le, if◌then◌else◌, Option, None, Some, Result, Ok, Err}
 use Rattle.std.specs.Int.{w16, from_le_bytes}
 use Rattle.pdb_container.specs.Fault.{Fault, SymbolTooShort, ◌>>=◌, refuse}
@@ -11,11 +12,11 @@ pub record Symbol : Type 0 where
   pub index : ℕ
   pub bytes : List ℕ
 
--- its first two bytes
+-- a symbol's kind: its first two bytes
 abbrev pub kind_of : Symbol → ℕ
 kind_of s = from_le_bytes w16 (take 2 s.bytes)
 
--- what stands behind them
+-- a symbol's payload: what stands behind its kind
 abbrev pub payload_of : Symbol → List ℕ
 payload_of s = drop 2 s.bytes
 
@@ -40,21 +41,21 @@ next_within (suc steps) bytes place = if nat_le (length bytes) place then Ok Non
 unfoldable pub next : List ℕ → ℕ → Result (Option (Symbol × ℕ)) Fault
 next bytes place = next_within (length bytes) bytes place
 
--- What is found from a place on, by what stands there: none at the end and past it; a fault; a symbol; or, behind what lies
--- between symbols, what is found from there on.
+-- What is found from a place on, by what stands there: none at the end and past it; a fault; a symbol; or, behind what
+-- lies between symbols, what is found from there on.
 abbrev pub next_by_step : List ℕ → ℕ → Result (Option (Symbol × ℕ)) Fault
 next_by_step bytes place = if nat_le (length bytes) place then Ok None else (symbol_at bytes place >>= found_or (next bytes))
 
 -- a symbol that was found, before those behind it; or the end
-abbrev pub followed : (ℕ → Listing Symbol) → Result (Option (Symbol × ℕ)) Fault → Listing Symbol
-followed others (Ok (Some found)) = before found.0 (others found.1)
-followed others (Ok None) = ending None
-followed others (Err e) = ending (Some e)
+abbrev pub symbol_before : (ℕ → Listing Symbol) → Result (Option (Symbol × ℕ)) Fault → Listing Symbol
+symbol_before others (Ok (Some found)) = before found.0 (others found.1)
+symbol_before others (Ok None) = ending None
+symbol_before others (Err e) = ending (Some e)
 
 -- the symbols from a place on, where they are at most so many
 unfoldable pub symbols_within : ℕ → List ℕ → ℕ → Listing Symbol
 symbols_within zero bytes place = ending None
-symbols_within (suc steps) bytes place = followed (symbols_within steps bytes) (next bytes place)
+symbols_within (suc steps) bytes place = symbol_before (symbols_within steps bytes) (next bytes place)
 
 -- The symbols from a place on in their order, and how they end.
 unfoldable pub symbols_from : List ℕ → ℕ → Listing Symbol

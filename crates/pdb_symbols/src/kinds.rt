@@ -1,69 +1,70 @@
-//! Kinds of symbols: the numbers that say what a symbol is. `_ST` marks an older form, whose name is a Pascal string.
+//! Kinds of CodeView symbols (`S_*`, SYM_ENUM_e of microsoft-pdb's cvinfo.h): the numbers that say what a symbol is.
+//! `_ST` marks an older form, whose name is a Pascal string.
 
 ghost use Rattle.std.specs.Prelude.{◌≡◌};
 ghost use Rattle.pdb_symbols.specs.Kinds.{is_padding as is_padding_kind, is_public as is_public_kind, is_global as is_global_kind, is_dpc as is_dpc_kind, is_procedure as is_procedure_kind, is_thunk as is_thunk_kind, is_separated_code as is_separated_code_kind, is_inline_site as is_inline_site_kind, starts_scope as starts_scope_kind, ends_scope as ends_scope_kind, has_form as has_form_kind};
 
-/// The end of a scope.
+/// The end of a scope (0x0006).
 pub const S_END: u16 = 0x0006;
 
-/// Bytes that lie between symbols.
+/// Padding between symbols (0x0007).
 pub const S_SKIP: u16 = 0x0007;
 
-/// A thunk.
+/// A thunk, in the older form (0x0206).
 pub const S_THUNK32_ST: u16 = 0x0206;
 
-/// Bytes that lie between symbols.
+/// Padding between symbols (0x0402).
 pub const S_ALIGN: u16 = 0x0402;
 
-/// A public symbol.
+/// A public symbol, in the older form (0x1009).
 pub const S_PUB32_ST: u16 = 0x1009;
 
-/// A procedure of one module.
+/// A procedure of one module, in the older form (0x100a).
 pub const S_LPROC32_ST: u16 = 0x100a;
 
-/// A procedure that other modules see.
+/// A procedure that other modules see, in the older form (0x100b).
 pub const S_GPROC32_ST: u16 = 0x100b;
 
-/// A thunk.
+/// A thunk (0x1102).
 pub const S_THUNK32: u16 = 0x1102;
 
-/// A public symbol.
+/// A public symbol (0x110e).
 pub const S_PUB32: u16 = 0x110e;
 
-/// A procedure of one module.
+/// A procedure of one module (0x110f).
 pub const S_LPROC32: u16 = 0x110f;
 
-/// A procedure that other modules see.
+/// A procedure that other modules see (0x1110).
 pub const S_GPROC32: u16 = 0x1110;
 
-/// Code of a procedure that lies apart from it.
+/// Separated code of a procedure, which lies apart from it (0x1132).
 pub const S_SEPCODE: u16 = 0x1132;
 
-/// A procedure of one module, whose type is an id.
+/// A procedure of one module, whose type is an id (0x1146).
 pub const S_LPROC32_ID: u16 = 0x1146;
 
-/// A procedure that other modules see, whose type is an id.
+/// A procedure that other modules see, whose type is an id (0x1147).
 pub const S_GPROC32_ID: u16 = 0x1147;
 
-/// An inlined call.
+/// An inline site: an inlined call (0x114d).
 pub const S_INLINESITE: u16 = 0x114d;
 
-/// The end of an inlined call.
+/// The end of an inline site (0x114e).
 pub const S_INLINESITE_END: u16 = 0x114e;
 
-/// The end of a procedure.
+/// The end of a procedure whose type is an id (0x114f).
 pub const S_PROC_ID_END: u16 = 0x114f;
 
-/// A procedure of one module that is called deferred.
+/// A procedure of one module that is called deferred (0x1155).
 pub const S_LPROC32_DPC: u16 = 0x1155;
 
-/// A procedure of one module that is called deferred, whose type is an id.
+/// A procedure of one module that is called deferred, whose type is an id (0x1156).
 pub const S_LPROC32_DPC_ID: u16 = 0x1156;
 
-/// An inlined call, with how often it is called.
+/// An inline site, with how often it is called (0x115d).
 pub const S_INLINESITE2: u16 = 0x115d;
 
-/// Whether the kind is that of bytes between symbols.
+/// Whether the kind is that of padding between symbols.
 pub fn is_padding(kind: u16) -> bool
     ensures { result ≡ is_padding_kind kind }
 {
@@ -109,21 +110,22 @@ pub fn is_thunk(kind: u16) -> bool
     kind == S_THUNK32 || kind == S_THUNK32_ST
 }
 
-/// Whether the kind is that of a procedure's code that lies apart.
+/// Whether the kind is that of separated code.
 pub fn is_separated_code(kind: u16) -> bool
     ensures { result ≡ is_separated_code_kind kind }
 {
     kind == S_SEPCODE
 }
 
-/// Whether the kind is an inlined call's.
+/// Whether the kind is an inline site's.
 pub fn is_inline_site(kind: u16) -> bool
     ensures { result ≡ is_inline_site_kind kind }
 {
     kind == S_INLINESITE || kind == S_INLINESITE2
 }
 
-/// Whether the kind is that of a symbol in which others may lie: a procedure, a thunk, separated code or an inlined call.
+/// Whether the kind is that of a symbol in which others may lie: a procedure, a thunk, separated code or an inline
+/// site.
 pub fn starts_scope(kind: u16) -> bool
     ensures { result ≡ starts_scope_kind kind }
 {

@@ -1,10 +1,10 @@
 //! Laws of the definitions: functions that do nothing, whose contracts are proved.
 
 ghost use Rattle.std.specs.Prelude.{◌≡◌, ℕ, List, Ok, Some};
-ghost use Rattle.pdb_symbols.specs.Symbols.{Symbol as SymbolValue, next, next_by_step, followed, symbols_from, IsFound};
+ghost use Rattle.pdb_symbols.specs.Symbols.{Symbol as SymbolValue, next, next_by_step, symbol_before, symbols_from, IsFound};
 
-/// From a place on, none is found at the end and past it. Else what stands there counts: a fault is answered, a symbol is
-/// found, and behind what lies between symbols the search goes on.
+/// From a place on, none is found at the end and past it. Else what stands there counts: a fault is returned, a symbol
+/// is found, and behind what lies between symbols the search goes on.
 pub fn next_by_one_step()
     ensures { (bytes : List ℕ) (place : ℕ) → next bytes place ≡ next_by_step bytes place }
 {}
@@ -16,5 +16,5 @@ pub fn found_symbols()
 
 /// The symbols from a place on are the first one and those behind it, or end as the search for it does.
 pub fn symbols_by_one_step()
-    ensures { (bytes : List ℕ) (place : ℕ) → symbols_from bytes place ≡ followed (symbols_from bytes) (next bytes place) }
+    ensures { (bytes : List ℕ) (place : ℕ) → symbols_from bytes place ≡ symbol_before (symbols_from bytes) (next bytes place) }
 {}

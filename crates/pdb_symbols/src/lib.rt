@@ -1,4 +1,5 @@
-//! Symbols of a program and of its modules: their lists, and what each symbol says.
+//! CodeView symbols of a program and of its modules: their lists, and what each symbol says. The layouts are those of
+//! microsoft-pdb's cvinfo.h and of LLVM's CodeView Symbol Records.
 #![tactic(auto)]
 
 pub mod kinds;

@@ -1,12 +1,12 @@
 //! What a symbol's bytes say.
 
 ghost use Rattle.std.specs.Prelude.{◌≡◌};
-ghost use Rattle.pdb_container.specs.Buffer.{rest, ReadsAll};
+ghost use Rattle.pdb_container.specs.Buffer.{rest, ParsesFront};
 ghost use Rattle.pdb_container.specs.Fault.{Parses};
 ghost use Rattle.pdb_container.specs.RawString.{raw_bytes};
 ghost use Rattle.pdb_symbols.specs.Forms as forms;
 ghost use Rattle.pdb_symbols.specs.Forms.{symbol_form};
-ghost use Rattle.pdb_symbols.specs.Records.{index_at, optional_index_at, place_at, name_at, invocations_at, public_of, procedure_of, thunk_of, separated_code_of, inline_site_of, as_form, end_of, form_of, symbol_form_of};
+ghost use Rattle.pdb_symbols.specs.Records.{index_at, optional_index_at, place_at, symbol_name_at, invocations_at, public_of, procedure_form, thunk_of, separated_code_of, inline_site_of, as_form, end_form, form_of, symbol_form_of};
 
 use crate::kinds::{
     S_END, S_INLINESITE_END, S_INLINESITE2, S_PROC_ID_END, has_form, is_dpc, is_global,
@@ -22,7 +22,7 @@ use pdb_container::{Error, ParseBuffer, RawString, Result};
 use pdb_indices::SymbolIndex;
 
 impl<'t> Symbol<'t> {
-    /// What it says.
+    /// What the symbol says, by its kind (`S_*`).
     ///
     /// # Errors
     /// `UnimplementedSymbolKind` for a kind without a form, `UnexpectedEof` where bytes are missing.
@@ -34,8 +34,8 @@ impl<'t> Symbol<'t> {
     }
 }
 
-/// What the bytes behind a kind say. Most symbols of a module are of kinds without a form: these are answered first.
-#[tactic(auto, unfolding(crate::specs::Records::form_of, crate::specs::Records::end_of))]
+/// What the bytes behind a kind say. Most symbols of a module are of kinds without a form: these are told first.
+#[tactic(auto, unfolding(crate::specs::Records::form_of, crate::specs::Records::end_form))]
 fn parse_form(kind: u16, payload: &[u8]) -> Result<SymbolData<'_>>
     ensures { Parses symbol_form result (form_of kind payload.now) }
 {
@@ -58,9 +58,9 @@ fn parse_form(kind: u16, payload: &[u8]) -> Result<SymbolData<'_>>
 }
 
 /// What a kind without fields says.
-#[tactic(auto, unfolding(crate::specs::Records::end_of))]
+#[tactic(auto, unfolding(crate::specs::Records::end_form))]
 fn parse_end<'t>(kind: u16) -> Result<SymbolData<'t>>
-    ensures { Parses symbol_form result (end_of kind) }
+    ensures { Parses symbol_form result (end_form kind) }
 {
     match kind {
         S_END => Ok(SymbolData::ScopeEnd),
@@ -72,7 +72,7 @@ fn parse_end<'t>(kind: u16) -> Result<SymbolData<'t>>
 
 #[tactic(auto, unfolding(crate::specs::Records::index_at))]
 fn parse_index(buffer: &mut ParseBuffer<'_>) -> Result<SymbolIndex>
-    ensures { ReadsAll (λ x. x) result (rest buffer.new) (index_at (rest buffer.old)) }
+    ensures { ParsesFront (λ x. x) result (rest buffer.new) (index_at (rest buffer.old)) }
 {
     Ok(SymbolIndex(buffer.parse_u32()?))
 }
@@ -80,7 +80,7 @@ fn parse_index(buffer: &mut ParseBuffer<'_>) -> Result<SymbolIndex>
 /// A symbol's index, none at 0.
 #[tactic(auto, unfolding(crate::specs::Records::optional_index_at))]
 fn parse_optional_index(buffer: &mut ParseBuffer<'_>) -> Result<Option<SymbolIndex>>
-    ensures { ReadsAll (λ x. x) result (rest buffer.new) (optional_index_at (rest buffer.old)) }
+    ensures { ParsesFront (λ x. x) result (rest buffer.new) (optional_index_at (rest buffer.old)) }
 {
     let number = buffer.parse_u32()?;
     if number == 0 {
@@ -92,7 +92,7 @@ fn parse_optional_index(buffer: &mut ParseBuffer<'_>) -> Result<Option<SymbolInd
 /// An offset, and a section's number.
 #[tactic(auto, unfolding(crate::specs::Records::place_at))]
 fn parse_place(buffer: &mut ParseBuffer<'_>) -> Result<PdbInternalSectionOffset>
-    ensures { ReadsAll (λ x. x) result (rest buffer.new) (place_at (rest buffer.old)) }
+    ensures { ParsesFront (λ x. x) result (rest buffer.new) (place_at (rest buffer.old)) }
 {
     let offset = buffer.parse_u32()?;
     let section = buffer.parse_u16()?;
@@ -100,9 +100,9 @@ fn parse_place(buffer: &mut ParseBuffer<'_>) -> Result<PdbInternalSectionOffset>
 }
 
 /// A name: for kinds below 0x1100 a Pascal string, else a C string.
-#[tactic(auto, unfolding(crate::specs::Records::name_at))]
+#[tactic(auto, unfolding(crate::specs::Records::symbol_name_at))]
 fn parse_name<'t>(kind: u16, buffer: &mut ParseBuffer<'t>) -> Result<RawString<'t>>
-    ensures { ReadsAll raw_bytes result (rest buffer.new) (name_at kind (rest buffer.old)) }
+    ensures { ParsesFront raw_bytes result (rest buffer.new) (symbol_name_at kind (rest buffer.old)) }
 {
     if kind < 0x1100 {
         buffer.parse_u8_pascal_string()
@@ -129,9 +129,9 @@ fn parse_public(kind: u16, payload: &[u8]) -> Result<SymbolData<'_>>
     }))
 }
 
-#[tactic(auto, unfolding(crate::specs::Records::procedure_of))]
+#[tactic(auto, unfolding(crate::specs::Records::procedure_form))]
 fn parse_procedure(kind: u16, payload: &[u8]) -> Result<SymbolData<'_>>
-    ensures { Parses symbol_form result (as_form forms.Procedure (procedure_of kind payload.now)) }
+    ensures { Parses symbol_form result (as_form forms.Procedure (procedure_form kind payload.now)) }
 {
     let mut buffer = ParseBuffer::from(payload);
     let parent = parse_optional_index(&mut buffer)?;
@@ -212,7 +212,7 @@ fn parse_separated_code(payload: &[u8]) -> Result<SymbolData<'_>>
 /// How often an inlined call is called, which the newer kind says.
 #[tactic(auto, unfolding(crate::specs::Records::invocations_at))]
 fn parse_invocations(kind: u16, buffer: &mut ParseBuffer<'_>) -> Result<Option<u32>>
-    ensures { ReadsAll (λ x. x) result (rest buffer.new) (invocations_at kind (rest buffer.old)) }
+    ensures { ParsesFront (λ x. x) result (rest buffer.new) (invocations_at kind (rest buffer.old)) }
 {
     if kind != S_INLINESITE2 {
         return Ok(None);

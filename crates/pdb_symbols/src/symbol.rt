@@ -10,7 +10,8 @@ use pdb_container::{Error, ParseBuffer, Result};
 use pdb_indices::SymbolIndex;
 use std::marker::Model;
 
-/// A symbol: the place of its length in the bytes of its list, and the bytes behind the length, which begin with its kind.
+/// A CodeView symbol: the place of its length in the bytes of its list, and the bytes behind the length, which begin
+/// with its kind.
 #[derive(Debug, Drop)]
 pub struct Symbol<'t> {
     index: SymbolIndex,
@@ -29,36 +30,36 @@ impl<'t> Model for Symbol<'t> {
 }
 
 impl<'t> Symbol<'t> {
-    /// The place of its length in the bytes of its list.
+    /// The symbol index: the place of its length in the bytes of its list.
     pub fn index(&self) -> SymbolIndex
         ensures { result.0 ≡ self.now.index }
     {
         self.index
     }
 
-    /// The number of its kind.
+    /// The number of its kind (`S_*`).
     pub fn raw_kind(&self) -> u16
         ensures { result ≡ kind_of self.now }
     {
         u16::from_le_bytes([self.bytes[0], self.bytes[1]])
     }
 
-    /// Its bytes behind the length: the kind, and what follows it.
+    /// The record's bytes behind the length: the kind, and what follows it.
     pub fn raw_bytes(&self) -> &'t [u8]
         ensures { result.now ≡ self.now.bytes }
     {
         self.bytes
     }
 
-    /// Whether it is a procedure, a thunk, separated code or an inlined call, by its kind: then other symbols may lie in it.
-    /// It isn't parsed for that, so a walk asks before it parses.
+    /// Whether it is a procedure, a thunk, separated code or an inline site, by its kind: then other symbols may lie in
+    /// it. It isn't parsed for that, so a walk asks before it parses.
     pub fn starts_scope(&self) -> bool
         ensures { result ≡ starts_scope (kind_of self.now) }
     {
         kinds::starts_scope(self.raw_kind())
     }
 
-    /// Whether it ends such a symbol, by its kind.
+    /// Whether it ends a procedure, a thunk, separated code or an inline site, by its kind.
     pub fn ends_scope(&self) -> bool
         ensures { result ≡ ends_scope (kind_of self.now) }
     {

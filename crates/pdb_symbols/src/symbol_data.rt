@@ -1,54 +1,55 @@
-//! What a symbol says.
+//! What a CodeView symbol says (`S_*`).
 
 use pdb_addresses::PdbInternalSectionOffset;
 use pdb_annotations::InlineSiteSymbol;
 use pdb_container::RawString;
 use pdb_indices::{SymbolIndex, TypeIndex};
 
-/// What a symbol says, in the forms that are read.
+/// A CodeView symbol's form: what it says, in the forms that are read.
 #[derive(Clone, Copy, Debug)]
 pub enum SymbolData<'t> {
-    /// A name that other modules see.
+    /// A public symbol (`S_PUB32`): a name that other modules see.
     Public(PublicSymbol<'t>),
-    /// A function's code.
+    /// A procedure (`S_GPROC32`, `S_LPROC32` and their like): a function's code.
     Procedure(ProcedureSymbol<'t>),
-    /// A piece of code that leads to another.
+    /// A thunk (`S_THUNK32`): a piece of code that leads to another.
     Thunk(ThunkSymbol<'t>),
-    /// Code of a procedure that lies apart from it.
+    /// Separated code (`S_SEPCODE`) of a procedure, which lies apart from it.
     SeparatedCode(SeparatedCodeSymbol),
-    /// An inlined call.
+    /// An inline site (`S_INLINESITE`, `S_INLINESITE2`): an inlined call.
     InlineSite(InlineSiteSymbol<'t>),
-    /// The end of a symbol that others lie in.
+    /// The end of a symbol that others lie in (`S_END`).
     ScopeEnd,
-    /// The end of a procedure.
+    /// The end of a procedure whose type is an id (`S_PROC_ID_END`).
     ProcedureEnd,
-    /// The end of an inlined call.
+    /// The end of an inline site (`S_INLINESITE_END`).
     InlineSiteEnd,
 }
 
-/// A name that other modules see.
+/// A public symbol (`S_PUB32`): a name that other modules see.
 #[derive(Clone, Copy, Debug, PartialEq, Eq)]
 pub struct PublicSymbol<'t> {
-    /// It is code.
+    /// Whether it is code: bit 0 of its flags.
     pub code: bool,
-    /// It is a function.
+    /// Whether it is a function: bit 1.
     pub function: bool,
-    /// It is managed code or data.
+    /// Whether it is managed code or data: bit 2.
     pub managed: bool,
-    /// It is code in an intermediate language.
+    /// Whether it is code in an intermediate language: bit 3.
     pub msil: bool,
-    /// Where it lies.
+    /// Where it lies: a section's number, counted from 1, and an offset in bytes.
     pub offset: PdbInternalSectionOffset,
     /// Its name as it is stored.
     pub name: RawString<'t>,
 }
 
-/// A function's code. An index 0 for the symbol around it or the next one is none.
+/// A procedure (`S_GPROC32`, `S_LPROC32` and their like): a function's code. An index 0 for the symbol around it or the
+/// next one is none.
 #[derive(Clone, Copy, Debug, PartialEq, Eq)]
 pub struct ProcedureSymbol<'t> {
-    /// Other modules see it, by its kind.
+    /// Whether other modules see it, by its kind.
     pub global: bool,
-    /// It is called deferred, by its kind.
+    /// Whether it is called deferred, by its kind.
     pub dpc: bool,
     /// The symbol around it, where one is named.
     pub parent: Option<SymbolIndex>,
@@ -56,15 +57,15 @@ pub struct ProcedureSymbol<'t> {
     pub end: SymbolIndex,
     /// The next symbol of its kind, where one is named.
     pub next: Option<SymbolIndex>,
-    /// How many bytes of code.
+    /// How many bytes of code it has.
     pub len: u32,
     /// Where its body begins, in bytes from its start.
     pub dbg_start_offset: u32,
     /// Where its body ends, in bytes from its start.
     pub dbg_end_offset: u32,
-    /// Its type, or its id.
+    /// The index of its type, or of its id where its kind says so (`_ID`).
     pub type_index: TypeIndex,
-    /// Where its code begins.
+    /// Where its code begins: a section's number, counted from 1, and an offset in bytes.
     pub offset: PdbInternalSectionOffset,
     /// Its flags as they are stored.
     pub flags: u8,
@@ -72,7 +73,8 @@ pub struct ProcedureSymbol<'t> {
     pub name: RawString<'t>,
 }
 
-/// A piece of code that leads to another. An index 0 for the symbol around it or the next one is none.
+/// A thunk (`S_THUNK32`): a piece of code that leads to another. An index 0 for the symbol around it or the next one is
+/// none.
 #[derive(Clone, Copy, Debug, PartialEq, Eq)]
 pub struct ThunkSymbol<'t> {
     /// The symbol around it, where one is named.
@@ -81,9 +83,9 @@ pub struct ThunkSymbol<'t> {
     pub end: SymbolIndex,
     /// The next symbol of its kind, where one is named.
     pub next: Option<SymbolIndex>,
-    /// Where its code begins.
+    /// Where its code begins: a section's number, counted from 1, and an offset in bytes.
     pub offset: PdbInternalSectionOffset,
-    /// How many bytes of code.
+    /// How many bytes of code it has.
     pub len: u16,
     /// What it leads to, as it is stored.
     pub kind: u8,
@@ -91,19 +93,19 @@ pub struct ThunkSymbol<'t> {
     pub name: RawString<'t>,
 }
 
-/// Code of a procedure that lies apart from it. An index 0 for the symbol around it is none.
+/// Separated code (`S_SEPCODE`) of a procedure, which lies apart from it. An index 0 for the symbol around it is none.
 #[derive(Clone, Copy, Debug, PartialEq, Eq)]
 pub struct SeparatedCodeSymbol {
     /// The symbol around it, where one is named.
     pub parent: Option<SymbolIndex>,
     /// The symbol that ends it.
     pub end: SymbolIndex,
-    /// How many bytes of code.
+    /// How many bytes of code it has.
     pub len: u32,
     /// Its flags as they are stored.
     pub flags: u32,
-    /// Where its code begins.
+    /// Where its code begins: a section's number, counted from 1, and an offset in bytes.
     pub offset: PdbInternalSectionOffset,
-    /// Where the code of its procedure begins.
+    /// Where the code of its procedure begins: a section's number, counted from 1, and an offset in bytes.
     pub parent_offset: PdbInternalSectionOffset,
 }

@@ -1,9 +1,9 @@
-//! Symbols in their order.
+//! Symbol iterators: the symbols of a list in their order.
 
 ghost use Rattle.std.specs.Prelude.{◌≡◌, ◌<◌, ◌≤◌, ◌^◌, length};
 ghost use Rattle.pdb_container.specs.Fault.{Parses};
 ghost use Rattle.pdb_container.specs.Listing.{Advances};
-ghost use Rattle.pdb_symbols.specs.Iteration.{iteration_at, found_next, symbol_of, behind_answer, symbols_left};
+ghost use Rattle.pdb_symbols.specs.Iteration.{iteration_at, found_next, symbol_of, symbols_behind, symbols_left};
 ghost use Rattle.pdb_symbols.specs.Symbols.{next};
 
 use crate::kinds::is_padding;
@@ -12,8 +12,8 @@ use pdb_container::{Error, FallibleIterator, Result};
 use pdb_indices::SymbolIndex;
 use std::marker::Model;
 
-/// The symbols of a list in their order. At the end and behind an error it stands at the list's end, and answers `None` until
-/// it is sent to a place again.
+/// An iterator over the symbols of a list in their order. At the end and behind an error it stands at the list's end,
+/// and returns `None` until it is sent to a place again.
 #[derive(Debug, Drop)]
 pub struct SymbolIter<'t> {
     bytes: &'t [u8],
@@ -22,9 +22,9 @@ pub struct SymbolIter<'t> {
 
 impl<'t> Model for SymbolIter<'t> {
     ghost use Rattle.std.specs.Prelude.{◌<◌, ◌^◌, length};
-    ghost use Rattle.pdb_symbols.specs.Iteration.{Iteration};
+    ghost use Rattle.pdb_symbols.specs.Iteration.{SymbolIteration};
 
-    ghost Value = { Iteration };
+    ghost Value = { SymbolIteration };
 
     ghost view = { λ it. record { bytes = it.bytes.now; place = it.place } };
 
@@ -43,22 +43,23 @@ impl<'t> SymbolIter<'t> {
         }
     }
 
-    /// Goes to a place. The next symbol is the first one there or later; at the end, and past it, there is none.
+    /// Goes to a place, in bytes. The next symbol is the first one there or later; at the end, and past it, there is
+    /// none.
     pub fn seek(&mut self, index: SymbolIndex)
         ensures { self.new ≡ iteration_at self.old.bytes index.0 }
     {
         self.place = index.0 as usize;
     }
 
-    /// The first symbol at a place or later, as the next symbol once the iterator was sent there: it goes on behind that
-    /// symbol. Where there is none, and after an error, it goes to the list's end, and answers `None` until it is sent to a
-    /// place again.
+    /// The first symbol at a place or later, as the next symbol once the iterator was sent there: it goes on behind
+    /// that symbol. Where there is none, and after an error, it goes to the list's end, and returns `None` until it is
+    /// sent to a place again.
     ///
     /// # Errors
     /// `SymbolTooShort` and `UnexpectedEof`.
     pub fn skip_to(&mut self, index: SymbolIndex) -> Result<Option<Symbol<'t>>>
         ensures symbol { Parses (λ s. s) result (symbol_of (next self.old.bytes index.0)) }
-        ensures state { self.new ≡ behind_answer self.old.bytes (next self.old.bytes index.0) }
+        ensures state { self.new ≡ symbols_behind self.old.bytes (next self.old.bytes index.0) }
     {
         self.seek(index);
         self.next()
@@ -73,11 +74,11 @@ impl<'t> FallibleIterator for SymbolIter<'t> {
     ghost has_ended = { λ it. length it.bytes ≤ it.place };
 
     ghost next_gives = { λ old result new. Parses (λ s. s) result (symbol_of (found_next old))
-        × (new ≡ behind_answer old.bytes (found_next old))
+        × (new ≡ symbols_behind old.bytes (found_next old))
         × Advances (λ s. s) (symbols_left old) result (symbols_left new) };
 
-    /// The next symbol: the first one at the iterator's place or later. Where there is none, and after an error, it goes to the
-    /// list's end.
+    /// The next symbol: the first one at the iterator's place or later. Where there is none, and after an error, it
+    /// goes to the list's end.
     ///
     /// # Errors
     /// `SymbolTooShort` and `UnexpectedEof`.

@@ -1,4 +1,4 @@
-//! Tables of symbols.
+//! Symbol tables: the symbols that a stream holds.
 
 ghost use Rattle.std.specs.Prelude.{◌≡◌};
 ghost use Rattle.pdb_symbols.specs.Iteration.{iteration_at};
@@ -8,7 +8,7 @@ use pdb_container::Stream;
 use pdb_indices::SymbolIndex;
 use std::marker::Model;
 
-/// The symbols that a stream holds from its first byte on.
+/// A symbol table: the symbols that a stream holds from its first byte on.
 #[derive(Debug, Drop)]
 pub struct SymbolTable<'s> {
     stream: Stream<'s>,
@@ -23,7 +23,7 @@ impl<'s> Model for SymbolTable<'s> {
 }
 
 impl<'s> SymbolTable<'s> {
-    /// The table that a stream holds.
+    /// The symbol table that a stream holds.
     pub fn new(stream: Stream<'s>) -> SymbolTable<'s>
         ensures { result ≡ stream.entry }
     {
@@ -37,7 +37,7 @@ impl<'s> SymbolTable<'s> {
         self.iter_at(SymbolIndex(0))
     }
 
-    /// The symbols from a place on.
+    /// The symbols from a place on, in bytes.
     pub fn iter_at(&self, index: SymbolIndex) -> SymbolIter<'_>
         ensures { result ≡ iteration_at self.now index.0 }
     {

@@ -7,11 +7,12 @@ use Rattle.std.proofs.lemmas.Bool.{cases_Bool, cases_lt, le-ltb, lt-ltb, ltb-tru
 use Rattle.std.proofs.lemmas.List.{at_drop_more, append_assoc, append-nil, drop_all, length-drop}
 use Rattle.pdb_container.specs.Fault.{Fault, UnexpectedEof, ◌>>=◌}
 use Rattle.pdb_container.specs.Fields.{c_string_at, cut_at}
-use Rattle.pdb_container.specs.Names.{name_in}
-use Rattle.pdb_symbols_modules.specs.NamesSeen.{nul_places, is_reached}
+use Rattle.pdb_container.specs.StringTable.{name_in}
+use Rattle.pdb_symbols_modules.specs.NameBlock.{nul_places, is_reached}
 
 -- ---- as they are listed
 
+-- one NUL's place more
 pub places_more : (bytes front total : List ℕ) (i d : ℕ) → i < length bytes → get_or bytes i d ≡ 0 → front ++ nul_places i (drop i bytes) ≡ total
     → front ++ i ∷ [] ++ nul_places (i + 1) (drop (i + 1) bytes) ≡ total
 unfolding nul_places
@@ -19,6 +20,7 @@ places_more bytes front total i d lt nul so_far =
     append_assoc front (i ∷ []) (nul_places (i + 1) (drop (i + 1) bytes))
     ∙ sym (ap (λ xs. front ++ xs) (at_drop_more (nul_places i) bytes i d lt ∙ rw nul refl)) ∙ so_far
 
+-- a byte that is no NUL is passed over
 pub places_pass : (bytes front total : List ℕ) (i d : ℕ) → i < length bytes → get_or bytes i d ≢ 0 → front ++ nul_places i (drop i bytes) ≡ total
     → front ++ nul_places (i + 1) (drop (i + 1) bytes) ≡ total
 unfolding nul_places
@@ -31,6 +33,7 @@ Listed = Result (List ℕ) Fault
 abbrev listed : List ℕ → Listed
 listed places = Ok places
 
+-- all NULs' places
 pub places_done : (bytes front total : List ℕ) (i : ℕ) → length bytes ≤ i → front ++ nul_places i (drop i bytes) ≡ total → ◌≡◌ {A = Listed} (Ok total) (Ok front)
 unfolding nul_places
 places_done bytes front total i past so_far =
@@ -61,6 +64,7 @@ rise_cons at xs behind rise zero j d le lt = from_cons at xs behind j d lt
 rise_cons at xs behind rise (suc i) zero d le lt = absurd (omega arith)
 rise_cons at xs behind rise (suc i) (suc j) d le lt = rise i j d (omega arith) (omega arith)
 
+-- the places of NULs don't fall
 pub places_rise : (at : ℕ) (bytes : List ℕ) → IsNonDecreasingBy (λ x. x) (nul_places at bytes)
 unfolding nul_places
 places_rise at [] = λ i j d le lt. absurd (omega arith)
@@ -135,10 +139,12 @@ found_from : (o e : ℕ) (p : Option ℕ) → option_map (λ k. o + k) p ≡ Som
 found_from o e None h = absurd cc
 found_from o e (Some k) h = (k, refl, cc)
 
+-- where no NUL stands at an offset or later, there is no name
 pub name_missing : (o : ℕ) (names : List ℕ) → find (is_reached o) (nul_places 0 names) ≡ None → name_in names o ≡ Err UnexpectedEof
 unfolding name_in c_string_at
 name_missing o names h = rw (missing_from o (position is_nul (drop o names)) (sym (next_nul o names) ∙ h)) refl
 
+-- where one does, the name ends at the first
 pub name_found : (o e : ℕ) (names : List ℕ) → find (is_reached o) (nul_places 0 names) ≡ Some e → name_in names o ≡ Ok (take (e - o) (drop o names))
 unfolding name_in c_string_at
 name_found o e names h =
@@ -149,6 +155,7 @@ name_found o e names h =
 within : (m n k : ℕ) → cond (nat_lt m n) (Some m) None ≡ Some k → k < n
 within m n k h = elim (cases_Bool (nat_lt m n)) [ inl e ↦ (let same : m ≡ k = cc in omega (arith, ltb-true m n e)) | inr e ↦ absurd cc ]
 
+-- that NUL stands at the offset or later, and in the block
 pub found_bounds : (o e : ℕ) (names : List ℕ) → find (is_reached o) (nul_places 0 names) ≡ Some e → (o ≤ e) × (e < length names)
 found_bounds o e names h =
     let found = found_from o e (position is_nul (drop o names)) (sym (next_nul o names) ∙ h) in

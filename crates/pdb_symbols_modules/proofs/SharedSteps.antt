@@ -6,7 +6,7 @@ use Rattle.pdb_container.specs.Fault.{Fault, ◌>>=◌}
 use Rattle.pdb_addresses.specs.declared.sections.ImageSectionHeader.{ImageSectionHeader}
 use Rattle.pdb_symbols_modules.specs.AddressTables.{Found, sections_by, original_sections_by, map_behind, map_with, or_none, address_map_by}
 use Rattle.pdb_symbols_modules.specs.Dbi.{Dbi}
-use Rattle.pdb_symbols_modules.specs.Opened.{debug_information, global_symbols_by, global_symbols, sections, address_map}
+use Rattle.pdb_symbols_modules.specs.DatabaseCalls.{debug_information, global_symbols_by, global_symbols, sections, address_map}
 use Rattle.pdb_symbols_modules.specs.OptionalHeader.{optional_at, optional_stream, to_source_place, from_source_place, sections_place, original_sections_place}
 use Rattle.pdb_symbols_modules.specs.Shared.{number, named, symbols_number, optional_number, shared, optional_bytes, optional_in}
 use Rattle.pdb_symbols_modules.specs.Streams.{Streams, if_named}
@@ -17,6 +17,7 @@ symbols_numbered : (s : Streams) (d : Dbi) → debug_information (shared s) ≡ 
 unfolding symbols_number named debug_information shared
 symbols_numbered s d read = rw read refl
 
+-- the symbol records among what is shared are the stream's
 pub symbols_alike : (s : Streams) (d : Dbi) → debug_information (shared s) ≡ Ok d
     → global_symbols_by d.symbol_records_stream (shared s).symbols ≡ global_symbols_by d.symbol_records_stream (s.at d.symbol_records_stream)
 unfolding global_symbols_by shared
@@ -25,6 +26,7 @@ symbols_alike s d read = elim (cases_Bool (nat_lt d.symbol_records_stream 65535)
   | inr e ↦ rw e refl
 ]
 
+-- the symbol records are read of their stream
 pub symbols_read : (s : Streams) (d : Dbi) → debug_information (shared s) ≡ Ok d → global_symbols (shared s) ≡ global_symbols_by d.symbol_records_stream (s.at d.symbol_records_stream)
 unfolding global_symbols
 symbols_read s d read = rw read (symbols_alike s d read)
@@ -84,16 +86,19 @@ tables_alike f g (Err e) original to from = refl
 tables_alike f g (Ok i) (Err e) to from = refl
 tables_alike f g (Ok i) (Ok o) to from = mapped_alike f g (or_none i) o to from
 
+-- the address map by what is shared is the one by the streams
 pub address_map_alike : (s : Streams) (d : Dbi) → debug_information (shared s) ≡ Ok d → address_map_by (optional_in (shared s) d) ≡ address_map_by (optional_stream s d)
 unfolding address_map_by
 address_map_alike s d read =
     rw (sections_alike s d read, original_sections_alike s d read)
     (tables_alike (optional_in (shared s) d) (optional_stream s d) (sections_by (optional_stream s d)) (original_sections_by (optional_stream s d)) (to_source_alike s d read) (from_source_alike s d read))
 
+-- the section headers are read of their stream
 pub sections_read : (s : Streams) (d : Dbi) → debug_information (shared s) ≡ Ok d → sections (shared s) ≡ sections_by (optional_stream s d)
 unfolding sections
 sections_read s d read = rw read (sections_alike s d read)
 
+-- the address map is read of its streams
 pub address_map_read : (s : Streams) (d : Dbi) → debug_information (shared s) ≡ Ok d → address_map (shared s) ≡ address_map_by (optional_stream s d)
 unfolding address_map
 address_map_read s d read = rw read (address_map_alike s d read)

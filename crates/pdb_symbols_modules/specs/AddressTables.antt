@@ -12,29 +12,29 @@ abbrev pub Found : Type 0
 Found = ℕ → Result (Option (List ℕ)) Fault
 
 -- what a stream that may be there says
-abbrev pub said : {A : Type 0} → (List ℕ → Result A Fault) → Option (List ℕ) → Result (Option A) Fault
-said read None = Ok None
-said read (Some bytes) = read bytes >>= λ x. Ok (Some x)
+abbrev pub read_if_there : {A : Type 0} → (List ℕ → Result A Fault) → Option (List ℕ) → Result (Option A) Fault
+read_if_there read None = Ok None
+read_if_there read (Some bytes) = read bytes >>= λ x. Ok (Some x)
 
 -- the sections of the image, where there is a list of them
 unfoldable pub sections_by : Found → Result (Option (List ImageSectionHeader)) Fault
 sections_by found = do
   stream ← found sections_place
-  said section_headers_of stream
+  read_if_there section_headers_of stream
 
--- those of the space in which the database was written, where there is a list of them
+-- the sections of the space in which the database was written, where there is a list of them
 unfoldable pub original_sections_by : Found → Result (Option (List ImageSectionHeader)) Fault
 original_sections_by found = do
   stream ← found original_sections_place
-  said section_headers_of stream
+  read_if_there section_headers_of stream
 
 -- the ways between both spaces
 unfoldable pub map_behind : Found → List ImageSectionHeader → List ImageSectionHeader → Result Map Fault
 map_behind found image original = do
   to_source ← found to_source_place
-  to_original ← said omap_of to_source
+  to_original ← read_if_there omap_of to_source
   from_source ← found from_source_place
-  to_image ← said omap_of from_source
+  to_image ← read_if_there omap_of from_source
   Ok (map_of (Some original) image to_original to_image)
 
 -- without original sections no way is used, and none is read
@@ -42,10 +42,12 @@ abbrev pub map_with : Found → List ImageSectionHeader → Option (List ImageSe
 map_with found image None = Ok (map_of None image None None)
 map_with found image (Some original) = map_behind found image original
 
+-- the sections of a list, none without one
 abbrev pub or_none : Option (List ImageSectionHeader) → List ImageSectionHeader
 or_none None = []
 or_none (Some sections) = sections
 
+-- the sections of both spaces and the ways between them
 unfoldable pub address_map_by : Found → Result Map Fault
 address_map_by found = do
   image ← sections_by found

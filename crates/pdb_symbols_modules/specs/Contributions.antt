@@ -1,4 +1,5 @@
--- The contributions of stream 3: which module put which part into a section.
+-- The section contributions of the DBI stream (3): which module put which part into a section.
+-- The layout is that of the Section Contribution Substream of LLVM's The PDB DBI Stream.
 use Rattle.std.specs.Prelude.{ℕ, ◌+◌, List, [], ◌∷◌, ◌==◌, None, if◌then◌else◌, Result, Ok, Err, codes}
 use Rattle.std.specs.Int.{w16, w32}
 use Rattle.pdb_container.specs.Fault.{Fault, UnimplementedFeature, ◌>>=◌}
@@ -39,6 +40,7 @@ long_contribution_at bytes = do
   more ← number_at w32 entry.1
   Ok (entry.0, more.1)
 
+-- an entry, by the version of its substream
 abbrev pub contribution_for : Version → Reader DBISectionContribution
 contribution_for versions.Ver60 = contribution_at
 contribution_for versions.V2 = long_contribution_at

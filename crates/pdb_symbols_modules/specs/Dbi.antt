@@ -1,12 +1,13 @@
--- Stream 3: its header, and the substreams behind it.
+-- The DBI stream (3): its header, and the substreams behind it.
+-- The layout is NewDBIHdr of microsoft-pdb's dbi.h, which LLVM's The PDB DBI Stream describes.
 use Rattle.std.specs.Prelude.{ℕ, ◌+◌, List, length, take, drop, nat_lt, ◌==◌, not, Result, Ok, codes}
 use Rattle.std.specs.Int.{w16, w32}
 use Rattle.pdb_container.specs.Fault.{Fault, UnexpectedEof, UnimplementedFeature, ◌>>=◌, refuse}
 use Rattle.pdb_container.specs.Fields.{number_at, bytes_of}
 use Rattle.pdb_symbols_modules.specs.declared.dbi.DBIHeader.{DBIHeader}
 
--- The header: 64 bytes, which are all there, with a signature. Between the numbers that are kept lie version, two numbers
--- of streams and three of versions, the number of a compiler's own index, and flags.
+-- The header: 64 bytes, which are all there, with a signature. Between the numbers that are kept lie version, two
+-- numbers of streams and three of versions, the number of a compiler's own index, and flags.
 unfoldable pub header_of : List ℕ → Result DBIHeader Fault
 header_of bytes = do
   whole ← bytes_of 64 bytes
@@ -42,9 +43,12 @@ header_of bytes = do
 
 -- The substreams lie in this order behind the header: module list, contributions, section map, file info, type
 -- server map, edit and continue, optional header. Here are the places of those that are read.
+
+-- the byte place of the contributions
 abbrev pub contributions_place : DBIHeader → ℕ
 contributions_place h = 64 + h.module_list_size
 
+-- the byte place of the optional header
 abbrev pub optional_header_place : DBIHeader → ℕ
 optional_header_place h =
     contributions_place h + h.section_contribution_size + h.section_map_size + h.file_info_size + h.type_server_map_size + h.ec_substream_size

@@ -1,11 +1,12 @@
--- Stream 1: what a database says of itself, and the names that it gives to streams.
+-- The information stream (1): what a database says of itself, and the names that it gives to streams.
+-- The layout is that of LLVM's The PDB Info Stream, as the pdb crate reads it.
 use Rattle.std.specs.Prelude.{ℕ, ◌*◌, Bool, List, nat_lt, nat_eq, ◌==◌, Option, None, Some, if◌then◌else◌, Result, Ok, Err}
 use Rattle.std.specs.List.{find}
 use Rattle.std.specs.Cmp.Lexicographic.{pointwise}
 use Rattle.std.specs.Int.{w32}
 use Rattle.pdb_container.specs.Fault.{Fault, StreamNameNotFound, ◌>>=◌}
 use Rattle.pdb_container.specs.Fields.{Reader, number_at, bytes_of}
-use Rattle.pdb_container.specs.Names.{name_in}
+use Rattle.pdb_container.specs.StringTable.{name_in}
 use Rattle.pdb_indices.specs.RecordFields.{many_at}
 
 -- what a database says of itself, and the whole stream
@@ -19,6 +20,7 @@ pub record Information : Type 0 where
   pub guid : List ℕ
   pub bytes : List ℕ
 
+-- what stream 1 says of the database: version, signature, age and GUID
 unfoldable pub information_of : List ℕ → Result Information Fault
 information_of bytes = do
   version ← number_at w32 bytes
@@ -50,8 +52,8 @@ stream_name_at names bytes = do
 abbrev pub bits_at : Reader (List ℕ)
 bits_at bytes = number_at w32 bytes >>= λ count. bytes_of (4 * count.0) count.1
 
--- The entries that the stream holds behind its first 28 bytes: a block of names, behind its size; how many entries there
--- are, and for how many there is room; which places are used, and which were; the entries.
+-- The entries that the stream holds behind its first 28 bytes: a block of names, behind its size; how many entries
+-- there are, and for how many there is room; which places are used, and which were; the entries.
 unfoldable pub stream_names_of : List ℕ → Result (List StreamName) Fault
 stream_names_of bytes = do
   header ← bytes_of 28 bytes
@@ -69,8 +71,10 @@ abbrev pub number_in : Option StreamName → Result ℕ Fault
 number_in None = Err StreamNameNotFound
 number_in (Some s) = if s.stream_id == 65535 then Err StreamNameNotFound else Ok s.stream_id
 
+-- an entry has a name, byte by byte
 abbrev pub is_named : List ℕ → StreamName → Bool
 is_named name s = pointwise nat_eq s.name name
 
+-- the number of the stream that bears a name
 unfoldable pub number_of : List ℕ → List StreamName → Result ℕ Fault
 number_of name entries = number_in (find (is_named name) entries)

@@ -4,8 +4,8 @@ pub mod Dbi
 pub mod Information
 pub mod Machine
 pub mod Modules
-pub mod NamesSeen
-pub mod Opened
+pub mod NameBlock
+pub mod DatabaseCalls
 pub mod OptionalHeader
 pub mod Shared
 pub mod Streams

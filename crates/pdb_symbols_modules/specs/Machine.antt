@@ -1,8 +1,10 @@
--- Machines by their numbers.
+-- Machine types by their numbers.
+-- The numbers are IMAGE_FILE_MACHINE_* of the PE format.
 use Rattle.std.specs.Prelude.{ℕ, ◌==◌, if◌then◌else◌}
 use Rattle.pdb_symbols_modules.specs.declared.machine.MachineType.{MachineType}
 use Rattle.pdb_symbols_modules.specs.declared.machine.MachineType.TheVariants as machines
 
+-- the machine of a number (IMAGE_FILE_MACHINE_*): the five whose pointers do not have 4 bytes, or another
 abbrev pub machine_of : ℕ → MachineType
 machine_of n =
     if n == 0x8664 then machines.Amd64 else (if n == 0xaa64 then machines.Arm64

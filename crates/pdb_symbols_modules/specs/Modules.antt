@@ -1,8 +1,9 @@
--- The list of modules in stream 3.
-use Rattle.std.specs.Prelude.{ℕ, ◌-◌, ◌%◌, List, length, drop, Result, Ok}
+-- The module list of the DBI stream (3).
+-- The layout is MODI of microsoft-pdb's dbi.h, which LLVM's The PDB DBI Stream describes.
+use Rattle.std.specs.Prelude.{ℕ, ◌-◌, List, length, drop, Result, Ok}
 use Rattle.std.specs.Int.{w16, w32}
 use Rattle.pdb_container.specs.Fault.{Fault, ◌>>=◌}
-use Rattle.pdb_container.specs.Fields.{Reader, number_at, bytes_of, c_string_at}
+use Rattle.pdb_container.specs.Fields.{Reader, number_at, bytes_of, c_string_at, padding}
 use Rattle.pdb_container.specs.Listing.{Listing, listing}
 
 -- what is said of a module: the number of its stream, 65535 for none; the sizes of that stream's parts; its names
@@ -13,10 +14,6 @@ pub record Module : Type 0 where
   pub c13_lines_size : ℕ
   pub module_name : List ℕ
   pub object_file_name : List ℕ
-
--- how many bytes are missing from a multiple of four
-abbrev pub padding : ℕ → ℕ
-padding n = (4 - n % 4) % 4
 
 -- An entry: numbers and two names, aligned to four bytes or the list's end. As each entry is, the alignment counts
 -- from the entry's own beginning.

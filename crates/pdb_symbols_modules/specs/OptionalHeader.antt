@@ -1,4 +1,5 @@
--- The optional header of stream 3: numbers of further streams.
+-- The optional debug header of the DBI stream (3): numbers of further streams.
+-- The places are DBGTYPE of microsoft-pdb's langapi and those of LLVM's The PDB DBI Stream.
 use Rattle.std.specs.Prelude.{ℕ, ◌*◌, ◌%◌, List, length, drop, ◌==◌, not, Option, Result, Ok, Err, codes}
 use Rattle.std.specs.Int.{w16}
 use Rattle.pdb_container.specs.Fault.{Fault, InvalidStreamLength, ◌>>=◌, refuse}
@@ -6,19 +7,25 @@ use Rattle.pdb_container.specs.Fields.{number_at}
 use Rattle.pdb_symbols_modules.specs.Dbi.{Dbi}
 use Rattle.pdb_symbols_modules.specs.Streams.{Streams, stream_if_named}
 
--- the places of the numbers that are used, counted from 0: of the map from addresses of the image to those of the database, of
--- the map back, of the section headers, and of those before the image's code was moved
+-- ---- the places of the numbers that are used, counted from 0
+
+-- of the OMAP from addresses of the image to those of the database
 abbrev pub to_source_place : ℕ
 to_source_place = 3
 
+-- of the OMAP back, from addresses of the database to those of the image
 abbrev pub from_source_place : ℕ
 from_source_place = 4
 
+-- of the section headers of the image
 abbrev pub sections_place : ℕ
 sections_place = 5
 
+-- of the section headers before the image's code was moved
 abbrev pub original_sections_place : ℕ
 original_sections_place = 10
+
+-- ---- what the numbers are
 
 -- what is read, or another number where it isn't there
 abbrev pub value_or : ℕ → Result (ℕ × List ℕ) Fault → ℕ

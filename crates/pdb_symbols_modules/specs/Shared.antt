@@ -1,4 +1,4 @@
--- The streams that belong to no module, each with its fault, and what a file gives of each module.
+-- The streams that belong to no module, each with its fault, and what a file holds of each module.
 use Rattle.std.specs.Prelude.{ℕ, ◌==◌, List, Option, None, Some, option_map, nat_lt, if◌then◌else◌, slice_get, Result, Ok, Err, codes}
 use Rattle.pdb_container.specs.Fault.{Fault, StreamNotFound, ◌>>=◌}
 use Rattle.pdb_container.specs.Listing.{whole}
@@ -58,6 +58,7 @@ pub record Shared : Type 0 where
   pub section_headers : Bytes
   pub original_sections : Bytes
 
+-- what a file holds besides its modules
 unfoldable pub shared : Streams → Shared
 shared s = record {
   open_fault = s.open_fault;
@@ -73,7 +74,7 @@ shared s = record {
   original_sections = optional_number original_sections_place (s.at 3) >>= s.at;
 }
 
--- those of the four places of the optional header
+-- the bytes of the stream at one of the four places of the optional header
 abbrev pub optional_bytes : Shared → ℕ → Bytes
 optional_bytes c place =
     if place == to_source_place then c.to_source else (if place == from_source_place then c.from_source
@@ -99,11 +100,13 @@ abbrev pub number_of_module : Option Module → ℕ
 number_of_module None = 65535
 number_of_module (Some m) = m.stream
 
+-- the number of the stream of a module, if it names one
 unfoldable pub module_number : Bytes → ℕ → Result ℕ Fault
 module_number dbi k = named do
   m ← module_of_number dbi k
   Ok (number_of_module m)
 
+-- the bytes of a module's own stream
 unfoldable pub module_bytes : Streams → ℕ → Bytes
 module_bytes s k = module_number (s.at 3) k >>= s.at
 
@@ -117,17 +120,20 @@ info_in m stream = do
   found ← if_named m.stream stream
   Ok (option_map (module_stream m) found)
 
+-- what a module holds, if it is in the list
 abbrev pub info_if_listed : Bytes → Option Module → Result (Option ModuleStream) Fault
 info_if_listed stream None = Ok None
 info_if_listed stream (Some m) = info_in m stream
 
+-- what the module of a number holds, by the bytes of stream 3 and of its own stream
 unfoldable pub info_from : Bytes → ℕ → Bytes → Result (Option ModuleStream) Fault
 info_from dbi k stream = module_of_number dbi k >>= info_if_listed stream
 
--- What a file gives of each module by its number: none past the list and for a module without a stream; the fault of
+-- What a file holds of each module by its number: none past the list and for a module without a stream; the fault of
 -- stream 3 or of the module's stream.
 abbrev pub Provider : Type 0
 Provider = ℕ → Result (Option ModuleStream) Fault
 
+-- what a file holds of each module
 unfoldable pub provider : Streams → Provider
 provider s k = info_from (s.at 3) k (module_bytes s k)

@@ -1,7 +1,7 @@
-//! The contributions of modules to sections.
+//! Section contributions of the DBI stream: which module put which part into a section.
 
 ghost use Rattle.std.specs.Prelude.{◌≡◌, ◌<◌, length, IfOk, None};
-ghost use Rattle.pdb_container.specs.Buffer.{rest, ReadsAll};
+ghost use Rattle.pdb_container.specs.Buffer.{rest, ParsesFront};
 ghost use Rattle.pdb_container.specs.Fault.{Parses};
 ghost use Rattle.pdb_container.specs.Listing.{ending, Advances};
 ghost use Rattle.pdb_symbols_modules.specs.Contributions.{contribution_at, long_contribution_at, contribution_for, version_of, contributions_of};
@@ -16,14 +16,14 @@ const VERSION_60: u32 = 0xeffe_0000 + 19_970_605;
 /// The version of entries of 32 bytes.
 const VERSION_2: u32 = 0xeffe_0000 + 20_140_516;
 
-/// What a module contributed to a section.
+/// A section contribution: what a module put into a section.
 #[derive(Clone, Copy, Debug, PartialEq, Eq)]
 pub struct DBISectionContribution {
-    /// Where it begins.
+    /// Where it begins: a section's number, counted from 1, and an offset in bytes.
     pub offset: PdbInternalSectionOffset,
     /// How many bytes it has.
     pub size: u32,
-    /// What may be done in it.
+    /// What may be done in its section.
     pub characteristics: SectionCharacteristics,
     /// The module's number, counted from 0.
     pub module: u16,
@@ -33,14 +33,16 @@ pub struct DBISectionContribution {
     pub reloc_crc: u32,
 }
 
-/// The versions of the list.
+/// The version of the list of section contributions.
 #[derive(Clone, Copy, Debug, PartialEq, Eq)]
 pub enum Version {
+    /// 0xeffe0000 + 19970605: entries of 28 bytes.
     Ver60,
+    /// 0xeffe0000 + 20140516: entries of 32 bytes.
     V2,
 }
 
-/// The contributions in the order of their list. Its value in contracts is what is still to come.
+/// An iterator over section contributions, in the order of their list. Its value in contracts is what is still to come.
 #[derive(Debug, Drop)]
 pub struct DBISectionContributionIter<'c> {
     buffer: ParseBuffer<'c>,
@@ -115,7 +117,7 @@ fn known_version(number: u32) -> Result<Version>
 
 /// An entry of a version. `UnexpectedEof`.
 fn parse_entry(version: Version, buffer: &mut ParseBuffer<'_>) -> Result<DBISectionContribution>
-    ensures value { ReadsAll (λ c. c) result (rest buffer.new) (contribution_for version (rest buffer.old)) }
+    ensures value { ParsesFront (λ c. c) result (rest buffer.new) (contribution_for version (rest buffer.old)) }
     ensures shorter { IfOk result (λ _. length (rest buffer.new) < length (rest buffer.old)) }
 {
     match version {
@@ -127,7 +129,7 @@ fn parse_entry(version: Version, buffer: &mut ParseBuffer<'_>) -> Result<DBISect
 /// An entry of the older version. `UnexpectedEof`.
 #[tactic(auto, unfolding(crate::specs::Contributions::contribution_at))]
 fn parse_contribution(buffer: &mut ParseBuffer<'_>) -> Result<DBISectionContribution>
-    ensures value { ReadsAll (λ c. c) result (rest buffer.new) (contribution_at (rest buffer.old)) }
+    ensures value { ParsesFront (λ c. c) result (rest buffer.new) (contribution_at (rest buffer.old)) }
     ensures shorter { IfOk result (λ _. length (rest buffer.new) < length (rest buffer.old)) }
 {
     let section = buffer.parse_u16()?;
@@ -152,7 +154,7 @@ fn parse_contribution(buffer: &mut ParseBuffer<'_>) -> Result<DBISectionContribu
 /// An entry of the newer version. `UnexpectedEof`.
 #[tactic(auto, unfolding(crate::specs::Contributions::long_contribution_at))]
 fn parse_long_contribution(buffer: &mut ParseBuffer<'_>) -> Result<DBISectionContribution>
-    ensures value { ReadsAll (λ c. c) result (rest buffer.new) (long_contribution_at (rest buffer.old)) }
+    ensures value { ParsesFront (λ c. c) result (rest buffer.new) (long_contribution_at (rest buffer.old)) }
     ensures shorter { IfOk result (λ _. length (rest buffer.new) < length (rest buffer.old)) }
 {
     let contribution = parse_contribution(buffer)?;

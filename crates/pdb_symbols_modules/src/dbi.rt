@@ -1,4 +1,4 @@
-//! The header of stream 3, and its substreams.
+//! The DBI stream (3): its header, and its substreams.
 
 ghost use Rattle.std.specs.Prelude.{◌≡◌, ◌+◌, ◌≤◌, ◌<◌, ◌^◌, ◌==◌, length, if◌then◌else◌, None, Some};
 ghost use Rattle.pdb_container.specs.Fault.{Parses};
@@ -20,7 +20,7 @@ use std::marker::Model;
 /// How many bytes the header has.
 const HEADER_SIZE: usize = 64;
 
-/// What the header says, as far as it is used: the age, the number of a stream (65535 for none), sizes in bytes, and the
+/// The DBI header, as far as it is used: the age, the number of a stream (65535 for none), sizes in bytes, and the
 /// machine's number.
 #[derive(Clone, Copy, Debug)]
 pub struct DBIHeader {
@@ -36,7 +36,7 @@ pub struct DBIHeader {
     machine: u16,
 }
 
-/// What a database says of an image: stream 3.
+/// The DBI stream (3): what a database says of an image.
 #[derive(Debug, Drop)]
 pub struct DebugInformation<'s> {
     stream: Stream<'s>,
@@ -55,8 +55,8 @@ impl<'s> Model for DebugInformation<'s> {
 }
 
 impl<'s> DebugInformation<'s> {
-    /// What a stream says. `UnexpectedEof` where the header or a substream isn't whole, `UnimplementedFeature` for a header
-    /// without signature.
+    /// The DBI that a stream holds. `UnexpectedEof` where the header or a substream isn't whole, `UnimplementedFeature`
+    /// for a header without signature.
     #[tactic(auto, unfolding(crate::specs::Dbi::dbi_of))]
     pub fn parse(stream: Stream<'s>) -> Result<DebugInformation<'s>>
         ensures { Parses (λ d. d) result (dbi_of stream.entry) }
@@ -68,14 +68,14 @@ impl<'s> DebugInformation<'s> {
         Ok(DebugInformation { stream, header })
     }
 
-    /// The machine for which the image was made.
+    /// The machine type for which the image was made.
     pub fn machine_type(&self) -> MachineType
         ensures { result ≡ machine_of self.now.machine }
     {
         MachineType::of(self.header.machine)
     }
 
-    /// How often the database was written; none where the header says 0.
+    /// The age: how often the database was written; none where the header says 0.
     pub fn age(&self) -> Option<u32>
         ensures { result ≡ (if self.now.age == 0 then None else Some self.now.age) }
     {
@@ -85,7 +85,7 @@ impl<'s> DebugInformation<'s> {
         }
     }
 
-    /// The modules in their order.
+    /// The modules, in the order of the module list.
     pub fn modules(&self) -> ModuleIter<'_>
         ensures { result ≡ modules_of self.now.modules }
     {
@@ -93,8 +93,8 @@ impl<'s> DebugInformation<'s> {
         ModuleIter::over(piece(self.stream.as_slice(), HEADER_SIZE, size))
     }
 
-    /// What the modules contributed to sections, in the order of the list. `UnexpectedEof`, and `UnimplementedFeature` for
-    /// a version that isn't known.
+    /// The section contributions, in the order of the list. `UnexpectedEof`, and `UnimplementedFeature` for a version
+    /// that isn't known.
     pub fn section_contributions(&self) -> Result<DBISectionContributionIter<'_>>
         ensures { Parses (λ it. it) result (contributions_of self.now.contributions) }
     {
@@ -103,15 +103,15 @@ impl<'s> DebugInformation<'s> {
         DBISectionContributionIter::parse(piece(self.stream.as_slice(), place, size))
     }
 
-    /// The number of the stream of symbol records.
+    /// The number of the stream of symbol records; 0xffff for none.
     pub fn symbol_records_stream(&self) -> StreamIndex
         ensures { result.0 ≡ self.now.symbol_records_stream }
     {
         StreamIndex(self.header.symbol_records_stream)
     }
 
-    /// The number of a stream at a place of the optional header, counted from 0 and at most 10. `InvalidStreamLength` where that header
-    /// isn't made of whole numbers.
+    /// The number of a stream at a place of the optional debug header, counted from 0 and at most 10.
+    /// `InvalidStreamLength` where that header isn't made of whole numbers.
     pub fn optional_stream(&self, place: usize) -> Result<StreamIndex>
         requires { place ≤ 10 }
         ensures { Parses (λ n. n.0) result (optional_at place self.now.optional_header) }

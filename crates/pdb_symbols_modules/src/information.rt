@@ -1,16 +1,16 @@
-//! Stream 1: what a database says of itself, and the names that it gives to streams.
+//! The information stream (1): what a database says of itself, and the names that it gives to streams.
 
 ghost use Rattle.std.specs.Prelude.{◌≡◌, ◌<◌, IfOk, Some, map, option_map};
 ghost use Rattle.std.specs.List.{find};
 ghost use Rattle.std.specs.Slice.Iter.{iter_rest};
-ghost use Rattle.pdb_container.specs.Buffer.{rest, Reads, ReadsAll};
+ghost use Rattle.pdb_container.specs.Buffer.{rest, Reads, ParsesFront};
 ghost use Rattle.pdb_container.specs.Fault.{Gives, Parses};
 ghost use Rattle.pdb_container.specs.Fields.{bytes_of};
-ghost use Rattle.pdb_container.specs.Names.{name_in};
-ghost use Rattle.pdb_indices.specs.RecordFields.{GivesAll, many_at};
+ghost use Rattle.pdb_container.specs.StringTable.{name_in};
+ghost use Rattle.pdb_indices.specs.RecordFields.{GivesFront, many_at};
 ghost use Rattle.pdb_symbols_modules.specs.Information.{information_of, stream_number, stream_name_at, bits_at, stream_names_of, number_in, is_named, number_of};
 ghost use Rattle.pdb_container.specs.RawString.{raw_bytes};
-ghost use Rattle.pdb_symbols_modules.specs.NamesSeen.{stream_name_seen};
+ghost use Rattle.pdb_symbols_modules.specs.NameBlock.{stream_name_seen};
 
 use crate::name_block::NameBlock;
 use crate::stream_index::StreamIndex;
@@ -21,16 +21,16 @@ use std::marker::Model;
 /// How many bytes lie before the names.
 const HEADER_SIZE: usize = 28;
 
-/// What a database says of itself.
+/// The information stream (1): what a database says of itself.
 #[derive(Debug, Drop)]
 pub struct PDBInformation<'s> {
     /// The version of the format.
     pub version: u32,
-    /// The time at which the database was made.
+    /// The time at which the database was made, in seconds since 1970.
     pub signature: u32,
-    /// How often it was written since.
+    /// The age: how often it was written since.
     pub age: u32,
-    /// By what it is told apart from others.
+    /// The GUID: 16 bytes by which it is told apart from others.
     pub guid: [u8; 16],
     stream: Stream<'s>,
 }
@@ -44,7 +44,7 @@ impl<'s> Model for PDBInformation<'s> {
 }
 
 impl<'s> PDBInformation<'s> {
-    /// What a stream says. `UnexpectedEof` where it is short.
+    /// The information that stream 1 holds. `UnexpectedEof` where it is short.
     #[tactic(auto, unfolding(crate::specs::Information::information_of))]
     pub fn parse(stream: Stream<'s>) -> Result<PDBInformation<'s>>
         ensures { Parses (λ i. i) result (information_of stream.entry) }
@@ -63,8 +63,8 @@ impl<'s> PDBInformation<'s> {
         })
     }
 
-    /// The names that the database gives to streams. `UnexpectedEof` where the table isn't whole or a name doesn't end among
-    /// the names, `OutOfMemory`.
+    /// The names that the database gives to streams. `UnexpectedEof` where the table isn't whole or a name doesn't end
+    /// among the names, `OutOfMemory`.
     #[tactic(auto, unfolding(crate::specs::Information::stream_names_of))]
     pub fn stream_names(&self, alloc: Global) -> Result<StreamNames<'_>>
         ensures { Gives (λ names. names) ⊥ result (stream_names_of self.now.bytes) }
@@ -101,7 +101,7 @@ pub struct StreamNames<'s> {
 impl<'s> Model for StreamNames<'s> {
     ghost use Rattle.std.specs.Prelude.{List, map};
     ghost use Rattle.pdb_symbols_modules.specs.Information as information;
-    ghost use Rattle.pdb_symbols_modules.specs.NamesSeen.{stream_name_seen};
+    ghost use Rattle.pdb_symbols_modules.specs.NameBlock.{stream_name_seen};
 
     ghost Value = { List information.StreamName };
 
@@ -168,13 +168,14 @@ fn parse_guid(buffer: &mut ParseBuffer<'_>) -> Result<[u8; 16]>
 
 /// Words of bits, behind their count.
 fn take_bits<'b>(buffer: &mut ParseBuffer<'b>) -> Result<&'b [u8]>
-    ensures { ReadsAll (λ bits. bits.now) result (rest buffer.new) (bits_at (rest buffer.old)) }
+    ensures { ParsesFront (λ bits. bits.now) result (rest buffer.new) (bits_at (rest buffer.old)) }
 {
     let count = buffer.parse_u32()?;
     buffer.take(4 * count as usize)
 }
 
-/// So many entries, whose names stand among these. The room for them grows with what is read, and not with what is promised.
+/// So many entries, whose names stand among these. The room for them grows with what is read, and not with what is
+/// promised.
 #[tactic(auto, using(crate::proofs::NameLemmas::names_start, crate::proofs::NameLemmas::names_more, crate::proofs::NameLemmas::names_fail, crate::proofs::NameLemmas::names_done))]
 fn parse_names<'n>(
     alloc: Global,
@@ -182,7 +183,7 @@ fn parse_names<'n>(
     buffer: &mut ParseBuffer<'_>,
     count: u32,
 ) -> Result<Vec<StreamName<'n>>>
-    ensures { GivesAll (λ v. map stream_name_seen v.items) result (rest buffer.new) (many_at (stream_name_at names.now) count (rest buffer.old)) }
+    ensures { GivesFront (λ v. map stream_name_seen v.items) result (rest buffer.new) (many_at (stream_name_at names.now) count (rest buffer.old)) }
 {
     let mut entries = Vec::new(alloc);
     for _ in 0..count {
@@ -194,7 +195,7 @@ fn parse_names<'n>(
 /// An entry, whose name stands among these.
 #[tactic(auto, unfolding(crate::specs::Information::stream_name_at))]
 fn parse_name<'n>(names: &NameBlock<'n>, buffer: &mut ParseBuffer<'_>) -> Result<StreamName<'n>>
-    ensures { ReadsAll stream_name_seen result (rest buffer.new) (stream_name_at names.now (rest buffer.old)) }
+    ensures { ParsesFront stream_name_seen result (rest buffer.new) (stream_name_at names.now (rest buffer.old)) }
 {
     let offset = buffer.parse_u32()?;
     let number = buffer.parse_u32()?;

@@ -1,9 +1,9 @@
-//! Machines.
+//! Machines (IMAGE_FILE_MACHINE_* of the PE format).
 
 ghost use Rattle.std.specs.Prelude.{◌≡◌};
 ghost use Rattle.pdb_symbols_modules.specs.Machine.{machine_of};
 
-/// The machine for which an image was made.
+/// The machine type of an image: for which machine it was made.
 #[derive(Clone, Copy, Debug, PartialEq, Eq)]
 pub enum MachineType {
     /// AMD64, with pointers of 8 bytes.

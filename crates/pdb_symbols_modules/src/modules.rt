@@ -1,23 +1,26 @@
-//! The list of modules.
+//! The module list of the DBI stream.
 
 ghost use Rattle.std.specs.Cow.{cow_str_bytes, IsBorrowedStr};
 ghost use Rattle.std.specs.Prelude.{◌≡◌, ◌<◌, drop, length, IsOk, IfOk, IsOkUnless, None};
 ghost use Rattle.std.specs.Str.{IsUtf8};
 ghost use Rattle.std.specs.Str.Lossy.{utf8_lossy};
-ghost use Rattle.pdb_container.specs.Buffer.{rest, ReadsAll};
+ghost use Rattle.pdb_container.specs.Buffer.{rest, ParsesFront};
+ghost use Rattle.pdb_container.specs.Fields.{padding};
 ghost use Rattle.pdb_container.specs.Listing.{Listing, ending, Advances};
 ghost use Rattle.pdb_container.specs.RawString.{raw_bytes};
 ghost use Rattle.pdb_symbols_modules.specs.Shared.{module_stream};
-ghost use Rattle.pdb_symbols_modules.specs.Modules.{module_at, modules_of, padding as padding_of};
+ghost use Rattle.pdb_symbols_modules.specs.Modules.{module_at, modules_of};
 
 use crate::stream_index::StreamIndex;
-use pdb_container::{Error, FallibleIterator, ParseBuffer, RawString, Result, Stream};
+use pdb_container::{
+    Error, FallibleIterator, ParseBuffer, RawString, Result, Stream, padding_behind,
+};
 use pdb_modules::ModuleInfo;
 use std::alloc::Global;
 use std::borrow::CowStr;
 use std::marker::Model;
 
-/// A module: where its own stream is, the sizes of that stream's parts, and its names.
+/// A module of the DBI stream: where its own stream is, the sizes of that stream's parts, and its names.
 #[derive(Debug, Drop)]
 pub struct Module<'m> {
     stream: u16,
@@ -38,8 +41,8 @@ impl<'m> Model for Module<'m> {
 }
 
 impl<'m> Module<'m> {
-    /// The name of the module, mostly that of an object file, with U+FFFD for what is no character; borrowed where it is
-    /// UTF-8, and then without memory.
+    /// The name of the module, mostly that of an object file, with U+FFFD for what is no character; borrowed where it
+    /// is UTF-8, and then without memory.
     ///
     /// # Errors
     /// `OutOfMemory` alone.
@@ -78,28 +81,28 @@ impl<'m> Module<'m> {
         self.object_file_name
     }
 
-    /// The module's own stream.
+    /// The number of the module's own stream.
     pub fn stream(&self) -> StreamIndex
         ensures { result.0 ≡ self.now.stream }
     {
         StreamIndex(self.stream)
     }
 
-    /// How many bytes of symbols stand at the stream's beginning.
+    /// How many bytes of symbols stand at the stream's beginning, their signature among them.
     pub fn symbols_size(&self) -> u32
         ensures { result ≡ self.now.symbols_size }
     {
         self.symbols_size
     }
 
-    /// How many bytes of line data in an older form follow.
+    /// How many bytes of C11 line data (the older form) follow.
     pub fn c11_lines_size(&self) -> u32
         ensures { result ≡ self.now.c11_lines_size }
     {
         self.c11_lines_size
     }
 
-    /// How many bytes of line data follow behind these.
+    /// How many bytes of C13 line data follow behind these.
     pub fn c13_lines_size(&self) -> u32
         ensures { result ≡ self.now.c13_lines_size }
     {
@@ -171,25 +174,18 @@ impl<'m> FallibleIterator for ModuleIter<'m> {
     }
 }
 
-/// How many bytes are missing from a multiple of four.
-fn padding(size: usize) -> usize
-    ensures { result ≡ padding_of size }
-{
-    (4 - size % 4) % 4
-}
-
 /// Goes from `size` bytes to the next multiple of four, or to the end.
 fn skip_padding(buffer: &mut ParseBuffer<'_>, size: usize)
-    ensures { rest buffer.new ≡ drop (padding_of size) (rest buffer.old) }
+    ensures { rest buffer.new ≡ drop (padding size) (rest buffer.old) }
 {
-    let missing = padding(size).min(buffer.len());
+    let missing = padding_behind(size).min(buffer.len());
     let _ = buffer.take(missing);
 }
 
 /// One entry of the list. `UnexpectedEof`.
 #[tactic(auto, unfolding(crate::specs::Modules::module_at))]
 fn parse_module<'m>(buffer: &mut ParseBuffer<'m>) -> Result<Module<'m>>
-    ensures value { ReadsAll (λ m. m) result (rest buffer.new) (module_at (rest buffer.old)) }
+    ensures value { ParsesFront (λ m. m) result (rest buffer.new) (module_at (rest buffer.old)) }
     ensures shorter { IfOk result (λ _. length (rest buffer.new) < length (rest buffer.old)) }
 {
     let whole = buffer.len();

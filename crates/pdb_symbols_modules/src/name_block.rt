@@ -4,9 +4,9 @@ ghost use Rattle.std.specs.Prelude.{◌≡◌, ◌<◌, ◌≤◌, ◌^◌, leng
 ghost use Rattle.std.specs.List.{find, AllWithin};
 ghost use Rattle.std.specs.List.Sorted.{IsNonDecreasingBy};
 ghost use Rattle.pdb_container.specs.Fault.{Gives, Parses};
-ghost use Rattle.pdb_container.specs.Names.{name_in};
+ghost use Rattle.pdb_container.specs.StringTable.{name_in};
 ghost use Rattle.pdb_container.specs.RawString.{raw_bytes};
-ghost use Rattle.pdb_symbols_modules.specs.NamesSeen.{nul_places as nul_places_of, is_reached};
+ghost use Rattle.pdb_symbols_modules.specs.NameBlock.{nul_places as nul_places_of, is_reached};
 
 use pdb_container::{Error, RawString, Result};
 use std::alloc::Global;
@@ -21,7 +21,7 @@ pub(crate) struct NameBlock<'n> {
 
 impl<'n> Model for NameBlock<'n> {
     ghost use Rattle.std.specs.Prelude.{◌≡◌, ℕ, List};
-    ghost use Rattle.pdb_symbols_modules.specs.NamesSeen.{nul_places as nul_places_of};
+    ghost use Rattle.pdb_symbols_modules.specs.NameBlock.{nul_places as nul_places_of};
 
     ghost Value = { List ℕ };
 

@@ -1,4 +1,4 @@
-//! The optional header of stream 3: numbers of further streams.
+//! The optional debug header of the DBI stream: numbers of further streams.
 
 ghost use Rattle.std.specs.Prelude.{◌≡◌, ◌≤◌, ◌*◌, drop};
 ghost use Rattle.std.specs.Int.{w16};
@@ -9,20 +9,20 @@ ghost use Rattle.pdb_symbols_modules.specs.OptionalHeader.{optional_at, value_or
 use crate::stream_index::StreamIndex;
 use pdb_container::{Error, ParseBuffer, Result};
 
-/// The place of the map from addresses of the image to those of its database.
+/// The place of the OMAP from addresses of the image to those of its database.
 pub const OMAP_TO_SOURCE: usize = 3;
 
-/// The place of the map back.
+/// The place of the OMAP back, from addresses of the database to those of the image.
 pub const OMAP_FROM_SOURCE: usize = 4;
 
-/// The place of the section headers.
+/// The place of the section headers of the image.
 pub const SECTION_HEADERS: usize = 5;
 
 /// The place of the section headers before the image's code was moved.
 pub const ORIGINAL_SECTION_HEADERS: usize = 10;
 
-/// The number at a place of the optional header, counted from 0; the one of no stream where the header ends before it.
-/// `InvalidStreamLength` where the header isn't made of whole numbers.
+/// The number at a place of the optional debug header, counted from 0; the one of no stream where the header ends
+/// before it. `InvalidStreamLength` where the header isn't made of whole numbers.
 #[tactic(auto, unfolding(crate::specs::OptionalHeader::optional_at))]
 pub fn number_at_place(optional_header: &[u8], place: usize) -> Result<StreamIndex>
     requires { place ≤ 10 }

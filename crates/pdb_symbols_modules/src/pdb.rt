@@ -1,12 +1,12 @@
 //! An open program database.
 
 ghost use Rattle.std.specs.Prelude.{◌≡◌, ◌≤◌, ◌⊎◌, IfOk, IfErr, None, Some, option_map};
-ghost use Rattle.pdb_container.specs.Answers.{AnswersFrom};
+ghost use Rattle.pdb_container.specs.SourceAnswers.{AnswersFrom};
 ghost use Rattle.pdb_container.specs.Fault.{fault_of, Gives, HasRisen, IsOutside};
-ghost use Rattle.pdb_symbols_modules.specs.AddressTables.{said, sections_by, original_sections_by, map_with, map_behind, address_map_by};
+ghost use Rattle.pdb_symbols_modules.specs.AddressTables.{read_if_there, sections_by, original_sections_by, map_with, map_behind, address_map_by};
 ghost use Rattle.pdb_addresses.specs.Omap.{omap_of};
 ghost use Rattle.pdb_addresses.specs.Sections.{section_headers_of};
-ghost use Rattle.pdb_symbols_modules.specs.Opened.{information, named_stream, names, debug_information, types, ids, global_symbols_by, global_symbols, sections, address_map, module_info};
+ghost use Rattle.pdb_symbols_modules.specs.DatabaseCalls.{information, named_stream, names, debug_information, types, ids, global_symbols_by, global_symbols, sections, address_map, module_info};
 ghost use Rattle.pdb_symbols_modules.specs.OptionalHeader.{optional_stream};
 ghost use Rattle.pdb_symbols_modules.specs.Shared.{shared};
 ghost use Rattle.pdb_symbols_modules.specs.Streams.{streams, stream_if_named};
@@ -28,8 +28,8 @@ use pdb_modules::{ModuleInfo, SymbolTable};
 use std::alloc::Global;
 use std::marker::Model;
 
-/// An open program database over a source, which is its value in contracts. What a call answers is a function of the
-/// source's bytes, whatever was asked before.
+/// An open program database (PDB) over a source, which is its value in contracts. What a call returns is a function of
+/// the source's bytes, whatever was asked before.
 #[derive(Drop)]
 pub struct PDB<'s, S: Source> {
     container: BigMSF<'s, S>,
@@ -42,11 +42,11 @@ impl<'s, S: Source> Model for PDB<'s, S> {
 }
 
 impl<'s, S: Source + Drop> PDB<'s, S> {
-    /// Opens the database that a source holds.
+    /// Opens the program database that a source holds.
     ///
     /// # Errors
-    /// `UnrecognizedFileFormat`, `InvalidPageSize`, `PageReferenceOutOfRange`, `UnexpectedEof`; `IoError` where the source
-    /// failed.
+    /// `UnrecognizedFileFormat`, `InvalidPageSize`, `PageReferenceOutOfRange`, `UnexpectedEof`; `IoError` where the
+    /// source failed.
     #[tactic(auto, using(crate::proofs::Opening::opened_well, crate::proofs::Opening::not_opened), unfolding(crate::specs::Streams::streams))]
     pub fn open(alloc: Global, source: S) -> Result<PDB<'s, S>>
         ensures file { IfOk result (λ p. (S.bytes p ≡ S.bytes source) × (S.failures source ≤ S.failures p) × ((streams (S.bytes source)).open_fault ≡ None)) }
@@ -56,11 +56,11 @@ impl<'s, S: Source + Drop> PDB<'s, S> {
         Ok(PDB { container })
     }
 
-    /// What the database says of itself: stream 1.
+    /// The information stream (1): what the database says of itself.
     ///
     /// # Errors
     /// Those of reading a stream ([`PDB::raw_stream`]); `UnexpectedEof` where it is short.
-    #[tactic(auto, using(pdb_container::proofs::Outside::outside_alone), unfolding(crate::specs::Opened::information, crate::specs::Shared::shared))]
+    #[tactic(auto, using(pdb_container::proofs::Outside::outside_alone), unfolding(crate::specs::DatabaseCalls::information, crate::specs::Shared::shared))]
     pub fn pdb_information(&mut self, alloc: Global) -> Result<PDBInformation<'s>>
         ensures { AnswersFrom S.bytes S.failures self.old self.new (λ i. i) result (information (shared (streams (S.bytes self.old)))) }
     {
@@ -68,12 +68,12 @@ impl<'s, S: Source + Drop> PDB<'s, S> {
         PDBInformation::parse(stream)
     }
 
-    /// What the database says of its image: stream 3.
+    /// The DBI stream (3): what the database says of its image.
     ///
     /// # Errors
     /// Those of reading a stream; `UnexpectedEof` where the header or a list isn't whole, `UnimplementedFeature` for a
     /// header of another kind.
-    #[tactic(auto, using(pdb_container::proofs::Outside::outside_alone), unfolding(crate::specs::Opened::debug_information, crate::specs::Shared::shared))]
+    #[tactic(auto, using(pdb_container::proofs::Outside::outside_alone), unfolding(crate::specs::DatabaseCalls::debug_information, crate::specs::Shared::shared))]
     pub fn debug_information(&mut self, alloc: Global) -> Result<DebugInformation<'s>>
         ensures { AnswersFrom S.bytes S.failures self.old self.new (λ d. d) result (debug_information (shared (streams (S.bytes self.old)))) }
     {
@@ -81,11 +81,11 @@ impl<'s, S: Source + Drop> PDB<'s, S> {
         DebugInformation::parse(stream)
     }
 
-    /// The table of types: stream 2.
+    /// The TPI (stream 2): the table of types.
     ///
     /// # Errors
     /// Those of reading a stream; `UnexpectedEof` and `InvalidTypeInformationHeader` for its header.
-    #[tactic(auto, using(pdb_container::proofs::Outside::outside_alone), unfolding(crate::specs::Opened::types, crate::specs::Shared::shared))]
+    #[tactic(auto, using(pdb_container::proofs::Outside::outside_alone), unfolding(crate::specs::DatabaseCalls::types, crate::specs::Shared::shared))]
     pub fn type_information(&mut self, alloc: Global) -> Result<TypeInformation<'s>>
         ensures { AnswersFrom S.bytes S.failures self.old self.new (λ t. t) result (types (shared (streams (S.bytes self.old)))) }
     {
@@ -93,11 +93,11 @@ impl<'s, S: Source + Drop> PDB<'s, S> {
         ItemInformation::parse(stream)
     }
 
-    /// The table of ids: stream 4.
+    /// The IPI (stream 4): the table of ids.
     ///
     /// # Errors
     /// Those of reading a stream; `UnexpectedEof` and `InvalidTypeInformationHeader` for its header.
-    #[tactic(auto, using(pdb_container::proofs::Outside::outside_alone), unfolding(crate::specs::Opened::ids, crate::specs::Shared::shared))]
+    #[tactic(auto, using(pdb_container::proofs::Outside::outside_alone), unfolding(crate::specs::DatabaseCalls::ids, crate::specs::Shared::shared))]
     pub fn id_information(&mut self, alloc: Global) -> Result<IdInformation<'s>>
         ensures { AnswersFrom S.bytes S.failures self.old self.new (λ t. t) result (ids (shared (streams (S.bytes self.old)))) }
     {
@@ -105,7 +105,7 @@ impl<'s, S: Source + Drop> PDB<'s, S> {
         ItemInformation::parse(stream)
     }
 
-    /// The bytes of a stream; `None` for the number that names none.
+    /// The bytes of an MSF stream; `None` for the number that names none.
     ///
     /// # Errors
     /// `StreamNotFound` where the container has no such stream, `PageReferenceOutOfRange` for a page outside the file,
@@ -122,12 +122,12 @@ impl<'s, S: Source + Drop> PDB<'s, S> {
         Ok(Some(stream))
     }
 
-    /// The bytes of the stream to which the database gives a name.
+    /// The bytes of the named stream: the one to which the database gives a name.
     ///
     /// # Errors
-    /// `StreamNameNotFound` where no stream has the name; `UnexpectedEof` where the names aren't whole; those of reading a
-    /// stream.
-    #[tactic(auto, using(pdb_container::proofs::Outside::outside_alone, pdb_container::proofs::Outside::outside_earlier, pdb_container::proofs::Outside::outside_later), unfolding(crate::specs::Opened::named_stream, crate::specs::Opened::information, crate::specs::Shared::shared, crate::specs::Shared::named, crate::specs::Shared::named_number))]
+    /// `StreamNameNotFound` where no stream has the name; `UnexpectedEof` where the names aren't whole; those of
+    /// reading a stream.
+    #[tactic(auto, using(pdb_container::proofs::Outside::outside_alone, pdb_container::proofs::Outside::outside_earlier, pdb_container::proofs::Outside::outside_later), unfolding(crate::specs::DatabaseCalls::named_stream, crate::specs::DatabaseCalls::information, crate::specs::Shared::shared, crate::specs::Shared::named, crate::specs::Shared::named_number))]
     pub fn named_stream(&mut self, alloc: Global, name: &[u8]) -> Result<Stream<'s>>
         ensures { AnswersFrom S.bytes S.failures self.old self.new (λ s. s) result (named_stream (streams (S.bytes self.old)) name.now) }
     {
@@ -137,12 +137,12 @@ impl<'s, S: Source + Drop> PDB<'s, S> {
         self.stream(alloc, u32::from(index.0))
     }
 
-    /// The names of files and modules: the stream `/names`.
+    /// The string table (`/names`): the names of files and modules.
     ///
     /// # Errors
-    /// Those of [`PDB::named_stream`]; `UnimplementedFeature` for a table of another kind, `UnexpectedEof` where it isn't
-    /// whole.
-    #[tactic(auto, using(pdb_container::proofs::Outside::outside_alone), unfolding(crate::specs::Opened::names, crate::specs::Opened::named_stream, crate::specs::Shared::shared))]
+    /// Those of [`PDB::named_stream`]; `UnimplementedFeature` for a table of another kind, `UnexpectedEof` where it
+    /// isn't whole.
+    #[tactic(auto, using(pdb_container::proofs::Outside::outside_alone), unfolding(crate::specs::DatabaseCalls::names, crate::specs::DatabaseCalls::named_stream, crate::specs::Shared::shared))]
     pub fn string_table(&mut self, alloc: Global) -> Result<StringTable<'s>>
         ensures { AnswersFrom S.bytes S.failures self.old self.new (λ t. t) result (names (shared (streams (S.bytes self.old)))) }
     {
@@ -150,11 +150,11 @@ impl<'s, S: Source + Drop> PDB<'s, S> {
         StringTable::parse(stream)
     }
 
-    /// The global symbols.
+    /// The global symbols, by the stream of symbol records.
     ///
     /// # Errors
     /// Those of [`PDB::debug_information`], and of [`PDB::global_symbols_by`].
-    #[tactic(auto, using(pdb_container::proofs::Outside::outside_earlier, pdb_container::proofs::Outside::outside_later, crate::proofs::SharedSteps::symbols_read), unfolding(crate::specs::Opened::global_symbols))]
+    #[tactic(auto, using(pdb_container::proofs::Outside::outside_earlier, pdb_container::proofs::Outside::outside_later, crate::proofs::SharedSteps::symbols_read), unfolding(crate::specs::DatabaseCalls::global_symbols))]
     pub fn global_symbols(&mut self, alloc: Global) -> Result<SymbolTable<'s>>
         ensures { AnswersFrom S.bytes S.failures self.old self.new (λ s. s) result (global_symbols (shared (streams (S.bytes self.old)))) }
     {
@@ -162,11 +162,11 @@ impl<'s, S: Source + Drop> PDB<'s, S> {
         self.global_symbols_by(alloc, &debug_information)
     }
 
-    /// The global symbols, by what was read of the image before.
+    /// The global symbols, by the DBI that was read before.
     ///
     /// # Errors
     /// `GlobalSymbolsNotFound` where no stream of symbols is named; those of reading a stream.
-    #[tactic(auto, unfolding(crate::specs::Opened::global_symbols_by, crate::specs::Streams::if_named))]
+    #[tactic(auto, unfolding(crate::specs::DatabaseCalls::global_symbols_by, crate::specs::Streams::if_named))]
     pub fn global_symbols_by(
         &mut self,
         alloc: Global,
@@ -181,12 +181,12 @@ impl<'s, S: Source + Drop> PDB<'s, S> {
         }
     }
 
-    /// What a module's own stream holds; `None` where the module has none. It depends on that stream and on the sizes
-    /// that the module states alone.
+    /// The module information: what a module's own stream holds; `None` where the module has none. It depends on that
+    /// stream and on the sizes that the module states alone.
     ///
     /// # Errors
     /// Those of reading a stream ([`PDB::raw_stream`]).
-    #[tactic(auto, unfolding(crate::specs::Opened::module_info, crate::specs::Shared::info_in))]
+    #[tactic(auto, unfolding(crate::specs::DatabaseCalls::module_info, crate::specs::Shared::info_in))]
     pub fn module_info(
         &mut self,
         alloc: Global,
@@ -200,12 +200,12 @@ impl<'s, S: Source + Drop> PDB<'s, S> {
         }
     }
 
-    /// The sections of the image; `None` where the database has no list of them.
+    /// The section headers of the image; `None` where the database has no list of them.
     ///
     /// # Errors
-    /// Those of [`PDB::debug_information`]; behind these `InvalidStreamLength` for a list of streams that isn't made of whole
-    /// numbers; those of reading a stream; `UnexpectedEof` for a section header that isn't whole.
-    #[tactic(auto, using(pdb_container::proofs::Outside::outside_earlier, pdb_container::proofs::Outside::outside_later, crate::proofs::SharedSteps::sections_read), unfolding(crate::specs::Opened::sections))]
+    /// Those of [`PDB::debug_information`]; behind these `InvalidStreamLength` for a list of streams that isn't made of
+    /// whole numbers; those of reading a stream; `UnexpectedEof` for a section header that isn't whole.
+    #[tactic(auto, using(pdb_container::proofs::Outside::outside_earlier, pdb_container::proofs::Outside::outside_later, crate::proofs::SharedSteps::sections_read), unfolding(crate::specs::DatabaseCalls::sections))]
     pub fn sections(&mut self, alloc: Global) -> Result<Option<Vec<ImageSectionHeader>>>
         ensures { AnswersFrom S.bytes S.failures self.old self.new (option_map (λ v. v.items)) result (sections (shared (streams (S.bytes self.old)))) }
     {
@@ -213,12 +213,12 @@ impl<'s, S: Source + Drop> PDB<'s, S> {
         self.sections_by(alloc, &debug_information)
     }
 
-    /// The ways between the addresses of the image and those of the database.
+    /// The address map: the ways between the addresses of the image and those of the database.
     ///
     /// # Errors
-    /// The first fault of: [`PDB::sections`]; the sections before the code was moved, where there is a list of them, as of
-    /// sections; the maps to and from these, as of reading a stream, and `InvalidStreamLength`.
-    #[tactic(auto, using(pdb_container::proofs::Outside::outside_earlier, pdb_container::proofs::Outside::outside_later, crate::proofs::SharedSteps::address_map_read), unfolding(crate::specs::Opened::address_map))]
+    /// The first fault of: [`PDB::sections`]; the sections before the code was moved, where there is a list of them, as
+    /// of sections; the maps to and from these, as of reading a stream, and `InvalidStreamLength`.
+    #[tactic(auto, using(pdb_container::proofs::Outside::outside_earlier, pdb_container::proofs::Outside::outside_later, crate::proofs::SharedSteps::address_map_read), unfolding(crate::specs::DatabaseCalls::address_map))]
     pub fn address_map(&mut self, alloc: Global) -> Result<AddressMap<'s>>
         ensures { AnswersFrom S.bytes S.failures self.old self.new (λ m. m) result (address_map (shared (streams (S.bytes self.old)))) }
     {
@@ -249,7 +249,8 @@ impl<'s, S: Source + Drop> PDB<'s, S> {
         self.raw_stream(alloc, index)
     }
 
-    /// The sections of the image, by what was read of it before; `None` where the database has no list of them.
+    /// The section headers of the image, by the DBI that was read before; `None` where the database has no list of
+    /// them.
     ///
     /// # Errors
     /// Those of [`PDB::sections`] behind stream 3.
@@ -278,7 +279,8 @@ impl<'s, S: Source + Drop> PDB<'s, S> {
         section_headers_in(alloc, stream)
     }
 
-    /// The ways between the addresses of the image and those of the database, by what was read of the image before.
+    /// The address map, by the DBI that was read before: the ways between the addresses of the image and those of the
+    /// database.
     ///
     /// # Errors
     /// Those of [`PDB::address_map`] behind stream 3.
@@ -336,7 +338,7 @@ fn section_headers_in(
     alloc: Global,
     stream: Option<Stream<'_>>,
 ) -> Result<Option<Vec<ImageSectionHeader>>>
-    ensures { Gives (option_map (λ v. v.items)) ⊥ result (said section_headers_of stream.entry) }
+    ensures { Gives (option_map (λ v. v.items)) ⊥ result (read_if_there section_headers_of stream.entry) }
 {
     match stream {
         None => Ok(None),
@@ -346,7 +348,7 @@ fn section_headers_in(
 
 /// The records of a map in a stream, if it is there.
 fn omap_in(alloc: Global, stream: Option<Stream<'_>>) -> Result<Option<Vec<OMAPRecord>>>
-    ensures { Gives (option_map (λ v. v.items)) ⊥ result (said omap_of stream.entry) }
+    ensures { Gives (option_map (λ v. v.items)) ⊥ result (read_if_there omap_of stream.entry) }
 {
     match stream {
         None => Ok(None),

@@ -1,19 +1,19 @@
-//! Numbers of streams.
+//! Stream indices: numbers of streams.
 
 ghost use Rattle.std.specs.Prelude.{◌≡◌, ◌==◌};
-ghost use Rattle.pdb_container.specs.Answers.{AnswersFrom};
+ghost use Rattle.pdb_container.specs.SourceAnswers.{AnswersFrom};
 ghost use Rattle.pdb_symbols_modules.specs.Streams.{streams, stream_if_named};
 
 use crate::pdb::PDB;
 use pdb_container::{Result, Source, Stream};
 use std::alloc::Global;
 
-/// The number of a stream, of which 0xffff names none.
+/// A stream index: the number of a stream, of which 0xffff names none.
 #[derive(Clone, Copy, Debug, PartialEq, Eq, PartialOrd, Ord, Hash)]
 pub struct StreamIndex(pub u16);
 
 impl StreamIndex {
-    /// Whether it names no stream.
+    /// Whether the number names no stream.
     pub fn is_none(self) -> bool
         ensures { result ≡ (self.0 == 65535) }
     {

@@ -1,8 +1,8 @@
 //! Goes through recorded cases: `recorded_reads FILE..`.
 //!
-//! A line of a file is a case if it holds ` => `. Before that stand words: what is asked; bytes in hexadecimal, a number or a
-//! database's file; changes of that file or further bytes; numbers. Behind it stands the answer, or the fault, that must
-//! come. Each case that is answered otherwise is printed, and then how many cases there are.
+//! A line of a file is a case if it holds ` => `. Before that stand words: what is asked; bytes in hexadecimal, a
+//! number or a database's file; changes of that file or further bytes; numbers. Behind it stands the answer, or the
+//! fault, that must come. Each case that is answered otherwise is printed, and then how many cases there are.
 #![tactic(auto)]
 
 mod addresses;

@@ -3,63 +3,116 @@
 /// What is asked.
 #[derive(Clone, Copy, Debug, PartialEq, Eq)]
 pub enum Task {
+    /// The primitive type of an index.
     Primitive,
+    /// What a type's record says.
     Type,
+    /// What an id's record says.
     Id,
+    /// What attributes of types, members and pointers mean.
     Attributes,
+    /// Binary annotations one by one.
     Annotations,
+    /// The symbols of a list from a place on.
     Symbols,
+    /// What the symbol at a place says.
     Symbol,
+    /// What the kind of the symbol at a place means.
     SymbolKind,
+    /// The first symbol at a place or later, and those behind it.
     SkipTo,
+    /// The rows of a line program.
     Lines,
+    /// The rows of the lines subsection of a place.
     LinesAt,
+    /// The source files of a line program.
     Files,
+    /// The source file of an index.
     File,
+    /// The inlinees of a module.
     Inlinees,
+    /// The rows of an inlined call.
     Call,
+    /// What a type's index stands for in another module.
     TypeImport,
+    /// What an id's index stands for in another module.
     IdImport,
+    /// The cross-module exports.
     Exports,
+    /// The type that an index leads to by the exports.
     TypeExport,
+    /// The id that an index leads to by the exports.
     IdExport,
+    /// The bytes of a stream by its number.
     Raw,
+    /// The bytes of a stream by its index.
     Get,
+    /// The bytes of a stream by its name.
     Named,
+    /// The name at an offset of the string table.
     Name,
+    /// What the information stream says.
     Information,
+    /// The names of streams.
     Names,
+    /// The machine and the age that the DBI stream says.
     Debug,
+    /// The modules.
     Modules,
+    /// The section contributions.
     Contributions,
+    /// The global symbols.
     Globals,
+    /// The global symbols from a place on.
     GlobalsAt,
+    /// The section headers of the image.
     Sections,
+    /// What the header of the TPI says.
     TypeTable,
+    /// The types one by one.
     Types,
+    /// The type of an index.
     FindType,
+    /// What the header of the IPI says.
     IdTable,
+    /// The ids one by one.
     Ids,
+    /// The id of an index.
     FindId,
+    /// The section headers of the address map.
     ImageSections,
+    /// The names of these sections.
     SectionNames,
+    /// What an RVA becomes.
     ImageAddress,
+    /// What an internal RVA becomes.
     InternalAddress,
+    /// What a place of the image becomes.
     ImagePlace,
+    /// What an internal place becomes.
     InternalPlace,
+    /// What a range of RVAs becomes.
     ImageRange,
+    /// What a range of internal RVAs becomes.
     InternalRange,
+    /// How far the place of an internal RVA goes on.
     Run,
+    /// Sums and differences of an RVA.
     ImageSums,
+    /// Sums and differences of an internal RVA.
     InternalSums,
+    /// Sums of a place of the image.
     ImagePlaceSums,
+    /// Sums of an internal place.
     InternalPlaceSums,
+    /// A word that names no task.
     Unknown,
 }
 
 /// Of what it is asked.
 #[derive(Clone, Copy, Debug)]
 pub enum Subject<'q> {
+    /// A number.
     Number(u32),
     /// Bytes in hexadecimal.
     Bytes(&'q str),
@@ -70,10 +123,15 @@ pub enum Subject<'q> {
 /// What a case asks: a task, its subject, further bytes or the file's changes, numbers and a name.
 #[derive(Clone, Copy, Debug)]
 pub struct Question<'q> {
+    /// What is asked.
     pub task: Task,
+    /// Of what it is asked.
     pub subject: Subject<'q>,
+    /// Further bytes in hexadecimal, or how the file differs.
     pub further: &'q str,
+    /// Numbers, whose meaning the task says.
     pub numbers: [u32; 3],
+    /// A name.
     pub name: &'q str,
 }
 

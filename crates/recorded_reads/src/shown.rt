@@ -15,8 +15,8 @@ pub fn push<T: Debug>(alloc: Global, text: &mut String, value: &T) -> Result<()>
     Ok(text.push_str(shown.as_str())?)
 }
 
-/// What an iterator answers up to its end: each item with `; ` behind it, and then `end` or its fault. Behind that nothing
-/// may come.
+/// What an iterator answers up to its end: each item with `; ` behind it, and then `end` or its fault. Behind that
+/// nothing may come.
 pub fn listed<T: Debug + Drop, I: FallibleIterator<Item = T, Error = Error>>(
     alloc: Global,
     iterator: &mut I,

@@ -1,11 +1,11 @@
-//! Which module holds which part of a section.
+//! Section contributions that count: which module holds which part of a section.
 
 ghost use Rattle.std.specs.Prelude.{◌≡◌, IfOk, option_map};
 ghost use Rattle.pdb_container.specs.Fault.{Gives};
 ghost use Rattle.pdb_container.specs.Listing.{whole};
 ghost use Rattle.pdb_report.specs.Contributions.{is_executable as is_executable_at, is_kept as is_kept_entry, span_of as span_of_entry, spans_of, held_of, holds as holds_place, holder as holder_of};
-ghost use Rattle.pdb_report.specs.Faults.{GivesInContext};
-ghost use Rattle.pdb_report.specs.Loading.{behind};
+ghost use Rattle.pdb_resolving.specs.Fault.{Answers};
+ghost use Rattle.pdb_report.specs.Loading.{read_behind};
 ghost use Rattle.pdb_symbols_modules.specs.Contributions.{contributions_of};
 
 use crate::pdb_addr2line::Error;
@@ -14,12 +14,16 @@ use pdb_container::{FallibleIterator, Result as PdbResult};
 use pdb_symbols_modules::{DBISectionContribution, DBISectionContributionIter, DebugInformation};
 use std::alloc::{AllocError, Global};
 
-/// What a module holds of a section: from a start to an end, both offsets in bytes, the end not held.
+/// A section contribution of a module: what it holds of a section, from a start to before an end.
 #[derive(Clone, Copy, Debug)]
 pub struct ModuleSectionContribution {
+    /// The section's number, counted from 1.
     pub section: u16,
+    /// The offset at which it begins, in bytes.
     pub start: u32,
+    /// The offset at which it ends, in bytes; the byte there isn't held.
     pub end: u32,
+    /// The module's number, counted from 0.
     pub module: u16,
 }
 
@@ -77,20 +81,20 @@ fn read_contributions(
     alloc: Global,
     debug_information: &DebugInformation<'_>,
 ) -> PdbResult<Vec<DBISectionContribution>>
-    ensures { Gives (λ v. v.items) ⊥ result (behind (contributions_of debug_information.now.contributions) whole) }
+    ensures { Gives (λ v. v.items) ⊥ result (read_behind (contributions_of debug_information.now.contributions) whole) }
 {
     let iterator = debug_information.section_contributions()?;
     collect_contributions(alloc, iterator)
 }
 
-/// What the modules hold, by the contributions of stream 3. `UnexpectedEof`, `UnimplementedFeature`.
+/// The section contributions that count: what the modules hold. `UnexpectedEof`, `UnimplementedFeature`.
 #[tactic(auto, using(crate::proofs::Lifting::context_fails), unfolding(crate::specs::Contributions::held_of))]
 pub fn held_contributions(
     alloc: Global,
     sections: &[ImageSectionHeader],
     debug_information: &DebugInformation<'_>,
 ) -> Result<Vec<ModuleSectionContribution>, Error>
-    ensures { GivesInContext (λ v. v.items) result (held_of sections.now debug_information.now.contributions) }
+    ensures { Answers (λ v. v.items) result (held_of sections.now debug_information.now.contributions) }
 {
     let entries = read_contributions(alloc, debug_information)?;
     let spans = kept_spans(alloc, sections, entries.as_slice())?;
@@ -117,7 +121,7 @@ fn holds(place: PdbInternalSectionOffset, span: ModuleSectionContribution) -> bo
     span.section == place.section && span.start <= place.offset && place.offset < span.end
 }
 
-/// By what a module holds the place.
+/// The contribution that holds a place.
 pub fn holder(
     spans: &[ModuleSectionContribution],
     place: PdbInternalSectionOffset,

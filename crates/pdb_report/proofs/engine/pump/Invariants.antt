@@ -2,7 +2,7 @@ use Rattle.std.proofs.Common.{◌≡◌, ℕ, ◌+◌, List, length}
 use Rattle.std.specs.List.{flat_map}
 use Rattle.std.specs.Io.KnownBytes.{Appends, Consumes}
 use Rattle.pdb_report.specs.Watched.{inner_of, IsQuiet}
-use Rattle.pdb_report.specs.Lines.{kept_lines, kept_rest}
+use Rattle.pdb_report.specs.InputLines.{kept_lines, kept_rest}
 use Rattle.pdb_report.proofs.engine.pump.Given as goal
 
 -- the lines that the bytes so far end are answered

@@ -1,6 +1,6 @@
 use Rattle.std.proofs.Common.{rules, arith, ◌∙◌, ◌≡◌, ◌≢◌, [], ◌∷◌, List, ℕ, sym, ap, subst, length, refl}
 use Rattle.std.specs.Io.KnownBytes.{Appends}
-use Rattle.pdb_report.specs.Lines.{Begins}
+use Rattle.pdb_report.specs.InputLines.{Begins}
 use Rattle.pdb_report.proofs.Runs.{run_read_out, run_too_long, run_part, run_ended, run_last, run_last_part}
 use Rattle.pdb_report.proofs.engine.run.Goals as goal
 

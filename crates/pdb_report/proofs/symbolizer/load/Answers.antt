@@ -36,4 +36,4 @@ invariant_of-result c =
     let found = rw (checked, entries_too, held) at c.in_ok-procedures.ensures.kept in
     let kept = is_kept c.args.pdb.items c.in_ok-debug_information.debug_information c.in_ok-parts.parts c.in_ok-procedures.procedures tt c.requires c.in_ok-debug_information.ensures.exact load c.in_ok-parts.ensures.modules plain found
     c.in_ok-parts.ensures.ordered in
-    rw (c.read_modules.ensures.same, checked, ap (λ q. q.map) c.parts.view_is, ap (λ q. q.contributions) c.parts.view_is) kept
+    rw (c.read_procedures.ensures.same, checked, ap (λ q. q.map) c.parts.view_is, ap (λ q. q.contributions) c.parts.view_is) kept

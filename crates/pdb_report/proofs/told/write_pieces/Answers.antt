@@ -1,6 +1,6 @@
 use Rattle.std.proofs.Common.{refl}
 use Rattle.std.proofs.KnownBytes.{Appends-nil}
-use Rattle.pdb_report.specs.Told.{piece_text}
+use Rattle.pdb_report.specs.ToldFault.{piece_text}
 use Rattle.pdb_report.proofs.Pieces.{pieces_more, pieces_part, pieces_all}
 use Rattle.pdb_report.proofs.told.write_pieces.Goals as goal
 

@@ -1,5 +1,5 @@
 use Rattle.std.proofs.Common.{arith}
-use Rattle.pdb_symbols_modules.specs.NamesSeen.{nul_places}
+use Rattle.pdb_symbols_modules.specs.NameBlock.{nul_places}
 use Rattle.pdb_symbols_modules.proofs.NulPlaces.{places_done}
 use Rattle.pdb_symbols_modules.proofs.name_block.nul_places.Goals as goal
 

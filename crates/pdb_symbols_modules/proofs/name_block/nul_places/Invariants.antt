@@ -1,5 +1,5 @@
 use Rattle.std.proofs.Common.{◌≡◌, ◌++◌, drop}
-use Rattle.pdb_symbols_modules.specs.NamesSeen.{nul_places}
+use Rattle.pdb_symbols_modules.specs.NameBlock.{nul_places}
 use Rattle.pdb_symbols_modules.proofs.name_block.nul_places.Given as goal
 
 -- the places so far, and those of the bytes that are left

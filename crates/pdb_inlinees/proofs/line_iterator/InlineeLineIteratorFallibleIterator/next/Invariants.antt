@@ -1,5 +1,5 @@
 use Rattle.std.proofs.Common.{◌≡◌, length}
-use Rattle.pdb_inlinees.specs.ToCome.{to_come}
+use Rattle.pdb_inlinees.specs.RowsToCome.{to_come}
 use Rattle.pdb_inlinees.proofs.line_iterator.InlineeLineIteratorFallibleIterator.next.Given as goal
 
 -- what is still to come is what was to come before the loop

@@ -1,6 +1,6 @@
 use Rattle.std.proofs.Common.{List, ℕ, Option, Result, subst}
 use Rattle.pdb_container.specs.Fault.{Fault, Parses}
-use Rattle.pdb_items.specs.Walking.{seen}
+use Rattle.pdb_items.specs.KeptPlaces.{seen}
 use Rattle.pdb_items.proofs.Blocks.{known_number}
 use Rattle.pdb_items.proofs.item_finder.ItemFinder.known_piece.Goals as goal
 

@@ -1,7 +1,7 @@
 use Rattle.std.proofs.Common.{sym, ◌∙◌, ap}
 use Rattle.std.specs.Prelude.{map}
 use Rattle.pdb_symbols_modules.specs.Information.{number_of}
-use Rattle.pdb_symbols_modules.specs.NamesSeen.{stream_name_seen}
+use Rattle.pdb_symbols_modules.specs.NameBlock.{stream_name_seen}
 use Rattle.pdb_symbols_modules.proofs.NameLemmas.{none_named, some_named}
 use Rattle.pdb_symbols_modules.proofs.information.StreamNames.find.Goals as goal
 

@@ -1,0 +1,102 @@
+//! Lists the lines of a program database, module by module: `list_lines FILE`.
+//!
+//! It prints the name of each module; behind it each procedure by its place (section and offset), the length of its code and its
+//! name; and behind that each row of its lines: where the row's code begins in the section, how many bytes it has, or `-`
+//! where that isn't known, and the file and line that it was made of. Places are hexadecimal, lengths decimal.
+//!
+//! Its stored run lists a file of two modules. In `main.obj` lie the procedures `main`, of 0x20 bytes at 0x10 of section 1, and
+//! `helper`, of 0x10 bytes at 0x30, and the lines of each are a subsection of its own. Those of `main` have rows at 0 and 8 of it
+//! for lines 5 and 7 of `main.c`, and at 0x18 for line 3 of `inline.h`, which ends where the subsection does. Those of `helper`
+//! have rows at 0 and 0x14 of it for lines 12 and 13 of `inline.h`: the second lies past the end of the subsection, and so has
+//! no length. `import.dll` has no stream of its own.
+#![tactic(auto)]
+
+use anyhow::{Context, Result};
+use pdb_container::{Error, FallibleIterator, RawString, StringTable};
+use pdb_symbols_modules::{
+    LineInfo, LineProgram, Module, ModuleInfo, PDB, ProcedureSymbol, SymbolData,
+};
+use std::{env, fs, io};
+
+/// An open database over a file's bytes.
+type Database = PDB<'static, Vec<u8>>;
+
+fn main(rt: HostRuntime) -> Result<()> {
+    let file = env::args(&rt)?.nth(1).context("usage: list_lines FILE")?;
+    let bytes = fs::read(&rt, file.as_str())?;
+    let mut database = PDB::open(rt.alloc(), bytes)?;
+    list_modules(&rt, &mut database)
+}
+
+/// Lists the modules of a database.
+fn list_modules(rt: &(impl Print + AllocGlobal), database: &mut Database) -> Result<()> {
+    let names = database.string_table(rt.alloc())?;
+    let debug_information = database.debug_information(rt.alloc())?;
+    let mut modules = debug_information.modules();
+    while let Some(module) = modules.next()? {
+        list_module(rt, database, &module, &names)?;
+    }
+    Ok(())
+}
+
+/// Lists a module; one without a stream of its own by its name alone.
+fn list_module(
+    rt: &(impl Print + AllocGlobal),
+    database: &mut Database,
+    module: &Module<'_>,
+    names: &StringTable<'_>,
+) -> Result<()> {
+    println!(rt; "{}", module.raw_module_name())?;
+    match database.module_info(rt.alloc(), module)? {
+        None => Ok(()),
+        Some(info) => list_procedures(rt, &info, names),
+    }
+}
+
+/// Lists the procedures of a module.
+fn list_procedures(
+    rt: &(impl Print + AllocGlobal),
+    info: &ModuleInfo<'_>,
+    names: &StringTable<'_>,
+) -> Result<()> {
+    let lines = info.line_program(rt.alloc())?;
+    let mut symbols = info.symbols()?;
+    while let Some(symbol) = symbols.next()? {
+        match symbol.parse() {
+            Ok(SymbolData::Procedure(procedure)) => list_procedure(rt, &procedure, &lines, names)?,
+            Ok(_) | Err(Error::UnimplementedSymbolKind(_)) => {}
+            Err(fault) => return Err(fault.into()),
+        }
+    }
+    Ok(())
+}
+
+/// Lists a procedure and the rows of its lines.
+fn list_procedure(
+    rt: &impl Print,
+    procedure: &ProcedureSymbol<'_>,
+    lines: &LineProgram<'_>,
+    names: &StringTable<'_>,
+) -> Result<()> {
+    let place = procedure.offset;
+    println!(rt;
+        "  {:04x}:{:08x} {} {}",
+        place.section, place.offset, procedure.len, procedure.name
+    )?;
+    let mut rows = lines.lines_for_symbol(place);
+    while let Some(row) = rows.next()? {
+        let file = lines.get_file_info(row.file_index)?;
+        list_row(rt, row, names.get(file.name)?)?;
+    }
+    Ok(())
+}
+
+/// Lists a row, of a file of this name.
+fn list_row(rt: &impl Print, row: LineInfo, file: RawString<'_>) -> io::Result<()> {
+    let place = row.offset.offset;
+    let line = row.line_start;
+    match row.length {
+        None => println!(rt; "    {place:08x} - {file}:{line}"),
+        Some(length) => println!(rt; "    {place:08x} {length} {file}:{line}"),
+    }
+}

@@ -1,0 +1,160 @@
+//! The state of an inlined call's rows: what is in force at an annotation.
+
+ghost use Rattle.std.specs.Prelude.{◌≡◌, [], ◌∷◌, unwrap_or, option_map};
+ghost use Rattle.pdb_inlinees.specs.InlinedRows.{row_behind, length_by, place_behind, line_behind, last_line_behind, last_column_behind, is_same_kind};
+ghost use Rattle.pdb_inlinees.specs.Operands.{own_length, range_kind, column_change};
+ghost use Rattle.pdb_annotations.specs.declared.annotation.BinaryAnnotation.TheVariants as kinds;
+ghost use Rattle.pdb_inlinees.specs.RowsToCome.{state_behind, moved_on};
+
+use pdb_addresses::PdbInternalSectionOffset;
+use pdb_annotations::BinaryAnnotation;
+use pdb_indices::FileIndex;
+use pdb_subsections::{LineInfo, LineInfoKind};
+
+/// The state before the annotations that are still to come.
+#[derive(Clone, Copy, Debug)]
+pub(crate) struct AnnotationState {
+    /// The section's number, counted from 1.
+    pub section: u16,
+    /// The offset at which the code goes on, in bytes.
+    pub offset: u32,
+    /// What is added to that offset at each row, in bytes.
+    pub base: u32,
+    /// The file of the next row.
+    pub file: FileIndex,
+    /// The line of the next row, counted from 1.
+    pub line: u32,
+    /// How far the last line lies behind the first.
+    pub line_length: u32,
+    /// The first column, where one was given.
+    pub first_column: Option<u32>,
+    /// The last column, where one was given.
+    pub last_column: Option<u32>,
+    /// What the next row is of.
+    pub kind: LineInfoKind,
+}
+
+fn kind_by(number: u32, kind: LineInfoKind) -> LineInfoKind
+    ensures { result ≡ unwrap_or (range_kind (kinds.ChangeRangeKind number)) kind }
+{
+    match number {
+        0 => LineInfoKind::Expression,
+        1 => LineInfoKind::Statement,
+        _ => kind,
+    }
+}
+
+fn moved_column(column: Option<u32>, columns: i32) -> Option<u32>
+    ensures { result ≡ option_map (moved_on (column_change (kinds.ChangeColumnEndDelta columns))) column }
+{
+    match column {
+        None => None,
+        Some(column) => Some(column.wrapping_add(columns.cast_unsigned())),
+    }
+}
+
+impl AnnotationState {
+    /// What holds behind an annotation.
+    pub(crate) fn behind(self, annotation: BinaryAnnotation) -> AnnotationState
+        ensures { result ≡ state_behind self annotation }
+    {
+        match annotation {
+            BinaryAnnotation::CodeOffset(offset) => AnnotationState { offset, ..self },
+            BinaryAnnotation::ChangeCodeOffsetBase(base) => AnnotationState { base, ..self },
+            BinaryAnnotation::ChangeCodeOffset(offset) => AnnotationState {
+                offset: self.offset.wrapping_add(offset),
+                ..self
+            },
+            BinaryAnnotation::ChangeCodeLength(length) => AnnotationState {
+                offset: self.offset.wrapping_add(length),
+                ..self
+            },
+            BinaryAnnotation::ChangeFile(file) => AnnotationState { file, ..self },
+            BinaryAnnotation::ChangeLineOffset(lines) => AnnotationState {
+                line: self.line.wrapping_add(lines.cast_unsigned()),
+                ..self
+            },
+            BinaryAnnotation::ChangeLineEndDelta(line_length) => AnnotationState {
+                line_length,
+                ..self
+            },
+            BinaryAnnotation::ChangeRangeKind(number) => AnnotationState {
+                kind: kind_by(number, self.kind),
+                ..self
+            },
+            BinaryAnnotation::ChangeColumnStart(column) => AnnotationState {
+                first_column: Some(column),
+                ..self
+            },
+            BinaryAnnotation::ChangeColumnEndDelta(columns) => AnnotationState {
+                last_column: moved_column(self.last_column, columns),
+                ..self
+            },
+            BinaryAnnotation::ChangeCodeOffsetAndLineOffset(offset, lines) => AnnotationState {
+                offset: self.offset.wrapping_add(offset),
+                line: self.line.wrapping_add(lines.cast_unsigned()),
+                ..self
+            },
+            BinaryAnnotation::ChangeCodeLengthAndCodeOffset(_, offset) => AnnotationState {
+                offset: self.offset.wrapping_add(offset),
+                ..self
+            },
+            BinaryAnnotation::ChangeColumnEnd(column) => AnnotationState {
+                last_column: Some(column),
+                ..self
+            },
+        }
+    }
+
+    /// The offset at which a row begins here.
+    #[tactic(auto, unfolding(crate::specs::InlinedRows::place_behind))]
+    pub(crate) fn place(self) -> u32
+        ensures { result ≡ place_behind self [] }
+    {
+        self.offset.wrapping_add(self.base)
+    }
+
+    /// The line of a row that begins here.
+    #[tactic(auto, unfolding(crate::specs::InlinedRows::line_behind))]
+    fn line(self) -> u32
+        ensures { result ≡ line_behind self [] }
+    {
+        self.line
+    }
+
+    /// The last line of a row that begins here.
+    #[tactic(auto, unfolding(crate::specs::InlinedRows::last_line_behind))]
+    fn last_line(self) -> u32
+        ensures { result ≡ last_line_behind self [] }
+    {
+        self.line().wrapping_add(self.line_length)
+    }
+
+    /// The last column of a row that begins here.
+    #[tactic(auto, unfolding(crate::specs::InlinedRows::last_column_behind))]
+    fn last_column(self) -> Option<u32>
+        ensures { result ≡ last_column_behind self [] }
+    {
+        self.last_column
+    }
+
+    /// The row that begins here.
+    #[tactic(auto, unfolding(crate::specs::InlinedRows::row_behind))]
+    pub(crate) fn row(self, length: Option<u32>) -> LineInfo
+        ensures { result ≡ row_behind self [] length }
+    {
+        LineInfo {
+            offset: PdbInternalSectionOffset {
+                offset: self.place(),
+                section: self.section,
+            },
+            length,
+            file_index: self.file,
+            line_start: self.line(),
+            line_end: self.last_line(),
+            column_start: self.first_column,
+            column_end: self.last_column(),
+            kind: self.kind,
+        }
+    }
+}

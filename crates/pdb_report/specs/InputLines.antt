@@ -1,0 +1,45 @@
+-- The lines of an input, and the report on them.
+use Rattle.std.specs.Prelude.{◌≡◌, ℕ, ◌==◌, if◌then◌else◌, List, [], ◌∷◌, ◌++◌, take}
+use Rattle.std.specs.List.{flat_map}
+
+-- lines whose first one begins with one more byte
+abbrev pub onto : ℕ → List (List ℕ) → List (List ℕ)
+onto b [] = (b ∷ []) ∷ []
+onto b (line ∷ lines) = (b ∷ line) ∷ lines
+
+-- a newline ends a line; behind the last newline stands one more, if any byte does
+abbrev pub input_lines : List ℕ → List (List ℕ)
+input_lines [] = []
+input_lines (b ∷ bs) = if b == 10 then [] ∷ input_lines bs else onto b (input_lines bs)
+
+-- ended lines whose first one begins with one more byte; none, where no line ends
+abbrev pub onto_ended : ℕ → List (List ℕ) → List (List ℕ)
+onto_ended b [] = []
+onto_ended b (line ∷ lines) = (b ∷ line) ∷ lines
+
+-- the lines that a newline ends
+abbrev pub ended_input_lines : List ℕ → List (List ℕ)
+ended_input_lines [] = []
+ended_input_lines (b ∷ bs) = if b == 10 then [] ∷ ended_input_lines bs else onto_ended b (ended_input_lines bs)
+
+-- what is written for an input
+abbrev pub report : (List ℕ → List ℕ) → List ℕ → List ℕ
+report text input = flat_map text (input_lines input)
+
+-- what is written for the lines that a newline ends
+abbrev pub report_of_ended : (List ℕ → List ℕ) → List ℕ → List ℕ
+report_of_ended text input = flat_map text (ended_input_lines input)
+
+-- out is the front of whole
+abbrev pub Begins : List ℕ → List ℕ → Type 0
+Begins out whole = (more : List ℕ) × (whole ≡ out ++ more)
+
+-- the lines that bytes end, each by its first twelve bytes, where `kept` has those of the line before the bytes
+abbrev pub kept_lines : List ℕ → List ℕ → List (List ℕ)
+kept_lines kept [] = []
+kept_lines kept (b ∷ bs) = if b == 10 then kept ∷ kept_lines [] bs else kept_lines (take 12 (kept ++ b ∷ [])) bs
+
+-- what is kept behind them: the first twelve bytes of the line that has not ended
+abbrev pub kept_rest : List ℕ → List ℕ → List ℕ
+kept_rest kept [] = kept
+kept_rest kept (b ∷ bs) = if b == 10 then kept_rest [] bs else kept_rest (take 12 (kept ++ b ∷ [])) bs

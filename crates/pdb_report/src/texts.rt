@@ -1,0 +1,66 @@
+//! The text of an answer.
+
+ghost use Rattle.std.specs.Prelude.{◌≡◌, ◌++◌, ◌∷◌, IfOk, OnOk, string_bytes, option_map, codes};
+ghost use Rattle.std.specs.List.{flat_map};
+ghost use Rattle.pdb_report.specs.AddressText.{eight_digits, frame_text, answer_text, text_or};
+ghost use Rattle.pdb_report.specs.FramesAnswer.{answer_seen};
+
+use crate::pdb_addr2line::frames::{Frame, FunctionFrames};
+use std::alloc::{AllocError, Global};
+
+/// Appends the line of a frame.
+fn append_frame(text: &mut String, frame: &Frame) -> Result<(), AllocError>
+    ensures { OnOk result (string_bytes text.new ≡ string_bytes text.old ++ frame_text frame.now) }
+{
+    let function = text_or_unknown(&frame.function);
+    let file = text_or_unknown(&frame.file);
+    match frame.line {
+        None => write!(text, "  {function} at {file}:??\n"),
+        Some(line) => write!(text, "  {function} at {file}:{line}\n"),
+    }
+}
+
+/// The text, or two question marks.
+fn text_or_unknown(text: &Option<String>) -> &str
+    ensures { result.now ≡ text_or (option_map string_bytes text.now) }
+{
+    match text {
+        None => "??",
+        Some(text) => text.as_str(),
+    }
+}
+
+/// Appends the lines of an answer.
+#[tactic(auto, unfolding(crate::specs::AddressText::answer_text))]
+fn append_answer(text: &mut String, answer: &Option<FunctionFrames>) -> Result<(), AllocError>
+    ensures { OnOk result (string_bytes text.new ≡ string_bytes text.old ++ answer_text (answer_seen answer.now)) }
+{
+    match answer {
+        None => text.push_str("  ??\n"),
+        Some(found) => append_frames(text, found.frames.as_slice()),
+    }
+}
+
+/// Appends the lines of frames.
+#[tactic(auto, using(crate::proofs::FrameSteps::lines_more, crate::proofs::FrameSteps::lines_all))]
+fn append_frames(text: &mut String, frames: &[Frame]) -> Result<(), AllocError>
+    ensures { OnOk result (string_bytes text.new ≡ string_bytes text.old ++ flat_map frame_text frames.now) }
+{
+    for frame in frames {
+        append_frame(text, frame)?;
+    }
+    Ok(())
+}
+
+/// The lines of an address: itself, and its answer.
+pub fn address_text(
+    alloc: Global,
+    address: u32,
+    answer: &Option<FunctionFrames>,
+) -> Result<String, AllocError>
+    ensures { IfOk result (λ t. string_bytes t ≡ codes "0x" ++ eight_digits address ++ 10 ∷ answer_text (answer_seen answer.now)) }
+{
+    let mut text = format!(in alloc; "0x{address:08x}\n")?;
+    append_answer(&mut text, answer)?;
+    Ok(text)
+}

@@ -1,0 +1,3 @@
+pub mod LastPlaces
+pub mod Lifting
+pub mod ModuleSteps

@@ -1,0 +1,79 @@
+-- Faults of answers about types, functions and addresses: what an error counts as, and when a call may answer one.
+use Rattle.std.specs.Prelude.{◌≡◌, ℕ, List, Result, Ok, Err}
+use Rattle.std.specs.String.{string_bytes}
+use Rattle.pdb_container.specs.declared.error.Error as container
+use Rattle.pdb_container.specs.declared.error.Error.TheVariants as causes
+use Rattle.pdb_container.specs.Fault as container_fault
+use Rattle.pdb_resolving.specs.declared.error.Error.{Error}
+use Rattle.pdb_resolving.specs.declared.error.Error.TheVariants as errors
+
+-- a fault of a definition: one for each variant of the crate's error but want of memory, which is in no definition
+pub data Fault : Type 0 where
+  FormatError : Fault
+  PdbError : container_fault.Fault → Fault
+  ArgumentTypeNotArgumentList : Fault
+  FunctionIdIsNotProcedureType : Fault
+  MemberFunctionIdIsNotMemberFunctionType : Fault
+  UnorderedSectionContributions : ℕ → ℕ → Fault
+  OverlappingSectionContributions : ℕ → ℕ → ℕ → Fault
+  ProcedureLinesUnsuccessful : Fault
+  ProcedureInlineRangesUnsuccessful : Fault
+  ExtendedModuleInfoUnsuccessful : Fault
+  ModuleImportsUnsuccessful : Fault
+  ModuleExportsUnsuccessful : Fault
+  CantResolveCrossModuleRefWithoutStringTable : Fault
+  ModuleNameNotFound : List ℕ → Fault
+  LocalIndexNotInExports : ℕ → Fault
+  OutOfRangeModuleIndex : ℕ → Fault
+  ModuleInfoNotFound : ℕ → Fault
+  CircularTypeDefinition : ℕ → Fault
+
+-- want of memory is a fault of its own, whichever way it came
+abbrev pub error_of : container.Error → Error
+error_of causes.OutOfMemory = errors.OutOfMemory
+error_of e = errors.PdbError e
+
+-- what fault an error is; want of memory is none, and its value there stands in no promise
+abbrev pub fault_of : Error → Fault
+fault_of (errors.FormatError e) = FormatError
+fault_of (errors.PdbError e) = PdbError (container_fault.fault_of e)
+fault_of errors.ArgumentTypeNotArgumentList = ArgumentTypeNotArgumentList
+fault_of errors.FunctionIdIsNotProcedureType = FunctionIdIsNotProcedureType
+fault_of errors.MemberFunctionIdIsNotMemberFunctionType = MemberFunctionIdIsNotMemberFunctionType
+fault_of (errors.UnorderedSectionContributions a b) = UnorderedSectionContributions a b
+fault_of (errors.OverlappingSectionContributions a b c) = OverlappingSectionContributions a b c
+fault_of errors.ProcedureLinesUnsuccessful = ProcedureLinesUnsuccessful
+fault_of errors.ProcedureInlineRangesUnsuccessful = ProcedureInlineRangesUnsuccessful
+fault_of errors.ExtendedModuleInfoUnsuccessful = ExtendedModuleInfoUnsuccessful
+fault_of errors.ModuleImportsUnsuccessful = ModuleImportsUnsuccessful
+fault_of errors.ModuleExportsUnsuccessful = ModuleExportsUnsuccessful
+fault_of errors.CantResolveCrossModuleRefWithoutStringTable = CantResolveCrossModuleRefWithoutStringTable
+fault_of (errors.ModuleNameNotFound name) = ModuleNameNotFound (string_bytes name)
+fault_of (errors.LocalIndexNotInExports a) = LocalIndexNotInExports a
+fault_of (errors.OutOfRangeModuleIndex a) = OutOfRangeModuleIndex a
+fault_of (errors.ModuleInfoNotFound a) = ModuleInfoNotFound a
+fault_of (errors.CircularTypeDefinition a) = CircularTypeDefinition a
+fault_of errors.OutOfMemory = CantResolveCrossModuleRefWithoutStringTable
+
+-- a fault of the container is one of these
+abbrev pub lifted : {A : Type 0} → Result A container_fault.Fault → Result A Fault
+lifted (Ok x) = Ok x
+lifted (Err e) = Err (PdbError e)
+
+-- A call fails: memory was short, or reading has that fault. Want of memory never comes as the container's.
+abbrev pub Fails : {Y : Type 0} → Error → Result Y Fault → Type 0
+Fails errors.OutOfMemory read = Unit {0}
+Fails (errors.PdbError causes.OutOfMemory) read = ⊥
+Fails e read = read ≡ Err (fault_of e)
+
+-- What a call returned, seen by view, is what reading gives, unless memory was short.
+abbrev pub Answers : {X Y : Type 0} → (X → Y) → Result X Error → Result Y Fault → Type 0
+Answers view (Ok x) read = read ≡ Ok (view x)
+Answers view (Err e) read = Fails e read
+
+-- a fault that what gives modules may answer: never one that could be taken for a type's own, nor a failed read
+abbrev pub IsOfModules : container_fault.Fault → Type 0
+IsOfModules (container_fault.TypeNotFound index) = ⊥
+IsOfModules (container_fault.UnimplementedTypeKind leaf) = ⊥
+IsOfModules (container_fault.IoError kind) = ⊥
+IsOfModules e = Unit {0}

@@ -1,0 +1,11 @@
+//! What answers about types and functions fail with, what gives a module's own stream, and how an index that leads into
+//! another module is resolved.
+#![tactic(auto)]
+
+mod error;
+mod provider;
+mod resolver;
+
+pub use error::{Error, Result};
+pub use provider::{ModuleProvider, ModuleTables};
+pub use resolver::Resolver;

@@ -1,0 +1,61 @@
+//! What gives modules.
+
+ghost use Rattle.std.specs.Prelude.{ℕ, Option, Result, option_map, IfErr};
+ghost use Rattle.pdb_container.specs.Fault.{Fault, Gives, Parses};
+ghost use Rattle.pdb_modules.specs.ModuleStream.{ModuleStream, imports_in, exports_in};
+ghost use Rattle.pdb_symbols_modules.specs.Modules as entries;
+ghost use Rattle.pdb_resolving.specs.Fault.{IsOfModules};
+
+use pdb_container::Error;
+use pdb_symbols_modules::{CrossModuleExports, CrossModuleImports, Module, ModuleInfo};
+use std::alloc::Global;
+
+/// What a module's own stream holds, as far as other modules ask for it.
+pub trait ModuleTables {
+    /// The stream, with the sizes of its parts.
+    ghost held: { Self → ModuleStream };
+
+    /// As [`ModuleInfo::imports`].
+    fn imports(&self, alloc: Global) -> std::result::Result<CrossModuleImports<'_>, Error>
+        ensures { Gives (λ i. i) ⊥ result (imports_in (held self.now)) };
+
+    /// As [`ModuleInfo::exports`].
+    fn exports(&self) -> std::result::Result<CrossModuleExports<'_>, Error>
+        ensures { Parses (λ e. e) result (exports_in (held self.now)) };
+}
+
+impl<'s> ModuleTables for ModuleInfo<'s> {
+    ghost held = { λ m. m };
+
+    fn imports(&self, alloc: Global) -> std::result::Result<CrossModuleImports<'_>, Error> {
+        ModuleInfo::imports(self, alloc)
+    }
+
+    fn exports(&self) -> std::result::Result<CrossModuleExports<'_>, Error> {
+        ModuleInfo::exports(self)
+    }
+}
+
+/// Gives what the modules of a database hold: the same answer for the same arguments.
+pub trait ModuleProvider {
+    /// What a module's own stream holds.
+    type Info: ModuleTables;
+
+    /// What the module of a number and an entry holds in its own stream, if it has one, or the fault.
+    ghost provided: { Self → ℕ → entries.Module → Result (Option ModuleStream) Fault };
+
+    /// What a module's own stream holds, by the module's number, counted from 0, and its entry; `None` where it has none.
+    ///
+    /// # Errors
+    /// The fault of the module's stream; never `TypeNotFound`, `UnimplementedTypeKind`, `IoError` or `OutOfMemory`. A fault
+    /// that was kept is `Kept`.
+    fn get_module_info(
+        &self,
+        module_index: usize,
+        module: &Module<'_>,
+    ) -> std::result::Result<Option<&Self::Info>, Error>
+        ensures { Parses (option_map (λ info. Self.Info.held info.now)) result (provided self.now module_index «module».now) };
+
+    /// No fault could be taken for a type's own, or for a failed read.
+    ghost faults_of_modules: { (p : Self) (number : ℕ) (entry : entries.Module) → IfErr (provided p number entry) IsOfModules };
+}

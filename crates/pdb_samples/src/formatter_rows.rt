@@ -1,0 +1,172 @@
+use crate::bytes::push_u32;
+use crate::database::ProgramDatabase;
+use crate::debug_information::Module;
+use crate::error::Result;
+use crate::records::Record;
+use crate::rows::{
+    Change, INLINE_SITE, INLINE_SITE_END, SCOPE_END, file_with, module_of_symbols, push_scope,
+};
+use crate::symbols::{Procedure, push_end};
+use std::alloc::Global;
+
+/// The payload of an inline site in the record at 4, of the inlinee 0x80000000, with one row of eight bytes at its
+/// procedure's start. Its end isn't known yet.
+const SITE: &[u8; 15] = b"\x04\0\0\0\0\0\0\0\0\0\0\x80\x0c\x08\0";
+
+/// The names: nothing at 0, `a.c` at 1, `c.obj` at 5 and `b.h` at 11.
+const NAMES: &[u8] = b"\0a.c\0c.obj\0b.h\0";
+
+/// What the second module contributes to section 1: 0x40 bytes at 0x80.
+const SECOND: [u32; 7] = [1, 0x80, 0x40, 0x6000_0020, 1, 0, 0];
+
+/// The line data of the first module: those of file F and a file `b.h`, its inlinee at line 3 of that, and an import from
+/// `c.obj`.
+const FIRST_LINES: [u32; 29] = [
+    0xf4,
+    16,
+    1,
+    0,
+    11,
+    0,
+    0xf2,
+    40,
+    0x10,
+    1,
+    0x20,
+    0,
+    2,
+    28,
+    0,
+    0x8000_0005,
+    8,
+    0x8000_0007,
+    0xf6,
+    16,
+    0,
+    0x8000_0000,
+    8,
+    3,
+    0xf7,
+    12,
+    5,
+    1,
+    0x8000_1000,
+];
+
+/// Those of the second: a file `b.h`, its inlinee at line 4 of that, and another import from `c.obj`.
+const SECOND_LINES: [u32; 15] = [
+    0xf4,
+    8,
+    11,
+    0,
+    0xf6,
+    16,
+    0,
+    0x8000_0000,
+    0,
+    4,
+    0xf7,
+    12,
+    5,
+    1,
+    0x8000_1001,
+];
+
+/// The exports of `c.obj`.
+const EXPORTS: [u32; 6] = [0xf8, 16, 0x8000_1000, 0x1000, 0x8000_1001, 0x1001];
+
+/// No arguments, and a function of these that returns nothing.
+const TYPES: &[Record] = &[
+    Record::ArgumentList(&[]),
+    Record::Procedure {
+        return_type: 3,
+        attributes: 0,
+        arguments: 0x1000,
+    },
+];
+
+/// Two such functions.
+const IDS: &[Record] = &[
+    Record::FunctionId {
+        scope: 0,
+        function_type: 0x1001,
+        name: b"g",
+    },
+    Record::FunctionId {
+        scope: 0,
+        function_type: 0x1001,
+        name: b"h",
+    },
+];
+
+/// A pointer to itself, arguments of its type, and a function of these that returns nothing: 0x1000 to 0x1002.
+const SELF_POINTER: &[Record] = &[
+    Record::Pointer {
+        underlying: 0x1000,
+        attributes: 0x1_000c,
+    },
+    Record::ArgumentList(&[0x1000]),
+    Record::Procedure {
+        return_type: 3,
+        attributes: 0,
+        arguments: 0x1001,
+    },
+];
+
+/// File F0 with these types and ids.
+pub fn file_of_items(alloc: Global, types: &[Record], ids: &[Record]) -> Result<ProgramDatabase> {
+    let mut database = file_with(alloc, Change::Nothing)?;
+    database.types.extend(types)?;
+    database.ids.extend(ids)?;
+    Ok(database)
+}
+
+/// File F0 where `f` has one argument, which is a pointer to itself.
+pub fn self_pointer(alloc: Global) -> Result<ProgramDatabase> {
+    let mut database = file_with(alloc, Change::TypedProcedure(0x1002))?;
+    database.types.extend(SELF_POINTER)?;
+    Ok(database)
+}
+
+/// Three modules with file F's section. The first two, `a.obj` with `f` and `b.obj` with a procedure `k` at 0x90 of length
+/// 0x20, have an inline site of the same inlinee, 0x80000000, which each imports from the third, `c.obj`: the functions `g`
+/// and `h`.
+pub fn cross_imports(alloc: Global) -> Result<ProgramDatabase> {
+    let mut database = file_of_items(alloc, TYPES, IDS)?;
+    database.names.clear();
+    database.names.extend_from_slice(NAMES)?;
+    push_u32(&mut database.debug.contributions, &SECOND)?;
+    database.modules.clear();
+    let first = module_with_site(alloc, b"a.obj", b"f", 0x10, &FIRST_LINES)?;
+    database.modules.push(first)?;
+    let second = module_with_site(alloc, b"b.obj", b"k", 0x90, &SECOND_LINES)?;
+    database.modules.push(second)?;
+    let mut third = module_of_symbols(alloc, b"c.obj", Vec::new(alloc))?;
+    push_u32(&mut third.c13, &EXPORTS)?;
+    database.modules.push(third)?;
+    Ok(database)
+}
+
+/// A module of one procedure, which has length 0x20 and an inline site, and of these line data.
+fn module_with_site(
+    alloc: Global,
+    name: &[u8],
+    procedure: &[u8],
+    offset: u32,
+    lines: &[u32],
+) -> Result<Module> {
+    let mut records = Vec::new(alloc);
+    let symbol = Procedure {
+        parent: 0,
+        offset,
+        length: 0x20,
+        type_index: 0,
+        name: procedure,
+    };
+    symbol.push(&mut records)?;
+    push_scope(&mut records, INLINE_SITE, SITE, INLINE_SITE_END)?;
+    push_end(&mut records, 0, SCOPE_END)?;
+    let mut module = module_of_symbols(alloc, name, records)?;
+    push_u32(&mut module.c13, lines)?;
+    Ok(module)
+}
