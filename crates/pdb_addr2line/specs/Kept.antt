@@ -1,0 +1,73 @@
+-- What is kept of what may be missing: modules' own streams, and the string table.
+use Rattle.std.specs.Prelude.{◌≡◌, ℕ, ◌≤◌, ◌⊎◌, List, Option, None, Some, slice_get, Result, Ok, Err}
+use Rattle.pdb_container.specs.declared.error.Error.{Error}
+use Rattle.pdb_container.specs.declared.error.Error.TheVariants as errors
+use Rattle.pdb_container.specs.declared.error.ModuleFault.{ModuleFault}
+use Rattle.pdb_container.specs.declared.error.ModuleFault.TheVariants as kept
+use Rattle.pdb_container.specs.Fault.{Fault, StreamNotFound, PageReferenceOutOfRange, IoError, UnexpectedEof, Kept, HasRisen}
+use Rattle.pdb_modules.specs.ModuleStream.{ModuleStream}
+
+-- what is kept of a module: its own stream, where it has one, or why that can't be read
+abbrev pub KeptInfo : Type 0
+KeptInfo = Result (Option ModuleStream) ModuleFault
+
+-- The fault of a stream, as it is kept. No stream of an open file has any other.
+abbrev pub kept_fault : Fault → ModuleFault
+kept_fault (StreamNotFound number) = kept.StreamNotFound number
+kept_fault (PageReferenceOutOfRange page) = kept.PageReferenceOutOfRange page
+kept_fault (IoError kind) = kept.IoError kind
+kept_fault e = kept.UnexpectedEof
+
+-- what is kept of a module that was read
+abbrev pub kept_info : Result (Option ModuleStream) Fault → KeptInfo
+kept_info (Ok found) = Ok found
+kept_info (Err e) = Err (kept_fault e)
+
+-- an error as what is kept of a module, where that may be kept
+abbrev pub kept_as : Result ModuleFault Error → Result KeptInfo Error
+kept_as (Ok fault) = Ok (Err fault)
+kept_as (Err e) = Err e
+
+-- what is answered of it: a fault says that it was kept
+abbrev pub answered : KeptInfo → Result (Option ModuleStream) Fault
+answered (Ok found) = Ok found
+answered (Err fault) = Err (Kept fault)
+
+-- what is answered of a module that may be past the list, where there is none
+abbrev pub answered_if_listed : Option KeptInfo → Result (Option ModuleStream) Fault
+answered_if_listed None = Ok None
+answered_if_listed (Some info) = answered info
+
+-- the answer for the module of a number, counted from 0; past the list there is none
+abbrev pub answered_at : List KeptInfo → ℕ → Result (Option ModuleStream) Fault
+answered_at infos number = answered_if_listed (slice_get infos number)
+
+-- a value that may be missing, whatever is the reason
+abbrev pub if_read : {A : Type 0} → Result A Fault → Option A
+if_read (Ok x) = Some x
+if_read (Err e) = None
+
+-- What a call kept is what there is to keep, unless the source failed; it is refused for want of memory alone.
+abbrev pub Keeps : {X Y : Type 0} → (X → Y) → Type 0 → Result X Error → Y → Type 0
+Keeps view failed (Ok x) there = failed ⊎ (view x ≡ there)
+Keeps view failed (Err errors.OutOfMemory) there = Unit {0}
+Keeps view failed (Err e) there = ⊥
+
+-- A call left the source's bytes as they were and its count of failures at least where it stood, and kept what there is.
+pub record KeepsFrom {S X Y : Type 0} (bytes : S → List ℕ) (failures : S → ℕ) (old new : S) (view : X → Y) (result : Result X Error) (there : Y) : Type 0 where
+  pub same : bytes new ≡ bytes old
+  pub counts : failures old ≤ failures new
+  pub exact : Keeps view (HasRisen (failures old) (failures new)) result there
+
+-- the faults that a stream of an open file may have
+abbrev pub IsStreamFault : Fault → Type 0
+IsStreamFault (StreamNotFound number) = Unit {0}
+IsStreamFault (PageReferenceOutOfRange page) = Unit {0}
+IsStreamFault (IoError kind) = Unit {0}
+IsStreamFault UnexpectedEof = Unit {0}
+IsStreamFault e = ⊥
+
+-- a reading that has no other fault
+abbrev pub FailsAsStream : {A : Type 0} → Result A Fault → Type 0
+FailsAsStream (Ok x) = Unit {0}
+FailsAsStream (Err e) = IsStreamFault e

@@ -1,0 +1,6 @@
+pub mod Brackets
+pub mod FormNames
+pub mod Names
+pub mod Paths
+pub mod Pointers
+pub mod Printed

@@ -1,0 +1,123 @@
+-- Names of types without a record, words before names, and names of ids.
+use Rattle.std.specs.Prelude.{ℕ, ◌+◌, ◌*◌, ◌-◌, ◌^◌, Bool, true, false, ◌&&◌, not, List, [], ◌∷◌, ◌++◌, length, drop, codes, Option, Some, None, if◌then◌else◌, ◌==◌, nat_lt, nat_le, slice_get, option_and_then}
+use Rattle.std.specs.List.{starts_with}
+use Rattle.std.specs.Str.Lossy.{utf8_lossy}
+use Rattle.pdb_indices.specs.Bits.{has_bit}
+use Rattle.pdb_records.specs.declared.primitive.PrimitiveKind.{PrimitiveKind}
+use Rattle.pdb_records.specs.declared.primitive.PrimitiveKind.TheVariants as kinds
+use Rattle.pdb_records.specs.declared.primitive.PrimitiveType.{PrimitiveType}
+use Rattle.pdb_records.specs.declared.primitive.Indirection.{Indirection}
+use Rattle.pdb_records.specs.declared.type_data.ClassKind.{ClassKind}
+use Rattle.pdb_records.specs.declared.type_data.ClassKind.TheVariants as classes
+use Rattle.pdb_text_pieces.specs.Printed.{Text, Printed, Done, ◌>>=◌, say}
+
+-- ---- types without a record
+
+-- the name of a kind
+abbrev pub primitive_name : PrimitiveKind → Text
+primitive_name kinds.NoType = codes "<NoType>"
+primitive_name kinds.Void = codes "void"
+primitive_name kinds.HRESULT = codes "HRESULT"
+primitive_name kinds.Char = codes "signed char"
+primitive_name kinds.UChar = codes "unsigned char"
+primitive_name kinds.I8 = codes "int8_t"
+primitive_name kinds.U8 = codes "uint8_t"
+primitive_name kinds.RChar = codes "char"
+primitive_name kinds.WChar = codes "wchar_t"
+primitive_name kinds.RChar16 = codes "char16_t"
+primitive_name kinds.RChar32 = codes "char32_t"
+primitive_name kinds.Char8 = codes "char8_t"
+primitive_name kinds.Short = codes "short"
+primitive_name kinds.UShort = codes "unsigned short"
+primitive_name kinds.I16 = codes "int16_t"
+primitive_name kinds.U16 = codes "uint16_t"
+primitive_name kinds.Long = codes "long"
+primitive_name kinds.ULong = codes "unsigned long"
+primitive_name kinds.I32 = codes "int"
+primitive_name kinds.U32 = codes "unsigned int"
+primitive_name kinds.Quad = codes "long long"
+primitive_name kinds.UQuad = codes "unsigned long long"
+primitive_name kinds.I64 = codes "int64_t"
+primitive_name kinds.U64 = codes "uint64_t"
+primitive_name kinds.Octa = codes "int128_t"
+primitive_name kinds.UOcta = codes "uint128_t"
+primitive_name kinds.I128 = codes "int128_t"
+primitive_name kinds.U128 = codes "uint128_t"
+primitive_name kinds.F16 = codes "float16_t"
+primitive_name kinds.F32 = codes "float"
+primitive_name kinds.F32PP = codes "float"
+primitive_name kinds.F48 = codes "float48_t"
+primitive_name kinds.F64 = codes "double"
+primitive_name kinds.F80 = codes "long double"
+primitive_name kinds.F128 = codes "long double"
+primitive_name kinds.Complex32 = codes "complex<float>"
+primitive_name kinds.Complex64 = codes "complex<double>"
+primitive_name kinds.Complex80 = codes "complex<long double>"
+primitive_name kinds.Complex128 = codes "complex<long double>"
+primitive_name kinds.Bool8 = codes "bool"
+primitive_name kinds.Bool16 = codes "bool16_t"
+primitive_name kinds.Bool32 = codes "bool32_t"
+primitive_name kinds.Bool64 = codes "bool64_t"
+
+-- a kind that is meant itself, or that a pointer leads to: what is constant is the kind then
+abbrev pub direct_or_behind_pointer : ℕ → Bool → Text → Option Indirection → Text
+direct_or_behind_pointer flags constant name None = if constant then codes "const " ++ name else name
+direct_or_behind_pointer flags constant name (Some pointer) = name ++ ((if constant then codes " const" else []) ++ (if has_bit flags 8 then codes " *" else codes "*"))
+
+-- a type without a record, printed as constant or not
+abbrev pub primitive_text : ℕ → Bool → PrimitiveType → Text
+primitive_text flags constant t = direct_or_behind_pointer flags constant (primitive_name t.kind) t.indirection
+
+-- ---- types with a name
+
+-- the word before the name of a class
+abbrev pub class_word : ClassKind → Text
+class_word classes.Class = codes "class "
+class_word classes.Struct = codes "struct "
+class_word classes.Interface = codes "interface "
+
+-- a name behind its word, which flag 16 leaves out
+abbrev pub named : ℕ → Text → List ℕ → Text → Printed
+named flags word name w = (if has_bit flags 16 then Done w else say word w) >>= say (utf8_lossy name)
+
+-- ---- functions and ids
+
+-- the name of a function
+abbrev pub name_or_omitted : Text → Text
+name_or_omitted [] = codes "<name omitted>"
+name_or_omitted (b ∷ bytes) = b ∷ bytes
+
+-- the value of a hexadecimal digit
+abbrev pub digit_of : ℕ → Option ℕ
+digit_of b = if nat_le 48 b && nat_le b 57 then Some (b - 48) else (if nat_le 97 b && nat_le b 102 then Some (b - 97 + 10) else (if nat_le 65 b && nat_le b 70 then Some (b - 65 + 10) else None))
+
+-- the value of digits behind a value
+abbrev pub value_from : ℕ → List ℕ → Option ℕ
+value_from value [] = Some value
+value_from value (b ∷ bytes) = option_and_then (λ d. value_from (value * 16 + d) bytes) (digit_of b)
+
+-- whether there is a value, of 32 bits
+abbrev pub has_32_bits : Option ℕ → Bool
+has_32_bits None = false
+has_32_bits (Some value) = nat_lt value (2 ^ 32)
+
+-- one hexadecimal digit or more, of a value of 32 bits
+abbrev pub is_number : List ℕ → Bool
+is_number digits = not (length digits == 0) && has_32_bits (value_from 0 digits)
+
+-- whether a plus stands first
+abbrev pub begins_with_plus : Option ℕ → Bool
+begins_with_plus None = false
+begins_with_plus (Some b) = b == 43
+
+-- a plus at the front is dropped
+abbrev pub without_plus : List ℕ → List ℕ
+without_plus bytes = if begins_with_plus (slice_get bytes 0) then drop 1 bytes else bytes
+
+-- a namespace without a name of its own: `?A0x`, and a number behind a plus or not
+abbrev pub is_anonymous_namespace : Text → Bool
+is_anonymous_namespace name = starts_with (λ a b. a == b) name (codes "?A0x") && is_number (without_plus (drop 4 name))
+
+-- the text of a string
+abbrev pub string_text : Text → Text
+string_text name = if is_anonymous_namespace name then codes "`anonymous namespace'" else name

@@ -1,0 +1,17 @@
+//! Pieces of the texts of types: names, pointers, brackets, and the indices on the way to a type.
+#![tactic(auto)]
+
+mod brackets;
+mod names;
+mod path;
+mod pointers;
+mod text;
+
+pub use brackets::{emit_brackets, first_or_zero};
+pub use names::{
+    class_word, emit_name, emit_named, emit_primitive, emit_string, emit_unhandled,
+    emit_unhandled_id,
+};
+pub use path::{Seen, is_on};
+pub use pointers::{PointerLevel, emit_pointers, ends_in_sigil, leading_to, level_of};
+pub use text::{emit, emit_missing, emit_unread};

@@ -1,0 +1,3 @@
+pub mod DefinitionSteps
+pub mod EndSteps
+pub mod SizeSteps

@@ -1,0 +1,65 @@
+-- Types and ids by their indices as a module has them.
+use Rattle.std.specs.Prelude.{ℕ, Result}
+use Rattle.pdb_container.specs.Fault.{◌>>=◌}
+use Rattle.pdb_items.specs.Items.{Table, item_at}
+use Rattle.pdb_items.specs.ItemType.{type_of_item}
+use Rattle.pdb_records.specs.Forms.{TypeForm}
+use Rattle.pdb_records.specs.IdForms.{IdForm}
+use Rattle.pdb_records.specs.IdRecords.{id_form_of}
+use Rattle.pdb_symbols_modules.specs.declared.machine.MachineType.{MachineType}
+use Rattle.pdb_symbols_modules.specs.declared.machine.MachineType.TheVariants as machines
+use Rattle.pdb_resolving.specs.Fault.{Fault, lifted}
+use Rattle.pdb_resolving.specs.Resolving.{Kept, Modules, Provided, modules_by, resolve}
+
+-- what types and ids are read from: the modules, the tables of types and of ids, and how many bytes a pointer has
+pub record Parts : Type 0 where
+  pub modules : Modules
+  pub types : Table
+  pub ids : Table
+  pub pointer_size : ℕ
+
+-- the type of an index in the table, by its record or, below 0x1000, by the index alone
+unfoldable pub type_in : Table → ℕ → Result TypeForm Fault
+type_in types index = do
+  bytes ← lifted (item_at types index)
+  lifted (type_of_item index bytes)
+
+-- the id of an index in the table
+unfoldable pub id_in : Table → ℕ → Result IdForm Fault
+id_in ids index = do
+  bytes ← lifted (item_at ids index)
+  lifted (id_form_of bytes)
+
+-- the type of an index as a module has it
+unfoldable pub type_at : Parts → ℕ → ℕ → Result TypeForm Fault
+type_at p asking index = do
+  resolved ← resolve p.modules asking index
+  type_in p.types resolved
+
+-- the id of an index as a module has it
+unfoldable pub id_at : Parts → ℕ → ℕ → Result IdForm Fault
+id_at p asking index = do
+  resolved ← resolve p.modules asking index
+  id_in p.ids resolved
+
+-- how many bytes a machine's pointers have
+abbrev pub pointer_bytes : MachineType → ℕ
+pointer_bytes machines.Amd64 = 8
+pointer_bytes machines.Arm64 = 8
+pointer_bytes machines.Ia64 = 8
+pointer_bytes machines.RiscV64 = 8
+pointer_bytes machines.RiscV128 = 16
+pointer_bytes (machines.Other n) = 4
+
+-- ---- parts as they are kept
+
+-- what a reader of types and ids keeps
+pub record Reading (P : Type 0) : Type 0 where
+  pub modules : Kept P
+  pub types : Table
+  pub ids : Table
+  pub pointer_size : ℕ
+
+-- the same, by what the provider gives
+abbrev pub parts_by : {P : Type 0} → (P → Provided) → Reading P → Parts
+parts_by provided r = record { modules = modules_by provided r.modules; types = r.types; ids = r.ids; pointer_size = r.pointer_size }

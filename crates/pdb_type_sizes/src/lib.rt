@@ -1,0 +1,11 @@
+//! Types and ids by their indices as a module has them, and the sizes of types.
+#![tactic(auto)]
+
+mod definitions;
+mod item_map;
+mod item_reader;
+mod primitives;
+mod sizes;
+
+pub use item_map::ItemMap;
+pub use item_reader::ItemReader;

@@ -1,0 +1,148 @@
+//! Sizes of types in bytes.
+
+ghost use Rattle.std.specs.Prelude.{◌≡◌, ℕ, IfOk};
+ghost use Rattle.pdb_records.specs.Attributes.{is_forward};
+ghost use Rattle.pdb_records.specs.Shapes.{shape, class_form, union_form};
+ghost use Rattle.pdb_resolving.specs.Fault.{Answers};
+ghost use Rattle.pdb_type_sizes.specs.Reading.{type_in};
+ghost use Rattle.pdb_type_sizes.specs.Sizes.{variant_bytes, last_dimension as last_dimension_of, key_name as key_name_of, aggregate_bytes, form_bytes, read_bytes, stated_bytes};
+
+use crate::definitions::{aggregate_size, key_name};
+use crate::item_map::ItemMap;
+use crate::primitives::primitive_size;
+use pdb_indices::{TypeIndex, Variant};
+use pdb_records::{ClassType, TypeData, UnionType};
+use pdb_resolving::{Error, Result};
+use std::alloc::{AllocError, Global};
+
+/// What a type says of its size.
+#[derive(Clone, Copy, Debug)]
+pub(crate) enum Stated {
+    /// So many bytes.
+    Bytes(u64),
+    /// That of the type of this index, as the module has it.
+    SameAs(TypeIndex),
+}
+
+/// The size of a value as it is stored.
+fn variant_size(value: Variant) -> u64
+    ensures { result ≡ variant_bytes value }
+{
+    match value {
+        Variant::U8(_) | Variant::I8(_) => 1,
+        Variant::U16(_) | Variant::I16(_) => 2,
+        Variant::U32(_) | Variant::I32(_) => 4,
+        Variant::U64(_) | Variant::I64(_) => 8,
+    }
+}
+
+/// An array's last dimension, which is that of the whole array.
+fn last_dimension(dimensions: &[u32]) -> u64
+    ensures { result ≡ last_dimension_of dimensions.now }
+{
+    match dimensions.last() {
+        Some(size) => u64::from(*size),
+        None => 0,
+    }
+}
+
+/// The size of a class of an index of the table.
+fn class_size(
+    alloc: Global,
+    types: &mut ItemMap<'_, TypeIndex>,
+    index: u32,
+    class_type: &ClassType<'_>,
+) -> std::result::Result<u64, AllocError>
+    ensures same { types.new ≡ types.old }
+    ensures size { let t = class_form class_type.now in IfOk result (λ n. n ≡ aggregate_bytes types.old index (is_forward t.properties) (key_name_of t.name t.unique_name) t.size) }
+{
+    let is_forward_reference = class_type.properties.forward_reference();
+    let name = key_name(class_type.name, class_type.unique_name);
+    aggregate_size(
+        alloc,
+        types,
+        index,
+        is_forward_reference,
+        name,
+        class_type.size,
+    )
+}
+
+/// The size of a union of an index of the table.
+fn union_size(
+    alloc: Global,
+    types: &mut ItemMap<'_, TypeIndex>,
+    index: u32,
+    union_type: &UnionType<'_>,
+) -> std::result::Result<u64, AllocError>
+    ensures same { types.new ≡ types.old }
+    ensures size { let t = union_form union_type.now in IfOk result (λ n. n ≡ aggregate_bytes types.old index (is_forward t.properties) (key_name_of t.name t.unique_name) t.size) }
+{
+    let is_forward_reference = union_type.properties.forward_reference();
+    let name = key_name(union_type.name, union_type.unique_name);
+    aggregate_size(
+        alloc,
+        types,
+        index,
+        is_forward_reference,
+        name,
+        union_type.size,
+    )
+}
+
+/// What a type of an index of the table says of its size, where pointers have so many bytes.
+fn stated_size(
+    alloc: Global,
+    types: &mut ItemMap<'_, TypeIndex>,
+    pointer_size: u64,
+    index: u32,
+    type_data: &TypeData<'_>,
+) -> std::result::Result<Stated, AllocError>
+    ensures same { types.new ≡ types.old }
+    ensures size { IfOk result (λ s. (of : ℕ → ℕ) → stated_bytes of s ≡ form_bytes types.old pointer_size of index (shape type_data.now)) }
+{
+    match type_data {
+        TypeData::Primitive(t) => Ok(Stated::Bytes(primitive_size(pointer_size, *t))),
+        TypeData::MemberFunction(_) => Ok(Stated::Bytes(pointer_size)),
+        TypeData::Procedure(_) => Ok(Stated::Bytes(pointer_size)),
+        TypeData::Pointer(t) => Ok(Stated::Bytes(u64::from(t.attributes.size()))),
+        TypeData::Array(t) => Ok(Stated::Bytes(last_dimension(t.dimensions.as_slice()))),
+        TypeData::Class(t) => Ok(Stated::Bytes(class_size(alloc, types, index, t)?)),
+        TypeData::Union(t) => Ok(Stated::Bytes(union_size(alloc, types, index, t)?)),
+        TypeData::Enumeration(t) => Ok(Stated::SameAs(t.underlying_type)),
+        TypeData::Modifier(t) => Ok(Stated::SameAs(t.underlying_type)),
+        TypeData::Enumerate(t) => Ok(Stated::Bytes(variant_size(t.value))),
+        _ => Ok(Stated::Bytes(0)),
+    }
+}
+
+/// The type of an index of the table. Its item's fault, or that of its record.
+#[tactic(auto, using(pdb_resolving::proofs::Lifting::parsed_fails_on, pdb_resolving::proofs::Lifting::given_fails), unfolding(crate::specs::Reading::type_in))]
+pub(crate) fn read_type_in<'t>(
+    alloc: Global,
+    types: &mut ItemMap<'t, TypeIndex>,
+    index: u32,
+) -> Result<TypeData<'t>>
+    ensures same { types.new ≡ types.old }
+    ensures value { Answers shape result (type_in types.old index) }
+{
+    let item = types.try_get(TypeIndex(index))?;
+    Ok(item.parse(alloc)?)
+}
+
+/// What is known of the size of the type of an index of the table; 0 where it can't be read.
+pub(crate) fn stated_in(
+    alloc: Global,
+    types: &mut ItemMap<'_, TypeIndex>,
+    pointer_size: u64,
+    index: u32,
+) -> std::result::Result<Stated, AllocError>
+    ensures same { types.new ≡ types.old }
+    ensures size { IfOk result (λ s. (of : ℕ → ℕ) → stated_bytes of s ≡ read_bytes types.old pointer_size of index (type_in types.old index)) }
+{
+    match read_type_in(alloc, types, index) {
+        Ok(type_data) => stated_size(alloc, types, pointer_size, index, &type_data),
+        Err(Error::OutOfMemory) => Err(AllocError),
+        Err(_) => Ok(Stated::Bytes(0)),
+    }
+}

@@ -1,0 +1,186 @@
+//! The calls of a formatter.
+
+ghost use Rattle.std.specs.Prelude.{◌≡◌, IfOk, IsOkUnless, option_map, string_bytes, Ok};
+ghost use Rattle.pdb_container.specs.declared.error.Error.TheVariants as causes;
+ghost use Rattle.pdb_symbols_modules.specs.Machine.{machine_of};
+ghost use Rattle.pdb_resolving.specs.Fault.{Answers};
+ghost use Rattle.pdb_type_sizes.specs.Reading.{parts_by, pointer_bytes};
+ghost use Rattle.pdb_type_sizes.specs.Sizes.{size_at};
+ghost use Rattle.pdb_type_text.specs.Formatting.{env_of};
+ghost use Rattle.pdb_type_text.specs.Functions.{function_text};
+ghost use Rattle.pdb_type_text.specs.Ids.{id_text};
+ghost use Rattle.pdb_type_text.specs.Written.{Emits};
+
+use crate::asker::Asker;
+use crate::formatter::TypeFormatter;
+use bitflags::Flags;
+use pdb_container::StringTable;
+use pdb_indices::{IdIndex, TypeIndex};
+use pdb_items::{IdInformation, TypeInformation};
+use pdb_resolving::{ModuleProvider, Result};
+use pdb_symbols_modules::{DebugInformation, Module};
+use pdb_text_pieces::Seen;
+use pdb_type_flags::TypeFormatterFlags;
+use pdb_type_sizes::ItemReader;
+use std::alloc::Global;
+use std::fmt::Write;
+
+impl<'a, 's, P: ModuleProvider> TypeFormatter<'a, 's, P> {
+    /// A formatter over what gives the modules, their entries in order, the image for which the database was written, the
+    /// tables of types and of ids, and the table of names, if there is one.
+    ///
+    /// # Errors
+    /// `OutOfMemory` alone.
+    pub fn new_from_parts(
+        alloc: Global,
+        provider: &'a P,
+        modules: Vec<Module<'a>>,
+        debug_information: &DebugInformation<'_>,
+        type_information: &'a TypeInformation<'_>,
+        id_information: &'a IdInformation<'_>,
+        string_table: Option<&'a StringTable<'s>>,
+        flags: TypeFormatterFlags,
+    ) -> pdb_container::Result<TypeFormatter<'a, 's, P>>
+        ensures parts { IfOk result (λ f. f ≡ record {
+          reading = record {
+            modules = record { provider = provider.now; entries = modules.entry.items; names = option_map (λ t. t.now) string_table.entry };
+            types = type_information.now;
+            ids = id_information.now;
+            pointer_size = pointer_bytes (machine_of debug_information.now.machine);
+          };
+          flags = flags.bits;
+        }) }
+        ensures memory { IsOkUnless result causes.OutOfMemory }
+    {
+        let reader = ItemReader::new(
+            alloc,
+            provider,
+            modules,
+            debug_information,
+            type_information,
+            id_information,
+            string_table,
+        )?;
+        Ok(TypeFormatter {
+            reader,
+            flags: flags.bits(),
+        })
+    }
+
+    /// The modules in order.
+    pub fn modules(&self) -> &[Module<'a>]
+        ensures { result.now ≡ self.now.reading.modules.entries }
+    {
+        self.reader.modules()
+    }
+
+    /// The size in bytes of the type of an index as the module of a number, counted from 0, has it; 0 for a type that can't be
+    /// read or that leads back to itself.
+    ///
+    /// # Errors
+    /// `OutOfMemory` alone.
+    pub fn get_type_size(
+        &mut self,
+        alloc: Global,
+        module_index: usize,
+        index: TypeIndex,
+    ) -> Result<u64>
+        ensures same { self.new ≡ self.old }
+        ensures value { Answers (λ n. n) result (Ok (size_at (parts_by P.provided self.old.reading) module_index index.0)) }
+    {
+        self.reader.size(alloc, module_index, index)
+    }
+
+    /// The signature of a function of this name whose type has this index in the module of a number, counted from 0: its
+    /// return type and arguments, as the flags say. With type 0 it is the name alone.
+    ///
+    /// # Errors
+    /// The first fault in the order of printing: that of the type, `CircularTypeDefinition`, `ArgumentTypeNotArgumentList` and
+    /// others; a type inside that is missing or has no form has a text of its own. `OutOfMemory`.
+    #[tactic(auto, using(crate::proofs::Failing::stops_fails))]
+    pub fn format_function(
+        &mut self,
+        alloc: Global,
+        name: &str,
+        module_index: usize,
+        function_type_index: TypeIndex,
+    ) -> Result<String>
+        ensures same { self.new ≡ self.old }
+        ensures text { Answers string_bytes result (function_text (env_of P.provided self.old module_index) name.now function_type_index.0) }
+    {
+        let asker = Asker {
+            alloc,
+            module_index,
+        };
+        let mut text = String::new(alloc);
+        self.emit_signature(asker, &mut text, name, function_type_index)?;
+        Ok(text)
+    }
+
+    /// Makes the text of [`TypeFormatter::format_function`] and hands it over to a writer at once.
+    ///
+    /// # Errors
+    /// As `format_function`, and then the writer got nothing; `FormatError` where the writer refused the text.
+    #[tactic(auto, using(crate::proofs::Failing::fails_emits))]
+    pub fn emit_function<W: Write>(
+        &mut self,
+        alloc: Global,
+        w: &mut W,
+        name: &str,
+        module_index: usize,
+        function_type_index: TypeIndex,
+    ) -> Result<()>
+        ensures same { self.new ≡ self.old }
+        ensures text { Emits W.write_str_gives w.old result w.new (function_text (env_of P.provided self.old module_index) name.now function_type_index.0) }
+    {
+        let text = self.format_function(alloc, name, module_index, function_type_index)?;
+        w.write_str(text.as_str())?;
+        Ok(())
+    }
+
+    /// The text of an id that has this index in the module of a number, counted from 0: of a function its signature in its
+    /// scopes, of a string the string.
+    ///
+    /// # Errors
+    /// As [`TypeFormatter::format_function`], and `FunctionIdIsNotProcedureType`, `MemberFunctionIdIsNotMemberFunctionType`.
+    #[tactic(auto, using(crate::proofs::Failing::stops_fails))]
+    pub fn format_id(
+        &mut self,
+        alloc: Global,
+        module_index: usize,
+        id_index: IdIndex,
+    ) -> Result<String>
+        ensures same { self.new ≡ self.old }
+        ensures text { Answers string_bytes result (id_text (env_of P.provided self.old module_index) id_index.0) }
+    {
+        let asker = Asker {
+            alloc,
+            module_index,
+        };
+        let mut text = String::new(alloc);
+        let mut path = Vec::new(alloc);
+        let mut ids = Seen::new(&mut path);
+        self.emit_id_index(asker, &mut text, id_index, &mut ids)?;
+        Ok(text)
+    }
+
+    /// Makes the text of [`TypeFormatter::format_id`] and hands it over to a writer at once.
+    ///
+    /// # Errors
+    /// As `format_id`, and then the writer got nothing; `FormatError` where the writer refused the text.
+    #[tactic(auto, using(crate::proofs::Failing::fails_emits))]
+    pub fn emit_id<W: Write>(
+        &mut self,
+        alloc: Global,
+        w: &mut W,
+        module_index: usize,
+        id_index: IdIndex,
+    ) -> Result<()>
+        ensures same { self.new ≡ self.old }
+        ensures text { Emits W.write_str_gives w.old result w.new (id_text (env_of P.provided self.old module_index) id_index.0) }
+    {
+        let text = self.format_id(alloc, module_index, id_index)?;
+        w.write_str(text.as_str())?;
+        Ok(())
+    }
+}

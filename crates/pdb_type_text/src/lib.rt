@@ -1,0 +1,12 @@
+//! Texts of types, functions and ids.
+#![tactic(auto)]
+
+mod asker;
+mod calls;
+mod elements;
+mod formatter;
+mod ids;
+mod signatures;
+mod types;
+
+pub use formatter::TypeFormatter;
