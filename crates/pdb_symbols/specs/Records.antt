@@ -58,8 +58,8 @@ public_of kind bytes = do
       }
 
 -- S_GPROC32, S_LPROC32 and their like: indices, length, debug offsets, type, place, flags, and name
-unfoldable pub procedure_form : ℕ → List ℕ → Result ProcedureForm Fault
-procedure_form kind bytes = do
+unfoldable pub procedure_symbol_at : ℕ → List ℕ → Result ProcedureForm Fault
+procedure_symbol_at kind bytes = do
   parent ← optional_index_at bytes
   end ← index_at parent.1
   next ← optional_index_at end.1
@@ -166,7 +166,7 @@ end_form kind =
 unfoldable pub form_of : ℕ → List ℕ → Result SymbolForm Fault
 form_of kind bytes =
     if is_public kind then as_form forms.Public (public_of kind bytes)
-    else (if is_procedure kind then as_form forms.Procedure (procedure_form kind bytes)
+    else (if is_procedure kind then as_form forms.Procedure (procedure_symbol_at kind bytes)
     else (if is_thunk kind then as_form forms.Thunk (thunk_of kind bytes)
     else (if is_separated_code kind then as_form forms.SeparatedCode (separated_code_of bytes)
     else (if is_inline_site kind then as_form forms.InlineSite (inline_site_of kind bytes)

@@ -6,7 +6,7 @@ ghost use Rattle.pdb_container.specs.Fault.{Parses};
 ghost use Rattle.pdb_container.specs.RawString.{raw_bytes};
 ghost use Rattle.pdb_symbols.specs.Forms as forms;
 ghost use Rattle.pdb_symbols.specs.Forms.{symbol_form};
-ghost use Rattle.pdb_symbols.specs.Records.{index_at, optional_index_at, place_at, symbol_name_at, invocations_at, public_of, procedure_form, thunk_of, separated_code_of, inline_site_of, as_form, end_form, form_of, symbol_form_of};
+ghost use Rattle.pdb_symbols.specs.Records.{index_at, optional_index_at, place_at, symbol_name_at, invocations_at, public_of, procedure_symbol_at, thunk_of, separated_code_of, inline_site_of, as_form, end_form, form_of, symbol_form_of};
 
 use crate::kinds::{
     S_END, S_INLINESITE_END, S_INLINESITE2, S_PROC_ID_END, has_form, is_dpc, is_global,
@@ -129,9 +129,9 @@ fn parse_public(kind: u16, payload: &[u8]) -> Result<SymbolData<'_>>
     }))
 }
 
-#[tactic(auto, unfolding(crate::specs::Records::procedure_form))]
+#[tactic(auto, unfolding(crate::specs::Records::procedure_symbol_at))]
 fn parse_procedure(kind: u16, payload: &[u8]) -> Result<SymbolData<'_>>
-    ensures { Parses symbol_form result (as_form forms.Procedure (procedure_form kind payload.now)) }
+    ensures { Parses symbol_form result (as_form forms.Procedure (procedure_symbol_at kind payload.now)) }
 {
     let mut buffer = ParseBuffer::from(payload);
     let parent = parse_optional_index(&mut buffer)?;
