@@ -1,0 +1,13 @@
+mod Bodies
+mod BodySteps
+mod CallsDeep
+mod ChainSteps
+mod ForestGrammar
+mod NestedSites
+mod OpenBodies
+mod Rows
+pub mod Deepest
+pub mod InlineeSteps
+pub mod PlainKinds
+pub mod ProcedureSteps
+pub mod RowSteps

@@ -1,0 +1,42 @@
+-- The line of a place in a function, and the names of source files.
+-- That a function's lines are those of the last subsection at or before its start is what the pdb crate does.
+use Rattle.std.specs.Prelude.{ℕ, List, [], ◌∷◌, nat_le, nat_lt, Option, None, Some, if◌then◌else◌, Result, Ok, Err}
+use Rattle.pdb_container.specs.Fault.{Fault, ◌>>=◌}
+use Rattle.pdb_container.specs.Listing.{whole}
+use Rattle.pdb_container.specs.StringTable.{text_in}
+use Rattle.pdb_addresses.specs.declared.internal_section_offset.PdbInternalSectionOffset.{PdbInternalSectionOffset}
+use Rattle.pdb_subsections.specs.declared.line_info.LineInfo.{LineInfo}
+use Rattle.pdb_lines.specs.Checksums.{file_in}
+use Rattle.pdb_lines.specs.LinesSubsections.{Program}
+use Rattle.pdb_lines.specs.LineRows.{lines_for}
+
+-- the row with the greater start, of equals the later one
+abbrev pub later_row : Option LineInfo → Option LineInfo → Option LineInfo
+later_row a None = a
+later_row None (Some b) = Some b
+later_row (Some a) (Some b) = if nat_lt (b.offset).offset (a.offset).offset then Some a else Some b
+
+-- a row, if it begins at an offset or before it
+abbrev pub if_begun : LineInfo → ℕ → Option LineInfo
+if_begun row offset = if nat_le (row.offset).offset offset then Some row else None
+
+-- of the rows that begin at an offset or before it the one with the greatest start, of equals the last
+abbrev pub row_at : List LineInfo → ℕ → Option LineInfo
+row_at [] offset = None
+row_at (row ∷ rows) offset = later_row (if_begun row offset) (row_at rows offset)
+
+-- the row of a place in the function that begins at another one, of the rows of that one's subsection, which have to be
+-- there to their end
+abbrev pub function_row : Program → PdbInternalSectionOffset → PdbInternalSectionOffset → Result (Option LineInfo) Fault
+function_row program start place = whole (lines_for program start) >>= λ rows. Ok (row_at rows place.offset)
+
+-- what was read, if it could be
+abbrev pub if_read : {A : Type 0} → Result A Fault → Option A
+if_read (Ok x) = Some x
+if_read (Err e) = None
+
+-- the name of a source file as text: that of its entry among the checksums, in the string table; none where there is no
+-- string table, no entry or no name
+abbrev pub file_text : Program → Option (List ℕ) → ℕ → Option (List ℕ)
+file_text program None index = None
+file_text program (Some strings) index = if_read (file_in program.files index >>= λ file. text_in strings file.name)

@@ -1,0 +1,6 @@
+pub mod Elements
+pub mod Forest
+pub mod FunctionLine
+pub mod InlinedCalls
+pub mod Procedures
+pub mod SitesFaults

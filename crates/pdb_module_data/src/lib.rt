@@ -1,0 +1,16 @@
+//! What a module's own stream says of a place in it: the procedure over it, the line there, and the inlined calls over it.
+//! It goes by symbols, line program, inlinees and string table, and knows nothing of files, caches or types.
+#![tactic(auto)]
+
+mod function_line;
+mod inline_sites;
+mod inlined_calls;
+mod inlinees;
+pub mod laws;
+mod procedures;
+
+pub use function_line::{file_name, function_row};
+pub use inline_sites::{InlineSites, Site, SitesError};
+pub use inlined_calls::InlinedCall;
+pub use inlinees::Inlinees;
+pub use procedures::{Procedure, over, read_procedures};

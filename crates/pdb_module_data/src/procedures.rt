@@ -1,0 +1,215 @@
+//! The procedures of a module, and the one over a place.
+
+ghost use Rattle.std.specs.Prelude.{◌≡◌, OnOk, Some, option_map};
+ghost use Rattle.std.specs.BTreeSet.{contains};
+ghost use Rattle.pdb_addresses.specs.declared.internal_section_offset.PdbInternalSectionOffset.{PdbInternalSectionOffset};
+ghost use Rattle.pdb_container.specs.Fault.{Gives};
+ghost use Rattle.pdb_module_data.specs.Procedures.{place_cmp, has_start, is_procedure_kind, separated_from, said_procedure, kept_of as kept_of_symbol, onto_new, procedures_of, contains as contains_place, later as later_of, over as over_of};
+ghost use Rattle.pdb_symbols.specs.Iteration.{symbols_left};
+ghost use Rattle.pdb_symbols.specs.Records.{symbol_form_of};
+
+use pdb_addresses::PdbInternalSectionOffset;
+use pdb_container::{FallibleIterator, RawString, Result};
+use pdb_indices::{SymbolIndex, TypeIndex};
+use pdb_symbols::kinds::{is_procedure, is_separated_code, is_thunk};
+use pdb_symbols::{SeparatedCodeSymbol, Symbol, SymbolData, SymbolIter};
+use std::alloc::{AllocError, Global};
+use std::collections::BTreeSet;
+use std::marker::Model;
+
+/// A procedure of a module: a function's code, by a procedure symbol, a thunk (`S_THUNK32`) or separated code (`S_SEPCODE`).
+#[derive(Debug, Drop)]
+pub struct Procedure<'t> {
+    /// The place of its symbol in the module's symbols, in bytes.
+    pub symbol_index: SymbolIndex,
+    /// The place of the symbol that ends it, in bytes.
+    pub end_symbol_index: SymbolIndex,
+    /// Where its code begins: a section's number, counted from 1, and an offset in bytes.
+    pub offset: PdbInternalSectionOffset,
+    /// How many bytes of code it has; never 0.
+    pub len: u32,
+    /// The index of its type, 0 for none. Separated code has that of its procedure, a thunk none.
+    pub type_index: TypeIndex,
+    /// Its name as it is stored; separated code has that of its procedure.
+    pub name: RawString<'t>,
+}
+
+impl<'t> Model for Procedure<'t> {
+    ghost use Rattle.pdb_container.specs.RawString.{raw_bytes};
+    ghost use Rattle.pdb_module_data.specs.Procedures as procedures;
+
+    ghost Value = { procedures.Procedure };
+
+    ghost view = { λ q. record { symbol_index = q.symbol_index; end_symbol_index = q.end_symbol_index; offset = q.offset; len = q.len; type_index = q.type_index; name = raw_bytes q.name } };
+}
+
+/// Separated code by the procedure that was kept last: with that one's name and type, if that one begins at its parent's
+/// place.
+fn separated_code<'t>(
+    last: Option<&Procedure<'t>>,
+    index: SymbolIndex,
+    code: SeparatedCodeSymbol,
+) -> Option<Procedure<'t>>
+    ensures { result ≡ separated_from (option_map (λ q. q.now) last.entry) index.0 code }
+{
+    let last = last?;
+    if last.offset != code.parent_offset {
+        return None;
+    }
+    Some(Procedure {
+        symbol_index: index,
+        end_symbol_index: code.end,
+        offset: code.offset,
+        len: code.len,
+        type_index: last.type_index,
+        name: last.name,
+    })
+}
+
+/// Whether a symbol of a kind may say a procedure.
+fn may_be_procedure(kind: u16) -> bool
+    ensures { result ≡ is_procedure_kind kind }
+{
+    is_procedure(kind) || is_thunk(kind) || is_separated_code(kind)
+}
+
+/// What a symbol says as a procedure, behind the procedure that was kept last. No symbol of another kind is parsed.
+#[tactic(auto, using(crate::proofs::ProcedureSteps::no_procedure))]
+fn parse_procedure<'t>(last: Option<&Procedure<'t>>, symbol: &Symbol<'t>) -> Option<Procedure<'t>>
+    ensures { result ≡ said_procedure (option_map (λ q. q.now) last.entry) symbol.now.index (symbol_form_of symbol.now) }
+{
+    if !may_be_procedure(symbol.raw_kind()) {
+        return None;
+    }
+    match symbol.parse() {
+        Ok(SymbolData::Procedure(procedure)) => Some(Procedure {
+            symbol_index: symbol.index(),
+            end_symbol_index: procedure.end,
+            offset: procedure.offset,
+            len: procedure.len,
+            type_index: procedure.type_index,
+            name: procedure.name,
+        }),
+        Ok(SymbolData::Thunk(thunk)) => Some(Procedure {
+            symbol_index: symbol.index(),
+            end_symbol_index: thunk.end,
+            offset: thunk.offset,
+            len: u32::from(thunk.len),
+            type_index: TypeIndex(0),
+            name: thunk.name,
+        }),
+        Ok(SymbolData::SeparatedCode(code)) => separated_code(last, symbol.index(), code),
+        _ => None,
+    }
+}
+
+/// The procedure that is kept of a symbol, behind the one that was kept last: one that has code.
+fn kept_procedure<'t>(last: Option<&Procedure<'t>>, symbol: &Symbol<'t>) -> Option<Procedure<'t>>
+    ensures { result ≡ kept_of_symbol (option_map (λ q. q.now) last.entry) symbol.now }
+{
+    let procedure = parse_procedure(last, symbol)?;
+    if procedure.len == 0 {
+        return None;
+    }
+    Some(procedure)
+}
+
+/// The same procedure once more.
+fn same<'t>(procedure: &Procedure<'t>) -> Procedure<'t>
+    ensures { result ≡ procedure.now }
+{
+    Procedure {
+        symbol_index: procedure.symbol_index,
+        end_symbol_index: procedure.end_symbol_index,
+        offset: procedure.offset,
+        len: procedure.len,
+        type_index: procedure.type_index,
+        name: procedure.name,
+    }
+}
+
+/// One more procedure, unless one begins where it does.
+#[tactic(auto, using(crate::proofs::ProcedureSteps::starts_more))]
+fn push_new<'t>(
+    starts: &mut BTreeSet<(u16, u32)>,
+    procedures: &mut Vec<Procedure<'t>>,
+    procedure: Procedure<'t>,
+) -> std::result::Result<(), AllocError>
+    requires { (p : PdbInternalSectionOffset) → contains place_cmp starts.old (p.section, p.offset) ≡ has_start procedures.old.items p }
+    ensures ok { OnOk result (procedures.new.items ≡ onto_new procedures.old.items procedure.entry) }
+    ensures starts { OnOk result ((p : PdbInternalSectionOffset) → contains place_cmp starts.new (p.section, p.offset) ≡ has_start procedures.new.items p) }
+{
+    if starts.insert((procedure.offset.section, procedure.offset.offset))? {
+        procedures.push(procedure)?;
+    }
+    Ok(())
+}
+
+/// The procedures among a module's symbols, which are read to their end: procedure symbols, thunks and separated code that
+/// can be read and have code, in their order; of those with one start the first. Separated code takes name and type of the
+/// procedure kept last before it, if that one begins at its parent's place; else it isn't kept.
+///
+/// # Errors
+/// The first fault of the symbols: `SymbolTooShort`, `UnexpectedEof`. `OutOfMemory`.
+#[tactic(auto, using(crate::proofs::ProcedureSteps::kept_start, crate::proofs::ProcedureSteps::kept_more, crate::proofs::ProcedureSteps::kept_passed, crate::proofs::ProcedureSteps::kept_end, crate::proofs::ProcedureSteps::kept_fault))]
+pub fn read_procedures<'t>(alloc: Global, mut symbols: SymbolIter<'t>) -> Result<Vec<Procedure<'t>>>
+    ensures { Gives (λ v. v.items) ⊥ result (procedures_of (symbols_left symbols.entry)) }
+{
+    let mut starts = BTreeSet::new(alloc);
+    let mut procedures = Vec::new(alloc);
+    let mut last = None;
+    while let Some(symbol) = symbols.next()? {
+        if let Some(procedure) = kept_procedure(last.as_ref(), &symbol) {
+            last = Some(same(&procedure));
+            push_new(&mut starts, &mut procedures, procedure)?;
+        }
+    }
+    Ok(procedures)
+}
+
+impl<'t> Procedure<'t> {
+    /// Whether the place lies in it; its end may lie past 32 bits.
+    fn contains(&self, place: PdbInternalSectionOffset) -> bool
+        ensures { result ≡ contains_place self.now place }
+    {
+        self.offset.section == place.section
+            && self.offset.offset <= place.offset
+            && u64::from(place.offset) < u64::from(self.offset.offset) + u64::from(self.len)
+    }
+}
+
+/// The one with the greater start, of equals the first.
+fn later<'p, 't>(
+    best: Option<&'p Procedure<'t>>,
+    next: &'p Procedure<'t>,
+) -> Option<&'p Procedure<'t>>
+    ensures { option_map (λ q. q.now) result ≡ later_of (option_map (λ q. q.now) best.entry) (Some next.now) }
+{
+    match best {
+        None => Some(next),
+        Some(first) => {
+            if first.offset.offset < next.offset.offset {
+                Some(next)
+            } else {
+                Some(first)
+            }
+        }
+    }
+}
+
+/// The procedure over a place: of those that contain it the one with the greatest start.
+#[tactic(auto, using(crate::proofs::ProcedureSteps::over_takes, crate::proofs::ProcedureSteps::over_passes, crate::proofs::ProcedureSteps::over_ends))]
+pub fn over<'p, 't>(
+    procedures: &'p [Procedure<'t>],
+    place: PdbInternalSectionOffset,
+) -> Option<&'p Procedure<'t>>
+    ensures { option_map (λ q. q.now) result ≡ over_of procedures.now place }
+{
+    let mut best = None;
+    for procedure in procedures {
+        if procedure.contains(place) {
+            best = later(best, procedure);
+        }
+    }
+    best
+}

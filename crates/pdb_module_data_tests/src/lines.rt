@@ -1,0 +1,127 @@
+//! The line of a place in a function, and the names of source files.
+
+use pdb_addresses::PdbInternalSectionOffset;
+use pdb_container::{Error, FallibleIterator, StringTable};
+use pdb_indices::FileIndex;
+use pdb_lines::LineProgram;
+use pdb_module_data::{file_name, function_row};
+use pdb_samples::{file_f, push_u32};
+use pdb_symbols_modules::{ModuleInfo, PDB};
+use std::alloc::Global;
+use std::test::Fail;
+
+/// An open database over a file's bytes.
+type Database = PDB<'static, Vec<u8>>;
+
+/// 0x20 bytes of code at 1:0x10 in two blocks: first of file 0 at 8 line 7, then of file 0x18 at 0 lines 4 and 5.
+const TWO_BLOCKS: &[u32] = &[
+    0xf2,
+    60,
+    0x10,
+    1,
+    0x20,
+    0,
+    1,
+    20,
+    8,
+    0x8000_0007,
+    0x18,
+    2,
+    28,
+    0,
+    0x8000_0004,
+    0,
+    0x8000_0005,
+];
+
+/// The same code in a block that says that it has 8 bytes, which is less than its header.
+const SHORT_BLOCK: &[u32] = &[0xf2, 24, 0x10, 1, 0x20, 0, 0, 8];
+
+/// The file and line of a place of section 1 in the function that begins at a place, by these line data.
+fn line_of(
+    alloc: Global,
+    line_data: &[u32],
+    start: (u16, u32),
+    offset: u32,
+) -> Result<Result<Option<(u32, u32)>, Error>, Fail> {
+    let mut bytes = Vec::new(alloc);
+    push_u32(&mut bytes, line_data)?;
+    let program = LineProgram::parse(alloc, &bytes)?;
+    let start = PdbInternalSectionOffset {
+        offset: start.1,
+        section: start.0,
+    };
+    let place = PdbInternalSectionOffset { offset, section: 1 };
+    match function_row(&program, start, place) {
+        Ok(None) => Ok(Ok(None)),
+        Ok(Some(row)) => Ok(Ok(Some((row.file_index.0, row.line_start)))),
+        Err(error) => Ok(Err(error)),
+    }
+}
+
+/// Line data, where a function begins, an offset in it, and the file and line there.
+const LINES: &[(&[u32], (u16, u32), u32, Result<Option<(u32, u32)>, Error>)] = &[
+    // By their starts and not by their order in the file; of equal starts the last.
+    (TWO_BLOCKS, (1, 0x10), 0x14, Ok(Some((0x18, 5)))),
+    (TWO_BLOCKS, (1, 0x10), 0x1c, Ok(Some((0, 7)))),
+    // Before the first row, and before the first subsection.
+    (TWO_BLOCKS, (1, 0x10), 0xf, Ok(None)),
+    (TWO_BLOCKS, (1, 8), 0x14, Ok(None)),
+    // A subsection that begins elsewhere: an earlier one of the section serves, one of another section doesn't.
+    (TWO_BLOCKS, (1, 0x40), 0x44, Ok(Some((0, 7)))),
+    (TWO_BLOCKS, (2, 0x10), 0x14, Ok(None)),
+    (SHORT_BLOCK, (1, 0x10), 0x14, Err(Error::UnexpectedEof)),
+    (SHORT_BLOCK, (1, 8), 0x14, Ok(None)),
+];
+
+#[test]
+fn lines_of_functions(rt: HostRuntime) -> Result<(), Fail> {
+    for (line_data, start, offset, wanted) in LINES {
+        let found = line_of(rt.alloc(), line_data, *start, *offset)?;
+        assert_eq!(rt; found, *wanted);
+    }
+    Ok(())
+}
+
+/// The stream of a database's first module.
+fn first_info(alloc: Global, pdb: &mut Database) -> Result<Option<ModuleInfo<'static>>, Fail> {
+    let debug_information = pdb.debug_information(alloc)?;
+    match debug_information.modules().next()? {
+        None => Ok(None),
+        Some(module) => Ok(pdb.module_info(alloc, &module)?),
+    }
+}
+
+/// The name of the file of an index in a module, by a string table if there is one.
+fn name_in(
+    alloc: Global,
+    info: &ModuleInfo<'_>,
+    strings: Option<&StringTable<'_>>,
+    index: u32,
+) -> Result<Option<Vec<u8>>, Fail> {
+    let program = info.line_program(alloc)?;
+    match file_name(alloc, &program, strings, FileIndex(index))? {
+        None => Ok(None),
+        Some(name) => Ok(Some(Vec::from_slice(alloc, name.as_str().as_bytes())?)),
+    }
+}
+
+/// The name of the file of an index in file F's module, with its string table or without.
+fn name_in_f(alloc: Global, index: u32, by_table: bool) -> Result<Option<Vec<u8>>, Fail> {
+    let mut pdb = PDB::open(alloc, file_f(alloc)?.bytes(alloc)?)?;
+    let strings = pdb.string_table(alloc)?;
+    let strings = if by_table { Some(&strings) } else { None };
+    match first_info(alloc, &mut pdb)? {
+        None => Ok(None),
+        Some(info) => name_in(alloc, &info, strings, index),
+    }
+}
+
+#[test]
+fn names_of_files(rt: HostRuntime) -> Result<(), Fail> {
+    let name = name_in_f(rt.alloc(), 0, true)?.unwrap_or(Vec::new(rt.alloc()));
+    assert_eq!(rt; name.as_slice(), b"a.c".as_slice());
+    assert!(rt; name_in_f(rt.alloc(), 8, true)?.is_none());
+    assert!(rt; name_in_f(rt.alloc(), 0, false)?.is_none());
+    Ok(())
+}
