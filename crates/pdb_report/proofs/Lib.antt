@@ -6,7 +6,7 @@ pub mod Pieces
 pub mod Pumped
 pub mod Runs
 pub mod Writes
-pub mod ProcedureSteps
+pub mod OtherSymbolSteps
 pub mod FrameSteps
 pub mod LoadingSteps
 pub mod ModuleSteps

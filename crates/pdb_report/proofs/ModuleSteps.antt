@@ -1,5 +1,5 @@
 -- The symbols of all modules, place by place.
-use Rattle.std.proofs.Common.{◌≡◌, ℕ, zero, suc, ◌+◌, ◌<◌, ◌≤◌, inl, inr, Bool, true, false, ◌||◌, ◌&&◌, List, [], ◌∷◌, ◌++◌, length, get_or, take, Ok, Err, refl, sym, ap, ◌∙◌, arith}
+use Rattle.std.proofs.Common.{◌≡◌, ℕ, zero, suc, ◌+◌, ◌<◌, ◌≤◌, inl, inr, Bool, true, false, ◌||◌, ◌&&◌, List, [], ◌∷◌, ◌++◌, length, get_or, take, Result, Ok, Err, refl, sym, ap, ◌∙◌, arith}
 use Rattle.std.specs.Prelude.{Option, None, Some, IfSome, IsSome, map, option_map, nat_eq}
 use Rattle.std.specs.List.{list_any, dedup, dedup_from}
 use Rattle.std.specs.List.Sorted.{IsPermutation}
@@ -13,13 +13,14 @@ use Rattle.pdb_report.specs.declared.fault.LoadFault.TheVariants as faults
 use Rattle.pdb_resolving.specs.declared.error.Error.TheVariants as contexts
 use Rattle.pdb_container.specs.declared.error.Error.TheVariants as errors
 use Rattle.pdb_report.specs.Faults.{LoadingFault, NotYet, FailsLoading, loading_fault_of}
-use Rattle.pdb_modules.specs.ModuleStream.{symbol_list_bytes as symbol_bytes_in}
+use Rattle.pdb_modules.specs.ModuleStream.{ModuleStream, symbol_list_bytes as symbol_bytes_in}
 use Rattle.pdb_symbols_modules.specs.Streams.{Streams, stream_if_named}
 use Rattle.pdb_symbols_modules.specs.Modules.{Module}
 use Rattle.pdb_symbols_modules.specs.DatabaseCalls.{module_info}
 use Rattle.pdb_symbols_modules.specs.Shared.{module_stream, info_in}
-use Rattle.pdb_report.specs.Procedures.{Procedure, symbols_of_stream, own_symbols, has_other}
-use Rattle.pdb_report.specs.KeptParts.{list_or_none}
+use Rattle.pdb_report.specs.ModuleSymbols.{symbols_of_stream, own_symbols}
+use Rattle.pdb_report.specs.OtherSymbols.{has_other}
+use Rattle.pdb_report.specs.KeptParts.{kept_or_none}
 use Rattle.pdb_report.specs.Loading.{symbols_place, with_symbols, if_read, has_others_at, has_other_symbols}
 
 -- ---- a loop that ends where one is refused
@@ -117,6 +118,6 @@ modules_at_places s (m ∷ modules) = ap (λ b. b || list_any (has_others_at s) 
 -- ---- what is kept
 
 -- procedures that are kept of a module are the module's
-pub kept_is : (found : Option (List Procedure)) (all : List Procedure) → IsSome found → IfSome found (λ own. own ≡ all) → list_or_none found ≡ all
+pub kept_is : (found : Option (Option ModuleStream)) (all : Option ModuleStream) → IsSome found → IfSome found (λ own. own ≡ all) → kept_or_none found ≡ all
 kept_is None all there right = absurd cc
 kept_is (Some own) all there right = right

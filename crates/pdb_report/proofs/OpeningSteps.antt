@@ -1,11 +1,12 @@
 -- The steps of opening a file: where one fails, and what is kept at the end.
 use Rattle.std.proofs.Common.{◌≡◌, ℕ, ◌⊎◌, Bool, true, false, List, Result, Ok, Err, refl, sym, ap, ◌∙◌}
 use Rattle.std.specs.Prelude.{Option, None, Some, option_map, slice_get}
-use Rattle.std.specs.BTreeMap.{BTreeMap}
+use Rattle.std.specs.BTreeMap.{BTreeMap, get}
+use Rattle.std.specs.Ordering.{nat_cmp}
 use Rattle.std.specs.List.{All, list_any}
 use Rattle.pdb_container.specs.declared.error.Error.{Error}
 use Rattle.pdb_container.specs.declared.error.Error.TheVariants as errors
-use Rattle.pdb_container.specs.Fault.{fault_of, IsOutside, HasRisen, refuse, ◌>>=◌}
+use Rattle.pdb_container.specs.Fault.{Fault, fault_of, IsOutside, HasRisen, refuse, ◌>>=◌}
 use Rattle.pdb_report.specs.declared.fault.LoadFault.{LoadFault}
 use Rattle.pdb_report.specs.declared.fault.LoadFault.TheVariants as faults
 use Rattle.pdb_resolving.specs.declared.error.Error.TheVariants as contexts
@@ -18,10 +19,11 @@ use Rattle.pdb_report.specs.RunFaults.{OnLoad, run_fault_of}
 use Rattle.pdb_symbols_modules.specs.Streams.{Streams, streams, fault_in}
 use Rattle.pdb_symbols_modules.specs.Dbi.{Dbi}
 use Rattle.pdb_symbols_modules.specs.Modules.{Module, modules_of}
-use Rattle.pdb_report.specs.Procedures.{Procedure, procedures}
+use Rattle.pdb_modules.specs.ModuleStream.{ModuleStream}
+use Rattle.pdb_report.specs.ModuleSymbols.{procedures}
 use Rattle.pdb_symbols_modules.specs.Shared.{module_of_number, shared, provider}
 use Rattle.pdb_report.specs.Loading.{load_fault, Refuses, IsFileFault, Parts, none_or, loaded_behind, loaded, has_other_symbols, answerable}
-use Rattle.pdb_report.specs.KeptParts.{list_or_none, procedures_at, listed_procedures, tables, IsKeptOfFile}
+use Rattle.pdb_report.specs.KeptParts.{if_given, if_listed, kept_or_none, listed_module, tables, IsKeptOfFile}
 use Rattle.pdb_symbols_modules.proofs.Provided.{module_listed, provided, past_the_list}
 use Rattle.pdb_report.proofs.Lifting.{fails_on, loads_on, opening_fails}
 
@@ -79,29 +81,34 @@ passes_alike true parts u e = absurd cc
 passes_alike false parts u e = refl
 
 -- what the file gives of a module, by its entry
-given : (s : Streams) (k : ℕ) (found : Option Module) → module_of_number (s.at 3) k ≡ Ok found → procedures (provider s k) ≡ list_or_none (option_map (λ entry. procedures (module_info s entry)) found)
+-- where a stream can't be read there are no procedures, as where there is none
+given_alike : (read : Result (Option ModuleStream) Fault) → procedures read ≡ procedures (Ok (if_given read))
+given_alike (Ok found) = refl
+given_alike (Err e) = refl
+
+given : (s : Streams) (k : ℕ) (found : Option Module) → module_of_number (s.at 3) k ≡ Ok found → procedures (provider s k) ≡ procedures (Ok (if_listed s found))
 given s k None h = ap procedures (past_the_list s k h)
-given s k (Some m) h = ap procedures (provided s k m h)
+given s k (Some m) h = ap procedures (provided s k m h) ∙ given_alike (module_info s m)
 
 no_fault : (r : Result Parts LoadingFault) (t : Map × List ModuleSectionContribution) → tables r ≡ Ok t → fault_in r ≡ None
 no_fault (Ok parts) t h = refl
 no_fault (Err e) t h = absurd cc
 
 -- what was kept of a loaded file is the file's
-pub is_kept : (file : List ℕ) (dbi : Dbi) (parts : Parts) (kept : BTreeMap ℕ (List Procedure)) (u : Unit {0}) → (streams file).open_fault ≡ None → debug_information (shared (streams file)) ≡ Ok dbi
+pub is_kept : (file : List ℕ) (dbi : Dbi) (parts : Parts) (kept : BTreeMap ℕ (Option ModuleStream)) (u : Unit {0}) → (streams file).open_fault ≡ None → debug_information (shared (streams file)) ≡ Ok dbi
     → loaded_behind (shared (streams file)) dbi ≡ Ok parts → whole (modules_of dbi.modules) ≡ Ok parts.modules → refuse (list_any (has_other_symbols (streams file)) parts.modules) NotYet ≡ Ok u
-    → All (λ c. procedures_at kept c.«module» ≡ listed_procedures (streams file) parts.modules c.«module») parts.contributions
+    → All (λ c. kept_or_none (get nat_cmp kept c.«module») ≡ listed_module (streams file) parts.modules c.«module») parts.contributions
     → IsOrdered parts.map → IsKeptOfFile file parts.map parts.contributions kept
 is_kept file dbi parts kept u h read load listed plain found ordered =
     let s = streams file in
     record {
       tables_are = ap tables (behind_dbi s dbi h read ∙ ap (λ r. r >>= checked s) load ∙ passes_alike (list_any (has_other_symbols s) parts.modules) parts u plain);
       ordered = ordered;
-      procedures_are = λ k d lt. found k d lt ∙ sym (given s _ (slice_get parts.modules _) (module_listed s dbi parts.modules _ read listed));
+      procedures_are = λ k d lt. ap (λ own. procedures (Ok own)) (found k d lt) ∙ sym (given s _ (slice_get parts.modules _) (module_listed s dbi parts.modules _ read listed));
     }
 
 -- a file that is kept has no load fault
-pub kept_loads : (file : List ℕ) (addresses : Map) (contributions : List ModuleSectionContribution) (kept : BTreeMap ℕ (List Procedure))
+pub kept_loads : (file : List ℕ) (addresses : Map) (contributions : List ModuleSectionContribution) (kept : BTreeMap ℕ (Option ModuleStream))
     → IsKeptOfFile file addresses contributions kept → fault_in (answerable (streams file)) ≡ None
 kept_loads file addresses contributions kept is = no_fault (answerable (streams file)) (addresses, contributions) is.tables_are
 

@@ -9,7 +9,8 @@ use Rattle.pdb_addresses.specs.Addresses.{Map, inner_place, outer_of_place}
 use Rattle.pdb_addresses.specs.Numbers.{in_32_bits}
 use Rattle.pdb_addresses.specs.Places.{internal_place}
 use Rattle.pdb_report.specs.Contributions.{holder}
-use Rattle.pdb_report.specs.Procedures.{Procedure, procedures, over}
+use Rattle.pdb_module_data.specs.Procedures.{Procedure, over}
+use Rattle.pdb_report.specs.ModuleSymbols.{procedures}
 use Rattle.pdb_modules.specs.ModuleStream.{ModuleStream}
 use Rattle.pdb_symbols_modules.specs.Shared.{Provider, provider}
 use Rattle.pdb_report.specs.Loading.{Parts, answerable}

@@ -7,7 +7,8 @@ pub mod FaultText
 pub mod KeptParts
 pub mod InputLines
 pub mod Loading
-pub mod Procedures
+pub mod ModuleSymbols
+pub mod OtherSymbols
 pub mod RunFaults
 pub mod FramesAnswer
 pub mod ToldFault

@@ -21,7 +21,8 @@ use Rattle.pdb_symbols_modules.specs.AddressTables.{address_map_by}
 use Rattle.pdb_symbols_modules.specs.DatabaseCalls.{debug_information, types, ids, global_symbols_by, module_info}
 use Rattle.pdb_symbols_modules.specs.Shared.{Shared, shared, optional_in}
 use Rattle.pdb_report.specs.Contributions.{held_of}
-use Rattle.pdb_report.specs.Procedures.{own_symbols, has_other}
+use Rattle.pdb_report.specs.ModuleSymbols.{own_symbols}
+use Rattle.pdb_report.specs.OtherSymbols.{has_other}
 
 -- what every question goes over
 pub record Parts : Type 0 where

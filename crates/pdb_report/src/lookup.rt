@@ -6,11 +6,11 @@ ghost use Rattle.pdb_report.specs.AddressAnswer.{procedure_name, procedure_frame
 ghost use Rattle.pdb_report.specs.FramesAnswer.{answer_seen};
 ghost use Rattle.pdb_report.specs.KeptParts.{kept_answer, procedures_at};
 
-use crate::modules::ModuleProcedures;
+use crate::modules::HeldModule;
 use crate::pdb_addr2line::contributions::{ModuleSectionContribution, holder};
 use crate::pdb_addr2line::frames::{Frame, FunctionFrames};
-use crate::pdb_module_data::{Procedure, over};
 use pdb_addresses::{AddressMap, Rva};
+use pdb_module_data::{Procedure, over};
 use std::alloc::{AllocError, Global};
 use std::collections::BTreeMap;
 
@@ -26,10 +26,10 @@ fn name_of(alloc: Global, name: &[u8]) -> Result<String, AllocError>
 }
 
 /// The frame of a procedure, without file and line.
-fn frame_of(alloc: Global, procedure: &Procedure) -> Result<Frame, AllocError>
+fn frame_of(alloc: Global, procedure: &Procedure<'_>) -> Result<Frame, AllocError>
     ensures { IfOk result (λ f. f ≡ procedure_frame procedure.now) }
 {
-    let name = name_of(alloc, procedure.name.as_slice())?;
+    let name = name_of(alloc, procedure.name.as_bytes())?;
     Ok(Frame {
         function: Some(name),
         file: None,
@@ -41,7 +41,7 @@ fn frame_of(alloc: Global, procedure: &Procedure) -> Result<Frame, AllocError>
 fn procedure_frames(
     alloc: Global,
     address_map: &AddressMap<'_>,
-    procedure: &Procedure,
+    procedure: &Procedure<'_>,
 ) -> Result<Option<FunctionFrames>, AllocError>
     requires { IsOrdered address_map.now }
     ensures { IfOk result (λ f. answer_seen f ≡ procedure_answer address_map.now procedure.now) }
@@ -61,13 +61,17 @@ fn procedure_frames(
     }
 }
 
-/// The procedures of the module of a number, counted from 0; none where none are kept.
-fn kept_procedures(kept: &BTreeMap<u16, ModuleProcedures>, module: u16) -> &[Procedure]
-    ensures { result.now ≡ procedures_at kept.now «module» }
+/// The procedures of the module of a number, counted from 0; none where its stream isn't kept.
+fn kept_procedures(
+    alloc: Global,
+    kept: &BTreeMap<u16, HeldModule>,
+    module: u16,
+) -> Result<Vec<Procedure<'_>>, AllocError>
+    ensures { IfOk result (λ v. v.items ≡ procedures_at kept.now «module») }
 {
     match kept.get(&module) {
-        None => &[],
-        Some(procedures) => procedures.as_slice(),
+        None => Ok(Vec::new(alloc)),
+        Some(module) => module.procedures(alloc),
     }
 }
 
@@ -76,11 +80,11 @@ pub fn frames_at(
     alloc: Global,
     address_map: &AddressMap<'static>,
     contributions: &[ModuleSectionContribution],
-    procedures: &BTreeMap<u16, ModuleProcedures>,
+    modules: &BTreeMap<u16, HeldModule>,
     address: u32,
 ) -> Result<Option<FunctionFrames>, AllocError>
     requires { IsOrdered address_map.now }
-    ensures { IfOk result (λ f. answer_seen f ≡ kept_answer address_map.now contributions.now procedures.now address) }
+    ensures { IfOk result (λ f. answer_seen f ≡ kept_answer address_map.now contributions.now modules.now address) }
 {
     let Some(place) = Rva(address).to_internal_offset(address_map) else {
         return Ok(None);
@@ -88,7 +92,8 @@ pub fn frames_at(
     let Some(held) = holder(contributions, place) else {
         return Ok(None);
     };
-    match over(kept_procedures(procedures, held.module), place) {
+    let procedures = kept_procedures(alloc, modules, held.module)?;
+    match over(procedures.as_slice(), place) {
         None => Ok(None),
         Some(procedure) => procedure_frames(alloc, address_map, procedure),
     }

@@ -1,25 +1,27 @@
-//! What is read of the modules' own streams: whether some symbol isn't answered yet, and the procedures of those
-//! modules that hold something.
+//! What is read of the modules' own streams: whether some symbol isn't answered yet, and the streams of those modules that
+//! hold something, with their procedures.
 
-ghost use Rattle.std.specs.Prelude.{◌≡◌, ℕ, Bool, IfOk, OnOk, IfSome, IsSome, Ok, [], map};
+ghost use Rattle.std.specs.Prelude.{◌≡◌, ℕ, Bool, IfOk, OnOk, IfSome, IsSome, Ok, Some, map};
 ghost use Rattle.std.specs.BTreeMap.{get};
 ghost use Rattle.std.specs.List.{All, list_any};
 ghost use Rattle.std.specs.Ordering.{nat_cmp};
 ghost use Rattle.pdb_container.specs.Fault.{Gives, refuse};
 ghost use Rattle.pdb_container.specs.Listing.{whole};
 ghost use Rattle.pdb_report.specs.Faults.{Loads, NotYet};
-ghost use Rattle.pdb_report.specs.KeptParts.{procedures_at, listed_procedures};
+ghost use Rattle.pdb_report.specs.KeptParts.{if_given, kept_or_none, listed_module};
 ghost use Rattle.pdb_report.specs.Loading.{symbols_place, if_read, has_others_at, has_other_symbols as has_others};
-ghost use Rattle.pdb_report.specs.Procedures.{symbols_of_stream, procedures as procedures_by, procedures_of as procedures_among, has_other};
+ghost use Rattle.pdb_report.specs.ModuleSymbols.{symbols_of_stream, procedures_read, procedures as procedures_by};
+ghost use Rattle.pdb_report.specs.OtherSymbols.{has_other};
 ghost use Rattle.pdb_symbols.specs.Iteration.{symbols_left};
 ghost use Rattle.pdb_symbols_modules.specs.DatabaseCalls.{module_info};
 ghost use Rattle.pdb_symbols_modules.specs.Streams.{streams, stream_if_named};
 
 use crate::fault::LoadFault;
 use crate::loading::Database;
+use crate::other_symbols::has_other_symbols;
 use crate::pdb_addr2line::contributions::ModuleSectionContribution;
-use crate::pdb_module_data::{Procedure, has_other_symbols, procedures_of};
 use pdb_container::{Error, FallibleIterator, Result, Stream};
+use pdb_module_data::{Procedure, read_procedures};
 use pdb_modules::ModuleInfo;
 use pdb_symbols::{Symbol, SymbolIter};
 use pdb_symbols_modules::{Module, StreamIndex};
@@ -27,36 +29,30 @@ use std::alloc::{AllocError, Global};
 use std::collections::BTreeMap;
 use std::marker::Model;
 
-/// A module's procedures, at most one for each start.
+/// A module's own stream, where it has one that can be read.
 #[derive(Debug, Drop)]
-pub struct ModuleProcedures {
-    procedures: Vec<Procedure>,
+pub struct HeldModule {
+    info: Option<ModuleInfo<'static>>,
 }
 
-impl Model for ModuleProcedures {
-    ghost use Rattle.std.specs.Prelude.{List};
-    ghost use Rattle.pdb_report.specs.Procedures as lists;
+impl Model for HeldModule {
+    ghost use Rattle.std.specs.Prelude.{Option};
+    ghost use Rattle.pdb_modules.specs.ModuleStream.{ModuleStream};
 
-    ghost Value = { List lists.Procedure };
+    ghost Value = { Option ModuleStream };
 
-    ghost view = { λ m. m.procedures.items };
+    ghost view = { λ m. m.info };
 }
 
-impl ModuleProcedures {
-    /// None.
-    fn new(alloc: Global) -> ModuleProcedures
-        ensures { result ≡ [] }
+impl HeldModule {
+    /// The module's procedures; none where it has no stream, or its symbols can't be read to their end.
+    pub fn procedures(&self, alloc: Global) -> std::result::Result<Vec<Procedure<'_>>, AllocError>
+        ensures { IfOk result (λ v. v.items ≡ procedures_by (Ok self.now)) }
     {
-        ModuleProcedures {
-            procedures: Vec::new(alloc),
+        match &self.info {
+            None => Ok(Vec::new(alloc)),
+            Some(info) => procedures_in(alloc, info),
         }
-    }
-
-    /// The procedures.
-    pub fn as_slice(&self) -> &[Procedure]
-        ensures { result.now ≡ self.now }
-    {
-        self.procedures.as_slice()
     }
 }
 
@@ -73,7 +69,7 @@ fn collect_symbols<'t>(alloc: Global, mut remaining: SymbolIter<'t>) -> Result<V
 }
 
 /// A module's symbols, to their end. The faults of [`ModuleInfo::symbols`], `SymbolTooShort`, `UnexpectedEof`.
-#[tactic(auto, unfolding(crate::specs::Procedures::symbols_of_stream))]
+#[tactic(auto, unfolding(crate::specs::ModuleSymbols::symbols_of_stream))]
 fn read_symbols<'i>(alloc: Global, info: &'i ModuleInfo<'_>) -> Result<Vec<Symbol<'i>>>
     ensures { Gives (λ v. v.items) ⊥ result (symbols_of_stream info.now) }
 {
@@ -194,87 +190,92 @@ pub fn check_modules(
     check_places(pdb, alloc, places.as_slice())
 }
 
-/// The procedures of a module's stream; none where its symbols can't be read to their end.
-fn procedures_in(
-    alloc: Global,
-    info: &ModuleInfo<'_>,
-) -> std::result::Result<ModuleProcedures, AllocError>
-    ensures { IfOk result (λ m. m ≡ procedures_among (symbols_of_stream info.now)) }
+/// The procedures of a module's stream. The faults of [`ModuleInfo::symbols`], `SymbolTooShort`, `UnexpectedEof`.
+#[tactic(auto, unfolding(crate::specs::ModuleSymbols::procedures_read))]
+fn read_module_procedures<'i>(alloc: Global, info: &'i ModuleInfo<'_>) -> Result<Vec<Procedure<'i>>>
+    ensures { Gives (λ v. v.items) ⊥ result (procedures_read info.now) }
 {
-    match read_symbols(alloc, info) {
-        Ok(symbols) => {
-            let procedures = procedures_of(alloc, symbols.as_slice())?;
-            Ok(ModuleProcedures { procedures })
-        }
+    let symbols = info.symbols()?;
+    read_procedures(alloc, symbols)
+}
+
+/// The procedures of a module's stream; none where its symbols can't be read to their end.
+fn procedures_in<'i>(
+    alloc: Global,
+    info: &'i ModuleInfo<'_>,
+) -> std::result::Result<Vec<Procedure<'i>>, AllocError>
+    ensures { IfOk result (λ v. v.items ≡ procedures_by (Ok (Some info.now))) }
+{
+    match read_module_procedures(alloc, info) {
+        Ok(procedures) => Ok(procedures),
         Err(Error::OutOfMemory) => Err(AllocError),
-        Err(_) => Ok(ModuleProcedures::new(alloc)),
+        Err(_) => Ok(Vec::new(alloc)),
     }
 }
 
-/// The procedures of a module; none where it has no stream or that can't be read.
+/// The own stream of a module, where it has one that can be read.
 fn read_module(
     pdb: &mut Database,
     alloc: Global,
     entry: &Module<'_>,
-) -> std::result::Result<ModuleProcedures, AllocError>
+) -> std::result::Result<HeldModule, AllocError>
     ensures same { pdb.new.items ≡ pdb.old.items }
-    ensures exact { IfOk result (λ m. m ≡ procedures_by (module_info (streams pdb.old.items) entry.now)) }
+    ensures exact { IfOk result (λ m. m ≡ if_given (module_info (streams pdb.old.items) entry.now)) }
 {
     match pdb.module_info(alloc, entry) {
-        Ok(Some(info)) => procedures_in(alloc, &info),
-        Ok(None) => Ok(ModuleProcedures::new(alloc)),
+        Ok(info) => Ok(HeldModule { info }),
         Err(Error::OutOfMemory) => Err(AllocError),
-        Err(_) => Ok(ModuleProcedures::new(alloc)),
+        Err(_) => Ok(HeldModule { info: None }),
     }
 }
 
-/// The procedures of the module of a number, counted from 0; none past the list.
+/// The own stream of the module of a number, counted from 0; none past the list.
 fn read_listed(
     pdb: &mut Database,
     alloc: Global,
     entries: &[Module<'_>],
     number: u16,
-) -> std::result::Result<ModuleProcedures, AllocError>
+) -> std::result::Result<HeldModule, AllocError>
     ensures same { pdb.new.items ≡ pdb.old.items }
-    ensures exact { IfOk result (λ m. m ≡ listed_procedures (streams pdb.old.items) entries.now number) }
+    ensures exact { IfOk result (λ m. m ≡ listed_module (streams pdb.old.items) entries.now number) }
 {
     match entries.get(usize::from(number)) {
-        None => Ok(ModuleProcedures::new(alloc)),
+        None => Ok(HeldModule { info: None }),
         Some(entry) => read_module(pdb, alloc, entry),
     }
 }
 
-/// Keeps the procedures of the module of a number, which are read unless they are kept.
+/// Keeps the own stream of the module of a number, which is read unless it is kept.
 fn keep(
     pdb: &mut Database,
     alloc: Global,
     entries: &[Module<'_>],
     number: u16,
-    kept: &mut BTreeMap<u16, ModuleProcedures>,
+    kept: &mut BTreeMap<u16, HeldModule>,
 ) -> std::result::Result<(), AllocError>
-    requires { (m : ℕ) → IfSome (get nat_cmp kept.old m) (λ own. own ≡ listed_procedures (streams pdb.old.items) entries.now m) }
+    requires { (m : ℕ) → IfSome (get nat_cmp kept.old m) (λ own. own ≡ listed_module (streams pdb.old.items) entries.now m) }
     ensures same { pdb.new.items ≡ pdb.old.items }
-    ensures right { OnOk result ((m : ℕ) → IfSome (get nat_cmp kept.new m) (λ own. own ≡ listed_procedures (streams pdb.old.items) entries.now m)) }
+    ensures right { OnOk result ((m : ℕ) → IfSome (get nat_cmp kept.new m) (λ own. own ≡ listed_module (streams pdb.old.items) entries.now m)) }
     ensures more { OnOk result ((m : ℕ) → IsSome (get nat_cmp kept.old m) → IsSome (get nat_cmp kept.new m)) }
     ensures there { OnOk result (IsSome (get nat_cmp kept.new number)) }
 {
     if kept.contains_key(&number) {
         return Ok(());
     }
-    let procedures = read_listed(pdb, alloc, entries, number)?;
-    kept.insert(number, procedures)?;
+    let module = read_listed(pdb, alloc, entries, number)?;
+    kept.insert(number, module)?;
     Ok(())
 }
 
-/// The procedures of each module that holds something, by its number, counted from 0.
-pub fn read_procedures(
+/// The own stream of each module that holds something, by its number, counted from 0.
+pub fn read_held_modules(
     pdb: &mut Database,
     alloc: Global,
     entries: &[Module<'_>],
     contributions: &[ModuleSectionContribution],
-) -> std::result::Result<BTreeMap<u16, ModuleProcedures>, AllocError>
+) -> std::result::Result<BTreeMap<u16, HeldModule>, AllocError>
     ensures same { pdb.new.items ≡ pdb.old.items }
-    ensures kept { IfOk result (λ kept. All (λ c. procedures_at kept c.«module» ≡ listed_procedures (streams pdb.old.items) entries.now c.«module») contributions.now) }
+    ensures kept { IfOk result (λ kept. All (λ c. kept_or_none (get nat_cmp kept c.«module») ≡ listed_module (streams pdb.old.items) entries.now c.«module») contributions.now) }
 {
     let mut kept = BTreeMap::new(alloc);
     for contribution in contributions {

@@ -13,7 +13,7 @@ use crate::answers::Answers;
 use crate::fault::LoadFault;
 use crate::loading::{Database, load_parts};
 use crate::lookup::frames_at;
-use crate::modules::{ModuleProcedures, check_modules, read_procedures};
+use crate::modules::{HeldModule, check_modules, read_held_modules};
 use crate::pdb_addr2line::contributions::ModuleSectionContribution;
 use crate::pdb_addr2line::frames::FunctionFrames;
 use crate::texts::address_text;
@@ -30,7 +30,7 @@ pub struct Symbolizer {
     pdb: Database,
     address_map: AddressMap<'static>,
     contributions: Vec<ModuleSectionContribution>,
-    procedures: BTreeMap<u16, ModuleProcedures>,
+    modules: BTreeMap<u16, HeldModule>,
 }
 
 impl Model for Symbolizer {
@@ -41,7 +41,7 @@ impl Model for Symbolizer {
 
     ghost view = { λ s. s.pdb.items };
 
-    ghost invariant = { λ s. IsKeptOfFile s.pdb.items s.address_map s.contributions.items s.procedures };
+    ghost invariant = { λ s. IsKeptOfFile s.pdb.items s.address_map s.contributions.items s.modules };
 }
 
 /// Loads an open program database, and keeps what answers need.
@@ -53,7 +53,7 @@ fn load(alloc: Global, mut pdb: Database) -> Result<Symbolizer, LoadFault>
     let debug_information = pdb.debug_information(alloc)?;
     let parts = load_parts(&mut pdb, alloc, &debug_information)?;
     check_modules(&mut pdb, alloc, parts.modules.as_slice())?;
-    let procedures = read_procedures(
+    let modules = read_held_modules(
         &mut pdb,
         alloc,
         parts.modules.as_slice(),
@@ -63,7 +63,7 @@ fn load(alloc: Global, mut pdb: Database) -> Result<Symbolizer, LoadFault>
         pdb,
         address_map: parts.address_map,
         contributions: parts.contributions,
-        procedures,
+        modules,
     })
 }
 
@@ -95,7 +95,7 @@ impl Symbolizer {
             alloc,
             &self.address_map,
             self.contributions.as_slice(),
-            &self.procedures,
+            &self.modules,
             address,
         )
     }

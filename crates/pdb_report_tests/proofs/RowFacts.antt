@@ -27,7 +27,7 @@ use Rattle.pdb_symbols.specs.Symbols.{symbol_at, next_within, next, symbols_with
 use Rattle.pdb_modules.specs.ModuleStream.{signed}
 use Rattle.pdb_modules.specs.ModuleStream.{symbol_list_bytes as symbol_bytes_in}
 use Rattle.pdb_report.specs.Contributions.{held_of}
-use Rattle.pdb_report.specs.Procedures.{symbols_of_stream}
+use Rattle.pdb_report.specs.ModuleSymbols.{symbols_of_stream, procedures_read}
 use Rattle.pdb_report.specs.Loading.{unmapped, address_tables, has_public, loaded_behind, loaded, answerable, load_fault}
 use Rattle.pdb_report.specs.AddressAnswer.{scope, answer_in, answer_by, answer}
 use Rattle.pdb_report.specs.AddressText.{answer_text, line_text}
@@ -50,5 +50,5 @@ unfolding file_f0 count_ones first_words behind_header header_in front_in layout
 no_lines_loads = refl
 
 pub no_lines_answers : report (line_text (streams file_f0)) (codes "1014\n") ≡ codes "0x00001014\n  f at ??:??\n"
-unfolding file_f0 count_ones first_words behind_header header_in front_in layout_of directory_of stream_pages_in stream_in stream bytes_at page_places c_string_at entries_within listing_within streams header_of dbi_of module_at optional_at section_header_at header_at fitting_header item_header_of table_of symbol_at next_within next symbols_within symbols_from type_index_at index_at optional_index_at place_at symbol_name_at procedure_symbol_at end_form form_of symbol_form_of signed symbol_bytes_in contribution_at contributions_of held_of symbols_of_stream named symbols_number optional_number shared if_named optional_in module_info debug_information types ids global_symbols_by sections_by original_sections_by map_behind address_map_by unmapped address_tables has_public loaded_behind loaded answerable module_of_number module_number module_bytes info_in info_from provider scope answer_in answer_by answer answer_text line_text digits padded_integral char_count chars is_utf8 encode_utf8 utf8_valid_len utf8_lossy
+unfolding file_f0 count_ones first_words behind_header header_in front_in layout_of directory_of stream_pages_in stream_in stream bytes_at page_places c_string_at entries_within listing_within streams header_of dbi_of module_at optional_at section_header_at header_at fitting_header item_header_of table_of symbol_at next_within next symbols_within symbols_from type_index_at index_at optional_index_at place_at symbol_name_at procedure_symbol_at end_form form_of symbol_form_of signed symbol_bytes_in contribution_at contributions_of held_of symbols_of_stream procedures_read named symbols_number optional_number shared if_named optional_in module_info debug_information types ids global_symbols_by sections_by original_sections_by map_behind address_map_by unmapped address_tables has_public loaded_behind loaded answerable module_of_number module_number module_bytes info_in info_from provider scope answer_in answer_by answer answer_text line_text digits padded_integral char_count chars is_utf8 encode_utf8 utf8_valid_len utf8_lossy
 no_lines_answers = refl

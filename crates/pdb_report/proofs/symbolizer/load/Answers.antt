@@ -33,7 +33,7 @@ invariant_of-result c =
     let plain = rw (same, entries) at c.in_ok-check_modules.ensures.exact in
     let entries_too = c.as_slice-2.ensures.value ∙ ap (λ q. q.modules) c.parts.view_is in
     let held = c.as_slice-3.ensures.value ∙ ap (λ q. q.contributions) c.parts.view_is in
-    let found = rw (checked, entries_too, held) at c.in_ok-procedures.ensures.kept in
-    let kept = is_kept c.args.pdb.items c.in_ok-debug_information.debug_information c.in_ok-parts.parts c.in_ok-procedures.procedures tt c.requires c.in_ok-debug_information.ensures.exact load c.in_ok-parts.ensures.modules plain found
+    let found = rw (checked, entries_too, held) at c.in_ok-modules.ensures.kept in
+    let kept = is_kept c.args.pdb.items c.in_ok-debug_information.debug_information c.in_ok-parts.parts c.in_ok-modules.modules tt c.requires c.in_ok-debug_information.ensures.exact load c.in_ok-parts.ensures.modules plain found
     c.in_ok-parts.ensures.ordered in
-    rw (c.read_procedures.ensures.same, checked, ap (λ q. q.map) c.parts.view_is, ap (λ q. q.contributions) c.parts.view_is) kept
+    rw (c.read_held_modules.ensures.same, checked, ap (λ q. q.map) c.parts.view_is, ap (λ q. q.contributions) c.parts.view_is) kept

@@ -1,7 +1,7 @@
 use Rattle.std.proofs.Common.{◌≡◌, ◌||◌, drop, Ok}
 use Rattle.std.specs.List.{list_any}
-use Rattle.pdb_report.specs.Procedures.{is_inside, has_other}
-use Rattle.pdb_report.proofs.pdb_module_data.has_other_symbols.Given as goal
+use Rattle.pdb_report.specs.OtherSymbols.{is_inside, has_other}
+use Rattle.pdb_report.proofs.other_symbols.has_other_symbols.Given as goal
 
 -- none was found so far: one that is left is found, or lies before the end of one that was passed
 abbrev pub invariant-loop-symbol : goal.invariant-loop-symbol

@@ -1,7 +1,7 @@
 use Rattle.std.proofs.Common.{◌∙◌, ap, sym}
 use Rattle.std.specs.Prelude.{max}
-use Rattle.pdb_report.proofs.ProcedureSteps.{other_start, other_more}
-use Rattle.pdb_report.proofs.pdb_module_data.has_other_symbols.Goals as goal
+use Rattle.pdb_report.proofs.OtherSymbolSteps.{other_start, other_more}
+use Rattle.pdb_report.proofs.other_symbols.has_other_symbols.Goals as goal
 
 pub loop-symbol-init : goal.loop-symbol-init
 loop-symbol-init c = other_start c.args.symbols.now

@@ -5,7 +5,7 @@ use Rattle.std.specs.Ordering.{nat_cmp}
 use Rattle.std.proofs.lemmas.List.{take_all}
 use Rattle.std.proofs.lemmas.List.Elements.{All-more, All-same, All-weaker}
 use Rattle.pdb_report.proofs.ModuleSteps.{kept_is}
-use Rattle.pdb_report.proofs.modules.read_procedures.Goals as goal
+use Rattle.pdb_report.proofs.modules.read_held_modules.Goals as goal
 
 pub loop-contribution-preserved : goal.loop-contribution-preserved
 loop-contribution-preserved c =
