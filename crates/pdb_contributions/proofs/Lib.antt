@@ -1,0 +1,4 @@
+pub mod ApartSteps
+pub mod HeldSteps
+pub mod MergeSteps
+pub mod Order

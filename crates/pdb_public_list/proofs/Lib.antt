@@ -1,0 +1,5 @@
+pub mod Firsts
+pub mod OnePlace
+pub mod PublicOrder
+pub mod PublicSteps
+pub mod Stable

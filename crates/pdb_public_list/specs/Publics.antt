@@ -1,0 +1,134 @@
+-- The public list: names and placeholders by the places at which functions may begin.
+-- What stands in it, and which of one place counts, is what the pdb-addr2line crate does.
+use Rattle.std.specs.Prelude.{◌≡◌, ℕ, ◌+◌, Bool, ◌&&◌, ◌||◌, not, List, [], ◌∷◌, ◌++◌, map, is_some, IsTrue, slice_get, nat_lt, nat_le, ◌==◌, Option, None, Some, Result, Ok, if◌then◌else◌}
+use Rattle.std.specs.Option.{option_or}
+use Rattle.std.specs.List.{find, flat_map}
+use Rattle.pdb_container.specs.Fault as container
+use Rattle.pdb_container.specs.Fault.{◌>>=◌}
+use Rattle.pdb_container.specs.Listing.{Listing, whole}
+use Rattle.pdb_addresses.specs.declared.sections.ImageSectionHeader.{ImageSectionHeader}
+use Rattle.pdb_addresses.specs.declared.internal_section_offset.PdbInternalSectionOffset.{PdbInternalSectionOffset}
+use Rattle.pdb_addresses.specs.Sections.{may_execute}
+use Rattle.pdb_symbols.specs.Forms as forms
+use Rattle.pdb_symbols.specs.Forms.{SymbolForm, PublicForm}
+use Rattle.pdb_symbols.specs.Records.{symbol_form_of}
+use Rattle.pdb_symbols.specs.Symbols.{Symbol}
+use Rattle.pdb_contributions.specs.Contributions.{is_executable}
+
+-- an entry of the public list: where a function may begin, and its name as it is stored; a placeholder has none
+pub record PublicFunction : Type 0 where
+  pub start_offset : PdbInternalSectionOffset
+  pub name : Option (List ℕ)
+
+-- ---- what is put into the list
+
+-- a place without a name
+abbrev pub placeholder : PdbInternalSectionOffset → PublicFunction
+placeholder p = record { start_offset = p; name = None }
+
+-- what a symbol says, if it is a public one
+abbrev pub as_public : Result SymbolForm container.Fault → Option PublicForm
+as_public (Ok (forms.Public p)) = Some p
+as_public other = None
+
+-- a public symbol's entry, if code may run in its section
+abbrev pub entry_of_public : List ImageSectionHeader → Option PublicForm → List PublicFunction
+entry_of_public sections None = []
+entry_of_public sections (Some p) = if is_executable sections (p.offset).section then record { start_offset = p.offset; name = Some p.name } ∷ [] else []
+
+-- the entries of symbols: of the public ones that can be read and lie in sections in which code may run
+abbrev pub entries_of_symbols : List ImageSectionHeader → List Symbol → List PublicFunction
+entries_of_symbols sections symbols = flat_map (λ s. entry_of_public sections (as_public (symbol_form_of s))) symbols
+
+-- the entries of symbols, which have to be there to their end
+abbrev pub entries_read : List ImageSectionHeader → Listing Symbol → Result (List PublicFunction) container.Fault
+entries_read sections symbols = whole symbols >>= λ all. Ok (entries_of_symbols sections all)
+
+-- placeholders at places
+abbrev pub placeholders : List PdbInternalSectionOffset → List PublicFunction
+placeholders places = map placeholder places
+
+-- a placeholder at the end of a section of a number in which code may run
+abbrev pub section_end : ℕ → ImageSectionHeader → List PublicFunction
+section_end number s = if may_execute s.characteristics && nat_le number 65535 then placeholder (record { section = number; offset = s.virtual_size }) ∷ [] else []
+
+-- placeholders at the ends of sections from a number on
+abbrev pub section_ends_from : ℕ → List ImageSectionHeader → List PublicFunction
+section_ends_from number [] = []
+section_ends_from number (s ∷ sections) = section_end number s ++ section_ends_from (number + 1) sections
+
+-- placeholders at the ends of the sections in which code may run
+abbrev pub section_ends : List ImageSectionHeader → List PublicFunction
+section_ends sections = section_ends_from 1 sections
+
+-- ---- one entry a place
+
+-- a place before another one, by section and offset
+abbrev pub is_before : PdbInternalSectionOffset → PdbInternalSectionOffset → Bool
+is_before a b = nat_lt a.section b.section || ((a.section == b.section) && nat_lt a.offset b.offset)
+
+-- whether an entry has a name
+abbrev pub is_named : PublicFunction → Bool
+is_named f = is_some f.name
+
+-- of two entries of a place the first, unless the second alone has a name
+abbrev pub preferred : PublicFunction → PublicFunction → PublicFunction
+preferred first second = if not (is_named first) && is_named second then second else first
+
+-- an entry among others behind it, which are in order and one a place
+abbrev pub with_entry : PublicFunction → List PublicFunction → List PublicFunction
+with_entry f [] = f ∷ []
+with_entry f (other ∷ others) =
+    if is_before f.start_offset other.start_offset then f ∷ other ∷ others
+    else (if is_before other.start_offset f.start_offset then other ∷ with_entry f others
+    else preferred f other ∷ others)
+
+-- the public list of entries: by place, one a place, a named one before a placeholder, and then the first
+abbrev pub publics_among : List PublicFunction → List PublicFunction
+publics_among [] = []
+publics_among (f ∷ others) = with_entry f (publics_among others)
+
+-- in a list an entry of another one's place stands, and it has a name if that one has
+abbrev pub StandsNamed : PublicFunction → List PublicFunction → Type 0
+StandsNamed f list = (i : ℕ) × (a : PublicFunction) × (slice_get list i ≡ Some a) × (a.start_offset ≡ f.start_offset) × (IsTrue (is_named f) → IsTrue (is_named a))
+
+-- the public list: public symbols, then placeholders where contributions begin, then placeholders at sections' ends
+abbrev pub publics : List ImageSectionHeader → List Symbol → List PdbInternalSectionOffset → List PublicFunction
+publics sections symbols starts = publics_among (entries_of_symbols sections symbols ++ placeholders starts ++ section_ends sections)
+
+-- ---- looking up
+
+-- an entry begins at a place
+abbrev pub is_at : PdbInternalSectionOffset → PublicFunction → Bool
+is_at p f = ((f.start_offset).section == p.section) && ((f.start_offset).offset == p.offset)
+
+-- the entry at exactly a place
+abbrev pub public_exactly : List PublicFunction → PdbInternalSectionOffset → Option PublicFunction
+public_exactly list p = find (is_at p) list
+
+-- an entry begins at a place or before it, in its section
+abbrev pub is_at_or_before : PdbInternalSectionOffset → PublicFunction → Bool
+is_at_or_before p f = ((f.start_offset).section == p.section) && nat_le (f.start_offset).offset p.offset
+
+-- the last entry of a list at a place or before it, in its section
+abbrev pub last_at_or_before : List PublicFunction → PdbInternalSectionOffset → Option PublicFunction
+last_at_or_before [] p = None
+last_at_or_before (f ∷ others) p = option_or (last_at_or_before others p) (if is_at_or_before p f then Some f else None)
+
+-- an entry that may be there, unless it lies before an offset
+abbrev pub not_before : ℕ → Option PublicFunction → Option PublicFunction
+not_before start None = None
+not_before start (Some f) = if nat_lt (f.start_offset).offset start then None else Some f
+
+-- the entry of a place: the last one at the place or before it, in its section, unless that one lies before the start of the
+-- contribution that holds the place
+abbrev pub public_over : List PublicFunction → ℕ → PdbInternalSectionOffset → Option PublicFunction
+public_over list start p = not_before start (last_at_or_before list p)
+
+-- an entry behind a place, in its section
+abbrev pub is_behind : PdbInternalSectionOffset → PublicFunction → Bool
+is_behind p f = ((f.start_offset).section == p.section) && nat_lt p.offset (f.start_offset).offset
+
+-- the next entry behind a place, in its section
+abbrev pub next_public : List PublicFunction → PdbInternalSectionOffset → Option PublicFunction
+next_public list p = find (is_behind p) list
