@@ -1,0 +1,21 @@
+//! Tests of formatters, by their public calls.
+#![tactic(auto)]
+
+#[cfg(test)]
+mod bounds;
+#[cfg(test)]
+mod calls;
+#[cfg(test)]
+mod errors;
+#[cfg(test)]
+mod files;
+#[cfg(test)]
+mod functions;
+#[cfg(test)]
+mod ids;
+#[cfg(test)]
+mod seen;
+#[cfg(test)]
+mod sizes;
+#[cfg(test)]
+mod types;
