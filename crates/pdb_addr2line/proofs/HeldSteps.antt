@@ -1,6 +1,6 @@
 -- What is held of a database is the file's.
 use Rattle.std.proofs.Common.{◌≡◌, ℕ, zero, suc, ◌≤◌, ◌⊎◌, List, [], ◌∷◌, Result, Ok, Err, inl, inr, refl, sym, ap, ◌∙◌, arith}
-use Rattle.std.specs.Prelude.{Option, None, Some, map, option_map, slice_get}
+use Rattle.std.specs.Prelude.{Option, None, Some, map, option_map, slice_get, IfOk}
 use Rattle.pdb_container.specs.declared.error.Error.{Error}
 use Rattle.pdb_container.specs.declared.error.Error.TheVariants as errors
 use Rattle.pdb_container.specs.Fault.{Fault, HasRisen, IsOutside, fault_of, ◌>>=◌}
@@ -11,7 +11,7 @@ use Rattle.pdb_addr2line.specs.Loading.{listed}
 use Rattle.pdb_symbols_modules.specs.Dbi.{Dbi}
 use Rattle.pdb_symbols_modules.specs.Modules.{Module, modules_of}
 use Rattle.pdb_symbols_modules.specs.DatabaseCalls.{debug_information, module_info}
-use Rattle.pdb_symbols_modules.specs.Shared.{shared, provider, module_of_number}
+use Rattle.pdb_symbols_modules.specs.Shared.{shared, module_of_number}
 use Rattle.pdb_symbols_modules.specs.Streams.{Streams}
 use Rattle.pdb_symbols_modules.proofs.Provided.{module_listed, provided, past_the_list}
 
@@ -79,3 +79,15 @@ memory_alone l errors.OutOfMemory ends h = refl
 memory_alone l (errors.IoError kind) ends (inl h) = absurd h.1
 memory_alone l e ends (inl h) = absurd h
 memory_alone l e ends (inr h) = not_missing l (fault_of e) ends h
+
+-- what is the file's unless the source failed since a later moment, is so since an earlier one
+pub own_earlier : (s : Streams) (h : Held) (a b c : ℕ) → a ≤ b → IsOwn s (HasRisen b c) h → IsOwn s (HasRisen a c) h
+own_earlier s h a b c ab own = record {
+  names_are = elim own.names_are [ inl risen ↦ inl (omega (arith, risen)) | inr is ↦ inr is ];
+  modules_are = elim own.modules_are [ inl risen ↦ inl (omega (arith, risen)) | inr is ↦ inr is ];
+}
+
+-- the same of what a call returned
+pub own_if : {E : Type 0} (r : Result Held E) (s t : Streams) (a b c : ℕ) → s ≡ t → a ≤ b → IfOk r (λ d. IsOwn s (HasRisen b c) d) → IfOk r (λ d. IsOwn t (HasRisen a c) d)
+own_if (Ok d) s t a b c same ab own = own_earlier t d a b c ab (rw same at own)
+own_if (Err e) s t a b c same ab own = tt

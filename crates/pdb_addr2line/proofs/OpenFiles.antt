@@ -1,18 +1,18 @@
 -- A file of which one stream was read is open, and the faults of its streams are of four kinds.
-use Rattle.std.proofs.Common.{◌≡◌, ℕ, ◌+◌, zero, suc, List, [], ◌∷◌, Result, Ok, Err, inl, inr, refl, take, drop, length}
+use Rattle.std.proofs.Common.{◌≡◌, ℕ, ◌+◌, zero, suc, List, [], ◌∷◌, Result, Ok, Err, refl, take, drop, length}
 use Rattle.std.specs.Prelude.{Option, None, Some, Bool, true, false, if◌then◌else◌, map, option_map, nat_lt, nat_le, ◌&&◌, ◌==◌, slice_index}
 use Rattle.std.specs.List.{list_all, sum_by}
 use Rattle.std.specs.declared.io.ErrorKind.TheVariants as eof
-use Rattle.pdb_container.specs.Container.{Layout, layout_of, words, pages_in, list_count, directory_of, stream_pages_in, absent, page_count, at_most, stream_in, stream}
+use Rattle.pdb_container.specs.Container.{Layout, layout_of, words, pages_in, directory_of, stream_pages_in, absent, page_count, stream_in, stream}
 use Rattle.pdb_container.specs.Fault.{Fault, ◌>>=◌, guard, refuse, StreamNotFound, PageReferenceOutOfRange, IoError, UnexpectedEof}
-use Rattle.pdb_container.specs.Places.{bytes_at, page_places}
+use Rattle.pdb_container.specs.Places.{bytes_at}
 use Rattle.pdb_addr2line.specs.Kept.{IsStreamFault, FailsAsStream}
 use Rattle.pdb_modules.specs.ModuleStream.{ModuleStream}
 use Rattle.pdb_symbols_modules.specs.Dbi.{Dbi}
 use Rattle.pdb_symbols_modules.specs.Modules.{Module}
 use Rattle.pdb_symbols_modules.specs.DatabaseCalls.{debug_information, module_info}
 use Rattle.pdb_symbols_modules.specs.Shared.{shared, info_in, module_stream}
-use Rattle.pdb_symbols_modules.specs.Streams.{Streams, streams, fault_in, if_named}
+use Rattle.pdb_symbols_modules.specs.Streams.{streams, fault_in, if_named}
 
 -- ---- readings in turn
 

@@ -1,11 +1,15 @@
--- A formatter over what is held of a database.
-use Rattle.std.specs.Prelude.{ℕ, List}
+-- A formatter and a context over what is held of a database.
+use Rattle.std.specs.Prelude.{ℕ, List, Result, Ok}
+use Rattle.pdb_container.specs.Fault.{◌>>=◌}
 use Rattle.pdb_addr2line.specs.Held.{Held}
 use Rattle.pdb_addr2line.specs.Kept.{KeptInfo}
 use Rattle.pdb_symbols_modules.specs.Machine.{machine_of}
 use Rattle.pdb_symbols_modules.specs.Modules.{modules_of}
 use Rattle.pdb_type_sizes.specs.Reading.{Reading, pointer_bytes}
 use Rattle.pdb_type_text.specs.Formatting.{Formatting}
+use Rattle.pdb_resolving.specs.Fault.{Fault}
+use Rattle.pdb_context.specs.Choice.{Parts}
+use Rattle.pdb_context.specs.Context.{Context, parts_of, context_over}
 
 -- what types and ids are read from: what is held gives the modules, by the entries in stream 3
 abbrev pub reading_of : Held → Reading (List KeptInfo)
@@ -19,3 +23,15 @@ reading_of h = record {
 -- a formatter over what is held, with these flags
 abbrev pub formatting_of : Held → ℕ → Formatting (List KeptInfo)
 formatting_of h flags = record { reading = reading_of h; flags = flags }
+
+-- what every question of a context goes over
+abbrev pub parts_in : Held → Result Parts Fault
+parts_in h = parts_of h.tables.map.image h.tables.map h.tables.symbol_records h.debug_information.contributions h.names
+
+-- a context over what is held, whose formatter has these flags
+abbrev pub context_in : Held → ℕ → Result (Context (List KeptInfo)) Fault
+context_in h flags = context_over h.infos (formatting_of h flags) (parts_in h)
+
+-- whether that can be had
+abbrev pub checked_parts : Held → Result (Unit {0}) Fault
+checked_parts h = parts_in h >>= λ parts. Ok tt

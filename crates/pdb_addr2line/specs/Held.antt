@@ -1,5 +1,5 @@
 -- What is held of a database, and that it is the file's.
-use Rattle.std.specs.Prelude.{◌≡◌, ℕ, ◌⊎◌, List, Option, map, Result, Ok, Err}
+use Rattle.std.specs.Prelude.{◌≡◌, ℕ, ◌⊎◌, List, Option, map, Result}
 use Rattle.pdb_addr2line.specs.Kept.{KeptInfo, kept_info, answered, answered_at, if_read}
 use Rattle.pdb_addr2line.specs.Loading.{Tables, Loaded}
 use Rattle.pdb_container.specs.Fault.{Fault}

@@ -2,6 +2,5 @@ pub mod Formatters
 pub mod Held
 pub mod Kept
 pub mod Loading
-pub mod MaybeOwned
 pub mod Provided
 pub mod Refused

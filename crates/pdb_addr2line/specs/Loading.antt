@@ -1,5 +1,5 @@
 -- What is read of a database before formatters and contexts are made of it, and the first fault of that.
-use Rattle.std.specs.Prelude.{List, ℕ, Result, Ok, Err, Option, None, Some}
+use Rattle.std.specs.Prelude.{List, ℕ, Result, Ok}
 use Rattle.pdb_addresses.specs.Addresses.{Map}
 use Rattle.pdb_container.specs.Fault.{Fault, ◌>>=◌}
 use Rattle.pdb_container.specs.Listing.{whole}
@@ -43,10 +43,15 @@ pub record Loaded : Type 0 where
   pub debug_information : Dbi
   pub tables : Tables
 
+-- the module list, behind what was read before it
+abbrev pub loaded_behind : Dbi → Tables → Result Loaded Fault
+loaded_behind dbi tables = do
+  whole_list ← listed dbi
+  Ok record { debug_information = dbi; tables = tables }
+
 -- Stream 3, what stands behind it, and the module list, in this order: in each step the first fault.
 unfoldable pub loaded : Shared → Result Loaded Fault
 loaded c = do
   dbi ← debug_information c
   tables ← tables c dbi
-  whole_list ← listed dbi
-  Ok record { debug_information = dbi; tables = tables }
+  loaded_behind dbi tables

@@ -1,18 +1,24 @@
 //! What formatters and contexts are made of.
 
 ghost use Rattle.std.specs.Prelude.{◌≡◌, ◌≤◌, IfOk, IsOkUnless};
+ghost use Rattle.pdb_addresses.specs.Addresses.{IsOrdered};
 ghost use Rattle.pdb_container.specs.SourceAnswers.{AnswersFrom};
 ghost use Rattle.pdb_container.specs.Fault.{HasRisen};
-ghost use Rattle.pdb_addr2line.specs.Formatters.{formatting_of};
+ghost use Rattle.pdb_addr2line.specs.Formatters.{formatting_of, checked_parts, context_in};
 ghost use Rattle.pdb_addr2line.specs.Held.{loaded_in, IsOwn};
-ghost use Rattle.pdb_addr2line.specs.Loading.{loaded};
+ghost use Rattle.pdb_addr2line.specs.Loading.{loaded, loaded_behind};
+ghost use Rattle.pdb_resolving.specs.Fault.{Answers};
+ghost use Rattle.pdb_symbols_modules.specs.DatabaseCalls.{debug_information as read_dbi};
 ghost use Rattle.pdb_addr2line.specs.Refused.{CanFail, Loads};
 ghost use Rattle.pdb_symbols_modules.specs.Shared.{shared};
 ghost use Rattle.pdb_symbols_modules.specs.Streams.{streams};
 
 use crate::loading::{Tables, read_names, read_tables};
 use crate::module_infos::{KeptModules, collect_modules, read_module_infos};
+use pdb_addresses::AddressMap;
 use pdb_container::{Result, Source, StringTable};
+use pdb_context::maybe_owned::MaybeOwned;
+use pdb_context::{Context, ContextParts};
 use pdb_modules::ModuleInfo;
 use pdb_resolving::{Error, ModuleProvider};
 use pdb_symbols_modules::{DebugInformation, Module, PDB};
@@ -46,7 +52,7 @@ impl<'p, 's, S: Source> Model for ContextPdbData<'p, 's, S> {
 
 /// Reads a database: stream 3, what stands behind it, and the module list, whose first fault is the answer; then the modules'
 /// own streams and the names.
-#[tactic(auto, using(pdb_container::proofs::Outside::outside_alone, pdb_container::proofs::Outside::outside_earlier, pdb_container::proofs::Outside::outside_later, crate::proofs::HeldSteps::list_ends, crate::proofs::HeldSteps::own_held), unfolding(crate::specs::Loading::loaded))]
+#[tactic(auto, using(pdb_container::proofs::Outside::outside_alone, pdb_container::proofs::Outside::outside_earlier, pdb_container::proofs::Outside::outside_later), unfolding(crate::specs::Loading::loaded))]
 fn load<'p, 's, S: Source + Drop>(
     alloc: Global,
     pdb: &mut PDB<'s, S>,
@@ -56,18 +62,38 @@ fn load<'p, 's, S: Source + Drop>(
 {
     let debug_information = pdb.debug_information(alloc)?;
     let tables = read_tables(pdb, alloc, &debug_information)?;
-    let module_infos = read_module_infos(pdb, alloc, &debug_information)?;
-    let names = read_names(pdb, alloc)?;
-    Ok(ContextPdbData {
-        debug_information,
-        tables,
-        names,
-        modules: KeptModules::new(module_infos),
-        of: PhantomData,
-    })
+    ContextPdbData::try_from_tables(alloc, pdb, debug_information, tables)
 }
 
 impl<'p, 's, S: Source + Drop> ContextPdbData<'p, 's, S> {
+    /// Reads the rest of what formatters and contexts need, behind stream 3 and what [`read_tables`] read: the module list, the
+    /// modules' own streams and the names table. With these two calls a fault of one's own can be answered between them.
+    ///
+    /// # Errors
+    /// `UnexpectedEof` of the module list; `OutOfMemory`. The names table and the modules' own streams are missing where they
+    /// can't be read.
+    #[tactic(auto, using(pdb_container::proofs::Outside::outside_alone, pdb_container::proofs::Outside::outside_earlier, pdb_container::proofs::Outside::outside_later, crate::proofs::HeldSteps::list_ends, crate::proofs::HeldSteps::own_held))]
+    pub fn try_from_tables(
+        alloc: Global,
+        pdb: &mut PDB<'s, S>,
+        debug_information: DebugInformation<'s>,
+        tables: Tables<'s>,
+    ) -> Result<ContextPdbData<'p, 's, S>>
+        requires { read_dbi (shared (streams (S.bytes pdb.old))) ≡ Ok debug_information }
+        ensures loads { AnswersFrom S.bytes S.failures pdb.old pdb.new loaded_in result (loaded_behind debug_information.entry tables.entry) }
+        ensures own { IfOk result (λ d. IsOwn (streams (S.bytes pdb.old)) (HasRisen (S.failures pdb.old) (S.failures pdb.new)) d) }
+    {
+        let module_infos = read_module_infos(pdb, alloc, &debug_information)?;
+        let names = read_names(pdb, alloc)?;
+        Ok(ContextPdbData {
+            debug_information,
+            tables,
+            names,
+            modules: KeptModules::new(module_infos),
+            of: PhantomData,
+        })
+    }
+
     /// Reads what formatters and contexts need of a database that is open, and lets go of it.
     ///
     /// # Errors
@@ -108,6 +134,13 @@ impl<'p, 's, S: Source + Drop> ContextPdbData<'p, 's, S> {
 }
 
 impl<'p, 's, S: Source> ContextPdbData<'p, 's, S> {
+    /// The ways between RVAs and places in sections; whether the sources of its OMAPs decrease is asked there.
+    pub fn address_map(&self) -> &AddressMap<'s>
+        ensures { result.now ≡ self.now.tables.map }
+    {
+        &self.tables.address_map
+    }
+
     /// A formatter of types over what was read, with the default flags.
     ///
     /// # Errors
@@ -147,6 +180,65 @@ impl<'p, 's, S: Source> ContextPdbData<'p, 's, S> {
             flags,
         )?;
         Ok(formatter)
+    }
+
+    /// A context over what was read, whose formatter has the default flags. The sources of the OMAPs may not decrease.
+    ///
+    /// # Errors
+    /// As [`Context::new_from_parts`].
+    pub fn make_context(
+        &self,
+        alloc: Global,
+    ) -> std::result::Result<Context<'_, 's, KeptModules<'s>>, Error>
+        requires { IsOrdered self.now.tables.map }
+        ensures { Answers (λ c. c) result (context_in self.now 23) }
+    {
+        self.make_context_with_formatter_flags(alloc, TypeFormatterFlags::default())
+    }
+
+    /// A context over what was read, whose formatter has these flags. The sources of the OMAPs may not decrease.
+    ///
+    /// # Errors
+    /// As [`Context::new_from_parts`].
+    pub fn make_context_with_formatter_flags(
+        &self,
+        alloc: Global,
+        flags: TypeFormatterFlags,
+    ) -> std::result::Result<Context<'_, 's, KeptModules<'s>>, Error>
+        requires { IsOrdered self.now.tables.map }
+        ensures { Answers (λ c. c) result (context_in self.now flags.bits) }
+    {
+        let formatter = self.make_type_formatter_with_flags(alloc, flags)?;
+        Context::new_from_parts(
+            alloc,
+            &self.modules,
+            self.tables.address_map.image_section_headers(),
+            &self.tables.address_map,
+            &self.tables.symbol_records,
+            self.names.as_ref(),
+            &self.debug_information,
+            MaybeOwned::Owned(formatter),
+        )
+    }
+
+    /// Whether a context can be made: `Ok`, or the fault that [`ContextPdbData::make_context`] has. The sources of the OMAPs may
+    /// not decrease.
+    ///
+    /// # Errors
+    /// As [`Context::new_from_parts`].
+    pub fn check_context(&self, alloc: Global) -> std::result::Result<(), Error>
+        requires { IsOrdered self.now.tables.map }
+        ensures { Answers (λ _. tt) result (checked_parts self.now) }
+    {
+        ContextParts::new(
+            alloc,
+            self.tables.address_map.image_section_headers(),
+            &self.tables.address_map,
+            &self.tables.symbol_records,
+            self.names.as_ref(),
+            &self.debug_information,
+        )?;
+        Ok(())
     }
 }
 

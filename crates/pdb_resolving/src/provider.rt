@@ -2,18 +2,33 @@
 
 ghost use Rattle.std.specs.Prelude.{ℕ, Option, Result, option_map, IfErr};
 ghost use Rattle.pdb_container.specs.Fault.{Fault, Gives, Parses};
-ghost use Rattle.pdb_modules.specs.ModuleStream.{ModuleStream, imports_in, exports_in};
+ghost use Rattle.pdb_modules.specs.ModuleStream.{ModuleStream, iteration_in, line_program_in, inlinees_in, imports_in, exports_in};
 ghost use Rattle.pdb_symbols_modules.specs.Modules as entries;
 ghost use Rattle.pdb_resolving.specs.Fault.{IsOfModules};
 
 use pdb_container::Error;
-use pdb_symbols_modules::{CrossModuleExports, CrossModuleImports, Module, ModuleInfo};
+use pdb_symbols_modules::{
+    CrossModuleExports, CrossModuleImports, InlineeIterator, LineProgram, Module, ModuleInfo,
+    SymbolIter,
+};
 use std::alloc::Global;
 
-/// What a module's own stream holds, as far as other modules ask for it.
+/// What a module's own stream holds.
 pub trait ModuleTables {
     /// The stream, with the sizes of its parts.
     ghost held: { Self → ModuleStream };
+
+    /// As [`ModuleInfo::symbols`].
+    fn symbols(&self) -> std::result::Result<SymbolIter<'_>, Error>
+        ensures { Parses (λ it. it) result (iteration_in (held self.now) 4) };
+
+    /// As [`ModuleInfo::line_program`].
+    fn line_program(&self, alloc: Global) -> std::result::Result<LineProgram<'_>, Error>
+        ensures { Gives (λ p. p) ⊥ result (line_program_in (held self.now)) };
+
+    /// As [`ModuleInfo::inlinees`].
+    fn inlinees(&self) -> std::result::Result<InlineeIterator<'_>, Error>
+        ensures { Parses (λ i. i) result (inlinees_in (held self.now)) };
 
     /// As [`ModuleInfo::imports`].
     fn imports(&self, alloc: Global) -> std::result::Result<CrossModuleImports<'_>, Error>
@@ -26,6 +41,18 @@ pub trait ModuleTables {
 
 impl<'s> ModuleTables for ModuleInfo<'s> {
     ghost held = { λ m. m };
+
+    fn symbols(&self) -> std::result::Result<SymbolIter<'_>, Error> {
+        ModuleInfo::symbols(self)
+    }
+
+    fn line_program(&self, alloc: Global) -> std::result::Result<LineProgram<'_>, Error> {
+        ModuleInfo::line_program(self, alloc)
+    }
+
+    fn inlinees(&self) -> std::result::Result<InlineeIterator<'_>, Error> {
+        ModuleInfo::inlinees(self)
+    }
 
     fn imports(&self, alloc: Global) -> std::result::Result<CrossModuleImports<'_>, Error> {
         ModuleInfo::imports(self, alloc)

@@ -1,0 +1,2 @@
+pub mod FunctionSteps
+pub mod SitesSteps

@@ -1,0 +1,10 @@
+use Rattle.std.specs.Prelude.{◌≡◌, take, map}
+use Rattle.pdb_type_text.specs.Formatting.{env_of}
+use Rattle.pdb_context.specs.Frames.{call_frame}
+use Rattle.pdb_context.specs.Seen.{extended_seen}
+use Rattle.pdb_context.proofs.frames.call_frames.Given as goal
+
+-- the frames of the calls so far, by the formatter as it was
+abbrev pub invariant-loop-call : goal.invariant-loop-call
+invariant-loop-call g l =
+    (l.formatter ≡ l.fn.formatter) × (l.frames.items ≡ map (call_frame l.parts (env_of g.P.ModuleProvider.provided l.fn.formatter l.module_index) (extended_seen l.extended).program) (take l.call-index l.calls))

@@ -1,0 +1,18 @@
+use Rattle.std.proofs.Common.{◌≡◌, ◌≤◌, ◌-◌, length, drop}
+use Rattle.pdb_context.specs.Context.{scope_in}
+use Rattle.pdb_context.specs.FunctionList.{functions_at}
+use Rattle.pdb_context.proofs.functions.next_function.Given as goal
+
+-- the functions that are left are those that were, and the context is as it was
+abbrev pub invariant-loop-next : goal.invariant-loop-next
+invariant-loop-next g l =
+    let parts = l.fn.context.parts in
+    let scope = scope_in g.P.ModuleProvider.provided l.fn.context in
+    record {
+      same : l.context ≡ l.fn.context;
+      left : functions_at parts scope (drop l.next l.starts) ≡ functions_at parts scope (drop l.fn.next l.starts);
+      behind : l.fn.next ≤ l.next;
+    }
+
+abbrev pub decreases-loop-next : goal.decreases-loop-next
+decreases-loop-next g l = length l.starts - l.next

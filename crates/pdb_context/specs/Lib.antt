@@ -1,0 +1,7 @@
+pub mod Choice
+pub mod Context
+pub mod Frames
+pub mod FunctionList
+pub mod MaybeOwned
+pub mod Modules
+pub mod Seen

@@ -1,0 +1,241 @@
+//! A context: answers about addresses of an image.
+
+ghost use Rattle.std.specs.Prelude.{◌≡◌, Ok, Some, length, option_map};
+ghost use Rattle.pdb_addresses.specs.Addresses.{IsOrdered};
+ghost use Rattle.pdb_resolving.specs.Fault.{Answers};
+ghost use Rattle.pdb_context.specs.Choice.{Parts};
+ghost use Rattle.pdb_context.specs.Context.{parts_of, context_over, scope_of, scope_in, entries_of};
+ghost use Rattle.pdb_context.specs.Frames.{frames, frames_at as frames_at_place, frames_of_chosen, function, function_at as function_at_place, function_of as function_of_chosen};
+ghost use Rattle.pdb_context.specs.FunctionList.{AreFunctions};
+ghost use Rattle.pdb_context.specs.MaybeOwned.{value_of};
+ghost use Rattle.pdb_context.specs.Modules.{module_data};
+ghost use Rattle.pdb_context.specs.Seen.{chosen_seen};
+ghost use Rattle.pdb_type_text.specs.Formatting.{env_of};
+
+use crate::choice::{Chosen, choose};
+use crate::frames::frames_in;
+use crate::function::{Function, FunctionFrames};
+use crate::maybe_owned::MaybeOwned;
+use crate::modules::{BasicModuleInfo, get_basic_module_info, procedures_in};
+use crate::names::name_of;
+use crate::parts::ContextParts;
+use pdb_addresses::{AddressMap, ImageSectionHeader, PdbInternalSectionOffset};
+use pdb_container::StringTable;
+use pdb_contributions::ModuleSectionContribution;
+use pdb_resolving::{ModuleProvider, Result};
+use pdb_symbols::SymbolTable;
+use pdb_symbols_modules::DebugInformation;
+use pdb_type_text::TypeFormatter;
+use std::alloc::Global;
+use std::marker::Model;
+
+/// A context: it answers what function and which frames an address of the image has. What was asked before shows in no answer.
+pub struct Context<'a, 's, P: ModuleProvider> {
+    pub(crate) provider: &'a P,
+    pub(crate) parts: ContextParts<'a, 's>,
+    pub(crate) type_formatter: MaybeOwned<'a, TypeFormatter<'a, 's, P>>,
+}
+
+impl<'a, 's, P: ModuleProvider> Model for Context<'a, 's, P> {
+    ghost use Rattle.pdb_context.specs.Context as contexts;
+    ghost use Rattle.pdb_context.specs.MaybeOwned.{value_of};
+
+    ghost Value = { contexts.Context P };
+
+    ghost view = { λ c. record { provider = c.provider.now; parts = c.parts; formatting = value_of c.type_formatter } };
+}
+
+impl<'a, 's, P: ModuleProvider> Drop for Context<'a, 's, P> {
+    fn drop(self) {
+        let Context {
+            provider: _,
+            parts,
+            type_formatter,
+        } = self;
+        drop(parts);
+        drop(type_formatter);
+    }
+}
+
+/// The frames at a place in a chosen function, if it has an RVA. Its module's data are read before that is asked.
+fn frames_of<'a, P: ModuleProvider>(
+    alloc: Global,
+    parts: &ContextParts<'a, '_>,
+    formatter: &mut TypeFormatter<'_, '_, P>,
+    module_index: usize,
+    known: &Option<BasicModuleInfo<'_, P::Info>>,
+    chosen: Chosen<'_, '_>,
+    place: PdbInternalSectionOffset,
+) -> Result<Option<FunctionFrames<'a>>>
+    ensures same { formatter.new ≡ formatter.old }
+    ensures frames { Answers (λ f. f) result (frames_of_chosen parts.now (env_of P.provided formatter.old module_index) known.now place (Some (chosen_seen chosen.entry))) }
+{
+    let frames = frames_in(alloc, parts, formatter, module_index, known, chosen, place)?;
+    match chosen.start_rva(parts) {
+        None => Ok(None),
+        Some(start_rva) => Ok(Some(FunctionFrames {
+            start_rva,
+            end_rva: chosen.end_of_frames(parts, start_rva),
+            frames,
+        })),
+    }
+}
+
+/// The frames at a place that a contribution holds.
+#[tactic(auto, unfolding(crate::specs::Frames::frames_at))]
+fn frames_at<'a, P: ModuleProvider>(
+    alloc: Global,
+    provider: &'a P,
+    parts: &ContextParts<'a, '_>,
+    formatter: &mut TypeFormatter<'_, '_, P>,
+    contribution: ModuleSectionContribution,
+    place: PdbInternalSectionOffset,
+) -> Result<Option<FunctionFrames<'a>>>
+    ensures same { formatter.new ≡ formatter.old }
+    ensures frames { Answers (λ f. f) result (frames_at_place parts.now (scope_of P.provided provider.now formatter.old contribution.module_index) contribution place) }
+{
+    let module_index = usize::from(contribution.module_index);
+    let known = get_basic_module_info(alloc, provider, formatter.modules(), module_index)?;
+    match choose(parts, procedures_in(&known), contribution, place) {
+        None => Ok(None),
+        Some(chosen) => { frames_of(alloc, parts, formatter, module_index, &known, chosen, place) }
+    }
+}
+
+/// A chosen function, where it has an RVA, and where the public entry behind it has one.
+fn function_of<P: ModuleProvider>(
+    alloc: Global,
+    parts: &ContextParts<'_, '_>,
+    formatter: &mut TypeFormatter<'_, '_, P>,
+    module_index: usize,
+    chosen: Chosen<'_, '_>,
+) -> Result<Option<Function>>
+    ensures same { formatter.new ≡ formatter.old }
+    ensures function { Answers (λ f. f) result (Ok (function_of_chosen parts.now (env_of P.provided formatter.old module_index) (chosen_seen chosen.entry))) }
+{
+    let Some(start_rva) = chosen.start_rva(parts) else {
+        return Ok(None);
+    };
+    let Some(end_rva) = chosen.end_of_function(parts, start_rva) else {
+        return Ok(None);
+    };
+    let name = name_of(alloc, parts, formatter, module_index, chosen)?;
+    Ok(Some(Function {
+        start_rva,
+        end_rva,
+        name,
+    }))
+}
+
+/// The function at a place that a contribution holds.
+#[tactic(auto, unfolding(crate::specs::Frames::function_at))]
+fn function_at<'a, P: ModuleProvider>(
+    alloc: Global,
+    provider: &'a P,
+    parts: &ContextParts<'a, '_>,
+    formatter: &mut TypeFormatter<'_, '_, P>,
+    contribution: ModuleSectionContribution,
+    place: PdbInternalSectionOffset,
+) -> Result<Option<Function>>
+    ensures same { formatter.new ≡ formatter.old }
+    ensures function { Answers (λ f. f) result (Ok (function_at_place parts.now (scope_of P.provided provider.now formatter.old contribution.module_index) contribution place)) }
+{
+    let module_index = usize::from(contribution.module_index);
+    let known = get_basic_module_info(alloc, provider, formatter.modules(), module_index)?;
+    match choose(parts, procedures_in(&known), contribution, place) {
+        None => Ok(None),
+        Some(chosen) => function_of(alloc, parts, formatter, module_index, chosen),
+    }
+}
+
+impl<'a, 's, P: ModuleProvider> Context<'a, 's, P> {
+    /// A context over what gives the modules, the sections of the image, the ways between addresses, the symbol records, the
+    /// string table (`/names`), the DBI stream, and a formatter of types. The sources of the OMAPs may not decrease
+    /// ([`AddressMap::is_ordered`] tells).
+    ///
+    /// # Errors
+    /// `SymbolTooShort` and `UnexpectedEof` of the symbol records, as `PdbError`; then the section contributions' faults:
+    /// `UnimplementedFeature` and `UnexpectedEof`, as `PdbError`, `UnorderedSectionContributions`,
+    /// `OverlappingSectionContributions`. `OutOfMemory`.
+    pub fn new_from_parts(
+        alloc: Global,
+        provider: &'a P,
+        sections: &[ImageSectionHeader],
+        address_map: &'a AddressMap<'s>,
+        global_symbols: &'a SymbolTable<'s>,
+        string_table: Option<&'a StringTable<'s>>,
+        debug_info: &DebugInformation<'_>,
+        type_formatter: MaybeOwned<'a, TypeFormatter<'a, 's, P>>,
+    ) -> Result<Context<'a, 's, P>>
+        requires { IsOrdered address_map.now }
+        ensures { Answers (λ c. c) result (context_over provider.now (value_of type_formatter.entry) (parts_of sections.now address_map.now global_symbols.now debug_info.now.contributions (option_map (λ t. t.now) string_table.entry))) }
+    {
+        let parts = ContextParts::new(
+            alloc,
+            sections,
+            address_map,
+            global_symbols,
+            string_table,
+            debug_info,
+        )?;
+        Ok(Context {
+            provider,
+            parts,
+            type_formatter,
+        })
+    }
+
+    /// How many entries the public list has: public symbols and placeholders, of each place one.
+    pub fn function_count(&self) -> usize
+        ensures { result ≡ length self.now.parts.publics }
+    {
+        self.parts.publics.len()
+    }
+
+    /// The frames at an RVA: the inlined calls over it, innermost first, and then the function. `None` where there is no
+    /// function.
+    ///
+    /// # Errors
+    /// Where the module's data are there and a part of them can't be read, the first part's fault, in the order line program,
+    /// inlinees, rows of the function's `DEBUG_S_LINES`, inline sites: `PdbError`, `ProcedureInlineRangesUnsuccessful`.
+    /// `OutOfMemory`.
+    #[tactic(auto, unfolding(crate::specs::Frames::frames))]
+    pub fn find_frames(&mut self, alloc: Global, probe: u32) -> Result<Option<FunctionFrames<'a>>>
+        ensures same { self.new ≡ self.old }
+        ensures frames { Answers (λ f. f) result (frames self.old.parts (scope_in P.provided self.old) probe) }
+    {
+        match self.parts.held_at(probe) {
+            None => Ok(None),
+            Some((contribution, place)) => frames_at(
+                alloc,
+                self.provider,
+                &self.parts,
+                self.type_formatter.get_mut(),
+                contribution,
+                place,
+            ),
+        }
+    }
+
+    /// The function at an RVA, if there is one.
+    ///
+    /// # Errors
+    /// `OutOfMemory` alone.
+    #[tactic(auto, unfolding(crate::specs::Frames::function))]
+    pub fn find_function(&mut self, alloc: Global, probe: u32) -> Result<Option<Function>>
+        ensures same { self.new ≡ self.old }
+        ensures function { Answers (λ f. f) result (Ok (function self.old.parts (scope_in P.provided self.old) probe)) }
+    {
+        match self.parts.held_at(probe) {
+            None => Ok(None),
+            Some((contribution, place)) => function_at(
+                alloc,
+                self.provider,
+                &self.parts,
+                self.type_formatter.get_mut(),
+                contribution,
+                place,
+            ),
+        }
+    }
+}

@@ -1,0 +1,130 @@
+//! Where functions begin: the RVAs of the public list's entries and of all modules' procedures.
+
+ghost use Rattle.std.specs.Prelude.{◌≡◌, ◌++◌, IfOk, OnOk, map};
+ghost use Rattle.pdb_addresses.specs.Addresses.{IsOrdered, outer_of_place};
+ghost use Rattle.pdb_context.specs.Context.{scope_of, entries_of};
+ghost use Rattle.pdb_context.specs.FunctionList.{if_any, addresses_of, procedure_starts_from, start_addresses, IsAscending};
+ghost use Rattle.pdb_context.specs.Modules.{module_data, procedures_in as procedures_of_module};
+
+use crate::modules::{get_basic_module_info, procedures_in};
+use crate::parts::ContextParts;
+use pdb_addresses::{AddressMap, PdbInternalSectionOffset};
+use pdb_module_data::Procedure;
+use pdb_public_list::PublicFunction;
+use pdb_resolving::ModuleProvider;
+use pdb_type_text::TypeFormatter;
+use std::alloc::{AllocError, Global};
+
+/// Puts the RVA of a place behind other addresses, if it has one.
+#[tactic(auto, using(crate::proofs::FunctionSteps::none_added, crate::proofs::FunctionSteps::one_added))]
+fn push_address(
+    addresses: &mut Vec<u32>,
+    address_map: &AddressMap<'_>,
+    place: PdbInternalSectionOffset,
+) -> Result<(), AllocError>
+    requires { IsOrdered address_map.now }
+    ensures { OnOk result (addresses.new.items ≡ addresses.old.items ++ if_any (outer_of_place address_map.now place.section place.offset)) }
+{
+    let Some(address) = place.to_rva(address_map) else {
+        return Ok(());
+    };
+    addresses.push(address.0)?;
+    Ok(())
+}
+
+/// Puts the RVAs at which entries of the public list begin behind other addresses, in the order of the entries.
+#[tactic(auto, using(crate::proofs::FunctionSteps::publics_start, crate::proofs::FunctionSteps::publics_more, crate::proofs::FunctionSteps::publics_end))]
+fn push_publics(
+    addresses: &mut Vec<u32>,
+    address_map: &AddressMap<'_>,
+    publics: &[PublicFunction<'_>],
+) -> Result<(), AllocError>
+    requires { IsOrdered address_map.now }
+    ensures { OnOk result (addresses.new.items ≡ addresses.old.items ++ addresses_of address_map.now (map (λ f. f.start_offset) publics.now)) }
+{
+    for public in publics {
+        push_address(addresses, address_map, public.start_offset)?;
+    }
+    Ok(())
+}
+
+/// Puts the RVAs at which procedures begin behind other addresses, in the order of the procedures.
+#[tactic(auto, using(crate::proofs::FunctionSteps::procedures_start, crate::proofs::FunctionSteps::procedures_more, crate::proofs::FunctionSteps::procedures_end))]
+fn push_procedures(
+    addresses: &mut Vec<u32>,
+    address_map: &AddressMap<'_>,
+    procedures: &[Procedure<'_>],
+) -> Result<(), AllocError>
+    requires { IsOrdered address_map.now }
+    ensures { OnOk result (addresses.new.items ≡ addresses.old.items ++ addresses_of address_map.now (map (λ q. q.offset) procedures.now)) }
+{
+    for procedure in procedures {
+        push_address(addresses, address_map, procedure.offset)?;
+    }
+    Ok(())
+}
+
+/// Puts the RVAs at which the procedures of the module of a number, counted from 0, begin behind other addresses.
+fn push_module<P: ModuleProvider>(
+    alloc: Global,
+    addresses: &mut Vec<u32>,
+    address_map: &AddressMap<'_>,
+    provider: &P,
+    formatter: &TypeFormatter<'_, '_, P>,
+    module_index: usize,
+) -> Result<(), AllocError>
+    requires { IsOrdered address_map.now }
+    ensures { OnOk result (addresses.new.items ≡ addresses.old.items ++ addresses_of address_map.now (map (λ q. q.offset) (procedures_of_module (module_data (scope_of P.provided provider.now formatter.now module_index).own)))) }
+{
+    let known = get_basic_module_info(alloc, provider, formatter.modules(), module_index)?;
+    push_procedures(addresses, address_map, procedures_in(&known))
+}
+
+/// Puts the RVAs at which the procedures of all modules begin behind other addresses, in the order of the modules.
+#[tactic(auto, using(crate::proofs::FunctionSteps::modules_start, crate::proofs::FunctionSteps::modules_more, crate::proofs::FunctionSteps::modules_end))]
+fn push_modules<P: ModuleProvider>(
+    alloc: Global,
+    addresses: &mut Vec<u32>,
+    address_map: &AddressMap<'_>,
+    provider: &P,
+    formatter: &TypeFormatter<'_, '_, P>,
+) -> Result<(), AllocError>
+    requires { IsOrdered address_map.now }
+    ensures { OnOk result (addresses.new.items ≡ addresses.old.items ++ addresses_of address_map.now (procedure_starts_from (scope_of P.provided provider.now formatter.now) 0 (entries_of formatter.now))) }
+{
+    for module_index in 0..formatter.modules().len() {
+        push_module(
+            alloc,
+            addresses,
+            address_map,
+            provider,
+            formatter,
+            module_index,
+        )?;
+    }
+    Ok(())
+}
+
+/// Brings numbers into ascending order, each once.
+fn sort_and_dedup(numbers: &mut Vec<u32>)
+    ensures { IsAscending numbers.old.items numbers.new.items }
+{
+    numbers.sort_unstable();
+    numbers.dedup();
+}
+
+/// The distinct RVAs at which entries of the public list or procedures begin, in ascending order.
+pub fn function_starts<P: ModuleProvider>(
+    alloc: Global,
+    provider: &P,
+    parts: &ContextParts<'_, '_>,
+    formatter: &TypeFormatter<'_, '_, P>,
+) -> Result<Vec<u32>, AllocError>
+    ensures { IfOk result (λ v. IsAscending (start_addresses parts.now (scope_of P.provided provider.now formatter.now) (entries_of formatter.now)) v.items) }
+{
+    let mut starts = Vec::new(alloc);
+    push_publics(&mut starts, parts.address_map, parts.publics.as_slice())?;
+    push_modules(alloc, &mut starts, parts.address_map, provider, formatter)?;
+    sort_and_dedup(&mut starts);
+    Ok(starts)
+}

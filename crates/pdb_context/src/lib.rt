@@ -1,0 +1,19 @@
+//! Answers about addresses of an image: the function at an address, its frames, and all functions. Nothing is kept between
+//! questions but what they all go over.
+#![tactic(auto)]
+
+mod choice;
+mod context;
+mod frames;
+mod function;
+mod function_starts;
+mod functions;
+pub mod maybe_owned;
+mod modules;
+mod names;
+mod parts;
+
+pub use context::Context;
+pub use function::{Frame, Function, FunctionFrames};
+pub use functions::FunctionIter;
+pub use parts::ContextParts;

@@ -1,0 +1,119 @@
+//! What a module's own stream says.
+
+ghost use Rattle.std.specs.Prelude.{◌≡◌, IfOk, Ok, Some};
+ghost use Rattle.pdb_container.specs.Fault.{Gives};
+ghost use Rattle.pdb_context.specs.Seen.{extended_seen};
+ghost use Rattle.pdb_context.specs.Modules.{data_of_stream, data_if_there, extended_of, module_data, own_of, procedures_in as procedures_of_module};
+
+use pdb_container::{Error, Result};
+use pdb_lines::LineProgram;
+use pdb_module_data::{Inlinees, Procedure, read_procedures};
+use pdb_resolving::{ModuleProvider, ModuleTables};
+use pdb_symbols_modules::Module;
+use std::alloc::{AllocError, Global};
+use std::marker::Model;
+
+/// A module's data: its stream, and its procedures.
+#[derive(Drop)]
+pub struct BasicModuleInfo<'a, I: ModuleTables> {
+    /// The module's own stream.
+    pub module_info: &'a I,
+    /// Its procedures, of those of one start the first.
+    pub procedures: Vec<Procedure<'a>>,
+}
+
+impl<'a, I: ModuleTables> Model for BasicModuleInfo<'a, I> {
+    ghost use Rattle.pdb_context.specs.Modules as modules;
+
+    ghost Value = { modules.ModuleData };
+
+    ghost view = { λ m. record { stream = I.held m.module_info.now; procedures = m.procedures.items } };
+}
+
+impl<'a, I: ModuleTables> BasicModuleInfo<'a, I> {
+    /// The data of a module's stream, whose symbols are read to their end. The faults of [`ModuleTables::symbols`],
+    /// `SymbolTooShort`, `UnexpectedEof`; `OutOfMemory`.
+    #[tactic(auto, unfolding(crate::specs::Modules::data_of_stream))]
+    fn try_from_module_info(alloc: Global, module_info: &'a I) -> Result<BasicModuleInfo<'a, I>>
+        ensures { Gives (λ m. m) ⊥ result (data_of_stream (I.held module_info.now)) }
+    {
+        let symbols = module_info.symbols()?;
+        let procedures = read_procedures(alloc, symbols)?;
+        Ok(BasicModuleInfo {
+            module_info,
+            procedures,
+        })
+    }
+}
+
+/// The data of a module's stream; `None` where its symbols can't be read to their end.
+fn data_if_read<'a, I: ModuleTables>(
+    alloc: Global,
+    module_info: &'a I,
+) -> std::result::Result<Option<BasicModuleInfo<'a, I>>, AllocError>
+    ensures { IfOk result (λ m. m ≡ data_if_there (Some (I.held module_info.now))) }
+{
+    match BasicModuleInfo::try_from_module_info(alloc, module_info) {
+        Ok(data) => Ok(Some(data)),
+        Err(Error::OutOfMemory) => Err(AllocError),
+        Err(_) => Ok(None),
+    }
+}
+
+/// The data of the module of a number, counted from 0; `None` past the list, where it has no stream, and where that or its
+/// symbols can't be read to the end.
+pub fn get_basic_module_info<'a, P: ModuleProvider>(
+    alloc: Global,
+    provider: &'a P,
+    modules: &[Module<'_>],
+    module_index: usize,
+) -> std::result::Result<Option<BasicModuleInfo<'a, P::Info>>, AllocError>
+    ensures { IfOk result (λ m. m ≡ module_data (own_of (P.provided provider.now) modules.now module_index)) }
+{
+    let Some(module) = modules.get(module_index) else {
+        return Ok(None);
+    };
+    match provider.get_module_info(module_index, module) {
+        Ok(Some(module_info)) => data_if_read(alloc, module_info),
+        Ok(None) => Ok(None),
+        Err(_) => Ok(None),
+    }
+}
+
+/// A module's line program (`DEBUG_S_LINES`, `DEBUG_S_FILECHKSMS`) and inlinees (`DEBUG_S_INLINEELINES`).
+#[derive(Drop)]
+pub struct ExtendedModuleInfo<'a> {
+    /// The line program.
+    pub line_program: LineProgram<'a>,
+    /// The inlinees, by their ids.
+    pub inlinees: Inlinees<'a>,
+}
+
+/// The line program of a module, and then its inlinees, each to its end. The faults of [`ModuleTables::line_program`] and
+/// [`ModuleTables::inlinees`], `UnexpectedEof`; `OutOfMemory`.
+#[tactic(auto, unfolding(crate::specs::Modules::extended_of))]
+pub fn read_extended<'a, I: ModuleTables>(
+    alloc: Global,
+    module_info: &'a I,
+) -> Result<ExtendedModuleInfo<'a>>
+    ensures { Gives extended_seen ⊥ result (extended_of (I.held module_info.now)) }
+{
+    let line_program = module_info.line_program(alloc)?;
+    let inlinees = Inlinees::read(alloc, module_info.inlinees()?)?;
+    Ok(ExtendedModuleInfo {
+        line_program,
+        inlinees,
+    })
+}
+
+/// The procedures of a module; none without data.
+pub fn procedures_in<'m, 'a, I: ModuleTables>(
+    known: &'m Option<BasicModuleInfo<'a, I>>,
+) -> &'m [Procedure<'a>]
+    ensures { result.now ≡ procedures_of_module known.now }
+{
+    match known {
+        None => &[],
+        Some(known) => known.procedures.as_slice(),
+    }
+}

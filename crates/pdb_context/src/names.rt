@@ -1,0 +1,146 @@
+//! The names of functions.
+
+ghost use Rattle.std.specs.Prelude.{◌≡◌, IfOk, option_map, string_bytes};
+ghost use Rattle.std.specs.Str.Lossy.{utf8_lossy};
+ghost use Rattle.pdb_container.specs.RawString.{raw_bytes};
+ghost use Rattle.pdb_context.specs.Choice.{is_decorated as is_decorated_name, typed_name as name_by_type, public_name as public_name_of, procedure_name as name_of_procedure, name_of as name_of_chosen, if_made};
+ghost use Rattle.pdb_context.specs.Seen.{chosen_seen, IsText};
+ghost use Rattle.pdb_type_text.specs.Formatting.{env_of};
+ghost use Rattle.pdb_type_text.specs.Ids.{id_text};
+
+use crate::choice::Chosen;
+use crate::parts::ContextParts;
+use pdb_container::RawString;
+use pdb_indices::IdIndex;
+use pdb_module_data::Procedure;
+use pdb_resolving::{Error, ModuleProvider, Result};
+use pdb_type_text::TypeFormatter;
+use std::alloc::{AllocError, Global};
+
+/// Whether a name is decorated: it begins with a question mark.
+pub fn is_decorated(name: &[u8]) -> bool
+    ensures { result ≡ is_decorated_name name.now }
+{
+    match name.first() {
+        None => false,
+        Some(byte) => *byte == b'?',
+    }
+}
+
+/// A text, if it could be made. Want of memory is no missing text.
+fn if_text(made: Result<String>) -> std::result::Result<Option<String>, AllocError>
+    ensures { IfOk result (λ t. IsText t made) }
+{
+    match made {
+        Ok(text) => Ok(Some(text)),
+        Err(Error::OutOfMemory) => Err(AllocError),
+        Err(_) => Ok(None),
+    }
+}
+
+/// A name as it is stored, as text: bytes that are no text are replaced.
+fn raw_name(alloc: Global, name: &RawString<'_>) -> std::result::Result<String, AllocError>
+    ensures { IfOk result (λ t. string_bytes t ≡ utf8_lossy (raw_bytes name.now)) }
+{
+    String::from_utf8_lossy(alloc, name.as_bytes())
+}
+
+/// The name of an inlined function by its id in the IPI, as the module of a number has it; `None` where no text can be made of
+/// it.
+pub fn inlinee_name<P: ModuleProvider>(
+    alloc: Global,
+    formatter: &mut TypeFormatter<'_, '_, P>,
+    module_index: usize,
+    inlinee: IdIndex,
+) -> std::result::Result<Option<String>, AllocError>
+    ensures same { formatter.new ≡ formatter.old }
+    ensures name { IfOk result (λ n. option_map string_bytes n ≡ if_made (id_text (env_of P.provided formatter.old module_index) inlinee.0)) }
+{
+    let made = formatter.format_id(alloc, module_index, inlinee);
+    if_text(made)
+}
+
+/// The name of a procedure by its type; `None` where no text can be made of it.
+fn typed_name<P: ModuleProvider>(
+    alloc: Global,
+    formatter: &mut TypeFormatter<'_, '_, P>,
+    module_index: usize,
+    procedure: &Procedure<'_>,
+) -> std::result::Result<Option<String>, AllocError>
+    ensures same { formatter.new ≡ formatter.old }
+    ensures name { IfOk result (λ n. option_map string_bytes n ≡ name_by_type (env_of P.provided formatter.old module_index) procedure.now) }
+{
+    let name = raw_name(alloc, &procedure.name)?;
+    let made = formatter.format_function(alloc, name.as_str(), module_index, procedure.type_index);
+    if_text(made)
+}
+
+/// The decorated public name that a procedure has in place of its own: at its start, where it has no type and no decorated name
+/// of its own.
+fn public_name<'p, 'a>(
+    parts: &'p ContextParts<'a, '_>,
+    procedure: &Procedure<'_>,
+) -> Option<&'p RawString<'a>>
+    ensures { option_map (λ n. raw_bytes n.now) result ≡ public_name_of parts.now procedure.now }
+{
+    if procedure.type_index.0 == 0 && !is_decorated(procedure.name.as_bytes()) {
+        parts.decorated_at(procedure.offset)
+    } else {
+        None
+    }
+}
+
+/// A procedure's name: the decorated public name in place of its own, or that by its type.
+fn procedure_name<P: ModuleProvider>(
+    alloc: Global,
+    parts: &ContextParts<'_, '_>,
+    formatter: &mut TypeFormatter<'_, '_, P>,
+    module_index: usize,
+    procedure: &Procedure<'_>,
+) -> std::result::Result<Option<String>, AllocError>
+    ensures same { formatter.new ≡ formatter.old }
+    ensures name { IfOk result (λ n. option_map string_bytes n ≡ name_of_procedure parts.now (env_of P.provided formatter.old module_index) procedure.now) }
+{
+    match public_name(parts, procedure) {
+        Some(name) => {
+            let name = raw_name(alloc, name)?;
+            Ok(Some(name))
+        }
+        None => typed_name(alloc, formatter, module_index, procedure),
+    }
+}
+
+/// A name that may be there, as text.
+fn if_named(
+    alloc: Global,
+    name: &Option<RawString<'_>>,
+) -> std::result::Result<Option<String>, AllocError>
+    ensures { IfOk result (λ n. option_map string_bytes n ≡ option_map (λ r. utf8_lossy (raw_bytes r)) name.now) }
+{
+    match name {
+        None => Ok(None),
+        Some(name) => {
+            let name = raw_name(alloc, name)?;
+            Ok(Some(name))
+        }
+    }
+}
+
+/// The name of a chosen function in the module of a number.
+pub fn name_of<P: ModuleProvider>(
+    alloc: Global,
+    parts: &ContextParts<'_, '_>,
+    formatter: &mut TypeFormatter<'_, '_, P>,
+    module_index: usize,
+    chosen: Chosen<'_, '_>,
+) -> std::result::Result<Option<String>, AllocError>
+    ensures same { formatter.new ≡ formatter.old }
+    ensures name { IfOk result (λ n. option_map string_bytes n ≡ name_of_chosen parts.now (env_of P.provided formatter.old module_index) (chosen_seen chosen.entry)) }
+{
+    match chosen {
+        Chosen::Procedure(procedure) => {
+            procedure_name(alloc, parts, formatter, module_index, procedure)
+        }
+        Chosen::Public(public) => if_named(alloc, &public.name),
+    }
+}
