@@ -1,119 +1,212 @@
--- The steps of opening a file: where one fails, and what is kept at the end.
-use Rattle.std.proofs.Common.{◌≡◌, ℕ, ◌⊎◌, Bool, true, false, List, Result, Ok, Err, refl, sym, ap, ◌∙◌}
-use Rattle.std.specs.Prelude.{Option, None, Some, option_map, slice_get}
-use Rattle.std.specs.BTreeMap.{BTreeMap, get}
-use Rattle.std.specs.Ordering.{nat_cmp}
-use Rattle.std.specs.List.{All, list_any}
+-- The steps of opening a file: where one fails, what is kept at the end, and that a context over it answers as the file does.
+use Rattle.std.proofs.Common.{◌≡◌, ℕ, ◌⊎◌, inl, inr, true, false, List, Result, Ok, Err, refl, sym, ap, ◌∙◌, arith}
+use Rattle.std.specs.Prelude.{Option, None, Some}
+use mathlib.Core.Path.{fun_ext}
 use Rattle.pdb_container.specs.declared.error.Error.{Error}
 use Rattle.pdb_container.specs.declared.error.Error.TheVariants as errors
-use Rattle.pdb_container.specs.Fault.{Fault, fault_of, IsOutside, HasRisen, refuse, ◌>>=◌}
+use Rattle.pdb_container.specs.Fault.{Fault, fault_of, IsOutside, HasRisen, ◌>>=◌}
+use Rattle.pdb_addresses.specs.Addresses.{IsOrdered, is_ordered}
+use Rattle.pdb_symbols_modules.specs.Dbi.{Dbi}
+use Rattle.pdb_symbols_modules.specs.DatabaseCalls.{debug_information, names}
+use Rattle.pdb_symbols_modules.specs.Machine.{machine_of}
+use Rattle.pdb_symbols_modules.specs.Modules.{modules_of}
+use Rattle.pdb_symbols_modules.specs.Shared.{Shared, shared}
+use Rattle.pdb_symbols_modules.specs.Streams.{Streams, streams, fault_in}
+use Rattle.pdb_resolving.specs.declared.error.Error as context
+use Rattle.pdb_resolving.specs.declared.error.Error.TheVariants as contexts
+use Rattle.pdb_resolving.specs.Fault as answers
+use Rattle.pdb_resolving.specs.Resolving.{Provided}
+use Rattle.pdb_type_sizes.specs.Reading.{pointer_bytes}
+use Rattle.pdb_type_text.specs.Formatting.{Formatting}
+use Rattle.pdb_context.specs.Choice.{Parts, Scope}
+use Rattle.pdb_context.specs.Context.{Context, context_over, scope_of}
+use Rattle.pdb_context.specs.Frames.{frames, function}
+use Rattle.pdb_addr2line.specs.Formatters as held
+use Rattle.pdb_addr2line.specs.Held.{Held, IsOwn, loaded_in, given, names_in}
+use Rattle.pdb_addr2line.specs.Kept.{KeptInfo, answered_at}
+use Rattle.pdb_addr2line.specs.Loading as kept
+use Rattle.pdb_addr2line.specs.Loading.{Tables, tables, listed}
 use Rattle.pdb_report.specs.declared.fault.LoadFault.{LoadFault}
 use Rattle.pdb_report.specs.declared.fault.LoadFault.TheVariants as faults
-use Rattle.pdb_resolving.specs.declared.error.Error.TheVariants as contexts
-use Rattle.pdb_container.specs.Listing.{whole}
-use Rattle.pdb_addresses.specs.Addresses.{Map, IsOrdered}
-use Rattle.pdb_symbols_modules.specs.DatabaseCalls.{debug_information, module_info}
-use Rattle.pdb_report.specs.declared.pdb_addr2line.contributions.ModuleSectionContribution.{ModuleSectionContribution}
-use Rattle.pdb_report.specs.Faults.{LoadingFault, NotYet, lifted, load_fault_of, loading_fault_of, FailsLoading}
+use Rattle.pdb_report.specs.Answer.{AnswersAs, answer, answer_by, function_at, function_by, given_in, scope}
+use Rattle.pdb_report.specs.Faults.{LoadingFault, AddressTableDecreases, lifted, in_loading, load_fault_of, load_fault_in_context, FailsLoading}
+use Rattle.pdb_report.specs.Kept.{IsKept, answered_in}
+use Rattle.pdb_report.specs.Loading.{Loaded, parts_in, none_or, loaded_behind, loaded_open, loaded, load_fault, Refuses, IsFileFault}
 use Rattle.pdb_report.specs.RunFaults.{OnLoad, run_fault_of}
-use Rattle.pdb_symbols_modules.specs.Streams.{Streams, streams, fault_in}
-use Rattle.pdb_symbols_modules.specs.Dbi.{Dbi}
-use Rattle.pdb_symbols_modules.specs.Modules.{Module, modules_of}
-use Rattle.pdb_modules.specs.ModuleStream.{ModuleStream}
-use Rattle.pdb_report.specs.ModuleSymbols.{procedures}
-use Rattle.pdb_symbols_modules.specs.Shared.{module_of_number, shared, provider}
-use Rattle.pdb_report.specs.Loading.{load_fault, Refuses, IsFileFault, Parts, none_or, loaded_behind, loaded, has_other_symbols, answerable}
-use Rattle.pdb_report.specs.KeptParts.{if_given, if_listed, kept_or_none, listed_module, tables, IsKeptOfFile}
-use Rattle.pdb_symbols_modules.proofs.Provided.{module_listed, provided, past_the_list}
 use Rattle.pdb_report.proofs.Lifting.{fails_on, loads_on, opening_fails}
 
 -- ---- what is left of a load
 
--- the check behind loading
-abbrev checked : Streams → Parts → Result Parts LoadingFault
-checked s parts = refuse (list_any (has_other_symbols s) parts.modules) NotYet >>= λ plain. Ok parts
-
 -- behind a container that is open
-opened : (s : Streams) → s.open_fault ≡ None → answerable s ≡ ((lifted (debug_information (shared s)) >>= loaded_behind (shared s)) >>= checked s)
-unfolding answerable loaded shared debug_information
+opened : (s : Streams) → s.open_fault ≡ None → loaded (shared s) ≡ loaded_open (shared s)
+unfolding loaded shared
 opened s h = rw h refl
 
 -- behind stream 3
-behind_dbi : (s : Streams) (dbi : Dbi) → s.open_fault ≡ None → debug_information (shared s) ≡ Ok dbi → answerable s ≡ (loaded_behind (shared s) dbi >>= checked s)
-behind_dbi s dbi h read = opened s h ∙ ap (λ r. (lifted r >>= loaded_behind (shared s)) >>= checked s) read
+behind_dbi : (c : Shared) (dbi : Dbi) → debug_information c ≡ Ok dbi → loaded_open c ≡ (lifted (tables c dbi) >>= loaded_behind c dbi)
+unfolding loaded_open
+behind_dbi c dbi read = ap (λ r. lifted r >>= λ d. lifted (tables c d) >>= loaded_behind c d) read
+
+-- behind the tables
+behind_tables : (c : Shared) (dbi : Dbi) (read : Tables) → debug_information c ≡ Ok dbi → tables c dbi ≡ Ok read → loaded_open c ≡ loaded_behind c dbi read
+behind_tables c dbi read dbi_is read_is = behind_dbi c dbi dbi_is ∙ ap (λ r. lifted r >>= loaded_behind c dbi) read_is
+
+-- what is behind the order of the tables
+abbrev after_order : Shared → Dbi → Tables → Result Loaded LoadingFault
+after_order c dbi read = lifted (listed dbi) >>= λ whole_list. parts_in c dbi read >>= λ parts. Ok (record { debug_information = dbi; tables = read; parts = parts })
+
+in_order : (c : Shared) (dbi : Dbi) (read : Tables) → is_ordered read.map ≡ true → loaded_behind c dbi read ≡ after_order c dbi read
+unfolding loaded_behind
+in_order c dbi read h = rw h refl
+
+out_of_order : (c : Shared) (dbi : Dbi) (read : Tables) → is_ordered read.map ≡ false → loaded_behind c dbi read ≡ Err AddressTableDecreases
+unfolding loaded_behind
+out_of_order c dbi read h = rw h refl
+
+-- behind the module list
+behind_list : (c : Shared) (dbi : Dbi) (read : Tables) (u : Unit {0}) → is_ordered read.map ≡ true → listed dbi ≡ Ok u
+    → loaded_behind c dbi read ≡ (parts_in c dbi read >>= λ parts. Ok (record { debug_information = dbi; tables = read; parts = parts }))
+behind_list c dbi read u ordered list_is = in_order c dbi read ordered ∙ ap (λ r. lifted r >>= λ whole_list. parts_in c dbi read >>= λ parts. Ok (record { debug_information = dbi; tables = read; parts = parts })) list_is
 
 -- ---- where a step fails
 
 -- a container that isn't opened isn't loaded, with its fault
-pub container_fails : (s : Streams) (e : LoadFault) → FailsLoading e (lifted (none_or s.open_fault)) → FailsLoading e (answerable s)
-unfolding answerable loaded shared
-container_fails s e h = fails_on e _ (checked s) (fails_on e (lifted (none_or s.open_fault)) _ h)
+pub container_fails : (s : Streams) (e : LoadFault) → FailsLoading e (lifted (none_or s.open_fault)) → FailsLoading e (loaded (shared s))
+unfolding loaded shared
+container_fails s e h = fails_on e (lifted (none_or s.open_fault)) _ h
 
 -- a DBI stream that is refused isn't loaded, with its fault
-pub dbi_fails : (s : Streams) (e : Error) → s.open_fault ≡ None → (IsOutside e (HasRisen 0 0) ⊎ (debug_information (shared s) ≡ Err (fault_of e))) → FailsLoading (load_fault_of e) (answerable s)
-dbi_fails s e h read = rw (opened s h) (fails_on (load_fault_of e) _ (checked s) (loads_on e (debug_information (shared s)) (loaded_behind (shared s)) read))
+pub dbi_fails : (s : Streams) (e : Error) → s.open_fault ≡ None → (IsOutside e (HasRisen 0 0) ⊎ (debug_information (shared s) ≡ Err (fault_of e))) → FailsLoading (load_fault_of e) (loaded (shared s))
+unfolding loaded_open
+dbi_fails s e h read = rw (opened s h) (loads_on e (debug_information (shared s)) _ read)
 
--- a later step that is refused isn't loaded, with its fault
-pub parts_fail : (s : Streams) (e : LoadFault) (dbi : Dbi) → s.open_fault ≡ None → debug_information (shared s) ≡ Ok dbi → FailsLoading e (loaded_behind (shared s) dbi) → FailsLoading e (answerable s)
-parts_fail s e dbi h read failed = rw (behind_dbi s dbi h read) (fails_on e (loaded_behind (shared s) dbi) (checked s) failed)
+-- what stands behind stream 3 that is refused isn't loaded, with its fault
+pub tables_fail : (s : Streams) (e : Error) (dbi : Dbi) → s.open_fault ≡ None → debug_information (shared s) ≡ Ok dbi
+    → (IsOutside e (HasRisen 0 0) ⊎ (tables (shared s) dbi ≡ Err (fault_of e))) → FailsLoading (load_fault_of e) (loaded (shared s))
+tables_fail s e dbi h dbi_is read = rw (opened s h, behind_dbi (shared s) dbi dbi_is) (loads_on e (tables (shared s) dbi) (loaded_behind (shared s) dbi) read)
 
--- the check fails
-some_is : (f g : LoadingFault) → Some f ≡ Some g → f ≡ g
-some_is f g h = cc
+-- address tables that aren't in order aren't loaded
+pub order_fails : (s : Streams) (dbi : Dbi) (read : Tables) → s.open_fault ≡ None → debug_information (shared s) ≡ Ok dbi → tables (shared s) dbi ≡ Ok read → is_ordered read.map ≡ false
+    → loaded (shared s) ≡ Err AddressTableDecreases
+order_fails s dbi read h dbi_is read_is ordered = opened s h ∙ behind_tables (shared s) dbi read dbi_is read_is ∙ out_of_order (shared s) dbi read ordered
 
-checks_alike : (b : Bool) (parts : Parts) (f : LoadingFault) → refuse b NotYet ≡ Err f → (refuse b NotYet >>= λ plain. Ok parts) ≡ Err f
-checks_alike true parts f e = ap (λ (t : LoadingFault). Err t) (some_is NotYet f (ap fault_in e))
-checks_alike false parts f e = absurd cc
+-- a module list that isn't whole isn't loaded, with its fault
+same_fault : (f e : Fault) → Some f ≡ Some e → f ≡ e
+same_fault f e h = cc
 
--- a module with symbols that aren't answered yet isn't loaded
-pub modules_are_ill : (s : Streams) (e : LoadFault) (dbi : Dbi) (parts : Parts) → s.open_fault ≡ None → debug_information (shared s) ≡ Ok dbi → loaded_behind (shared s) dbi ≡ Ok parts
-    → FailsLoading e (refuse (list_any (has_other_symbols s) parts.modules) NotYet) → FailsLoading e (answerable s)
-modules_are_ill s faults.OutOfMemory dbi parts h read load failed = tt
-modules_are_ill s (faults.Pdb contexts.OutOfMemory) dbi parts h read load failed = failed
-modules_are_ill s (faults.Pdb (contexts.PdbError errors.OutOfMemory)) dbi parts h read load failed = failed
-modules_are_ill s e dbi parts h read load failed =
-    behind_dbi s dbi h read ∙ ap (λ r. r >>= checked s) load ∙ checks_alike (list_any (has_other_symbols s) parts.modules) parts (loading_fault_of e) failed
+list_failed : (r : Result (Unit {0}) Fault) (l : kept.Loaded) (e : Fault) → (r >>= λ (u : Unit {0}). Ok l) ≡ Err e → r ≡ Err e
+list_failed (Ok u) l e h = absurd cc
+list_failed (Err f) l e h = ap (λ (t : Fault). Err t) (same_fault f e (ap fault_in h))
+
+listed_fails : (dbi : Dbi) (read : Tables) (e : Fault) → kept.loaded_behind dbi read ≡ Err e → listed dbi ≡ Err e
+listed_fails dbi read e h = list_failed (listed dbi) (record { debug_information = dbi; tables = read }) e h
+
+list_outside : (e : Error) (dbi : Dbi) (read : Tables) → (IsOutside e (HasRisen 0 0) ⊎ (kept.loaded_behind dbi read ≡ Err (fault_of e))) → (IsOutside e (HasRisen 0 0) ⊎ (listed dbi ≡ Err (fault_of e)))
+list_outside e dbi read (inl h) = inl h
+list_outside e dbi read (inr h) = inr (listed_fails dbi read (fault_of e) h)
+
+pub list_fails : (s : Streams) (e : Error) (dbi : Dbi) (read : Tables) → s.open_fault ≡ None → debug_information (shared s) ≡ Ok dbi → tables (shared s) dbi ≡ Ok read → is_ordered read.map ≡ true
+    → (IsOutside e (HasRisen 0 0) ⊎ (kept.loaded_behind dbi read ≡ Err (fault_of e))) → FailsLoading (load_fault_of e) (loaded (shared s))
+list_fails s e dbi read h dbi_is read_is ordered failed =
+    rw (opened s h, behind_tables (shared s) dbi read dbi_is read_is, in_order (shared s) dbi read ordered) (loads_on e (listed dbi) _ (list_outside e dbi read failed))
+
+-- whether what every question goes over was read
+abbrev checked : Result Parts answers.Fault → Result (Unit {0}) answers.Fault
+checked parts = parts >>= λ p. Ok tt
+
+same_answer : (f e : answers.Fault) → Some f ≡ Some e → f ≡ e
+same_answer f e h = cc
+
+bind_failed : (parts : Result Parts answers.Fault) (e : answers.Fault) → checked parts ≡ Err e → parts ≡ Err e
+bind_failed (Ok p) e h = absurd cc
+bind_failed (Err f) e h = ap (λ (t : answers.Fault). Err t) (same_answer f e (ap fault_in h))
+
+parts_refused : (e : context.Error) (parts : Result Parts answers.Fault) (f : Parts → Result Loaded LoadingFault) → answers.Fails e (checked parts) → FailsLoading (load_fault_in_context e) (in_loading parts >>= f)
+parts_refused contexts.OutOfMemory parts f h = tt
+parts_refused (contexts.PdbError errors.OutOfMemory) parts f h = h
+parts_refused e parts f h = ap (λ r. in_loading r >>= f) (bind_failed parts (answers.fault_of e) h)
 
 -- ---- what is kept
 
-passes_alike : (b : Bool) (parts : Parts) (u : Unit {0}) → refuse b NotYet ≡ Ok u → (refuse b NotYet >>= λ plain. Ok parts) ≡ Ok parts
-passes_alike true parts u e = absurd cc
-passes_alike false parts u e = refl
+-- stream 3 and what stands behind it, where both were read
+abbrev dbi_or : Dbi → Result kept.Loaded Fault → Dbi
+dbi_or d (Ok l) = l.debug_information
+dbi_or d (Err e) = d
 
--- what the file gives of a module, by its entry
--- where a stream can't be read there are no procedures, as where there is none
-given_alike : (read : Result (Option ModuleStream) Fault) → procedures read ≡ procedures (Ok (if_given read))
-given_alike (Ok found) = refl
-given_alike (Err e) = refl
+abbrev tables_or : Tables → Result kept.Loaded Fault → Tables
+tables_or t (Ok l) = l.tables
+tables_or t (Err e) = t
 
-given : (s : Streams) (k : ℕ) (found : Option Module) → module_of_number (s.at 3) k ≡ Ok found → procedures (provider s k) ≡ procedures (Ok (if_listed s found))
-given s k None h = ap procedures (past_the_list s k h)
-given s k (Some m) h = ap procedures (provided s k m h) ∙ given_alike (module_info s m)
+-- what was read, by what is held of it
+read_by : (r : Result (Unit {0}) Fault) (dbi : Dbi) (read : Tables) (h : Held) → (r >>= λ (u : Unit {0}). Ok (record { debug_information = dbi; tables = read })) ≡ Ok (loaded_in h)
+    → (dbi ≡ h.debug_information) × (read ≡ h.tables) × (r ≡ Ok tt)
+read_by (Ok u) dbi read h e = (ap (dbi_or dbi) e, ap (tables_or read) e, refl)
+read_by (Err f) dbi read h e = absurd cc
 
-no_fault : (r : Result Parts LoadingFault) (t : Map × List ModuleSectionContribution) → tables r ≡ Ok t → fault_in r ≡ None
-no_fault (Ok parts) t h = refl
-no_fault (Err e) t h = absurd cc
+read_is : (dbi : Dbi) (read : Tables) (h : Held) → kept.loaded_behind dbi read ≡ Ok (loaded_in h) → (dbi ≡ h.debug_information) × (read ≡ h.tables) × (listed dbi ≡ Ok tt)
+read_is dbi read h e = read_by (listed dbi) dbi read h e
+
+-- what every question goes over, by the names of the file
+same_parts : (s : Streams) (h : Held) → h.names ≡ names_in s → parts_in (shared s) h.debug_information h.tables ≡ in_loading (held.parts_in h)
+same_parts s h names_are = rw names_are refl
+
+own_names : (s : Streams) (h : Held) → IsOwn s (HasRisen 0 0) h → h.names ≡ names_in s
+own_names s h own = elim own.names_are [ inl risen ↦ absurd (omega (arith, risen)) | inr is ↦ is ]
+
+own_modules : (s : Streams) (h : Held) → IsOwn s (HasRisen 0 0) h → (number : ℕ) → answered_at h.infos number ≡ given s number
+own_modules s h own = elim own.modules_are [ inl risen ↦ absurd (omega (arith, risen)) | inr is ↦ is ]
+
+-- what every question goes over that is refused isn't loaded, with its fault
+pub parts_fail : (s : Streams) (e : context.Error) (dbi : Dbi) (read : Tables) (h : Held) → s.open_fault ≡ None → debug_information (shared s) ≡ Ok dbi → tables (shared s) dbi ≡ Ok read → is_ordered read.map ≡ true
+    → kept.loaded_behind dbi read ≡ Ok (loaded_in h) → IsOwn s (HasRisen 0 0) h → answers.Fails e (held.checked_parts h) → FailsLoading (load_fault_in_context e) (loaded (shared s))
+parts_fail s e dbi read h is_open dbi_is tables_are ordered loads own failed =
+    let same = read_is dbi read h loads in
+    rw (opened s is_open, behind_tables (shared s) dbi read dbi_is tables_are, behind_list (shared s) dbi read tt ordered same.2, same.0, same.1, same_parts s h (own_names s h own)) (parts_refused e (held.parts_in h) _ failed)
+
+-- what every question goes over was read
+there : (parts : Result Parts answers.Fault) (u : Unit {0}) → checked parts ≡ Ok u → (p : Parts) × (parts ≡ Ok p)
+there (Ok p) u h = (p, refl)
+there (Err e) u h = absurd cc
+
+pub loaded_fully : (s : Streams) (h : Held) (parts : Parts) → s.open_fault ≡ None → debug_information (shared s) ≡ Ok h.debug_information → tables (shared s) h.debug_information ≡ Ok h.tables
+    → is_ordered h.tables.map ≡ true → listed h.debug_information ≡ Ok tt → h.names ≡ names_in s → held.parts_in h ≡ Ok parts
+    → loaded (shared s) ≡ Ok (record { debug_information = h.debug_information; tables = h.tables; parts = parts })
+loaded_fully s h parts is_open dbi_is read_is ordered list_is names_are parts_are =
+    opened s is_open ∙ behind_tables (shared s) h.debug_information h.tables dbi_is read_is ∙ behind_list (shared s) h.debug_information h.tables tt ordered list_is
+    ∙ ap (λ r. r >>= λ (p : Parts). Ok (record { debug_information = h.debug_information; tables = h.tables; parts = p })) (same_parts s h names_are ∙ ap in_loading parts_are)
 
 -- what was kept of a loaded file is the file's
-pub is_kept : (file : List ℕ) (dbi : Dbi) (parts : Parts) (kept : BTreeMap ℕ (Option ModuleStream)) (u : Unit {0}) → (streams file).open_fault ≡ None → debug_information (shared (streams file)) ≡ Ok dbi
-    → loaded_behind (shared (streams file)) dbi ≡ Ok parts → whole (modules_of dbi.modules) ≡ Ok parts.modules → refuse (list_any (has_other_symbols (streams file)) parts.modules) NotYet ≡ Ok u
-    → All (λ c. kept_or_none (get nat_cmp kept c.«module») ≡ listed_module (streams file) parts.modules c.«module») parts.contributions
-    → IsOrdered parts.map → IsKeptOfFile file parts.map parts.contributions kept
-is_kept file dbi parts kept u h read load listed plain found ordered =
+pub is_kept : (file : List ℕ) (dbi : Dbi) (read : Tables) (h : Held) (u : Unit {0}) → (streams file).open_fault ≡ None → debug_information (shared (streams file)) ≡ Ok dbi → tables (shared (streams file)) dbi ≡ Ok read
+    → is_ordered read.map ≡ true → IsOrdered read.map → kept.loaded_behind dbi read ≡ Ok (loaded_in h) → IsOwn (streams file) (HasRisen 0 0) h → held.checked_parts h ≡ Ok u → IsKept file h
+is_kept file dbi read h u is_open dbi_is tables_are ordered is_so loads own was_checked =
     let s = streams file in
+    let same = read_is dbi read h loads in
+    let parts = there (held.parts_in h) u was_checked in
+    let dbi_too : debug_information (shared s) ≡ Ok h.debug_information = dbi_is ∙ ap (λ (d : Dbi). Ok d) same.0 in
+    let read_too : tables (shared s) h.debug_information ≡ Ok h.tables = ap (tables (shared s)) (sym same.0) ∙ tables_are ∙ ap (λ (t : Tables). Ok t) same.1 in
+    let names_are = own_names s h own in
     record {
-      tables_are = ap tables (behind_dbi s dbi h read ∙ ap (λ r. r >>= checked s) load ∙ passes_alike (list_any (has_other_symbols s) parts.modules) parts u plain);
-      ordered = ordered;
-      procedures_are = λ k d lt. ap (λ own. procedures (Ok own)) (found k d lt) ∙ sym (given s _ (slice_get parts.modules _) (module_listed s dbi parts.modules _ read listed));
+      parts = parts.0;
+      loaded_is = loaded_fully s h parts.0 is_open dbi_too read_too (ap (λ (t : Tables). is_ordered t.map) (sym same.1) ∙ ordered) (ap listed (sym same.0) ∙ same.2) names_are parts.1;
+      parts_are = parts.1;
+      ordered = rw (sym same.1) is_so;
+      names_are = names_are;
+      modules_are = own_modules s h own;
     }
 
+-- the address tables that are held are those that were read
+pub kept_ordered : (dbi : Dbi) (read : Tables) (h : Held) → IsOrdered read.map → kept.loaded_behind dbi read ≡ Ok (loaded_in h) → IsOrdered h.tables.map
+kept_ordered dbi read h is loads = let same = read_is dbi read h loads in rw (sym same.1) is
+
+no_fault : (r : Result Loaded LoadingFault) (l : Loaded) → r ≡ Ok l → fault_in r ≡ None
+no_fault r l h = ap fault_in h
+
 -- a file that is kept has no load fault
-pub kept_loads : (file : List ℕ) (addresses : Map) (contributions : List ModuleSectionContribution) (kept : BTreeMap ℕ (Option ModuleStream))
-    → IsKeptOfFile file addresses contributions kept → fault_in (answerable (streams file)) ≡ None
-kept_loads file addresses contributions kept is = no_fault (answerable (streams file)) (addresses, contributions) is.tables_are
+pub kept_loads : (file : List ℕ) (h : Held) → IsKept file h → load_fault (streams file) ≡ None
+kept_loads file h is = no_fault (loaded (shared (streams file))) _ is.loaded_is
 
 -- a failed load is a load fault
-pub refuses : (e : LoadFault) (s : Streams) → FailsLoading e (answerable s) → Refuses e (load_fault s)
+pub refuses : (e : LoadFault) (s : Streams) → FailsLoading e (loaded (shared s)) → Refuses e (load_fault s)
 refuses faults.OutOfMemory s h = tt
 refuses (faults.Pdb contexts.OutOfMemory) s h = h
 refuses (faults.Pdb (contexts.PdbError errors.OutOfMemory)) s h = h
@@ -128,3 +221,66 @@ run_refused e fault quiet h q = (h, q)
 pub not_opened : {S : Type 0} (bytes : S → List ℕ) (before : S) (s : Streams) (e : Error)
     → (IsOutside e ((after : S) × (bytes after ≡ bytes before) × HasRisen 0 0) ⊎ (s.open_fault ≡ Some (fault_of e))) → Refuses (load_fault_of e) (load_fault s)
 not_opened bytes before s e h = refuses (load_fault_of e) s (container_fails s (load_fault_of e) (opening_fails bytes before e s.open_fault h))
+
+-- ---- a context answers as the file does
+
+-- the context that was made, if one was
+abbrev made_or : Context (List KeptInfo) → Result (Context (List KeptInfo)) answers.Fault → Context (List KeptInfo)
+made_or c (Ok made) = made
+made_or c (Err e) = c
+
+memory_alone : (e : context.Error) (c : Context (List KeptInfo)) → answers.Fails e (Ok c) → load_fault_in_context e ≡ faults.OutOfMemory
+memory_alone contexts.OutOfMemory c h = refl
+memory_alone (contexts.PdbError errors.OutOfMemory) c h = absurd h
+memory_alone e c h = absurd cc
+
+-- a formatter over what gives modules
+abbrev over_given : Provided → Option (List ℕ) → Held → Formatting Provided
+over_given p names h = record {
+  reading = record {
+    modules = record { provider = p; entries = (modules_of h.debug_information.modules).items; names = names };
+    types = h.tables.types;
+    ids = h.tables.ids;
+    pointer_size = pointer_bytes (machine_of h.debug_information.machine);
+  };
+  flags = 23;
+}
+
+-- what an answer in the module of a number depends on, by what gives modules
+abbrev scope_given : Provided → Option (List ℕ) → Held → ℕ → Scope
+scope_given p names h m = scope_of (λ (q : Provided). q) p (over_given p names h) m
+
+same_given : (s : Streams) (h : Held) → ((number : ℕ) → answered_at h.infos number ≡ given s number) → answered_in h.infos ≡ given_in s
+same_given s h modules_are = fun_ext λ number. fun_ext λ entry. modules_are number
+
+same_scope : (s : Streams) (h : Held) (parts : Parts) (m : ℕ) → ((number : ℕ) → answered_at h.infos number ≡ given s number) → h.names ≡ names_in s
+    → scope_of answered_in h.infos (held.formatting_of h 23) m ≡ scope s (record { debug_information = h.debug_information; tables = h.tables; parts = parts }) m
+unfolding scope
+same_scope s h parts m modules_are names_are =
+    ap (λ p. scope_given p h.names h m) (same_given s h modules_are) ∙ ap (λ names. scope_given (given_in s) names h m) names_are
+
+-- a context over what is kept
+abbrev context_of : Held → Parts → Context (List KeptInfo)
+context_of h parts = record { provider = h.infos; parts = parts; formatting = held.formatting_of h 23 }
+
+over_kept : (file : List ℕ) (h : Held) → IsKept file h → (parts : Parts) → held.parts_in h ≡ Ok parts
+    → loaded (shared (streams file)) ≡ Ok (record { debug_information = h.debug_information; tables = h.tables; parts = parts }) → AnswersAs answered_in (streams file) (context_of h parts)
+unfolding answer function_at
+over_kept file h is parts parts_are loaded_is =
+    let s = streams file in
+    let l : Loaded = record { debug_information = h.debug_information; tables = h.tables; parts = parts } in
+    let scopes = fun_ext (λ m. same_scope s h parts m is.modules_are is.names_are) in
+    record {
+      frames = fun_ext (λ a. ap (λ known. frames parts known a) scopes ∙ ap (λ r. answer_by s r a) (sym loaded_is));
+      functions = fun_ext (λ a. ap (λ known. function parts known a) scopes ∙ ap (λ r. function_by s r a) (sym loaded_is));
+    }
+
+-- the context that was made is that over what is kept
+pub context_answers : (file : List ℕ) (h : Held) (c : Context (List KeptInfo)) → IsKept file h → held.context_in h 23 ≡ Ok c → AnswersAs answered_in (streams file) c
+context_answers file h c is made =
+    let c_is : context_of h is.parts ≡ c = ap (made_or c) (ap (λ r. context_over h.infos (held.formatting_of h 23) r) (sym is.parts_are) ∙ made) in
+    rw (sym c_is) (over_kept file h is is.parts is.parts_are is.loaded_is)
+
+-- nothing but memory keeps a context from being made
+pub context_made : (file : List ℕ) (h : Held) (e : context.Error) → IsKept file h → answers.Fails e (held.context_in h 23) → load_fault_in_context e ≡ faults.OutOfMemory
+context_made file h e is failed = memory_alone e _ (rw is.parts_are at failed)

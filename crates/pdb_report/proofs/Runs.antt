@@ -6,9 +6,9 @@ use Rattle.std.specs.Io.KnownBytes.{Appends, Consumes, IsAtEnd}
 use Rattle.std.proofs.KnownBytes.{Appends-trans}
 use Rattle.std.proofs.lemmas.List.{take-append-le}
 use Rattle.std.proofs.lemmas.Grind.{flat_map-append}
-use Rattle.pdb_report.specs.declared.fault.RunFault.{RunFault}
-use Rattle.pdb_report.specs.declared.fault.RunFault.TheVariants.{Load, ReversedRange, Read, Write, InputTooLong, OutOfMemory}
-use Rattle.pdb_report.specs.RunFaults.{OnRead, OnTooLong}
+use Rattle.pdb_report.specs.declared.fault.InputFault.{InputFault}
+use Rattle.pdb_report.specs.declared.fault.InputFault.TheVariants.{Read, Write, InputTooLong, OutOfMemory}
+use Rattle.pdb_report.specs.InputFaults.{OnRead, OnTooLong}
 use Rattle.pdb_report.specs.InputLines.{kept_lines, kept_rest, report, report_of_ended, Begins}
 use Rattle.pdb_report.proofs.LineLemmas.{last_line, kept_lines-append, report_is, report_of_ended_is}
 
@@ -16,12 +16,10 @@ module _ (text : List ℕ → List ℕ) (short : (line : List ℕ) → text (tak
   from_nil : (s bs : List ℕ) → s ≡ [] → flat_map text (kept_lines s bs) ≡ report_of_ended text bs
   from_nil s bs e = ap (λ k. flat_map text (kept_lines k bs)) e ∙ report_of_ended_is text short bs
 
-  pub run_read_out : (fault : RunFault) (ra rb wa wb : Option (List ℕ)) (s : List ℕ) → s ≡ [] → OnRead fault (λ _. (taken : List ℕ) × Consumes ra rb taken × Appends wa wb (flat_map text (kept_lines s taken)))
+  pub run_read_out : (fault : InputFault) (ra rb wa wb : Option (List ℕ)) (s : List ℕ) → s ≡ [] → OnRead fault (λ _. (taken : List ℕ) × Consumes ra rb taken × Appends wa wb (flat_map text (kept_lines s taken)))
       → OnRead fault (λ _. (taken : List ℕ) × Consumes ra rb taken × Appends wa wb (report_of_ended text taken))
   run_read_out (Read kind) ra rb wa wb s e (taken, consumed, out) = (taken, consumed, subst (λ (l : List ℕ). Appends wa wb l) (from_nil s taken e) out)
   run_read_out (Write kind) ra rb wa wb s e h = tt
-  run_read_out (Load why) ra rb wa wb s e h = tt
-  run_read_out ReversedRange ra rb wa wb s e h = tt
   run_read_out InputTooLong ra rb wa wb s e h = tt
   run_read_out OutOfMemory ra rb wa wb s e h = tt
 
@@ -33,14 +31,12 @@ module _ (text : List ℕ → List ℕ) (short : (line : List ℕ) → text (tak
       let same : take limit input ≡ take limit taken = ap (take limit) consumed ∙ take-append-le limit taken rest (omega arith) in
       (omega (arith, ap length consumed, length-append taken rest), subst (λ (l : List ℕ). Appends wa wb l) (from_nil s (take limit taken) e ∙ ap (report_of_ended text) (sym same)) out)
 
-  pub run_too_long : (fault : RunFault) (ra rb wa wb : Option (List ℕ)) (s : List ℕ) (limit : ℕ) → s ≡ []
+  pub run_too_long : (fault : InputFault) (ra rb wa wb : Option (List ℕ)) (s : List ℕ) (limit : ℕ) → s ≡ []
       → OnTooLong fault ((taken : List ℕ) × Consumes ra rb taken × (limit < length taken) × Appends wa wb (flat_map text (kept_lines s (take limit taken))))
       → OnTooLong fault (IfSome ra (λ input. (limit < length input) × Appends wa wb (report_of_ended text (take limit input))))
   run_too_long InputTooLong ra rb wa wb s limit e (taken, consumed, past, out) = cut_known ra rb wa wb s taken limit e consumed past out
   run_too_long (Read kind) ra rb wa wb s limit e h = tt
   run_too_long (Write kind) ra rb wa wb s limit e h = tt
-  run_too_long (Load why) ra rb wa wb s limit e h = tt
-  run_too_long ReversedRange ra rb wa wb s limit e h = tt
   run_too_long OutOfMemory ra rb wa wb s limit e h = tt
 
   -- the report of what was read, and more, begins with the answers to its ended lines

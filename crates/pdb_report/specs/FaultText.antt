@@ -55,7 +55,6 @@ HasPlainName e name = name ≡ cause_text e
 abbrev pub load_fault_text : LoadFault → List ℕ
 load_fault_text (faults.Pdb e) = cause_text e
 load_fault_text faults.AddressTableDecreases = codes "AddressTableDecreases"
-load_fault_text faults.NotYet = codes "NotYet"
 load_fault_text faults.OutOfMemory = codes "OutOfMemory"
 
 -- what the fault of a run prints: the loading fault, or its name and its kind

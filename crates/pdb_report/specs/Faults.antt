@@ -13,7 +13,6 @@ use Rattle.pdb_report.specs.declared.fault.LoadFault.TheVariants as faults
 pub data LoadingFault : Type 0 where
   Pdb : answers.Fault → LoadingFault
   AddressTableDecreases : LoadingFault
-  NotYet : LoadingFault
 
 -- an error of the reader as a fault of loading; out of memory is one of its own, whichever way it came
 abbrev pub load_fault_of : container.Error → LoadFault
@@ -24,8 +23,7 @@ load_fault_of e = faults.Pdb (contexts.PdbError e)
 abbrev pub loading_fault_of : LoadFault → LoadingFault
 loading_fault_of (faults.Pdb e) = Pdb (answers.fault_of e)
 loading_fault_of faults.AddressTableDecreases = AddressTableDecreases
-loading_fault_of faults.NotYet = NotYet
-loading_fault_of faults.OutOfMemory = NotYet
+loading_fault_of faults.OutOfMemory = AddressTableDecreases
 
 -- an error of a context as a fault of loading; out of memory is one of its own
 abbrev pub load_fault_in_context : context.Error → LoadFault

@@ -4,6 +4,8 @@ use Rattle.std.specs.declared.io.ErrorKind.{ErrorKind}
 use Rattle.std.specs.declared.io.ErrorKind.TheVariants as kinds
 use Rattle.pdb_report.specs.declared.fault.LoadFault.{LoadFault}
 use Rattle.pdb_report.specs.declared.fault.LoadFault.TheVariants as faults
+use Rattle.pdb_report.specs.declared.fault.InputFault.{InputFault}
+use Rattle.pdb_report.specs.declared.fault.InputFault.TheVariants as inputs
 use Rattle.pdb_report.specs.declared.fault.RunFault.{RunFault}
 use Rattle.pdb_report.specs.declared.fault.RunFault.TheVariants.{Load, ReversedRange, Read, Write, InputTooLong, OutOfMemory}
 
@@ -12,15 +14,12 @@ abbrev pub run_fault_of : LoadFault → RunFault
 run_fault_of faults.OutOfMemory = OutOfMemory
 run_fault_of fault = Load fault
 
--- how a run ends at a failed read
-abbrev pub read_fault_of : ErrorKind → RunFault
-read_fault_of kinds.OutOfMemory = OutOfMemory
-read_fault_of kind = Read kind
-
--- how a run ends at a failed write
-abbrev pub write_fault_of : ErrorKind → RunFault
-write_fault_of kinds.OutOfMemory = OutOfMemory
-write_fault_of kind = Write kind
+-- how a run ends where answering its input does
+abbrev pub run_fault_of_input : InputFault → RunFault
+run_fault_of_input (inputs.Read kind) = Read kind
+run_fault_of_input (inputs.Write kind) = Write kind
+run_fault_of_input inputs.InputTooLong = InputTooLong
+run_fault_of_input inputs.OutOfMemory = OutOfMemory
 
 -- where the fault is a failed read, this is said of its kind
 abbrev pub OnRead : RunFault → (ErrorKind → Type 0) → Type 0
@@ -48,24 +47,6 @@ OnTooLong ReversedRange P = Unit {0}
 OnTooLong (Read kind) P = Unit {0}
 OnTooLong (Write kind) P = Unit {0}
 OnTooLong OutOfMemory P = Unit {0}
-
--- a fault that writing an answer may have; out of memory has one name
-abbrev pub IsOfWriting : RunFault → Type 0
-IsOfWriting (Write kind) = kind ≢ kinds.OutOfMemory
-IsOfWriting OutOfMemory = Unit {0}
-IsOfWriting (Load fault) = ⊥
-IsOfWriting ReversedRange = ⊥
-IsOfWriting (Read kind) = ⊥
-IsOfWriting InputTooLong = ⊥
-
--- a fault that answering an input may have
-abbrev pub IsOfRunning : RunFault → Type 0
-IsOfRunning (Load fault) = ⊥
-IsOfRunning ReversedRange = ⊥
-IsOfRunning (Read kind) = kind ≢ kinds.OutOfMemory
-IsOfRunning (Write kind) = kind ≢ kinds.OutOfMemory
-IsOfRunning InputTooLong = Unit {0}
-IsOfRunning OutOfMemory = Unit {0}
 
 -- where the fault is one of loading, this is said of it
 abbrev pub OnLoad : RunFault → (LoadFault → Type 0) → Type 0

@@ -5,59 +5,59 @@ ghost use Rattle.std.specs.List.{flat_map};
 ghost use Rattle.std.specs.Io.KnownBytes.{IsAtEnd};
 ghost use Rattle.pdb_report.specs.Watched.{inner_of, CountsFailure, IsQuiet, Writes, WritesFront, Takes};
 ghost use Rattle.pdb_report.specs.InputLines.{kept_lines, kept_rest, report, report_of_ended};
-ghost use Rattle.pdb_report.specs.RunFaults.{OnRead, OnWrite, OnTooLong, IsOfWriting, IsOfRunning};
+ghost use Rattle.pdb_report.specs.InputFaults.{OnRead, OnWrite, OnTooLong, IsOfWriting, IsOfRunning};
 
 use crate::answers::Answers;
-use crate::fault::{RunFault, read_fault, write_fault};
+use crate::fault::{InputFault, read_fault, write_fault};
 use crate::line_start::LineStart;
 use crate::watched::Watched;
 use std::alloc::Global;
 use std::io::{ErrorKind, Read, Write};
 
 /// Answers every line of the reader's input, of which at most `limit` bytes are read, and writes
-/// nothing else. A last line that no newline ends counts if it has a byte.
+/// nothing else; what answers ends with it. A last line that no newline ends counts if it has a byte.
 ///
 /// # Errors
 /// `Read` and `Write` at the first call that failed, and `InputTooLong` past `limit` bytes. At `Read`,
 /// and at `InputTooLong` for the first `limit` bytes, the lines that newlines end are answered. `OutOfMemory`
 /// where memory ran out, in whichever call.
-pub fn run<A: Answers, R: Read, W: Write>(
+pub fn run<A: Answers + Drop, R: Read, W: Write>(
     alloc: Global,
-    answers: &mut A,
+    mut answers: A,
     reader: &mut Watched<R>,
     writer: &mut Watched<W>,
     limit: u64,
-) -> Result<(), RunFault>
+) -> Result<(), InputFault>
     // Every line is answered, and nothing else is written.
-    requires { (line : List ℕ) → A.text answers.old (take 12 line) ≡ A.text answers.old line }
+    requires { (line : List ℕ) → A.text answers (take 12 line) ≡ A.text answers line }
     ensures ok { OnOk result (IfSome (R.remaining (inner_of reader.old)) (λ input. (length input ≤ limit)
-        × Writes W.contents writer.old writer.new (report (A.text answers.old) input))) }
+        × Writes W.contents writer.old writer.new (report (A.text answers) input))) }
     // No call failed unnoticed, and no fault is made up.
     ensures quiet { OnOk result (IsQuiet reader.old reader.new × IsQuiet writer.old writer.new) }
-    ensures same { A.text answers.new ≡ A.text answers.old }
     ensures kind { IfErr result IsOfRunning }
     ensures read_fails { IfErr result (λ fault. OnRead fault (λ kind. CountsFailure reader.old reader.new kind)) }
     ensures write_fails { IfErr result (λ fault. OnWrite fault (λ kind. CountsFailure writer.old writer.new kind)) }
     // The lines that were read whole before a failed read are answered.
     ensures read_out { IfErr result (λ fault. OnRead fault (λ _. (taken : List ℕ) × Takes R.remaining reader.old reader.new taken
-        × Writes W.contents writer.old writer.new (report_of_ended (A.text answers.old) taken))) }
+        × Writes W.contents writer.old writer.new (report_of_ended (A.text answers) taken))) }
     ensures too_long { IfErr result (λ fault. OnTooLong fault (IfSome (R.remaining (inner_of reader.old)) (λ input. (limit < length input)
-        × Writes W.contents writer.old writer.new (report_of_ended (A.text answers.old) (take limit input))))) }
+        × Writes W.contents writer.old writer.new (report_of_ended (A.text answers) (take limit input))))) }
     // At each fault a front of the report is out.
-    ensures part { OnErr result (IfSome (R.remaining (inner_of reader.old)) (λ input. WritesFront W.contents writer.old writer.new (report (A.text answers.old) input))) }
+    ensures part { OnErr result (IfSome (R.remaining (inner_of reader.old)) (λ input. WritesFront W.contents writer.old writer.new (report (A.text answers) input))) }
 {
     let mut start = LineStart::new();
-    match pump(alloc, answers, reader, writer, &mut start, limit) {
+    match pump(alloc, &mut answers, reader, writer, &mut start, limit) {
         Ok(()) => {}
         Err(fault) => return Err(fault),
     }
     if start.bytes().is_empty() {
         return Ok(());
     }
-    match answer_line(alloc, answers, writer, start.bytes()) {
-        Ok(()) => Ok(()),
-        Err(fault) => Err(fault),
+    match answer_line(alloc, &mut answers, writer, start.bytes()) {
+        Ok(()) => {}
+        Err(fault) => return Err(fault),
     }
+    Ok(())
 }
 
 /// Reads to the end, and answers each line that a newline ends.
@@ -71,7 +71,7 @@ fn pump<A: Answers, R: Read, W: Write>(
     writer: &mut Watched<W>,
     start: &mut LineStart,
     limit: u64,
-) -> Result<(), RunFault>
+) -> Result<(), InputFault>
     ensures ok { OnOk result ((taken : List ℕ) × Takes R.remaining reader.old reader.new taken
         × IsAtEnd (R.remaining (inner_of reader.new)) × (length taken ≤ limit)
         × Writes W.contents writer.old writer.new (flat_map (A.text answers.old) (kept_lines start.old taken))
@@ -101,7 +101,7 @@ fn pump<A: Answers, R: Read, W: Write>(
         }
         if left < count as u64 {
             match feed(alloc, answers, writer, start, &chunk[..left as usize]) {
-                Ok(()) => return Err(RunFault::InputTooLong),
+                Ok(()) => return Err(InputFault::InputTooLong),
                 Err(fault) => return Err(fault),
             }
         }
@@ -123,7 +123,7 @@ fn feed<A: Answers, W: Write>(
     writer: &mut Watched<W>,
     start: &mut LineStart,
     bytes: &[u8],
-) -> Result<(), RunFault>
+) -> Result<(), InputFault>
     ensures ok { OnOk result (Writes W.contents writer.old writer.new (flat_map (A.text answers.old) (kept_lines start.old bytes.now))) }
     ensures rest { OnOk result (start.new ≡ kept_rest start.old bytes.now) }
     ensures same { A.text answers.new ≡ A.text answers.old }
@@ -148,7 +148,7 @@ fn feed_byte<A: Answers, W: Write>(
     writer: &mut Watched<W>,
     start: &mut LineStart,
     byte: u8,
-) -> Result<(), RunFault>
+) -> Result<(), InputFault>
     ensures ok { OnOk result (Writes W.contents writer.old writer.new (flat_map (A.text answers.old) (kept_lines start.old (byte ∷ [])))) }
     ensures rest { OnOk result (start.new ≡ kept_rest start.old (byte ∷ [])) }
     ensures same { A.text answers.new ≡ A.text answers.old }
@@ -179,7 +179,7 @@ fn answer_line<A: Answers, W: Write>(
     answers: &mut A,
     writer: &mut Watched<W>,
     line: &[u8],
-) -> Result<(), RunFault>
+) -> Result<(), InputFault>
     ensures ok { OnOk result (Writes W.contents writer.old writer.new (A.text answers.old line.now)) }
     ensures same { A.text answers.new ≡ A.text answers.old }
     ensures quiet { OnOk result (IsQuiet writer.old writer.new) }
@@ -188,7 +188,7 @@ fn answer_line<A: Answers, W: Write>(
     ensures part { OnErr result (WritesFront W.contents writer.old writer.new (A.text answers.old line.now)) }
 {
     let Ok(text) = answers.answer(alloc, line) else {
-        return Err(RunFault::OutOfMemory);
+        return Err(InputFault::OutOfMemory);
     };
     match write_all(writer, &text) {
         Ok(()) => Ok(()),

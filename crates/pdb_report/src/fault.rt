@@ -3,9 +3,9 @@
 ghost use Rattle.std.specs.Prelude.{◌≡◌};
 ghost use Rattle.pdb_report.specs.declared.fault.LoadFault.TheVariants as load_faults;
 ghost use Rattle.pdb_report.specs.FaultText.{HasPlainName};
-ghost use Rattle.pdb_report.specs.RunFaults.{read_fault_of, write_fault_of, IsOfRunning, IsOfWriting};
+ghost use Rattle.pdb_report.specs.InputFaults.{read_fault_of, write_fault_of, IsOfRunning, IsOfWriting};
 
-use crate::pdb_addr2line::Error;
+use pdb_addr2line::Error;
 use pdb_container::kind_name;
 use std::alloc::{AllocError, AllocFailed};
 use std::fmt;
@@ -18,8 +18,19 @@ pub enum LoadFault {
     Pdb(Error),
     /// The sources of an OMAP decrease.
     AddressTableDecreases,
-    /// The file holds what isn't answered yet.
-    NotYet,
+    /// Out of memory.
+    OutOfMemory,
+}
+
+/// Why the lines of an input weren't all answered.
+#[derive(Debug, Drop, PartialEq)]
+pub enum InputFault {
+    /// A read failed so.
+    Read(ErrorKind),
+    /// A write failed so.
+    Write(ErrorKind),
+    /// The input has more bytes than may be read.
+    InputTooLong,
     /// Out of memory.
     OutOfMemory,
 }
@@ -97,25 +108,40 @@ impl From<LoadFault> for RunFault {
     }
 }
 
-/// How a run ends where a read failed: out of memory is a fault of its own.
-pub fn read_fault(kind: ErrorKind) -> RunFault
+impl From<InputFault> for RunFault {
+    ghost use Rattle.pdb_report.specs.RunFaults.{run_fault_of_input};
+
+    ghost from_gives = { λ fault e. e ≡ run_fault_of_input fault };
+
+    fn from(fault: InputFault) -> RunFault {
+        match fault {
+            InputFault::Read(kind) => RunFault::Read(kind),
+            InputFault::Write(kind) => RunFault::Write(kind),
+            InputFault::InputTooLong => RunFault::InputTooLong,
+            InputFault::OutOfMemory => RunFault::OutOfMemory,
+        }
+    }
+}
+
+/// How answering an input ends where a read failed: out of memory is a fault of its own.
+pub fn read_fault(kind: ErrorKind) -> InputFault
     ensures value { result ≡ read_fault_of kind }
     ensures kind { IsOfRunning result }
 {
     match kind {
-        ErrorKind::OutOfMemory => RunFault::OutOfMemory,
-        _ => RunFault::Read(kind),
+        ErrorKind::OutOfMemory => InputFault::OutOfMemory,
+        _ => InputFault::Read(kind),
     }
 }
 
-/// How a run ends where a write failed: out of memory is a fault of its own.
-pub fn write_fault(kind: ErrorKind) -> RunFault
+/// How answering an input ends where a write failed: out of memory is a fault of its own.
+pub fn write_fault(kind: ErrorKind) -> InputFault
     ensures value { result ≡ write_fault_of kind }
     ensures kind { IsOfWriting result }
 {
     match kind {
-        ErrorKind::OutOfMemory => RunFault::OutOfMemory,
-        _ => RunFault::Write(kind),
+        ErrorKind::OutOfMemory => InputFault::OutOfMemory,
+        _ => InputFault::Write(kind),
     }
 }
 
@@ -174,7 +200,6 @@ impl fmt::Display for LoadFault {
             }
             LoadFault::Pdb(cause) => f.write_str(plain_name(cause)),
             LoadFault::AddressTableDecreases => f.write_str("AddressTableDecreases"),
-            LoadFault::NotYet => f.write_str("NotYet"),
             LoadFault::OutOfMemory => f.write_str("OutOfMemory"),
         }
     }

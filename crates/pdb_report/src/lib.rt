@@ -8,12 +8,8 @@ mod engine;
 mod fault;
 mod finish;
 mod line_start;
-mod loading;
-mod lookup;
-mod modules;
-mod other_symbols;
+mod lines;
 mod output;
-mod pdb_addr2line;
 mod report;
 mod symbolizer;
 mod texts;
@@ -24,10 +20,7 @@ pub use address::parse_address;
 pub use fault::{LoadFault, RunFault};
 pub use finish::finish_run;
 pub use output::ErrorOutput;
-pub use pdb_addr2line::Error;
+pub use pdb_addr2line::{Context, Error};
 pub use report::run_frames;
 pub use symbolizer::Symbolizer;
 pub use watched::Watched;
-
-#[cfg(test)]
-mod tests;

@@ -2,6 +2,7 @@
 
 ghost use Rattle.std.specs.Prelude.{◌≡◌, ℕ, ◌^◌, List, OnOk, OnErr, IfErr, IfSome, None, ◌⊎◌, length, take, ◌<◌, ◌≤◌};
 ghost use Rattle.pdb_report.specs.AddressText.{line_text};
+ghost use Rattle.pdb_report.specs.Answer.{answer};
 ghost use Rattle.pdb_report.specs.InputLines.{report, report_of_ended};
 ghost use Rattle.pdb_report.specs.Loading.{load_fault, IsFileFault};
 ghost use Rattle.pdb_report.specs.RunFaults.{OnLoad, OnRead, OnWrite, OnTooLong, OnMemory, UnlessLoad, IsOfFrames};
@@ -24,7 +25,7 @@ const INPUT_LIMIT: u64 = 1 << 30;
 /// # Errors
 /// `Load` where the file has a loading fault, and then nothing was read and nothing written; `Read` and `Write` where
 /// that end failed in this call; `InputTooLong` past 2^30 bytes of input; `OutOfMemory`.
-#[tactic(auto, using(crate::proofs::ShortLines::line_short, crate::proofs::OpeningSteps::run_refused))]
+#[tactic(auto, using(crate::proofs::ShortLines::line_short, crate::proofs::OpeningSteps::run_refused, crate::proofs::InputFaultSteps::on_read, crate::proofs::InputFaultSteps::on_write, crate::proofs::InputFaultSteps::on_too_long, crate::proofs::InputFaultSteps::of_frames, crate::proofs::InputFaultSteps::on_memory))]
 pub fn run_frames<R: Read, W: Write>(
     alloc: Global,
     bytes: Vec<u8>,
@@ -40,21 +41,28 @@ pub fn run_frames<R: Read, W: Write>(
     ensures memory { IfErr result (λ fault. OnMemory fault ((load_fault (streams bytes.items) ≡ None) ⊎ ((reader.new ≡ reader.old) × (writer.new ≡ writer.old)))) }
     // Where the run ends well, the report on the whole input is out, and neither end failed.
     ensures ok { OnOk result (IfSome (R.remaining (inner_of reader.old)) (λ input. (length input ≤ 2 ^ 30)
-        × Writes W.contents writer.old writer.new (report (line_text (streams bytes.items)) input))) }
+        × Writes W.contents writer.old writer.new (report (line_text (answer (streams bytes.items))) input))) }
     ensures quiet { OnOk result (IsQuiet reader.old reader.new × IsQuiet writer.old writer.new) }
     // A failed read or write is one of this call, with its kind.
     ensures read_fails { IfErr result (λ fault. OnRead fault (λ kind. CountsFailure reader.old reader.new kind)) }
     ensures write_fails { IfErr result (λ fault. OnWrite fault (λ kind. CountsFailure writer.old writer.new kind)) }
     // The complete lines before a failed read, and those of a too long input, are answered.
     ensures read_out { IfErr result (λ fault. OnRead fault (λ _. (taken : List ℕ) × Takes R.remaining reader.old reader.new taken
-        × Writes W.contents writer.old writer.new (report_of_ended (line_text (streams bytes.items)) taken))) }
+        × Writes W.contents writer.old writer.new (report_of_ended (line_text (answer (streams bytes.items))) taken))) }
     ensures too_long { IfErr result (λ fault. OnTooLong fault (IfSome (R.remaining (inner_of reader.old)) (λ input. (2 ^ 30 < length input)
-        × Writes W.contents writer.old writer.new (report_of_ended (line_text (streams bytes.items)) (take (2 ^ 30) input))))) }
+        × Writes W.contents writer.old writer.new (report_of_ended (line_text (answer (streams bytes.items))) (take (2 ^ 30) input))))) }
     // At every fault what is out is the front of the report.
-    ensures part { OnErr result (IfSome (R.remaining (inner_of reader.old)) (λ input. WritesFront W.contents writer.old writer.new (report (line_text (streams bytes.items)) input))) }
+    ensures part { OnErr result (IfSome (R.remaining (inner_of reader.old)) (λ input. WritesFront W.contents writer.old writer.new (report (line_text (answer (streams bytes.items))) input))) }
 {
-    match Symbolizer::open(alloc, bytes) {
-        Ok(mut symbolizer) => run(alloc, &mut symbolizer, reader, writer, INPUT_LIMIT),
+    let symbolizer = match Symbolizer::open(alloc, bytes) {
+        Ok(symbolizer) => symbolizer,
+        Err(fault) => return Err(RunFault::from(fault)),
+    };
+    match symbolizer.context(alloc) {
+        Ok(context) => match run(alloc, context, reader, writer, INPUT_LIMIT) {
+            Ok(()) => Ok(()),
+            Err(fault) => Err(RunFault::from(fault)),
+        },
         Err(fault) => Err(RunFault::from(fault)),
     }
 }

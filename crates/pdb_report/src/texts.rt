@@ -1,19 +1,21 @@
 //! The text of an answer.
 
-ghost use Rattle.std.specs.Prelude.{◌≡◌, ◌++◌, ◌∷◌, IfOk, OnOk, string_bytes, option_map, codes};
+ghost use Rattle.std.specs.Prelude.{◌≡◌, ◌++◌, ◌∷◌, IfOk, OnOk, Ok, Err, string_bytes, option_map, codes};
 ghost use Rattle.std.specs.List.{flat_map};
+ghost use Rattle.pdb_resolving.specs.Fault.{Fault};
 ghost use Rattle.pdb_report.specs.AddressText.{eight_digits, frame_text, answer_text, text_or};
-ghost use Rattle.pdb_report.specs.FramesAnswer.{answer_seen};
+ghost use Rattle.std.specs.Cow.{cow_str_bytes};
 
-use crate::pdb_addr2line::frames::{Frame, FunctionFrames};
+use pdb_addr2line::{Frame, FunctionFrames};
 use std::alloc::{AllocError, Global};
+use std::borrow::CowStr;
 
 /// Appends the line of a frame.
-fn append_frame(text: &mut String, frame: &Frame) -> Result<(), AllocError>
+fn append_frame(text: &mut String, frame: &Frame<'_>) -> Result<(), AllocError>
     ensures { OnOk result (string_bytes text.new ≡ string_bytes text.old ++ frame_text frame.now) }
 {
     let function = text_or_unknown(&frame.function);
-    let file = text_or_unknown(&frame.file);
+    let file = file_or_unknown(&frame.file);
     match frame.line {
         None => write!(text, "  {function} at {file}:??\n"),
         Some(line) => write!(text, "  {function} at {file}:{line}\n"),
@@ -30,10 +32,21 @@ fn text_or_unknown(text: &Option<String>) -> &str
     }
 }
 
+/// A file's name, or two question marks.
+fn file_or_unknown<'f>(file: &'f Option<CowStr<'_>>) -> &'f str
+    ensures { result.now ≡ text_or (option_map cow_str_bytes file.now) }
+{
+    match file {
+        None => "??",
+        Some(CowStr::Borrowed(name)) => *name,
+        Some(CowStr::Owned(name)) => name.as_str(),
+    }
+}
+
 /// Appends the lines of an answer.
 #[tactic(auto, unfolding(crate::specs::AddressText::answer_text))]
-fn append_answer(text: &mut String, answer: &Option<FunctionFrames>) -> Result<(), AllocError>
-    ensures { OnOk result (string_bytes text.new ≡ string_bytes text.old ++ answer_text (answer_seen answer.now)) }
+fn append_answer(text: &mut String, answer: &Option<FunctionFrames<'_>>) -> Result<(), AllocError>
+    ensures { OnOk result (string_bytes text.new ≡ string_bytes text.old ++ answer_text (Ok answer.now)) }
 {
     match answer {
         None => text.push_str("  ??\n"),
@@ -43,7 +56,7 @@ fn append_answer(text: &mut String, answer: &Option<FunctionFrames>) -> Result<(
 
 /// Appends the lines of frames.
 #[tactic(auto, using(crate::proofs::FrameSteps::lines_more, crate::proofs::FrameSteps::lines_all))]
-fn append_frames(text: &mut String, frames: &[Frame]) -> Result<(), AllocError>
+fn append_frames(text: &mut String, frames: &[Frame<'_>]) -> Result<(), AllocError>
     ensures { OnOk result (string_bytes text.new ≡ string_bytes text.old ++ flat_map frame_text frames.now) }
 {
     for frame in frames {
@@ -56,11 +69,19 @@ fn append_frames(text: &mut String, frames: &[Frame]) -> Result<(), AllocError>
 pub fn address_text(
     alloc: Global,
     address: u32,
-    answer: &Option<FunctionFrames>,
+    answer: &Option<FunctionFrames<'_>>,
 ) -> Result<String, AllocError>
-    ensures { IfOk result (λ t. string_bytes t ≡ codes "0x" ++ eight_digits address ++ 10 ∷ answer_text (answer_seen answer.now)) }
+    ensures { IfOk result (λ t. string_bytes t ≡ codes "0x" ++ eight_digits address ++ 10 ∷ answer_text (Ok answer.now)) }
 {
     let mut text = format!(in alloc; "0x{address:08x}\n")?;
     append_answer(&mut text, answer)?;
     Ok(text)
+}
+
+/// The lines of an address whose answer can't be read.
+#[tactic(auto, unfolding(crate::specs::AddressText::answer_text))]
+pub fn unreadable_text(alloc: Global, address: u32) -> Result<String, AllocError>
+    ensures { IfOk result (λ t. (e : Fault) → string_bytes t ≡ codes "0x" ++ eight_digits address ++ 10 ∷ answer_text (Err e)) }
+{
+    format!(in alloc; "0x{address:08x}\n  unreadable\n")
 }

@@ -8,8 +8,8 @@ ghost use Rattle.pdb_report.specs.ToldFault.{piece_text, text_of, fault_line, Pu
 
 use crate::fault::{LoadFault, RunFault, plain_name};
 use crate::output::ErrorOutput;
-use crate::pdb_addr2line::Error;
 use itoa::Buffer;
+use pdb_addr2line::Error;
 use pdb_container::{Error as PdbError, ModuleFault, kind_name};
 use std::io::ErrorKind;
 
@@ -239,7 +239,6 @@ fn load_told(fault: &LoadFault) -> Told<'_>
     match fault {
         LoadFault::Pdb(cause) => cause_told(cause),
         LoadFault::AddressTableDecreases => Told::plain("AddressTableDecreases"),
-        LoadFault::NotYet => Told::plain("NotYet"),
         LoadFault::OutOfMemory => Told::plain("OutOfMemory"),
     }
 }

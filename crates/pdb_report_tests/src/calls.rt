@@ -1,6 +1,6 @@
 //! The public calls, each once in ample memory, and printed faults.
 
-use crate::files::{F0, File, run_over, told};
+use crate::files::{File, run_over, told};
 use pdb_container::Error as Cause;
 use pdb_report::{Error, LoadFault, RunFault, Symbolizer, Watched, parse_address};
 use pdb_samples::Change;
@@ -10,10 +10,11 @@ use std::test::Fail;
 
 /// Whether a file is opened and reported on.
 fn is_answered(alloc: Global) -> Result<bool, Fail> {
-    Symbolizer::open(alloc, F0.made(alloc)?)?;
-    let run = run_over(alloc, F0.made(alloc)?, b"1014\n".as_slice());
+    let file = File::With(Change::LineData);
+    Symbolizer::open(alloc, file.made(alloc)?)?;
+    let run = run_over(alloc, file.made(alloc)?, b"1014\n".as_slice());
     run.outcome?;
-    Ok(run.report.as_slice() == b"0x00001014\n  f at ??:??\n".as_slice())
+    Ok(run.report.as_slice() == b"0x00001014\n  f at a.c:5\n".as_slice())
 }
 
 /// Whether three bytes are read and written.

@@ -1,7 +1,9 @@
-use Rattle.std.proofs.Common.{◌∙◌, ap}
+use Rattle.std.proofs.Common.{◌∙◌, refl, sym, ap}
 use Rattle.std.proofs.lemmas.Result.{err_from_is_err_and}
+use Rattle.pdb_addresses.specs.Addresses.{is_ordered}
+use Rattle.pdb_addr2line.specs.Loading.{Tables}
 use Rattle.pdb_symbols_modules.specs.Streams.{streams}
-use Rattle.pdb_report.proofs.OpeningSteps.{dbi_fails, parts_fail, modules_are_ill, is_kept}
+use Rattle.pdb_report.proofs.OpeningSteps.{dbi_fails, tables_fail, order_fails, list_fails, parts_fail, kept_ordered, is_kept}
 use Rattle.pdb_report.proofs.symbolizer.load.Goals as goal
 
 pub returns-in_err-debug_information-clause-err : goal.returns-in_err-debug_information-clause-err
@@ -9,31 +11,44 @@ returns-in_err-debug_information-clause-err c =
     let p = err_from_is_err_and c.from_residual.result c.from_residual.ensures.1 in
     rw (p.1, p.2) (dbi_fails (streams c.args.pdb.items) c.in_err-debug_information.field-0.0 c.requires c.in_err-debug_information.ensures.exact)
 
-pub returns-in_err-parts-clause-err : goal.returns-in_err-parts-clause-err
-returns-in_err-parts-clause-err c =
-    let p = err_from_is_err_and c.from_residual-in_err-parts.result c.from_residual-in_err-parts.ensures.1 in
-    let failed = rw c.debug_information.ensures.same at c.in_err-parts.ensures.exact in
-    rw (p.1, p.2) (parts_fail (streams c.args.pdb.items) c.in_err-parts.field-0.0 c.in_ok-debug_information.debug_information c.requires c.in_ok-debug_information.ensures.exact failed)
+pub returns-in_err-tables-clause-err : goal.returns-in_err-tables-clause-err
+returns-in_err-tables-clause-err c =
+    let p = err_from_is_err_and c.from_residual-in_err-tables.result c.from_residual-in_err-tables.ensures.1 in
+    let failed = rw c.debug_information.ensures.same at c.in_err-tables.ensures.exact in
+    rw (p.1, p.2) (tables_fail (streams c.args.pdb.items) c.in_err-tables.field-0.0 c.in_ok-debug_information.debug_information c.requires c.in_ok-debug_information.ensures.exact failed)
 
-pub returns-in_err-check_modules-clause-err : goal.returns-in_err-check_modules-clause-err
-returns-in_err-check_modules-clause-err c =
-    let p = err_from_is_err_and c.from_residual-in_err-check_modules.result c.from_residual-in_err-check_modules.ensures.1 in
-    let load = rw c.debug_information.ensures.same at c.in_ok-parts.ensures.exact in
-    let same = c.load_parts.ensures.same ∙ c.debug_information.ensures.same in
-    let entries = c.as_slice.ensures.value ∙ ap (λ q. q.modules) c.parts.view_is in
-    let failed = rw (same, entries) at c.in_err-check_modules.ensures.exact in
-    rw (p.1, p.2) (modules_are_ill (streams c.args.pdb.items) c.in_err-check_modules.field-0.0 c.in_ok-debug_information.debug_information c.in_ok-parts.parts c.requires c.in_ok-debug_information.ensures.exact load failed)
+pub returns-then-not-is_ordered-clause-err : goal.returns-then-not-is_ordered-clause-err
+returns-then-not-is_ordered-clause-err c =
+    let read = rw c.debug_information.ensures.same at c.in_ok-tables.ensures.exact in
+    order_fails (streams c.args.pdb.items) c.in_ok-debug_information.debug_information c.in_ok-tables.tables c.requires c.in_ok-debug_information.ensures.exact read
+    (sym (c.if-not-is_ordered.ensures.value ∙ ap (λ (t : Tables). is_ordered t.map) c.tables.view_is))
+
+pub returns-in_err-held-clause-err : goal.returns-in_err-held-clause-err
+returns-in_err-held-clause-err c =
+    let p = err_from_is_err_and c.from_residual-in_err-held.result c.from_residual-in_err-held.ensures.1 in
+    let read = rw c.debug_information.ensures.same at c.in_ok-tables.ensures.exact in
+    rw (p.1, p.2) (list_fails (streams c.args.pdb.items) c.in_err-held.field-0.0 c.in_ok-debug_information.debug_information c.in_ok-tables.tables c.requires c.in_ok-debug_information.ensures.exact read
+    (sym (c.if-not-is_ordered.ensures.value ∙ ap (λ (t : Tables). is_ordered t.map) c.tables.view_is)) c.in_err-held.ensures.loads.exact)
+
+pub check_context-requires : goal.check_context-requires
+check_context-requires c =
+    kept_ordered c.in_ok-debug_information.debug_information c.in_ok-tables.tables c.in_ok-held.held (rw (ap (λ (t : Tables). t.map) c.tables.view_is) at (c.if-not-is_ordered.ensures.meaning.0 refl)) c.in_ok-held.ensures.loads.exact
+
+pub returns-in_err-check_context-clause-err : goal.returns-in_err-check_context-clause-err
+returns-in_err-check_context-clause-err c =
+    let p = err_from_is_err_and c.from_residual-in_err-check_context.result c.from_residual-in_err-check_context.ensures.1 in
+    let read = rw c.debug_information.ensures.same at c.in_ok-tables.ensures.exact in
+    let same = c.read_tables.ensures.same ∙ c.debug_information.ensures.same in
+    let own = rw same at c.in_ok-held.ensures.own in
+    rw (p.1, p.2) (parts_fail (streams c.args.pdb.items) c.in_err-check_context.field-0.0 c.in_ok-debug_information.debug_information c.in_ok-tables.tables c.in_ok-held.held c.requires c.in_ok-debug_information.ensures.exact read
+    (sym (c.if-not-is_ordered.ensures.value ∙ ap (λ (t : Tables). is_ordered t.map) c.tables.view_is)) c.in_ok-held.ensures.loads.exact own c.in_err-check_context.ensures)
 
 pub invariant_of-result : goal.invariant_of-result
 invariant_of-result c =
-    let load = rw c.debug_information.ensures.same at c.in_ok-parts.ensures.exact in
-    let same = c.load_parts.ensures.same ∙ c.debug_information.ensures.same in
-    let checked = c.check_modules.ensures.same ∙ same in
-    let entries = c.as_slice.ensures.value ∙ ap (λ q. q.modules) c.parts.view_is in
-    let plain = rw (same, entries) at c.in_ok-check_modules.ensures.exact in
-    let entries_too = c.as_slice-2.ensures.value ∙ ap (λ q. q.modules) c.parts.view_is in
-    let held = c.as_slice-3.ensures.value ∙ ap (λ q. q.contributions) c.parts.view_is in
-    let found = rw (checked, entries_too, held) at c.in_ok-modules.ensures.kept in
-    let kept = is_kept c.args.pdb.items c.in_ok-debug_information.debug_information c.in_ok-parts.parts c.in_ok-modules.modules tt c.requires c.in_ok-debug_information.ensures.exact load c.in_ok-parts.ensures.modules plain found
-    c.in_ok-parts.ensures.ordered in
-    rw (c.read_held_modules.ensures.same, checked, ap (λ q. q.map) c.parts.view_is, ap (λ q. q.contributions) c.parts.view_is) kept
+    let read = rw c.debug_information.ensures.same at c.in_ok-tables.ensures.exact in
+    let same = c.read_tables.ensures.same ∙ c.debug_information.ensures.same in
+    let own = rw same at c.in_ok-held.ensures.own in
+    let map_is = ap (λ (t : Tables). t.map) c.tables.view_is in
+    let kept = is_kept c.args.pdb.items c.in_ok-debug_information.debug_information c.in_ok-tables.tables c.in_ok-held.held tt c.requires c.in_ok-debug_information.ensures.exact read
+    (sym (c.if-not-is_ordered.ensures.value ∙ ap (λ (t : Tables). is_ordered t.map) c.tables.view_is)) (rw map_is at (c.if-not-is_ordered.ensures.meaning.0 refl)) c.in_ok-held.ensures.loads.exact own c.in_ok-check_context.ensures in
+    rw (c.try_from_tables.ensures.loads.same ∙ same) kept

@@ -1,0 +1,70 @@
+-- The answer for an address of a file's image: its function with its frames.
+use Rattle.std.specs.Prelude.{◌≡◌, ℕ, Option, None, Result, Ok, Err}
+use Rattle.pdb_symbols_modules.specs.Machine.{machine_of}
+use Rattle.pdb_symbols_modules.specs.Modules.{modules_of}
+use Rattle.pdb_symbols_modules.specs.Shared.{shared}
+use Rattle.pdb_symbols_modules.specs.Streams.{Streams}
+use Rattle.pdb_resolving.specs.Fault.{Fault}
+use Rattle.pdb_resolving.specs.Resolving.{Provided}
+use Rattle.pdb_type_sizes.specs.Reading.{pointer_bytes}
+use Rattle.pdb_type_text.specs.Formatting.{Formatting}
+use Rattle.pdb_context.specs.Choice.{Scope}
+use Rattle.pdb_context.specs.Context.{Context, scope_of, scope_in}
+use Rattle.pdb_context.specs.Frames.{Function, FunctionFrames, frames, function}
+use Rattle.pdb_addr2line.specs.Held.{given, names_in}
+use Rattle.pdb_report.specs.Faults.{LoadingFault}
+use Rattle.pdb_report.specs.Loading.{Loaded, loaded}
+
+-- what a file gives of the module of a number, whatever its entry; a fault says that it was kept
+abbrev pub given_in : Streams → Provided
+given_in s number entry = given s number
+
+-- what names of types and ids are made of, with the default flags
+abbrev pub formatting_in : Streams → Loaded → Formatting Streams
+formatting_in s l = record {
+  reading = record {
+    modules = record { provider = s; entries = (modules_of l.debug_information.modules).items; names = names_in s };
+    types = l.tables.types;
+    ids = l.tables.ids;
+    pointer_size = pointer_bytes (machine_of l.debug_information.machine);
+  };
+  flags = 23;
+}
+
+-- what an answer in the module of a number depends on
+unfoldable pub scope : Streams → Loaded → ℕ → Scope
+scope s l = scope_of given_in s (formatting_in s l)
+
+-- the answer by what was loaded: nothing, or a function with its frames; a fault is that of the first part of the module's data
+-- that can't be read
+abbrev pub answer_by : Streams → Result Loaded LoadingFault → ℕ → Result (Option FunctionFrames) Fault
+answer_by s (Err e) a = Ok None
+answer_by s (Ok l) a = frames l.parts (scope s l) a
+
+-- the answer for an address of the image
+unfoldable pub answer : Streams → ℕ → Result (Option FunctionFrames) Fault
+answer s = answer_by s (loaded (shared s))
+
+-- the function by what was loaded
+abbrev pub function_by : Streams → Result Loaded LoadingFault → ℕ → Option Function
+function_by s (Err e) a = None
+function_by s (Ok l) a = function l.parts (scope s l) a
+
+-- the function at an address of the image
+unfoldable pub function_at : Streams → ℕ → Option Function
+function_at s = function_by s (loaded (shared s))
+
+-- ---- by a context
+
+-- the answer of a context for an address
+abbrev pub answer_of : {P : Type 0} → (P → Provided) → Context P → ℕ → Result (Option FunctionFrames) Fault
+answer_of provided c a = frames c.parts (scope_in provided c) a
+
+-- the function of a context at an address
+abbrev pub function_of : {P : Type 0} → (P → Provided) → Context P → ℕ → Option Function
+function_of provided c a = function c.parts (scope_in provided c) a
+
+-- A context answers as the file does.
+pub record AnswersAs {P : Type 0} (provided : P → Provided) (s : Streams) (c : Context P) : Type 0 where
+  pub frames : answer_of provided c ≡ answer s
+  pub functions : function_of provided c ≡ function_at s

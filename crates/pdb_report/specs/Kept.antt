@@ -1,0 +1,24 @@
+-- What is kept of a file that was loaded.
+use Rattle.std.specs.Prelude.{◌≡◌, ℕ, List, Ok}
+use Rattle.pdb_addresses.specs.Addresses.{IsOrdered}
+use Rattle.pdb_symbols_modules.specs.Shared.{shared}
+use Rattle.pdb_symbols_modules.specs.Streams.{streams}
+use Rattle.pdb_resolving.specs.Resolving.{Provided}
+use Rattle.pdb_context.specs.Choice.{Parts}
+use Rattle.pdb_addr2line.specs.Formatters as kept
+use Rattle.pdb_addr2line.specs.Held.{Held, given, names_in}
+use Rattle.pdb_addr2line.specs.Kept.{KeptInfo, answered_at}
+use Rattle.pdb_report.specs.Loading.{loaded}
+
+-- what is kept gives of the module of a number, whatever its entry
+abbrev pub answered_in : List KeptInfo → Provided
+answered_in infos number entry = answered_at infos number
+
+-- What is kept is the file's: what was loaded, the string table, and what is given of each module.
+pub record IsKept (file : List ℕ) (h : Held) : Type 0 where
+  pub parts : Parts
+  pub loaded_is : loaded (shared (streams file)) ≡ Ok record { debug_information = h.debug_information; tables = h.tables; parts = parts }
+  pub parts_are : kept.parts_in h ≡ Ok parts
+  pub ordered : IsOrdered h.tables.map
+  pub names_are : h.names ≡ names_in (streams file)
+  pub modules_are : (number : ℕ) → answered_at h.infos number ≡ given (streams file) number

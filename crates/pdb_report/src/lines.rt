@@ -1,0 +1,55 @@
+//! What is written for a line of the input, by a context.
+
+ghost use Rattle.std.specs.Prelude.{◌≡◌, IfOk, Some, string_bytes};
+ghost use Rattle.pdb_report.specs.Answer.{answer_of};
+ghost use Rattle.pdb_report.specs.AddressText.{line_text as text_of_line, text_at};
+
+use crate::address::parse_address;
+use crate::answers::Answers;
+use crate::texts::{address_text, unreadable_text};
+use pdb_addr2line::{Context, Error, ModuleProvider};
+use std::alloc::{AllocError, Global};
+
+/// What is written for an address.
+fn address_lines<P: ModuleProvider>(
+    alloc: Global,
+    context: &mut Context<'_, '_, P>,
+    address: u32,
+) -> Result<String, AllocError>
+    ensures same { context.new ≡ context.old }
+    ensures text { IfOk result (λ t. string_bytes t ≡ text_at (answer_of P.provided context.old) (Some address)) }
+{
+    match context.find_frames(alloc, address) {
+        Ok(found) => address_text(alloc, address, &found),
+        Err(Error::OutOfMemory) => Err(AllocError),
+        Err(_) => unreadable_text(alloc, address),
+    }
+}
+
+/// What is written for a line of the input.
+#[tactic(auto, unfolding(crate::specs::AddressText::line_text))]
+fn line_text<P: ModuleProvider>(
+    alloc: Global,
+    context: &mut Context<'_, '_, P>,
+    line: &[u8],
+) -> Result<String, AllocError>
+    ensures same { context.new ≡ context.old }
+    ensures text { IfOk result (λ t. string_bytes t ≡ text_of_line (answer_of P.provided context.old) line.now) }
+{
+    match parse_address(line) {
+        None => String::from_str(alloc, "not an address\n"),
+        Some(address) => address_lines(alloc, context, address),
+    }
+}
+
+impl<'a, 's, P: ModuleProvider> Answers for Context<'a, 's, P> {
+    ghost use Rattle.pdb_report.specs.AddressText.{line_text};
+    ghost use Rattle.pdb_report.specs.Answer.{answer_of};
+
+    ghost text = { λ c line. line_text (answer_of P.provided c) line };
+
+    fn answer(&mut self, alloc: Global, line: &[u8]) -> Result<Vec<u8>, AllocError> {
+        let text = line_text(alloc, self, line)?;
+        Ok(text.into_bytes())
+    }
+}

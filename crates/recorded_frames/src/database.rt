@@ -1,0 +1,45 @@
+//! The files of program databases.
+
+use anyhow::{Context, Result, ensure};
+use std::alloc::Global;
+use std::fs;
+use std::rt::Files;
+
+/// The bytes of a program database, of its own file or of a text of that.
+pub fn database_bytes(rt: &(impl Files + AllocGlobal), file: &str) -> Result<Vec<u8>> {
+    if file.ends_with(".pdb") {
+        return fs::read(rt, file).context(format_args!("reading {file}"));
+    }
+    let text = fs::read_to_string(rt, file).context(format_args!("reading {file}"))?;
+    bytes_of(rt.alloc(), text.as_str()).context(format_args!("the text {file}"))
+}
+
+/// The bytes that a text tells: their number in the first line, and in each other a place and what stands there.
+fn bytes_of(alloc: Global, text: &str) -> Result<Vec<u8>> {
+    let (length, lines) = text.split_once('\n').context("a line is needed")?;
+    let length = length
+        .strip_prefix("length ")
+        .context("a length is needed")?;
+    let mut bytes = vec![in alloc; 0u8; length.parse::<usize>()?]?;
+    for line in lines.lines() {
+        write_line(alloc, &mut bytes, line)?;
+    }
+    Ok(bytes)
+}
+
+/// Writes the bytes of a line where they stand.
+fn write_line(alloc: Global, bytes: &mut [u8], line: &str) -> Result<()> {
+    let (place, digits) = line
+        .split_once(' ')
+        .context("a place and bytes are needed")?;
+    let place = usize::from_str_radix(place, 16)?;
+    let piece = hex::decode(alloc, digits)?;
+    let (_, rest) = bytes
+        .split_at_mut_checked(place)
+        .context("the place lies past the end")?;
+    ensure!(piece.len() <= rest.len(), "the bytes reach past the end");
+    for (old, new) in rest.iter_mut().zip(&piece) {
+        *old = *new;
+    }
+    Ok(())
+}
