@@ -17,6 +17,7 @@ use Rattle.pdb_records.specs.IdRecords.{function_id_at, id_form_behind, id_form_
 use Rattle.pdb_records.specs.TypeLeaves.{aggregate_at, type_at as plain_type_at, base_at, plain_at, type_form_behind, type_form_of}
 use Rattle.pdb_records.specs.TypeRecords.{procedure_at, argument_list_at}
 use Rattle.pdb_items.specs.Items.{header_at, fitting_header, item_header_of, table_of, item_number, piece_at, items_within, items_from, item_at}
+use Rattle.pdb_addresses.specs.Omap.{omap_record_at, omap_of}
 use Rattle.pdb_addresses.specs.Sections.{section_header_at}
 use Rattle.pdb_annotations.specs.Annotations.{with_length_at, with_operand_at, behind_opcode, annotation_or_end, annotations_of}
 use Rattle.pdb_annotations.specs.Numbers.{compressed_at}
@@ -29,7 +30,7 @@ use Rattle.pdb_lines.specs.LinesSubsections.{lines_subsection_of, program_of}
 use Rattle.pdb_inlinees.specs.InlinedRows.{place_behind, line_behind, last_line_behind, last_column_behind, row_behind, length_by, length_behind, row_of, rows_behind, all_rows}
 use Rattle.pdb_inlinees.specs.Inlinees.{inlinee_at, inlinees_of}
 use Rattle.pdb_modules.specs.ModuleStream.{signed, symbol_list_bytes, line_data_in, line_program_in, subsection_in, inlinees_in}
-use Rattle.pdb_symbols_modules.specs.AddressTables.{sections_by, original_sections_by, address_map_by}
+use Rattle.pdb_symbols_modules.specs.AddressTables.{map_behind, sections_by, original_sections_by, address_map_by}
 use Rattle.pdb_symbols_modules.specs.Contributions.{contribution_at, contributions_of}
 use Rattle.pdb_symbols_modules.specs.DatabaseCalls.{debug_information, types, ids, global_symbols_by, names}
 use Rattle.pdb_symbols_modules.specs.Dbi.{header_of, dbi_of}
@@ -82,3 +83,7 @@ nested_sites = refl
 pub public_beside : report (line_text (answer (streams samples.public_beside))) (codes "1036\n") ≡ codes "0x00001036\n  ?p@@YAXXZ at a.c:7\n"
 unfolding samples.public_beside public_of count_ones header_of dbi_of debug_information header_at fitting_header item_header_of table_of types ids global_symbols_by items_read entries_within section_header_at sections_by original_sections_by address_map_by optional_at front_in first_words behind_header header_in layout_of bytes_at page_places directory_of stream_pages_in stream_in stream if_named optional_in tables_read listing_within c_string_at module_at listed_read place_at symbol_name_at optional_index_at index_at type_index_at procedure_symbol_at end_form form_of symbol_form_of symbol_at next_within next symbols_within symbols_from contribution_at contributions_of held_by held_of parts_of names_of names loaded_behind loaded_open loaded named information_of many_at name_in stream_name_at stream_names_of number_of named_number symbols_number optional_number shared signed symbol_list_bytes data_of_stream line_data_in lines_subsection_of subsection_at program_of line_program_in subsection_in inlinees_of inlinees_in extended_of block_in block_at body_within body procedure_calls file_at file_in frames_in_data frames_at frames answer_text line_text module_of_number info_in info_from module_number module_bytes provider scope answer streams digits padded_integral char_count chars is_utf8 encode_utf8 utf8_valid_len utf8_lossy
 public_beside = refl
+
+pub moved_code : report (line_text (answer (streams samples.moved_code))) (codes "2004\n2008\n") ≡ codes "0x00002004\n  f at a.c:5\n0x00002008\n  ??\n"
+unfolding samples.moved_code count_ones header_of dbi_of debug_information header_at fitting_header item_header_of table_of types ids global_symbols_by items_read entries_within section_header_at sections_by original_sections_by address_map_by optional_at omap_record_at omap_of map_behind front_in first_words behind_header header_in layout_of bytes_at page_places directory_of stream_pages_in stream_in stream if_named optional_in tables_read listing_within c_string_at module_at listed_read place_at symbol_name_at optional_index_at index_at type_index_at procedure_symbol_at end_form form_of symbol_form_of symbol_at next_within next symbols_within symbols_from contribution_at contributions_of held_by held_of parts_of names_of names loaded_behind loaded_open loaded named information_of many_at name_in stream_name_at stream_names_of number_of named_number symbols_number optional_number shared signed symbol_list_bytes data_of_stream line_data_in lines_subsection_of subsection_at program_of line_program_in subsection_in inlinees_of inlinees_in extended_of block_in block_at body_within body procedure_calls file_at file_in frames_in_data frames_at frames answer_text line_text module_of_number info_in info_from module_number module_bytes provider scope answer streams digits padded_integral char_count chars is_utf8 encode_utf8 utf8_valid_len utf8_lossy
+moved_code = refl

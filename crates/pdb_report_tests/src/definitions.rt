@@ -35,6 +35,12 @@ pub fn public_beside()
         ≡ codes "0x00001036\n  ?p@@YAXXZ at a.c:7\n" }
 {}
 
+/// An address of moved code has the line of where that code was, and one behind it nothing.
+pub fn moved_code()
+    ensures { report (line_text (answer (streams samples.moved_code))) (codes "2004\n2008\n")
+        ≡ codes "0x00002004\n  f at a.c:5\n0x00002008\n  ??\n" }
+{}
+
 /// Four bytes that begin an ELF file are no program database.
 pub fn elf()
     ensures { load_fault (streams samples.elf) ≡ Some (Pdb (PdbError UnrecognizedFileFormat)) }

@@ -1,0 +1,5 @@
+use Rattle.pdb_report_tests.proofs.RowFacts as facts
+use Rattle.pdb_report_tests.proofs.definitions.moved_code.Goals as goal
+
+pub returns : goal.returns
+returns c = facts.moved_code
