@@ -59,7 +59,7 @@ map_more f (x ∷ modules) m = ap (λ rest. f x ∷ rest) (map_more f modules m)
 
 -- one module more was kept behind those before it
 pub infos_more : (s : Streams) (modules : List Module) (i : ℕ) (m : Module) (infos : List KeptInfo) (k : KeptInfo) (a b c : ℕ) → i < length modules → m ≡ get_or modules i m → a ≤ b → b ≤ c
-    → (HasRisen a b ⊎ (infos ≡ kept_infos s (take i modules))) → (HasRisen b c ⊎ (k ≡ kept_info (module_info s m)))
+    → (HasRisen a b ⊎ (infos ≡ kept_infos s (take i modules))) → (HasRisen a c ⊎ (k ≡ kept_info (module_info s m)))
     → HasRisen a c ⊎ (infos ++ k ∷ [] ≡ kept_infos s (take (i + 1) modules))
 infos_more s modules i m infos k a b c lt is first then_more (inl h) new = inl (omega arith)
 infos_more s modules i m infos k a b c lt is first then_more (inr h) (inl new) = inl (omega arith)

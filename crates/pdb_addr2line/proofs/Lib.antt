@@ -2,3 +2,4 @@ pub mod HeldSteps
 pub mod KeptSteps
 pub mod OpenFiles
 pub mod Refusals
+pub mod SharedStreams

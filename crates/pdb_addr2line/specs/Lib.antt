@@ -4,3 +4,4 @@ pub mod Kept
 pub mod Loading
 pub mod Provided
 pub mod Refused
+pub mod Sharing

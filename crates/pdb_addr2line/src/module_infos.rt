@@ -1,9 +1,10 @@
 //! What is kept of the modules' own streams.
 
-ghost use Rattle.std.specs.Prelude.{◌≡◌, ◌≤◌, ◌⊎◌, IfOk, Ok, None};
+ghost use Rattle.std.specs.Prelude.{ℕ, ◌≡◌, ◌≤◌, ◌⊎◌, IfOk, IsOkUnless, Ok, None};
 ghost use Rattle.pdb_addr2line.specs.Held.{kept_infos};
 ghost use Rattle.pdb_addr2line.specs.Kept.{kept_info, kept_as, KeepsFrom};
 ghost use Rattle.pdb_addr2line.specs.Loading.{listed};
+ghost use Rattle.pdb_addr2line.specs.Sharing.{in_parts_of, AreOfStreams, IsShared};
 ghost use Rattle.pdb_container.specs.Fault.{Gives, HasRisen, kept_of};
 ghost use Rattle.pdb_container.specs.Listing.{whole};
 ghost use Rattle.pdb_symbols_modules.specs.Modules.{modules_of};
@@ -16,6 +17,7 @@ use pdb_modules::ModuleInfo;
 use pdb_resolving::ModuleProvider;
 use pdb_symbols_modules::{DebugInformation, Module, ModuleIter, PDB};
 use std::alloc::Global;
+use std::collections::BTreeMap;
 use std::marker::Model;
 
 /// What is kept of a module: its own stream, where it has one, or why that can't be read.
@@ -108,6 +110,53 @@ fn read_info<'s, S: Source + Drop>(
     }
 }
 
+/// Streams of modules that were read, by their numbers, as they were kept of the first module that names each.
+type ReadStreams<'s> = BTreeMap<u16, KeptInfo<'s>>;
+
+/// What is kept of a module, by what is kept of another one that names the same stream. The bytes are held in common.
+/// `OutOfMemory` alone.
+fn share_info<'s>(kept: &KeptInfo<'s>, entry: &Module<'_>) -> Result<KeptInfo<'s>>
+    ensures { Gives (λ k. k) ⊥ result (Ok (in_parts_of entry.now kept.now)) }
+{
+    match kept {
+        Ok(None) => Ok(Ok(None)),
+        Ok(Some(info)) => {
+            let info = info.with_sizes(
+                entry.symbols_size(),
+                entry.c11_lines_size(),
+                entry.c13_lines_size(),
+            )?;
+            Ok(Ok(Some(info)))
+        }
+        Err(fault) => Ok(Err(*fault)),
+    }
+}
+
+/// A module's own stream, or why it can't be read; a stream that another module named before isn't read again. `OutOfMemory`
+/// alone.
+fn keep_info<'s, S: Source + Drop>(
+    pdb: &mut PDB<'s, S>,
+    alloc: Global,
+    read: &mut ReadStreams<'s>,
+    entry: &Module<'_>,
+) -> Result<KeptInfo<'s>>
+    requires { (streams (S.bytes pdb.old)).open_fault ≡ None }
+    ensures same { S.bytes pdb.new ≡ S.bytes pdb.old }
+    ensures counts { S.failures pdb.old ≤ S.failures pdb.new }
+    ensures memory { IsOkUnless result Error.OutOfMemory }
+    ensures shared { IfOk result (λ k. (before : ℕ) → before ≤ S.failures pdb.old → AreOfStreams (streams (S.bytes pdb.old)) (HasRisen before (S.failures pdb.old)) read.old
+        → IsShared (streams (S.bytes pdb.old)) entry.now (HasRisen before (S.failures pdb.new)) k read.new) }
+{
+    let number = entry.stream().0;
+    if let Some(kept) = read.get(&number) {
+        return share_info(kept, entry);
+    }
+    let first = read_info(pdb, alloc, entry)?;
+    let info = share_info(&first, entry)?;
+    read.insert(number, first)?;
+    Ok(info)
+}
+
 /// The own streams of these modules, each or why it can't be read. `OutOfMemory` alone.
 fn read_infos<'s, S: Source + Drop>(
     pdb: &mut PDB<'s, S>,
@@ -118,8 +167,9 @@ fn read_infos<'s, S: Source + Drop>(
     ensures { KeepsFrom S.bytes S.failures pdb.old pdb.new (λ v. v.items) result (kept_infos (streams (S.bytes pdb.old)) entries.now) }
 {
     let mut infos = Vec::new(alloc);
+    let mut read = BTreeMap::new(alloc);
     for entry in entries {
-        infos.push(read_info(pdb, alloc, entry)?)?;
+        infos.push(keep_info(pdb, alloc, &mut read, entry)?)?;
     }
     Ok(infos)
 }

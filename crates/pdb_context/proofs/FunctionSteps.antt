@@ -21,8 +21,11 @@ use Rattle.pdb_container.specs.declared.error.Error.TheVariants as causes
 use Rattle.pdb_resolving.specs.declared.error.Error.{Error}
 use Rattle.pdb_resolving.specs.declared.error.Error.TheVariants as errors
 use Rattle.pdb_resolving.specs.Fault.{Fault, Fails}
+use Rattle.pdb_resolving.specs.Resolving.{Provided}
+use Rattle.pdb_functions.specs.FunctionOrder.{Function}
 use Rattle.pdb_context.specs.Choice.{Parts, Scope}
-use Rattle.pdb_context.specs.Frames.{Function, function}
+use Rattle.pdb_context.specs.Context.{Context, scope_in, uncounted}
+use Rattle.pdb_context.specs.Frames.{function}
 use Rattle.pdb_context.specs.FunctionList.{if_any, addresses_of, procedure_starts_from, is_among, IsAscending, functions_at, FunctionsLeft, functions_left, none_left, GivesFunction}
 use Rattle.pdb_context.specs.Modules.{module_data, procedures_in}
 
@@ -162,6 +165,10 @@ Answer there found = answer_of there ≡ answer_of found
 same_ok : (x y : Option Function) → Answer x y → x ≡ y
 same_ok x y same = cc
 
+-- a context that differs in its count alone has the same functions
+pub function_same : {P : Type 0} (provided : P → Provided) (c d : Context P) (a : ℕ) → uncounted c ≡ uncounted d → answer_of (function c.parts (scope_in provided c) a) ≡ answer_of (function d.parts (scope_in provided d) a)
+function_same {P} provided c d a same = ap (λ (k : Context P). answer_of (function k.parts (scope_in provided k) a)) same
+
 module _ (p : Parts) (scope : ℕ → Scope) where
   first_address : (addresses : List ℕ) (next : ℕ) → next < length addresses → functions_at p scope (drop next addresses) ≡ if_any (function p scope (get_or addresses next 0)) ++ functions_at p scope (drop (next + 1) addresses)
   first_address addresses next lt = ap (functions_at p scope) (drop_more addresses next 0 lt)
@@ -189,4 +196,5 @@ ok_is_not_err {A} {x} {e} h = cc
 pub fails_gives : {A : Type 0} (old : FunctionsLeft) (e : Error) (new : FunctionsLeft) (x : A) → Fails e (Ok x) → new ≡ none_left → GivesFunction old (Some (Err e)) new
 fails_gives old errors.OutOfMemory new x h none = none
 fails_gives old (errors.PdbError causes.OutOfMemory) new x h none = h
+fails_gives old (errors.FormatError cause) new x h none = h
 fails_gives old e new x h none = absurd (ok_is_not_err h)

@@ -1,2 +1,4 @@
 pub mod FunctionSteps
+pub mod NextBounds
+pub mod RunLaw
 pub mod SitesSteps

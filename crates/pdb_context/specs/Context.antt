@@ -1,5 +1,5 @@
 -- A context as the definitions see it, and what it is made of.
-use Rattle.std.specs.Prelude.{ℕ, List, ◌++◌, Option, Result, Ok}
+use Rattle.std.specs.Prelude.{ℕ, ◌+◌, ◌-◌, ◌^◌, Bool, min, List, ◌++◌, Option, Result, Ok, Err, if◌then◌else◌}
 use Rattle.pdb_container.specs.Fault.{◌>>=◌}
 use Rattle.pdb_addresses.specs.declared.sections.ImageSectionHeader.{ImageSectionHeader}
 use Rattle.pdb_addresses.specs.Addresses.{Map}
@@ -7,17 +7,29 @@ use Rattle.pdb_symbols.specs.Symbols.{symbols_from}
 use Rattle.pdb_symbols_modules.specs.Modules.{Module}
 use Rattle.pdb_contributions.specs.Contributions.{held_of}
 use Rattle.pdb_public_list.specs.Publics.{publics_among, entries_read, placeholders, section_ends}
+use Rattle.pdb_resolving.specs.declared.error.Error.{Error}
+use Rattle.pdb_resolving.specs.declared.error.Error.TheVariants as errors
 use Rattle.pdb_resolving.specs.Fault.{Fault, lifted}
 use Rattle.pdb_resolving.specs.Resolving.{Provided}
 use Rattle.pdb_type_text.specs.Formatting.{Formatting, env_of}
 use Rattle.pdb_context.specs.Choice.{Parts, Scope}
 use Rattle.pdb_context.specs.Modules.{own_of}
 
--- what gives modules, what every question goes over, and what names are made of
+-- what gives modules, what every question goes over, what names are made of, and how many places were looked up
 pub record Context (P : Type 0) : Type 0 where
   pub provider : P
   pub parts : Parts
   pub formatting : Formatting P
+  pub lookups : ℕ
+
+-- all of a context but its count: what its answers depend on
+abbrev pub uncounted : {P : Type 0} → Context P → Context P
+uncounted c = record { provider = c.provider; parts = c.parts; formatting = c.formatting; lookups = 0 }
+
+-- the count behind a question: one more where there was a place to look up, unless memory ran short; it stays at 2^64 - 1
+abbrev pub lookups_after : {A : Type 0} → Bool → Result A Error → ℕ → ℕ
+lookups_after placed (Err errors.OutOfMemory) lookups = lookups
+lookups_after placed r lookups = if placed then min (lookups + 1) (2 ^ 64 - 1) else lookups
 
 -- the entries of the modules in order
 abbrev pub entries_of : {P : Type 0} → Formatting P → List Module
@@ -40,6 +52,6 @@ parts_of sections map symbol_records contributions names = do
   held ← held_of sections contributions
   Ok record { map = map; contributions = held.contributions; publics = publics_among (functions ++ placeholders held.later_starts ++ section_ends sections); names = names }
 
--- a context over parts that were read
+-- a context over parts that were read, before any question
 abbrev pub context_over : {P : Type 0} → P → Formatting P → Result Parts Fault → Result (Context P) Fault
-context_over provider formatting parts = parts >>= λ p. Ok record { provider = provider; parts = p; formatting = formatting }
+context_over provider formatting parts = parts >>= λ p. Ok record { provider = provider; parts = p; formatting = formatting; lookups = 0 }

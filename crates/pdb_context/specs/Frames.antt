@@ -16,6 +16,7 @@ use Rattle.pdb_module_data.specs.FunctionLine.{file_text, function_row}
 use Rattle.pdb_resolving.specs.Fault.{Fault, lifted}
 use Rattle.pdb_type_text.specs.Env.{Env}
 use Rattle.pdb_type_text.specs.Ids.{id_text}
+use Rattle.pdb_functions.specs.FunctionOrder.{Function}
 use Rattle.pdb_context.specs.Modules.{ModuleData, module_data, procedures_in, extended_of, procedure_calls}
 use Rattle.pdb_context.specs.Choice.{Parts, Scope, Chosen, Proc, Public, chosen, start_of, start_address, if_made, name_of, length_of, end_behind, place_of}
 
@@ -30,12 +31,6 @@ pub record FunctionFrames : Type 0 where
   pub start_rva : ℕ
   pub end_rva : Option ℕ
   pub frames : List Frame
-
--- where a function begins and ends, and its name
-pub record Function : Type 0 where
-  pub start_rva : ℕ
-  pub end_rva : Option ℕ
-  pub name : Option (List ℕ)
 
 -- ---- frames
 

@@ -8,9 +8,10 @@ use Rattle.pdb_addresses.specs.Addresses.{Map, outer_of_place}
 use Rattle.pdb_symbols_modules.specs.Modules.{Module}
 use Rattle.pdb_resolving.specs.declared.error.Error.{Error}
 use Rattle.pdb_resolving.specs.declared.error.Error.TheVariants as errors
+use Rattle.pdb_functions.specs.FunctionOrder.{Function}
 use Rattle.pdb_context.specs.Modules.{module_data, procedures_in}
 use Rattle.pdb_context.specs.Choice.{Parts, Scope}
-use Rattle.pdb_context.specs.Frames.{Function, function}
+use Rattle.pdb_context.specs.Frames.{function}
 
 -- a value that may be there, as a list
 abbrev pub if_any : {A : Type 0} → Option A → List A

@@ -4,4 +4,5 @@ pub mod Frames
 pub mod FunctionList
 pub mod MaybeOwned
 pub mod Modules
+pub mod Runs
 pub mod Seen

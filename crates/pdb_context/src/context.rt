@@ -1,28 +1,32 @@
 //! A context: answers about addresses of an image.
 
-ghost use Rattle.std.specs.Prelude.{◌≡◌, Ok, Some, length, option_map};
+ghost use Rattle.std.specs.Prelude.{◌≡◌, ◌≤◌, true, IfOk, Ok, Some, is_some, length, option_map};
 ghost use Rattle.pdb_addresses.specs.Addresses.{IsOrdered};
+ghost use Rattle.pdb_addresses.specs.SectionRun.{up_to_next};
 ghost use Rattle.pdb_resolving.specs.Fault.{Answers};
-ghost use Rattle.pdb_context.specs.Choice.{Parts};
-ghost use Rattle.pdb_context.specs.Context.{parts_of, context_over, scope_of, scope_in, entries_of};
-ghost use Rattle.pdb_context.specs.Frames.{frames, frames_at as frames_at_place, frames_of_chosen, function, function_at as function_at_place, function_of as function_of_chosen};
-ghost use Rattle.pdb_context.specs.FunctionList.{AreFunctions};
+ghost use Rattle.pdb_context.specs.Choice.{Parts, place_of};
+ghost use Rattle.pdb_context.specs.Context.{parts_of, context_over, scope_of, scope_in, uncounted, lookups_after};
+ghost use Rattle.pdb_context.specs.Frames.{frames, frames_at as frames_at_place, frames_if_held, frames_of_chosen, function, function_at as function_at_contribution, function_of as function_of_chosen, held_at};
 ghost use Rattle.pdb_context.specs.MaybeOwned.{value_of};
 ghost use Rattle.pdb_context.specs.Modules.{module_data};
+ghost use Rattle.pdb_context.specs.Runs.{bounds_near, database_of, function_here as function_at_place, procedures_of};
 ghost use Rattle.pdb_context.specs.Seen.{chosen_seen};
+ghost use Rattle.pdb_functions.specs.Databases.{IsOneRun, place_of as as_place};
 ghost use Rattle.pdb_type_text.specs.Formatting.{env_of};
 
 use crate::choice::{Chosen, choose};
 use crate::frames::frames_in;
-use crate::function::{Function, FunctionFrames};
+use crate::function::FunctionFrames;
 use crate::maybe_owned::MaybeOwned;
 use crate::modules::{BasicModuleInfo, get_basic_module_info, procedures_in};
 use crate::names::name_of;
 use crate::parts::ContextParts;
+use crate::runs::to_next_bound;
 use pdb_addresses::{AddressMap, ImageSectionHeader, PdbInternalSectionOffset};
 use pdb_container::StringTable;
 use pdb_contributions::ModuleSectionContribution;
-use pdb_resolving::{ModuleProvider, Result};
+use pdb_functions::Function;
+use pdb_resolving::{Error, ModuleProvider, Result};
 use pdb_symbols::SymbolTable;
 use pdb_symbols_modules::DebugInformation;
 use pdb_type_text::TypeFormatter;
@@ -34,6 +38,7 @@ pub struct Context<'a, 's, P: ModuleProvider> {
     pub(crate) provider: &'a P,
     pub(crate) parts: ContextParts<'a, 's>,
     pub(crate) type_formatter: MaybeOwned<'a, TypeFormatter<'a, 's, P>>,
+    lookups: u64,
 }
 
 impl<'a, 's, P: ModuleProvider> Model for Context<'a, 's, P> {
@@ -42,7 +47,7 @@ impl<'a, 's, P: ModuleProvider> Model for Context<'a, 's, P> {
 
     ghost Value = { contexts.Context P };
 
-    ghost view = { λ c. record { provider = c.provider.now; parts = c.parts; formatting = value_of c.type_formatter } };
+    ghost view = { λ c. record { provider = c.provider.now; parts = c.parts; formatting = value_of c.type_formatter; lookups = c.lookups } };
 }
 
 impl<'a, 's, P: ModuleProvider> Drop for Context<'a, 's, P> {
@@ -51,6 +56,7 @@ impl<'a, 's, P: ModuleProvider> Drop for Context<'a, 's, P> {
             provider: _,
             parts,
             type_formatter,
+            lookups: _,
         } = self;
         drop(parts);
         drop(type_formatter);
@@ -138,13 +144,103 @@ fn function_at<'a, P: ModuleProvider>(
     place: PdbInternalSectionOffset,
 ) -> Result<Option<Function>>
     ensures same { formatter.new ≡ formatter.old }
-    ensures function { Answers (λ f. f) result (Ok (function_at_place parts.now (scope_of P.provided provider.now formatter.old contribution.module_index) contribution place)) }
+    ensures function { Answers (λ f. f) result (Ok (function_at_contribution parts.now (scope_of P.provided provider.now formatter.old contribution.module_index) contribution place)) }
 {
     let module_index = usize::from(contribution.module_index);
     let known = get_basic_module_info(alloc, provider, formatter.modules(), module_index)?;
     match choose(parts, procedures_in(&known), contribution, place) {
         None => Ok(None),
         Some(chosen) => function_of(alloc, parts, formatter, module_index, chosen),
+    }
+}
+
+/// The frames at a place.
+fn frames_here<'a, P: ModuleProvider>(
+    alloc: Global,
+    provider: &'a P,
+    parts: &ContextParts<'a, '_>,
+    formatter: &mut TypeFormatter<'_, '_, P>,
+    place: PdbInternalSectionOffset,
+) -> Result<Option<FunctionFrames<'a>>>
+    ensures same { formatter.new ≡ formatter.old }
+    ensures frames { Answers (λ f. f) result (frames_if_held parts.now (scope_of P.provided provider.now formatter.old) (held_at parts.now (Some place))) }
+{
+    match parts.holder(place) {
+        None => Ok(None),
+        Some(contribution) => frames_at(alloc, provider, parts, formatter, contribution, place),
+    }
+}
+
+/// The function at a place.
+fn function_here<'a, P: ModuleProvider>(
+    alloc: Global,
+    provider: &'a P,
+    parts: &ContextParts<'a, '_>,
+    formatter: &mut TypeFormatter<'_, '_, P>,
+    place: PdbInternalSectionOffset,
+) -> Result<Option<Function>>
+    ensures same { formatter.new ≡ formatter.old }
+    ensures function { Answers (λ f. f) result (Ok (function_at_place parts.now (scope_of P.provided provider.now formatter.old) place)) }
+{
+    match parts.holder(place) {
+        None => Ok(None),
+        Some(contribution) => function_at(alloc, provider, parts, formatter, contribution, place),
+    }
+}
+
+/// The function at a place that a contribution holds, and how far it goes on.
+#[tactic(auto, unfolding(crate::specs::Frames::function_at))]
+fn run_at<'a, P: ModuleProvider>(
+    alloc: Global,
+    provider: &'a P,
+    parts: &ContextParts<'a, '_>,
+    formatter: &mut TypeFormatter<'_, '_, P>,
+    contribution: ModuleSectionContribution,
+    place: PdbInternalSectionOffset,
+    limit: u32,
+) -> Result<(Option<Function>, u32)>
+    ensures same { formatter.new ≡ formatter.old }
+    ensures function { Answers (λ run. run.0) result (Ok (function_at_contribution parts.now (scope_of P.provided provider.now formatter.old contribution.module_index) contribution place)) }
+    ensures count { IfOk result (λ run. run.1 ≡ up_to_next (bounds_near parts.now (procedures_of (scope_of P.provided provider.now formatter.old) (Some contribution)) place) place.offset limit) }
+{
+    let module_index = usize::from(contribution.module_index);
+    let known = get_basic_module_info(alloc, provider, formatter.modules(), module_index)?;
+    let procedures = procedures_in(&known);
+    let count = to_next_bound(parts, procedures, place, limit);
+    match choose(parts, procedures, contribution, place) {
+        None => Ok((None, count)),
+        Some(chosen) => {
+            let function = function_of(alloc, parts, formatter, module_index, chosen)?;
+            Ok((function, count))
+        }
+    }
+}
+
+/// The function at a place, and how far it goes on.
+fn run_here<'a, P: ModuleProvider>(
+    alloc: Global,
+    provider: &'a P,
+    parts: &ContextParts<'a, '_>,
+    formatter: &mut TypeFormatter<'_, '_, P>,
+    place: PdbInternalSectionOffset,
+    limit: u32,
+) -> Result<(Option<Function>, u32)>
+    requires { 1 ≤ limit }
+    ensures same { formatter.new ≡ formatter.old }
+    ensures function { Answers (λ run. run.0) result (Ok (function_at_place parts.now (scope_of P.provided provider.now formatter.old) place)) }
+    ensures count { IfOk result (λ run. IsOneRun (database_of parts.now (scope_of P.provided provider.now formatter.old)) (as_place place) limit run.1) }
+{
+    match parts.holder(place) {
+        None => Ok((None, to_next_bound(parts, &[], place, limit))),
+        Some(contribution) => run_at(
+            alloc,
+            provider,
+            parts,
+            formatter,
+            contribution,
+            place,
+            limit,
+        ),
     }
 }
 
@@ -182,6 +278,7 @@ impl<'a, 's, P: ModuleProvider> Context<'a, 's, P> {
             provider,
             parts,
             type_formatter,
+            lookups: 0,
         })
     }
 
@@ -190,6 +287,29 @@ impl<'a, 's, P: ModuleProvider> Context<'a, 's, P> {
         ensures { result ≡ length self.now.parts.publics }
     {
         self.parts.publics.len()
+    }
+
+    /// How many places were looked up: one for each question about an RVA that has a place, and for each run, that wasn't refused
+    /// for want of memory; at `u64::MAX` it stays. What [`Context::functions`] adds isn't told.
+    pub fn lookups(&self) -> u64
+        ensures { result ≡ self.now.lookups }
+    {
+        self.lookups
+    }
+
+    /// Counts a place that was looked up, unless memory ran short.
+    fn counted<T>(&mut self, answer: Result<T>) -> Result<T>
+        ensures answer { result ≡ answer }
+        ensures same { uncounted self.new ≡ uncounted self.old }
+        ensures lookups { self.new.lookups ≡ lookups_after true answer self.old.lookups }
+    {
+        match answer {
+            Err(Error::OutOfMemory) => Err(Error::OutOfMemory),
+            answer => {
+                self.lookups = self.lookups.saturating_add(1);
+                answer
+            }
+        }
     }
 
     /// The frames at an RVA: the inlined calls over it, innermost first, and then the function. `None` where there is no
@@ -201,20 +321,21 @@ impl<'a, 's, P: ModuleProvider> Context<'a, 's, P> {
     /// `OutOfMemory`.
     #[tactic(auto, unfolding(crate::specs::Frames::frames))]
     pub fn find_frames(&mut self, alloc: Global, probe: u32) -> Result<Option<FunctionFrames<'a>>>
-        ensures same { self.new ≡ self.old }
+        ensures same { uncounted self.new ≡ uncounted self.old }
+        ensures lookups { self.new.lookups ≡ lookups_after (is_some (place_of self.old.parts probe)) result self.old.lookups }
         ensures frames { Answers (λ f. f) result (frames self.old.parts (scope_in P.provided self.old) probe) }
     {
-        match self.parts.held_at(probe) {
-            None => Ok(None),
-            Some((contribution, place)) => frames_at(
-                alloc,
-                self.provider,
-                &self.parts,
-                self.type_formatter.get_mut(),
-                contribution,
-                place,
-            ),
-        }
+        let Some(place) = self.parts.place(probe) else {
+            return Ok(None);
+        };
+        let frames = frames_here(
+            alloc,
+            self.provider,
+            &self.parts,
+            self.type_formatter.get_mut(),
+            place,
+        );
+        self.counted(frames)
     }
 
     /// The function at an RVA, if there is one.
@@ -223,19 +344,49 @@ impl<'a, 's, P: ModuleProvider> Context<'a, 's, P> {
     /// `OutOfMemory` alone.
     #[tactic(auto, unfolding(crate::specs::Frames::function))]
     pub fn find_function(&mut self, alloc: Global, probe: u32) -> Result<Option<Function>>
-        ensures same { self.new ≡ self.old }
+        ensures same { uncounted self.new ≡ uncounted self.old }
+        ensures lookups { self.new.lookups ≡ lookups_after (is_some (place_of self.old.parts probe)) result self.old.lookups }
         ensures function { Answers (λ f. f) result (Ok (function self.old.parts (scope_in P.provided self.old) probe)) }
     {
-        match self.parts.held_at(probe) {
-            None => Ok(None),
-            Some((contribution, place)) => function_at(
-                alloc,
-                self.provider,
-                &self.parts,
-                self.type_formatter.get_mut(),
-                contribution,
-                place,
-            ),
-        }
+        let Some(place) = self.parts.place(probe) else {
+            return Ok(None);
+        };
+        let function = function_here(
+            alloc,
+            self.provider,
+            &self.parts,
+            self.type_formatter.get_mut(),
+            place,
+        );
+        self.counted(function)
+    }
+
+    /// The function at a place, if there is one, and over how many bytes from the place on the function is the same: the lesser of
+    /// `limit`, which is at least 1, and the distance to the next place of the section at which a contribution begins or ends, a
+    /// procedure of the module that holds the place begins or ends, or a public entry begins.
+    ///
+    /// # Errors
+    /// `OutOfMemory` alone.
+    pub fn find_function_run(
+        &mut self,
+        alloc: Global,
+        offset: PdbInternalSectionOffset,
+        limit: u32,
+    ) -> Result<(Option<Function>, u32)>
+        requires { 1 ≤ limit }
+        ensures same { uncounted self.new ≡ uncounted self.old }
+        ensures lookups { self.new.lookups ≡ lookups_after true result self.old.lookups }
+        ensures function { Answers (λ run. run.0) result (Ok (function_at_place self.old.parts (scope_in P.provided self.old) offset)) }
+        ensures count { IfOk result (λ run. IsOneRun (database_of self.old.parts (scope_in P.provided self.old)) (as_place offset) limit run.1) }
+    {
+        let run = run_here(
+            alloc,
+            self.provider,
+            &self.parts,
+            self.type_formatter.get_mut(),
+            offset,
+            limit,
+        );
+        self.counted(run)
     }
 }

@@ -8,26 +8,6 @@ use std::alloc::{AllocError, Global};
 use std::borrow::CowStr;
 use std::marker::Model;
 
-/// A function: where it begins and ends in the image, and its name.
-#[derive(Debug, Drop)]
-pub struct Function {
-    /// The RVA at which it begins.
-    pub start_rva: u32,
-    /// The RVA at which it ends, if that is known; the byte there isn't part of it.
-    pub end_rva: Option<u32>,
-    /// Its name, if it has one.
-    pub name: Option<String>,
-}
-
-impl Model for Function {
-    ghost use Rattle.std.specs.Prelude.{option_map, string_bytes};
-    ghost use Rattle.pdb_context.specs.Frames as answers;
-
-    ghost Value = { answers.Function };
-
-    ghost view = { λ f. record { start_rva = f.start_rva; end_rva = f.end_rva; name = option_map string_bytes f.name } };
-}
-
 /// A frame: a function, or an inlined call in one, with the file and line of an address in it.
 #[derive(Debug, Drop)]
 pub struct Frame<'a> {
@@ -98,20 +78,6 @@ fn clone_file<'a>(
             let name = String::from_str(alloc, name.as_str())?;
             Ok(Some(CowStr::Owned(name)))
         }
-    }
-}
-
-impl Function {
-    /// A copy, equal in all fields. `OutOfMemory` alone.
-    pub fn try_clone(&self, alloc: Global) -> Result<Function>
-        ensures { IfOk result (λ f. f ≡ self.now) }
-    {
-        let name = clone_name(alloc, &self.name)?;
-        Ok(Function {
-            start_rva: self.start_rva,
-            end_rva: self.end_rva,
-            name,
-        })
     }
 }
 

@@ -2,13 +2,13 @@
 
 ghost use Rattle.std.specs.Prelude.{◌≡◌, ◌<◌, IfOk, IsOkUnless, OnSome, length, drop};
 ghost use Rattle.std.specs.Iterator.{at_most};
-ghost use Rattle.pdb_context.specs.Context.{scope_in, entries_of};
+ghost use Rattle.pdb_context.specs.Context.{scope_in, entries_of, uncounted};
 ghost use Rattle.pdb_context.specs.FunctionList.{AreFunctions, GivesFunction, functions_left};
 ghost use Rattle.pdb_resolving.specs.declared.error.Error.TheVariants as errors;
 
 use crate::context::Context;
-use crate::function::Function;
 use crate::function_starts::function_starts;
+use pdb_functions::Function;
 use pdb_resolving::{ModuleProvider, Result};
 use std::alloc::Global;
 use std::marker::Model;
@@ -41,7 +41,7 @@ fn next_function<P: ModuleProvider>(
     starts: &[u32],
     next: &mut usize,
 ) -> Option<Result<Function>>
-    ensures same { context.new ≡ context.old }
+    ensures same { uncounted context.new ≡ uncounted context.old }
     ensures gives { GivesFunction (functions_left context.old.parts (scope_in P.provided context.old) (drop next.old starts.now)) result (functions_left context.old.parts (scope_in P.provided context.old) (drop next.new starts.now)) }
     ensures nearer { OnSome result (length (drop next.new starts.now) < length (drop next.old starts.now)) }
 {

@@ -12,8 +12,10 @@ pub mod maybe_owned;
 mod modules;
 mod names;
 mod parts;
+mod runs;
 
 pub use context::Context;
-pub use function::{Frame, Function, FunctionFrames};
+pub use function::{Frame, FunctionFrames};
 pub use functions::FunctionIter;
 pub use parts::ContextParts;
+pub use pdb_functions::Function;

@@ -3,10 +3,10 @@
 ghost use Rattle.std.specs.Prelude.{◌≡◌, option_map};
 ghost use Rattle.pdb_addresses.specs.Addresses.{IsOrdered};
 ghost use Rattle.pdb_container.specs.RawString.{raw_bytes};
+ghost use Rattle.pdb_contributions.specs.Contributions.{holder as holder_of};
 ghost use Rattle.pdb_resolving.specs.Fault.{Answers};
 ghost use Rattle.pdb_context.specs.Choice.{place_of, decorated_at as decorated_name_at};
 ghost use Rattle.pdb_context.specs.Context.{parts_of};
-ghost use Rattle.pdb_context.specs.Frames.{held_at as held_at_place};
 
 use crate::names::is_decorated;
 use pdb_addresses::{AddressMap, ImageSectionHeader, PdbInternalSectionOffset, Rva};
@@ -73,17 +73,20 @@ impl<'a, 's> ContextParts<'a, 's> {
         })
     }
 
-    /// The contribution that holds an RVA, and the RVA's place.
-    pub fn held_at(
-        &self,
-        probe: u32,
-    ) -> Option<(ModuleSectionContribution, PdbInternalSectionOffset)>
-        ensures { result ≡ held_at_place self.now (place_of self.now probe) }
+    /// The place of an RVA, if it has one.
+    pub fn place(&self, probe: u32) -> Option<PdbInternalSectionOffset>
+        ensures { result ≡ place_of self.now probe }
     {
-        let place = Rva(probe).to_internal_offset(self.address_map)?;
+        Rva(probe).to_internal_offset(self.address_map)
+    }
+
+    /// The contribution that holds a place.
+    pub fn holder(&self, place: PdbInternalSectionOffset) -> Option<ModuleSectionContribution>
+        ensures { result ≡ holder_of self.now.contributions place }
+    {
         match holder(self.contributions.as_slice(), place) {
             None => None,
-            Some(held) => Some((*held, place)),
+            Some(held) => Some(*held),
         }
     }
 

@@ -15,7 +15,7 @@ fn text_of(name: &Option<String>) -> &str {
 }
 
 /// A function in one line.
-fn told_function(alloc: Global, function: &Function) -> Result<String, Fail> {
+pub fn told_function(alloc: Global, function: &Function) -> Result<String, Fail> {
     let start = function.start_rva;
     let name = text_of(&function.name);
     match function.end_rva {

@@ -1,5 +1,6 @@
 //! The list of all functions.
 
+use crate::answers::told_function;
 use crate::files::{context_of, data_with};
 use pdb_addr2line::{Context, ModuleProvider};
 use pdb_samples::Change;
@@ -46,5 +47,35 @@ fn functions_of_files(rt: HostRuntime) -> Result<(), Fail> {
         assert_eq!(rt; list.0, *count);
         assert_eq!(rt; list.1.as_slice(), *starts);
     }
+    Ok(())
+}
+
+/// How many entries the public list has, and the functions in their order, each told in one line of its copy.
+fn lines_by<P: ModuleProvider>(
+    alloc: Global,
+    mut context: Context<'_, '_, P>,
+) -> Result<(usize, String), Fail> {
+    let count = context.function_count();
+    let mut functions = context.functions(alloc)?;
+    let mut lines = String::new(alloc);
+    while let Some(function) = functions.next() {
+        let line = told_function(alloc, &function?.try_clone(alloc)?)?;
+        lines.push_str(line.as_str())?;
+        lines.push('\n')?;
+    }
+    Ok((count, lines))
+}
+
+/// The same of file F.
+fn lines_of_f(alloc: Global) -> Result<(usize, String), Fail> {
+    let data = data_with(alloc, Change::LineData)?;
+    lines_by(alloc, context_of(alloc, &data)?)
+}
+
+#[test]
+fn whole_functions(rt: HostRuntime) -> Result<(), Fail> {
+    let (count, lines) = lines_of_f(rt.alloc())?;
+    assert_eq!(rt; count, 1);
+    assert_eq!(rt; lines.as_str(), "1010 to 1030 f\n");
     Ok(())
 }

@@ -7,3 +7,5 @@ mod answers;
 mod files;
 #[cfg(test)]
 mod functions;
+#[cfg(test)]
+mod runs;

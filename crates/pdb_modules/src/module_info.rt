@@ -1,6 +1,6 @@
 //! Module information: what a module's own stream holds.
 
-ghost use Rattle.std.specs.Prelude.{◌≡◌, ◌<◌, ◌^◌, length, IfOk};
+ghost use Rattle.std.specs.Prelude.{◌≡◌, ◌<◌, ◌^◌, length, IfOk, Ok};
 ghost use Rattle.pdb_container.specs.Fault.{Gives, Parses};
 ghost use Rattle.pdb_modules.specs.ModuleStream.{signed as signed_bytes, symbol_list_bytes, iteration_in, line_data_in, line_program_in, subsection_in, inlinees_in, imports_in, exports_in};
 ghost use Rattle.pdb_subsections.specs.Subsections.{bytes_seen};
@@ -14,6 +14,7 @@ use pdb_subsections::{CROSS_MODULE_EXPORTS, CROSS_MODULE_IMPORTS, INLINEE_LINES,
 use pdb_symbols::SymbolIter;
 use std::alloc::Global;
 use std::marker::Model;
+use std::rc::Rc;
 
 /// Where the first symbol stands, behind the signature.
 const FIRST_SYMBOL: SymbolIndex = SymbolIndex(4);
@@ -22,7 +23,7 @@ const FIRST_SYMBOL: SymbolIndex = SymbolIndex(4);
 /// parts alone.
 #[derive(Debug, Drop)]
 pub struct ModuleInfo<'s> {
-    stream: Stream<'s>,
+    stream: Rc<Stream<'s>>,
     symbols_size: u32,
     c11_lines_size: u32,
     c13_lines_size: u32,
@@ -33,26 +34,49 @@ impl<'s> Model for ModuleInfo<'s> {
 
     ghost Value = { ModuleStream };
 
-    ghost view = { λ m. record { bytes = m.stream; symbols_size = m.symbols_size; c11_lines_size = m.c11_lines_size; c13_lines_size = m.c13_lines_size } };
+    ghost view = { λ m. record { bytes = m.stream.value; symbols_size = m.symbols_size; c11_lines_size = m.c11_lines_size; c13_lines_size = m.c13_lines_size } };
 }
 
 impl<'s> ModuleInfo<'s> {
     /// The information of a module by its stream and the sizes of that stream's parts in bytes: symbols, C11 line data,
-    /// C13 line data.
+    /// C13 line data. `OutOfMemory` alone.
     pub fn new(
+        alloc: Global,
         stream: Stream<'s>,
         symbols_size: u32,
         c11_lines_size: u32,
         c13_lines_size: u32,
-    ) -> ModuleInfo<'s>
-        ensures { result ≡ record { bytes = stream.entry; symbols_size = symbols_size; c11_lines_size = c11_lines_size; c13_lines_size = c13_lines_size } }
+    ) -> Result<ModuleInfo<'s>>
+        ensures { Gives (λ m. m) ⊥ result (Ok (record { bytes = stream.entry; symbols_size = symbols_size; c11_lines_size = c11_lines_size; c13_lines_size = c13_lines_size })) }
     {
-        ModuleInfo {
+        match Rc::new(alloc, stream) {
+            Ok(stream) => Ok(ModuleInfo {
+                stream,
+                symbols_size,
+                c11_lines_size,
+                c13_lines_size,
+            }),
+            Err(_) => Err(Error::OutOfMemory),
+        }
+    }
+
+    /// The information of another module that names the same stream, by the sizes of its own parts. Both hold the bytes in
+    /// common. `OutOfMemory` alone.
+    pub fn with_sizes(
+        &self,
+        symbols_size: u32,
+        c11_lines_size: u32,
+        c13_lines_size: u32,
+    ) -> Result<ModuleInfo<'s>>
+        ensures { Gives (λ m. m) ⊥ result (Ok (record { bytes = self.now.bytes; symbols_size = symbols_size; c11_lines_size = c11_lines_size; c13_lines_size = c13_lines_size })) }
+    {
+        let stream = self.stream.clone()?;
+        Ok(ModuleInfo {
             stream,
             symbols_size,
             c11_lines_size,
             c13_lines_size,
-        }
+        })
     }
 
     /// The CodeView symbols in their order.

@@ -1,10 +1,11 @@
 -- What is said of a fault of answering an input is said of the run's.
+use Rattle.std.specs.Prelude.{Err}
 use Rattle.std.specs.declared.io.ErrorKind.{ErrorKind}
 use Rattle.pdb_report.specs.declared.fault.InputFault.{InputFault}
 use Rattle.pdb_report.specs.declared.fault.InputFault.TheVariants.{Read, Write, InputTooLong, OutOfMemory}
 use Rattle.pdb_report.specs.declared.fault.LoadFault.{LoadFault}
 use Rattle.pdb_report.specs.InputFaults as inputs
-use Rattle.pdb_report.specs.RunFaults.{OnRead, OnWrite, OnTooLong, OnLoad, OnMemory, IsOfFrames, run_fault_of_input}
+use Rattle.pdb_report.specs.RunFaults.{OnRead, OnWrite, OnTooLong, OnLoad, OnMemory, OnReversed, OnCounted, IsOfFrames, IsOfSizes, run_fault_of_input}
 
 pub on_read : (fault : InputFault) (P : ErrorKind → Type 0) → inputs.OnRead fault P → OnRead (run_fault_of_input fault) P
 on_read (Read kind) P h = h
@@ -42,3 +43,22 @@ on_load (Read kind) P = tt
 on_load (Write kind) P = tt
 on_load InputTooLong P = tt
 on_load OutOfMemory P = tt
+
+-- nor is it that a range is reversed
+pub on_reversed : (fault : InputFault) (P : Type 0) → OnReversed (run_fault_of_input fault) P
+on_reversed (Read kind) P = tt
+on_reversed (Write kind) P = tt
+on_reversed InputTooLong P = tt
+on_reversed OutOfMemory P = tt
+
+pub on_counted : (A : Type 0) (fault : InputFault) (P : Type 0) → P → OnCounted {A = A} (Err (run_fault_of_input fault)) P
+on_counted A (Read kind) P h = tt
+on_counted A (Write kind) P h = h
+on_counted A InputTooLong P h = tt
+on_counted A OutOfMemory P h = tt
+
+pub of_sizes : (fault : InputFault) → inputs.IsOfWriting fault → IsOfSizes (run_fault_of_input fault)
+of_sizes (Read kind) h = h
+of_sizes (Write kind) h = h
+of_sizes InputTooLong h = h
+of_sizes OutOfMemory h = tt

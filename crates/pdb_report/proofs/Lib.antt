@@ -1,6 +1,4 @@
-pub mod AddressLemmas
 pub mod FrameSteps
-pub mod Hex
 pub mod InputFaultSteps
 pub mod Lifting
 pub mod LineLemmas
@@ -9,4 +7,5 @@ pub mod Pieces
 pub mod Pumped
 pub mod Runs
 pub mod ShortLines
+pub mod SizesSteps
 pub mod Writes

@@ -39,12 +39,6 @@ outside_none errors.OutOfMemory h = tt
 outside_none (errors.IoError kind) h = absurd (rise h.1)
 outside_none e h = absurd h
 
--- over a source in memory no failure is counted, so that a fault is the reading's or out of memory
-pub given_in_memory : {X Y : Type 0} (view : X → Y) (r : Result X Error) (read : Result Y Fault) → Gives view (HasRisen 0 0) r read → Gives view ⊥ r read
-given_in_memory view (Ok x) read h = h
-given_in_memory view (Err e) read (inl h) = inl (outside_none e h)
-given_in_memory view (Err e) read (inr h) = inr h
-
 -- why a container in memory isn't opened
 pub opening_fails : {S : Type 0} (bytes : S → List ℕ) (before : S) (e : Error) (fault : Option Fault)
     → (IsOutside e ((after : S) × (bytes after ≡ bytes before) × HasRisen 0 0) ⊎ (fault ≡ Some (fault_of e))) → FailsLoading (load_fault_of e) (lifted (none_or fault))
@@ -60,33 +54,9 @@ pub loads_on : {A B : Type 0} (e : Error) (read : Result A Fault) (f : A → Res
 loads_on e read f (inl h) = load_fails e read f (inl (outside_none e h))
 loads_on e read f (inr h) = load_fails e read f (inr h)
 
--- ---- what a call answers, in the middle of a load and at its end
-
--- a refused parse is the fault of the loading step that makes it
-pub parse_fails : {A B : Type 0} (e : Error) (read : Result A Fault) (f : A → Result B LoadingFault) → read ≡ Err (fault_of e) → FailsLoading (load_fault_of e) (lifted read >>= f)
-parse_fails errors.OutOfMemory read f h = tt
-parse_fails e read f h = ap (λ r. lifted r >>= f) h
-
 -- a step that has failed is the end
 pub fails_on : {A B : Type 0} (e : LoadFault) (read : Result A LoadingFault) (f : A → Result B LoadingFault) → FailsLoading e read → FailsLoading e (read >>= f)
 fails_on faults.OutOfMemory read f h = tt
 fails_on (faults.Pdb contexts.OutOfMemory) read f h = h
 fails_on (faults.Pdb (contexts.PdbError errors.OutOfMemory)) read f h = h
 fails_on e read f h = ap (λ r. r >>= f) h
-
--- ---- faults of a context
-
--- a call that reads fails in the middle of a context's
-pub context_fails : {A B : Type 0} (e : Error) (read : Result A Fault) (f : A → Result B answers.Fault)
-    → (IsOutside e ⊥ ⊎ (read ≡ Err (fault_of e))) → answers.Fails (answers.error_of e) (answers.lifted read >>= f)
-context_fails errors.OutOfMemory read f h = tt
-context_fails (errors.IoError kind) read f (inl h) = absurd h.1
-context_fails (errors.IoError kind) read f (inr h) = ap (λ r. answers.lifted r >>= f) h
-context_fails e read f (inl h) = absurd h
-context_fails e read f (inr h) = ap (λ r. answers.lifted r >>= f) h
-
--- a context's call fails in the middle of a load
-pub contributions_fail : {A B : Type 0} (e : context.Error) (read : Result A answers.Fault) (f : A → Result B LoadingFault) → answers.Fails e read → FailsLoading (load_fault_in_context e) (in_loading read >>= f)
-contributions_fail contexts.OutOfMemory read f h = tt
-contributions_fail (contexts.PdbError errors.OutOfMemory) read f h = h
-contributions_fail e read f h = ap (λ r. in_loading r >>= f) h

@@ -28,7 +28,8 @@ use Rattle.pdb_addr2line.specs.Loading as kept
 use Rattle.pdb_addr2line.specs.Loading.{Tables, tables, listed}
 use Rattle.pdb_report.specs.declared.fault.LoadFault.{LoadFault}
 use Rattle.pdb_report.specs.declared.fault.LoadFault.TheVariants as faults
-use Rattle.pdb_report.specs.Answer.{AnswersAs, answer, answer_by, function_at, function_by, given_in, scope}
+use Rattle.pdb_context.specs.Runs.{database_of}
+use Rattle.pdb_report.specs.Answer.{AnswersAs, address_map, answer, answer_by, database, database_by, function_at, function_by, given_in, map_by, scope}
 use Rattle.pdb_report.specs.Faults.{LoadingFault, AddressTableDecreases, lifted, in_loading, load_fault_of, load_fault_in_context, FailsLoading}
 use Rattle.pdb_report.specs.Kept.{IsKept, answered_in}
 use Rattle.pdb_report.specs.Loading.{Loaded, parts_in, none_or, loaded_behind, loaded_open, loaded, load_fault, Refuses, IsFileFault}
@@ -124,6 +125,7 @@ bind_failed (Err f) e h = ap (λ (t : answers.Fault). Err t) (same_answer f e (a
 parts_refused : (e : context.Error) (parts : Result Parts answers.Fault) (f : Parts → Result Loaded LoadingFault) → answers.Fails e (checked parts) → FailsLoading (load_fault_in_context e) (in_loading parts >>= f)
 parts_refused contexts.OutOfMemory parts f h = tt
 parts_refused (contexts.PdbError errors.OutOfMemory) parts f h = h
+parts_refused (contexts.FormatError cause) parts f h = absurd h
 parts_refused e parts f h = ap (λ r. in_loading r >>= f) (bind_failed parts (answers.fault_of e) h)
 
 -- ---- what is kept
@@ -232,6 +234,7 @@ made_or c (Err e) = c
 memory_alone : (e : context.Error) (c : Context (List KeptInfo)) → answers.Fails e (Ok c) → load_fault_in_context e ≡ faults.OutOfMemory
 memory_alone contexts.OutOfMemory c h = refl
 memory_alone (contexts.PdbError errors.OutOfMemory) c h = absurd h
+memory_alone (contexts.FormatError cause) c h = absurd h
 memory_alone e c h = absurd cc
 
 -- a formatter over what gives modules
@@ -261,11 +264,11 @@ same_scope s h parts m modules_are names_are =
 
 -- a context over what is kept
 abbrev context_of : Held → Parts → Context (List KeptInfo)
-context_of h parts = record { provider = h.infos; parts = parts; formatting = held.formatting_of h 23 }
+context_of h parts = record { provider = h.infos; parts = parts; formatting = held.formatting_of h 23; lookups = 0 }
 
 over_kept : (file : List ℕ) (h : Held) → IsKept file h → (parts : Parts) → held.parts_in h ≡ Ok parts
     → loaded (shared (streams file)) ≡ Ok (record { debug_information = h.debug_information; tables = h.tables; parts = parts }) → AnswersAs answered_in (streams file) (context_of h parts)
-unfolding answer function_at
+unfolding answer function_at database
 over_kept file h is parts parts_are loaded_is =
     let s = streams file in
     let l : Loaded = record { debug_information = h.debug_information; tables = h.tables; parts = parts } in
@@ -273,6 +276,7 @@ over_kept file h is parts parts_are loaded_is =
     record {
       frames = fun_ext (λ a. ap (λ known. frames parts known a) scopes ∙ ap (λ r. answer_by s r a) (sym loaded_is));
       functions = fun_ext (λ a. ap (λ known. function parts known a) scopes ∙ ap (λ r. function_by s r a) (sym loaded_is));
+      places = ap (λ known. database_of parts known) scopes ∙ ap (λ r. database_by s r) (sym loaded_is);
     }
 
 -- the context that was made is that over what is kept
@@ -284,3 +288,18 @@ context_answers file h c is made =
 -- nothing but memory keeps a context from being made
 pub context_made : (file : List ℕ) (h : Held) (e : context.Error) → IsKept file h → answers.Fails e (held.context_in h 23) → load_fault_in_context e ≡ faults.OutOfMemory
 context_made file h e is failed = memory_alone e _ (rw is.parts_are at failed)
+
+-- a context that was made was asked nothing
+pub context_unasked : (file : List ℕ) (h : Held) (c : Context (List KeptInfo)) → IsKept file h → held.context_in h 23 ≡ Ok c → c.lookups ≡ 0
+context_unasked file h c is made =
+    let c_is : context_of h is.parts ≡ c = ap (made_or c) (ap (λ r. context_over h.infos (held.formatting_of h 23) r) (sym is.parts_are) ∙ made) in
+    sym (ap (λ (k : Context (List KeptInfo)). k.lookups) c_is)
+
+-- the address map that is kept is the file's
+pub map_kept : (file : List ℕ) (h : Held) → IsKept file h → address_map (streams file) ≡ Some h.tables.map
+unfolding address_map
+map_kept file h is = ap map_by is.loaded_is
+
+-- it is in order
+pub map_ordered : (file : List ℕ) (h : Held) → IsKept file h → IsOrdered h.tables.map
+map_ordered file h is = is.ordered

@@ -1,5 +1,6 @@
 -- The answer for an address of a file's image: its function with its frames.
-use Rattle.std.specs.Prelude.{◌≡◌, ℕ, Option, None, Result, Ok, Err}
+use Rattle.std.specs.Prelude.{◌≡◌, ℕ, false, Option, None, Some, Result, Ok, Err}
+use Rattle.pdb_addresses.specs.Addresses.{Map}
 use Rattle.pdb_symbols_modules.specs.Machine.{machine_of}
 use Rattle.pdb_symbols_modules.specs.Modules.{modules_of}
 use Rattle.pdb_symbols_modules.specs.Shared.{shared}
@@ -10,7 +11,10 @@ use Rattle.pdb_type_sizes.specs.Reading.{pointer_bytes}
 use Rattle.pdb_type_text.specs.Formatting.{Formatting}
 use Rattle.pdb_context.specs.Choice.{Scope}
 use Rattle.pdb_context.specs.Context.{Context, scope_of, scope_in}
-use Rattle.pdb_context.specs.Frames.{Function, FunctionFrames, frames, function}
+use Rattle.pdb_context.specs.Frames.{FunctionFrames, frames, function}
+use Rattle.pdb_context.specs.Runs.{database_of}
+use Rattle.pdb_functions.specs.Databases.{Database}
+use Rattle.pdb_functions.specs.FunctionOrder.{Function}
 use Rattle.pdb_addr2line.specs.Held.{given, names_in}
 use Rattle.pdb_report.specs.Faults.{LoadingFault}
 use Rattle.pdb_report.specs.Loading.{Loaded, loaded}
@@ -54,6 +58,24 @@ function_by s (Ok l) a = function l.parts (scope s l) a
 unfoldable pub function_at : Streams → ℕ → Option Function
 function_at s = function_by s (loaded (shared s))
 
+-- the functions at places, and where they may change, by what was loaded
+abbrev pub database_by : Streams → Result Loaded LoadingFault → Database
+database_by s (Err e) = record { function = λ place. None; is_bound = λ place. false }
+database_by s (Ok l) = database_of l.parts (scope s l)
+
+-- the functions at places of the file's sections, and where they may change
+unfoldable pub database : Streams → Database
+database s = database_by s (loaded (shared s))
+
+-- the ways between addresses, by what was loaded
+abbrev pub map_by : Result Loaded LoadingFault → Option Map
+map_by (Err e) = None
+map_by (Ok l) = Some l.tables.map
+
+-- the ways between addresses of the image and places in sections; none where the file isn't loaded
+unfoldable pub address_map : Streams → Option Map
+address_map s = map_by (loaded (shared s))
+
 -- ---- by a context
 
 -- the answer of a context for an address
@@ -64,7 +86,12 @@ answer_of provided c a = frames c.parts (scope_in provided c) a
 abbrev pub function_of : {P : Type 0} → (P → Provided) → Context P → ℕ → Option Function
 function_of provided c a = function c.parts (scope_in provided c) a
 
+-- the functions of a context at places, and where they may change
+abbrev pub database_in : {P : Type 0} → (P → Provided) → Context P → Database
+database_in provided c = database_of c.parts (scope_in provided c)
+
 -- A context answers as the file does.
 pub record AnswersAs {P : Type 0} (provided : P → Provided) (s : Streams) (c : Context P) : Type 0 where
   pub frames : answer_of provided c ≡ answer s
   pub functions : function_of provided c ≡ function_at s
+  pub places : database_in provided c ≡ database s

@@ -46,8 +46,3 @@ FailsLoading faults.OutOfMemory read = Unit {0}
 FailsLoading (faults.Pdb contexts.OutOfMemory) read = ⊥
 FailsLoading (faults.Pdb (contexts.PdbError errors.OutOfMemory)) read = ⊥
 FailsLoading e read = read ≡ Err (loading_fault_of e)
-
--- What a call returned, seen by view, is what reading gives, unless memory was short.
-abbrev pub Loads : {X Y : Type 0} → (X → Y) → Result X LoadFault → Result Y LoadingFault → Type 0
-Loads view (Ok x) read = read ≡ Ok (view x)
-Loads view (Err e) read = FailsLoading e read

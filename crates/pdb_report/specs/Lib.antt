@@ -1,4 +1,3 @@
-pub mod Address
 pub mod AddressText
 pub mod Answer
 pub mod Faults
@@ -8,5 +7,6 @@ pub mod InputLines
 pub mod Kept
 pub mod Loading
 pub mod RunFaults
+pub mod SizesReport
 pub mod ToldFault
 pub mod Watched

@@ -58,7 +58,7 @@ OnLoad InputTooLong P = Unit {0}
 OnLoad OutOfMemory P = Unit {0}
 
 -- this is said of every end of a run that is neither a loading fault nor out of memory
-abbrev pub UnlessLoad : Result (Unit {0}) RunFault → Type 0 → Type 0
+abbrev pub UnlessLoad : {A : Type 0} → Result A RunFault → Type 0 → Type 0
 UnlessLoad (Ok done) P = P
 UnlessLoad (Err (Load fault)) P = Unit {0}
 UnlessLoad (Err OutOfMemory) P = Unit {0}
@@ -84,3 +84,31 @@ OnMemory ReversedRange P = Unit {0}
 OnMemory (Read kind) P = Unit {0}
 OnMemory (Write kind) P = Unit {0}
 OnMemory InputTooLong P = Unit {0}
+
+-- where the fault is that the range is reversed, this is said
+abbrev pub OnReversed : RunFault → Type 0 → Type 0
+OnReversed ReversedRange P = P
+OnReversed (Load fault) P = Unit {0}
+OnReversed (Read kind) P = Unit {0}
+OnReversed (Write kind) P = Unit {0}
+OnReversed InputTooLong P = Unit {0}
+OnReversed OutOfMemory P = Unit {0}
+
+-- this is said of every end of a run on a range behind its checks: all is counted, or a write has failed
+abbrev pub OnCounted : {A : Type 0} → Result A RunFault → Type 0 → Type 0
+OnCounted (Ok done) P = P
+OnCounted (Err (Write kind)) P = P
+OnCounted (Err (Load fault)) P = Unit {0}
+OnCounted (Err ReversedRange) P = Unit {0}
+OnCounted (Err (Read kind)) P = Unit {0}
+OnCounted (Err InputTooLong) P = Unit {0}
+OnCounted (Err OutOfMemory) P = Unit {0}
+
+-- a fault that a report on a range may have
+abbrev pub IsOfSizes : RunFault → Type 0
+IsOfSizes (Load fault) = Unit {0}
+IsOfSizes ReversedRange = Unit {0}
+IsOfSizes (Write kind) = kind ≢ kinds.OutOfMemory
+IsOfSizes OutOfMemory = Unit {0}
+IsOfSizes (Read kind) = ⊥
+IsOfSizes InputTooLong = ⊥

@@ -1,8 +1,7 @@
-//! The report on a list of addresses: a program database is loaded, and the answer to each line of an
-//! input is written.
+//! Reports by a program database: it is loaded, and the answer to each line of an input is written, or how many addresses of a
+//! range each function has.
 #![tactic(auto)]
 
-mod address;
 mod answers;
 mod engine;
 mod fault;
@@ -11,16 +10,18 @@ mod line_start;
 mod lines;
 mod output;
 mod report;
+mod sizes;
 mod symbolizer;
 mod texts;
 mod told;
 mod watched;
 
-pub use address::parse_address;
 pub use fault::{LoadFault, RunFault};
 pub use finish::finish_run;
 pub use output::ErrorOutput;
 pub use pdb_addr2line::{Context, Error};
+pub use pdb_address_lines::parse_address;
 pub use report::run_frames;
+pub use sizes::{Tally, run_sizes};
 pub use symbolizer::Symbolizer;
 pub use watched::Watched;

@@ -1,13 +1,14 @@
 //! What is written for a line of the input, by a context.
 
 ghost use Rattle.std.specs.Prelude.{◌≡◌, IfOk, Some, string_bytes};
+ghost use Rattle.pdb_context.specs.Context.{uncounted};
 ghost use Rattle.pdb_report.specs.Answer.{answer_of};
 ghost use Rattle.pdb_report.specs.AddressText.{line_text as text_of_line, text_at};
 
-use crate::address::parse_address;
 use crate::answers::Answers;
 use crate::texts::{address_text, unreadable_text};
 use pdb_addr2line::{Context, Error, ModuleProvider};
+use pdb_address_lines::parse_address;
 use std::alloc::{AllocError, Global};
 
 /// What is written for an address.
@@ -16,7 +17,7 @@ fn address_lines<P: ModuleProvider>(
     context: &mut Context<'_, '_, P>,
     address: u32,
 ) -> Result<String, AllocError>
-    ensures same { context.new ≡ context.old }
+    ensures same { uncounted context.new ≡ uncounted context.old }
     ensures text { IfOk result (λ t. string_bytes t ≡ text_at (answer_of P.provided context.old) (Some address)) }
 {
     match context.find_frames(alloc, address) {
@@ -33,7 +34,7 @@ fn line_text<P: ModuleProvider>(
     context: &mut Context<'_, '_, P>,
     line: &[u8],
 ) -> Result<String, AllocError>
-    ensures same { context.new ≡ context.old }
+    ensures same { uncounted context.new ≡ uncounted context.old }
     ensures text { IfOk result (λ t. string_bytes t ≡ text_of_line (answer_of P.provided context.old) line.now) }
 {
     match parse_address(line) {

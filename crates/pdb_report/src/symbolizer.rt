@@ -1,8 +1,9 @@
 //! A file that was loaded.
 
-ghost use Rattle.std.specs.Prelude.{◌≡◌, IfOk, OnOk, IfErr, IsOkUnless, None};
+ghost use Rattle.std.specs.Prelude.{◌≡◌, IfOk, OnOk, IfErr, IsOkUnless, None, Some};
+ghost use Rattle.pdb_addresses.specs.Addresses.{IsOrdered};
 ghost use Rattle.pdb_report.specs.declared.fault.LoadFault.TheVariants as faults;
-ghost use Rattle.pdb_report.specs.Answer.{AnswersAs};
+ghost use Rattle.pdb_report.specs.Answer.{AnswersAs, address_map as address_map_of};
 ghost use Rattle.pdb_report.specs.Faults.{FailsLoading};
 ghost use Rattle.pdb_report.specs.Kept.{answered_in};
 ghost use Rattle.pdb_report.specs.Loading.{loaded, load_fault, Refuses};
@@ -11,6 +12,7 @@ ghost use Rattle.pdb_symbols_modules.specs.Streams.{streams};
 
 use crate::fault::LoadFault;
 use pdb_addr2line::{Context, ContextPdbData, KeptModules, read_tables};
+use pdb_addresses::AddressMap;
 use pdb_symbols_modules::PDB;
 use std::alloc::Global;
 use std::marker::Model;
@@ -71,16 +73,26 @@ impl Symbolizer {
         load(alloc, pdb)
     }
 
+    /// The ways between addresses of the image and places in sections; the sources of its OMAPs don't decrease.
+    #[tactic(auto, using(crate::proofs::OpeningSteps::map_kept, crate::proofs::OpeningSteps::map_ordered))]
+    pub fn address_map(&self) -> &AddressMap<'static>
+        ensures map { address_map_of (streams self.now) ≡ Some result.now }
+        ensures ordered { IsOrdered result.now }
+    {
+        self.held.address_map()
+    }
+
     /// A context over the file, which answers as the file does.
     ///
     /// # Errors
     /// `OutOfMemory` alone.
-    #[tactic(auto, using(crate::proofs::OpeningSteps::context_answers, crate::proofs::OpeningSteps::context_made))]
+    #[tactic(auto, using(crate::proofs::OpeningSteps::context_answers, crate::proofs::OpeningSteps::context_unasked, crate::proofs::OpeningSteps::context_made))]
     pub fn context(
         &self,
         alloc: Global,
     ) -> Result<Context<'_, 'static, KeptModules<'static>>, LoadFault>
         ensures answers { IfOk result (λ c. AnswersAs answered_in (streams self.now) c) }
+        ensures unasked { IfOk result (λ c. c.lookups ≡ 0) }
         ensures memory { IsOkUnless result faults.OutOfMemory }
     {
         match self.held.make_context(alloc) {

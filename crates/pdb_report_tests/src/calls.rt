@@ -1,8 +1,8 @@
 //! The public calls, each once in ample memory, and printed faults.
 
-use crate::files::{File, run_over, told};
+use crate::files::{F, run_over, told};
 use pdb_container::Error as Cause;
-use pdb_report::{Error, LoadFault, RunFault, Symbolizer, Watched, parse_address};
+use pdb_report::{Error, LoadFault, RunFault, Symbolizer, Watched, parse_address, run_sizes};
 use pdb_samples::Change;
 use std::alloc::Global;
 use std::io::ErrorKind;
@@ -10,11 +10,18 @@ use std::test::Fail;
 
 /// Whether a file is opened and reported on.
 fn is_answered(alloc: Global) -> Result<bool, Fail> {
-    let file = File::With(Change::LineData);
-    Symbolizer::open(alloc, file.made(alloc)?)?;
-    let run = run_over(alloc, file.made(alloc)?, b"1014\n".as_slice());
+    Symbolizer::open(alloc, F.made(alloc)?)?;
+    let run = run_over(alloc, F.made(alloc)?, b"1014\n".as_slice());
     run.outcome?;
     Ok(run.report.as_slice() == b"0x00001014\n  f at a.c:5\n".as_slice())
+}
+
+/// Whether the addresses of a range are counted.
+fn is_counted(alloc: Global) -> Result<bool, Fail> {
+    let mut report = Vec::new(alloc);
+    let mut writer = Watched::new(&mut report);
+    run_sizes(alloc, F.made(alloc)?, 0x1018, 0x1030, &mut writer)?;
+    Ok(report.as_slice() == b"0x00001010 24 f\nnone 0\n".as_slice())
 }
 
 /// Whether three bytes are read and written.
@@ -36,14 +43,19 @@ fn are_printed(alloc: Global) -> Result<bool, Fail> {
 }
 
 /// Whether each call answers as written.
-fn are_right(alloc: Global) -> Result<[bool; 3], Fail> {
-    Ok([is_answered(alloc)?, are_copied(alloc)?, are_printed(alloc)?])
+fn are_right(alloc: Global) -> Result<[bool; 4], Fail> {
+    Ok([
+        is_answered(alloc)?,
+        is_counted(alloc)?,
+        are_copied(alloc)?,
+        are_printed(alloc)?,
+    ])
 }
 
 // The only test that fails where some allocation is refused, and the others ask again.
 #[test]
 fn first_calls_in_ample_memory(rt: HostRuntime) -> Result<(), Fail> {
-    assert_eq!(rt; are_right(rt.alloc())?, [true; 3]);
+    assert_eq!(rt; are_right(rt.alloc())?, [true; 4]);
     Ok(())
 }
 
@@ -125,7 +137,7 @@ const PARTS: &[(usize, &[u8])] = &[
 
 #[test]
 fn sample_is_as_written_by_hand(rt: HostRuntime) -> Result<(), Fail> {
-    let file = File::With(Change::LineData).bytes(rt.alloc())?;
+    let file = F.bytes(rt.alloc())?;
     assert_eq!(rt; file.len(), 4096);
     for (start, part) in PARTS {
         let rest = file.as_slice().get(*start..).unwrap_or(&[]);

@@ -1,7 +1,9 @@
 //! The files that the tests report on, and reports on them.
 
 use pdb_report::{RunFault, Watched, finish_run, run_frames};
-use pdb_samples::{Change, Result, SampleError, cut_dbi, file_with};
+use pdb_samples::{
+    Change, ProgramDatabase, Result, SampleError, cut_dbi, file_f, file_with, push_u32,
+};
 use std::alloc::Global;
 use std::io::Read;
 use std::test::Fail;
@@ -13,12 +15,17 @@ pub enum File {
     Elf,
     /// File F0 where its debug information reaches past its end.
     CutDbi,
+    /// File F whose code was moved: two OMAPs lead from 0x2000 to the code at 0x1010 and back, and nowhere from 0x2008 on.
+    MovedCode,
     /// File F0 but for one thing.
     With(Change),
 }
 
 /// File F0.
 pub const F0: File = File::With(Change::Nothing);
+
+/// File F.
+pub const F: File = File::With(Change::LineData);
 
 impl File {
     /// The file's bytes. The second call's where the first finds no memory.
@@ -34,9 +41,43 @@ impl File {
         match self {
             File::Elf => Ok(Vec::from_slice(alloc, b"\x7fELF")?),
             File::CutDbi => cut_dbi(alloc),
+            File::MovedCode => moved_code(alloc)?.bytes(alloc),
             File::With(change) => file_with(alloc, change)?.bytes(alloc),
         }
     }
+}
+
+/// The file whose code was moved. Its streams of OMAPs and of the original sections lie behind all others.
+fn moved_code(alloc: Global) -> Result<ProgramDatabase> {
+    let mut database = file_f(alloc)?;
+    push_numbers(alloc, &mut database, 3, &[0x2000, 0x1010, 0x2008, 0])?;
+    push_numbers(alloc, &mut database, 4, &[0x1010, 0x2000])?;
+    let sections = Vec::from_slice(alloc, database.sections.as_slice())?;
+    push_stream(&mut database, 10, sections)?;
+    Ok(database)
+}
+
+/// Adds a stream of numbers, which the optional header names at a place.
+fn push_numbers(
+    alloc: Global,
+    database: &mut ProgramDatabase,
+    place: usize,
+    numbers: &[u32],
+) -> Result<()> {
+    let mut stream = Vec::new(alloc);
+    push_u32(&mut stream, numbers)?;
+    push_stream(database, place, stream)
+}
+
+/// Adds a stream, which the optional header names at a place. The streams before the first such are nine.
+fn push_stream(database: &mut ProgramDatabase, place: usize, stream: Vec<u8>) -> Result<()> {
+    let number = database.further_streams.len().saturating_add(9);
+    match database.debug.optional_header.get_mut(place) {
+        Some(named) => *named = u16::try_from(number)?,
+        None => return Err(SampleError::DoesNotFit),
+    }
+    database.further_streams.push(Some(stream))?;
+    Ok(())
 }
 
 /// What a run wrote, and how it ended.

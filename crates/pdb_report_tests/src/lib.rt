@@ -10,4 +10,6 @@ mod files;
 #[cfg(test)]
 mod rows;
 #[cfg(test)]
+mod sizes;
+#[cfg(test)]
 mod streams;

@@ -13,6 +13,7 @@ use Rattle.pdb_resolving.specs.Fault.{Fault, error_of, lifted, Fails}
 pub fails_on : {A B : Type 0} (e : Error) (read : Result A Fault) (f : A → Result B Fault) → Fails e read → Fails e (read >>= f)
 fails_on errors.OutOfMemory read f h = tt
 fails_on (errors.PdbError causes.OutOfMemory) read f h = h
+fails_on (errors.FormatError cause) read f h = h
 fails_on e read f h = ap (λ r. r >>= f) h
 
 -- a call of the container that may want memory fails

@@ -7,9 +7,9 @@ use Rattle.pdb_container.specs.Fault as container_fault
 use Rattle.pdb_resolving.specs.declared.error.Error.{Error}
 use Rattle.pdb_resolving.specs.declared.error.Error.TheVariants as errors
 
--- a fault of a definition: one for each variant of the crate's error but want of memory, which is in no definition
+-- a fault of a definition: one for each variant of the crate's error but want of memory and a writer that refused a text, which
+-- are in no definition
 pub data Fault : Type 0 where
-  FormatError : Fault
   PdbError : container_fault.Fault → Fault
   ArgumentTypeNotArgumentList : Fault
   FunctionIdIsNotProcedureType : Fault
@@ -33,9 +33,9 @@ abbrev pub error_of : container.Error → Error
 error_of causes.OutOfMemory = errors.OutOfMemory
 error_of e = errors.PdbError e
 
--- what fault an error is; want of memory is none, and its value there stands in no promise
+-- what fault an error is; want of memory and a writer's refusal are none, and its values there stand in no promise
 abbrev pub fault_of : Error → Fault
-fault_of (errors.FormatError e) = FormatError
+fault_of (errors.FormatError e) = CantResolveCrossModuleRefWithoutStringTable
 fault_of (errors.PdbError e) = PdbError (container_fault.fault_of e)
 fault_of errors.ArgumentTypeNotArgumentList = ArgumentTypeNotArgumentList
 fault_of errors.FunctionIdIsNotProcedureType = FunctionIdIsNotProcedureType
@@ -60,10 +60,11 @@ abbrev pub lifted : {A : Type 0} → Result A container_fault.Fault → Result A
 lifted (Ok x) = Ok x
 lifted (Err e) = Err (PdbError e)
 
--- A call fails: memory was short, or reading has that fault. Want of memory never comes as the container's.
+-- A call fails: memory was short, or reading has that fault. Want of memory never comes as the container's, and no writer is asked.
 abbrev pub Fails : {Y : Type 0} → Error → Result Y Fault → Type 0
 Fails errors.OutOfMemory read = Unit {0}
 Fails (errors.PdbError causes.OutOfMemory) read = ⊥
+Fails (errors.FormatError e) read = ⊥
 Fails e read = read ≡ Err (fault_of e)
 
 -- What a call returned, seen by view, is what reading gives, unless memory was short.

@@ -1,31 +1,38 @@
-//! Answers addresses of a program by its program database: `pdb_symbolizer frames FILE`.
+//! Answers addresses of a program by its program database: `pdb_symbolizer frames FILE`; and counts how many addresses of a range
+//! each function has: `pdb_symbolizer sizes FILE START END`.
 #![tactic(auto)]
 
-ghost use Rattle.std.specs.Prelude.{◌≡◌, option_map, map, string_bytes};
-ghost use Rattle.pdb_symbolizer.specs.Words.{file_word};
-
 pub use pdb_report::{
-    Error, LoadFault, RunFault, Symbolizer, Watched, finish_run, parse_address, run_frames,
+    Error, LoadFault, RunFault, Symbolizer, Tally, Watched, finish_run, parse_address, run_frames,
+    run_sizes,
 };
+pub use pdb_words::{Task, WordsFault, read_words};
+use std::alloc::Global;
 use std::io::{self, ErrorKind, Write};
 use std::process::ExitCode;
 use std::rt::Env;
 use std::{env, fs};
 
-const USAGE: &str = "usage: pdb_symbolizer frames FILE\n";
+/// What is told where a word is no text.
+const NO_TEXT: &str =
+    "error: a word is no text\n\nUsage: pdb_symbolizer <COMMAND>\n\nFor more information, try '--help'.\n";
 
 fn main(rt: HostRuntime) -> ExitCode {
     let mut errors = rt.stderr();
-    let words = match read_words(&rt) {
+    let words = match given_words(&rt) {
         Ok(words) => words,
         Err(error) if error.kind() == ErrorKind::OutOfMemory => {
             return told(&mut errors, "fault: OutOfMemory\n", 1);
         }
-        // A word that is no text.
-        Err(_) => return told(&mut errors, USAGE, 2),
+        Err(_) => return told(&mut errors, NO_TEXT, 2),
     };
-    let Some(file) = file_to_answer_by(words.as_slice()) else {
-        return told(&mut errors, USAGE, 2);
+    let task = match read_words(rt.alloc(), words.as_slice()) {
+        Ok(task) => task,
+        Err(fault) => return words_told(&fault, &mut rt.stdout(), &mut errors),
+    };
+    let file = match &task {
+        Task::Frames { file } => file.as_str(),
+        Task::Sizes { file, .. } => file.as_str(),
     };
     let bytes = match fs::read(&rt, file) {
         Ok(bytes) => bytes,
@@ -36,7 +43,10 @@ fn main(rt: HostRuntime) -> ExitCode {
     };
     let mut reader = Watched::new(rt.stdin());
     let mut writer = Watched::new(rt.stdout());
-    let outcome = run_frames(rt.alloc(), bytes, &mut reader, &mut writer);
+    let outcome = match task {
+        Task::Frames { .. } => run_frames(rt.alloc(), bytes, &mut reader, &mut writer),
+        Task::Sizes { start, end, .. } => count_sizes(rt.alloc(), bytes, start, end, &mut writer),
+    };
     ExitCode::from(finish_run(outcome, &mut errors))
 }
 
@@ -44,18 +54,35 @@ fn main(rt: HostRuntime) -> ExitCode {
 ///
 /// # Errors
 /// `OutOfMemory`, and another kind where a word is no text.
-fn read_words(rt: &(impl Env + AllocGlobal)) -> io::Result<Vec<String>> {
+fn given_words(rt: &(impl Env + AllocGlobal)) -> io::Result<Vec<String>> {
     let all = env::args(rt)?;
     Ok(all.skip(1).collect(rt.alloc())?)
 }
 
-/// The file by which addresses are answered: the second of two words of which the first is `frames`.
-fn file_to_answer_by(words: &[String]) -> Option<&str>
-    ensures { option_map (λ file. file.now) result ≡ file_word (map string_bytes words.now) }
-{
-    match words {
-        [task, file] if task.as_str() == "frames" => Some(file.as_str()),
-        _ => None,
+/// Writes the report on a range; how much was looked up for it isn't told.
+///
+/// # Errors
+/// As [`run_sizes`].
+fn count_sizes<W: Write>(
+    alloc: Global,
+    bytes: Vec<u8>,
+    start: u32,
+    end: u32,
+    writer: &mut Watched<W>,
+) -> Result<(), RunFault> {
+    match run_sizes(alloc, bytes, start, end, writer) {
+        Ok(_) => Ok(()),
+        Err(fault) => Err(fault),
+    }
+}
+
+/// Tells why no task came of the words, and returns the status: help goes to the output.
+fn words_told(fault: &WordsFault, output: &mut impl Write, errors: &mut impl Write) -> ExitCode {
+    match fault {
+        WordsFault::Help(text) => told(output, text.as_str(), 0),
+        WordsFault::Words(text) => told(errors, text.as_str(), 2),
+        WordsFault::NotAnAddress => told(errors, "fault: NotAnAddress\n", 2),
+        WordsFault::OutOfMemory => told(errors, "fault: OutOfMemory\n", 1),
     }
 }
 

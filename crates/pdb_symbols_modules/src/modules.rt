@@ -1,10 +1,11 @@
 //! The module list of the DBI stream.
 
 ghost use Rattle.std.specs.Cow.{cow_str_bytes, IsBorrowedStr};
-ghost use Rattle.std.specs.Prelude.{◌≡◌, ◌<◌, drop, length, IsOk, IfOk, IsOkUnless, None};
+ghost use Rattle.std.specs.Prelude.{◌≡◌, ◌<◌, drop, length, IsOk, IfOk, IsOkUnless, Ok, None};
 ghost use Rattle.std.specs.Str.{IsUtf8};
 ghost use Rattle.std.specs.Str.Lossy.{utf8_lossy};
 ghost use Rattle.pdb_container.specs.Buffer.{rest, ParsesFront};
+ghost use Rattle.pdb_container.specs.Fault.{Gives};
 ghost use Rattle.pdb_container.specs.Fields.{padding};
 ghost use Rattle.pdb_container.specs.Listing.{Listing, ending, Advances};
 ghost use Rattle.pdb_container.specs.RawString.{raw_bytes};
@@ -109,9 +110,9 @@ impl<'m> Module<'m> {
         self.c13_lines_size
     }
 
-    /// What these bytes hold, as the module's own stream.
-    pub(crate) fn info<'s>(&self, stream: Stream<'s>) -> ModuleInfo<'s>
-        ensures { result ≡ module_stream self.now stream.entry }
+    /// What these bytes hold, as the module's own stream. `OutOfMemory` alone.
+    pub(crate) fn info<'s>(&self, alloc: Global, stream: Stream<'s>) -> Result<ModuleInfo<'s>>
+        ensures { Gives (λ m. m) ⊥ result (Ok (module_stream self.now stream.entry)) }
     {
         let Module {
             symbols_size,
@@ -119,7 +120,13 @@ impl<'m> Module<'m> {
             c13_lines_size,
             ..
         } = self;
-        ModuleInfo::new(stream, *symbols_size, *c11_lines_size, *c13_lines_size)
+        ModuleInfo::new(
+            alloc,
+            stream,
+            *symbols_size,
+            *c11_lines_size,
+            *c13_lines_size,
+        )
     }
 }
 

@@ -196,7 +196,7 @@ impl<'s, S: Source + Drop> PDB<'s, S> {
     {
         match self.raw_stream(alloc, module.stream())? {
             None => Ok(None),
-            Some(stream) => Ok(Some(module.info(stream))),
+            Some(stream) => Ok(Some(module.info(alloc, stream)?)),
         }
     }
 

@@ -4,7 +4,7 @@ use Rattle.std.specs.Fmt.{digits}
 use Rattle.pdb_container.specs.declared.error.Error.TheVariants as read
 use Rattle.pdb_container.specs.Fault.{TypeNotFound, UnimplementedTypeKind}
 use Rattle.pdb_resolving.specs.declared.error.Error.{Error}
-use Rattle.pdb_resolving.specs.declared.error.Error.TheVariants.{PdbError as AtPdbError, OutOfMemory}
+use Rattle.pdb_resolving.specs.declared.error.Error.TheVariants.{PdbError as AtPdbError, FormatError, OutOfMemory}
 use Rattle.pdb_resolving.specs.Fault.{Fault, PdbError, fault_of}
 
 -- bytes of UTF-8
@@ -62,6 +62,7 @@ read_or fail (Err e) more = fail e
 abbrev pub Stops : Error → Text → Printed → Type 0
 Stops OutOfMemory new printed = Unit {0}
 Stops (AtPdbError read.OutOfMemory) new printed = ⊥
+Stops (FormatError cause) new printed = ⊥
 Stops e new printed = printed ≡ Stopped (fault_of e) new
 
 -- A call returned and left this text: printing ends so, unless memory was refused.
@@ -73,4 +74,5 @@ Prints (Err e) new printed = Stops e new printed
 abbrev pub PrintsUnread : {A : Type 0} → Error → Result A Error → Text → Text → Type 0
 PrintsUnread OutOfMemory result new old = result ≡ Err OutOfMemory
 PrintsUnread (AtPdbError read.OutOfMemory) result new old = Unit {0}
+PrintsUnread (FormatError cause) result new old = Unit {0}
 PrintsUnread e result new old = Prints result new (unread (fault_of e) old)

@@ -45,6 +45,7 @@ fails_as env k passed dimensions i e total lt on h so_far = sym so_far ∙ chain
 pub chain_fails : (env : Env) (k : ℕ) (passed : Path) (dimensions : List ℕ) (i : ℕ) (e : Error) (total : Chain) → k < 1024 → is_on passed i ≡ false → Fails e (env.read i) → elements_from env (1024 - k) passed dimensions i ≡ total → Fails e total
 chain_fails env k passed dimensions i errors.OutOfMemory total lt on h so_far = tt
 chain_fails env k passed dimensions i (errors.PdbError causes.OutOfMemory) total lt on h so_far = h
+chain_fails env k passed dimensions i (errors.FormatError cause) total lt on h so_far = h
 chain_fails env k passed dimensions i e total lt on h so_far = fails_as env k passed dimensions i (fault_of e) total lt on h so_far
 
 -- an element that is an array leads further, any other is the innermost one

@@ -12,12 +12,14 @@ use Rattle.pdb_text_pieces.specs.Printed.{Text, Printed, Done, Stopped, Stops, P
 pub fails_stops : {A : Type 0} (e : Error) (read : Result A Fault) (w : Text) (more : A → Printed) → Fails e read → Stops e w (read_or (λ e. Stopped e w) read more)
 fails_stops errors.OutOfMemory read w more h = tt
 fails_stops (errors.PdbError causes.OutOfMemory) read w more h = h
+fails_stops (errors.FormatError cause) read w more h = h
 fails_stops e read w more h = ap (λ r. read_or (λ e. Stopped e w) r more) h
 
 -- a reading that failed is the end of those that begin with it
 pub fails_on : {A B : Type 0} (e : Error) (read : Result A Fault) (more : A → Result B Fault) → Fails e read → Fails e (read >>= more)
 fails_on errors.OutOfMemory read more h = tt
 fails_on (errors.PdbError causes.OutOfMemory) read more h = h
+fails_on (errors.FormatError cause) read more h = h
 fails_on e read more h = ap (λ r. r >>= more) h
 
 -- an index that may not go on the path stops the printing
@@ -28,6 +30,7 @@ circular_stops e i w p is printed = subst (λ (x : Error). Stops x w p) (sym is)
 pub stops_fails : (e : Error) (w : Text) (p : Printed) → Stops e w p → Fails e (answered p)
 stops_fails errors.OutOfMemory w p h = tt
 stops_fails (errors.PdbError causes.OutOfMemory) w p h = h
+stops_fails (errors.FormatError cause) w p h = h
 stops_fails e w p h = ap answered h
 
 ok_is_not_err : {A : Type 0} {x : A} {e : Fault} → Ok x ≡ Err e → ⊥
@@ -37,6 +40,7 @@ ok_is_not_err {A} {x} {e} h = cc
 pub sure_stops : {A : Type 0} (e : Error) (x : A) (w : Text) (p : Printed) → Fails e (Ok x) → Stops e w p
 sure_stops errors.OutOfMemory x w p h = tt
 sure_stops (errors.PdbError causes.OutOfMemory) x w p h = h
+sure_stops (errors.FormatError cause) x w p h = h
 sure_stops e x w p h = absurd (ok_is_not_err h)
 
 -- what isn't for a missing type goes through where missing types end
@@ -44,10 +48,11 @@ pub uncaught : {A : Type 0} (r : Result A Error) (w : Text) (p : Printed) → ((
 uncaught (Ok x) w p other h = ap caught h
 uncaught (Err errors.OutOfMemory) w p other h = tt
 uncaught (Err (errors.PdbError causes.OutOfMemory)) w p other h = h
+uncaught (Err (errors.FormatError cause)) w p other h = h
 uncaught (Err (errors.PdbError (causes.TypeNotFound i))) w p other h = absurd (other i refl)
 uncaught (Err e) w p other h = ap caught h
 
 -- a text that wasn't made isn't handed over
 pub fails_emits : {W : Type 0} (takes : W → Text → W → Type 0) (old new : W) (e : Error) (made : Result Text Fault) → new ≡ old → Fails e made → Emits {A = Unit {0}} takes old (Err e) new made
-fails_emits takes old new (errors.FormatError cause) made same h = inr h
+fails_emits takes old new (errors.FormatError cause) made same h = absurd h
 fails_emits takes old new e made same h = (same, h)

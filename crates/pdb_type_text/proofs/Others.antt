@@ -57,6 +57,7 @@ no_modified env visit constant path t w h h' = refl
 pub stops_on : (e : Error) (new : Text) (p : Printed) (more : Text → Printed) → Stops e new p → Stops e new (p >>= more)
 stops_on errors.OutOfMemory new p more h = tt
 stops_on (errors.PdbError causes.OutOfMemory) new p more h = h
+stops_on (errors.FormatError cause) new p more h = h
 stops_on e new p more h = ap (λ x. x >>= more) h
 
 -- behind pointers, once an index was read: neither a pointer nor a Modifier

@@ -85,7 +85,7 @@ level_err env task path start inner i w e h begins blocked =
 -- the same of an index that was read already
 blocked_stops : (path inner : Path) (i : ℕ) (w : Text) (p : Printed) (e : Error) → Blocked e path inner i → Stops e w (cond (may_enter path i) p (Stopped (CircularTypeDefinition i) w))
 blocked_stops path inner i w p errors.OutOfMemory blocked = tt
-blocked_stops path inner i w p e blocked = circular_stops e i w _ blocked.2 (rw blocked.1 refl)
+blocked_stops path inner i w p e blocked = circular_stops e i w (cond (may_enter path i) p (Stopped (CircularTypeDefinition i) w)) blocked.2 (rw blocked.1 refl)
 
 -- the same in a level that begins where the path is
 pub entered_err : (path start inner : Path) (i : ℕ) (w : Text) (p : Printed) (e : Error) → start ≡ path → Blocked e start inner i → Stops e w (cond (may_enter path i) p (Stopped (CircularTypeDefinition i) w))
@@ -96,6 +96,7 @@ entered_err path start inner i w p e begins blocked =
 pub whole_unread : (env : Env) (path : Path) (i : ℕ) (w : Text) {A : Type 0} (e : Error) (r : Result A Error) (new : Text) → Fails e (env.read i) → PrintsUnread e r new w → Prints r new (visiting env path Whole path i w)
 whole_unread env path i w errors.OutOfMemory r new h p = rw p tt
 whole_unread env path i w (errors.PdbError causes.OutOfMemory) r new h p = absurd h
+whole_unread env path i w (errors.FormatError cause) r new h p = absurd h
 whole_unread env path i w e r new h p = rw (visit_is env Whole path i w, h) p
 
 -- what was read, by a formatter that is the same afterwards
@@ -122,6 +123,7 @@ visit_id_is env ids i w =
 pub id_unread : (env : Env) (ids : Path) (i : ℕ) (w : Text) {A : Type 0} (e : Error) (r : Result A Error) (new : Text) → Fails e (env.read_id i) → PrintsUnread e r new w → Prints r new (visiting_id env ids ids i w)
 id_unread env ids i w errors.OutOfMemory r new h p = rw p tt
 id_unread env ids i w (errors.PdbError causes.OutOfMemory) r new h p = absurd h
+id_unread env ids i w (errors.FormatError cause) r new h p = absurd h
 id_unread env ids i w e r new h p = rw (visit_id_is env ids i w, h) p
 
 -- an id that was read, by a formatter that is the same afterwards

@@ -1,8 +1,8 @@
 -- Texts that are handed over to a writer.
-use Rattle.std.specs.Prelude.{◌≡◌, ◌⊎◌, Result, Ok, Err}
+use Rattle.std.specs.Prelude.{◌≡◌, Result, Ok, Err}
 use Rattle.pdb_resolving.specs.declared.error.Error.{Error}
 use Rattle.pdb_resolving.specs.declared.error.Error.TheVariants as errors
-use Rattle.pdb_resolving.specs.Fault.{Fault, FormatError, Fails}
+use Rattle.pdb_resolving.specs.Fault.{Fault, Fails}
 use Rattle.pdb_text_pieces.specs.Printed.{Text}
 
 -- A text was made, of which a fact holds.
@@ -14,5 +14,5 @@ IsMade (Err e) P = ⊥
 -- was made; or no text was made, and the writer has got nothing.
 abbrev pub Emits : {W A : Type 0} → (W → Text → W → Type 0) → W → Result A Error → W → Result Text Fault → Type 0
 Emits takes old (Ok x) new made = IsMade made (λ text. takes old text new)
-Emits takes old (Err (errors.FormatError e)) new made = IsMade made (λ text. Unit {0}) ⊎ (made ≡ Err FormatError)
+Emits takes old (Err (errors.FormatError e)) new made = IsMade made (λ text. Unit {0})
 Emits takes old (Err e) new made = (new ≡ old) × Fails e made

@@ -1,15 +1,15 @@
 use Rattle.std.proofs.Common.{◌≡◌, ◌≤◌, ◌-◌, length, drop}
-use Rattle.pdb_context.specs.Context.{scope_in}
+use Rattle.pdb_context.specs.Context.{scope_in, uncounted}
 use Rattle.pdb_context.specs.FunctionList.{functions_at}
 use Rattle.pdb_context.proofs.functions.next_function.Given as goal
 
--- the functions that are left are those that were, and the context is as it was
+-- the functions that are left are those that were, and the context is as it was but for its count
 abbrev pub invariant-loop-next : goal.invariant-loop-next
 invariant-loop-next g l =
     let parts = l.fn.context.parts in
     let scope = scope_in g.P.ModuleProvider.provided l.fn.context in
     record {
-      same : l.context ≡ l.fn.context;
+      same : uncounted l.context ≡ uncounted l.fn.context;
       left : functions_at parts scope (drop l.next l.starts) ≡ functions_at parts scope (drop l.fn.next l.starts);
       behind : l.fn.next ≤ l.next;
     }

@@ -1,0 +1,3 @@
+pub mod Databases
+pub mod FunctionOrder
+pub mod OrderLaws

@@ -1,0 +1,142 @@
+//! The report on a range of addresses: how many of them each function has.
+
+ghost use Rattle.std.specs.Prelude.{◌≡◌, ℕ, ◌+◌, ◌<◌, ◌≤◌, ◌⊎◌, List, None, OnErr, OnOk, IfErr, IfOk};
+ghost use Rattle.pdb_addresses.specs.Addresses.{IsOrdered};
+ghost use Rattle.pdb_report.specs.Answer.{database_in};
+ghost use Rattle.pdb_report.specs.InputFaults.{IsOfWriting, OnWrite as OnInputWrite};
+ghost use Rattle.pdb_report.specs.Loading.{load_fault, IsFileFault};
+ghost use Rattle.pdb_report.specs.RunFaults.{OnLoad, OnMemory, OnReversed, OnWrite, OnCounted, UnlessLoad, IsOfSizes};
+ghost use Rattle.pdb_report.specs.SizesReport.{IsSizesReport, IsWithinPieces};
+ghost use Rattle.pdb_report.specs.Watched.{CountsFailure, IsQuiet, Writes, WritesFront};
+ghost use Rattle.pdb_sizes.specs.Counts.{pieces};
+ghost use Rattle.pdb_sizes.specs.Report.{IsReport};
+ghost use Rattle.pdb_symbols_modules.specs.Streams.{streams};
+
+use crate::engine::write_all;
+use crate::fault::{InputFault, RunFault, write_fault};
+use crate::symbolizer::Symbolizer;
+use crate::watched::Watched;
+use pdb_addr2line::{Context, Function, ModuleProvider};
+use pdb_addresses::{AddressMap, PdbInternalSectionOffset};
+use pdb_sizes::{FunctionRuns, count_runs, sizes_text};
+use std::alloc::{AllocError, Global};
+use std::io::Write;
+
+/// What a report of sizes took.
+#[derive(Debug, Drop, PartialEq)]
+pub struct Tally {
+    /// How many places were looked up.
+    pub lookups: u64,
+}
+
+/// A context that is asked for runs.
+#[derive(Drop)]
+struct Runs<'a, 's, P: ModuleProvider> {
+    context: Context<'a, 's, P>,
+}
+
+impl<'a, 's, P: ModuleProvider> FunctionRuns for Runs<'a, 's, P> {
+    ghost use Rattle.pdb_report.specs.Answer.{database_in};
+
+    ghost database = { λ runs. database_in P.provided runs.context };
+
+    ghost lookups = { λ runs. runs.context.lookups };
+
+    fn run_at(
+        &mut self,
+        alloc: Global,
+        place: PdbInternalSectionOffset,
+        limit: u32,
+    ) -> Result<(Option<Function>, u32), AllocError> {
+        match self.context.find_function_run(alloc, place, limit) {
+            Ok(run) => Ok(run),
+            Err(_) => Err(AllocError),
+        }
+    }
+}
+
+/// Counts the functions of the addresses from `start` on and before `end` by a context, and writes the report.
+///
+/// # Errors
+/// `Write` where a write failed; `OutOfMemory`.
+fn write_sizes<P: ModuleProvider, W: Write>(
+    alloc: Global,
+    map: &AddressMap<'_>,
+    context: Context<'_, '_, P>,
+    start: u32,
+    end: u32,
+    writer: &mut Watched<W>,
+) -> Result<Tally, InputFault>
+    requires ordered { IsOrdered map.now }
+    requires order { start ≤ end }
+    ensures ok { OnOk result ((text : List ℕ) × IsReport map.now (database_in P.provided context.entry) start end text × Writes W.contents writer.old writer.new text) }
+    ensures lookups { IfOk result (λ tally. tally.lookups ≤ context.entry.lookups + pieces map.now (database_in P.provided context.entry) start end) }
+    ensures quiet { OnOk result (IsQuiet writer.old writer.new) }
+    ensures kind { IfErr result IsOfWriting }
+    ensures write_fails { IfErr result (λ fault. OnInputWrite fault (λ kind. CountsFailure writer.old writer.new kind)) }
+    ensures part { OnErr result ((writer.new ≡ writer.old) ⊎ ((text : List ℕ) × IsReport map.now (database_in P.provided context.entry) start end text × WritesFront W.contents writer.old writer.new text)) }
+{
+    let mut runs = Runs { context };
+    let Ok(sizes) = count_runs(alloc, map, &mut runs, start, end) else {
+        return Err(InputFault::OutOfMemory);
+    };
+    let Ok(text) = sizes_text(alloc, &sizes) else {
+        return Err(InputFault::OutOfMemory);
+    };
+    match write_all(writer, text.as_bytes()) {
+        Ok(()) => Ok(Tally {
+            lookups: runs.context.lookups(),
+        }),
+        Err(kind) => Err(write_fault(kind)),
+    }
+}
+
+/// Writes how many of the addresses from `start` on and before `end` each function has in the program database of the bytes: a line
+/// for each function, in the order of start, end and name, and last `none` and how many addresses have none.
+///
+/// # Errors
+/// `Load` where the file has a loading fault, then `ReversedRange` where `start` is above `end`, and then nothing was written;
+/// `Write` where the writer failed in this call; `OutOfMemory`.
+pub fn run_sizes<W: Write>(
+    alloc: Global,
+    bytes: Vec<u8>,
+    start: u32,
+    end: u32,
+    writer: &mut Watched<W>,
+) -> Result<Tally, RunFault>
+    // The loading fault is returned where the file has one, with nothing written; every other end but out of memory says that
+    // there is none.
+    ensures load { IfErr result (λ fault. OnLoad fault (λ cause. IsFileFault cause (load_fault (streams bytes.items)) × (writer.new ≡ writer.old))) }
+    ensures loaded { UnlessLoad result (load_fault (streams bytes.items) ≡ None) }
+    // A reversed range is refused exactly where it is one, with nothing written.
+    ensures reversed { IfErr result (λ fault. OnReversed fault ((end < start) × (writer.new ≡ writer.old))) }
+    ensures order { OnCounted result (start ≤ end) }
+    ensures kind { IfErr result IsOfSizes }
+    // Out of memory is returned with nothing written, or where there is no loading fault.
+    ensures memory { IfErr result (λ fault. OnMemory fault ((load_fault (streams bytes.items) ≡ None) ⊎ (writer.new ≡ writer.old))) }
+    // Where the run ends well, the report is out, the writer didn't fail, and there was at most one lookup for each piece.
+    ensures ok { OnOk result ((text : List ℕ) × IsSizesReport (streams bytes.items) start end text × Writes W.contents writer.old writer.new text) }
+    ensures lookups { IfOk result (λ tally. IsWithinPieces (streams bytes.items) start end tally.lookups) }
+    ensures quiet { OnOk result (IsQuiet writer.old writer.new) }
+    // A failed write is one of this call, with its kind.
+    ensures write_fails { IfErr result (λ fault. OnWrite fault (λ kind. CountsFailure writer.old writer.new kind)) }
+    // At every fault nothing is out, or a front of the report.
+    ensures part { OnErr result ((writer.new ≡ writer.old) ⊎ ((text : List ℕ) × IsSizesReport (streams bytes.items) start end text × WritesFront W.contents writer.old writer.new text)) }
+{
+    let symbolizer = match Symbolizer::open(alloc, bytes) {
+        Ok(symbolizer) => symbolizer,
+        Err(fault) => return Err(RunFault::from(fault)),
+    };
+    if end < start {
+        return Err(RunFault::ReversedRange);
+    }
+    match symbolizer.context(alloc) {
+        Ok(context) => {
+            match write_sizes(alloc, symbolizer.address_map(), context, start, end, writer) {
+                Ok(tally) => Ok(tally),
+                Err(fault) => Err(RunFault::from(fault)),
+            }
+        }
+        Err(fault) => Err(RunFault::from(fault)),
+    }
+}

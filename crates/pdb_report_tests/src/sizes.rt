@@ -1,0 +1,144 @@
+//! Reports on ranges of addresses, and what was looked up for them.
+
+use crate::files::{F, File, line_buffer, told};
+use pdb_report::{RunFault, Tally, Watched, run_sizes};
+use pdb_samples::PieceWriter;
+use std::alloc::Global;
+use std::io::ErrorKind;
+use std::test::Fail;
+
+/// How a run ends.
+type Outcome = Result<Tally, RunFault>;
+
+/// What a run over a range of these bytes writes, and how it ends.
+fn run_over(alloc: Global, bytes: Vec<u8>, range: (u32, u32)) -> (Vec<u8>, Outcome) {
+    let mut report = Vec::new(alloc);
+    let mut writer = Watched::new(&mut report);
+    let outcome = run_sizes(alloc, bytes, range.0, range.1, &mut writer);
+    (report, outcome)
+}
+
+/// The same of a file; the second run where the first finds no memory.
+fn run_on(alloc: Global, file: File, range: (u32, u32)) -> Result<(Vec<u8>, Outcome), Fail> {
+    let run = run_over(alloc, file.bytes(alloc)?, range);
+    match run.1 {
+        Err(RunFault::OutOfMemory) => Ok(run_over(alloc, file.bytes(alloc)?, range)),
+        _ => Ok(run),
+    }
+}
+
+/// A file, a range, the report on it, and the least and the most that may be looked up for it.
+type Row = (File, (u32, u32), &'static str, (u64, u64));
+
+const ROWS: &[Row] = &[
+    // A part of a function.
+    (F, (0x1018, 0x1030), "0x00001010 24 f\nnone 0\n", (1, 1)),
+    // Moved code, and addresses that lead nowhere, which aren't looked up.
+    (
+        File::MovedCode,
+        (0x2000, 0x2010),
+        "0x00002000 8 f\nnone 8\n",
+        (1, 1),
+    ),
+    // No address at all.
+    (F, (0x1018, 0x1018), "none 0\n", (0, 0)),
+    // A whole section: answers may change behind 0x10, 0x30 and 0x40 bytes.
+    (F, (0x1000, 0x1100), "0x00001010 32 f\nnone 224\n", (1, 4)),
+];
+
+/// Whether the report of a row comes, and so much was looked up.
+fn is_counted(alloc: Global, row: &Row) -> Result<bool, Fail> {
+    let (file, range, report, (least, most)) = *row;
+    let (found, outcome) = run_on(alloc, file, range)?;
+    let lookups = outcome?.lookups;
+    Ok(found.as_slice() == report.as_bytes() && least <= lookups && lookups <= most)
+}
+
+#[test]
+fn sizes(rt: HostRuntime) -> Result<(), Fail> {
+    for (number, row) in ROWS.iter().enumerate() {
+        assert!(rt; is_counted(rt.alloc(), row)?, "row {number}");
+    }
+    Ok(())
+}
+
+/// Whether a run over a range whose start lies above its end writes nothing, and this is told of it.
+fn is_refused(alloc: Global, file: File, fault: &str) -> Result<bool, Fail> {
+    let (report, outcome) = run_on(alloc, file, (0x1030, 0x1018))?;
+    let outcome = match outcome {
+        Ok(_) => Ok(()),
+        Err(fault) => Err(fault),
+    };
+    let (status, errors) = told(alloc, outcome)?;
+    Ok(report.is_empty() && status == 1 && errors.as_slice() == fault.as_bytes())
+}
+
+/// Files, and what is told of such a run over them: what keeps a file from being loaded comes first.
+const REFUSED: &[(File, &str)] = &[
+    (F, "fault: ReversedRange\n"),
+    (File::Elf, "fault: UnrecognizedFileFormat\n"),
+];
+
+#[test]
+fn reversed_ranges(rt: HostRuntime) -> Result<(), Fail> {
+    for (file, fault) in REFUSED {
+        assert!(rt; is_refused(rt.alloc(), *file, *fault)?, "{fault}");
+    }
+    Ok(())
+}
+
+/// What a writer with so much room holds at the end of a run, the last of its failures, and how the run ended.
+fn write_report(
+    alloc: Global,
+    room: usize,
+    fault: Option<ErrorKind>,
+) -> Result<(Vec<u8>, Option<ErrorKind>, Outcome), Fail> {
+    let file = F.bytes(alloc)?;
+    let mut inner = PieceWriter {
+        written: line_buffer(alloc)?,
+        piece: 9,
+        room,
+        fault,
+    };
+    let mut writer = Watched::new(&mut inner);
+    let outcome = run_sizes(alloc, file, 0x1018, 0x1030, &mut writer);
+    let kind = writer.last_kind();
+    Ok((inner.written, kind, outcome))
+}
+
+/// Whether a run ends with a failure of this kind, and the writer is full and has a front of the report. Where memory is
+/// refused it runs once more.
+fn is_failing(
+    alloc: Global,
+    room: usize,
+    fault: Option<ErrorKind>,
+    kind: ErrorKind,
+) -> Result<bool, Fail> {
+    let mut last = write_report(alloc, room, fault)?;
+    if last.1.is_none() && last.2 == Err(RunFault::OutOfMemory) {
+        last = write_report(alloc, room, fault)?;
+    }
+    let (bytes, last_kind, outcome) = last;
+    let is_front = bytes.len() == room
+        && b"0x00001010 24 f\nnone 0\n".starts_with(bytes.as_slice());
+    Ok(is_front && last_kind == Some(kind) && outcome == Err(RunFault::Write(kind)))
+}
+
+/// The room of writers, their failure once that is full, and the kind of it. One without a failure takes no byte.
+const WRITERS: &[(usize, Option<ErrorKind>, ErrorKind)] = &[
+    (0, Some(ErrorKind::BrokenPipe), ErrorKind::BrokenPipe),
+    (0, None, ErrorKind::WriteZero),
+    (13, Some(ErrorKind::Interrupted), ErrorKind::Interrupted),
+    (13, None, ErrorKind::WriteZero),
+];
+
+#[test]
+fn failing_writers(rt: HostRuntime) -> Result<(), Fail> {
+    for (room, fault, kind) in WRITERS {
+        assert!(rt;
+            is_failing(rt.alloc(), *room, *fault, *kind)?,
+            "room for {room}, {kind:?}"
+        );
+    }
+    Ok(())
+}

@@ -1,0 +1,4 @@
+pub mod Counts
+pub mod Report
+pub mod Table
+pub mod Texts

@@ -1,0 +1,19 @@
+//! Laws of the definitions: functions that do nothing, whose contracts are proved.
+
+ghost use Rattle.std.specs.Prelude.{◌≡◌, ◌+◌, ◌≤◌, ℕ, List};
+ghost use Rattle.pdb_addresses.specs.Addresses.{Map};
+ghost use Rattle.pdb_functions.specs.FunctionOrder.{Function as FunctionValue};
+ghost use Rattle.pdb_sizes.specs.Counts.{count, count_of_none};
+ghost use Rattle.pdb_functions.specs.Databases.{Database};
+ghost use Rattle.pdb_sizes.specs.Table.{IsTable, count_in};
+
+/// The counts of two ranges, one behind the other, add up to those of both.
+pub fn counts_add_up()
+    ensures each { (m : Map) (db : Database) (a b c : ℕ) (f : FunctionValue) → a ≤ b → b ≤ c → count m db a b f + count m db b c f ≡ count m db a c f }
+    ensures none { (m : Map) (db : Database) (a b c : ℕ) → a ≤ b → b ≤ c → count_of_none m db a b + count_of_none m db b c ≡ count_of_none m db a c }
+{}
+
+/// What a table has for each function determines it: a report's lines and their order.
+pub fn tables_are_determined()
+    ensures { (t u : List (FunctionValue × ℕ)) → IsTable t → IsTable u → ((f : FunctionValue) → count_in t f ≡ count_in u f) → t ≡ u }
+{}

@@ -1,0 +1,20 @@
+-- Words behind the program's name, by rows.
+use Rattle.std.specs.Prelude.{ℕ, List, [], ◌∷◌, Option, Some, codes, option_map}
+use Rattle.clap.specs.Words.{Text, first_of}
+use Rattle.pdb_words.specs.Task.{address_at, entered_by}
+
+-- `frames F`
+abbrev pub frames_words : List Text
+frames_words = codes "frames" ∷ codes "F" ∷ []
+
+-- `sizes F` and two words
+abbrev pub sizes_words : Text → Text → List Text
+sizes_words start end = codes "sizes" ∷ codes "F" ∷ start ∷ end ∷ []
+
+-- a subcommand's name, FILE, and the addresses at START and END
+abbrev pub Told : Type 0
+Told = Text × Option Text × Option ℕ × Option ℕ
+
+-- what words enter
+abbrev pub told_of : List Text → Option Told
+told_of words = option_map (λ e. (e.0, first_of (codes "FILE") e.1, address_at (codes "START") e.1, address_at (codes "END") e.1)) (entered_by words)

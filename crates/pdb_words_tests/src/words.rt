@@ -1,0 +1,133 @@
+//! Words behind the program's name, and what comes of them.
+
+use pdb_words::{Task, WordsFault, read_words};
+use std::alloc::{AllocError, Global};
+use std::test::Fail;
+
+/// What has to come of words.
+#[derive(Clone, Copy)]
+enum Wanted {
+    /// This task.
+    Frames(&'static str),
+    /// This task.
+    Sizes(&'static str, u32, u32),
+    /// The fault of this name.
+    NotAnAddress,
+    /// A text on wrong words that has these texts.
+    Words(&'static [&'static str]),
+    /// A text of help that has these texts.
+    Help(&'static [&'static str]),
+}
+
+/// Whether a text has all of these.
+fn has_all(text: &String, parts: &[&str]) -> bool {
+    parts.iter().all(|part| text.as_str().contains(*part))
+}
+
+impl Wanted {
+    /// Whether it came.
+    fn came(self, outcome: &Result<Task, WordsFault>) -> bool {
+        match (self, outcome) {
+            (Wanted::Frames(wanted), Ok(Task::Frames { file })) => file.as_str() == wanted,
+            (Wanted::Sizes(wanted, from, to), Ok(Task::Sizes { file, start, end })) => {
+                file.as_str() == wanted && *start == from && *end == to
+            }
+            (Wanted::NotAnAddress, Err(WordsFault::NotAnAddress)) => true,
+            (Wanted::Words(parts), Err(WordsFault::Words(text))) => has_all(text, parts),
+            (Wanted::Help(parts), Err(WordsFault::Help(text))) => has_all(text, parts),
+            _ => false,
+        }
+    }
+}
+
+/// What help on `sizes` has.
+const SIZES_HELP: &[&str] = &[
+    "Usage: pdb_symbolizer sizes <FILE> <START> <END>",
+    "<FILE>   The program database",
+    "<START>  The range's first address, in hexadecimal",
+    "<END>    The address behind the range's last",
+    "pdb_symbolizer sizes program.pdb 1000 2000",
+];
+
+/// What help on `frames` has.
+const FRAMES_HELP: &[&str] = &[
+    "Usage: pdb_symbolizer frames <FILE>",
+    "<FILE>  The program database",
+    "Standard input has one address a line",
+    "echo 1018 | pdb_symbolizer frames program.pdb",
+];
+
+/// What help on the program has.
+const HELP: &[&str] = &[
+    "Usage: pdb_symbolizer <COMMAND>",
+    "frames  Tells",
+    "sizes   Counts",
+];
+
+/// Words, each behind a space, and what has to come of them.
+const ROWS: &[(&str, Wanted)] = &[
+    ("sizes F 0x10 20", Wanted::Sizes("F", 16, 32)),
+    (
+        "sizes F 10",
+        Wanted::Words(&[
+            "  <END>",
+            "Usage: pdb_symbolizer sizes <FILE> <START> <END>",
+        ]),
+    ),
+    ("sizes --help", Wanted::Help(SIZES_HELP)),
+    ("frames F", Wanted::Frames("F")),
+    ("sizes F 20 10", Wanted::Sizes("F", 32, 16)),
+    ("sizes F 10 zz", Wanted::NotAnAddress),
+    ("sizes F 123456789 20", Wanted::NotAnAddress),
+    ("", Wanted::Words(&["Usage: pdb_symbolizer <COMMAND>"])),
+    (
+        "frames",
+        Wanted::Words(&["  <FILE>", "Usage: pdb_symbolizer frames <FILE>"]),
+    ),
+    ("frames F 10", Wanted::Words(&["'10'"])),
+    ("lines F", Wanted::Words(&["'lines'"])),
+    ("--help", Wanted::Help(HELP)),
+    ("-h", Wanted::Help(HELP)),
+    ("help", Wanted::Help(HELP)),
+    ("help sizes", Wanted::Help(SIZES_HELP)),
+    ("frames --help", Wanted::Help(FRAMES_HELP)),
+];
+
+/// What comes of words.
+fn read(alloc: Global, line: &str) -> Result<Result<Task, WordsFault>, AllocError> {
+    let mut words = Vec::new(alloc);
+    for word in line.split_whitespace() {
+        words.push(String::from_str(alloc, word)?)?;
+    }
+    Ok(read_words(alloc, words.as_slice()))
+}
+
+/// What comes of words, and of the second call where the first finds no memory.
+fn read_again(alloc: Global, line: &str) -> Result<Result<Task, WordsFault>, AllocError> {
+    match read(alloc, line) {
+        Err(_) | Ok(Err(WordsFault::OutOfMemory)) => read(alloc, line),
+        outcome => outcome,
+    }
+}
+
+// The only test that fails where some allocation is refused, and the other asks again.
+#[test]
+fn first_calls_in_ample_memory(rt: HostRuntime) -> Result<(), Fail> {
+    for (line, wanted) in &ROWS[..3] {
+        let outcome = read(rt.alloc(), *line)?;
+        if let Err(WordsFault::OutOfMemory) = &outcome {
+            return Err(Fail::from("out of memory"));
+        }
+        assert!(rt; wanted.came(&outcome), "{line}");
+    }
+    Ok(())
+}
+
+#[test]
+fn rows(rt: HostRuntime) -> Result<(), Fail> {
+    for (line, wanted) in ROWS {
+        let outcome = read_again(rt.alloc(), *line)?;
+        assert!(rt; wanted.came(&outcome), "{line}");
+    }
+    Ok(())
+}
