@@ -9,5 +9,6 @@ pub mod Names
 pub mod Outside
 pub mod Paging
 pub mod Slices
+pub mod Starts
 pub mod Taking
 pub mod Words

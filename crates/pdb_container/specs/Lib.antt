@@ -2,6 +2,7 @@ pub mod Alike
 pub mod SourceAnswers
 pub mod Buffer
 pub mod Container
+pub mod Directory
 pub mod ErrorText
 pub mod Fault
 pub mod Fields

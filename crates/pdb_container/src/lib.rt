@@ -3,9 +3,11 @@
 #![tactic(auto)]
 
 mod buffer;
+mod directory;
 mod entry_list;
 mod error;
 mod fallible_iterator;
+mod front;
 pub mod laws;
 mod msf;
 mod numbers;
@@ -18,6 +20,7 @@ pub use buffer::{FromBuffer, ParseBuffer};
 pub use entry_list::parse_entries;
 pub use error::{Error, ModuleFault, Result, kind_name};
 pub use fallible_iterator::FallibleIterator;
+pub use front::may_be_container;
 pub use msf::{BigMSF, Msf, Stream, open_msf};
 pub use numbers::{nul_in, padding_behind, word_at};
 pub use page_list::PageList;

@@ -1,15 +1,18 @@
-//! MSF streams: the header, the directory, and the pages in which each stream lies.
+//! MSF streams: the header, and the pages in which each stream lies.
 
-ghost use Rattle.std.specs.Prelude.{◌≡◌, ◌+◌, ◌*◌, ◌<◌, ◌≤◌, ◌^◌, ◌-◌, List, ℕ, map, length, vec_len, take, drop, IfOk, IfErr, IsOk, ◌⊎◌};
-ghost use Rattle.std.specs.List.{sum_by};
-ghost use Rattle.pdb_container.specs.Container.{words, header_in, front_in, behind_header as behind, pages_in, layout_of, directory_of, stream_in, stream, stream_pages_in, page_count, at_most, list_count as lists_for};
+ghost use Rattle.std.specs.Prelude.{◌≡◌, ◌*◌, ◌<◌, ◌≤◌, ◌^◌, length, take, drop, Some, IfOk, IfErr, IsOk, ◌⊎◌};
+ghost use Rattle.pdb_container.specs.Container.{words, header_in, front_in, behind_header as behind, layout_of, directory_of, stream_in, stream, at_most, list_count as lists_for};
+ghost use Rattle.pdb_container.specs.Directory.{IsKept};
 ghost use Rattle.pdb_container.specs.SourceAnswers.{AnswersFrom};
 ghost use Rattle.pdb_container.specs.Header.{layout, IsSound};
 ghost use Rattle.std.specs.declared.io.ErrorKind.TheVariants.{UnexpectedEof};
+ghost use Rattle.pdb_container.specs.declared.error.Error.TheVariants.{OutOfMemory};
 ghost use Rattle.pdb_container.specs.Fault.{error_of, fault_of, IoError, Gives, HasRisen, IsOutside};
 ghost use Rattle.pdb_container.specs.Places.{bytes_at, page_places, IsPaged};
 
+use crate::directory::{Directory, pages_of};
 use crate::error::{Error, Result};
+use crate::front::may_be_container;
 use crate::numbers::word_at;
 use crate::page_list::PageList;
 use crate::source::{ReadView, Source, SourceSlice};
@@ -17,12 +20,6 @@ use std::alloc::Global;
 use std::io;
 use std::io::ErrorKind;
 use std::marker::{Model, PhantomData};
-
-/// How the header begins.
-const MAGIC: [u8; 32] = *b"Microsoft C/C++ MSF 7.00\r\n\x1aDS\0\0\0";
-
-/// The size of a stream that is not there.
-const ABSENT: u32 = 0xffff_ffff;
 
 /// How many bytes the header has before its list of pages.
 const HEADER_SIZE: usize = 52;
@@ -77,26 +74,6 @@ fn words_of(alloc: Global, bytes: &[u8]) -> Result<Vec<u32>>
     Ok(numbers)
 }
 
-/// The first `count` numbers, which have to be page numbers.
-#[tactic(auto, using(crate::proofs::Words::pages_start, crate::proofs::Words::pages_more, crate::proofs::Words::pages_missing, crate::proofs::Words::pages_wrong, crate::proofs::Words::pages_done))]
-fn pages_of(alloc: Global, used: u32, count: usize, numbers: &[u32]) -> Result<Vec<u32>>
-    ensures exact { Gives (λ v. v.items) ⊥ result (pages_in used count numbers.now) }
-    ensures len { IfOk result (λ v. vec_len v ≡ count) }
-{
-    let mut pages = Vec::with_capacity(alloc, count.min(numbers.len()))?;
-    for i in 0..count {
-        if i >= numbers.len() {
-            return Err(Error::UnexpectedEof);
-        }
-        let page = numbers[i];
-        if page < 1 || used < page {
-            return Err(Error::PageReferenceOutOfRange(page));
-        }
-        pages.push(page)?;
-    }
-    Ok(pages)
-}
-
 /// The first `size` bytes of the pages.
 #[tactic(auto, using(crate::proofs::Paging::paged_len))]
 fn read_pages<S: Source>(
@@ -132,82 +109,9 @@ fn list_of(alloc: Global, page_size: u32, pages: &[u32], size: usize) -> Result<
     Ok(list)
 }
 
-fn pages_for(page_size: u32, size: u32) -> u32
-    requires { 0 < page_size }
-    ensures { result ≡ page_count page_size size }
-{
-    if size == ABSENT {
-        0
-    } else {
-        size.div_ceil(page_size)
-    }
-}
-
-/// The size and the pages of a stream, by the directory's numbers.
-#[tactic(auto, using(crate::proofs::Paging::pages_enough), unfolding(crate::specs::Container::stream_pages_in))]
-fn place_of(
-    alloc: Global,
-    page_size: u32,
-    used: u32,
-    directory: &[u32],
-    number: u32,
-) -> Result<(u32, Vec<u32>)>
-    requires { 0 < page_size }
-    ensures exact { Gives (λ found. (found.0, found.1.items)) ⊥ result (stream_pages_in page_size used number directory.now) }
-    ensures enough { IfOk result (λ found. found.0 ≤ vec_len found.1 * page_size) }
-    ensures few { IfOk result (λ found. vec_len found.1 < 2 ^ 32) }
-{
-    let Some((count, numbers)) = directory.split_first() else {
-        return Err(Error::UnexpectedEof);
-    };
-    if *count <= number {
-        return Err(Error::StreamNotFound(number));
-    }
-    if numbers.len() < *count as usize {
-        return Err(Error::UnexpectedEof);
-    }
-    let size = numbers[number as usize];
-    if size == ABSENT {
-        return Err(Error::StreamNotFound(number));
-    }
-    let own = numbers_of(page_size, numbers, *count, number);
-    let pages = pages_of(alloc, used, pages_for(page_size, size) as usize, own)?;
-    Ok((size, pages))
-}
-
-/// The page numbers from those of a stream on.
-fn numbers_of(page_size: u32, numbers: &[u32], count: u32, number: u32) -> &[u32]
-    requires size { 0 < page_size }
-    requires stream { number < count }
-    requires whole { count ≤ length numbers.now }
-    ensures { result.now ≡ drop (count + sum_by (page_count page_size) (take number numbers.now)) numbers.now }
-{
-    let before = pages_before(page_size, &numbers[..number as usize]);
-    let start = count as usize + before;
-    if start <= numbers.len() {
-        &numbers[start..]
-    } else {
-        &[]
-    }
-}
-
-/// How many pages these streams have.
-fn pages_before(page_size: u32, sizes: &[u32]) -> usize
-    requires size { 0 < page_size }
-    requires few { length sizes.now < 2 ^ 32 }
-    ensures sum { result ≡ sum_by (page_count page_size) sizes.now }
-    ensures bound { result ≤ 2 ^ 64 - 2 ^ 32 }
-{
-    let mut total = 0;
-    for size in sizes {
-        total += pages_for(page_size, *size) as usize;
-    }
-    total
-}
-
-/// The directory, as numbers.
+/// The directory's numbers.
 #[tactic(auto, using(crate::proofs::Paging::pages_enough, crate::proofs::Outside::outside_alone, crate::proofs::Outside::outside_earlier, crate::proofs::Outside::outside_later), unfolding(crate::specs::Container::directory_of))]
-fn read_directory<S: Source>(source: &mut S, alloc: Global, header: &Header) -> Result<Vec<u32>>
+fn read_numbers<S: Source>(source: &mut S, alloc: Global, header: &Header) -> Result<Vec<u32>>
     requires { IsSound (layout header.now) }
     ensures answer { AnswersFrom S.bytes S.failures source.old source.new (λ v. v.items) result
         (directory_of (layout header.now) (S.bytes source.old)) }
@@ -232,29 +136,77 @@ fn read_directory<S: Source>(source: &mut S, alloc: Global, header: &Header) -> 
     words_of(alloc, directory.as_slice())
 }
 
-#[tactic(auto, using(crate::proofs::Outside::outside_alone, crate::proofs::Outside::outside_earlier, crate::proofs::Outside::outside_later), unfolding(crate::specs::Container::stream_in))]
+/// The directory, or its fault, to be kept. `OutOfMemory`, and `IoError` where the source failed, are not kept.
+#[tactic(auto, using(crate::proofs::Outside::outside_alone, crate::proofs::Outside::outside_earlier, crate::proofs::Outside::outside_later))]
+fn read_directory<S: Source>(
+    source: &mut S,
+    alloc: Global,
+    header: &Header,
+) -> Result<Result<Directory>>
+    requires { IsSound (layout header.now) }
+    ensures same { S.bytes source.new ≡ S.bytes source.old }
+    ensures counts { S.failures source.old ≤ S.failures source.new }
+    ensures kept { IfOk result (λ kept. IsKept (layout header.now) (S.bytes source.old) (Some kept)) }
+    ensures err { IfErr result (λ e. IsOutside e (HasRisen (S.failures source.old) (S.failures source.new))
+        ⊎ (directory_of (layout header.now) (S.bytes source.old) ≡ Err (fault_of e))) }
+{
+    match read_numbers(source, alloc, header) {
+        Ok(numbers) => Ok(Ok(Directory::new(alloc, header.page_size, numbers)?)),
+        Err(Error::OutOfMemory) => Err(Error::OutOfMemory),
+        Err(Error::IoError(kind)) => match kind {
+            ErrorKind::UnexpectedEof => Ok(Err(Error::IoError(kind))),
+            _ => Err(Error::IoError(kind)),
+        },
+        Err(fault) => Ok(Err(fault)),
+    }
+}
+
+/// The first bytes of a stream, by the directory or its fault.
+#[tactic(auto, using(crate::proofs::Outside::outside_alone), unfolding(crate::specs::Container::stream_in))]
 fn read_stream<S: Source>(
     source: &mut S,
     alloc: Global,
     header: &Header,
+    kept: &Result<Directory>,
     number: u32,
     limit: Option<usize>,
 ) -> Result<ReadView>
-    requires { IsSound (layout header.now) }
+    requires sound { IsSound (layout header.now) }
+    requires kept { IsKept (layout header.now) (S.bytes source.old) (Some kept.now) }
     ensures answer { AnswersFrom S.bytes S.failures source.old source.new (λ v. v) result
         (stream_in (layout header.now) (S.bytes source.old) number limit) }
     ensures few { IfOk result (λ v. length v < 2 ^ 32) }
 {
-    let directory = read_directory(source, alloc, header)?;
-    let (size, pages) = place_of(
-        alloc,
-        header.page_size,
-        header.pages_used,
-        directory.as_slice(),
-        number,
-    )?;
+    let directory = match kept {
+        Ok(directory) => directory,
+        Err(fault) => return Err(*fault),
+    };
+    let (size, pages) = directory.place_of(alloc, header.page_size, header.pages_used, number)?;
     let size = cut(limit, size as usize);
     read_pages(source, alloc, header.page_size, pages.as_slice(), size)
+}
+
+/// The first bytes of a stream, where no directory is kept: it is read anew and kept.
+#[tactic(auto, using(crate::proofs::Outside::outside_alone, crate::proofs::Outside::outside_earlier, crate::proofs::Outside::outside_later), unfolding(crate::specs::Container::stream_in))]
+fn read_anew<S: Source>(
+    source: &mut S,
+    alloc: Global,
+    header: &Header,
+    directory: &mut Option<Result<Directory>>,
+    number: u32,
+    limit: Option<usize>,
+) -> Result<ReadView>
+    requires sound { IsSound (layout header.now) }
+    requires kept { IsKept (layout header.now) (S.bytes source.old) directory.old }
+    ensures kept { IsKept (layout header.now) (S.bytes source.old) directory.new }
+    ensures answer { AnswersFrom S.bytes S.failures source.old source.new (λ v. v) result
+        (stream_in (layout header.now) (S.bytes source.old) number limit) }
+    ensures few { IfOk result (λ v. length v < 2 ^ 32) }
+{
+    let kept = read_directory(source, alloc, header)?;
+    let view = read_stream(source, alloc, header, &kept, number, limit);
+    *directory = Some(kept);
+    view
 }
 
 fn cut(limit: Option<usize>, size: usize) -> usize
@@ -273,7 +225,7 @@ fn header_of(alloc: Global, front: &[u8]) -> Result<Header>
     ensures exact { Gives layout ⊥ result (header_in front.now) }
     ensures sound { IfOk result (λ h. IsSound (layout h)) }
 {
-    if !front.starts_with(&MAGIC) {
+    if !may_be_container(front) {
         return Err(Error::UnrecognizedFileFormat);
     }
     let page_size = word_at(front, 32);
@@ -350,8 +302,9 @@ pub trait Msf<'s, S: Source> {
     /// The source of the container's bytes.
     ghost source: { Self → S };
 
-    /// An MSF stream by its number, or its first `limit` bytes; the directory is read anew. A call that is refused
-    /// changes no later result. `StreamNotFound`, `PageReferenceOutOfRange`, `UnexpectedEof`; `IoError` past the file's
+    /// An MSF stream by its number, or its first `limit` bytes. It views the stream's own pages alone, unless the source
+    /// failed each time that the directory was read before; then it reads that first. A call that is refused changes no
+    /// later result. `StreamNotFound`, `PageReferenceOutOfRange`, `UnexpectedEof`; `IoError` past the file's
     /// end, and where the source failed.
     fn get(&mut self, alloc: Global, stream_number: u32, limit: Option<usize>) -> Result<Stream<'s>>
         ensures { AnswersFrom S.bytes S.failures (source self.old) (source self.new) (λ s. s) result
@@ -363,6 +316,7 @@ pub trait Msf<'s, S: Source> {
 pub struct BigMSF<'s, S: Source> {
     source: S,
     header: Header,
+    directory: Option<Result<Directory>>,
     of: PhantomData<&'s ()>,
 }
 
@@ -370,12 +324,14 @@ impl<'s, S: Source> Model for BigMSF<'s, S> {
     ghost use Rattle.std.specs.Prelude.{◌≡◌, Ok};
     ghost use Rattle.pdb_container.specs.Container.{layout_of};
     ghost use Rattle.pdb_container.specs.Header.{layout, IsSound};
+    ghost use Rattle.pdb_container.specs.Directory.{IsKept};
 
     ghost Value = { S };
 
     ghost view = { λ m. m.source };
 
-    ghost invariant = { λ m. (layout_of (S.bytes m.source) ≡ Ok (layout m.header)) × IsSound (layout m.header) };
+    ghost invariant = { λ m. (layout_of (S.bytes m.source) ≡ Ok (layout m.header)) × IsSound (layout m.header)
+        × IsKept (layout m.header) (S.bytes m.source) m.directory };
 }
 
 impl<'s, S: Source> Msf<'s, S> for BigMSF<'s, S> {
@@ -388,7 +344,7 @@ impl<'s, S: Source> Msf<'s, S> for BigMSF<'s, S> {
         stream_number: u32,
         limit: Option<usize>,
     ) -> Result<Stream<'s>> {
-        let view = read_stream(&mut self.source, alloc, &self.header, stream_number, limit)?;
+        let view = self.view_of(alloc, stream_number, limit)?;
         Ok(Stream {
             view,
             of: PhantomData,
@@ -396,9 +352,50 @@ impl<'s, S: Source> Msf<'s, S> for BigMSF<'s, S> {
     }
 }
 
+impl<'s, S: Source> BigMSF<'s, S> {
+    #[tactic(auto, unfolding(crate::specs::Container::stream))]
+    fn view_of(&mut self, alloc: Global, number: u32, limit: Option<usize>) -> Result<ReadView>
+        ensures answer { AnswersFrom S.bytes S.failures self.old self.new (λ v. v) result
+            (stream (S.bytes self.old) number limit) }
+        ensures few { IfOk result (λ v. length v < 2 ^ 32) }
+    {
+        match &self.directory {
+            Some(kept) => read_stream(&mut self.source, alloc, &self.header, kept, number, limit),
+            None => read_anew(
+                &mut self.source,
+                alloc,
+                &self.header,
+                &mut self.directory,
+                number,
+                limit,
+            ),
+        }
+    }
+}
+
+/// The directory, or its fault; `None` where the source failed. `OutOfMemory`.
+fn first_directory<S: Source>(
+    source: &mut S,
+    alloc: Global,
+    header: &Header,
+) -> Result<Option<Result<Directory>>>
+    requires { IsSound (layout header.now) }
+    ensures same { S.bytes source.new ≡ S.bytes source.old }
+    ensures counts { S.failures source.old ≤ S.failures source.new }
+    ensures kept { IfOk result (λ kept. IsKept (layout header.now) (S.bytes source.old) kept) }
+    ensures err { IfErr result (λ e. e ≡ OutOfMemory) }
+{
+    match read_directory(source, alloc, header) {
+        Ok(kept) => Ok(Some(kept)),
+        Err(Error::OutOfMemory) => Err(Error::OutOfMemory),
+        Err(_) => Ok(None),
+    }
+}
+
 /// Opens the MSF container that a source holds: its header and the numbers of its list pages, in the first 4096 bytes.
-/// `UnrecognizedFileFormat`, `InvalidPageSize`, `PageReferenceOutOfRange`, `UnexpectedEof`; `IoError` where the source
-/// failed.
+/// The directory is read here too, and a fault of it is answered by every `get`; where the source fails in that, the
+/// next `get` tries again. `UnrecognizedFileFormat`, `InvalidPageSize`, `PageReferenceOutOfRange`, `UnexpectedEof`;
+/// `IoError` where the source failed.
 #[tactic(auto, using(crate::proofs::Outside::outside_alone, crate::proofs::Outside::outside_with), unfolding(crate::specs::Container::layout_of))]
 pub fn open_msf<'s, S: Source + Drop>(alloc: Global, mut source: S) -> Result<BigMSF<'s, S>>
     ensures file { IfOk result (λ m. (S.bytes m ≡ S.bytes source) × (S.failures source ≤ S.failures m) × IsOk (layout_of (S.bytes source))) }
@@ -406,9 +403,11 @@ pub fn open_msf<'s, S: Source + Drop>(alloc: Global, mut source: S) -> Result<Bi
 {
     let front = read_front(&mut source, alloc)?;
     let header = header_of(alloc, front.as_slice())?;
+    let directory = first_directory(&mut source, alloc, &header)?;
     Ok(BigMSF {
         source,
         header,
+        directory,
         of: PhantomData,
     })
 }

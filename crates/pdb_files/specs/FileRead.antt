@@ -1,0 +1,9 @@
+-- How much of a file is read.
+use Rattle.std.specs.Prelude.{◌≡◌, ℕ, ◌≤◌, List, ◌++◌, length, nat_eq, false}
+use Rattle.std.specs.List.{starts_with}
+use Rattle.pdb_container.specs.Container.{magic}
+
+-- All of the file was read; or a front that is as long as a container's magic and isn't it.
+pub data IsRead (file bytes : List ℕ) : Type 0 where
+  all : bytes ≡ file → IsRead file bytes
+  front : (rest : List ℕ) → file ≡ bytes ++ rest → 32 ≤ length bytes → starts_with nat_eq bytes magic ≡ false → IsRead file bytes
