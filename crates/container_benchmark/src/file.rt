@@ -1,11 +1,17 @@
-//! A container in memory: streams of a megabyte each, and the pages that tell where they lie.
+//! A container in memory: streams of as many pages each, and the pages that tell where they lie.
 
 ghost use Rattle.std.specs.Prelude.{◌≡◌, ◌+◌, ◌*◌, ◌-◌, ◌^◌, ◌<◌, ◌≤◌};
 
 use std::alloc::{AllocError, Global};
 
 /// How many streams a container has at most.
-pub const MOST_STREAMS: u32 = 1024;
+pub const MOST_STREAMS: u32 = 10_000;
+
+/// How many pages a stream has at most.
+pub const MOST_PAGES: u32 = 1024;
+
+/// How many pages all streams have at most, which is a gigabyte.
+pub const MOST_IN_ALL: u32 = 0x4_0000;
 
 /// How a container begins.
 const MAGIC: [u8; 32] = *b"Microsoft C/C++ MSF 7.00\r\n\x1aDS\0\0\0";
@@ -13,11 +19,7 @@ const MAGIC: [u8; 32] = *b"Microsoft C/C++ MSF 7.00\r\n\x1aDS\0\0\0";
 /// The size of a page, in bytes.
 const PAGE_SIZE: usize = 4096;
 
-/// How many pages a stream has.
-const STREAM_PAGES: u32 = 256;
-
-/// How many pages lie in one direction: a stream's first from the first to the last, its others from the last to the
-/// first.
+/// How many pages lie in one direction, by turns from the first to the last and from the last to the first.
 const RUN_PAGES: u32 = 128;
 
 /// The page that lists those of the directory. Before it lie the header and two pages that a reader passes over.
@@ -26,19 +28,23 @@ const LIST_PAGE: u32 = 3;
 /// The first page of the directory, behind which come the streams.
 const DIRECTORY_PAGE: u32 = 4;
 
-/// The bytes of a container with so many streams.
-pub fn container_of(alloc: Global, streams: u32) -> Result<Vec<u8>, AllocError>
-    requires { streams ≤ 2 ^ 10 }
+/// The bytes of a container with so many streams, each of so many pages.
+pub fn container_of(alloc: Global, streams: u32, stream_pages: u32) -> Result<Vec<u8>, AllocError>
+    requires streams { streams ≤ 10000 }
+    requires stream_pages { stream_pages ≤ 2 ^ 10 }
+    requires in_all { streams * stream_pages ≤ 2 ^ 18 }
 {
-    let first = first_stream_page(streams);
-    let mut file = Vec::with_capacity(alloc, end_of(first + STREAM_PAGES * streams))?;
-    push_header(&mut file, streams)?;
+    let pages = streams * stream_pages;
+    let first = first_stream_page(streams, pages);
+    let mut file = Vec::with_capacity(alloc, end_of(first + pages))?;
+    push_header(&mut file, streams, pages)?;
     file.resize(end_of(LIST_PAGE), 0)?;
-    push_list(&mut file, streams)?;
+    push_list(&mut file, directory_pages(streams, pages))?;
     file.resize(end_of(DIRECTORY_PAGE), 0)?;
-    push_directory(&mut file, streams)?;
+    push_sizes(&mut file, streams, stream_pages)?;
+    push_page_numbers(&mut file, first, pages)?;
     file.resize(end_of(first), 0)?;
-    push_content(&mut file, streams)?;
+    push_content(&mut file, pages)?;
     Ok(file)
 }
 
@@ -50,25 +56,28 @@ fn end_of(pages: u32) -> usize
 }
 
 /// The size of the directory: the count of the streams, their sizes and the numbers of their pages.
-fn directory_size(streams: u32) -> u32
-    requires { streams ≤ 2 ^ 10 }
-    ensures { result ≡ 4 * (1 + streams + 256 * streams) }
+fn directory_size(streams: u32, pages: u32) -> u32
+    requires streams { streams ≤ 10000 }
+    requires pages { pages ≤ 2 ^ 18 }
+    ensures { result ≡ 4 * (1 + streams + pages) }
 {
-    4 * (1 + streams + STREAM_PAGES * streams)
+    4 * (1 + streams + pages)
 }
 
-fn directory_pages(streams: u32) -> u32
-    requires { streams ≤ 2 ^ 10 }
-    ensures { result ≤ 258 }
+fn directory_pages(streams: u32, pages: u32) -> u32
+    requires streams { streams ≤ 10000 }
+    requires pages { pages ≤ 2 ^ 18 }
+    ensures { result ≤ 266 }
 {
-    directory_size(streams).div_ceil(PAGE_SIZE as u32)
+    directory_size(streams, pages).div_ceil(PAGE_SIZE as u32)
 }
 
-fn first_stream_page(streams: u32) -> u32
-    requires { streams ≤ 2 ^ 10 }
-    ensures { result ≤ 262 }
+fn first_stream_page(streams: u32, pages: u32) -> u32
+    requires streams { streams ≤ 10000 }
+    requires pages { pages ≤ 2 ^ 18 }
+    ensures { result ≤ 270 }
 {
-    DIRECTORY_PAGE + directory_pages(streams)
+    DIRECTORY_PAGE + directory_pages(streams, pages)
 }
 
 fn push_number(file: &mut Vec<u8>, number: u32) -> Result<(), AllocError> {
@@ -77,63 +86,63 @@ fn push_number(file: &mut Vec<u8>, number: u32) -> Result<(), AllocError> {
 
 /// The magic, the size of a page, the free page map, the pages used, the directory's size, a reserved number, and
 /// the page of the list.
-fn push_header(file: &mut Vec<u8>, streams: u32) -> Result<(), AllocError>
-    requires { streams ≤ 2 ^ 10 }
+fn push_header(file: &mut Vec<u8>, streams: u32, pages: u32) -> Result<(), AllocError>
+    requires streams { streams ≤ 10000 }
+    requires pages { pages ≤ 2 ^ 18 }
 {
     file.extend_from_slice(&MAGIC)?;
     push_number(file, PAGE_SIZE as u32)?;
     push_number(file, 1)?;
-    push_number(file, first_stream_page(streams) + STREAM_PAGES * streams)?;
-    push_number(file, directory_size(streams))?;
+    push_number(file, first_stream_page(streams, pages) + pages)?;
+    push_number(file, directory_size(streams, pages))?;
     push_number(file, 0)?;
     push_number(file, LIST_PAGE)
 }
 
-fn push_list(file: &mut Vec<u8>, streams: u32) -> Result<(), AllocError>
-    requires { streams ≤ 2 ^ 10 }
+fn push_list(file: &mut Vec<u8>, count: u32) -> Result<(), AllocError>
+    requires { count ≤ 266 }
 {
-    for page in 0..directory_pages(streams) {
+    for page in 0..count {
         push_number(file, DIRECTORY_PAGE + page)?;
     }
     Ok(())
 }
 
-fn push_directory(file: &mut Vec<u8>, streams: u32) -> Result<(), AllocError>
-    requires { streams ≤ 2 ^ 10 }
+/// How many streams there are, and the size of each.
+fn push_sizes(file: &mut Vec<u8>, streams: u32, stream_pages: u32) -> Result<(), AllocError>
+    requires { stream_pages ≤ 2 ^ 10 }
 {
     push_number(file, streams)?;
     for _ in 0..streams {
-        push_number(file, STREAM_PAGES * PAGE_SIZE as u32)?;
+        push_number(file, stream_pages * PAGE_SIZE as u32)?;
     }
-    push_page_numbers(file, first_stream_page(streams), STREAM_PAGES * streams)
+    Ok(())
 }
 
 fn push_page_numbers(file: &mut Vec<u8>, first: u32, count: u32) -> Result<(), AllocError>
     requires { first + count + 128 < 2 ^ 32 }
 {
     for place in 0..count {
-        push_number(file, first + page_at(place))?;
+        push_number(file, first + page_at(place, count))?;
     }
     Ok(())
 }
 
-/// Which of the streams' pages is read at a place among them, from 0.
-fn page_at(place: u32) -> u32
+/// Which of so many streams' pages is read at a place among them, from 0. Those behind the last whole run lie in order.
+fn page_at(place: u32, count: u32) -> u32
     requires { place + 128 < 2 ^ 32 }
     ensures { result < place + 128 }
 {
     let index = place % RUN_PAGES;
-    if place / RUN_PAGES % 2 == 0 {
+    if place / RUN_PAGES % 2 == 0 || count < place - index + RUN_PAGES {
         place
     } else {
         place - index + (RUN_PAGES - 1 - index)
     }
 }
 
-fn push_content(file: &mut Vec<u8>, streams: u32) -> Result<(), AllocError>
-    requires { streams ≤ 2 ^ 10 }
-{
-    for page in 0..STREAM_PAGES * streams {
+fn push_content(file: &mut Vec<u8>, pages: u32) -> Result<(), AllocError> {
+    for page in 0..pages {
         push_page(file, page)?;
     }
     Ok(())

@@ -1,18 +1,19 @@
 //! Times how the streams of a container in memory are read, beside one copy of its bytes:
-//! `container_benchmark [MEGABYTES]`.
+//! `container_benchmark [STREAMS [PAGES]]`.
 //!
-//! It makes a container with as many streams of a megabyte each, 64 where no number is given. A copy of the container's
+//! It makes a container with as many streams of as many pages each, 64 of 256 where no numbers are given; a page has
+//! 4096 bytes. A copy of the container's
 //! bytes is timed, and then the opening of that copy and the reading of all its streams, which are kept until the time
 //! is taken. Both are done once untimed before. The output says what was read, and the error output how long it took.
 #![tactic(auto)]
 
-ghost use Rattle.std.specs.Prelude.{◌≡◌, ◌≤◌, ◌^◌, IfOk};
+ghost use Rattle.std.specs.Prelude.{◌≡◌, ◌*◌, ◌≤◌, ◌^◌, IfOk};
 ghost use Rattle.container_benchmark.specs.Streams.{AreFirst};
 
 mod file;
 
 use anyhow::{Context, Result, ensure};
-use file::{MOST_STREAMS, container_of};
+use file::{MOST_IN_ALL, MOST_PAGES, MOST_STREAMS, container_of};
 use pdb_container::{BigMSF, Msf, Stream, open_msf};
 use std::alloc::Global;
 use std::rt::{Clock, Env};
@@ -20,8 +21,8 @@ use std::time::{Duration, Instant};
 use std::{env, io};
 
 fn main(rt: HostRuntime) -> Result<()> {
-    let count = streams_asked(&rt)?;
-    let file = container_of(rt.alloc(), count)?;
+    let (count, pages) = shape_asked(&rt)?;
+    let file = container_of(rt.alloc(), count, pages)?;
     read_copy(&rt, file.as_slice(), count)?;
     let reading = read_copy(&rt, file.as_slice(), count)?;
     print_streams(&rt, reading.streams.as_slice())?;
@@ -29,19 +30,34 @@ fn main(rt: HostRuntime) -> Result<()> {
     Ok(())
 }
 
-/// How many streams to read, 1 to `MOST_STREAMS`: the program's first word, or 64.
-fn streams_asked(rt: &(impl Env + AllocGlobal)) -> Result<u32>
-    ensures { IfOk result (λ count. count ≤ 2 ^ 10) }
+/// How many streams to read, and how many pages each has: the program's words, or 64 and 256.
+fn shape_asked(rt: &(impl Env + AllocGlobal)) -> Result<(u32, u32)>
+    ensures streams { IfOk result (λ shape. shape.0 ≤ 10000) }
+    ensures pages { IfOk result (λ shape. shape.1 ≤ 2 ^ 10) }
+    ensures in_all { IfOk result (λ shape. shape.0 * shape.1 ≤ 2 ^ 18) }
 {
-    let Some(word) = env::args(rt)?.nth(1) else {
-        return Ok(64);
+    let streams = number_asked(rt, 1, 64, MOST_STREAMS)?;
+    let pages = number_asked(rt, 2, 256, MOST_PAGES)?;
+    ensure!(streams * pages <= MOST_IN_ALL, "at most {MOST_IN_ALL} pages in all");
+    Ok((streams, pages))
+}
+
+/// The number that a word of the program is, from 1 to a greatest, or the usual one where there is no such word.
+fn number_asked(
+    rt: &(impl Env + AllocGlobal),
+    place: usize,
+    usual: u32,
+    most: u32,
+) -> Result<u32>
+    requires { usual ≤ most }
+    ensures { IfOk result (λ number. number ≤ most) }
+{
+    let Some(word) = env::args(rt)?.nth(place) else {
+        return Ok(usual);
     };
-    let count = word.parse::<u32>().context("megabytes")?;
-    ensure!(
-        1 <= count && count <= MOST_STREAMS,
-        "from 1 to {MOST_STREAMS} megabytes"
-    );
-    Ok(count)
+    let number = word.parse::<u32>().context("a number of streams or pages")?;
+    ensure!(1 <= number && number <= most, "from 1 to {most}");
+    Ok(number)
 }
 
 /// What was read, and how long it took.

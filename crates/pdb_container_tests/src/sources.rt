@@ -1,4 +1,4 @@
-//! A source that fails once.
+//! Sources that fail for some views, and one that has only some slices.
 
 use crate::files::{container, counted, file, get};
 use pdb_container::{BigMSF, Error, Msf, ReadView, Source, SourceSlice, open_msf};
@@ -14,12 +14,12 @@ enum Refusal {
     Memory,
 }
 
-/// The bytes of a file, where the view of a number, counted from 0, fails.
+/// The bytes of a file, where the views from one number to before another, counted from 0, fail.
 #[derive(Drop)]
 struct Failing {
     bytes: Vec<u8>,
     views: u64,
-    fails_at: u64,
+    fails: (u64, u64),
     refusal: Refusal,
     failures: u64,
 }
@@ -32,7 +32,7 @@ impl Source for Failing {
     fn view(&mut self, alloc: Global, slices: &[SourceSlice]) -> io::Result<ReadView> {
         let number = self.views;
         self.views = self.views.saturating_add(1);
-        if number != self.fails_at {
+        if number < self.fails.0 || self.fails.1 <= number {
             return self.bytes.view(alloc, slices);
         }
         match self.refusal {
@@ -50,42 +50,42 @@ impl Source for Failing {
 }
 
 /// A source over a file whose stream 1 has the bytes 1 to 250, 0, 1 and so on.
-fn source(alloc: Global, fails_at: u64, refusal: Refusal) -> Result<Failing, SampleError> {
-    let description = container(
-        alloc,
-        0x100,
-        PageOrder::StreamsReversed,
-        &[Some(0), Some(300)],
-    )?;
+fn source(alloc: Global, fails: (u64, u64), refusal: Refusal) -> Result<Failing, SampleError> {
     Ok(Failing {
-        bytes: file(alloc, &description)?,
+        bytes: two_streams(alloc, PageOrder::StreamsReversed)?,
         views: 0,
-        fails_at,
+        fails,
         refusal,
         failures: 0,
     })
 }
 
-/// A container over the source. Opening it takes the first view, and each stream three: of the list, of the directory
-/// and of its own pages.
+/// The bytes of a file with pages of 0x100 bytes: page 1 is the list, 2 the directory, and 3 and 4 are stream 1.
+fn two_streams(alloc: Global, order: PageOrder) -> Result<Vec<u8>, SampleError> {
+    let description = container(alloc, 0x100, order, &[Some(0), Some(300)])?;
+    file(alloc, &description)
+}
+
+/// A container over the source. Opening it takes three views, of the front, the list and the directory, and each stream
+/// one, of its own pages.
 fn opened(
     alloc: Global,
-    fails_at: u64,
+    fails: (u64, u64),
     refusal: Refusal,
 ) -> Result<Result<BigMSF<'static, Failing>, Error>, SampleError> {
-    match open_msf(alloc, source(alloc, fails_at, refusal)?) {
-        Err(Error::OutOfMemory) => Ok(open_msf(alloc, source(alloc, fails_at, refusal)?)),
+    match open_msf(alloc, source(alloc, fails, refusal)?) {
+        Err(Error::OutOfMemory) => Ok(open_msf(alloc, source(alloc, fails, refusal)?)),
         opened => Ok(opened),
     }
 }
 
-/// Why stream 1 is refused where a view fails, and whether its bytes are as usual at the next call.
+/// Why stream 1 is refused where views fail, if it is, and whether its bytes are as usual at the next call.
 fn asked_twice(
     alloc: Global,
-    fails_at: u64,
+    fails: (u64, u64),
     refusal: Refusal,
 ) -> Result<(Option<Error>, bool), Fail> {
-    let mut container = opened(alloc, fails_at, refusal)??;
+    let mut container = opened(alloc, fails, refusal)??;
     let error = match refusal {
         Refusal::Memory => container.get(alloc, 1, None).err(),
         Refusal::Other => get(&mut container, alloc, 1, None).err(),
@@ -95,23 +95,102 @@ fn asked_twice(
     Ok((error, stream.as_slice() == usual.as_slice()))
 }
 
-/// Why the first view's failure keeps the container from being opened.
-fn refused(alloc: Global, refusal: Refusal) -> Result<Option<Error>, Fail> {
-    Ok(opened(alloc, 0, refusal)?.err())
+/// Why the failures of these views keep the container from being opened.
+fn refused(alloc: Global, fails: (u64, u64), refusal: Refusal) -> Result<Option<Error>, Fail> {
+    Ok(opened(alloc, fails, refusal)?.err())
 }
 
 #[test]
-fn a_view_fails_once(rt: HostRuntime) -> Result<(), Fail> {
-    let rows = [
-        (Refusal::Other, Error::IoError(ErrorKind::Other)),
-        (Refusal::Memory, Error::OutOfMemory),
-    ];
-    for (refusal, error) in rows {
-        assert_eq!(rt; refused(rt.alloc(), refusal)?, Some(error));
-        for fails_at in 1..4 {
-            let answers = asked_twice(rt.alloc(), fails_at, refusal)?;
-            assert_eq!(rt; answers, (Some(error), true), "at {fails_at}");
+fn views_fail_at_the_opening(rt: HostRuntime) -> Result<(), Fail> {
+    let other = Some(Error::IoError(ErrorKind::Other));
+    assert_eq!(rt; refused(rt.alloc(), (0, 1), Refusal::Other)?, other);
+    for number in 0..3 {
+        let fails = (number, number + 1);
+        let error = refused(rt.alloc(), fails, Refusal::Memory)?;
+        assert_eq!(rt; error, Some(Error::OutOfMemory), "at {number}");
+    }
+    Ok(())
+}
+
+#[test]
+fn the_directory_is_read_anew_where_the_source_failed(rt: HostRuntime) -> Result<(), Fail> {
+    let other = Some(Error::IoError(ErrorKind::Other));
+    let rows = [((1, 2), None), ((2, 3), None), ((1, 3), other), ((3, 4), other)];
+    for (fails, error) in rows {
+        let answers = asked_twice(rt.alloc(), fails, Refusal::Other)?;
+        assert_eq!(rt; answers, (error, true), "{fails:?}");
+    }
+    let answers = asked_twice(rt.alloc(), (3, 4), Refusal::Memory)?;
+    assert_eq!(rt; answers, (Some(Error::OutOfMemory), true));
+    Ok(())
+}
+
+/// The bytes of a file, where each view behind the third has to be of these slices.
+#[derive(Drop)]
+struct OwnPages {
+    bytes: Vec<u8>,
+    views: u64,
+    slices: &'static [(u64, usize)],
+    failures: u64,
+}
+
+impl Source for OwnPages {
+    ghost bytes = { λ f. f.bytes.items };
+
+    ghost failures = { λ f. f.failures };
+
+    fn view(&mut self, alloc: Global, slices: &[SourceSlice]) -> io::Result<ReadView> {
+        self.views = self.views.saturating_add(1);
+        if self.views > 3 && !are_slices(slices, self.slices) {
+            self.failures = self.failures.saturating_add(1);
+            return Err(ErrorKind::Other.into());
+        }
+        self.bytes.view(alloc, slices)
+    }
+
+    fn failures(&self) -> u64 {
+        self.failures
+    }
+}
+
+fn are_slices(slices: &[SourceSlice], wanted: &[(u64, usize)]) -> bool {
+    if slices.len() != wanted.len() {
+        return false;
+    }
+    for (slice, (offset, size)) in slices.iter().zip(wanted) {
+        if slice.offset != *offset || slice.size != *size {
+            return false;
         }
     }
+    true
+}
+
+/// The length of stream 1, and why stream 0 is refused, where only these slices can be viewed.
+fn by_own_pages(
+    alloc: Global,
+    order: PageOrder,
+    slices: &'static [(u64, usize)],
+) -> Result<(usize, Option<Error>), Fail> {
+    let mut container = open_msf(
+        alloc,
+        OwnPages {
+            bytes: two_streams(alloc, order)?,
+            views: 0,
+            slices,
+            failures: 0,
+        },
+    )?;
+    let length = get(&mut container, alloc, 1, None)?.as_slice().len();
+    Ok((length, get(&mut container, alloc, 0, None).err()))
+}
+
+#[test]
+fn a_stream_views_its_own_pages_alone(rt: HostRuntime) -> Result<(), Fail> {
+    let other = Some(Error::IoError(ErrorKind::Other));
+    let in_a_row = by_own_pages(rt.alloc(), PageOrder::Natural, &[(0x300, 300)])?;
+    assert_eq!(rt; in_a_row, (300, other));
+    let reversed: &[(u64, usize)] = &[(0x400, 0x100), (0x300, 44)];
+    let apart = by_own_pages(rt.alloc(), PageOrder::StreamsReversed, reversed)?;
+    assert_eq!(rt; apart, (300, other));
     Ok(())
 }
