@@ -2,6 +2,7 @@ pub mod FrameSteps
 pub mod InputFaultSteps
 pub mod Lifting
 pub mod LineLemmas
+pub mod OtherFiles
 pub mod OpeningSteps
 pub mod Pieces
 pub mod Pumped

@@ -3,8 +3,8 @@
 #![tactic(auto)]
 
 pub use pdb_report::{
-    Error, LoadFault, RunFault, Symbolizer, Tally, Watched, finish_run, parse_address, run_frames,
-    run_sizes,
+    Error, LoadFault, RunFault, Symbolizer, Tally, Watched, finish_run, parse_address, read_file,
+    run_frames, run_sizes,
 };
 pub use pdb_words::{Task, WordsFault, read_words};
 use std::alloc::Global;
@@ -34,7 +34,7 @@ fn main(rt: HostRuntime) -> ExitCode {
         Task::Frames { file } => file.as_str(),
         Task::Sizes { file, .. } => file.as_str(),
     };
-    let bytes = match fs::read(&rt, file) {
+    let bytes = match bytes_of(&rt, file) {
         Ok(bytes) => bytes,
         Err(error) if error.kind() == ErrorKind::OutOfMemory => {
             return told(&mut errors, "fault: OutOfMemory\n", 1);
@@ -48,6 +48,12 @@ fn main(rt: HostRuntime) -> ExitCode {
         Task::Sizes { start, end, .. } => count_sizes(rt.alloc(), bytes, start, end, &mut writer),
     };
     ExitCode::from(finish_run(outcome, &mut errors))
+}
+
+/// The bytes of a file, or its front where that shows that it is no container.
+fn bytes_of(rt: &(impl fs::Files + AllocGlobal), file: &str) -> io::Result<Vec<u8>> {
+    let mut reader = fs::open(rt, file)?;
+    read_file(rt.alloc(), &mut reader)
 }
 
 /// The words behind the program's name.
