@@ -2,10 +2,12 @@
 
 use crate::files::{F, run_over, told};
 use pdb_container::Error as Cause;
-use pdb_report::{Error, LoadFault, RunFault, Symbolizer, Watched, parse_address, run_sizes};
+use pdb_report::{
+    Error, LoadFault, RunFault, Symbolizer, Watched, parse_address, read_file, run_sizes,
+};
 use pdb_samples::Change;
 use std::alloc::Global;
-use std::io::ErrorKind;
+use std::io::{self, ErrorKind};
 use std::test::Fail;
 
 /// Whether a file is opened and reported on.
@@ -22,6 +24,14 @@ fn is_counted(alloc: Global) -> Result<bool, Fail> {
     let mut writer = Watched::new(&mut report);
     run_sizes(alloc, F.made(alloc)?, 0x1018, 0x1030, &mut writer)?;
     Ok(report.as_slice() == b"0x00001010 24 f\nnone 0\n".as_slice())
+}
+
+/// Whether a file is read whole, and an endless one that is no container only to its 32nd byte.
+fn are_files_read(alloc: Global) -> Result<bool, Fail> {
+    let file = F.made(alloc)?;
+    let whole = read_file(alloc, &mut file.as_slice())?;
+    let front = read_file(alloc, &mut io::repeat(7))?;
+    Ok(whole.as_slice() == file.as_slice() && front.as_slice() == [7u8; 32].as_slice())
 }
 
 /// Whether three bytes are read and written.
@@ -43,10 +53,11 @@ fn are_printed(alloc: Global) -> Result<bool, Fail> {
 }
 
 /// Whether each call answers as written.
-fn are_right(alloc: Global) -> Result<[bool; 4], Fail> {
+fn are_right(alloc: Global) -> Result<[bool; 5], Fail> {
     Ok([
         is_answered(alloc)?,
         is_counted(alloc)?,
+        are_files_read(alloc)?,
         are_copied(alloc)?,
         are_printed(alloc)?,
     ])
@@ -55,7 +66,7 @@ fn are_right(alloc: Global) -> Result<[bool; 4], Fail> {
 // The only test that fails where some allocation is refused, and the others ask again.
 #[test]
 fn first_calls_in_ample_memory(rt: HostRuntime) -> Result<(), Fail> {
-    assert_eq!(rt; are_right(rt.alloc())?, [true; 4]);
+    assert_eq!(rt; are_right(rt.alloc())?, [true; 5]);
     Ok(())
 }
 
