@@ -38,17 +38,15 @@ fn shape_asked(rt: &(impl Env + AllocGlobal)) -> Result<(u32, u32)>
 {
     let streams = number_asked(rt, 1, 64, MOST_STREAMS)?;
     let pages = number_asked(rt, 2, 256, MOST_PAGES)?;
-    ensure!(streams * pages <= MOST_IN_ALL, "at most {MOST_IN_ALL} pages in all");
+    ensure!(
+        streams * pages <= MOST_IN_ALL,
+        "at most {MOST_IN_ALL} pages in all"
+    );
     Ok((streams, pages))
 }
 
 /// The number that a word of the program is, from 1 to a greatest, or the usual one where there is no such word.
-fn number_asked(
-    rt: &(impl Env + AllocGlobal),
-    place: usize,
-    usual: u32,
-    most: u32,
-) -> Result<u32>
+fn number_asked(rt: &(impl Env + AllocGlobal), place: usize, usual: u32, most: u32) -> Result<u32>
     requires { usual ≤ most }
     ensures { IfOk result (λ number. number ≤ most) }
 {

@@ -115,7 +115,12 @@ fn views_fail_at_the_opening(rt: HostRuntime) -> Result<(), Fail> {
 #[test]
 fn the_directory_is_read_anew_where_the_source_failed(rt: HostRuntime) -> Result<(), Fail> {
     let other = Some(Error::IoError(ErrorKind::Other));
-    let rows = [((1, 2), None), ((2, 3), None), ((1, 3), other), ((3, 4), other)];
+    let rows = [
+        ((1, 2), None),
+        ((2, 3), None),
+        ((1, 3), other),
+        ((3, 4), other),
+    ];
     for (fails, error) in rows {
         let answers = asked_twice(rt.alloc(), fails, Refusal::Other)?;
         assert_eq!(rt; answers, (error, true), "{fails:?}");

@@ -1,4 +1,5 @@
 pub mod FunctionSteps
+pub mod KeptSteps
 pub mod NextBounds
 pub mod RunLaw
 pub mod SitesSteps

@@ -2,6 +2,7 @@ pub mod Choice
 pub mod Context
 pub mod Frames
 pub mod FunctionList
+pub mod Kept
 pub mod MaybeOwned
 pub mod Modules
 pub mod Runs

@@ -5,10 +5,11 @@ ghost use Rattle.pdb_addresses.specs.Addresses.{IsOrdered};
 ghost use Rattle.pdb_addresses.specs.SectionRun.{up_to_next};
 ghost use Rattle.pdb_resolving.specs.Fault.{Answers};
 ghost use Rattle.pdb_context.specs.Choice.{Parts, place_of};
-ghost use Rattle.pdb_context.specs.Context.{parts_of, context_over, scope_of, scope_in, uncounted, lookups_after};
+ghost use Rattle.pdb_context.specs.Kept.{AreKept};
+ghost use Rattle.pdb_context.specs.Context.{entries_of, parts_of, context_over, scope_of, scope_in, uncounted, lookups_after};
 ghost use Rattle.pdb_context.specs.Frames.{frames, frames_at as frames_at_place, frames_if_held, frames_of_chosen, function, function_at as function_at_contribution, function_of as function_of_chosen, held_at};
 ghost use Rattle.pdb_context.specs.MaybeOwned.{value_of};
-ghost use Rattle.pdb_context.specs.Modules.{module_data};
+ghost use Rattle.pdb_context.specs.Modules.{module_data, own_of};
 ghost use Rattle.pdb_context.specs.Runs.{bounds_near, database_of, function_here as function_at_place, procedures_of};
 ghost use Rattle.pdb_context.specs.Seen.{chosen_seen};
 ghost use Rattle.pdb_functions.specs.Databases.{IsOneRun, place_of as as_place};
@@ -17,8 +18,9 @@ ghost use Rattle.pdb_type_text.specs.Formatting.{env_of};
 use crate::choice::{Chosen, choose};
 use crate::frames::frames_in;
 use crate::function::FunctionFrames;
+use crate::kept::{KeptModule, empty_places, keep_module, known_at};
 use crate::maybe_owned::MaybeOwned;
-use crate::modules::{BasicModuleInfo, get_basic_module_info, procedures_in};
+use crate::modules::{BasicModuleInfo, procedures_in};
 use crate::names::name_of;
 use crate::parts::ContextParts;
 use crate::runs::to_next_bound;
@@ -38,16 +40,23 @@ pub struct Context<'a, 's, P: ModuleProvider> {
     pub(crate) provider: &'a P,
     pub(crate) parts: ContextParts<'a, 's>,
     pub(crate) type_formatter: MaybeOwned<'a, TypeFormatter<'a, 's, P>>,
+    modules: Vec<KeptModule<'a, P::Info>>,
     lookups: u64,
 }
 
 impl<'a, 's, P: ModuleProvider> Model for Context<'a, 's, P> {
     ghost use Rattle.pdb_context.specs.Context as contexts;
+    ghost use Rattle.pdb_context.specs.Context.{entries_of};
+    ghost use Rattle.pdb_context.specs.Kept.{AreKept};
     ghost use Rattle.pdb_context.specs.MaybeOwned.{value_of};
+    ghost use Rattle.pdb_context.specs.Modules.{module_data, own_of};
 
     ghost Value = { contexts.Context P };
 
     ghost view = { λ c. record { provider = c.provider.now; parts = c.parts; formatting = value_of c.type_formatter; lookups = c.lookups } };
+
+    // What is kept of each module is its own.
+    ghost invariant = { λ c. AreKept (λ n. module_data (own_of (P.provided c.provider.now) (entries_of (value_of c.type_formatter)) n)) c.modules.items };
 }
 
 impl<'a, 's, P: ModuleProvider> Drop for Context<'a, 's, P> {
@@ -56,10 +65,12 @@ impl<'a, 's, P: ModuleProvider> Drop for Context<'a, 's, P> {
             provider: _,
             parts,
             type_formatter,
+            modules,
             lookups: _,
         } = self;
         drop(parts);
         drop(type_formatter);
+        drop(modules);
     }
 }
 
@@ -92,19 +103,24 @@ fn frames_of<'a, P: ModuleProvider>(
 fn frames_at<'a, P: ModuleProvider>(
     alloc: Global,
     provider: &'a P,
+    modules: &mut [KeptModule<'a, P::Info>],
     parts: &ContextParts<'a, '_>,
     formatter: &mut TypeFormatter<'_, '_, P>,
     contribution: ModuleSectionContribution,
     place: PdbInternalSectionOffset,
 ) -> Result<Option<FunctionFrames<'a>>>
+    requires kept { AreKept (λ n. module_data (own_of (P.provided provider.now) (entries_of formatter.old) n)) modules.old }
+    ensures kept { AreKept (λ n. module_data (own_of (P.provided provider.now) (entries_of formatter.old) n)) modules.new }
     ensures same { formatter.new ≡ formatter.old }
     ensures frames { Answers (λ f. f) result (frames_at_place parts.now (scope_of P.provided provider.now formatter.old contribution.module_index) contribution place) }
 {
     let module_index = usize::from(contribution.module_index);
-    let known = get_basic_module_info(alloc, provider, formatter.modules(), module_index)?;
-    match choose(parts, procedures_in(&known), contribution, place) {
+    keep_module(alloc, modules, provider, formatter.modules(), module_index)?;
+    let none = None;
+    let known = known_at(modules, module_index, &none);
+    match choose(parts, procedures_in(known), contribution, place) {
         None => Ok(None),
-        Some(chosen) => { frames_of(alloc, parts, formatter, module_index, &known, chosen, place) }
+        Some(chosen) => { frames_of(alloc, parts, formatter, module_index, known, chosen, place) }
     }
 }
 
@@ -138,17 +154,22 @@ fn function_of<P: ModuleProvider>(
 fn function_at<'a, P: ModuleProvider>(
     alloc: Global,
     provider: &'a P,
+    modules: &mut [KeptModule<'a, P::Info>],
     parts: &ContextParts<'a, '_>,
     formatter: &mut TypeFormatter<'_, '_, P>,
     contribution: ModuleSectionContribution,
     place: PdbInternalSectionOffset,
 ) -> Result<Option<Function>>
+    requires kept { AreKept (λ n. module_data (own_of (P.provided provider.now) (entries_of formatter.old) n)) modules.old }
+    ensures kept { AreKept (λ n. module_data (own_of (P.provided provider.now) (entries_of formatter.old) n)) modules.new }
     ensures same { formatter.new ≡ formatter.old }
     ensures function { Answers (λ f. f) result (Ok (function_at_contribution parts.now (scope_of P.provided provider.now formatter.old contribution.module_index) contribution place)) }
 {
     let module_index = usize::from(contribution.module_index);
-    let known = get_basic_module_info(alloc, provider, formatter.modules(), module_index)?;
-    match choose(parts, procedures_in(&known), contribution, place) {
+    keep_module(alloc, modules, provider, formatter.modules(), module_index)?;
+    let none = None;
+    let known = known_at(modules, module_index, &none);
+    match choose(parts, procedures_in(known), contribution, place) {
         None => Ok(None),
         Some(chosen) => function_of(alloc, parts, formatter, module_index, chosen),
     }
@@ -158,16 +179,27 @@ fn function_at<'a, P: ModuleProvider>(
 fn frames_here<'a, P: ModuleProvider>(
     alloc: Global,
     provider: &'a P,
+    modules: &mut [KeptModule<'a, P::Info>],
     parts: &ContextParts<'a, '_>,
     formatter: &mut TypeFormatter<'_, '_, P>,
     place: PdbInternalSectionOffset,
 ) -> Result<Option<FunctionFrames<'a>>>
+    requires kept { AreKept (λ n. module_data (own_of (P.provided provider.now) (entries_of formatter.old) n)) modules.old }
+    ensures kept { AreKept (λ n. module_data (own_of (P.provided provider.now) (entries_of formatter.old) n)) modules.new }
     ensures same { formatter.new ≡ formatter.old }
     ensures frames { Answers (λ f. f) result (frames_if_held parts.now (scope_of P.provided provider.now formatter.old) (held_at parts.now (Some place))) }
 {
     match parts.holder(place) {
         None => Ok(None),
-        Some(contribution) => frames_at(alloc, provider, parts, formatter, contribution, place),
+        Some(contribution) => frames_at(
+            alloc,
+            provider,
+            modules,
+            parts,
+            formatter,
+            contribution,
+            place,
+        ),
     }
 }
 
@@ -175,16 +207,27 @@ fn frames_here<'a, P: ModuleProvider>(
 fn function_here<'a, P: ModuleProvider>(
     alloc: Global,
     provider: &'a P,
+    modules: &mut [KeptModule<'a, P::Info>],
     parts: &ContextParts<'a, '_>,
     formatter: &mut TypeFormatter<'_, '_, P>,
     place: PdbInternalSectionOffset,
 ) -> Result<Option<Function>>
+    requires kept { AreKept (λ n. module_data (own_of (P.provided provider.now) (entries_of formatter.old) n)) modules.old }
+    ensures kept { AreKept (λ n. module_data (own_of (P.provided provider.now) (entries_of formatter.old) n)) modules.new }
     ensures same { formatter.new ≡ formatter.old }
     ensures function { Answers (λ f. f) result (Ok (function_at_place parts.now (scope_of P.provided provider.now formatter.old) place)) }
 {
     match parts.holder(place) {
         None => Ok(None),
-        Some(contribution) => function_at(alloc, provider, parts, formatter, contribution, place),
+        Some(contribution) => function_at(
+            alloc,
+            provider,
+            modules,
+            parts,
+            formatter,
+            contribution,
+            place,
+        ),
     }
 }
 
@@ -193,19 +236,24 @@ fn function_here<'a, P: ModuleProvider>(
 fn run_at<'a, P: ModuleProvider>(
     alloc: Global,
     provider: &'a P,
+    modules: &mut [KeptModule<'a, P::Info>],
     parts: &ContextParts<'a, '_>,
     formatter: &mut TypeFormatter<'_, '_, P>,
     contribution: ModuleSectionContribution,
     place: PdbInternalSectionOffset,
     limit: u32,
 ) -> Result<(Option<Function>, u32)>
+    requires kept { AreKept (λ n. module_data (own_of (P.provided provider.now) (entries_of formatter.old) n)) modules.old }
+    ensures kept { AreKept (λ n. module_data (own_of (P.provided provider.now) (entries_of formatter.old) n)) modules.new }
     ensures same { formatter.new ≡ formatter.old }
     ensures function { Answers (λ run. run.0) result (Ok (function_at_contribution parts.now (scope_of P.provided provider.now formatter.old contribution.module_index) contribution place)) }
     ensures count { IfOk result (λ run. run.1 ≡ up_to_next (bounds_near parts.now (procedures_of (scope_of P.provided provider.now formatter.old) (Some contribution)) place) place.offset limit) }
 {
     let module_index = usize::from(contribution.module_index);
-    let known = get_basic_module_info(alloc, provider, formatter.modules(), module_index)?;
-    let procedures = procedures_in(&known);
+    keep_module(alloc, modules, provider, formatter.modules(), module_index)?;
+    let none = None;
+    let known = known_at(modules, module_index, &none);
+    let procedures = procedures_in(known);
     let count = to_next_bound(parts, procedures, place, limit);
     match choose(parts, procedures, contribution, place) {
         None => Ok((None, count)),
@@ -220,12 +268,15 @@ fn run_at<'a, P: ModuleProvider>(
 fn run_here<'a, P: ModuleProvider>(
     alloc: Global,
     provider: &'a P,
+    modules: &mut [KeptModule<'a, P::Info>],
     parts: &ContextParts<'a, '_>,
     formatter: &mut TypeFormatter<'_, '_, P>,
     place: PdbInternalSectionOffset,
     limit: u32,
 ) -> Result<(Option<Function>, u32)>
-    requires { 1 ≤ limit }
+    requires limit { 1 ≤ limit }
+    requires kept { AreKept (λ n. module_data (own_of (P.provided provider.now) (entries_of formatter.old) n)) modules.old }
+    ensures kept { AreKept (λ n. module_data (own_of (P.provided provider.now) (entries_of formatter.old) n)) modules.new }
     ensures same { formatter.new ≡ formatter.old }
     ensures function { Answers (λ run. run.0) result (Ok (function_at_place parts.now (scope_of P.provided provider.now formatter.old) place)) }
     ensures count { IfOk result (λ run. IsOneRun (database_of parts.now (scope_of P.provided provider.now formatter.old)) (as_place place) limit run.1) }
@@ -235,6 +286,7 @@ fn run_here<'a, P: ModuleProvider>(
         Some(contribution) => run_at(
             alloc,
             provider,
+            modules,
             parts,
             formatter,
             contribution,
@@ -274,10 +326,12 @@ impl<'a, 's, P: ModuleProvider> Context<'a, 's, P> {
             string_table,
             debug_info,
         )?;
+        let modules = empty_places(alloc, type_formatter.get().modules().len())?;
         Ok(Context {
             provider,
             parts,
             type_formatter,
+            modules,
             lookups: 0,
         })
     }
@@ -331,6 +385,7 @@ impl<'a, 's, P: ModuleProvider> Context<'a, 's, P> {
         let frames = frames_here(
             alloc,
             self.provider,
+            &mut self.modules,
             &self.parts,
             self.type_formatter.get_mut(),
             place,
@@ -354,6 +409,7 @@ impl<'a, 's, P: ModuleProvider> Context<'a, 's, P> {
         let function = function_here(
             alloc,
             self.provider,
+            &mut self.modules,
             &self.parts,
             self.type_formatter.get_mut(),
             place,
@@ -382,6 +438,7 @@ impl<'a, 's, P: ModuleProvider> Context<'a, 's, P> {
         let run = run_here(
             alloc,
             self.provider,
+            &mut self.modules,
             &self.parts,
             self.type_formatter.get_mut(),
             offset,

@@ -8,6 +8,7 @@ mod frames;
 mod function;
 mod function_starts;
 mod functions;
+mod kept;
 pub mod maybe_owned;
 mod modules;
 mod names;
