@@ -1,12 +1,12 @@
 -- What is kept of modules stays theirs.
-use Rattle.std.proofs.Common.{◌≡◌, ◌≢◌, ℕ, ◌<◌, List, length, None, Some, refl, sym, ap, ◌∙◌, inl, inr, arith}
+use Rattle.std.proofs.Common.{◌≡◌, ◌≢◌, Bool, true, false, ℕ, ◌<◌, List, length, None, Some, refl, sym, ap, ◌∙◌, inl, inr, arith}
 use Rattle.std.specs.Prelude.{Option, slice_get, slice_set}
 use Rattle.std.proofs.lemmas.Bool.{cases_lt}
 use Rattle.std.proofs.lemmas.Bool.Decides.{eqb_tells}
 use Rattle.std.proofs.lemmas.List.{length-set, get_or-set_same, get_or-set_other}
 use Rattle.std.proofs.lemmas.Option.{slice_get_past, slice_get_within, slice_get-get_or}
 use Rattle.pdb_context.specs.Modules.{ModuleData}
-use Rattle.pdb_context.specs.Kept.{AreKept, known_in, known_of}
+use Rattle.pdb_context.specs.Kept.{AreKept, known_in, known_of, is_empty}
 
 abbrev Places : Type 0
 Places = List (Option (Option ModuleData))
@@ -22,6 +22,24 @@ known_before own places n kept full = elim (cases_lt n (length places)) [
   | inl lt ↦ at_known own places n kept lt (slice_get places n) refl full
   | inr le ↦ rw (slice_get_past places n le) (sym (kept.past n le))
 ]
+
+empty_at : (at : Option (Option (Option ModuleData))) → is_empty at ≡ true → at ≡ Some None
+empty_at None h = absurd (cc)
+empty_at (Some None) h = refl
+empty_at (Some (Some known)) h = absurd (cc)
+
+full_at : (at : Option (Option (Option ModuleData))) → is_empty at ≡ false → at ≢ Some None
+full_at None h e = absurd (cc)
+full_at (Some None) h e = absurd (cc)
+full_at (Some (Some known)) h e = absurd (cc)
+
+-- a place that is empty
+pub empty_is : (places : Places) (n : ℕ) → is_empty (slice_get places n) ≡ true → slice_get places n ≡ Some None
+empty_is places n h = empty_at (slice_get places n) h
+
+-- the same of what isn't empty
+pub known_if_full : (own : ℕ → Option ModuleData) (places : Places) (n : ℕ) → AreKept own places → is_empty (slice_get places n) ≡ false → known_in places n ≡ own n
+known_if_full own places n kept h = known_before own places n kept (full_at (slice_get places n) h)
 
 set_same : (places : Places) (n : ℕ) (x : Option (Option ModuleData)) → n < length places → slice_get (slice_set places n x) n ≡ Some x
 set_same places n x lt =

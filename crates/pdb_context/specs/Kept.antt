@@ -1,5 +1,5 @@
 -- What a context keeps of modules that were asked for.
-use Rattle.std.specs.Prelude.{◌≡◌, ℕ, ◌≤◌, List, length, slice_get, Option, None, Some}
+use Rattle.std.specs.Prelude.{◌≡◌, ℕ, ◌≤◌, Bool, true, false, List, length, slice_get, Option, None, Some}
 use Rattle.pdb_context.specs.Modules.{ModuleData}
 
 -- For each module a place, in which its data are kept once they were read. What is kept is the module's, and a module past all
@@ -7,6 +7,12 @@ use Rattle.pdb_context.specs.Modules.{ModuleData}
 pub record AreKept (own : ℕ → Option ModuleData) (places : List (Option (Option ModuleData))) : Type 0 where
   pub each : (n : ℕ) (known : Option ModuleData) → slice_get places n ≡ Some (Some known) → known ≡ own n
   pub past : (n : ℕ) → length places ≤ n → own n ≡ None
+
+-- a place is there, and nothing is kept there
+abbrev pub is_empty : Option (Option (Option ModuleData)) → Bool
+is_empty (Some None) = true
+is_empty (Some (Some known)) = false
+is_empty None = false
 
 -- what is kept at a place, if there is something
 abbrev pub known_of : Option (Option (Option ModuleData)) → Option ModuleData

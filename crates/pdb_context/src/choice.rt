@@ -3,13 +3,16 @@
 ghost use Rattle.std.specs.Prelude.{◌≡◌, option_map};
 ghost use Rattle.pdb_context.specs.Choice.{chosen as chosen_at, start_of, start_address, length_of, end_behind};
 ghost use Rattle.pdb_context.specs.Frames.{function_end};
+ghost use Rattle.pdb_context.specs.Modules.{procedures_in};
 ghost use Rattle.pdb_context.specs.Seen.{chosen_seen};
 
+use crate::modules::{BasicModuleInfo, procedure_over};
 use crate::parts::ContextParts;
 use pdb_addresses::PdbInternalSectionOffset;
 use pdb_contributions::ModuleSectionContribution;
-use pdb_module_data::{Procedure, over};
+use pdb_module_data::Procedure;
 use pdb_public_list::PublicFunction;
+use pdb_resolving::ModuleTables;
 
 /// A function that is chosen: a procedure, or an entry of the public list.
 #[derive(Clone, Copy)]
@@ -20,17 +23,17 @@ pub enum Chosen<'c, 'a> {
     Public(&'c PublicFunction<'a>),
 }
 
-/// What is chosen at a place that a contribution holds, by the procedures of its module: the one over the place; else the entry
+/// What is chosen at a place that a contribution holds, by the data of its module: the procedure over the place; else the entry
 /// of the public list, unless that one lies before the contribution.
-pub fn choose<'c, 'a>(
+pub fn choose<'c, 'a, I: ModuleTables>(
     parts: &'c ContextParts<'a, '_>,
-    procedures: &'c [Procedure<'a>],
+    known: &'c Option<BasicModuleInfo<'a, I>>,
     contribution: ModuleSectionContribution,
     place: PdbInternalSectionOffset,
 ) -> Option<Chosen<'c, 'a>>
-    ensures { option_map chosen_seen result ≡ chosen_at parts.now procedures.now contribution place }
+    ensures { option_map chosen_seen result ≡ chosen_at parts.now (procedures_in known.now) contribution place }
 {
-    if let Some(procedure) = over(procedures, place) {
+    if let Some(procedure) = procedure_over(known, place) {
         return Some(Chosen::Procedure(procedure));
     }
     match parts.publics.over(contribution.start_offset, place) {

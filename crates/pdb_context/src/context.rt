@@ -18,7 +18,7 @@ ghost use Rattle.pdb_type_text.specs.Formatting.{env_of};
 use crate::choice::{Chosen, choose};
 use crate::frames::frames_in;
 use crate::function::FunctionFrames;
-use crate::kept::{KeptModule, empty_places, keep_module, known_at};
+use crate::kept::{KeptModule, empty_places, keep_lines, keep_module, known_at};
 use crate::maybe_owned::MaybeOwned;
 use crate::modules::{BasicModuleInfo, procedures_in};
 use crate::names::name_of;
@@ -40,7 +40,7 @@ pub struct Context<'a, 's, P: ModuleProvider> {
     pub(crate) provider: &'a P,
     pub(crate) parts: ContextParts<'a, 's>,
     pub(crate) type_formatter: MaybeOwned<'a, TypeFormatter<'a, 's, P>>,
-    modules: Vec<KeptModule<'a, P::Info>>,
+    kept: Vec<KeptModule<'a, P::Info>>,
     lookups: u64,
 }
 
@@ -56,7 +56,7 @@ impl<'a, 's, P: ModuleProvider> Model for Context<'a, 's, P> {
     ghost view = { λ c. record { provider = c.provider.now; parts = c.parts; formatting = value_of c.type_formatter; lookups = c.lookups } };
 
     // What is kept of each module is its own.
-    ghost invariant = { λ c. AreKept (λ n. module_data (own_of (P.provided c.provider.now) (entries_of (value_of c.type_formatter)) n)) c.modules.items };
+    ghost invariant = { λ c. AreKept (λ n. module_data (own_of (P.provided c.provider.now) (entries_of (value_of c.type_formatter)) n)) c.kept.items };
 }
 
 impl<'a, 's, P: ModuleProvider> Drop for Context<'a, 's, P> {
@@ -65,12 +65,12 @@ impl<'a, 's, P: ModuleProvider> Drop for Context<'a, 's, P> {
             provider: _,
             parts,
             type_formatter,
-            modules,
+            kept,
             lookups: _,
         } = self;
         drop(parts);
         drop(type_formatter);
-        drop(modules);
+        drop(kept);
     }
 }
 
@@ -103,22 +103,23 @@ fn frames_of<'a, P: ModuleProvider>(
 fn frames_at<'a, P: ModuleProvider>(
     alloc: Global,
     provider: &'a P,
-    modules: &mut [KeptModule<'a, P::Info>],
+    kept: &mut [KeptModule<'a, P::Info>],
     parts: &ContextParts<'a, '_>,
     formatter: &mut TypeFormatter<'_, '_, P>,
     contribution: ModuleSectionContribution,
     place: PdbInternalSectionOffset,
 ) -> Result<Option<FunctionFrames<'a>>>
-    requires kept { AreKept (λ n. module_data (own_of (P.provided provider.now) (entries_of formatter.old) n)) modules.old }
-    ensures kept { AreKept (λ n. module_data (own_of (P.provided provider.now) (entries_of formatter.old) n)) modules.new }
+    requires kept { AreKept (λ n. module_data (own_of (P.provided provider.now) (entries_of formatter.old) n)) kept.old }
+    ensures kept { AreKept (λ n. module_data (own_of (P.provided provider.now) (entries_of formatter.old) n)) kept.new }
     ensures same { formatter.new ≡ formatter.old }
     ensures frames { Answers (λ f. f) result (frames_at_place parts.now (scope_of P.provided provider.now formatter.old contribution.module_index) contribution place) }
 {
     let module_index = usize::from(contribution.module_index);
-    keep_module(alloc, modules, provider, formatter.modules(), module_index)?;
+    keep_module(alloc, kept, provider, formatter.modules(), module_index)?;
+    keep_lines(alloc, kept, module_index)?;
     let none = None;
-    let known = known_at(modules, module_index, &none);
-    match choose(parts, procedures_in(known), contribution, place) {
+    let known = known_at(kept, module_index, &none);
+    match choose(parts, known, contribution, place) {
         None => Ok(None),
         Some(chosen) => { frames_of(alloc, parts, formatter, module_index, known, chosen, place) }
     }
@@ -154,22 +155,22 @@ fn function_of<P: ModuleProvider>(
 fn function_at<'a, P: ModuleProvider>(
     alloc: Global,
     provider: &'a P,
-    modules: &mut [KeptModule<'a, P::Info>],
+    kept: &mut [KeptModule<'a, P::Info>],
     parts: &ContextParts<'a, '_>,
     formatter: &mut TypeFormatter<'_, '_, P>,
     contribution: ModuleSectionContribution,
     place: PdbInternalSectionOffset,
 ) -> Result<Option<Function>>
-    requires kept { AreKept (λ n. module_data (own_of (P.provided provider.now) (entries_of formatter.old) n)) modules.old }
-    ensures kept { AreKept (λ n. module_data (own_of (P.provided provider.now) (entries_of formatter.old) n)) modules.new }
+    requires kept { AreKept (λ n. module_data (own_of (P.provided provider.now) (entries_of formatter.old) n)) kept.old }
+    ensures kept { AreKept (λ n. module_data (own_of (P.provided provider.now) (entries_of formatter.old) n)) kept.new }
     ensures same { formatter.new ≡ formatter.old }
     ensures function { Answers (λ f. f) result (Ok (function_at_contribution parts.now (scope_of P.provided provider.now formatter.old contribution.module_index) contribution place)) }
 {
     let module_index = usize::from(contribution.module_index);
-    keep_module(alloc, modules, provider, formatter.modules(), module_index)?;
+    keep_module(alloc, kept, provider, formatter.modules(), module_index)?;
     let none = None;
-    let known = known_at(modules, module_index, &none);
-    match choose(parts, procedures_in(known), contribution, place) {
+    let known = known_at(kept, module_index, &none);
+    match choose(parts, known, contribution, place) {
         None => Ok(None),
         Some(chosen) => function_of(alloc, parts, formatter, module_index, chosen),
     }
@@ -179,13 +180,13 @@ fn function_at<'a, P: ModuleProvider>(
 fn frames_here<'a, P: ModuleProvider>(
     alloc: Global,
     provider: &'a P,
-    modules: &mut [KeptModule<'a, P::Info>],
+    kept: &mut [KeptModule<'a, P::Info>],
     parts: &ContextParts<'a, '_>,
     formatter: &mut TypeFormatter<'_, '_, P>,
     place: PdbInternalSectionOffset,
 ) -> Result<Option<FunctionFrames<'a>>>
-    requires kept { AreKept (λ n. module_data (own_of (P.provided provider.now) (entries_of formatter.old) n)) modules.old }
-    ensures kept { AreKept (λ n. module_data (own_of (P.provided provider.now) (entries_of formatter.old) n)) modules.new }
+    requires kept { AreKept (λ n. module_data (own_of (P.provided provider.now) (entries_of formatter.old) n)) kept.old }
+    ensures kept { AreKept (λ n. module_data (own_of (P.provided provider.now) (entries_of formatter.old) n)) kept.new }
     ensures same { formatter.new ≡ formatter.old }
     ensures frames { Answers (λ f. f) result (frames_if_held parts.now (scope_of P.provided provider.now formatter.old) (held_at parts.now (Some place))) }
 {
@@ -194,7 +195,7 @@ fn frames_here<'a, P: ModuleProvider>(
         Some(contribution) => frames_at(
             alloc,
             provider,
-            modules,
+            kept,
             parts,
             formatter,
             contribution,
@@ -207,13 +208,13 @@ fn frames_here<'a, P: ModuleProvider>(
 fn function_here<'a, P: ModuleProvider>(
     alloc: Global,
     provider: &'a P,
-    modules: &mut [KeptModule<'a, P::Info>],
+    kept: &mut [KeptModule<'a, P::Info>],
     parts: &ContextParts<'a, '_>,
     formatter: &mut TypeFormatter<'_, '_, P>,
     place: PdbInternalSectionOffset,
 ) -> Result<Option<Function>>
-    requires kept { AreKept (λ n. module_data (own_of (P.provided provider.now) (entries_of formatter.old) n)) modules.old }
-    ensures kept { AreKept (λ n. module_data (own_of (P.provided provider.now) (entries_of formatter.old) n)) modules.new }
+    requires kept { AreKept (λ n. module_data (own_of (P.provided provider.now) (entries_of formatter.old) n)) kept.old }
+    ensures kept { AreKept (λ n. module_data (own_of (P.provided provider.now) (entries_of formatter.old) n)) kept.new }
     ensures same { formatter.new ≡ formatter.old }
     ensures function { Answers (λ f. f) result (Ok (function_at_place parts.now (scope_of P.provided provider.now formatter.old) place)) }
 {
@@ -222,7 +223,7 @@ fn function_here<'a, P: ModuleProvider>(
         Some(contribution) => function_at(
             alloc,
             provider,
-            modules,
+            kept,
             parts,
             formatter,
             contribution,
@@ -236,26 +237,26 @@ fn function_here<'a, P: ModuleProvider>(
 fn run_at<'a, P: ModuleProvider>(
     alloc: Global,
     provider: &'a P,
-    modules: &mut [KeptModule<'a, P::Info>],
+    kept: &mut [KeptModule<'a, P::Info>],
     parts: &ContextParts<'a, '_>,
     formatter: &mut TypeFormatter<'_, '_, P>,
     contribution: ModuleSectionContribution,
     place: PdbInternalSectionOffset,
     limit: u32,
 ) -> Result<(Option<Function>, u32)>
-    requires kept { AreKept (λ n. module_data (own_of (P.provided provider.now) (entries_of formatter.old) n)) modules.old }
-    ensures kept { AreKept (λ n. module_data (own_of (P.provided provider.now) (entries_of formatter.old) n)) modules.new }
+    requires kept { AreKept (λ n. module_data (own_of (P.provided provider.now) (entries_of formatter.old) n)) kept.old }
+    ensures kept { AreKept (λ n. module_data (own_of (P.provided provider.now) (entries_of formatter.old) n)) kept.new }
     ensures same { formatter.new ≡ formatter.old }
     ensures function { Answers (λ run. run.0) result (Ok (function_at_contribution parts.now (scope_of P.provided provider.now formatter.old contribution.module_index) contribution place)) }
     ensures count { IfOk result (λ run. run.1 ≡ up_to_next (bounds_near parts.now (procedures_of (scope_of P.provided provider.now formatter.old) (Some contribution)) place) place.offset limit) }
 {
     let module_index = usize::from(contribution.module_index);
-    keep_module(alloc, modules, provider, formatter.modules(), module_index)?;
+    keep_module(alloc, kept, provider, formatter.modules(), module_index)?;
     let none = None;
-    let known = known_at(modules, module_index, &none);
+    let known = known_at(kept, module_index, &none);
     let procedures = procedures_in(known);
     let count = to_next_bound(parts, procedures, place, limit);
-    match choose(parts, procedures, contribution, place) {
+    match choose(parts, known, contribution, place) {
         None => Ok((None, count)),
         Some(chosen) => {
             let function = function_of(alloc, parts, formatter, module_index, chosen)?;
@@ -268,15 +269,15 @@ fn run_at<'a, P: ModuleProvider>(
 fn run_here<'a, P: ModuleProvider>(
     alloc: Global,
     provider: &'a P,
-    modules: &mut [KeptModule<'a, P::Info>],
+    kept: &mut [KeptModule<'a, P::Info>],
     parts: &ContextParts<'a, '_>,
     formatter: &mut TypeFormatter<'_, '_, P>,
     place: PdbInternalSectionOffset,
     limit: u32,
 ) -> Result<(Option<Function>, u32)>
     requires limit { 1 ≤ limit }
-    requires kept { AreKept (λ n. module_data (own_of (P.provided provider.now) (entries_of formatter.old) n)) modules.old }
-    ensures kept { AreKept (λ n. module_data (own_of (P.provided provider.now) (entries_of formatter.old) n)) modules.new }
+    requires kept { AreKept (λ n. module_data (own_of (P.provided provider.now) (entries_of formatter.old) n)) kept.old }
+    ensures kept { AreKept (λ n. module_data (own_of (P.provided provider.now) (entries_of formatter.old) n)) kept.new }
     ensures same { formatter.new ≡ formatter.old }
     ensures function { Answers (λ run. run.0) result (Ok (function_at_place parts.now (scope_of P.provided provider.now formatter.old) place)) }
     ensures count { IfOk result (λ run. IsOneRun (database_of parts.now (scope_of P.provided provider.now formatter.old)) (as_place place) limit run.1) }
@@ -286,7 +287,7 @@ fn run_here<'a, P: ModuleProvider>(
         Some(contribution) => run_at(
             alloc,
             provider,
-            modules,
+            kept,
             parts,
             formatter,
             contribution,
@@ -326,12 +327,12 @@ impl<'a, 's, P: ModuleProvider> Context<'a, 's, P> {
             string_table,
             debug_info,
         )?;
-        let modules = empty_places(alloc, type_formatter.get().modules().len())?;
+        let kept = empty_places(alloc, type_formatter.get().modules().len())?;
         Ok(Context {
             provider,
             parts,
             type_formatter,
-            modules,
+            kept,
             lookups: 0,
         })
     }
@@ -385,7 +386,7 @@ impl<'a, 's, P: ModuleProvider> Context<'a, 's, P> {
         let frames = frames_here(
             alloc,
             self.provider,
-            &mut self.modules,
+            &mut self.kept,
             &self.parts,
             self.type_formatter.get_mut(),
             place,
@@ -409,7 +410,7 @@ impl<'a, 's, P: ModuleProvider> Context<'a, 's, P> {
         let function = function_here(
             alloc,
             self.provider,
-            &mut self.modules,
+            &mut self.kept,
             &self.parts,
             self.type_formatter.get_mut(),
             place,
@@ -438,7 +439,7 @@ impl<'a, 's, P: ModuleProvider> Context<'a, 's, P> {
         let run = run_here(
             alloc,
             self.provider,
-            &mut self.modules,
+            &mut self.kept,
             &self.parts,
             self.type_formatter.get_mut(),
             offset,

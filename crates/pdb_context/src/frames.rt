@@ -1,13 +1,13 @@
 //! The frames at a place in a chosen function.
 
-ghost use Rattle.std.specs.Prelude.{◌≡◌, IfOk, map, option_map, option_and_then, string_bytes};
+ghost use Rattle.std.specs.Prelude.{◌≡◌, Ok, IfOk, map, option_map, option_and_then, string_bytes};
 ghost use Rattle.std.specs.Cow.{cow_str_bytes};
 ghost use Rattle.pdb_module_data.specs.Forest.{sites_of};
 ghost use Rattle.pdb_module_data.specs.FunctionLine.{file_text};
 ghost use Rattle.pdb_resolving.specs.Fault.{Answers};
 ghost use Rattle.pdb_type_text.specs.Formatting.{env_of};
 ghost use Rattle.pdb_context.specs.Frames.{frames_in as frames_of_module, frames_in_data as frames_of_data, calls_in as calls_of, call_frame as frame_of_call, function_frame as frame_of_function};
-ghost use Rattle.pdb_context.specs.Modules.{sites_lifted, procedure_calls as calls_of_procedure};
+ghost use Rattle.pdb_context.specs.Modules.{extended_of, sites_lifted, procedure_calls as calls_of_procedure};
 ghost use Rattle.pdb_context.specs.Seen.{chosen_seen, extended_seen};
 
 use crate::choice::Chosen;
@@ -159,9 +159,42 @@ fn function_frame<'a>(
     }
 }
 
-/// The frames at a place in a chosen function, by its module's data: line program, inlinees, the rows of the function's
+/// The frames at a place in a chosen function, by its module's line program and inlinees: the rows of the function's
 /// subsection and a procedure's sites are read in this order, and the first fault is returned.
 #[tactic(auto, using(pdb_resolving::proofs::Lifting::given_fails_on, pdb_resolving::proofs::Lifting::parsed_fails_on, pdb_resolving::proofs::Lifting::fails_on), unfolding(crate::specs::Frames::frames_in_data))]
+fn frames_by<'a, 'm, P: ModuleProvider>(
+    alloc: Global,
+    parts: &ContextParts<'a, '_>,
+    formatter: &mut TypeFormatter<'_, '_, P>,
+    module_index: usize,
+    known: &BasicModuleInfo<'m, P::Info>,
+    extended: &ExtendedModuleInfo<'m>,
+    chosen: Chosen<'_, '_>,
+    place: PdbInternalSectionOffset,
+) -> Result<Vec<Frame<'a>>>
+    requires { extended_of (known.now).stream ≡ Ok (extended_seen extended.now) }
+    ensures same { formatter.new ≡ formatter.old }
+    ensures frames { Answers (λ v. v.items) result (frames_of_data parts.now (env_of P.provided formatter.old module_index) known.now (chosen_seen chosen.entry) place) }
+{
+    let row = function_row(&extended.line_program, chosen.start(), place)?;
+    let calls = calls_in(alloc, known.module_info, extended, chosen, place)?;
+    let mut frames = call_frames(
+        alloc,
+        parts,
+        formatter,
+        module_index,
+        extended,
+        calls.as_slice(),
+    )?;
+    let function = name_of(alloc, parts, formatter, module_index, chosen)?;
+    let frame = function_frame(alloc, parts, extended, function, row)?;
+    frames.push(frame)?;
+    Ok(frames)
+}
+
+/// The frames at a place in a chosen function, by its module's data: line program and inlinees are those that are kept, or
+/// else are read first, and their first fault is returned.
+#[tactic(auto, using(pdb_resolving::proofs::Lifting::given_fails_on), unfolding(crate::specs::Frames::frames_in_data))]
 fn frames_in_data<'a, P: ModuleProvider>(
     alloc: Global,
     parts: &ContextParts<'a, '_>,
@@ -174,21 +207,29 @@ fn frames_in_data<'a, P: ModuleProvider>(
     ensures same { formatter.new ≡ formatter.old }
     ensures frames { Answers (λ v. v.items) result (frames_of_data parts.now (env_of P.provided formatter.old module_index) known.now (chosen_seen chosen.entry) place) }
 {
-    let extended = read_extended(alloc, known.module_info)?;
-    let row = function_row(&extended.line_program, chosen.start(), place)?;
-    let calls = calls_in(alloc, known.module_info, &extended, chosen, place)?;
-    let mut frames = call_frames(
+    let Some(extended) = known.extended() else {
+        let extended = read_extended(alloc, known.module_info)?;
+        return frames_by(
+            alloc,
+            parts,
+            formatter,
+            module_index,
+            known,
+            &extended,
+            chosen,
+            place,
+        );
+    };
+    frames_by(
         alloc,
         parts,
         formatter,
         module_index,
-        &extended,
-        calls.as_slice(),
-    )?;
-    let function = name_of(alloc, parts, formatter, module_index, chosen)?;
-    let frame = function_frame(alloc, parts, &extended, function, row)?;
-    frames.push(frame)?;
-    Ok(frames)
+        known,
+        extended,
+        chosen,
+        place,
+    )
 }
 
 /// The same where the module may have no data: then the function alone, without file and line.

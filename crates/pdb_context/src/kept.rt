@@ -1,7 +1,7 @@
 //! What is kept of modules that were asked for.
 
-ghost use Rattle.std.specs.Prelude.{◌≡◌, IfOk, length, replicate, None};
-ghost use Rattle.pdb_context.specs.Kept.{AreKept, known_in};
+ghost use Rattle.std.specs.Prelude.{◌≡◌, IfOk, length, replicate, None, slice_get};
+ghost use Rattle.pdb_context.specs.Kept.{AreKept, known_in, is_empty as is_empty_place};
 ghost use Rattle.pdb_context.specs.Modules.{module_data, own_of};
 
 use crate::modules::{BasicModuleInfo, get_basic_module_info};
@@ -26,9 +26,16 @@ pub fn empty_places<'a, I: ModuleTables>(
     Ok(places)
 }
 
+/// Whether the place of a number is there and empty.
+fn is_empty_at<'a, I: ModuleTables>(kept: &[KeptModule<'a, I>], number: usize) -> bool
+    ensures { result ≡ is_empty_place (slice_get kept.now number) }
+{
+    matches!(kept.get(number), Some(None))
+}
+
 /// Reads the data of the module of a number, counted from 0, and keeps them, unless they were kept before. Nothing is kept
 /// where memory is short.
-#[tactic(auto, using(crate::proofs::KeptSteps::known_before, crate::proofs::KeptSteps::known_now, crate::proofs::KeptSteps::kept_now))]
+#[tactic(auto, using(crate::proofs::KeptSteps::known_if_full, crate::proofs::KeptSteps::empty_is, crate::proofs::KeptSteps::known_now, crate::proofs::KeptSteps::kept_now))]
 pub fn keep_module<'a, P: ModuleProvider>(
     alloc: Global,
     kept: &mut [KeptModule<'a, P::Info>],
@@ -40,11 +47,38 @@ pub fn keep_module<'a, P: ModuleProvider>(
     ensures kept { AreKept (λ n. module_data (own_of (P.provided provider.now) modules.now n)) kept.new }
     ensures known { IfOk result (λ _. known_in kept.new module_index ≡ module_data (own_of (P.provided provider.now) modules.now module_index)) }
 {
-    let Some(None) = kept.get(module_index) else {
+    if !is_empty_at(kept, module_index) {
         return Ok(());
-    };
+    }
     let known = get_basic_module_info(alloc, provider, modules, module_index)?;
     kept[module_index] = Some(known);
+    Ok(())
+}
+
+/// Reads line program and inlinees of the module of a place, if its data are kept there, and keeps them too.
+fn keep_lines_at<'a, I: ModuleTables>(
+    alloc: Global,
+    place: &mut KeptModule<'a, I>,
+) -> Result<(), AllocError>
+    ensures { place.new ≡ place.old }
+{
+    match place {
+        Some(Some(known)) => known.keep_extended(alloc),
+        _ => Ok(()),
+    }
+}
+
+/// Reads line program and inlinees of the module of a number, if its data are kept, and keeps them too.
+pub fn keep_lines<'a, I: ModuleTables>(
+    alloc: Global,
+    kept: &mut [KeptModule<'a, I>],
+    module_index: usize,
+) -> Result<(), AllocError>
+    ensures { kept.new ≡ kept.old }
+{
+    if module_index < kept.len() {
+        keep_lines_at(alloc, &mut kept[module_index])?;
+    }
     Ok(())
 }
 

@@ -1,13 +1,15 @@
 //! What a module's own stream says.
 
-ghost use Rattle.std.specs.Prelude.{◌≡◌, IfOk, Ok, Some};
+ghost use Rattle.std.specs.Prelude.{◌≡◌, IfOk, Ok, Some, option_map};
 ghost use Rattle.pdb_container.specs.Fault.{Gives};
-ghost use Rattle.pdb_context.specs.Seen.{extended_seen};
+ghost use Rattle.pdb_module_data.specs.Procedures.{over};
+ghost use Rattle.pdb_context.specs.Seen.{extended_seen, AreExtendedHere};
 ghost use Rattle.pdb_context.specs.Modules.{data_of_stream, data_if_there, extended_of, module_data, own_of, procedures_in as procedures_of_module};
 
+use pdb_addresses::PdbInternalSectionOffset;
 use pdb_container::{Error, Result};
 use pdb_lines::LineProgram;
-use pdb_module_data::{Inlinees, Procedure, read_procedures};
+use pdb_module_data::{Inlinees, Procedure, Procedures};
 use pdb_resolving::{ModuleProvider, ModuleTables};
 use pdb_symbols_modules::Module;
 use std::alloc::{AllocError, Global};
@@ -19,15 +21,21 @@ pub struct BasicModuleInfo<'a, I: ModuleTables> {
     /// The module's own stream.
     pub module_info: &'a I,
     /// Its procedures, of those of one start the first.
-    pub procedures: Vec<Procedure<'a>>,
+    pub procedures: Procedures<'a>,
+    /// Its line program and inlinees, once they were read.
+    extended: Option<ExtendedModuleInfo<'a>>,
 }
 
 impl<'a, I: ModuleTables> Model for BasicModuleInfo<'a, I> {
     ghost use Rattle.pdb_context.specs.Modules as modules;
+    ghost use Rattle.pdb_context.specs.Seen.{AreExtended};
 
     ghost Value = { modules.ModuleData };
 
-    ghost view = { λ m. record { stream = I.held m.module_info.now; procedures = m.procedures.items } };
+    ghost view = { λ m. record { stream = I.held m.module_info.now; procedures = m.procedures } };
+
+    // What is kept of lines and inlinees is the stream's.
+    ghost invariant = { λ m. AreExtended (I.held m.module_info.now) m.extended };
 }
 
 impl<'a, I: ModuleTables> BasicModuleInfo<'a, I> {
@@ -38,11 +46,37 @@ impl<'a, I: ModuleTables> BasicModuleInfo<'a, I> {
         ensures { Gives (λ m. m) ⊥ result (data_of_stream (I.held module_info.now)) }
     {
         let symbols = module_info.symbols()?;
-        let procedures = read_procedures(alloc, symbols)?;
+        let procedures = Procedures::read(alloc, symbols)?;
         Ok(BasicModuleInfo {
             module_info,
             procedures,
+            extended: None,
         })
+    }
+
+    /// Reads the line program and the inlinees, and keeps them, unless they were kept before. Where they have a fault nothing
+    /// is kept, and so where memory is short.
+    pub fn keep_extended(&mut self, alloc: Global) -> std::result::Result<(), AllocError>
+        ensures { self.new ≡ self.old }
+    {
+        if self.extended.is_some() {
+            return Ok(());
+        }
+        match read_extended(alloc, self.module_info) {
+            Ok(extended) => {
+                self.extended = Some(extended);
+                Ok(())
+            }
+            Err(Error::OutOfMemory) => Err(AllocError),
+            Err(_) => Ok(()),
+        }
+    }
+
+    /// The line program and the inlinees, if they are kept.
+    pub fn extended(&self) -> Option<&ExtendedModuleInfo<'a>>
+        ensures { AreExtendedHere (self.now).stream result }
+    {
+        self.extended.as_ref()
     }
 }
 
@@ -115,5 +149,18 @@ pub fn procedures_in<'m, 'a, I: ModuleTables>(
     match known {
         None => &[],
         Some(known) => known.procedures.as_slice(),
+    }
+}
+
+/// The procedure of a module over a place; none without data.
+pub fn procedure_over<'m, 'a, I: ModuleTables>(
+    known: &'m Option<BasicModuleInfo<'a, I>>,
+    place: PdbInternalSectionOffset,
+) -> Option<&'m Procedure<'a>>
+    ensures { option_map (λ q. q.now) result ≡ over (procedures_of_module known.now) place }
+{
+    match known {
+        None => None,
+        Some(known) => known.procedures.over(place),
     }
 }

@@ -11,7 +11,9 @@ ghost use Rattle.pdb_context.specs.Context.{parts_of};
 use crate::names::is_decorated;
 use pdb_addresses::{AddressMap, ImageSectionHeader, PdbInternalSectionOffset, Rva};
 use pdb_container::{RawString, StringTable};
-use pdb_contributions::{ModuleSectionContribution, compute_section_contributions, holder};
+use pdb_contributions::{
+    HeldPlaces, ModuleSectionContribution, SectionContributions, compute_section_contributions,
+};
 use pdb_public_list::{PublicList, read_public_symbols};
 use pdb_resolving::Result;
 use pdb_symbols::SymbolTable;
@@ -25,7 +27,7 @@ pub struct ContextParts<'a, 's> {
     /// The ways between RVAs and places in sections.
     pub address_map: &'a AddressMap<'s>,
     /// What modules hold of sections, in order, apart.
-    pub contributions: Vec<ModuleSectionContribution>,
+    pub contributions: HeldPlaces,
     /// The public list.
     pub publics: PublicList<'a>,
     /// The string table (`/names`), if there is one.
@@ -39,7 +41,7 @@ impl<'a, 's> Model for ContextParts<'a, 's> {
 
     ghost Value = { choice.Parts };
 
-    ghost view = { λ p. record { map = p.address_map.now; contributions = p.contributions.items; publics = p.publics; names = option_map (λ t. t.now) p.string_table } };
+    ghost view = { λ p. record { map = p.address_map.now; contributions = p.contributions; publics = p.publics; names = option_map (λ t. t.now) p.string_table } };
 
     ghost invariant = { λ p. IsOrdered p.address_map.now };
 }
@@ -63,11 +65,15 @@ impl<'a, 's> ContextParts<'a, 's> {
         ensures { Answers (λ p. p) result (parts_of sections.now address_map.now global_symbols.now debug_info.now.contributions (option_map (λ t. t.now) string_table.entry)) }
     {
         let functions = read_public_symbols(alloc, global_symbols.iter(), sections)?;
-        let held = compute_section_contributions(alloc, debug_info, sections)?;
-        let publics = PublicList::new(functions, held.later_starts.as_slice(), sections)?;
+        let SectionContributions {
+            contributions,
+            later_starts,
+        } = compute_section_contributions(alloc, debug_info, sections)?;
+        let publics = PublicList::new(functions, later_starts.as_slice(), sections)?;
+        let contributions = HeldPlaces::new(alloc, contributions)?;
         Ok(ContextParts {
             address_map,
-            contributions: held.contributions,
+            contributions,
             publics,
             string_table,
         })
@@ -84,10 +90,7 @@ impl<'a, 's> ContextParts<'a, 's> {
     pub fn holder(&self, place: PdbInternalSectionOffset) -> Option<ModuleSectionContribution>
         ensures { result ≡ holder_of self.now.contributions place }
     {
-        match holder(self.contributions.as_slice(), place) {
-            None => None,
-            Some(held) => Some(*held),
-        }
+        self.contributions.holder(place)
     }
 
     /// The decorated public name at exactly a place.

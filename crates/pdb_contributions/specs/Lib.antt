@@ -1,1 +1,2 @@
+pub mod ContributionPieces
 pub mod Contributions

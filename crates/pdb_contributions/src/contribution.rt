@@ -1,9 +1,9 @@
 //! A section contribution that counts, and which ones merge.
 
 ghost use Rattle.std.specs.Prelude.{◌≡◌};
-ghost use Rattle.pdb_contributions.specs.Contributions.{is_executable as is_executable_at, is_kept as is_kept_entry, span_of as span_of_entry, is_of_same as are_of_same, up_to as up_to_end, overlaps as do_overlap, holds as holds_place};
+ghost use Rattle.pdb_contributions.specs.Contributions.{is_executable as is_executable_at, is_kept as is_kept_entry, span_of as span_of_entry, is_of_same as are_of_same, up_to as up_to_end, overlaps as do_overlap};
 
-use pdb_addresses::{ImageSectionHeader, PdbInternalSectionOffset};
+use pdb_addresses::ImageSectionHeader;
 use pdb_symbols_modules::DBISectionContribution;
 
 /// A section contribution of a module: what it holds of a section, from a start to before an end. They are ordered by section,
@@ -77,16 +77,4 @@ pub(crate) fn overlaps(a: ModuleSectionContribution, b: ModuleSectionContributio
     ensures { result ≡ do_overlap a b }
 {
     b.section_index == a.section_index && b.start_offset < a.end_offset
-}
-
-/// Whether a module holds a place by this.
-pub(crate) fn holds(
-    place: PdbInternalSectionOffset,
-    contribution: ModuleSectionContribution,
-) -> bool
-    ensures { result ≡ holds_place place contribution }
-{
-    contribution.section_index == place.section
-        && contribution.start_offset <= place.offset
-        && place.offset < contribution.end_offset
 }

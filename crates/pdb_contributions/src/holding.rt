@@ -1,11 +1,11 @@
 //! What modules hold of sections: contributions that count, merged, in order, and apart.
 
-ghost use Rattle.std.specs.Prelude.{◌≡◌, List, ◌∷◌, MatchResult, option_map};
+ghost use Rattle.std.specs.Prelude.{◌≡◌, List, ◌∷◌, MatchResult};
 ghost use Rattle.pdb_resolving.specs.Fault.{Answers, Fails};
-ghost use Rattle.pdb_contributions.specs.Contributions.{all_before, merged_from, merged_by, held_of, apart, holder as holder_of};
+ghost use Rattle.pdb_contributions.specs.Contributions.{all_before, merged_from, merged_by, held_of, apart};
 
 use crate::contribution::{
-    ModuleSectionContribution, holds, is_kept, is_of_same, overlaps, span_of, up_to,
+    ModuleSectionContribution, is_kept, is_of_same, overlaps, span_of, up_to,
 };
 use pdb_addresses::{ImageSectionHeader, PdbInternalSectionOffset};
 use pdb_container::FallibleIterator;
@@ -127,14 +127,4 @@ pub fn compute_section_contributions(
     held.contributions.sort_unstable();
     check_apart(held.contributions.as_slice())?;
     Ok(held)
-}
-
-/// The contribution that holds a place.
-pub fn holder(
-    contributions: &[ModuleSectionContribution],
-    place: PdbInternalSectionOffset,
-) -> Option<&ModuleSectionContribution>
-    ensures { option_map (λ c. c.now) result ≡ holder_of contributions.now place }
-{
-    contributions.iter().find(|c| holds(place, **c))
 }

@@ -2,7 +2,9 @@
 #![tactic(auto)]
 
 mod contribution;
+mod held;
 mod holding;
 
 pub use contribution::{ModuleSectionContribution, is_executable};
-pub use holding::{SectionContributions, compute_section_contributions, holder};
+pub use held::HeldPlaces;
+pub use holding::{SectionContributions, compute_section_contributions};

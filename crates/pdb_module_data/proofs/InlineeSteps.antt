@@ -1,10 +1,10 @@
 -- The steps of the loop over a module's inlined functions.
-use Rattle.std.proofs.Common.{◌≡◌, ℕ, Bool, true, false, cond, List, ◌∷◌, Result, Ok, Err, refl, sym, ap, ◌∙◌}
-use Rattle.std.specs.Prelude.{Option, None, Some, ◌==◌}
+use Rattle.std.proofs.Common.{◌≡◌, ℕ, List, ◌∷◌, Result, Ok, Err, refl, sym, ap, ◌∙◌}
+use Rattle.std.specs.Prelude.{Option, None, Some}
 use Rattle.std.specs.Option.{option_or}
 use mathlib.Core.Path.{fun_ext}
 use Rattle.pdb_container.specs.Fault.{Fault, ◌>>=◌}
-use Rattle.pdb_container.specs.Listing.{Listing, ending, before, whole, whole_with}
+use Rattle.pdb_container.specs.Listing.{Listing, ending, before, whole}
 use Rattle.pdb_inlinees.specs.Inlinees.{InlinedFunction}
 use Rattle.pdb_module_data.specs.InlinedCalls.{if_called, last_inlinee, inlinees_by_id}
 

@@ -8,6 +8,7 @@ mod OpenBodies
 mod Rows
 pub mod Deepest
 pub mod InlineeSteps
+pub mod PieceSteps
 pub mod PlainKinds
 pub mod ProcedureSteps
 pub mod RowSteps

@@ -1,12 +1,10 @@
 -- The steps of the loops over symbols and procedures.
-use Rattle.std.proofs.Common.{◌≡◌, ℕ, ◌+◌, ◌<◌, ◌≤◌, Bool, true, false, cond, ltb, ◌||◌, ◌&&◌, List, [], ◌∷◌, ◌++◌, length, get_or, drop, Result, Ok, Err, refl, sym, ap, ◌∙◌, arith, inl, inr}
+use Rattle.std.proofs.Common.{◌≡◌, ℕ, Bool, true, false, cond, ◌||◌, ◌&&◌, List, [], ◌∷◌, ◌++◌, Result, Ok, Err, refl, sym, ap, ◌∙◌, arith}
 use Rattle.std.specs.Prelude.{Option, None, Some, ◌==◌}
 use Rattle.std.specs.declared.cmp.Ordering.{Ordering}
 use Rattle.std.specs.declared.cmp.Ordering.TheVariants.{Less, Equal, Greater}
 use Rattle.std.specs.Ordering.{nat_cmp, ordering_then, is_eq}
 use Rattle.std.proofs.lemmas.Bool.Decides.{nat_tests}
-use Rattle.std.proofs.lemmas.Bool.{lt-ltb, le-ltb, cases_lt}
-use Rattle.std.proofs.lemmas.List.{drop_more, drop_all}
 use Rattle.pdb_addresses.specs.declared.internal_section_offset.PdbInternalSectionOffset.{PdbInternalSectionOffset}
 use Rattle.pdb_container.specs.Fault.{Fault, ◌>>=◌}
 use Rattle.pdb_container.specs.Listing.{Listing, ending, before, whole, whole_with}
@@ -15,7 +13,7 @@ use Rattle.pdb_symbols.specs.Forms.{SymbolForm}
 use Rattle.pdb_symbols.specs.Kinds.{is_public, is_procedure, is_thunk, is_separated_code, is_inline_site}
 use Rattle.pdb_symbols.specs.Records.{as_form, end_form, form_of, symbol_form_of}
 use Rattle.pdb_symbols.specs.Symbols.{Symbol, kind_of}
-use Rattle.pdb_module_data.specs.Procedures.{Procedure, is_procedure_kind, said_procedure, kept_of, kept_before, kept_behind, is_at, place_cmp, has_start, onto_new, firsts_onto, procedures_of, contains, later, over, if_over}
+use Rattle.pdb_module_data.specs.Procedures.{Procedure, is_procedure_kind, said_procedure, kept_of, kept_before, kept_behind, is_at, place_cmp, has_start, onto_new, firsts_onto, procedures_of}
 
 -- ---- symbols of other kinds
 
@@ -111,56 +109,3 @@ start_added (k ∷ kept) p q =
 pub starts_more : (kept : List Procedure) (p : Procedure) (q : PdbInternalSectionOffset) (before now : Bool) → now ≡ cond (is_eq (place_cmp ((p.offset).section, (p.offset).offset) (q.section, q.offset))) true before → before ≡ has_start kept q → now ≡ has_start (kept ++ p ∷ []) q
 starts_more kept p q before now added same =
     added ∙ ap (λ t. cond t true before) (cmp_place p.offset q) ∙ ap (λ t. cond (is_at p.offset q) true t) same ∙ sym (start_added kept p q)
-
--- ---- the procedure over a place
-
--- of three the later of the first two, and the third
-later_assoc : (a b c : Option Procedure) → later (later a b) c ≡ later a (later b c)
-later_assoc None b c = refl
-later_assoc (Some a) None c = refl
-later_assoc (Some a) (Some b) None =
-    elim (ltb (a.offset).offset (b.offset).offset) as (λ t. later (cond t (Some b) (Some a)) None ≡ cond t (Some b) (Some a)) [ true ↦ refl | false ↦ refl ]
-later_assoc (Some a) (Some b) (Some c) =
-    elim (cases_lt (a.offset).offset (b.offset).offset) [
-      | inl ab ↦ elim (cases_lt (b.offset).offset (c.offset).offset) [
-        | inl bc ↦ rw (lt-ltb (a.offset).offset (b.offset).offset ab, lt-ltb (b.offset).offset (c.offset).offset bc, lt-ltb (a.offset).offset (c.offset).offset (omega arith)) refl
-        | inr bc ↦ rw (lt-ltb (a.offset).offset (b.offset).offset ab, le-ltb (b.offset).offset (c.offset).offset bc, lt-ltb (a.offset).offset (b.offset).offset ab) refl
-      ]
-      | inr ab ↦ elim (cases_lt (b.offset).offset (c.offset).offset) [
-        | inl bc ↦ rw (le-ltb (a.offset).offset (b.offset).offset ab, lt-ltb (b.offset).offset (c.offset).offset bc) refl
-        | inr bc ↦ rw (le-ltb (a.offset).offset (b.offset).offset ab, le-ltb (b.offset).offset (c.offset).offset bc, le-ltb (a.offset).offset (b.offset).offset ab, le-ltb (a.offset).offset (c.offset).offset (omega arith)) refl
-      ]
-    ]
-
-over_at : (procedures : List Procedure) (i : ℕ) (d : Procedure) (place : PdbInternalSectionOffset) → i < length procedures
-    → over (drop i procedures) place ≡ later (if_over (get_or procedures i d) place) (over (drop (i + 1) procedures) place)
-over_at procedures i d place lt = ap (λ (qs : List Procedure). over qs place) (drop_more procedures i d lt)
-
--- a later procedure that contains the place is the one over it
-pub over_takes : (best new : Option Procedure) (procedures : List Procedure) (i : ℕ) (d : Procedure) (place : PdbInternalSectionOffset) (all : Option Procedure) → i < length procedures
-    → contains (get_or procedures i d) place ≡ true → new ≡ later best (Some (get_or procedures i d))
-    → later best (over (drop i procedures) place) ≡ all → later new (over (drop (i + 1) procedures) place) ≡ all
-over_takes best new procedures i d place all lt inside is so_far =
-    let q = get_or procedures i d in
-    let here : if_over q place ≡ Some q = ap (λ t. cond t (Some q) None) inside in
-    rw is (later_assoc best (Some q) (over (drop (i + 1) procedures) place)
-    ∙ ap (later best) (sym (over_at procedures i d place lt ∙ ap (λ o. later o (over (drop (i + 1) procedures) place)) here)) ∙ so_far)
-
--- a procedure that doesn't is passed over
-pub over_passes : (best : Option Procedure) (procedures : List Procedure) (i : ℕ) (d : Procedure) (place : PdbInternalSectionOffset) (all : Option Procedure) → i < length procedures
-    → contains (get_or procedures i d) place ≡ false
-    → later best (over (drop i procedures) place) ≡ all → later best (over (drop (i + 1) procedures) place) ≡ all
-over_passes best procedures i d place all lt outside so_far =
-    let q = get_or procedures i d in
-    let here : if_over q place ≡ None = ap (λ t. cond t (Some q) None) outside in
-    ap (later best) (sym (over_at procedures i d place lt ∙ ap (λ o. later o (over (drop (i + 1) procedures) place)) here)) ∙ so_far
-
-best_none : (best : Option Procedure) → later best None ≡ best
-best_none None = refl
-best_none (Some q) = refl
-
--- behind all procedures the best one is the one over the place
-pub over_ends : (best : Option Procedure) (procedures : List Procedure) (i : ℕ) (place : PdbInternalSectionOffset) (all : Option Procedure) → length procedures ≤ i
-    → later best (over (drop i procedures) place) ≡ all → best ≡ all
-over_ends best procedures i place all past so_far =
-    sym (best_none best) ∙ sym (ap (λ (qs : List Procedure). later best (over qs place)) (drop_all i procedures past)) ∙ so_far

@@ -7,10 +7,13 @@ mod inline_sites;
 mod inlined_calls;
 mod inlinees;
 pub mod laws;
+mod procedure_list;
 mod procedures;
 
 pub use function_line::{file_name, function_row};
 pub use inline_sites::{InlineSites, Site, SitesError};
 pub use inlined_calls::InlinedCall;
 pub use inlinees::Inlinees;
-pub use procedures::{Procedure, over, read_procedures};
+pub use pdb_pieces::Pieces;
+pub use procedure_list::Procedures;
+pub use procedures::Procedure;

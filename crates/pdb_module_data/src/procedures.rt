@@ -1,10 +1,10 @@
-//! The procedures of a module, and the one over a place.
+//! The procedures of a module.
 
 ghost use Rattle.std.specs.Prelude.{◌≡◌, OnOk, Some, option_map};
 ghost use Rattle.std.specs.BTreeSet.{contains};
 ghost use Rattle.pdb_addresses.specs.declared.internal_section_offset.PdbInternalSectionOffset.{PdbInternalSectionOffset};
 ghost use Rattle.pdb_container.specs.Fault.{Gives};
-ghost use Rattle.pdb_module_data.specs.Procedures.{place_cmp, has_start, is_procedure_kind, separated_from, said_procedure, kept_of as kept_of_symbol, onto_new, procedures_of, contains as contains_place, later as later_of, over as over_of};
+ghost use Rattle.pdb_module_data.specs.Procedures.{place_cmp, has_start, is_procedure_kind, separated_from, said_procedure, kept_of as kept_of_symbol, onto_new, procedures_of};
 ghost use Rattle.pdb_symbols.specs.Iteration.{symbols_left};
 ghost use Rattle.pdb_symbols.specs.Records.{symbol_form_of};
 
@@ -165,51 +165,4 @@ pub fn read_procedures<'t>(alloc: Global, mut symbols: SymbolIter<'t>) -> Result
         }
     }
     Ok(procedures)
-}
-
-impl<'t> Procedure<'t> {
-    /// Whether the place lies in it; its end may lie past 32 bits.
-    fn contains(&self, place: PdbInternalSectionOffset) -> bool
-        ensures { result ≡ contains_place self.now place }
-    {
-        self.offset.section == place.section
-            && self.offset.offset <= place.offset
-            && u64::from(place.offset) < u64::from(self.offset.offset) + u64::from(self.len)
-    }
-}
-
-/// The one with the greater start, of equals the first.
-fn later<'p, 't>(
-    best: Option<&'p Procedure<'t>>,
-    next: &'p Procedure<'t>,
-) -> Option<&'p Procedure<'t>>
-    ensures { option_map (λ q. q.now) result ≡ later_of (option_map (λ q. q.now) best.entry) (Some next.now) }
-{
-    match best {
-        None => Some(next),
-        Some(first) => {
-            if first.offset.offset < next.offset.offset {
-                Some(next)
-            } else {
-                Some(first)
-            }
-        }
-    }
-}
-
-/// The procedure over a place: of those that contain it the one with the greatest start.
-#[tactic(auto, using(crate::proofs::ProcedureSteps::over_takes, crate::proofs::ProcedureSteps::over_passes, crate::proofs::ProcedureSteps::over_ends))]
-pub fn over<'p, 't>(
-    procedures: &'p [Procedure<'t>],
-    place: PdbInternalSectionOffset,
-) -> Option<&'p Procedure<'t>>
-    ensures { option_map (λ q. q.now) result ≡ over_of procedures.now place }
-{
-    let mut best = None;
-    for procedure in procedures {
-        if procedure.contains(place) {
-            best = later(best, procedure);
-        }
-    }
-    best
 }

@@ -4,7 +4,7 @@ use crate::symbols::Described::{Procedure, Separated, Thunk};
 use crate::symbols::{Described, list_of, over};
 use pdb_addresses::PdbInternalSectionOffset;
 use pdb_container::Error;
-use pdb_module_data::read_procedures;
+use pdb_module_data::Procedures;
 use std::alloc::Global;
 use std::test::Fail;
 
@@ -15,7 +15,7 @@ type Seen = (u32, u32, u32, u32, u8);
 fn procedures_of(alloc: Global, symbols: &[Described]) -> Result<Vec<Seen>, Fail> {
     let bytes = list_of(alloc, symbols)?;
     let mut seen = Vec::new(alloc);
-    for procedure in &read_procedures(alloc, over(&bytes))? {
+    for procedure in Procedures::read(alloc, over(&bytes))?.as_slice() {
         let letter = match procedure.name.as_bytes().first() {
             Some(letter) => *letter,
             None => 0,
@@ -39,9 +39,8 @@ fn start_over(
     offset: u32,
 ) -> Result<Option<u32>, Fail> {
     let bytes = list_of(alloc, symbols)?;
-    let procedures = read_procedures(alloc, over(&bytes))?;
-    let place = PdbInternalSectionOffset { offset, section };
-    match pdb_module_data::over(procedures.as_slice(), place) {
+    let procedures = Procedures::read(alloc, over(&bytes))?;
+    match procedures.over(PdbInternalSectionOffset { offset, section }) {
         None => Ok(None),
         Some(procedure) => Ok(Some(procedure.offset.offset)),
     }
@@ -137,7 +136,7 @@ fn unreadable_symbols(rt: HostRuntime) -> Result<(), Fail> {
     let mut bytes = list_of(rt.alloc(), &[Procedure(0, 0x100, 0x40, 0, b'a')])?;
     bytes.push(1)?;
     bytes.push(0)?;
-    let outcome = match read_procedures(rt.alloc(), over(&bytes)) {
+    let outcome = match Procedures::read(rt.alloc(), over(&bytes)) {
         Ok(_) => None,
         Err(error) => Some(error),
     };

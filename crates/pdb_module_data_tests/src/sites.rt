@@ -6,7 +6,7 @@ use pdb_addresses::PdbInternalSectionOffset;
 use pdb_container::Error;
 use pdb_indices::IdIndex;
 use pdb_inlinees::InlineeIterator;
-use pdb_module_data::{InlineSites, InlinedCall, Inlinees, Procedure, SitesError, read_procedures};
+use pdb_module_data::{InlineSites, InlinedCall, Inlinees, Procedure, Procedures, SitesError};
 use std::alloc::Global;
 use std::test::Fail;
 
@@ -34,9 +34,9 @@ fn refused(error: SitesError) -> Refused {
 /// The sites of the first procedure of a list.
 fn sites_of(alloc: Global, symbols: &[Described]) -> Result<Result<Vec<Seen>, Refused>, Fail> {
     let bytes = list_of(alloc, symbols)?;
-    let procedures = read_procedures(alloc, over(&bytes))?;
+    let procedures = Procedures::read(alloc, over(&bytes))?;
     let mut seen = Vec::new(alloc);
-    let Some(procedure) = procedures.first() else {
+    let Some(procedure) = procedures.as_slice().first() else {
         return Ok(Ok(seen));
     };
     match InlineSites::read(alloc, over(&bytes), procedure) {
@@ -81,8 +81,8 @@ fn seen(alloc: Global, calls: &[InlinedCall]) -> Result<Vec<Call>, Fail> {
 /// The inlined calls over an offset of section 1 in the first procedure of a list, which begins at 0x100.
 fn calls_over(alloc: Global, symbols: &[Described], offset: u32) -> Result<Vec<Call>, Fail> {
     let bytes = list_of(alloc, symbols)?;
-    let procedures = read_procedures(alloc, over(&bytes))?;
-    match procedures.first() {
+    let procedures = Procedures::read(alloc, over(&bytes))?;
+    match procedures.as_slice().first() {
         None => Ok(Vec::new(alloc)),
         Some(procedure) => seen(alloc, &calls_in(alloc, &bytes, procedure, offset)?),
     }

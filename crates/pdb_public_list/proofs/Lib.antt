@@ -1,4 +1,5 @@
 pub mod Firsts
+pub mod Lookup
 pub mod OnePlace
 pub mod PublicOrder
 pub mod PublicSteps

@@ -1,7 +1,6 @@
 -- Gathering entries of the public list, and looking up in it.
-use Rattle.std.proofs.Common.{◌≡◌, ℕ, ◌+◌, ◌<◌, ◌≤◌, inl, inr, true, false, cond, List, [], ◌∷◌, ◌++◌, Option, None, Some, Result, Ok, Err, length, drop, get_or, refl, sym, ap, ◌∙◌, append_assoc, arith}
+use Rattle.std.proofs.Common.{◌≡◌, ℕ, ◌+◌, ◌<◌, ◌≤◌, inl, inr, false, List, [], ◌∷◌, ◌++◌, Option, None, Some, Result, Ok, Err, length, drop, get_or, refl, sym, ap, ◌∙◌, append_assoc, arith}
 use Rattle.std.specs.Prelude.{◌==◌}
-use Rattle.std.specs.Option.{option_or}
 use Rattle.std.proofs.lemmas.Bool.{cases_Bool, lt-leb}
 use Rattle.std.proofs.lemmas.List.{append-nil, drop_more, drop_all}
 use Rattle.pdb_container.specs.Fault.{Fault, ◌>>=◌}
@@ -15,7 +14,7 @@ use Rattle.pdb_symbols.specs.Forms.{SymbolForm}
 use Rattle.pdb_symbols.specs.Kinds.{is_public, is_procedure, is_thunk, is_separated_code, is_inline_site}
 use Rattle.pdb_symbols.specs.Symbols.{Symbol, kind_of, payload_of}
 use Rattle.pdb_symbols.specs.Records.{symbol_form_of, form_of, as_form, end_form, procedure_symbol_at, thunk_of, separated_code_of, inline_site_of}
-use Rattle.pdb_public_list.specs.Publics.{PublicFunction, placeholder, placeholders, section_end, section_ends_from, section_ends, as_public, entry_of_public, entries_of_symbols, entries_read, is_at_or_before, last_at_or_before}
+use Rattle.pdb_public_list.specs.Publics.{PublicFunction, placeholder, placeholders, section_end, section_ends_from, section_ends, as_public, entry_of_public, entries_of_symbols, entries_read}
 
 -- ---- symbols that aren't public
 
@@ -149,35 +148,3 @@ no_ends number (s ∷ sections) past =
 pub ends_past : (front total : List PublicFunction) (sections : List ImageSectionHeader) (index : ℕ) → 65535 < index + 1 → front ++ section_ends_from (index + 1) (drop index sections) ≡ total → front ≡ total
 ends_past front total sections index past so_far =
     sym (append-nil front) ∙ ap (λ (es : List PublicFunction). front ++ es) (sym (no_ends (index + 1) (drop index sections) past)) ∙ so_far
-
--- ---- looking up
-
-option_or_assoc : (a b c : Option PublicFunction) → option_or (option_or a b) c ≡ option_or a (option_or b c)
-option_or_assoc None b c = refl
-option_or_assoc (Some x) b c = refl
-
--- no entry was gone over
-pub last_start : (list : List PublicFunction) (p : PdbInternalSectionOffset) → option_or (last_at_or_before (drop 0 list) p) None ≡ last_at_or_before list p
-last_start list p = elim (last_at_or_before list p) as (λ (o : Option PublicFunction). option_or o None ≡ o) [ None ↦ refl | Some x ↦ refl ]
-
-last_step : (list : List PublicFunction) (p : PdbInternalSectionOffset) (index : ℕ) (d : PublicFunction) (best total : Option PublicFunction) → index < length list → option_or (last_at_or_before (drop index list) p) best ≡ total
-    → option_or (last_at_or_before (drop (index + 1) list) p) (option_or (cond (is_at_or_before p (get_or list index d)) (Some (get_or list index d)) None) best) ≡ total
-last_step list p index d best total lt so_far =
-    sym (option_or_assoc (last_at_or_before (drop (index + 1) list) p) (cond (is_at_or_before p (get_or list index d)) (Some (get_or list index d)) None) best)
-    ∙ ap (λ (fs : List PublicFunction). option_or (last_at_or_before fs p) best) (sym (drop_more list index d lt)) ∙ so_far
-
--- one more entry, at the place or before it
-pub last_more : (list : List PublicFunction) (p : PdbInternalSectionOffset) (index : ℕ) (d : PublicFunction) (best total : Option PublicFunction) → index < length list → is_at_or_before p (get_or list index d) ≡ true
-    → option_or (last_at_or_before (drop index list) p) best ≡ total → option_or (last_at_or_before (drop (index + 1) list) p) (Some (get_or list index d)) ≡ total
-last_more list p index d best total lt here so_far =
-    ap (λ b. option_or (last_at_or_before (drop (index + 1) list) p) (option_or (cond b (Some (get_or list index d)) None) best)) (sym here) ∙ last_step list p index d best total lt so_far
-
--- one more entry, elsewhere
-pub last_other : (list : List PublicFunction) (p : PdbInternalSectionOffset) (index : ℕ) (d : PublicFunction) (best total : Option PublicFunction) → index < length list → is_at_or_before p (get_or list index d) ≡ false
-    → option_or (last_at_or_before (drop index list) p) best ≡ total → option_or (last_at_or_before (drop (index + 1) list) p) best ≡ total
-last_other list p index d best total lt elsewhere so_far =
-    ap (λ b. option_or (last_at_or_before (drop (index + 1) list) p) (option_or (cond b (Some (get_or list index d)) None) best)) (sym elsewhere) ∙ last_step list p index d best total lt so_far
-
--- none is left
-pub last_end : (list : List PublicFunction) (p : PdbInternalSectionOffset) (index : ℕ) (best total : Option PublicFunction) → length list ≤ index → option_or (last_at_or_before (drop index list) p) best ≡ total → best ≡ total
-last_end list p index best total past so_far = ap (λ (fs : List PublicFunction). option_or (last_at_or_before fs p) best) (sym (drop_all index list past)) ∙ so_far

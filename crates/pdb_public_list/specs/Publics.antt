@@ -1,6 +1,6 @@
 -- The public list: names and placeholders by the places at which functions may begin.
 -- What stands in it, and which of one place counts, is what the pdb-addr2line crate does.
-use Rattle.std.specs.Prelude.{◌≡◌, ℕ, ◌+◌, Bool, ◌&&◌, ◌||◌, not, List, [], ◌∷◌, ◌++◌, map, is_some, IsTrue, slice_get, nat_lt, nat_le, ◌==◌, Option, None, Some, Result, Ok, if◌then◌else◌}
+use Rattle.std.specs.Prelude.{◌≡◌, ℕ, zero, suc, ◌+◌, ◌<◌, ◌≤◌, Bool, true, false, length, ◌&&◌, ◌||◌, not, List, [], ◌∷◌, ◌++◌, map, is_some, IsTrue, slice_get, nat_lt, nat_le, ◌==◌, Option, None, Some, Result, Ok, if◌then◌else◌}
 use Rattle.std.specs.Option.{option_or}
 use Rattle.std.specs.List.{find, flat_map}
 use Rattle.pdb_container.specs.Fault as container
@@ -132,3 +132,20 @@ is_behind p f = ((f.start_offset).section == p.section) && nat_lt p.offset (f.st
 -- the next entry behind a place, in its section
 abbrev pub next_public : List PublicFunction → PdbInternalSectionOffset → Option PublicFunction
 next_public list p = find (is_behind p) list
+
+-- ---- looking up in order
+
+-- places ascend strictly
+pub record Rises (list : List PublicFunction) : Type 0 where
+  pub each : (i j : ℕ) (a b : PublicFunction) → i < j → slice_get list i ≡ Some a → slice_get list j ≡ Some b → IsTrue (is_before a.start_offset b.start_offset)
+
+-- so many entries begin at a place or before it, in its section or in one before; those behind them begin behind it
+pub record IsSplit (list : List PublicFunction) (p : PdbInternalSectionOffset) (count : ℕ) : Type 0 where
+  pub bound : count ≤ length list
+  pub front : (i : ℕ) (f : PublicFunction) → i < count → slice_get list i ≡ Some f → is_before p f.start_offset ≡ false
+  pub back : (i : ℕ) (f : PublicFunction) → count ≤ i → slice_get list i ≡ Some f → is_before p f.start_offset ≡ true
+
+-- the last of so many entries of a list
+abbrev pub last_of : List PublicFunction → ℕ → Option PublicFunction
+last_of list zero = None
+last_of list (suc number) = slice_get list number

@@ -1,4 +1,4 @@
-use Rattle.std.specs.Prelude.{◌≡◌, length, option_map}
+use Rattle.std.specs.Prelude.{◌≡◌, length}
 use Rattle.std.specs.BTreeSet.{contains}
 use Rattle.pdb_addresses.specs.declared.internal_section_offset.PdbInternalSectionOffset.{PdbInternalSectionOffset}
 use Rattle.pdb_symbols.specs.Iteration.{symbols_left}

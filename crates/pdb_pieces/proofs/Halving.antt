@@ -1,0 +1,137 @@
+-- A search by halving among pieces.
+use Rattle.std.proofs.Common.{◌≡◌, ℕ, ◌+◌, ◌-◌, ◌/◌, ◌^◌, ◌<◌, ◌≤◌, Option, Some, None, length, get_or, List, [], ◌∷◌, ◌⊎◌, ◌↔◌, inl, inr, zero, suc, refl, sym, ap, subst, ◌∙◌, arith}
+use Rattle.std.specs.List.{slice_get}
+use Rattle.std.specs.Option.{option_map}
+use Rattle.std.proofs.lemmas.Bool.{cases_lt, cases_order}
+use Rattle.std.proofs.Math.Nat.{pow-succ'}
+use Rattle.std.proofs.lemmas.Option.{slice_get_within, slice_get-get_or}
+use Rattle.pdb_pieces.specs.declared.span.Mark.{Mark}
+use Rattle.pdb_pieces.specs.declared.span.Span.{Span}
+use Rattle.pdb_pieces.specs.Spans.{mark_over, best, ArePieces, PieceHolds, mark_at}
+use Rattle.pdb_pieces.proofs.Covers.{best-before, mark_over-before, mark_over-after, mark_over-within}
+
+ArePieces-at : (low high : ℕ) (xs : List Span) (i : ℕ) (s : Span) → ArePieces low high xs → slice_get xs i ≡ Some s → (low ≤ s.start) × (s.start < s.end)
+ArePieces-at low high [] i s h e = cc
+ArePieces-at low high (x ∷ rest) zero s h e =
+    let same : x ≡ s = cc in
+    subst (λ (y : Span). (low ≤ y.start) × (y.start < y.end)) same (h.0, h.1)
+ArePieces-at low high (x ∷ rest) (suc i) s h e =
+    let r = ArePieces-at x.end high rest i s h.2 e in (omega arith, r.1)
+
+pub ArePieces-ascend : (low high : ℕ) (xs : List Span) (i j : ℕ) (s t : Span) → ArePieces low high xs → slice_get xs i ≡ Some s → slice_get xs j ≡ Some t → i < j → s.end ≤ t.start
+ArePieces-ascend low high [] i j s t h e f l = cc
+ArePieces-ascend low high (x ∷ rest) i zero s t h e f l = absurd (omega arith)
+ArePieces-ascend low high (x ∷ rest) zero (suc j) s t h e f l =
+    let same : x ≡ s = cc in
+    let r = ArePieces-at x.end high rest j t h.2 f in
+    subst (λ (y : Span). y.end ≤ t.start) same r.0
+ArePieces-ascend low high (x ∷ rest) (suc i) (suc j) s t h e f l = ArePieces-ascend x.end high rest i j s t h.2 e f (omega arith)
+
+pub best-at : (low high : ℕ) (xs : List Span) (i : ℕ) (s : Span) (p : ℕ) → ArePieces low high xs → slice_get xs i ≡ Some s → s.start ≤ p → p < s.end → best xs p ≡ Some s.mark
+best-at low high [] i s p h e k l = cc
+best-at low high (x ∷ rest) zero s p h e k l =
+    let same : s ≡ x = cc in
+    let f : mark_over x p ≡ Some s.mark = subst (λ (y : Span). mark_over y p ≡ Some s.mark) same (mark_over-within s p k l) in
+    let before : p < x.end = subst (λ (y : Span). p < y.end) same l in
+    let g = best-before x.end high rest p h.2 before in rw (f, g) refl
+best-at low high (x ∷ rest) (suc i) s p h e k l =
+    let r = ArePieces-at x.end high rest i s h.2 e in
+    let f = mark_over-after x p (omega arith) in rw f (best-at x.end high rest i s p h.2 e k l)
+
+-- the pieces before `low` end at the place or before it
+pub record IsPast (xs : List Span) (low p : ℕ) : Type 0 where
+  pub each : (i : ℕ) (s : Span) → i < low → slice_get xs i ≡ Some s → s.end ≤ p
+
+-- the pieces from `high` on start past the place
+pub record IsBeyond (xs : List Span) (high p : ℕ) : Type 0 where
+  pub each : (i : ℕ) (s : Span) → high ≤ i → slice_get xs i ≡ Some s → p < s.start
+
+best-none : (xs : List Span) (p : ℕ) → ((i : ℕ) (s : Span) → slice_get xs i ≡ Some s → (s.end ≤ p) ⊎ (p < s.start)) → best xs p ≡ None
+best-none [] p h = refl
+best-none (x ∷ rest) p h =
+    let e : mark_over x p ≡ None = elim (h 0 x refl) [ inl k ↦ mark_over-after x p k | inr k ↦ mark_over-before x p k ] in
+    rw e (best-none rest p (λ i s f. h (suc i) s f))
+
+outside : (xs : List Span) (n p i : ℕ) (s : Span) → IsPast xs n p → IsBeyond xs n p → slice_get xs i ≡ Some s → (s.end ≤ p) ⊎ (p < s.start)
+outside xs n p i s a b e = elim (cases_lt i n) [ inl l ↦ inl (a.each i s l e) | inr l ↦ inr (b.each i s l e) ]
+
+pub best_nowhere : (xs : List Span) (low high p : ℕ) → IsPast xs low p → IsBeyond xs high p → high ≤ low → best xs p ≡ None
+best_nowhere xs low high p a b l =
+    let b' : IsBeyond xs low p = record { each = λ i s k e. b.each i s (omega arith) e } in
+    best-none xs p (λ i s e. outside xs low p i s a b' e)
+
+pub holds_nowhere : (xs : List Span) (low high p i : ℕ) → IsPast xs low p → IsBeyond xs high p → high ≤ low → PieceHolds xs p i → ⊥
+holds_nowhere xs low high p i a b l h =
+    let b' : IsBeyond xs low p = record { each = λ i s k e. b.each i s (omega arith) e } in
+    elim (outside xs low p i h.piece a b' h.is) [ inl k ↦ omega (arith, h.before) | inr k ↦ omega (arith, h.from) ]
+
+pub holds_once : (low high : ℕ) (xs : List Span) (p i j : ℕ) → ArePieces low high xs → PieceHolds xs p i → PieceHolds xs p j → i ≡ j
+holds_once low high xs p i j h a b =
+    elim (cases_order i j) [
+      | inl e ↦ e
+      | inr l ↦ elim l [
+        | inl m ↦ absurd (omega (arith, ArePieces-ascend low high xs i j a.piece b.piece h a.is b.is m, a.before, b.from))
+        | inr m ↦ absurd (omega (arith, ArePieces-ascend low high xs j i b.piece a.piece h b.is a.is m, b.before, a.from))
+      ]
+    ]
+
+pub IsPast-more : (low high : ℕ) (xs : List Span) (m p : ℕ) (s : Span) → ArePieces low high xs → slice_get xs m ≡ Some s → s.end ≤ p → IsPast xs (m + 1) p
+IsPast-more low high xs m p s h e k = record {
+  each = λ i t l f. elim (cases_lt i m) [
+    | inl n ↦ (let a = ArePieces-ascend low high xs i m t s h f e n in let b = ArePieces-at low high xs m s h e in omega (arith, b.1))
+    | inr n ↦ (let same : i ≡ m = omega arith in let g : Some s ≡ Some t = sym e ∙ ap (slice_get xs) (sym same) ∙ f in let st : s ≡ t = cc in subst (λ (y : Span). y.end ≤ p) st k)
+  ];
+}
+
+pub IsBeyond-more : (low high : ℕ) (xs : List Span) (m p : ℕ) (s : Span) → ArePieces low high xs → slice_get xs m ≡ Some s → p < s.start → IsBeyond xs m p
+IsBeyond-more low high xs m p s h e k = record {
+  each = λ i t l f. elim (cases_lt m i) [
+    | inl n ↦ (let a = ArePieces-ascend low high xs m i s t h e f n in let b = ArePieces-at low high xs m s h e in omega (arith, b.1))
+    | inr n ↦ (let same : i ≡ m = omega arith in let g : Some s ≡ Some t = sym e ∙ ap (slice_get xs) (sym same) ∙ f in let st : s ≡ t = cc in subst (λ (y : Span). p < y.start) st k)
+  ];
+}
+
+-- among n pieces: no more probes than n has digits, and what is left has as many digits as probes are left
+pub record IsCheap (n probes left : ℕ) : Type 0 where
+  pub each : (digits : ℕ) → n < 2 ^ digits → (probes ≤ digits) × (left < 2 ^ (digits - probes))
+
+halve : (m k : ℕ) → 0 < m → m < 2 ^ k → (0 < k) × (m / 2 < 2 ^ (k - 1))
+halve m zero h l = absurd (omega arith)
+halve m (suc k) h l =
+    let e : suc k - 1 ≡ k = omega arith in
+    let f = pow-succ' 2 k in
+    (omega arith, rw e (omega arith))
+
+pub IsCheap-start : (n : ℕ) → IsCheap n 0 n
+IsCheap-start n = record { each = λ d h. (let e : d - 0 ≡ d = omega arith in (omega arith, rw e h)) }
+
+pub IsCheap-more : (n probes left fewer : ℕ) → IsCheap n probes left → 0 < left → fewer ≤ left / 2 → IsCheap n (probes + 1) fewer
+IsCheap-more n probes left fewer c h l = record {
+  each = λ d k. (
+      let a = c.each d k in
+      let b = halve left (d - probes) h a.1 in
+      let e : d - (probes + 1) ≡ d - probes - 1 = omega arith in
+      (omega (arith, b.0), rw e (omega (arith, b.1))));
+}
+
+pub found_one : (low high : ℕ) (xs : List Span) (p m : ℕ) (s : Span) → ArePieces low high xs → slice_get xs m ≡ Some s → s.start ≤ p → p < s.end → (i : ℕ) → (Some m ≡ Some i) ↔ PieceHolds xs p i
+found_one low high xs p m s h e k l i =
+    let here : PieceHolds xs p m = record { piece = s; is = e; from = k; before = l } in
+    (λ f. (let same : m ≡ i = cc in subst (PieceHolds xs p) same here), λ w. ap Some (holds_once low high xs p m i h here w))
+
+pub found_best : (low high : ℕ) (xs : List Span) (p m : ℕ) (s : Span) → ArePieces low high xs → slice_get xs m ≡ Some s → s.start ≤ p → p < s.end → best xs p ≡ mark_at xs (Some m)
+found_best low high xs p m s h e k l = best-at low high xs m s p h e k l ∙ sym (ap (option_map (λ (x : Span). x.mark)) e)
+
+-- what an index past a list's end reads
+abbrev pub no_span : Span
+no_span = record { start = 0; end = 0; mark = record { rank = 0; value = 0 } }
+
+pub holds_within : (xs : List Span) (p i : ℕ) → PieceHolds xs p i → i < length xs
+holds_within xs p i h = slice_get_within xs i h.piece h.is
+
+-- what the number that a search gave reads
+pub value_found : (xs : List Span) (p i : ℕ) (s : Span) (o : Option ℕ) → s ≡ get_or xs i s → i < length xs → o ≡ Some i → best xs p ≡ mark_at xs o → Some s.mark.value ≡ option_map (λ (m : Mark). m.value) (best xs p)
+value_found xs p i s o e l f g =
+    let read : slice_get xs i ≡ Some s = slice_get-get_or xs i s l ∙ ap Some (sym e) in
+    let mark : best xs p ≡ Some s.mark = g ∙ ap (mark_at xs) f ∙ ap (option_map (λ (x : Span). x.mark)) read in
+    sym (ap (option_map (λ (m : Mark). m.value)) mark)

@@ -1,0 +1,88 @@
+-- Which of many spans stands at a place, where places are numbers.
+use Rattle.std.specs.Prelude.{◌≡◌, ℕ, ◌+◌, ◌*◌, ◌<◌, ◌≤◌, Option, Some, None, List, [], ◌∷◌, if◌then◌else◌, ◌&&◌, nat_lt, nat_le, length, drop, slice_get}
+use Rattle.std.specs.Option.{option_map}
+use Rattle.pdb_addresses.specs.declared.internal_section_offset.PdbInternalSectionOffset.{PdbInternalSectionOffset}
+use Rattle.pdb_pieces.specs.declared.span.Mark.{Mark}
+use Rattle.pdb_pieces.specs.declared.span.Span.{Span}
+use Rattle.std.specs.Global.{Vec}
+
+-- a place in a section as a number: 2 ^ 33 numbers for each section, so that what begins in one ends before the next
+abbrev pub place_number : PdbInternalSectionOffset → ℕ
+place_number place = place.section * 8589934592 + place.offset
+
+-- the mark of a span, at the places that it covers
+abbrev pub mark_over : Span → ℕ → Option Mark
+mark_over s p = if nat_le s.start p && nat_lt p s.end then Some s.mark else None
+
+-- the one of greater rank, of equals the first
+abbrev pub better : Option Mark → Option Mark → Option Mark
+better None b = b
+better (Some a) None = Some a
+better (Some a) (Some b) = if nat_lt a.rank b.rank then Some b else Some a
+
+-- of the spans over a place the mark of the one of greatest rank, of equals the first
+abbrev pub best : List Span → ℕ → Option Mark
+best [] p = None
+best (s ∷ rest) p = better (mark_over s p) (best rest p)
+
+-- spans in ascending order, none empty and no two over one place, all within the bounds
+abbrev pub ArePieces : ℕ → ℕ → List Span → Type 0
+ArePieces low high [] = low ≤ high
+ArePieces low high (s ∷ rest) = (low ≤ s.start) × (s.start < s.end) × ArePieces s.end high rest
+
+-- each of the lists is pieces
+abbrev pub AllPieces : ℕ → List (Vec Span) → Type 0
+AllPieces high [] = Unit {0}
+AllPieces high (run ∷ rest) = ArePieces 0 high run.items × AllPieces high rest
+
+-- the best of several lists, one after another
+abbrev pub best_of_all : List (Vec Span) → ℕ → Option Mark
+best_of_all [] p = None
+best_of_all (run ∷ rest) p = better (best run.items p) (best_of_all rest p)
+
+-- the first of what is left ends past `from`, and what is left is pieces
+abbrev pub IsRest : ℕ → ℕ → List Span → Type 0
+IsRest from high [] = Unit {0}
+IsRest from high (s ∷ rest) = (from < s.end) × (s.start < s.end) × ArePieces s.end high rest
+
+-- at `from` and past it only the spans from place i on count
+pub record IsAhead (spans : List Span) (i from high : ℕ) : Type 0 where
+  pub in_range : i ≤ length spans
+  pub rest : IsRest from high (drop i spans)
+  pub same : (p : ℕ) → from ≤ p → best spans p ≡ best (drop i spans) p
+
+-- the spans stand with one mark from `from` on and before `to`
+abbrev pub StandsWith : List Span → ℕ → ℕ → Option Mark → Type 0
+StandsWith spans from to mark = (p : ℕ) → from ≤ p → p < to → best spans p ≡ mark
+
+-- the first of the spans ends at `to` or past it
+abbrev pub FirstReaches : ℕ → List Span → Type 0
+FirstReaches to [] = Unit {0}
+FirstReaches to (s ∷ rest) = to ≤ s.end
+
+-- the piece numbered i holds the place p
+pub record PieceHolds (pieces : List Span) (p i : ℕ) : Type 0 where
+  pub piece : Span
+  pub is : slice_get pieces i ≡ Some piece
+  pub from : piece.start ≤ p
+  pub before : p < piece.end
+
+-- the mark of the piece with that number
+abbrev pub mark_at : List Span → Option ℕ → Option Mark
+mark_at pieces None = None
+mark_at pieces (Some i) = option_map (λ s. s.mark) (slice_get pieces i)
+
+-- the span covers the place
+pub record IsOver (s : Span) (p : ℕ) : Type 0 where
+  pub from : s.start ≤ p
+  pub before : p < s.end
+
+-- the mark is of a span over the place, no span over it has a greater rank, and none before that span has its rank
+pub record IsGreatest (spans : List Span) (p : ℕ) (m : Mark) : Type 0 where
+  pub number : ℕ
+  pub span : Span
+  pub is : slice_get spans number ≡ Some span
+  pub over : IsOver span p
+  pub mark : span.mark ≡ m
+  pub greatest : (j : ℕ) (t : Span) → slice_get spans j ≡ Some t → IsOver t p → t.mark.rank ≤ m.rank
+  pub first : (j : ℕ) (t : Span) → j < number → slice_get spans j ≡ Some t → IsOver t p → t.mark.rank < m.rank

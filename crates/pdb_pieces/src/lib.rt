@@ -1,0 +1,10 @@
+//! Spans of places that may overlap, cut into pieces that don't, and a search among these by halving.
+#![tactic(auto)]
+
+mod cut;
+pub mod laws;
+mod search;
+mod span;
+
+pub use search::Pieces;
+pub use span::{Mark, Span, place_number};
