@@ -2,7 +2,7 @@
 
 use crate::files::{container, counted, file, get};
 use pdb_container::{BigMSF, Error, Msf, ReadView, Source, SourceSlice, open_msf};
-use pdb_samples::{PageOrder, SampleError};
+use pdb_samples::{PageOrder, SampleError, overwrite};
 use std::alloc::Global;
 use std::io::{self, ErrorKind};
 use std::test::Fail;
@@ -197,5 +197,28 @@ fn a_stream_views_its_own_pages_alone(rt: HostRuntime) -> Result<(), Fail> {
     let reversed: &[(u64, usize)] = &[(0x400, 0x100), (0x300, 44)];
     let apart = by_own_pages(rt.alloc(), PageOrder::StreamsReversed, reversed)?;
     assert_eq!(rt; apart, (300, other));
+    Ok(())
+}
+
+/// Why streams 0 and 1 are refused where the directory's page has number 0xff, which the file hasn't. Of the views that may fail
+/// here the header and the list need two.
+fn by_bad_directory(alloc: Global) -> Result<(Option<Error>, Option<Error>), Fail> {
+    let mut bytes = two_streams(alloc, PageOrder::Natural)?;
+    overwrite(bytes.as_mut_slice(), 0x100, &0xff_u32.to_le_bytes())?;
+    let source = OwnPages {
+        bytes,
+        views: 1,
+        slices: &[],
+        failures: 0,
+    };
+    let mut container = open_msf(alloc, source)?;
+    let first = get(&mut container, alloc, 0, None).err();
+    Ok((first, get(&mut container, alloc, 1, None).err()))
+}
+
+#[test]
+fn a_directory_fault_is_kept(rt: HostRuntime) -> Result<(), Fail> {
+    let fault = Some(Error::PageReferenceOutOfRange(0xff));
+    assert_eq!(rt; by_bad_directory(rt.alloc())?, (fault, fault));
     Ok(())
 }
