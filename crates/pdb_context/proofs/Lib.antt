@@ -1,5 +1,6 @@
 pub mod FunctionSteps
 pub mod KeptSteps
 pub mod NextBounds
+pub mod NextPublic
 pub mod RunLaw
 pub mod SitesSteps

@@ -9,7 +9,7 @@ use crate::parts::ContextParts;
 use pdb_addresses::PdbInternalSectionOffset;
 use pdb_contributions::ModuleSectionContribution;
 use pdb_module_data::Procedure;
-use pdb_public_list::PublicFunction;
+use pdb_public_list::PublicList;
 
 /// The lesser of `far` and the distance from an offset to a bound, if that lies behind it.
 fn nearer(offset: u32, bound: u64, far: u32) -> u32
@@ -90,27 +90,15 @@ fn to_next_procedure(procedures: &[Procedure<'_>], place: PdbInternalSectionOffs
     near
 }
 
-/// The lesser of `far` and the distance from a place to a public entry behind it.
-fn nearer_of_public(public: &PublicFunction<'_>, place: PdbInternalSectionOffset, far: u32) -> u32
-    ensures { result ≡ up_to_next (public_bounds place public.now) place.offset far }
-{
-    if public.start_offset.section == place.section {
-        nearer(place.offset, u64::from(public.start_offset.offset), far)
-    } else {
-        far
-    }
-}
-
 /// The lesser of `far` and the distance from a place to the next public entry.
-#[tactic(auto, using(crate::proofs::NextBounds::next_done))]
-fn to_next_public(publics: &[PublicFunction<'_>], place: PdbInternalSectionOffset, far: u32) -> u32
+#[tactic(auto, using(crate::proofs::NextPublic::next_is_near, crate::proofs::NextPublic::none_is_near))]
+fn to_next_public(publics: &PublicList<'_>, place: PdbInternalSectionOffset, far: u32) -> u32
     ensures { result ≡ up_to_next (flat_map (public_bounds place) publics.now) place.offset far }
 {
-    let mut near = far;
-    for public in publics {
-        near = nearer_of_public(public, place, near);
+    match publics.next_behind(place) {
+        None => far,
+        Some(public) => nearer(place.offset, u64::from(public.start_offset.offset), far),
     }
-    near
 }
 
 /// The lesser of `limit` and the distance from a place to the next place at which an answer may change, by the procedures of the
@@ -125,6 +113,6 @@ pub fn to_next_bound(
     ensures { result ≡ up_to_next (bounds_near parts.now procedures.now place) place.offset limit }
 {
     let near = to_next_procedure(procedures, place, limit);
-    let near = to_next_public(parts.publics.as_slice(), place, near);
+    let near = to_next_public(&parts.publics, place, near);
     to_next_contribution(parts.contributions.as_slice(), place, near)
 }

@@ -191,7 +191,8 @@ impl<'s> PublicList<'s> {
 
     /// The next entry behind a place, in its section.
     pub fn next_behind(&self, place: PdbInternalSectionOffset) -> Option<&PublicFunction<'s>>
-        ensures { option_map (λ f. f.now) result ≡ next_public self.now place }
+        ensures next { option_map (λ f. f.now) result ≡ next_public self.now place }
+        ensures rises { Rises self.now }
     {
         first_behind(&self.functions, place)
     }
