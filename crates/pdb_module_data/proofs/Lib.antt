@@ -5,10 +5,11 @@ mod ChainSteps
 mod ForestGrammar
 mod NestedSites
 mod OpenBodies
-mod Rows
 pub mod Deepest
 pub mod InlineeSteps
+pub mod InlineSteps
 pub mod PieceSteps
 pub mod PlainKinds
 pub mod ProcedureSteps
+pub mod RowPieceSteps
 pub mod RowSteps

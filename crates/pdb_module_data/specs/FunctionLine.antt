@@ -25,10 +25,13 @@ abbrev pub row_at : List LineInfo → ℕ → Option LineInfo
 row_at [] offset = None
 row_at (row ∷ rows) offset = later_row (if_begun row offset) (row_at rows offset)
 
--- the row of a place in the function that begins at another one, of the rows of that one's subsection, which have to be
--- there to their end
+-- the rows of the function that begins at a place: those of its subsection, which have to be there to their end
+abbrev pub function_rows : Program → PdbInternalSectionOffset → Result (List LineInfo) Fault
+function_rows program start = whole (lines_for program start)
+
+-- the row of a place in the function that begins at another one, of that one's rows
 abbrev pub function_row : Program → PdbInternalSectionOffset → PdbInternalSectionOffset → Result (Option LineInfo) Fault
-function_row program start place = whole (lines_for program start) >>= λ rows. Ok (row_at rows place.offset)
+function_row program start place = function_rows program start >>= λ rows. Ok (row_at rows place.offset)
 
 -- what was read, if it could be
 abbrev pub if_read : {A : Type 0} → Result A Fault → Option A

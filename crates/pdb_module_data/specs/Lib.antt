@@ -2,6 +2,8 @@ pub mod Elements
 pub mod Forest
 pub mod FunctionLine
 pub mod InlinedCalls
+pub mod InlinePieces
 pub mod ProcedurePieces
 pub mod Procedures
+pub mod RowPieces
 pub mod SitesFaults

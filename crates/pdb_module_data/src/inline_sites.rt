@@ -13,7 +13,7 @@ use pdb_container::{Error, FallibleIterator};
 use pdb_indices::SymbolIndex;
 use pdb_symbols::kinds::{is_inline_site, is_procedure};
 use pdb_symbols::{Symbol, SymbolData, SymbolIter};
-use std::alloc::{AllocFailed, Global};
+use std::alloc::{AllocError, AllocFailed, Global};
 use std::marker::Model;
 
 /// How deep a site may lie in others.
@@ -35,6 +35,17 @@ impl From<Error> for SitesError {
 
     fn from(cause: Error) -> SitesError {
         SitesError::Pdb(cause)
+    }
+}
+
+impl From<AllocError> for SitesError {
+    ghost use Rattle.pdb_container.specs.declared.error.Error.TheVariants as errors;
+    ghost use Rattle.pdb_module_data.specs.declared.inline_sites.SitesError.TheVariants as faults;
+
+    ghost from_gives = { λ _ e. e ≡ faults.Pdb errors.OutOfMemory };
+
+    fn from(_e: AllocError) -> SitesError {
+        SitesError::Pdb(Error::OutOfMemory)
     }
 }
 

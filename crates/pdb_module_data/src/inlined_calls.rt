@@ -1,13 +1,13 @@
 //! Inlined calls over a place.
 
-ghost use Rattle.std.specs.Prelude.{◌≡◌, ◌<◌, Some, IfOk, IfSome, length, slice_get, option_map, vec_len};
-ghost use Rattle.std.specs.List.{list_any, find, flat_map};
+ghost use Rattle.std.specs.Prelude.{◌≡◌, ◌<◌, IfOk, IfSome, length, slice_get, option_map, vec_len};
+ghost use Rattle.std.specs.List.{find, flat_map};
 ghost use Rattle.pdb_annotations.specs.Annotations.{annotation_bytes};
 ghost use Rattle.pdb_inlinees.specs.InlinedRows.{covers as covers_place};
 ghost use Rattle.pdb_symbols.specs.Forms.{inline_site_form};
-ghost use Rattle.pdb_module_data.specs.InlinedCalls.{given_by, call_rows, is_over as is_over_place, has_length as has_length_of, deeper as deeper_of, deepest as deepest_of, deepest_from, chain as chain_of, call_over as call_over_place, calls_of, calls_over as calls_over_place, IsNested};
+ghost use Rattle.pdb_module_data.specs.InlinedCalls.{given_by, call_rows, has_length as has_length_of, chain as chain_of, call_over as call_over_place, calls_of, IsNested};
 
-use crate::inline_sites::{InlineSites, Site};
+use crate::inline_sites::Site;
 use crate::inlinees::Inlinees;
 use pdb_addresses::PdbInternalSectionOffset;
 use pdb_annotations::InlineSiteSymbol;
@@ -118,51 +118,8 @@ fn call_over<'a>(
     }
 }
 
-/// Whether a row of a site covers a place.
-fn is_over<'a>(
-    inlinees: &Inlinees<'a>,
-    start: PdbInternalSectionOffset,
-    site: &Site<'a>,
-    place: PdbInternalSectionOffset,
-) -> bool
-    ensures { result ≡ is_over_place (call_rows (given_by inlinees.now) start) place site.now }
-{
-    call_row_over(inlinees, start, &site.call, place).is_some()
-}
-
-/// The deeper one of two sites by their numbers and depths, of equals the first.
-fn deeper(best: Option<(usize, usize)>, next: (usize, usize)) -> (usize, usize)
-    ensures { Some result ≡ deeper_of best (Some next) }
-{
-    match best {
-        Some(first) if next.1 <= first.1 => first,
-        _ => next,
-    }
-}
-
-/// The number of the deepest site over a place, of equals the first.
-fn deepest<'a>(
-    sites: &[Site<'a>],
-    inlinees: &Inlinees<'a>,
-    start: PdbInternalSectionOffset,
-    place: PdbInternalSectionOffset,
-) -> Option<usize>
-    ensures { result ≡ deepest_of (call_rows (given_by inlinees.now) start) sites.now place }
-{
-    let mut best = None;
-    for (number, site) in sites.iter().enumerate() {
-        if is_over(inlinees, start, site, place) {
-            best = Some(deeper(best, (number, site.depth)));
-        }
-    }
-    match best {
-        None => None,
-        Some((number, _)) => Some(number),
-    }
-}
-
 /// The calls of a site and of those that it lies in, innermost first.
-fn calls_from<'a>(
+pub fn calls_from<'a>(
     alloc: Global,
     sites: &[Site<'a>],
     number: usize,
@@ -183,25 +140,4 @@ fn calls_from<'a>(
         next = site.parent;
     }
     Ok(calls)
-}
-
-impl<'a> InlineSites<'a> {
-    /// The inlined calls over a place, innermost first, where the procedure begins at `start`: that of the deepest site
-    /// with a row over the place, of equally deep ones the first in the order of the file, and those of the sites that it
-    /// lies in. None where no row covers the place.
-    #[tactic(auto, using(crate::proofs::Deepest::deepest_within))]
-    pub fn calls_over(
-        &self,
-        alloc: Global,
-        inlinees: &Inlinees<'a>,
-        start: PdbInternalSectionOffset,
-        place: PdbInternalSectionOffset,
-    ) -> Result<Vec<InlinedCall>, AllocError>
-        ensures { IfOk result (λ v. v.items ≡ calls_over_place (call_rows (given_by inlinees.now) start) self.now place) }
-    {
-        match deepest(self.as_slice(), inlinees, start, place) {
-            None => Ok(Vec::new(alloc)),
-            Some(number) => calls_from(alloc, self.as_slice(), number, inlinees, start, place),
-        }
-    }
 }

@@ -3,6 +3,8 @@
 #![tactic(auto)]
 
 mod function_line;
+mod function_rows;
+mod inline_ranges;
 mod inline_sites;
 mod inlined_calls;
 mod inlinees;
@@ -10,7 +12,9 @@ pub mod laws;
 mod procedure_list;
 mod procedures;
 
-pub use function_line::{file_name, function_row};
+pub use function_line::file_name;
+pub use function_rows::FunctionRows;
+pub use inline_ranges::InlineRanges;
 pub use inline_sites::{InlineSites, Site, SitesError};
 pub use inlined_calls::InlinedCall;
 pub use inlinees::Inlinees;

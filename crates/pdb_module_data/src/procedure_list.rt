@@ -1,6 +1,6 @@
 //! The procedures of a module, and a search of the one over a place by halving.
 
-ghost use Rattle.std.specs.Prelude.{◌≡◌, IfOk, option_map};
+ghost use Rattle.std.specs.Prelude.{◌≡◌, IfOk, option_map, option_and_then, slice_get};
 ghost use Rattle.pdb_container.specs.Fault.{Gives};
 ghost use Rattle.pdb_module_data.specs.ProcedurePieces.{procedure_span as span_of_procedure, procedure_spans as spans_of_procedures, IsShort, AreShort, StandFor};
 ghost use Rattle.pdb_module_data.specs.Procedures.{procedures_of, over as over_of};
@@ -98,12 +98,19 @@ impl<'t> Procedures<'t> {
         self.list.as_slice()
     }
 
-    /// The procedure over a place: of those that contain it the one with the greatest start. It takes as many steps as the
-    /// number of pieces has binary digits.
+    /// The number of the procedure over a place, counted from 0 in their order: of those that contain it the one with the
+    /// greatest start. It takes as many steps as the number of pieces has binary digits.
+    pub fn number_over(&self, place: PdbInternalSectionOffset) -> Option<usize>
+        ensures { option_and_then (λ k. slice_get self.now k) result ≡ over_of self.now place }
+    {
+        self.pieces.value_at(place)
+    }
+
+    /// The procedure over a place.
     pub fn over(&self, place: PdbInternalSectionOffset) -> Option<&Procedure<'t>>
         ensures { option_map (λ q. q.now) result ≡ over_of self.now place }
     {
-        match self.pieces.value_at(place) {
+        match self.number_over(place) {
             None => None,
             Some(number) => self.list.get(number),
         }

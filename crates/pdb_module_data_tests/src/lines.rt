@@ -4,7 +4,7 @@ use pdb_addresses::PdbInternalSectionOffset;
 use pdb_container::{Error, FallibleIterator, StringTable};
 use pdb_indices::FileIndex;
 use pdb_lines::LineProgram;
-use pdb_module_data::{file_name, function_row};
+use pdb_module_data::{FunctionRows, file_name};
 use pdb_samples::{file_f, push_u32};
 use pdb_symbols_modules::{ModuleInfo, PDB};
 use std::alloc::Global;
@@ -37,7 +37,7 @@ const TWO_BLOCKS: &[u32] = &[
 /// The same code in a block that says that it has 8 bytes, which is less than its header.
 const SHORT_BLOCK: &[u32] = &[0xf2, 24, 0x10, 1, 0x20, 0, 0, 8];
 
-/// The file and line of a place of section 1 in the function that begins at a place, by these line data.
+/// The file and line at an offset in the function that begins at a place, by these line data.
 fn line_of(
     alloc: Global,
     line_data: &[u32],
@@ -51,10 +51,11 @@ fn line_of(
         offset: start.1,
         section: start.0,
     };
-    let place = PdbInternalSectionOffset { offset, section: 1 };
-    match function_row(&program, start, place) {
-        Ok(None) => Ok(Ok(None)),
-        Ok(Some(row)) => Ok(Ok(Some((row.file_index.0, row.line_start)))),
+    match FunctionRows::read(alloc, &program, start) {
+        Ok(rows) => {
+            let row = rows.at(offset);
+            Ok(Ok(row.map(|row| (row.file_index.0, row.line_start))))
+        }
         Err(error) => Ok(Err(error)),
     }
 }

@@ -6,7 +6,9 @@ use pdb_addresses::PdbInternalSectionOffset;
 use pdb_container::Error;
 use pdb_indices::IdIndex;
 use pdb_inlinees::InlineeIterator;
-use pdb_module_data::{InlineSites, InlinedCall, Inlinees, Procedure, Procedures, SitesError};
+use pdb_module_data::{
+    InlineRanges, InlineSites, InlinedCall, Inlinees, Procedure, Procedures, SitesError,
+};
 use std::alloc::Global;
 use std::test::Fail;
 
@@ -59,9 +61,9 @@ fn calls_in(
 ) -> Result<Vec<InlinedCall>, Fail> {
     let place = PdbInternalSectionOffset { offset, section: 1 };
     let inlinees = Inlinees::read(alloc, InlineeIterator::parse(INLINEES)?)?;
-    match InlineSites::read(alloc, over(bytes), procedure) {
+    match InlineRanges::read(alloc, over(bytes), procedure, &inlinees) {
         Err(_) => Ok(Vec::new(alloc)),
-        Ok(sites) => Ok(sites.calls_over(alloc, &inlinees, procedure.offset, place)?),
+        Ok(ranges) => Ok(ranges.calls_over(alloc, &inlinees, procedure.offset, place)?),
     }
 }
 

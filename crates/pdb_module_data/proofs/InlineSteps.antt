@@ -1,0 +1,70 @@
+-- The numbers of the deepest sites at places, by what the rows of sites cover.
+use Rattle.std.proofs.Common.{◌≡◌, ℕ, ◌+◌, ◌^◌, ◌<◌, Bool, true, false, List, [], ◌∷◌, ◌++◌, map, refl, ap, sym, ◌∙◌, arith}
+use Rattle.std.specs.Prelude.{Option, None, Some, nat_lt, ◌||◌, unwrap_or, option_map, if◌then◌else◌}
+use Rattle.std.specs.List.{list_any}
+use Rattle.std.proofs.lemmas.Bool.Decides.{nat_tests}
+use Rattle.pdb_addresses.specs.declared.internal_section_offset.PdbInternalSectionOffset.{PdbInternalSectionOffset}
+use Rattle.pdb_subsections.specs.declared.line_info.LineInfo.{LineInfo}
+use Rattle.pdb_symbols.specs.Forms.{InlineSiteForm}
+use Rattle.pdb_inlinees.specs.InlinedRows.{covers}
+use Rattle.pdb_pieces.specs.declared.span.Mark.{Mark}
+use Rattle.pdb_pieces.specs.declared.span.Span.{Span}
+use Rattle.pdb_pieces.specs.Spans.{best, better, mark_over, place_number}
+use Rattle.pdb_pieces.proofs.Covers.{best-append}
+use Rattle.pdb_module_data.specs.Forest.{Site}
+use Rattle.pdb_module_data.specs.InlinedCalls.{is_over, deeper, deepest_from, deepest}
+use Rattle.pdb_module_data.specs.InlinePieces.{site_row_span, site_spans, IsShortRow, AreShortRows, AreShortSites, Ranges, StandForSites}
+
+-- a site that was found, by its number and depth, as a mark
+abbrev as_mark : ℕ × ℕ → Mark
+as_mark found = record { rank = found.1; value = found.0 }
+
+-- a row's span is over the places that it covers
+span_over : (n d : ℕ) (row : LineInfo) (place : PdbInternalSectionOffset) → IsShortRow row → place.offset < 2 ^ 32
+    → mark_over (site_row_span n d row) (place_number place) ≡ (if covers row place then Some record { rank = d; value = n } else None)
+span_over n d row place short small = grind (arith, nat_tests)
+
+one_of_rows : (m : Mark) (a b : Bool) → better (if a then Some m else None) (if b then Some m else None) ≡ (if a || b then Some m else None)
+one_of_rows m false b = refl
+one_of_rows m true false = refl
+one_of_rows m true true = grind (arith, nat_tests)
+
+-- the spans of rows have the site's mark where one of them covers the place
+rows_over : (n d : ℕ) (rows : List LineInfo) (place : PdbInternalSectionOffset) → AreShortRows rows → place.offset < 2 ^ 32
+    → best (map (site_row_span n d) rows) (place_number place) ≡ (if list_any (λ row. covers row place) rows then Some record { rank = d; value = n } else None)
+rows_over n d [] place short small = refl
+rows_over n d (row ∷ rows) place short small =
+    rw (span_over n d row place short.0 small, rows_over n d rows place short.1 small) (one_of_rows record { rank = d; value = n } (covers row place) (list_any (λ row. covers row place) rows))
+
+as_mark_if : (n d : ℕ) (b : Bool) → (if b then Some record { rank = d; value = n } else None) ≡ option_map as_mark (if b then Some (n, d) else None)
+as_mark_if n d true = refl
+as_mark_if n d false = refl
+
+as_mark_of_two : (a b : ℕ × ℕ) (c : Bool) → (if c then Some (as_mark b) else Some (as_mark a)) ≡ option_map as_mark (if c then Some b else Some a)
+as_mark_of_two a b true = refl
+as_mark_of_two a b false = refl
+
+-- the deeper one has the better mark
+better_deeper : (x y : Option (ℕ × ℕ)) → better (option_map as_mark x) (option_map as_mark y) ≡ option_map as_mark (deeper x y)
+better_deeper None y = refl
+better_deeper (Some a) None = refl
+better_deeper (Some a) (Some b) = as_mark_of_two a b (nat_lt a.1 b.1)
+
+module _ (rows : InlineSiteForm → List LineInfo) (place : PdbInternalSectionOffset) (small : place.offset < 2 ^ 32) where
+  -- the spans of sites have the mark of the deepest one
+  sites_over : (n : ℕ) (sites : List Site) → AreShortSites rows sites → best (site_spans rows n sites) (place_number place) ≡ option_map as_mark (deepest_from rows place n sites)
+  sites_over n [] short = refl
+  sites_over n (site ∷ sites) short =
+      best-append (map (site_row_span n site.depth) (rows site.call)) (site_spans rows (n + 1) sites) (place_number place)
+      ∙ rw (rows_over n site.depth (rows site.call) place short.0 small, sites_over (n + 1) sites short.1, as_mark_if n site.depth (is_over rows place site))
+      (better_deeper (if is_over rows place site then Some (n, site.depth) else None) (deepest_from rows place (n + 1) sites))
+
+by_number : (o : Option (ℕ × ℕ)) → option_map (λ (m : Mark). m.value) (option_map as_mark o) ≡ option_map (λ (f : ℕ × ℕ). f.0) o
+by_number None = refl
+by_number (Some f) = refl
+
+-- pieces that stand with the best of what sites cover stand for these
+pub stand_for_sites : (rows : InlineSiteForm → List LineInfo) (sites : List Site) (pieces : List Span) → AreShortSites rows sites → ((p : ℕ) → best pieces p ≡ best (site_spans rows 0 sites) p)
+    → StandForSites rows record { sites = sites; pieces = pieces }
+stand_for_sites rows sites pieces short same =
+    record { each = λ place small. ap (option_map (λ (m : Mark). m.value)) (same (place_number place) ∙ sites_over rows place small 0 sites short) ∙ by_number (deepest_from rows place 0 sites) }
