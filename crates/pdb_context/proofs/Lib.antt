@@ -1,6 +1,8 @@
 pub mod FunctionSteps
+pub mod KeptProcedures
 pub mod KeptSteps
 pub mod NextBounds
 pub mod NextPublic
+pub mod ProcedureSteps
 pub mod RunLaw
 pub mod SitesSteps

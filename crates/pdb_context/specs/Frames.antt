@@ -17,7 +17,7 @@ use Rattle.pdb_resolving.specs.Fault.{Fault, lifted}
 use Rattle.pdb_type_text.specs.Env.{Env}
 use Rattle.pdb_type_text.specs.Ids.{id_text}
 use Rattle.pdb_functions.specs.FunctionOrder.{Function}
-use Rattle.pdb_context.specs.Modules.{ModuleData, module_data, procedures_in, extended_of, procedure_calls}
+use Rattle.pdb_context.specs.Modules.{ModuleData, ExtendedModule, module_data, procedures_in, extended_of, procedure_calls}
 use Rattle.pdb_context.specs.Choice.{Parts, Scope, Chosen, Proc, Public, chosen, start_of, start_address, if_made, name_of, length_of, end_behind, place_of}
 
 -- a function's name, and the file and line of a place in it; each may be missing
@@ -49,14 +49,21 @@ abbrev pub calls_in : ModuleStream → (ℕ → Option InlinedFunction) → Chos
 calls_in stream inlinees (Proc q) place = procedure_calls stream inlinees q place
 calls_in stream inlinees (Public f) place = Ok []
 
--- The frames at a place in a chosen function, by its module's data: line program, inlinees, the rows of the function's
+-- The line row of a place in a chosen function, and then the inlined calls over the place: the rows of the function's
 -- subsection, and a procedure's sites are read in this order.
+unfoldable pub row_and_calls : ModuleStream → ExtendedModule → Chosen → PdbInternalSectionOffset → Result (Option LineInfo × List InlinedCall) Fault
+row_and_calls stream extended c place = do
+  row ← lifted (function_row extended.program (start_of c) place)
+  calls ← calls_in stream extended.inlinees c place
+  Ok (row, calls)
+
+-- The frames at a place in a chosen function, by its module's data: line program and inlinees are read first, then row and
+-- calls.
 unfoldable pub frames_in_data : Parts → Env → ModuleData → Chosen → PdbInternalSectionOffset → Result (List Frame) Fault
 frames_in_data p env known c place = do
   extended ← lifted (extended_of known.stream)
-  row ← lifted (function_row extended.program (start_of c) place)
-  calls ← calls_in known.stream extended.inlinees c place
-  Ok (map (call_frame p env extended.program) calls ++ function_frame p extended.program (name_of p env c) row ∷ [])
+  found ← row_and_calls known.stream extended c place
+  Ok (map (call_frame p env extended.program) found.1 ++ function_frame p extended.program (name_of p env c) found.0 ∷ [])
 
 -- the same where the module may have no data: then the function alone, without file and line
 abbrev pub frames_in : Parts → Env → Option ModuleData → Chosen → PdbInternalSectionOffset → Result (List Frame) Fault

@@ -2,8 +2,12 @@ pub mod Choice
 pub mod Context
 pub mod Frames
 pub mod FunctionList
+pub mod InlineNames
 pub mod Kept
+pub mod KeptNames
 pub mod MaybeOwned
 pub mod Modules
+pub mod ProcedureData
 pub mod Runs
 pub mod Seen
+pub mod TypedNames

@@ -8,6 +8,7 @@ ghost use Rattle.pdb_context.specs.Choice.{Parts, place_of};
 ghost use Rattle.pdb_context.specs.Kept.{AreKept};
 ghost use Rattle.pdb_context.specs.Context.{entries_of, parts_of, context_over, scope_of, scope_in, uncounted, lookups_after};
 ghost use Rattle.pdb_context.specs.Frames.{frames, frames_at as frames_at_place, frames_if_held, frames_of_chosen, function, function_at as function_at_contribution, function_of as function_of_chosen, held_at};
+ghost use Rattle.pdb_context.specs.KeptNames.{AreKeptNames};
 ghost use Rattle.pdb_context.specs.MaybeOwned.{value_of};
 ghost use Rattle.pdb_context.specs.Modules.{module_data, own_of};
 ghost use Rattle.pdb_context.specs.Runs.{bounds_near, database_of, function_here as function_at_place, procedures_of};
@@ -18,10 +19,10 @@ ghost use Rattle.pdb_type_text.specs.Formatting.{env_of};
 use crate::choice::{Chosen, choose};
 use crate::frames::frames_in;
 use crate::function::FunctionFrames;
-use crate::kept::{KeptModule, empty_places, keep_lines, keep_module, known_at};
+use crate::kept::{KeptModule, empty_places, keep_lines, keep_module, keep_procedure, known_at};
+use crate::kept_names::KeptNames;
 use crate::maybe_owned::MaybeOwned;
 use crate::modules::{BasicModuleInfo, procedures_in};
-use crate::names::name_of;
 use crate::parts::ContextParts;
 use crate::runs::to_next_bound;
 use pdb_addresses::{AddressMap, ImageSectionHeader, PdbInternalSectionOffset};
@@ -32,7 +33,7 @@ use pdb_resolving::{Error, ModuleProvider, Result};
 use pdb_symbols::SymbolTable;
 use pdb_symbols_modules::DebugInformation;
 use pdb_type_text::TypeFormatter;
-use std::alloc::Global;
+use std::alloc::{AllocError, Global};
 use std::marker::Model;
 
 /// A context: it answers what function and which frames an address of the image has. What was asked before shows in no answer.
@@ -41,12 +42,14 @@ pub struct Context<'a, 's, P: ModuleProvider> {
     pub(crate) parts: ContextParts<'a, 's>,
     pub(crate) type_formatter: MaybeOwned<'a, TypeFormatter<'a, 's, P>>,
     kept: Vec<KeptModule<'a, P::Info>>,
+    names: KeptNames,
     lookups: u64,
 }
 
 impl<'a, 's, P: ModuleProvider> Model for Context<'a, 's, P> {
     ghost use Rattle.pdb_context.specs.Context as contexts;
     ghost use Rattle.pdb_context.specs.Context.{entries_of};
+    ghost use Rattle.pdb_context.specs.KeptNames.{AreKeptNames};
     ghost use Rattle.pdb_context.specs.Kept.{AreKept};
     ghost use Rattle.pdb_context.specs.MaybeOwned.{value_of};
     ghost use Rattle.pdb_context.specs.Modules.{module_data, own_of};
@@ -55,8 +58,8 @@ impl<'a, 's, P: ModuleProvider> Model for Context<'a, 's, P> {
 
     ghost view = { λ c. record { provider = c.provider.now; parts = c.parts; formatting = value_of c.type_formatter; lookups = c.lookups } };
 
-    // What is kept of each module is its own.
-    ghost invariant = { λ c. AreKept (λ n. module_data (own_of (P.provided c.provider.now) (entries_of (value_of c.type_formatter)) n)) c.kept.items };
+    // What is kept of each module is its own, and the names that are kept are those that the formatter gives.
+    ghost invariant = { λ c. AreKept (λ n. module_data (own_of (P.provided c.provider.now) (entries_of (value_of c.type_formatter)) n)) c.kept.items × AreKeptNames P.provided (value_of c.type_formatter) c.names };
 }
 
 impl<'a, 's, P: ModuleProvider> Drop for Context<'a, 's, P> {
@@ -66,12 +69,25 @@ impl<'a, 's, P: ModuleProvider> Drop for Context<'a, 's, P> {
             parts,
             type_formatter,
             kept,
+            names,
             lookups: _,
         } = self;
         drop(parts);
         drop(type_formatter);
         drop(kept);
+        drop(names);
     }
+}
+
+/// Places for the modules of a formatter, in which nothing is kept yet.
+fn empty_modules<'a, P: ModuleProvider>(
+    alloc: Global,
+    _provider: &'a P,
+    formatter: &TypeFormatter<'_, '_, P>,
+) -> std::result::Result<Vec<KeptModule<'a, P::Info>>, AllocError>
+    ensures { IfOk result (λ v. AreKept (λ n. module_data (own_of (P.provided _provider.now) (entries_of formatter.now) n)) v.items) }
+{
+    empty_places(alloc, formatter.modules().len())
 }
 
 /// The frames at a place in a chosen function, if it has an RVA. Its module's data are read before that is asked.
@@ -79,15 +95,27 @@ fn frames_of<'a, P: ModuleProvider>(
     alloc: Global,
     parts: &ContextParts<'a, '_>,
     formatter: &mut TypeFormatter<'_, '_, P>,
-    module_index: usize,
+    names: &mut KeptNames,
+    module_index: u16,
     known: &Option<BasicModuleInfo<'_, P::Info>>,
     chosen: Chosen<'_, '_>,
     place: PdbInternalSectionOffset,
 ) -> Result<Option<FunctionFrames<'a>>>
+    requires names { AreKeptNames P.provided formatter.old names.old }
+    ensures names { AreKeptNames P.provided formatter.old names.new }
     ensures same { formatter.new ≡ formatter.old }
     ensures frames { Answers (λ f. f) result (frames_of_chosen parts.now (env_of P.provided formatter.old module_index) known.now place (Some (chosen_seen chosen.entry))) }
 {
-    let frames = frames_in(alloc, parts, formatter, module_index, known, chosen, place)?;
+    let frames = frames_in(
+        alloc,
+        parts,
+        formatter,
+        names,
+        module_index,
+        known,
+        chosen,
+        place,
+    )?;
     match chosen.start_rva(parts) {
         None => Ok(None),
         Some(start_rva) => Ok(Some(FunctionFrames {
@@ -106,22 +134,37 @@ fn frames_at<'a, P: ModuleProvider>(
     kept: &mut [KeptModule<'a, P::Info>],
     parts: &ContextParts<'a, '_>,
     formatter: &mut TypeFormatter<'_, '_, P>,
+    names: &mut KeptNames,
     contribution: ModuleSectionContribution,
     place: PdbInternalSectionOffset,
 ) -> Result<Option<FunctionFrames<'a>>>
     requires kept { AreKept (λ n. module_data (own_of (P.provided provider.now) (entries_of formatter.old) n)) kept.old }
+    requires names { AreKeptNames P.provided formatter.old names.old }
     ensures kept { AreKept (λ n. module_data (own_of (P.provided provider.now) (entries_of formatter.old) n)) kept.new }
+    ensures names { AreKeptNames P.provided formatter.old names.new }
     ensures same { formatter.new ≡ formatter.old }
     ensures frames { Answers (λ f. f) result (frames_at_place parts.now (scope_of P.provided provider.now formatter.old contribution.module_index) contribution place) }
 {
     let module_index = usize::from(contribution.module_index);
     keep_module(alloc, kept, provider, formatter.modules(), module_index)?;
     keep_lines(alloc, kept, module_index)?;
+    keep_procedure(alloc, kept, module_index, place)?;
     let none = None;
     let known = known_at(kept, module_index, &none);
     match choose(parts, known, contribution, place) {
         None => Ok(None),
-        Some(chosen) => { frames_of(alloc, parts, formatter, module_index, known, chosen, place) }
+        Some(chosen) => {
+            frames_of(
+                alloc,
+                parts,
+                formatter,
+                names,
+                contribution.module_index,
+                known,
+                chosen,
+                place,
+            )
+        }
     }
 }
 
@@ -130,9 +173,12 @@ fn function_of<P: ModuleProvider>(
     alloc: Global,
     parts: &ContextParts<'_, '_>,
     formatter: &mut TypeFormatter<'_, '_, P>,
-    module_index: usize,
+    names: &mut KeptNames,
+    module_index: u16,
     chosen: Chosen<'_, '_>,
 ) -> Result<Option<Function>>
+    requires names { AreKeptNames P.provided formatter.old names.old }
+    ensures names { AreKeptNames P.provided formatter.old names.new }
     ensures same { formatter.new ≡ formatter.old }
     ensures function { Answers (λ f. f) result (Ok (function_of_chosen parts.now (env_of P.provided formatter.old module_index) (chosen_seen chosen.entry))) }
 {
@@ -142,7 +188,7 @@ fn function_of<P: ModuleProvider>(
     let Some(end_rva) = chosen.end_of_function(parts, start_rva) else {
         return Ok(None);
     };
-    let name = name_of(alloc, parts, formatter, module_index, chosen)?;
+    let name = names.name_of(alloc, parts, formatter, module_index, chosen)?;
     Ok(Some(Function {
         start_rva,
         end_rva,
@@ -158,11 +204,14 @@ fn function_at<'a, P: ModuleProvider>(
     kept: &mut [KeptModule<'a, P::Info>],
     parts: &ContextParts<'a, '_>,
     formatter: &mut TypeFormatter<'_, '_, P>,
+    names: &mut KeptNames,
     contribution: ModuleSectionContribution,
     place: PdbInternalSectionOffset,
 ) -> Result<Option<Function>>
     requires kept { AreKept (λ n. module_data (own_of (P.provided provider.now) (entries_of formatter.old) n)) kept.old }
+    requires names { AreKeptNames P.provided formatter.old names.old }
     ensures kept { AreKept (λ n. module_data (own_of (P.provided provider.now) (entries_of formatter.old) n)) kept.new }
+    ensures names { AreKeptNames P.provided formatter.old names.new }
     ensures same { formatter.new ≡ formatter.old }
     ensures function { Answers (λ f. f) result (Ok (function_at_contribution parts.now (scope_of P.provided provider.now formatter.old contribution.module_index) contribution place)) }
 {
@@ -172,7 +221,14 @@ fn function_at<'a, P: ModuleProvider>(
     let known = known_at(kept, module_index, &none);
     match choose(parts, known, contribution, place) {
         None => Ok(None),
-        Some(chosen) => function_of(alloc, parts, formatter, module_index, chosen),
+        Some(chosen) => function_of(
+            alloc,
+            parts,
+            formatter,
+            names,
+            contribution.module_index,
+            chosen,
+        ),
     }
 }
 
@@ -183,10 +239,13 @@ fn frames_here<'a, P: ModuleProvider>(
     kept: &mut [KeptModule<'a, P::Info>],
     parts: &ContextParts<'a, '_>,
     formatter: &mut TypeFormatter<'_, '_, P>,
+    names: &mut KeptNames,
     place: PdbInternalSectionOffset,
 ) -> Result<Option<FunctionFrames<'a>>>
     requires kept { AreKept (λ n. module_data (own_of (P.provided provider.now) (entries_of formatter.old) n)) kept.old }
+    requires names { AreKeptNames P.provided formatter.old names.old }
     ensures kept { AreKept (λ n. module_data (own_of (P.provided provider.now) (entries_of formatter.old) n)) kept.new }
+    ensures names { AreKeptNames P.provided formatter.old names.new }
     ensures same { formatter.new ≡ formatter.old }
     ensures frames { Answers (λ f. f) result (frames_if_held parts.now (scope_of P.provided provider.now formatter.old) (held_at parts.now (Some place))) }
 {
@@ -198,6 +257,7 @@ fn frames_here<'a, P: ModuleProvider>(
             kept,
             parts,
             formatter,
+            names,
             contribution,
             place,
         ),
@@ -211,10 +271,13 @@ fn function_here<'a, P: ModuleProvider>(
     kept: &mut [KeptModule<'a, P::Info>],
     parts: &ContextParts<'a, '_>,
     formatter: &mut TypeFormatter<'_, '_, P>,
+    names: &mut KeptNames,
     place: PdbInternalSectionOffset,
 ) -> Result<Option<Function>>
     requires kept { AreKept (λ n. module_data (own_of (P.provided provider.now) (entries_of formatter.old) n)) kept.old }
+    requires names { AreKeptNames P.provided formatter.old names.old }
     ensures kept { AreKept (λ n. module_data (own_of (P.provided provider.now) (entries_of formatter.old) n)) kept.new }
+    ensures names { AreKeptNames P.provided formatter.old names.new }
     ensures same { formatter.new ≡ formatter.old }
     ensures function { Answers (λ f. f) result (Ok (function_at_place parts.now (scope_of P.provided provider.now formatter.old) place)) }
 {
@@ -226,6 +289,7 @@ fn function_here<'a, P: ModuleProvider>(
             kept,
             parts,
             formatter,
+            names,
             contribution,
             place,
         ),
@@ -240,12 +304,15 @@ fn run_at<'a, P: ModuleProvider>(
     kept: &mut [KeptModule<'a, P::Info>],
     parts: &ContextParts<'a, '_>,
     formatter: &mut TypeFormatter<'_, '_, P>,
+    names: &mut KeptNames,
     contribution: ModuleSectionContribution,
     place: PdbInternalSectionOffset,
     limit: u32,
 ) -> Result<(Option<Function>, u32)>
     requires kept { AreKept (λ n. module_data (own_of (P.provided provider.now) (entries_of formatter.old) n)) kept.old }
+    requires names { AreKeptNames P.provided formatter.old names.old }
     ensures kept { AreKept (λ n. module_data (own_of (P.provided provider.now) (entries_of formatter.old) n)) kept.new }
+    ensures names { AreKeptNames P.provided formatter.old names.new }
     ensures same { formatter.new ≡ formatter.old }
     ensures function { Answers (λ run. run.0) result (Ok (function_at_contribution parts.now (scope_of P.provided provider.now formatter.old contribution.module_index) contribution place)) }
     ensures count { IfOk result (λ run. run.1 ≡ up_to_next (bounds_near parts.now (procedures_of (scope_of P.provided provider.now formatter.old) (Some contribution)) place) place.offset limit) }
@@ -259,7 +326,14 @@ fn run_at<'a, P: ModuleProvider>(
     match choose(parts, known, contribution, place) {
         None => Ok((None, count)),
         Some(chosen) => {
-            let function = function_of(alloc, parts, formatter, module_index, chosen)?;
+            let function = function_of(
+                alloc,
+                parts,
+                formatter,
+                names,
+                contribution.module_index,
+                chosen,
+            )?;
             Ok((function, count))
         }
     }
@@ -272,12 +346,15 @@ fn run_here<'a, P: ModuleProvider>(
     kept: &mut [KeptModule<'a, P::Info>],
     parts: &ContextParts<'a, '_>,
     formatter: &mut TypeFormatter<'_, '_, P>,
+    names: &mut KeptNames,
     place: PdbInternalSectionOffset,
     limit: u32,
 ) -> Result<(Option<Function>, u32)>
     requires limit { 1 ≤ limit }
     requires kept { AreKept (λ n. module_data (own_of (P.provided provider.now) (entries_of formatter.old) n)) kept.old }
+    requires names { AreKeptNames P.provided formatter.old names.old }
     ensures kept { AreKept (λ n. module_data (own_of (P.provided provider.now) (entries_of formatter.old) n)) kept.new }
+    ensures names { AreKeptNames P.provided formatter.old names.new }
     ensures same { formatter.new ≡ formatter.old }
     ensures function { Answers (λ run. run.0) result (Ok (function_at_place parts.now (scope_of P.provided provider.now formatter.old) place)) }
     ensures count { IfOk result (λ run. IsOneRun (database_of parts.now (scope_of P.provided provider.now formatter.old)) (as_place place) limit run.1) }
@@ -290,6 +367,7 @@ fn run_here<'a, P: ModuleProvider>(
             kept,
             parts,
             formatter,
+            names,
             contribution,
             place,
             limit,
@@ -327,12 +405,14 @@ impl<'a, 's, P: ModuleProvider> Context<'a, 's, P> {
             string_table,
             debug_info,
         )?;
-        let kept = empty_places(alloc, type_formatter.get().modules().len())?;
+        let kept = empty_modules(alloc, provider, type_formatter.get())?;
+        let names = KeptNames::new(alloc, type_formatter.get());
         Ok(Context {
             provider,
             parts,
             type_formatter,
             kept,
+            names,
             lookups: 0,
         })
     }
@@ -389,6 +469,7 @@ impl<'a, 's, P: ModuleProvider> Context<'a, 's, P> {
             &mut self.kept,
             &self.parts,
             self.type_formatter.get_mut(),
+            &mut self.names,
             place,
         );
         self.counted(frames)
@@ -413,6 +494,7 @@ impl<'a, 's, P: ModuleProvider> Context<'a, 's, P> {
             &mut self.kept,
             &self.parts,
             self.type_formatter.get_mut(),
+            &mut self.names,
             place,
         );
         self.counted(function)
@@ -442,6 +524,7 @@ impl<'a, 's, P: ModuleProvider> Context<'a, 's, P> {
             &mut self.kept,
             &self.parts,
             self.type_formatter.get_mut(),
+            &mut self.names,
             offset,
             limit,
         );

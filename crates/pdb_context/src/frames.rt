@@ -2,77 +2,92 @@
 
 ghost use Rattle.std.specs.Prelude.{◌≡◌, Ok, IfOk, map, option_map, option_and_then, string_bytes};
 ghost use Rattle.std.specs.Cow.{cow_str_bytes};
-ghost use Rattle.pdb_module_data.specs.Forest.{sites_of};
-ghost use Rattle.pdb_module_data.specs.FunctionLine.{file_text};
+ghost use Rattle.pdb_module_data.specs.FunctionLine.{file_text, row_at};
+ghost use Rattle.pdb_module_data.specs.InlinedCalls.{call_rows, calls_over};
+ghost use Rattle.pdb_module_data.specs.InlinePieces.{StandForSites};
 ghost use Rattle.pdb_resolving.specs.Fault.{Answers};
 ghost use Rattle.pdb_type_text.specs.Formatting.{env_of};
-ghost use Rattle.pdb_context.specs.Frames.{frames_in as frames_of_module, frames_in_data as frames_of_data, calls_in as calls_of, call_frame as frame_of_call, function_frame as frame_of_function};
-ghost use Rattle.pdb_context.specs.Modules.{extended_of, sites_lifted, procedure_calls as calls_of_procedure};
+ghost use Rattle.pdb_context.specs.Choice as choice;
+ghost use Rattle.pdb_context.specs.Frames.{frames_in as frames_of_module, frames_in_data as frames_of_data, row_and_calls, call_frame as frame_of_call, function_frame as frame_of_function};
+ghost use Rattle.pdb_context.specs.KeptNames.{AreKeptNames};
+ghost use Rattle.pdb_context.specs.Modules.{extended_of};
 ghost use Rattle.pdb_context.specs.Seen.{chosen_seen, extended_seen};
 
 use crate::choice::Chosen;
 use crate::function::Frame;
+use crate::kept_names::KeptNames;
 use crate::modules::{BasicModuleInfo, ExtendedModuleInfo, read_extended};
-use crate::names::{inlinee_name, name_of};
 use crate::parts::ContextParts;
+use crate::procedure_data::{ExtendedProcedureInfo, read_extended_procedure};
 use pdb_addresses::PdbInternalSectionOffset;
 use pdb_indices::FileIndex;
-use pdb_module_data::{InlineSites, InlinedCall, Procedure, SitesError, file_name, function_row};
-use pdb_resolving::{Error, ModuleProvider, ModuleTables, Result};
+use pdb_module_data::{FunctionRows, InlinedCall, Procedure, file_name};
+use pdb_resolving::{ModuleProvider, ModuleTables, Result};
 use pdb_subsections::LineInfo;
-use pdb_symbols::SymbolIter;
 use pdb_type_text::TypeFormatter;
 use std::alloc::{AllocError, Global};
 use std::borrow::CowStr;
 
-/// The inline sites of a procedure among the symbols of its module.
-#[tactic(auto, using(crate::proofs::SitesSteps::sites_fail))]
-fn read_sites<'t>(
+/// The line row of a place in a procedure, and the inlined calls over the place, by what was read of the procedure.
+fn row_and_calls_by<'a>(
     alloc: Global,
-    symbols: SymbolIter<'t>,
+    extended: &ExtendedModuleInfo<'a>,
     procedure: &Procedure<'_>,
-) -> Result<InlineSites<'t>>
-    ensures { Answers (λ s. s) result (sites_lifted (sites_of symbols.entry.bytes procedure.now.symbol_index.0 procedure.now.end_symbol_index.0)) }
+    read: &ExtendedProcedureInfo<'a>,
+    place: PdbInternalSectionOffset,
+) -> std::result::Result<(Option<LineInfo>, Vec<InlinedCall>), AllocError>
+    requires { StandForSites (call_rows (extended_seen extended.now).inlinees procedure.now.offset) (read.now).ranges }
+    ensures row { IfOk result (λ r. r.0 ≡ row_at (read.now).rows place.offset) }
+    ensures calls { IfOk result (λ r. (r.1).items ≡ calls_over (call_rows (extended_seen extended.now).inlinees procedure.now.offset) ((read.now).ranges).sites place) }
 {
-    match InlineSites::read(alloc, symbols, procedure) {
-        Ok(sites) => Ok(sites),
-        Err(SitesError::Pdb(error)) => Err(Error::from(error)),
-        Err(SitesError::Unsuccessful) => Err(Error::ProcedureInlineRangesUnsuccessful),
-    }
+    let calls = read
+        .ranges
+        .calls_over(alloc, &extended.inlinees, procedure.offset, place)?;
+    Ok((read.rows.at(place.offset), calls))
 }
 
-/// The inlined calls over a place in a procedure, innermost first.
-#[tactic(auto, unfolding(crate::specs::Modules::procedure_calls))]
-fn procedure_calls<'a, I: ModuleTables>(
+/// The line row of a place in a procedure, and the inlined calls over the place, innermost first, by its module's line program and
+/// inlinees: what is kept of the procedure is used, or else it is read.
+#[tactic(auto, using(crate::proofs::ProcedureSteps::row_and_calls_are, crate::proofs::ProcedureSteps::row_and_calls_fail))]
+fn procedure_row_and_calls<'m, I: ModuleTables>(
     alloc: Global,
-    module_info: &'a I,
-    extended: &ExtendedModuleInfo<'a>,
+    known: &BasicModuleInfo<'m, I>,
+    extended: &ExtendedModuleInfo<'m>,
     procedure: &Procedure<'_>,
     place: PdbInternalSectionOffset,
-) -> Result<Vec<InlinedCall>>
-    ensures { Answers (λ v. v.items) result (calls_of_procedure (I.held module_info.now) (extended_seen extended.now).inlinees procedure.now place) }
+) -> Result<(Option<LineInfo>, Vec<InlinedCall>)>
+    requires { extended_of (known.now).stream ≡ Ok (extended_seen extended.now) }
+    ensures { Answers (λ r. (r.0, r.1.items)) result (row_and_calls (known.now).stream (extended_seen extended.now) (choice.Proc procedure.now) place) }
 {
-    let symbols = module_info.symbols()?;
-    let sites = read_sites(alloc, symbols, procedure)?;
-    let calls = sites.calls_over(alloc, &extended.inlinees, procedure.offset, place)?;
-    Ok(calls)
+    if let Some(read) = known.extended_procedure(procedure, place) {
+        let found = row_and_calls_by(alloc, extended, procedure, read, place)?;
+        return Ok(found);
+    }
+    let read = read_extended_procedure(alloc, known.module_info, extended, procedure)?;
+    let found = row_and_calls_by(alloc, extended, procedure, &read, place)?;
+    Ok(found)
 }
 
-/// The inlined calls over a place in a chosen function, innermost first; none in a public entry.
-fn calls_in<'a, I: ModuleTables>(
+/// The line row of a place in a chosen function, and the inlined calls over the place, innermost first; none in a public entry.
+#[tactic(auto, using(pdb_resolving::proofs::Lifting::given_fails_on), unfolding(crate::specs::Frames::row_and_calls))]
+fn row_and_calls_in<'m, I: ModuleTables>(
     alloc: Global,
-    module_info: &'a I,
-    extended: &ExtendedModuleInfo<'a>,
+    known: &BasicModuleInfo<'m, I>,
+    extended: &ExtendedModuleInfo<'m>,
     chosen: Chosen<'_, '_>,
     place: PdbInternalSectionOffset,
-) -> Result<Vec<InlinedCall>>
-    ensures { Answers (λ v. v.items) result (calls_of (I.held module_info.now) (extended_seen extended.now).inlinees (chosen_seen chosen.entry) place) }
+) -> Result<(Option<LineInfo>, Vec<InlinedCall>)>
+    requires { extended_of (known.now).stream ≡ Ok (extended_seen extended.now) }
+    ensures { Answers (λ r. (r.0, r.1.items)) result (row_and_calls (known.now).stream (extended_seen extended.now) (chosen_seen chosen.entry) place) }
 {
     match chosen {
         Chosen::Procedure(procedure) => {
-            procedure_calls(alloc, module_info, extended, procedure, place)
+            procedure_row_and_calls(alloc, known, extended, procedure, place)
         }
-        Chosen::Public(_) => Ok(Vec::new(alloc)),
+        Chosen::Public(public) => {
+            let rows = FunctionRows::read(alloc, &extended.line_program, public.start_offset)?;
+            Ok((rows.at(place.offset), Vec::new(alloc)))
+        }
     }
 }
 
@@ -96,14 +111,19 @@ fn call_frame<'a, P: ModuleProvider>(
     alloc: Global,
     parts: &ContextParts<'a, '_>,
     formatter: &mut TypeFormatter<'_, '_, P>,
-    module_index: usize,
+    names: &mut KeptNames,
+    module_index: u16,
     extended: &ExtendedModuleInfo<'_>,
     call: InlinedCall,
 ) -> std::result::Result<Frame<'a>, AllocError>
+    requires names { AreKeptNames P.provided formatter.old names.old }
+    ensures names { AreKeptNames P.provided formatter.old names.new }
     ensures same { formatter.new ≡ formatter.old }
     ensures frame { IfOk result (λ f. f ≡ frame_of_call parts.now (env_of P.provided formatter.old module_index) (extended_seen extended.now).program call) }
 {
-    let function = inlinee_name(alloc, formatter, module_index, call.inlinee)?;
+    let function = names
+        .inlined
+        .name(alloc, formatter, module_index, call.inlinee)?;
     let file = file_of(alloc, parts, extended, call.file)?;
     Ok(Frame {
         function,
@@ -117,16 +137,27 @@ fn call_frames<'a, P: ModuleProvider>(
     alloc: Global,
     parts: &ContextParts<'a, '_>,
     formatter: &mut TypeFormatter<'_, '_, P>,
-    module_index: usize,
+    names: &mut KeptNames,
+    module_index: u16,
     extended: &ExtendedModuleInfo<'_>,
     calls: &[InlinedCall],
 ) -> std::result::Result<Vec<Frame<'a>>, AllocError>
+    requires names { AreKeptNames P.provided formatter.old names.old }
+    ensures names { AreKeptNames P.provided formatter.old names.new }
     ensures same { formatter.new ≡ formatter.old }
     ensures frames { IfOk result (λ v. v.items ≡ map (frame_of_call parts.now (env_of P.provided formatter.old module_index) (extended_seen extended.now).program) calls.now) }
 {
     let mut frames = Vec::new(alloc);
     for call in calls {
-        let frame = call_frame(alloc, parts, formatter, module_index, extended, *call)?;
+        let frame = call_frame(
+            alloc,
+            parts,
+            formatter,
+            names,
+            module_index,
+            extended,
+            *call,
+        )?;
         frames.push(frame)?;
     }
     Ok(frames)
@@ -166,27 +197,30 @@ fn frames_by<'a, 'm, P: ModuleProvider>(
     alloc: Global,
     parts: &ContextParts<'a, '_>,
     formatter: &mut TypeFormatter<'_, '_, P>,
-    module_index: usize,
+    names: &mut KeptNames,
+    module_index: u16,
     known: &BasicModuleInfo<'m, P::Info>,
     extended: &ExtendedModuleInfo<'m>,
     chosen: Chosen<'_, '_>,
     place: PdbInternalSectionOffset,
 ) -> Result<Vec<Frame<'a>>>
-    requires { extended_of (known.now).stream ≡ Ok (extended_seen extended.now) }
+    requires extended { extended_of (known.now).stream ≡ Ok (extended_seen extended.now) }
+    requires names { AreKeptNames P.provided formatter.old names.old }
+    ensures names { AreKeptNames P.provided formatter.old names.new }
     ensures same { formatter.new ≡ formatter.old }
     ensures frames { Answers (λ v. v.items) result (frames_of_data parts.now (env_of P.provided formatter.old module_index) known.now (chosen_seen chosen.entry) place) }
 {
-    let row = function_row(&extended.line_program, chosen.start(), place)?;
-    let calls = calls_in(alloc, known.module_info, extended, chosen, place)?;
+    let (row, calls) = row_and_calls_in(alloc, known, extended, chosen, place)?;
     let mut frames = call_frames(
         alloc,
         parts,
         formatter,
+        names,
         module_index,
         extended,
         calls.as_slice(),
     )?;
-    let function = name_of(alloc, parts, formatter, module_index, chosen)?;
+    let function = names.name_of(alloc, parts, formatter, module_index, chosen)?;
     let frame = function_frame(alloc, parts, extended, function, row)?;
     frames.push(frame)?;
     Ok(frames)
@@ -199,11 +233,14 @@ fn frames_in_data<'a, P: ModuleProvider>(
     alloc: Global,
     parts: &ContextParts<'a, '_>,
     formatter: &mut TypeFormatter<'_, '_, P>,
-    module_index: usize,
+    names: &mut KeptNames,
+    module_index: u16,
     known: &BasicModuleInfo<'_, P::Info>,
     chosen: Chosen<'_, '_>,
     place: PdbInternalSectionOffset,
 ) -> Result<Vec<Frame<'a>>>
+    requires names { AreKeptNames P.provided formatter.old names.old }
+    ensures names { AreKeptNames P.provided formatter.old names.new }
     ensures same { formatter.new ≡ formatter.old }
     ensures frames { Answers (λ v. v.items) result (frames_of_data parts.now (env_of P.provided formatter.old module_index) known.now (chosen_seen chosen.entry) place) }
 {
@@ -213,6 +250,7 @@ fn frames_in_data<'a, P: ModuleProvider>(
             alloc,
             parts,
             formatter,
+            names,
             module_index,
             known,
             &extended,
@@ -224,6 +262,7 @@ fn frames_in_data<'a, P: ModuleProvider>(
         alloc,
         parts,
         formatter,
+        names,
         module_index,
         known,
         extended,
@@ -237,17 +276,20 @@ pub fn frames_in<'a, P: ModuleProvider>(
     alloc: Global,
     parts: &ContextParts<'a, '_>,
     formatter: &mut TypeFormatter<'_, '_, P>,
-    module_index: usize,
+    names: &mut KeptNames,
+    module_index: u16,
     known: &Option<BasicModuleInfo<'_, P::Info>>,
     chosen: Chosen<'_, '_>,
     place: PdbInternalSectionOffset,
 ) -> Result<Vec<Frame<'a>>>
+    requires names { AreKeptNames P.provided formatter.old names.old }
+    ensures names { AreKeptNames P.provided formatter.old names.new }
     ensures same { formatter.new ≡ formatter.old }
     ensures frames { Answers (λ v. v.items) result (frames_of_module parts.now (env_of P.provided formatter.old module_index) known.now (chosen_seen chosen.entry) place) }
 {
     match known {
         None => {
-            let function = name_of(alloc, parts, formatter, module_index, chosen)?;
+            let function = names.name_of(alloc, parts, formatter, module_index, chosen)?;
             let mut frames = Vec::new(alloc);
             frames.push(Frame {
                 function,
@@ -257,7 +299,16 @@ pub fn frames_in<'a, P: ModuleProvider>(
             Ok(frames)
         }
         Some(known) => {
-            frames_in_data(alloc, parts, formatter, module_index, known, chosen, place)
+            frames_in_data(
+                alloc,
+                parts,
+                formatter,
+                names,
+                module_index,
+                known,
+                chosen,
+                place,
+            )
         }
     }
 }

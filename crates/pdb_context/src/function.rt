@@ -49,7 +49,7 @@ impl<'a> Model for FunctionFrames<'a> {
 }
 
 /// A copy of a name that may be missing.
-fn clone_name(
+pub fn clone_name(
     alloc: Global,
     name: &Option<String>,
 ) -> std::result::Result<Option<String>, AllocError>

@@ -5,6 +5,7 @@ ghost use Rattle.pdb_context.specs.Kept.{AreKept, known_in, is_empty as is_empty
 ghost use Rattle.pdb_context.specs.Modules.{module_data, own_of};
 
 use crate::modules::{BasicModuleInfo, get_basic_module_info};
+use pdb_addresses::PdbInternalSectionOffset;
 use pdb_resolving::{ModuleProvider, ModuleTables};
 use pdb_symbols_modules::Module;
 use std::alloc::{AllocError, Global};
@@ -78,6 +79,35 @@ pub fn keep_lines<'a, I: ModuleTables>(
 {
     if module_index < kept.len() {
         keep_lines_at(alloc, &mut kept[module_index])?;
+    }
+    Ok(())
+}
+
+/// Reads the data of the procedure over a place in the module of a number, if the module's data are kept, and keeps them too.
+fn keep_procedure_at<'a, I: ModuleTables>(
+    alloc: Global,
+    module: &mut KeptModule<'a, I>,
+    place: PdbInternalSectionOffset,
+) -> Result<(), AllocError>
+    ensures { module.new ≡ module.old }
+{
+    match module {
+        Some(Some(known)) => known.keep_procedure(alloc, place),
+        _ => Ok(()),
+    }
+}
+
+/// Reads the data of the procedure over a place in the module of a number, if the module's data are kept, and keeps them too.
+pub fn keep_procedure<'a, I: ModuleTables>(
+    alloc: Global,
+    kept: &mut [KeptModule<'a, I>],
+    module_index: usize,
+    place: PdbInternalSectionOffset,
+) -> Result<(), AllocError>
+    ensures { kept.new ≡ kept.old }
+{
+    if module_index < kept.len() {
+        keep_procedure_at(alloc, &mut kept[module_index], place)?;
     }
     Ok(())
 }

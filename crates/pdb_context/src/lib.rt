@@ -1,5 +1,5 @@
-//! Answers about addresses of an image: the function at an address, its frames, and all functions. Nothing is kept between
-//! questions but what they all go over.
+//! Answers about addresses of an image: the function at an address, its frames, and all functions. What was read of a module or a
+//! procedure, and the names of inlined functions, are kept; what was asked before shows in no answer.
 #![tactic(auto)]
 
 mod choice;
@@ -8,12 +8,16 @@ mod frames;
 mod function;
 mod function_starts;
 mod functions;
+mod inline_names;
 mod kept;
+mod kept_names;
 pub mod maybe_owned;
 mod modules;
 mod names;
 mod parts;
+mod procedure_data;
 mod runs;
+mod typed_names;
 
 pub use context::Context;
 pub use function::{Frame, FunctionFrames};

@@ -1,11 +1,13 @@
 //! What a module's own stream says.
 
-ghost use Rattle.std.specs.Prelude.{◌≡◌, IfOk, Ok, Some, option_map};
+ghost use Rattle.std.specs.Prelude.{◌≡◌, ◌↔◌, true, IfOk, IfSome, None, Ok, Some, option_map, slice_get};
 ghost use Rattle.pdb_container.specs.Fault.{Gives};
 ghost use Rattle.pdb_module_data.specs.Procedures.{over};
+ghost use Rattle.pdb_context.specs.ProcedureData.{IsLentOf, IsOfStream};
 ghost use Rattle.pdb_context.specs.Seen.{extended_seen, AreExtendedHere};
 ghost use Rattle.pdb_context.specs.Modules.{data_of_stream, data_if_there, extended_of, module_data, own_of, procedures_in as procedures_of_module};
 
+use crate::procedure_data::{ExtendedProcedureInfo, empty_procedures, read_extended_procedure};
 use pdb_addresses::PdbInternalSectionOffset;
 use pdb_container::{Error, Result};
 use pdb_lines::LineProgram;
@@ -24,24 +26,27 @@ pub struct BasicModuleInfo<'a, I: ModuleTables> {
     pub procedures: Procedures<'a>,
     /// Its line program and inlinees, once they were read.
     extended: Option<ExtendedModuleInfo<'a>>,
+    /// For each procedure a place, in which its data are kept once they were read; no place before line program and inlinees are.
+    kept_procedures: Vec<Option<ExtendedProcedureInfo<'a>>>,
 }
 
 impl<'a, I: ModuleTables> Model for BasicModuleInfo<'a, I> {
     ghost use Rattle.pdb_context.specs.Modules as modules;
+    ghost use Rattle.pdb_context.specs.ProcedureData.{AreOfStream};
     ghost use Rattle.pdb_context.specs.Seen.{AreExtended};
 
     ghost Value = { modules.ModuleData };
 
     ghost view = { λ m. record { stream = I.held m.module_info.now; procedures = m.procedures } };
 
-    // What is kept of lines and inlinees is the stream's.
-    ghost invariant = { λ m. AreExtended (I.held m.module_info.now) m.extended };
+    // What is kept of lines and inlinees is the stream's, and so is what is kept of procedures.
+    ghost invariant = { λ m. AreExtended (I.held m.module_info.now) m.extended × AreOfStream (I.held m.module_info.now) m.kept_procedures.items };
 }
 
 impl<'a, I: ModuleTables> BasicModuleInfo<'a, I> {
     /// The data of a module's stream, whose symbols are read to their end. The faults of [`ModuleTables::symbols`],
     /// `SymbolTooShort`, `UnexpectedEof`; `OutOfMemory`.
-    #[tactic(auto, unfolding(crate::specs::Modules::data_of_stream))]
+    #[tactic(auto, using(crate::proofs::KeptProcedures::no_places), unfolding(crate::specs::Modules::data_of_stream))]
     fn try_from_module_info(alloc: Global, module_info: &'a I) -> Result<BasicModuleInfo<'a, I>>
         ensures { Gives (λ m. m) ⊥ result (data_of_stream (I.held module_info.now)) }
     {
@@ -51,11 +56,13 @@ impl<'a, I: ModuleTables> BasicModuleInfo<'a, I> {
             module_info,
             procedures,
             extended: None,
+            kept_procedures: Vec::new(alloc),
         })
     }
 
     /// Reads the line program and the inlinees, and keeps them, unless they were kept before. Where they have a fault nothing
     /// is kept, and so where memory is short.
+    #[tactic(auto, using(crate::proofs::KeptProcedures::nothing_kept))]
     pub fn keep_extended(&mut self, alloc: Global) -> std::result::Result<(), AllocError>
         ensures { self.new ≡ self.old }
     {
@@ -64,6 +71,7 @@ impl<'a, I: ModuleTables> BasicModuleInfo<'a, I> {
         }
         match read_extended(alloc, self.module_info) {
             Ok(extended) => {
+                self.kept_procedures = empty_procedures(alloc, self.procedures.as_slice().len())?;
                 self.extended = Some(extended);
                 Ok(())
             }
@@ -78,6 +86,85 @@ impl<'a, I: ModuleTables> BasicModuleInfo<'a, I> {
     {
         self.extended.as_ref()
     }
+
+    /// Reads the data of the procedure over a place, if line program and inlinees are kept, and keeps them, unless they were
+    /// kept before. Where they have a fault nothing is kept, and so where memory is short.
+    #[tactic(auto, using(crate::proofs::KeptProcedures::kept_now))]
+    pub fn keep_procedure(
+        &mut self,
+        alloc: Global,
+        place: PdbInternalSectionOffset,
+    ) -> std::result::Result<(), AllocError>
+        ensures { self.new ≡ self.old }
+    {
+        let Some(number) = self.procedures.number_over(place) else {
+            return Ok(());
+        };
+        if !is_empty_at(&self.kept_procedures, number) {
+            return Ok(());
+        }
+        match self.read_procedure(alloc, number)? {
+            None => {}
+            Some(data) => self.kept_procedures[number] = Some(data),
+        }
+        Ok(())
+    }
+
+    /// The data of the procedure of a number; `None` where line program and inlinees aren't kept, where there is no such procedure,
+    /// and where its data have a fault.
+    #[tactic(auto, using(crate::proofs::KeptProcedures::of_stream))]
+    fn read_procedure(
+        &self,
+        alloc: Global,
+        number: usize,
+    ) -> std::result::Result<Option<ExtendedProcedureInfo<'a>>, AllocError>
+        ensures { IfOk result (λ d. IfSome d (λ info. IsOfStream (self.now).stream info)) }
+    {
+        let Some(extended) = self.extended() else {
+            return Ok(None);
+        };
+        let Some(procedure) = self.procedures.as_slice().get(number) else {
+            return Ok(None);
+        };
+        match read_extended_procedure(alloc, self.module_info, extended, procedure) {
+            Ok(data) => Ok(Some(data)),
+            Err(pdb_resolving::Error::OutOfMemory) => Err(AllocError),
+            Err(_) => Ok(None),
+        }
+    }
+
+    /// The data of a procedure that is over a place, if they are kept.
+    #[tactic(auto, using(crate::proofs::KeptProcedures::lent_of))]
+    pub fn extended_procedure(
+        &self,
+        procedure: &Procedure<'_>,
+        place: PdbInternalSectionOffset,
+    ) -> Option<&ExtendedProcedureInfo<'a>>
+        ensures { IsLentOf (self.now).stream procedure.now result }
+    {
+        let number = self.procedures.number_over(place)?;
+        match place_at(&self.kept_procedures, number) {
+            Some(Some(data)) if data.is_of(procedure) => Some(data),
+            _ => None,
+        }
+    }
+}
+
+/// The place of a number, if it is there.
+fn place_at<'m, 'a>(
+    places: &'m Vec<Option<ExtendedProcedureInfo<'a>>>,
+    number: usize,
+) -> Option<&'m Option<ExtendedProcedureInfo<'a>>>
+    ensures { option_map (λ p. p.now) result ≡ slice_get places.now.items number }
+{
+    places.get(number)
+}
+
+/// Whether the place of a number is there and empty.
+fn is_empty_at(places: &[Option<ExtendedProcedureInfo<'_>>], number: usize) -> bool
+    ensures { (result ≡ true) ↔ (slice_get places.now number ≡ Some None) }
+{
+    matches!(places.get(number), Some(None))
 }
 
 /// The data of a module's stream; `None` where its symbols can't be read to their end.

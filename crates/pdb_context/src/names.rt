@@ -3,12 +3,11 @@
 ghost use Rattle.std.specs.Prelude.{◌≡◌, IfOk, option_map, string_bytes};
 ghost use Rattle.std.specs.Str.Lossy.{utf8_lossy};
 ghost use Rattle.pdb_container.specs.RawString.{raw_bytes};
-ghost use Rattle.pdb_context.specs.Choice.{is_decorated as is_decorated_name, typed_name as name_by_type, public_name as public_name_of, procedure_name as name_of_procedure, name_of as name_of_chosen, if_made};
-ghost use Rattle.pdb_context.specs.Seen.{chosen_seen, IsText};
+ghost use Rattle.pdb_context.specs.Choice.{is_decorated as is_decorated_name, typed_name as name_by_type, public_name as public_name_of, if_made};
+ghost use Rattle.pdb_context.specs.Seen.{IsText};
 ghost use Rattle.pdb_type_text.specs.Formatting.{env_of};
 ghost use Rattle.pdb_type_text.specs.Ids.{id_text};
 
-use crate::choice::Chosen;
 use crate::parts::ContextParts;
 use pdb_container::RawString;
 use pdb_indices::IdIndex;
@@ -39,7 +38,7 @@ fn if_text(made: Result<String>) -> std::result::Result<Option<String>, AllocErr
 }
 
 /// A name as it is stored, as text: bytes that are no text are replaced.
-fn raw_name(alloc: Global, name: &RawString<'_>) -> std::result::Result<String, AllocError>
+pub fn raw_name(alloc: Global, name: &RawString<'_>) -> std::result::Result<String, AllocError>
     ensures { IfOk result (λ t. string_bytes t ≡ utf8_lossy (raw_bytes name.now)) }
 {
     String::from_utf8_lossy(alloc, name.as_bytes())
@@ -61,7 +60,7 @@ pub fn inlinee_name<P: ModuleProvider>(
 }
 
 /// The name of a procedure by its type; `None` where no text can be made of it.
-fn typed_name<P: ModuleProvider>(
+pub fn typed_name<P: ModuleProvider>(
     alloc: Global,
     formatter: &mut TypeFormatter<'_, '_, P>,
     module_index: usize,
@@ -77,7 +76,7 @@ fn typed_name<P: ModuleProvider>(
 
 /// The decorated public name that a procedure has in place of its own: at its start, where it has no type and no decorated name
 /// of its own.
-fn public_name<'p, 'a>(
+pub fn public_name<'p, 'a>(
     parts: &'p ContextParts<'a, '_>,
     procedure: &Procedure<'_>,
 ) -> Option<&'p RawString<'a>>
@@ -90,28 +89,8 @@ fn public_name<'p, 'a>(
     }
 }
 
-/// A procedure's name: the decorated public name in place of its own, or that by its type.
-fn procedure_name<P: ModuleProvider>(
-    alloc: Global,
-    parts: &ContextParts<'_, '_>,
-    formatter: &mut TypeFormatter<'_, '_, P>,
-    module_index: usize,
-    procedure: &Procedure<'_>,
-) -> std::result::Result<Option<String>, AllocError>
-    ensures same { formatter.new ≡ formatter.old }
-    ensures name { IfOk result (λ n. option_map string_bytes n ≡ name_of_procedure parts.now (env_of P.provided formatter.old module_index) procedure.now) }
-{
-    match public_name(parts, procedure) {
-        Some(name) => {
-            let name = raw_name(alloc, name)?;
-            Ok(Some(name))
-        }
-        None => typed_name(alloc, formatter, module_index, procedure),
-    }
-}
-
 /// A name that may be there, as text.
-fn if_named(
+pub fn if_named(
     alloc: Global,
     name: &Option<RawString<'_>>,
 ) -> std::result::Result<Option<String>, AllocError>
@@ -123,24 +102,5 @@ fn if_named(
             let name = raw_name(alloc, name)?;
             Ok(Some(name))
         }
-    }
-}
-
-/// The name of a chosen function in the module of a number.
-pub fn name_of<P: ModuleProvider>(
-    alloc: Global,
-    parts: &ContextParts<'_, '_>,
-    formatter: &mut TypeFormatter<'_, '_, P>,
-    module_index: usize,
-    chosen: Chosen<'_, '_>,
-) -> std::result::Result<Option<String>, AllocError>
-    ensures same { formatter.new ≡ formatter.old }
-    ensures name { IfOk result (λ n. option_map string_bytes n ≡ name_of_chosen parts.now (env_of P.provided formatter.old module_index) (chosen_seen chosen.entry)) }
-{
-    match chosen {
-        Chosen::Procedure(procedure) => {
-            procedure_name(alloc, parts, formatter, module_index, procedure)
-        }
-        Chosen::Public(public) => if_named(alloc, &public.name),
     }
 }
