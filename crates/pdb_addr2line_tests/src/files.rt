@@ -1,91 +1,117 @@
-//! Files of types and ids, and what is said of them.
+//! Files of types and ids.
 
-use pdb_addr2line::pdb::{IdIndex, PDB, TypeIndex};
-use pdb_addr2line::{
-    ContextPdbData, Error, Flags, ModuleProvider, TypeFormatter, TypeFormatterFlags,
+use crate::ids::IDS;
+use crate::types::TYPES;
+use pdb_samples::{
+    FIRST_INDEX, ProgramDatabase, Record, Result, cross_imports, file_of_items, self_pointer,
 };
-use pdb_samples::{ProgramDatabase, Record, file_of_items};
 use std::alloc::Global;
-use std::test::Fail;
 
-/// What was read of a file.
-pub type Data = ContextPdbData<'static, 'static, Vec<u8>>;
-
-/// What is read of a database.
-pub fn data_of(alloc: Global, database: &ProgramDatabase) -> Result<Data, Fail> {
-    let pdb = PDB::open(alloc, database.bytes(alloc)?)?;
-    Ok(ContextPdbData::try_from_pdb(alloc, pdb)?)
+/// A file that is asked about.
+#[derive(Clone, Copy)]
+pub enum File {
+    /// The types and the ids of many forms.
+    Items,
+    /// A function of one argument, which is a pointer to itself.
+    SelfPointer,
+    /// Three modules, of which two import from the third.
+    Imports,
+    /// The same without a table of names.
+    ImportsWithoutNames,
+    /// No types, for an image of the machine of this number.
+    Machine(u16),
+    /// So many pointers, each of which leads to the next and the last to `int`; behind these the list of one argument, the
+    /// first of them, and a function of that.
+    Pointers(u32),
+    /// The same of arrays.
+    Arrays(u32),
+    /// So many ids of functions without arguments, each in the one before.
+    Scopes(u32),
 }
 
-/// What is read of a database with these types and ids.
-pub fn data_of_items(alloc: Global, types: &[Record], ids: &[Record]) -> Result<Data, Fail> {
-    data_of(alloc, &file_of_items(alloc, types, ids)?)
-}
-
-/// A text, or a fault behind `fault: `.
-fn told(alloc: Global, text: Result<String, Error>) -> Result<String, Fail> {
-    match text {
-        Ok(text) => Ok(text),
-        Err(Error::OutOfMemory) => Err(Error::OutOfMemory)?,
-        Err(error) => Ok(format!(in alloc; "fault: {error}")?),
+/// The database of a file.
+pub fn database_of(alloc: Global, file: File) -> Result<ProgramDatabase> {
+    match file {
+        File::Items => file_of_items(alloc, TYPES, IDS),
+        File::SelfPointer => self_pointer(alloc),
+        File::Imports => cross_imports(alloc),
+        File::ImportsWithoutNames => imports_without_names(alloc),
+        File::Machine(number) => file_of_machine(alloc, number),
+        File::Pointers(count) => file_of_links(alloc, count, false),
+        File::Arrays(count) => file_of_links(alloc, count, true),
+        File::Scopes(count) => file_of_scopes(alloc, count),
     }
 }
 
-/// What a formatter prints of a function `f` of this type in the first module.
-fn function_by<P: ModuleProvider>(
-    alloc: Global,
-    mut formatter: TypeFormatter<'_, '_, P>,
-    type_index: u32,
-) -> Result<String, Error> {
-    formatter.format_function(alloc, "f", 0, TypeIndex(type_index))
+fn imports_without_names(alloc: Global) -> Result<ProgramDatabase> {
+    let mut database = cross_imports(alloc)?;
+    database.has_names = false;
+    Ok(database)
 }
 
-/// What is printed of a function `f` of this type in the first module.
-pub fn function_text(
-    alloc: Global,
-    data: &Data,
-    flags: u32,
-    type_index: u32,
-) -> Result<String, Fail> {
-    let flags = TypeFormatterFlags::from_bits_retain(flags);
-    let text = function_by(
-        alloc,
-        data.make_type_formatter_with_flags(alloc, flags)?,
-        type_index,
-    );
-    told(alloc, text)
+fn file_of_machine(alloc: Global, number: u16) -> Result<ProgramDatabase> {
+    let mut database = file_of_items(alloc, &[], &[])?;
+    database.debug.machine = number;
+    Ok(database)
 }
 
-/// What a formatter prints of this id in the first module.
-fn id_by<P: ModuleProvider>(
-    alloc: Global,
-    mut formatter: TypeFormatter<'_, '_, P>,
-    index: u32,
-) -> Result<String, Error> {
-    formatter.format_id(alloc, 0, IdIndex(index))
+/// A record that leads to the next one, or to `int`.
+fn link(index: u32, is_last: bool, is_array: bool) -> Record {
+    let next = if is_last {
+        0x74
+    } else {
+        index.saturating_add(1)
+    };
+    match is_array {
+        true => Record::Array {
+            element: next,
+            dimensions: &[4],
+        },
+        false => Record::Pointer {
+            underlying: next,
+            attributes: 0x1_000c,
+        },
+    }
 }
 
-/// What is printed of this id in the first module.
-pub fn id_text(alloc: Global, data: &Data, flags: u32, index: u32) -> Result<String, Fail> {
-    let flags = TypeFormatterFlags::from_bits_retain(flags);
-    let text = id_by(
-        alloc,
-        data.make_type_formatter_with_flags(alloc, flags)?,
-        index,
-    );
-    told(alloc, text)
+/// The list of one argument, which is the first type.
+const FIRST_TYPE: Record = Record::ArgumentList(&[FIRST_INDEX]);
+
+fn file_of_links(alloc: Global, count: u32, is_array: bool) -> Result<ProgramDatabase> {
+    let mut database = file_of_items(alloc, &[], &[])?;
+    for place in 0..count {
+        let index = FIRST_INDEX.saturating_add(place);
+        let is_last = place.saturating_add(1) == count;
+        database.types.push(&link(index, is_last, is_array))?;
+    }
+    let arguments = database.types.push(&FIRST_TYPE)?;
+    database.types.push(&Record::Procedure {
+        return_type: 3,
+        attributes: 0,
+        arguments,
+    })?;
+    Ok(database)
 }
 
-/// The size that a formatter finds of this type in the first module, in bytes.
-fn size_by<P: ModuleProvider>(
-    alloc: Global,
-    mut formatter: TypeFormatter<'_, '_, P>,
-    index: u32,
-) -> Result<u64, Error> {
-    formatter.get_type_size(alloc, 0, TypeIndex(index))
-}
+/// No arguments, and a function of these that returns nothing.
+const NO_ARGUMENTS: &[Record] = &[
+    Record::ArgumentList(&[]),
+    Record::Procedure {
+        return_type: 3,
+        attributes: 0,
+        arguments: FIRST_INDEX,
+    },
+];
 
-/// The size of this type in the first module, in bytes.
-pub fn size_of_type(alloc: Global, data: &Data, index: u32) -> Result<u64, Fail> {
-    Ok(size_by(alloc, data.make_type_formatter(alloc)?, index)?)
+fn file_of_scopes(alloc: Global, count: u32) -> Result<ProgramDatabase> {
+    let mut database = file_of_items(alloc, NO_ARGUMENTS, &[])?;
+    let mut scope = 0;
+    for _ in 0..count {
+        scope = database.ids.push(&Record::FunctionId {
+            scope,
+            function_type: 0x1001,
+            name: b"g",
+        })?;
+    }
+    Ok(database)
 }

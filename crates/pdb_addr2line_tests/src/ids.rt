@@ -1,7 +1,8 @@
 //! What is printed of ids.
 
-use crate::files::{data_of_items, id_text};
-use crate::types::TYPES;
+use crate::answers::Question::Id;
+use crate::answers::{Case, wrong_answers};
+use crate::files::File;
 use pdb_samples::Record;
 use std::test::Fail;
 
@@ -167,65 +168,36 @@ pub const IDS: &[Record] = &[
     Record::Text(b"n\xff"),
 ];
 
-/// Flags, an id, and its text, or its fault behind `fault: `.
-const TEXTS: &[(u32, u32, &str)] = &[
-    (23, 0x1000, "g(int, char*)"),
-    (0, 0x1000, "void g(int,char*)"),
-    (55, 0x1000, "g"),
-    (23, 0x1001, "ns"),
-    (23, 0x1002, "ns::g()"),
-    (22, 0x1002, "void ns::g()"),
-    (23, 0x1003, "`anonymous namespace'"),
-    (23, 0x1004, "`anonymous namespace'::g()"),
-    (23, 0x1006, "`anonymous namespace'::g()"),
-    (23, 0x1008, "?A0x100000000::g()"),
-    (23, 0x100a, "?A0xzz::g()"),
-    (23, 0x100c, "?A0x::g()"),
-    (23, 0x100e, "`anonymous namespace'::g()"),
-    (23, 0x100f, "A::m() const"),
-    (7, 0x100f, "class A::m() const"),
-    (0, 0x100f, "int class A::m() const"),
-    (55, 0x100f, "A::m"),
-    (21, 0x1010, "static A::m(int, A*)"),
-    (20, 0x1010, "static S A::m(int, A*)"),
-    (23, 0x1010, "A::m(int, A*)"),
-    (23, 0x1011, "g(int, char*)::h()"),
-    (55, 0x1011, "g::h"),
-    (23, 0x1012, "A::m() const::h()"),
-    (23, 0x1013, "\"int\" \"A\""),
-    (23, 0x1014, "\"int\" \"A\"::g()"),
-    (7, 0x1014, "\"int\" \"class A\"::g()"),
-    (23, 0x1015, "<unhandled id scope BuildInfo>::"),
-    (23, 0x1016, "<unhandled id scope BuildInfo>::::g()"),
-    (23, 0x1017, "<unhandled id scope UserDefinedTypeSource>::"),
-    (23, 0x1018, "<missing type 0x9999>::g()"),
-    (23, 0x1019, "<unimplemented type kind 0x1234>"),
-    (23, 0x101a, "<unimplemented type kind 0x1234>::g()"),
-    (23, 0x9999, "<missing type 0x9999>"),
+/// Ids with other flags than the usual ones, and faults. The others are cases of `recorded_reports`.
+const TEXTS: &[Case] = &[
+    (0, Id(0x1000), "void g(int,char*)"),
+    (55, Id(0x1000), "g"),
+    (22, Id(0x1002), "void ns::g()"),
+    (7, Id(0x100f), "class A::m() const"),
+    (0, Id(0x100f), "int class A::m() const"),
+    (55, Id(0x100f), "A::m"),
+    (21, Id(0x1010), "static A::m(int, A*)"),
+    (20, Id(0x1010), "static S A::m(int, A*)"),
+    (55, Id(0x1011), "g::h"),
+    (7, Id(0x1014), "\"int\" \"class A\"::g()"),
     (
         23,
-        0x101b,
+        Id(0x101b),
         "fault: Id of type MemberFunction doesn't have type of MemberFunction",
     ),
     (
         23,
-        0x101c,
+        Id(0x101c),
         "fault: Id of type Function doesn't have type of Procedure",
     ),
-    (23, 0x101d, "fault: PDB error: TypeNotFound(39321)"),
-    (23, 0x101e, "fault: Type with index 4126 is circular"),
-    (23, 0x101f, "<missing type 0x9999>::m() const"),
-    (23, 0x1020, "ns::<name omitted>()"),
-    (23, 0x1021, "fault: PDB error: UnexpectedEof"),
-    (23, 0x1022, "n\u{fffd}"),
+    (23, Id(0x101d), "fault: PDB error: TypeNotFound(39321)"),
+    (23, Id(0x101e), "fault: Type with index 4126 is circular"),
+    (23, Id(0x1021), "fault: PDB error: UnexpectedEof"),
 ];
 
 #[test]
 fn texts_of_ids(rt: HostRuntime) -> Result<(), Fail> {
-    let data = data_of_items(rt.alloc(), TYPES, IDS)?;
-    for (flags, index, wanted) in TEXTS {
-        let text = id_text(rt.alloc(), &data, *flags, *index)?;
-        assert_eq!(rt; text.as_str(), *wanted, "flags {flags}, id {index}");
-    }
+    let wrong = wrong_answers(rt.alloc(), &[(File::Items, TEXTS)])?;
+    assert_eq!(rt; wrong.as_str(), "");
     Ok(())
 }

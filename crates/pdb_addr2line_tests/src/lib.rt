@@ -2,6 +2,8 @@
 #![tactic(auto)]
 
 #[cfg(test)]
+mod answers;
+#[cfg(test)]
 mod bounds;
 #[cfg(test)]
 mod calls;
@@ -9,6 +11,8 @@ mod calls;
 mod errors;
 #[cfg(test)]
 mod files;
+#[cfg(test)]
+mod flags;
 #[cfg(test)]
 mod functions;
 #[cfg(test)]

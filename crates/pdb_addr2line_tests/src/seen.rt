@@ -21,7 +21,9 @@ fn levels_of_a_path(rt: HostRuntime) -> Result<(), Fail> {
     let mut path = Vec::from_slice(rt.alloc(), &[0u32])?;
     let (is_refused, indices) = inserted(rt.alloc(), &mut path)?;
     assert!(rt; is_refused);
-    assert_eq!(rt; indices.as_slice(), [0, 1, 2].as_slice());
-    assert_eq!(rt; path.as_slice(), [0].as_slice());
+    assert_eq!(rt;
+        (indices.as_slice(), path.as_slice()),
+        ([0, 1, 2].as_slice(), [0].as_slice())
+    );
     Ok(())
 }

@@ -1,0 +1,47 @@
+//! Flags of formatters, by their operators and the calls of `Flags`.
+
+use pdb_addr2line::{Flags, TypeFormatterFlags};
+use std::test::Fail;
+
+const STATIC: TypeFormatterFlags = TypeFormatterFlags::NO_MEMBER_FUNCTION_STATIC;
+
+const COMMA: TypeFormatterFlags = TypeFormatterFlags::SPACE_AFTER_COMMA;
+
+const ARGUMENTS: TypeFormatterFlags = TypeFormatterFlags::NO_ARGUMENTS;
+
+/// The bits that the operators leave: of two flags together, of what two sets have in common, of what one of them alone has, of one
+/// set without the other, and of what a set lacks.
+fn bits_of_operators() -> [u32; 5] {
+    let both = STATIC | COMMA;
+    let other = COMMA | ARGUMENTS;
+    [
+        both.bits(),
+        (both & other).bits(),
+        (both ^ other).bits(),
+        (both - other).bits(),
+        (!both).bits(),
+    ]
+}
+
+/// The same by the operators that assign.
+fn bits_of_assignments() -> [u32; 4] {
+    let mut together = STATIC;
+    together |= COMMA;
+    let mut common = together;
+    common &= COMMA | ARGUMENTS;
+    let mut one = together;
+    one ^= COMMA | ARGUMENTS;
+    let mut less = together;
+    less -= COMMA | ARGUMENTS;
+    [together.bits(), common.bits(), one.bits(), less.bits()]
+}
+
+#[test]
+fn operators_on_flags(rt: HostRuntime) -> Result<(), Fail> {
+    assert_eq!(rt; bits_of_operators(), [6, 4, 34, 2, 57]);
+    assert_eq!(rt; bits_of_assignments(), [6, 4, 34, 2]);
+    assert_eq!(rt; TypeFormatterFlags::default().bits(), 23);
+    assert!(rt; (STATIC | COMMA).contains(COMMA));
+    assert!(rt; !STATIC.contains(COMMA));
+    Ok(())
+}
