@@ -1,5 +1,5 @@
 -- What a watched reader or writer keeps, and what a call may change of it.
-use Rattle.std.specs.Prelude.{◌≡◌, ℕ, zero, suc, ◌+◌, ◌-◌, ◌^◌, ◌<◌, min, List, length, Option, Some, Result, Ok, Err}
+use Rattle.std.specs.Prelude.{◌≡◌, ℕ, zero, suc, ◌+◌, ◌-◌, ◌^◌, ◌<◌, min, List, ◌++◌, length, Option, Some, Result, Ok, Err}
 use Rattle.std.specs.declared.io.Error.{Error}
 use Rattle.std.specs.declared.io.ErrorKind.{ErrorKind}
 use Rattle.std.specs.declared.io.ErrorKind.TheVariants.{WriteZero}
@@ -39,6 +39,10 @@ WatchesWrite old new bytes (Err e) = CountsFailure old new (error_kind e)
 -- the text was written behind what the writer holds, where that is known
 abbrev pub Writes : {T : Type 0} → (T → Option (List ℕ)) → Watched T → Watched T → List ℕ → Type 0
 Writes contents old new text = Appends (contents (inner_of old)) (contents (inner_of new)) text
+
+-- the text was written but for what is pending, its end
+abbrev pub WritesAllBut : {T : Type 0} → (T → Option (List ℕ)) → Watched T → Watched T → List ℕ → List ℕ → Type 0
+WritesAllBut contents old new pending text = (out : List ℕ) × Writes contents old new out × (text ≡ out ++ pending)
 
 -- a front of the text was written
 abbrev pub WritesFront : {T : Type 0} → (T → Option (List ℕ)) → Watched T → Watched T → List ℕ → Type 0
