@@ -1,3 +1,4 @@
+pub mod BoundSteps
 pub mod FunctionSteps
 pub mod KeptProcedures
 pub mod KeptSteps

@@ -40,6 +40,11 @@ pub record IsAscending (numbers ascending : List ℕ) : Type 0 where
   pub rising : IsStrictlySortedBy nat_cmp ascending
   pub same : (n : ℕ) → is_among ascending n ≡ is_among numbers n
 
+-- the numbers that are kept, if they are, are the same in ascending order, each once
+abbrev pub AreStarts : List ℕ → Option (List ℕ) → Type 0
+AreStarts numbers None = Unit {0}
+AreStarts numbers (Some starts) = IsAscending numbers starts
+
 -- the functions at addresses, of those that have one
 abbrev pub functions_at : Parts → (ℕ → Scope) → List ℕ → List Function
 functions_at p scope addresses = flat_map (λ a. if_any (function p scope a)) addresses

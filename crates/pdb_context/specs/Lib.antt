@@ -1,3 +1,4 @@
+pub mod Bounds
 pub mod Choice
 pub mod Context
 pub mod Frames

@@ -22,7 +22,7 @@ use crate::function::FunctionFrames;
 use crate::kept::{KeptModule, empty_places, keep_lines, keep_module, keep_procedure, known_at};
 use crate::kept_names::KeptNames;
 use crate::maybe_owned::MaybeOwned;
-use crate::modules::{BasicModuleInfo, procedures_in};
+use crate::modules::BasicModuleInfo;
 use crate::parts::ContextParts;
 use crate::runs::to_next_bound;
 use pdb_addresses::{AddressMap, ImageSectionHeader, PdbInternalSectionOffset};
@@ -43,12 +43,15 @@ pub struct Context<'a, 's, P: ModuleProvider> {
     pub(crate) type_formatter: MaybeOwned<'a, TypeFormatter<'a, 's, P>>,
     kept: Vec<KeptModule<'a, P::Info>>,
     names: KeptNames,
+    pub(crate) starts: Option<Vec<u32>>,
     lookups: u64,
 }
 
 impl<'a, 's, P: ModuleProvider> Model for Context<'a, 's, P> {
+    ghost use Rattle.std.specs.Prelude.{option_map};
     ghost use Rattle.pdb_context.specs.Context as contexts;
-    ghost use Rattle.pdb_context.specs.Context.{entries_of};
+    ghost use Rattle.pdb_context.specs.Context.{entries_of, scope_of};
+    ghost use Rattle.pdb_context.specs.FunctionList.{start_addresses, AreStarts};
     ghost use Rattle.pdb_context.specs.KeptNames.{AreKeptNames};
     ghost use Rattle.pdb_context.specs.Kept.{AreKept};
     ghost use Rattle.pdb_context.specs.MaybeOwned.{value_of};
@@ -58,8 +61,9 @@ impl<'a, 's, P: ModuleProvider> Model for Context<'a, 's, P> {
 
     ghost view = { λ c. record { provider = c.provider.now; parts = c.parts; formatting = value_of c.type_formatter; lookups = c.lookups } };
 
-    // What is kept of each module is its own, and the names that are kept are those that the formatter gives.
-    ghost invariant = { λ c. AreKept (λ n. module_data (own_of (P.provided c.provider.now) (entries_of (value_of c.type_formatter)) n)) c.kept.items × AreKeptNames P.provided (value_of c.type_formatter) c.names };
+    // What is kept of each module is its own, the names that are kept are those that the formatter gives, and the starts those of
+    // the file's functions.
+    ghost invariant = { λ c. AreKept (λ n. module_data (own_of (P.provided c.provider.now) (entries_of (value_of c.type_formatter)) n)) c.kept.items × AreKeptNames P.provided (value_of c.type_formatter) c.names × AreStarts (start_addresses c.parts (scope_of P.provided c.provider.now (value_of c.type_formatter)) (entries_of (value_of c.type_formatter))) (option_map (λ v. v.items) c.starts) };
 }
 
 impl<'a, 's, P: ModuleProvider> Drop for Context<'a, 's, P> {
@@ -70,12 +74,14 @@ impl<'a, 's, P: ModuleProvider> Drop for Context<'a, 's, P> {
             type_formatter,
             kept,
             names,
+            starts,
             lookups: _,
         } = self;
         drop(parts);
         drop(type_formatter);
         drop(kept);
         drop(names);
+        drop(starts);
     }
 }
 
@@ -321,8 +327,7 @@ fn run_at<'a, P: ModuleProvider>(
     keep_module(alloc, kept, provider, formatter.modules(), module_index)?;
     let none = None;
     let known = known_at(kept, module_index, &none);
-    let procedures = procedures_in(known);
-    let count = to_next_bound(parts, procedures, place, limit);
+    let count = to_next_bound(parts, known, place, limit);
     match choose(parts, known, contribution, place) {
         None => Ok((None, count)),
         Some(chosen) => {
@@ -360,7 +365,10 @@ fn run_here<'a, P: ModuleProvider>(
     ensures count { IfOk result (λ run. IsOneRun (database_of parts.now (scope_of P.provided provider.now formatter.old)) (as_place place) limit run.1) }
 {
     match parts.holder(place) {
-        None => Ok((None, to_next_bound(parts, &[], place, limit))),
+        None => {
+            let none: Option<BasicModuleInfo<'_, P::Info>> = None;
+            Ok((None, to_next_bound(parts, &none, place, limit)))
+        }
         Some(contribution) => run_at(
             alloc,
             provider,
@@ -413,6 +421,7 @@ impl<'a, 's, P: ModuleProvider> Context<'a, 's, P> {
             type_formatter,
             kept,
             names,
+            starts: None,
             lookups: 0,
         })
     }

@@ -1,7 +1,8 @@
 //! What is answered about an address.
 
-ghost use Rattle.std.specs.Prelude.{◌≡◌, IfOk, option_map, string_bytes};
+ghost use Rattle.std.specs.Prelude.{◌≡◌, IfOk, IsOkUnless, option_map, string_bytes};
 ghost use Rattle.std.specs.Cow.{cow_str_bytes};
+ghost use Rattle.pdb_resolving.specs.declared.error.Error.TheVariants as errors;
 
 use pdb_resolving::Result;
 use std::alloc::{AllocError, Global};
@@ -84,7 +85,8 @@ fn clone_file<'a>(
 impl<'a> Frame<'a> {
     /// A copy, equal in all fields. `OutOfMemory` alone.
     pub fn try_clone(&self, alloc: Global) -> Result<Frame<'a>>
-        ensures { IfOk result (λ f. f ≡ self.now) }
+        ensures equal { IfOk result (λ f. f ≡ self.now) }
+        ensures memory { IsOkUnless result errors.OutOfMemory }
     {
         let function = clone_name(alloc, &self.function)?;
         let file = clone_file(alloc, &self.file)?;
@@ -99,7 +101,8 @@ impl<'a> Frame<'a> {
 impl<'a> FunctionFrames<'a> {
     /// A copy, equal in all fields. `OutOfMemory` alone.
     pub fn try_clone(&self, alloc: Global) -> Result<FunctionFrames<'a>>
-        ensures { IfOk result (λ f. f ≡ self.now) }
+        ensures equal { IfOk result (λ f. f ≡ self.now) }
+        ensures memory { IsOkUnless result errors.OutOfMemory }
     {
         let frames = clone_frames(alloc, self.frames.as_slice())?;
         Ok(FunctionFrames {
@@ -112,7 +115,8 @@ impl<'a> FunctionFrames<'a> {
 
 /// A copy of frames.
 fn clone_frames<'a>(alloc: Global, frames: &[Frame<'a>]) -> Result<Vec<Frame<'a>>>
-    ensures { IfOk result (λ v. v.items ≡ frames.now) }
+    ensures equal { IfOk result (λ v. v.items ≡ frames.now) }
+    ensures memory { IsOkUnless result errors.OutOfMemory }
 {
     let mut copied = Vec::new(alloc);
     for frame in frames {

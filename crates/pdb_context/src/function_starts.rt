@@ -1,9 +1,9 @@
 //! Where functions begin: the RVAs of the public list's entries and of all modules' procedures.
 
-ghost use Rattle.std.specs.Prelude.{◌≡◌, ◌++◌, IfOk, OnOk, map};
+ghost use Rattle.std.specs.Prelude.{◌≡◌, ◌++◌, IfOk, OnOk, map, option_map};
 ghost use Rattle.pdb_addresses.specs.Addresses.{IsOrdered, outer_of_place};
 ghost use Rattle.pdb_context.specs.Context.{scope_of, entries_of};
-ghost use Rattle.pdb_context.specs.FunctionList.{if_any, addresses_of, procedure_starts_from, start_addresses, IsAscending};
+ghost use Rattle.pdb_context.specs.FunctionList.{if_any, addresses_of, procedure_starts_from, start_addresses, AreStarts, IsAscending};
 ghost use Rattle.pdb_context.specs.Modules.{module_data, procedures_in as procedures_of_module};
 
 use crate::modules::{get_basic_module_info, procedures_in};
@@ -114,7 +114,7 @@ fn sort_and_dedup(numbers: &mut Vec<u32>)
 }
 
 /// The distinct RVAs at which entries of the public list or procedures begin, in ascending order.
-pub fn function_starts<P: ModuleProvider>(
+fn function_starts<P: ModuleProvider>(
     alloc: Global,
     provider: &P,
     parts: &ContextParts<'_, '_>,
@@ -127,4 +127,35 @@ pub fn function_starts<P: ModuleProvider>(
     push_modules(alloc, &mut starts, parts.address_map, provider, formatter)?;
     sort_and_dedup(&mut starts);
     Ok(starts)
+}
+
+/// A copy of numbers.
+fn copied(alloc: Global, numbers: &Vec<u32>) -> Result<Vec<u32>, AllocError>
+    ensures { IfOk result (λ v. v.items ≡ numbers.now.items) }
+{
+    let mut copy = Vec::new(alloc);
+    copy.extend_from_slice(numbers.as_slice())?;
+    Ok(copy)
+}
+
+/// The distinct RVAs at which functions begin, in ascending order: those that are kept, or else they are found and kept. Nothing is
+/// kept where memory is short.
+pub fn kept_starts<P: ModuleProvider>(
+    alloc: Global,
+    kept: &mut Option<Vec<u32>>,
+    provider: &P,
+    parts: &ContextParts<'_, '_>,
+    formatter: &TypeFormatter<'_, '_, P>,
+) -> Result<Vec<u32>, AllocError>
+    requires { AreStarts (start_addresses parts.now (scope_of P.provided provider.now formatter.now) (entries_of formatter.now)) (option_map (λ v. v.items) kept.old) }
+    ensures kept { AreStarts (start_addresses parts.now (scope_of P.provided provider.now formatter.now) (entries_of formatter.now)) (option_map (λ v. v.items) kept.new) }
+    ensures starts { IfOk result (λ v. IsAscending (start_addresses parts.now (scope_of P.provided provider.now formatter.now) (entries_of formatter.now)) v.items) }
+{
+    if let Some(starts) = kept {
+        return copied(alloc, starts);
+    }
+    let starts = function_starts(alloc, provider, parts, formatter)?;
+    let copy = copied(alloc, &starts)?;
+    *kept = Some(starts);
+    Ok(copy)
 }

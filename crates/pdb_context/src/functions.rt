@@ -7,7 +7,7 @@ ghost use Rattle.pdb_context.specs.FunctionList.{AreFunctions, GivesFunction, fu
 ghost use Rattle.pdb_resolving.specs.declared.error.Error.TheVariants as errors;
 
 use crate::context::Context;
-use crate::function_starts::function_starts;
+use crate::function_starts::kept_starts;
 use pdb_functions::Function;
 use pdb_resolving::{ModuleProvider, Result};
 use std::alloc::Global;
@@ -84,7 +84,7 @@ impl<'c, 'a, 's, P: ModuleProvider> Iterator for FunctionIter<'c, 'a, 's, P> {
 impl<'a, 's, P: ModuleProvider> Context<'a, 's, P> {
     /// The functions of the file: [`Context::find_function`] of each distinct RVA at which an entry of the public list or a
     /// procedure of any module begins, in ascending order, where it finds one. A module whose symbols can't be read has no
-    /// procedures here.
+    /// procedures here. Where they begin is found once and kept.
     ///
     /// # Errors
     /// `OutOfMemory` alone.
@@ -92,7 +92,13 @@ impl<'a, 's, P: ModuleProvider> Context<'a, 's, P> {
         ensures functions { IfOk result (λ it. AreFunctions self.old.parts (scope_in P.provided self.old) (entries_of self.old.formatting) it.functions) }
         ensures memory { IsOkUnless result errors.OutOfMemory }
     {
-        let starts = function_starts(alloc, self.provider, &self.parts, self.type_formatter.get())?;
+        let starts = kept_starts(
+            alloc,
+            &mut self.starts,
+            self.provider,
+            &self.parts,
+            self.type_formatter.get(),
+        )?;
         Ok(FunctionIter {
             context: self,
             alloc,

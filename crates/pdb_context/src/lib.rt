@@ -1,7 +1,8 @@
 //! Answers about addresses of an image: the function at an address, its frames, and all functions. What was read of a module or a
-//! procedure, and the names of inlined functions, are kept; what was asked before shows in no answer.
+//! procedure, the names of functions and where functions begin are kept; what was asked before shows in no answer.
 #![tactic(auto)]
 
+mod bounds;
 mod choice;
 mod context;
 mod frames;

@@ -1,12 +1,16 @@
 //! What a module's own stream says.
 
 ghost use Rattle.std.specs.Prelude.{◌≡◌, ◌↔◌, true, IfOk, IfSome, None, Ok, Some, option_map, slice_get};
+ghost use Rattle.std.specs.List.{flat_map};
+ghost use Rattle.pdb_addresses.specs.SectionRun.{up_to_next};
 ghost use Rattle.pdb_container.specs.Fault.{Gives};
 ghost use Rattle.pdb_module_data.specs.Procedures.{over};
 ghost use Rattle.pdb_context.specs.ProcedureData.{IsLentOf, IsOfStream};
+ghost use Rattle.pdb_context.specs.Runs.{procedure_bounds as bounds_of_procedure};
 ghost use Rattle.pdb_context.specs.Seen.{extended_seen, AreExtendedHere};
 ghost use Rattle.pdb_context.specs.Modules.{data_of_stream, data_if_there, extended_of, module_data, own_of, procedures_in as procedures_of_module};
 
+use crate::bounds::{SortedBounds, procedure_bounds};
 use crate::procedure_data::{ExtendedProcedureInfo, empty_procedures, read_extended_procedure};
 use pdb_addresses::PdbInternalSectionOffset;
 use pdb_container::{Error, Result};
@@ -24,6 +28,8 @@ pub struct BasicModuleInfo<'a, I: ModuleTables> {
     pub module_info: &'a I,
     /// Its procedures, of those of one start the first.
     pub procedures: Procedures<'a>,
+    /// Where they begin and end.
+    bounds: SortedBounds,
     /// Its line program and inlinees, once they were read.
     extended: Option<ExtendedModuleInfo<'a>>,
     /// For each procedure a place, in which its data are kept once they were read; no place before line program and inlinees are.
@@ -31,6 +37,7 @@ pub struct BasicModuleInfo<'a, I: ModuleTables> {
 }
 
 impl<'a, I: ModuleTables> Model for BasicModuleInfo<'a, I> {
+    ghost use Rattle.pdb_context.specs.Bounds.{AreProcedureBounds};
     ghost use Rattle.pdb_context.specs.Modules as modules;
     ghost use Rattle.pdb_context.specs.ProcedureData.{AreOfStream};
     ghost use Rattle.pdb_context.specs.Seen.{AreExtended};
@@ -39,8 +46,8 @@ impl<'a, I: ModuleTables> Model for BasicModuleInfo<'a, I> {
 
     ghost view = { λ m. record { stream = I.held m.module_info.now; procedures = m.procedures } };
 
-    // What is kept of lines and inlinees is the stream's, and so is what is kept of procedures.
-    ghost invariant = { λ m. AreExtended (I.held m.module_info.now) m.extended × AreOfStream (I.held m.module_info.now) m.kept_procedures.items };
+    // The bounds are those of the procedures. What is kept of lines and inlinees is the stream's, and so is what is kept of procedures.
+    ghost invariant = { λ m. AreProcedureBounds m.procedures m.bounds × AreExtended (I.held m.module_info.now) m.extended × AreOfStream (I.held m.module_info.now) m.kept_procedures.items };
 }
 
 impl<'a, I: ModuleTables> BasicModuleInfo<'a, I> {
@@ -52,12 +59,22 @@ impl<'a, I: ModuleTables> BasicModuleInfo<'a, I> {
     {
         let symbols = module_info.symbols()?;
         let procedures = Procedures::read(alloc, symbols)?;
+        let bounds = procedure_bounds(alloc, procedures.as_slice())?;
         Ok(BasicModuleInfo {
             module_info,
             procedures,
+            bounds,
             extended: None,
             kept_procedures: Vec::new(alloc),
         })
+    }
+
+    /// The lesser of `far` and the distance from a place to the next start or end of a procedure.
+    #[tactic(auto, using(crate::proofs::BoundSteps::procedures_alike))]
+    pub fn to_next_procedure(&self, place: PdbInternalSectionOffset, far: u32) -> u32
+        ensures { result ≡ up_to_next (flat_map (bounds_of_procedure place) (self.now).procedures) place.offset far }
+    {
+        self.bounds.up_to_next(place, far)
     }
 
     /// Reads the line program and the inlinees, and keeps them, unless they were kept before. Where they have a fault nothing

@@ -8,6 +8,7 @@ ghost use Rattle.pdb_resolving.specs.Fault.{Answers};
 ghost use Rattle.pdb_context.specs.Choice.{place_of, decorated_at as decorated_name_at};
 ghost use Rattle.pdb_context.specs.Context.{parts_of};
 
+use crate::bounds::{SortedBounds, contribution_bounds};
 use crate::names::is_decorated;
 use pdb_addresses::{AddressMap, ImageSectionHeader, PdbInternalSectionOffset, Rva};
 use pdb_container::{RawString, StringTable};
@@ -28,6 +29,8 @@ pub struct ContextParts<'a, 's> {
     pub address_map: &'a AddressMap<'s>,
     /// What modules hold of sections, in order, apart.
     pub contributions: HeldPlaces,
+    /// Where they begin and end.
+    pub bounds: SortedBounds,
     /// The public list.
     pub publics: PublicList<'a>,
     /// The string table (`/names`), if there is one.
@@ -37,13 +40,15 @@ pub struct ContextParts<'a, 's> {
 impl<'a, 's> Model for ContextParts<'a, 's> {
     ghost use Rattle.std.specs.Prelude.{option_map};
     ghost use Rattle.pdb_addresses.specs.Addresses.{IsOrdered};
+    ghost use Rattle.pdb_context.specs.Bounds.{AreContributionBounds};
     ghost use Rattle.pdb_context.specs.Choice as choice;
 
     ghost Value = { choice.Parts };
 
     ghost view = { λ p. record { map = p.address_map.now; contributions = p.contributions; publics = p.publics; names = option_map (λ t. t.now) p.string_table } };
 
-    ghost invariant = { λ p. IsOrdered p.address_map.now };
+    // The OMAPs are in order, and the bounds are those of the contributions.
+    ghost invariant = { λ p. IsOrdered p.address_map.now × AreContributionBounds p.contributions p.bounds };
 }
 
 impl<'a, 's> ContextParts<'a, 's> {
@@ -70,10 +75,12 @@ impl<'a, 's> ContextParts<'a, 's> {
             later_starts,
         } = compute_section_contributions(alloc, debug_info, sections)?;
         let publics = PublicList::new(functions, later_starts.as_slice(), sections)?;
+        let bounds = contribution_bounds(alloc, contributions.as_slice())?;
         let contributions = HeldPlaces::new(alloc, contributions)?;
         Ok(ContextParts {
             address_map,
             contributions,
+            bounds,
             publics,
             string_table,
         })

@@ -1,15 +1,16 @@
 //! How far along a section answers stay.
 
-ghost use Rattle.std.specs.Prelude.{◌≡◌, ◌==◌};
+ghost use Rattle.std.specs.Prelude.{◌≡◌};
 ghost use Rattle.std.specs.List.{flat_map};
 ghost use Rattle.pdb_addresses.specs.SectionRun.{nearer as nearer_of, up_to_next};
-ghost use Rattle.pdb_context.specs.Runs.{if_there, contribution_bounds, procedure_bounds, public_bounds, bounds_near};
+ghost use Rattle.pdb_context.specs.Modules.{procedures_in};
+ghost use Rattle.pdb_context.specs.Runs.{contribution_bounds, procedure_bounds, public_bounds, bounds_near};
 
+use crate::modules::BasicModuleInfo;
 use crate::parts::ContextParts;
 use pdb_addresses::PdbInternalSectionOffset;
-use pdb_contributions::ModuleSectionContribution;
-use pdb_module_data::Procedure;
 use pdb_public_list::PublicList;
+use pdb_resolving::ModuleTables;
 
 /// The lesser of `far` and the distance from an offset to a bound, if that lies behind it.
 fn nearer(offset: u32, bound: u64, far: u32) -> u32
@@ -23,71 +24,30 @@ fn nearer(offset: u32, bound: u64, far: u32) -> u32
     }
 }
 
-/// The lesser of `far` and the distance from a place to the next of two offsets behind it, if these lie in its section.
-fn nearer_of_both(
-    place: PdbInternalSectionOffset,
-    section: u16,
-    start: u64,
-    end: u64,
-    far: u32,
-) -> u32
-    ensures { result ≡ up_to_next (if_there (section == place.section) start end) place.offset far }
-{
-    if section == place.section {
-        nearer(place.offset, start, nearer(place.offset, end, far))
-    } else {
-        far
-    }
-}
-
-/// The lesser of `far` and the distance from a place to the start or end of a contribution.
-fn nearer_of_contribution(
-    contribution: &ModuleSectionContribution,
-    place: PdbInternalSectionOffset,
-    far: u32,
-) -> u32
-    ensures { result ≡ up_to_next (contribution_bounds place contribution.now) place.offset far }
-{
-    let start = u64::from(contribution.start_offset);
-    let end = u64::from(contribution.end_offset);
-    nearer_of_both(place, contribution.section_index, start, end, far)
-}
-
 /// The lesser of `far` and the distance from a place to the next start or end of a contribution.
-#[tactic(auto, using(crate::proofs::NextBounds::next_done))]
+#[tactic(auto, using(crate::proofs::BoundSteps::contributions_alike))]
 fn to_next_contribution(
-    contributions: &[ModuleSectionContribution],
+    parts: &ContextParts<'_, '_>,
     place: PdbInternalSectionOffset,
     far: u32,
 ) -> u32
-    ensures { result ≡ up_to_next (flat_map (contribution_bounds place) contributions.now) place.offset far }
+    ensures { result ≡ up_to_next (flat_map (contribution_bounds place) parts.now.contributions) place.offset far }
 {
-    let mut near = far;
-    for contribution in contributions {
-        near = nearer_of_contribution(contribution, place, near);
-    }
-    near
+    parts.bounds.up_to_next(place, far)
 }
 
-/// The lesser of `far` and the distance from a place to the start or end of a procedure, whose end may lie past 32 bits.
-fn nearer_of_procedure(procedure: &Procedure<'_>, place: PdbInternalSectionOffset, far: u32) -> u32
-    ensures { result ≡ up_to_next (procedure_bounds place procedure.now) place.offset far }
+/// The lesser of `far` and the distance from a place to the next start or end of a module's procedure; none has one without data.
+fn to_next_procedure<I: ModuleTables>(
+    known: &Option<BasicModuleInfo<'_, I>>,
+    place: PdbInternalSectionOffset,
+    far: u32,
+) -> u32
+    ensures { result ≡ up_to_next (flat_map (procedure_bounds place) (procedures_in known.now)) place.offset far }
 {
-    let start = u64::from(procedure.offset.offset);
-    let end = start + u64::from(procedure.len);
-    nearer_of_both(place, procedure.offset.section, start, end, far)
-}
-
-/// The lesser of `far` and the distance from a place to the next start or end of a procedure.
-#[tactic(auto, using(crate::proofs::NextBounds::next_done))]
-fn to_next_procedure(procedures: &[Procedure<'_>], place: PdbInternalSectionOffset, far: u32) -> u32
-    ensures { result ≡ up_to_next (flat_map (procedure_bounds place) procedures.now) place.offset far }
-{
-    let mut near = far;
-    for procedure in procedures {
-        near = nearer_of_procedure(procedure, place, near);
+    match known {
+        None => far,
+        Some(known) => known.to_next_procedure(place, far),
     }
-    near
 }
 
 /// The lesser of `far` and the distance from a place to the next public entry.
@@ -101,18 +61,18 @@ fn to_next_public(publics: &PublicList<'_>, place: PdbInternalSectionOffset, far
     }
 }
 
-/// The lesser of `limit` and the distance from a place to the next place at which an answer may change, by the procedures of the
-/// module that holds it.
+/// The lesser of `limit` and the distance from a place to the next place at which an answer may change, by the data of the module
+/// that holds it.
 #[tactic(auto, using(crate::proofs::NextBounds::next_of_all))]
-pub fn to_next_bound(
+pub fn to_next_bound<I: ModuleTables>(
     parts: &ContextParts<'_, '_>,
-    procedures: &[Procedure<'_>],
+    known: &Option<BasicModuleInfo<'_, I>>,
     place: PdbInternalSectionOffset,
     limit: u32,
 ) -> u32
-    ensures { result ≡ up_to_next (bounds_near parts.now procedures.now place) place.offset limit }
+    ensures { result ≡ up_to_next (bounds_near parts.now (procedures_in known.now) place) place.offset limit }
 {
-    let near = to_next_procedure(procedures, place, limit);
+    let near = to_next_procedure(known, place, limit);
     let near = to_next_public(&parts.publics, place, near);
-    to_next_contribution(parts.contributions.as_slice(), place, near)
+    to_next_contribution(parts, place, near)
 }
