@@ -1,12 +1,13 @@
 -- Bytes that reads took from a reader.
-use Rattle.std.proofs.Common.{◌≡◌, ℕ, ◌<◌, ◌≤◌, List, [], ◌++◌, length, Some, None, refl, sym, ap, ◌∙◌, inl, inr, take, arith}
+use Rattle.std.proofs.Common.{◌≡◌, ℕ, ◌<◌, ◌≤◌, List, [], ◌++◌, length, Some, None, refl, sym, ap, ◌∙◌, inl, inr, take, subst, arith}
 use Rattle.std.specs.Prelude.{Option, IfSome, nat_eq, true, false}
 use Rattle.std.specs.List.{starts_with}
-use Rattle.std.specs.Io.{StartsWith}
+use Rattle.std.specs.Io.{StartsWith, appended_bytes}
 use lib.Pointwise.{bytes_decides}
 use Rattle.std.proofs.lemmas.Bool.{cases_lt}
 use Rattle.std.proofs.lemmas.List.{length-take, take-take, append-nil, append_assoc}
 use Rattle.std.specs.Io.KnownBytes.{Consumes, IsAtEnd, Keeps}
+use Rattle.std.proofs.KnownBytes.{starts_with_rest}
 use Rattle.pdb_container.specs.Container.{magic}
 use Rattle.pdb_files.specs.FileRead.{IsRead}
 use Rattle.pdb_files.specs.FileRead.IsRead.{all, front}
@@ -56,6 +57,10 @@ front_read (Some file) (Some rest) bytes h end other = elim (cases_lt (length by
   | inl lt ↦ short_read (Some file) (Some rest) bytes h (end lt)
   | inr le ↦ front rest h le other
 ]
+
+-- what was taken behind a front stands behind it
+pub rest_taken : (a b c : Option (List ℕ)) (begun whole : List ℕ) → StartsWith whole begun → Consumes a b begun → Consumes b c (appended_bytes begun whole) → Consumes a c whole
+rest_taken a b c begun whole more h k = subst (Consumes a c) (sym (starts_with_rest whole begun more)) (one_more a b c begun _ h k)
 
 -- a front, and then all the rest
 pub rest_read : (known between : Option (List ℕ)) (bytes all_bytes : List ℕ) → Consumes known between bytes → IfSome between (λ xs. all_bytes ≡ bytes ++ xs) → IfSome known (λ file. IsRead file all_bytes)

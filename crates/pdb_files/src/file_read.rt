@@ -22,8 +22,9 @@ const TRIES: u32 = u32::MAX;
 ///
 /// # Errors
 /// As the reader's; a read that a signal interrupts is tried again.
-#[tactic(auto, using(crate::proofs::Consumed::front_read, crate::proofs::Consumed::rest_read, crate::proofs::Consumed::still_begins))]
+#[tactic(auto, using(crate::proofs::Consumed::front_read, crate::proofs::Consumed::rest_read, crate::proofs::Consumed::rest_taken, crate::proofs::Consumed::still_begins))]
 pub fn read_file<R: Read>(alloc: Global, file: &mut R) -> io::Result<Vec<u8>>
+    ensures taken { IfOk result (λ v. Consumes (R.remaining file.old) (R.remaining file.new) v.items) }
     ensures read { IfOk result (λ v. IfSome (R.remaining file.old) (λ all. IsRead all v.items)) }
     ensures front { IfOk result (λ v. starts_with nat_eq v.items magic ≡ false → vec_len v ≤ 32) }
 {
