@@ -6,7 +6,7 @@ pub use pdb_report::{
     Error, LoadFault, RunFault, Symbolizer, Tally, Watched, finish_run, parse_address, read_file,
     run_frames, run_sizes,
 };
-pub use pdb_words::{Task, WordsFault, read_words};
+pub use pdb_words::{Task, TextOutput, WordsFault, read_words, tell_words};
 use std::alloc::Global;
 use std::io::{self, ErrorKind, Write};
 use std::process::ExitCode;
@@ -28,7 +28,9 @@ fn main(rt: HostRuntime) -> ExitCode {
     };
     let task = match read_words(rt.alloc(), words.as_slice()) {
         Ok(task) => task,
-        Err(fault) => return words_told(&fault, &mut rt.stdout(), &mut errors),
+        Err(fault) => {
+            return ExitCode::from(tell_words(&fault, &mut rt.stdout(), &mut errors));
+        }
     };
     let file = match &task {
         Task::Frames { file } => file.as_str(),
@@ -79,16 +81,6 @@ fn count_sizes<W: Write>(
     match run_sizes(alloc, bytes, start, end, writer) {
         Ok(_) => Ok(()),
         Err(fault) => Err(fault),
-    }
-}
-
-/// Tells why no task came of the words, and returns the status: help goes to the output.
-fn words_told(fault: &WordsFault, output: &mut impl Write, errors: &mut impl Write) -> ExitCode {
-    match fault {
-        WordsFault::Help(text) => told(output, text.as_str(), 0),
-        WordsFault::Words(text) => told(errors, text.as_str(), 2),
-        WordsFault::NotAnAddress => told(errors, "fault: NotAnAddress\n", 2),
-        WordsFault::OutOfMemory => told(errors, "fault: OutOfMemory\n", 1),
     }
 }
 

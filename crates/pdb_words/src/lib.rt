@@ -4,6 +4,8 @@
 mod command;
 mod reading;
 mod task;
+mod telling;
 
 pub use reading::read_words;
 pub use task::{Task, WordsFault};
+pub use telling::{TextOutput, tell_words};

@@ -1,0 +1,74 @@
+//! What is told where no task comes of words, to whom, and with which status.
+
+use pdb_words::{WordsFault, tell_words};
+use std::alloc::{AllocError, Global};
+use std::io::{self, ErrorKind, Write};
+use std::test::Fail;
+
+/// A fault; what is told of it to the output and to the errors; and the status.
+type Row = (WordsFault, &'static str, &'static str, u8);
+
+/// Faults of each kind.
+fn faults(alloc: Global) -> Result<[Row; 4], AllocError> {
+    let help = String::from_str(alloc, "help\n")?;
+    let cause = String::from_str(alloc, "cause\n")?;
+    Ok([
+        (WordsFault::Help(help), "help\n", "", 0),
+        (WordsFault::Words(cause), "", "cause\n", 2),
+        (WordsFault::NotAnAddress, "", "fault: NotAnAddress\n", 2),
+        (WordsFault::OutOfMemory, "", "fault: OutOfMemory\n", 1),
+    ])
+}
+
+/// The same, and asked for again where no memory is found.
+fn faults_again(alloc: Global) -> Result<[Row; 4], AllocError> {
+    match faults(alloc) {
+        Ok(rows) => Ok(rows),
+        Err(_) => faults(alloc),
+    }
+}
+
+/// An empty writer with room for a line.
+fn line_writer(alloc: Global) -> Result<Vec<u8>, AllocError> {
+    match Vec::with_capacity(alloc, 32) {
+        Ok(writer) => Ok(writer),
+        Err(_) => Vec::with_capacity(alloc, 32),
+    }
+}
+
+#[test]
+fn faults_of_each_kind(rt: HostRuntime) -> Result<(), Fail> {
+    for (fault, told, told_to_errors, wanted) in &faults_again(rt.alloc())? {
+        let mut output = line_writer(rt.alloc())?;
+        let mut errors = line_writer(rt.alloc())?;
+        let status = tell_words(fault, &mut output, &mut errors);
+        assert_eq!(rt; output.as_slice(), told.as_bytes());
+        assert_eq!(rt; errors.as_slice(), told_to_errors.as_bytes());
+        assert_eq!(rt; status, *wanted);
+    }
+    Ok(())
+}
+
+/// A writer that takes nothing.
+#[derive(Drop)]
+struct ClosedPipe;
+
+impl Write for ClosedPipe {
+    fn write(&mut self, _bytes: &[u8]) -> io::Result<usize> {
+        Err(ErrorKind::BrokenPipe.into())
+    }
+
+    fn flush(&mut self) -> io::Result<()> {
+        Ok(())
+    }
+}
+
+// The status is the same where nothing can be told.
+#[test]
+fn closed_pipes(rt: HostRuntime) -> Result<(), Fail> {
+    for (fault, _, _, wanted) in &faults_again(rt.alloc())? {
+        let status = tell_words(fault, &mut ClosedPipe, &mut ClosedPipe);
+        assert_eq!(rt; status, *wanted);
+    }
+    Ok(())
+}
