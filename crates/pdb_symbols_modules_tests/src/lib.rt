@@ -6,4 +6,8 @@ mod files;
 #[cfg(test)]
 mod finder;
 #[cfg(test)]
+mod modules;
+#[cfg(test)]
 mod names;
+#[cfg(test)]
+mod pages;
