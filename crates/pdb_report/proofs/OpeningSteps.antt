@@ -29,7 +29,7 @@ use Rattle.pdb_addr2line.specs.Loading.{Tables, tables, listed}
 use Rattle.pdb_report.specs.declared.fault.LoadFault.{LoadFault}
 use Rattle.pdb_report.specs.declared.fault.LoadFault.TheVariants as faults
 use Rattle.pdb_context.specs.Runs.{database_of}
-use Rattle.pdb_report.specs.Answer.{AnswersAs, address_map, answer, answer_by, database, database_by, function_at, function_by, given_in, map_by, scope}
+use Rattle.pdb_report.specs.Answer.{AnswersAs, Listing, address_map, answer, answer_by, database, database_by, function_at, function_by, given_in, listing, listing_by, map_by, scope}
 use Rattle.pdb_report.specs.Faults.{LoadingFault, AddressTableDecreases, lifted, in_loading, load_fault_of, load_fault_in_context, FailsLoading}
 use Rattle.pdb_report.specs.Kept.{IsKept, answered_in}
 use Rattle.pdb_report.specs.Loading.{Loaded, parts_in, none_or, loaded_behind, loaded_open, loaded, load_fault, Refuses, IsFileFault}
@@ -266,9 +266,13 @@ same_scope s h parts m modules_are names_are =
 abbrev context_of : Held → Parts → Context (List KeptInfo)
 context_of h parts = record { provider = h.infos; parts = parts; formatting = held.formatting_of h 23; lookups = 0 }
 
+-- what its list of functions goes over
+abbrev listing_in : Held → Parts → (ℕ → Scope) → Listing
+listing_in h parts known = record { parts = parts; scope = known; entries = (modules_of h.debug_information.modules).items }
+
 over_kept : (file : List ℕ) (h : Held) → IsKept file h → (parts : Parts) → held.parts_in h ≡ Ok parts
     → loaded (shared (streams file)) ≡ Ok (record { debug_information = h.debug_information; tables = h.tables; parts = parts }) → AnswersAs answered_in (streams file) (context_of h parts)
-unfolding answer function_at database
+unfolding answer function_at database listing
 over_kept file h is parts parts_are loaded_is =
     let s = streams file in
     let l : Loaded = record { debug_information = h.debug_information; tables = h.tables; parts = parts } in
@@ -277,6 +281,7 @@ over_kept file h is parts parts_are loaded_is =
       frames = fun_ext (λ a. ap (λ known. frames parts known a) scopes ∙ ap (λ r. answer_by s r a) (sym loaded_is));
       functions = fun_ext (λ a. ap (λ known. function parts known a) scopes ∙ ap (λ r. function_by s r a) (sym loaded_is));
       places = ap (λ known. database_of parts known) scopes ∙ ap (λ r. database_by s r) (sym loaded_is);
+      list = ap (λ known. Some (listing_in h parts known)) scopes ∙ ap (λ r. listing_by s r) (sym loaded_is);
     }
 
 -- the context that was made is that over what is kept

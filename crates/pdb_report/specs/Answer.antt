@@ -1,16 +1,16 @@
 -- The answer for an address of a file's image: its function with its frames.
-use Rattle.std.specs.Prelude.{◌≡◌, ℕ, false, Option, None, Some, Result, Ok, Err}
+use Rattle.std.specs.Prelude.{◌≡◌, ℕ, false, List, Option, None, Some, Result, Ok, Err}
 use Rattle.pdb_addresses.specs.Addresses.{Map}
 use Rattle.pdb_symbols_modules.specs.Machine.{machine_of}
-use Rattle.pdb_symbols_modules.specs.Modules.{modules_of}
+use Rattle.pdb_symbols_modules.specs.Modules.{Module, modules_of}
 use Rattle.pdb_symbols_modules.specs.Shared.{shared}
 use Rattle.pdb_symbols_modules.specs.Streams.{Streams}
 use Rattle.pdb_resolving.specs.Fault.{Fault}
 use Rattle.pdb_resolving.specs.Resolving.{Provided}
 use Rattle.pdb_type_sizes.specs.Reading.{pointer_bytes}
 use Rattle.pdb_type_text.specs.Formatting.{Formatting}
-use Rattle.pdb_context.specs.Choice.{Scope}
-use Rattle.pdb_context.specs.Context.{Context, scope_of, scope_in}
+use Rattle.pdb_context.specs.Choice.{Parts, Scope}
+use Rattle.pdb_context.specs.Context.{Context, scope_of, scope_in, entries_of}
 use Rattle.pdb_context.specs.Frames.{FunctionFrames, frames, function}
 use Rattle.pdb_context.specs.Runs.{database_of}
 use Rattle.pdb_functions.specs.Databases.{Database}
@@ -67,6 +67,22 @@ database_by s (Ok l) = database_of l.parts (scope s l)
 unfoldable pub database : Streams → Database
 database s = database_by s (loaded (shared s))
 
+-- what a list of functions goes over: the parts that each question goes over, what an answer in each module depends on, and the
+-- modules' entries in order
+pub record Listing : Type 0 where
+  pub parts : Parts
+  pub scope : ℕ → Scope
+  pub entries : List Module
+
+-- what the list of functions goes over, by what was loaded
+abbrev pub listing_by : Streams → Result Loaded LoadingFault → Option Listing
+listing_by s (Err e) = None
+listing_by s (Ok l) = Some (record { parts = l.parts; scope = scope s l; entries = (modules_of l.debug_information.modules).items })
+
+-- what the list of the file's functions goes over; none where the file isn't loaded
+unfoldable pub listing : Streams → Option Listing
+listing s = listing_by s (loaded (shared s))
+
 -- the ways between addresses, by what was loaded
 abbrev pub map_by : Result Loaded LoadingFault → Option Map
 map_by (Err e) = None
@@ -90,8 +106,13 @@ function_of provided c a = function c.parts (scope_in provided c) a
 abbrev pub database_in : {P : Type 0} → (P → Provided) → Context P → Database
 database_in provided c = database_of c.parts (scope_in provided c)
 
--- A context answers as the file does.
+-- what the list of a context's functions goes over
+abbrev pub listing_of : {P : Type 0} → (P → Provided) → Context P → Listing
+listing_of provided c = record { parts = c.parts; scope = scope_in provided c; entries = entries_of c.formatting }
+
+-- A context answers as the file does, and lists the file's functions.
 pub record AnswersAs {P : Type 0} (provided : P → Provided) (s : Streams) (c : Context P) : Type 0 where
   pub frames : answer_of provided c ≡ answer s
   pub functions : function_of provided c ≡ function_at s
   pub places : database_in provided c ≡ database s
+  pub list : Some (listing_of provided c) ≡ listing s

@@ -11,4 +11,5 @@ invariant_of-result g c =
     let provided = g.P.ModuleProvider.provided in (
       subst (λ f. AreKept (λ n. module_data (own_of (provided c.args.provider.now) (entries_of f) n)) c.in_ok-kept.kept.items) c.get.ensures c.in_ok-kept.ensures,
       subst (λ f. AreKeptNames provided f c.new-names.result) c.get-2.ensures c.new-names.ensures,
+      tt,
     )
