@@ -1,184 +1,109 @@
--- Sections that ascend, and the two of them that are enough to tell what concerns an address.
-use Rattle.std.proofs.Common.{◌≡◌, ℕ, zero, suc, true, false, ◌+◌, ◌-◌, ◌<◌, ◌≤◌, min, inl, inr, List, [], ◌∷◌, length, get_or, take, drop, refl, sym, ap, subst, ◌∙◌, arith}
-use Rattle.std.specs.Bool.{Decides}
-use Rattle.std.specs.List.{AllAdjacentBelow, AllWithin}
-use Rattle.std.proofs.lemmas.Bool.{lt-ltb, le-ltb, cases_lt}
-use Rattle.std.proofs.lemmas.List.{get_or_default, get_or-drop, take_rest, length-drop}
-use Rattle.std.proofs.lemmas.List.Sorted.{all_adjacent_more, IsNonDecreasingBy-from_all_adjacent}
-use Rattle.std.specs.List.Sorted.{IsNonDecreasingBy}
+-- The greatest ends of sections, and the section that they find.
+use Rattle.std.proofs.Common.{◌≡◌, ℕ, zero, suc, ◌+◌, ◌-◌, ◌<◌, ◌≤◌, max, List, [], ◌∷◌, ◌++◌, length, get_or, drop, refl, sym, ap, subst, ◌∙◌, append_assoc, arith}
+use Rattle.std.specs.Prelude.{None}
+use Rattle.std.specs.List.{AllWithin}
+use Rattle.std.specs.List.Sorted.{IsNonDecreasing}
+use Rattle.std.proofs.lemmas.Bool.{lt-ltb, le-ltb}
+use Rattle.std.proofs.lemmas.List.{append-nil, drop_more, drop_all}
 use Rattle.pdb_addresses.specs.declared.sections.ImageSectionHeader.{ImageSectionHeader}
-use Rattle.pdb_addresses.specs.SectionOrder.{IsBehind, DoAscend, AreEnough}
-use Rattle.pdb_addresses.specs.SectionRun.{bounds, nearer, up_to_next}
-use Rattle.pdb_addresses.specs.Sections.{place_from}
-use Rattle.pdb_addresses.proofs.RunSteps.{past, passed}
+use Rattle.pdb_addresses.specs.SectionOrder.{end_of, greatest_ends}
+use Rattle.pdb_addresses.specs.Sections.{place_in, place_from, place}
 
--- where a section begins
-abbrev pub start : ImageSectionHeader → ℕ
-start s = s.virtual_address
+-- ---- the greatest ends
 
-abbrev end : ImageSectionHeader → ℕ
-end s = s.virtual_address + s.virtual_size
+-- one for each section
+pub length_ends : (far : ℕ) (sections : List ImageSectionHeader) → length (greatest_ends far sections) ≡ length sections
+length_ends far [] = refl
+length_ends far (s ∷ sections) = let e = length_ends (max far (end_of s)) sections in omega arith
 
--- ---- whether sections ascend
+no_lower : (far : ℕ) (sections : List ImageSectionHeader) (i d : ℕ) → i < length sections → far ≤ get_or (greatest_ends far sections) i d
+no_lower far [] i d lt = absurd (omega arith)
+no_lower far (s ∷ sections) zero d lt = omega arith
+no_lower far (s ∷ sections) (suc i) d lt = let le = no_lower (max far (end_of s)) sections i d (omega arith) in omega arith
 
--- each section before a place begins at or past the end of the one before it
-pub record DoAscendTo (sections : List ImageSectionHeader) (i : ℕ) : Type 0 where
-  pub some : 1 ≤ i
-  pub each : AllAdjacentBelow IsBehind sections i
+risen : (far : ℕ) (sections : List ImageSectionHeader) (i j d : ℕ) → i ≤ j → j < length sections → get_or (greatest_ends far sections) i d ≤ get_or (greatest_ends far sections) j d
+risen far [] i j d le lt = absurd (omega arith)
+risen far (s ∷ sections) zero zero d le lt = omega arith
+risen far (s ∷ sections) zero (suc j) d le lt = no_lower (max far (end_of s)) sections j d (omega arith)
+risen far (s ∷ sections) (suc i) zero d le lt = absurd (omega arith)
+risen far (s ∷ sections) (suc i) (suc j) d le lt = risen (max far (end_of s)) sections i j d (omega arith) (omega arith)
 
--- one section ascends
-pub ascent_start : (sections : List ImageSectionHeader) → DoAscendTo sections 1
-ascent_start sections = record { some = omega arith; each = λ k d lt. absurd (omega arith) }
+-- they don't fall
+pub ends_rise : (sections : List ImageSectionHeader) (ends : List ℕ) → ends ≡ greatest_ends 0 sections → IsNonDecreasing ends
+ends_rise sections ends is = rw is (λ i j d le lt. let len = length_ends 0 sections in risen 0 sections i j d le (omega arith))
 
--- one section more that begins behind the one before it still ascends
-pub ascent_more : (sections : List ImageSectionHeader) (i : ℕ) (d : ImageSectionHeader) → i < length sections → IsBehind (get_or sections (i - 1) d) (get_or sections i d) → DoAscendTo sections i → DoAscendTo sections (i + 1)
-ascent_more sections i d lt le so_far = record {
-  some = omega arith;
-  each = all_adjacent_more sections IsBehind i so_far.some so_far.each
-      (λ e. rw (get_or_default sections (i - 1) e d (omega arith), get_or_default sections i e d lt) le);
-}
+-- no section was gone over
+pub ends_start : (sections : List ImageSectionHeader) → [] ++ greatest_ends 0 (drop 0 sections) ≡ greatest_ends 0 sections
+ends_start sections = refl
 
--- all sections ascend: the test says so
-pub ascent_done : (sections : List ImageSectionHeader) (i : ℕ) → length sections ≤ i → DoAscendTo sections i → Decides true (DoAscend sections)
-ascent_done sections i past so_far = (λ e k d lt. so_far.each k d (omega arith), λ e. refl)
+-- one section more
+pub ends_more : (sections : List ImageSectionHeader) (i far : ℕ) (ends total : List ℕ) (d : ImageSectionHeader) → i < length sections
+    → ends ++ greatest_ends far (drop i sections) ≡ total
+    → ends ++ max far (end_of (get_or sections i d)) ∷ [] ++ greatest_ends (max far (end_of (get_or sections i d))) (drop (i + 1) sections) ≡ total
+ends_more sections i far ends total d lt so_far =
+    append_assoc ends (max far (end_of (get_or sections i d)) ∷ []) (greatest_ends (max far (end_of (get_or sections i d))) (drop (i + 1) sections))
+    ∙ sym (ap (λ (xs : List ImageSectionHeader). ends ++ greatest_ends far xs) (drop_more sections i d lt)) ∙ so_far
 
--- a section that begins before the end of the one before it: the test says so
-pub descends : (sections : List ImageSectionHeader) (i : ℕ) (d : ImageSectionHeader) → 1 ≤ i → i < length sections → start (get_or sections i d) < end (get_or sections (i - 1) d) → Decides false (DoAscend sections)
-descends sections i d some lt below =
-    let same : i - 1 + 1 ≡ i = omega arith in
-    (λ e. absurd cc, λ order. let le = subst (λ j. end (get_or sections (i - 1) d) ≤ start (get_or sections j d)) same (order (i - 1) d (omega arith)) in absurd (omega arith))
+-- all sections
+pub ends_done : (sections : List ImageSectionHeader) (i far : ℕ) (ends total : List ℕ) → length sections ≤ i → ends ++ greatest_ends far (drop i sections) ≡ total → ends ≡ total
+ends_done sections i far ends total past so_far =
+    sym (append-nil ends) ∙ sym (ap (λ (xs : List ImageSectionHeader). ends ++ greatest_ends far xs) (drop_all i sections past)) ∙ so_far
 
--- ---- sections that lie before an address
+-- ---- the section that they find
 
-place_behind : (sections : List ImageSectionHeader) (number a n : ℕ) → ((k : ℕ) (d : ImageSectionHeader) → k < n → end (get_or sections k d) ≤ a) → n ≤ length sections
+-- sections whose greatest ends lie at or below the address don't hold it
+behind : (sections : List ImageSectionHeader) (number far a n : ℕ) → ((k d : ℕ) → k < n → get_or (greatest_ends far sections) k d ≤ a) → n ≤ length sections
     → place_from number sections a ≡ place_from (number + n) (drop n sections) a
-place_behind sections number a zero before le = let e : number + 0 ≡ number = omega arith in rw e refl
-place_behind [] number a (suc n) before le = refl
-place_behind (s ∷ sections) number a (suc n) before le =
-    let low = before 0 s (omega arith) in
+behind sections number far a zero before le = let e : number + 0 ≡ number = omega arith in rw e refl
+behind [] number far a (suc n) before le = refl
+behind (s ∷ sections) number far a (suc n) before le =
+    let low = before 0 0 (omega arith) in
     let e : number + suc n ≡ number + 1 + n = omega arith in
     rw (e, le-ltb a s.virtual_address (omega arith), le-ltb (a - s.virtual_address) s.virtual_size (omega arith))
-    (place_behind sections (number + 1) a n (λ k d lt. before (suc k) d (omega arith)) (omega arith))
+    (behind sections (number + 1) (max far (end_of s)) a n (λ k d lt. before (suc k) d (omega arith)) (omega arith))
 
-count_behind : (sections : List ImageSectionHeader) (a limit n : ℕ) → ((k : ℕ) (d : ImageSectionHeader) → k < n → end (get_or sections k d) ≤ a) → n ≤ length sections
-    → up_to_next (bounds sections) a limit ≡ up_to_next (bounds (drop n sections)) a limit
-count_behind sections a limit zero before le = refl
-count_behind [] a limit (suc n) before le = refl
-count_behind (s ∷ sections) a limit (suc n) before le =
-    let low = before 0 s (omega arith) in
-    passed a s.virtual_address _ (omega arith) ∙ passed a (end s) _ low
-    ∙ count_behind sections a limit n (λ k d lt. before (suc k) d (omega arith)) (omega arith)
+-- the first whose greatest end lies past the address ends there
+ends_past : (sections : List ImageSectionHeader) (far a n : ℕ) (d : ImageSectionHeader) → far ≤ a → ((k e : ℕ) → k < n → get_or (greatest_ends far sections) k e ≤ a) → n < length sections
+    → a < get_or (greatest_ends far sections) n 0 → a < end_of (get_or sections n d)
+ends_past [] far a n d le before lt beyond = absurd (omega arith)
+ends_past (s ∷ sections) far a zero d le before lt beyond = omega arith
+ends_past (s ∷ sections) far a (suc n) d le before lt beyond =
+    ends_past sections (max far (end_of s)) a n d (before 0 0 (omega arith)) (λ k e l. before (suc k) e (omega arith)) (omega arith) beyond
 
--- ---- sections that lie behind one that begins past an address
+-- how many greatest ends lie at or below an address
+pub record ArePassed (sections : List ImageSectionHeader) (ends : List ℕ) (a n : ℕ) : Type 0 where
+  pub is : ends ≡ greatest_ends 0 sections
+  pub low : AllWithin (λ e. e ≤ a) ends 0 n
+  pub high : AllWithin (λ e. a < e) ends n (length ends)
 
-place_cut : (sections : List ImageSectionHeader) (number a k : ℕ) → ((d : ImageSectionHeader) → a < start (get_or sections k d)) → k < length sections
-    → place_from number (take (suc k) sections) a ≡ place_from number sections a
-place_cut [] number a k beyond lt = refl
-place_cut (s ∷ sections) number a zero beyond lt = rw (lt-ltb a s.virtual_address (beyond s)) refl
-place_cut (s ∷ sections) number a (suc k) beyond lt = rw (place_cut sections (number + 1) a k beyond (omega arith)) refl
+passed_of : (sections : List ImageSectionHeader) (ends : List ℕ) (a n k d : ℕ) → ArePassed sections ends a n → k < n → get_or (greatest_ends 0 sections) k d ≤ a
+passed_of sections ends a n k d p lt = subst (λ (es : List ℕ). get_or es k d ≤ a) p.is (p.low k d (omega arith) lt)
 
--- bounds at or past one bring no number nearer than that one does
-far : (sections : List ImageSectionHeader) (a limit m : ℕ) → a < m → ((k : ℕ) (d : ImageSectionHeader) → k < length sections → m ≤ start (get_or sections k d))
-    → min (up_to_next (bounds sections) a limit) (m - a) ≡ min limit (m - a)
-far [] a limit m lt all = refl
-far (s ∷ sections) a limit m lt all =
-    let first = all 0 s (omega arith) in
-    let rest = up_to_next (bounds sections) a limit in
-    let others = far sections a limit m lt (λ k d l. all (suc k) d (omega arith)) in
-    let e = past a s.virtual_address (nearer a (end s) rest) (omega arith) in
-    let f = past a (end s) rest (omega arith) in
-    omega arith
+-- all sections are passed: the address has no place
+pub none_holds : (sections : List ImageSectionHeader) (ends : List ℕ) (a n : ℕ) → n ≤ length ends → length sections ≤ n → ArePassed sections ends a n → place sections a ≡ None
+none_holds sections ends a n le past p =
+    let len = ap length p.is ∙ length_ends 0 sections in
+    behind sections 1 0 a n (λ k d lt. passed_of sections ends a n k d p lt) (omega arith)
+    ∙ ap (λ (xs : List ImageSectionHeader). place_from (1 + n) xs a) (drop_all n sections past)
 
-count_cut : (sections : List ImageSectionHeader) (a limit k : ℕ) → ((d : ImageSectionHeader) → a < start (get_or sections k d)) → k < length sections
-    → ((i : ℕ) (d : ImageSectionHeader) → k ≤ i → i < length sections → start (get_or sections k d) ≤ start (get_or sections i d))
-    → up_to_next (bounds (take (suc k) sections)) a limit ≡ up_to_next (bounds sections) a limit
-count_cut [] a limit k beyond lt rise = refl
-count_cut (s ∷ sections) a limit zero beyond lt rise =
-    let l = beyond s in
-    let rest = up_to_next (bounds sections) a limit in
-    let others = far sections a limit s.virtual_address l (λ i d m. rise (suc i) d (omega arith) (omega arith)) in
-    let e = past a s.virtual_address (nearer a (end s) rest) l in
-    let f = past a (end s) rest (omega arith) in
-    let e' = past a s.virtual_address (nearer a (end s) limit) l in
-    let f' = past a (end s) limit (omega arith) in
-    omega arith
-count_cut (s ∷ sections) a limit (suc k) beyond lt rise =
-    ap (λ n. nearer a s.virtual_address (nearer a (end s) n)) (count_cut sections a limit k beyond (omega arith) (λ i d le m. rise (suc i) d (omega arith) (omega arith)))
+found : (sections : List ImageSectionHeader) (ends : List ℕ) (a n : ℕ) (d : ImageSectionHeader) → n < length sections → ArePassed sections ends a n
+    → place sections a ≡ place_from (1 + n) (get_or sections n d ∷ drop (n + 1) sections) a
+found sections ends a n d lt p =
+    behind sections 1 0 a n (λ k e l. passed_of sections ends a n k e p l) (omega arith)
+    ∙ ap (λ (xs : List ImageSectionHeader). place_from (1 + n) xs a) (drop_more sections n d lt)
 
--- ---- the sections that are enough
+-- the one that they find begins past the address: it has no place
+pub begins_past : (sections : List ImageSectionHeader) (ends : List ℕ) (a n : ℕ) (d : ImageSectionHeader) → n < length sections → a < (get_or sections n d).virtual_address
+    → ArePassed sections ends a n → place sections a ≡ None
+begins_past sections ends a n d lt below p = found sections ends a n d lt p ∙ rw (lt-ltb a (get_or sections n d).virtual_address below) refl
 
--- all sections tell the place of an address as all of them do
-pub all_are_enough : (sections : List ImageSectionHeader) (a : ℕ) → AreEnough sections a 0 (length sections)
-all_are_enough sections a =
-    let whole = take_rest sections 0 in
-    record { order = omega arith; within = omega arith; place = ap (λ xs. place_from 1 xs a) whole; count = λ limit. ap (λ xs. up_to_next (bounds xs) a limit) whole }
-
--- where sections ascend, their starts don't fall
-pub starts_rise : (sections : List ImageSectionHeader) → DoAscend sections → IsNonDecreasingBy start sections
-starts_rise sections order = IsNonDecreasingBy-from_all_adjacent start sections (λ k d lt. let le = order k d lt in omega arith)
-
--- as many as are left, or up to one that begins past the address
-module _ (sections : List ImageSectionHeader) (a from begun : ℕ) (order : DoAscend sections) (le : begun ≤ length sections) (less : from ≤ begun)
-    (high : AllWithin (λ s. a < start s) sections begun (length sections)) where
-  abbrev rest : List ImageSectionHeader
-  rest = drop from sections
-
-  abbrev some : ℕ
-  some = min (begun + 1) (length sections) - from
-
-  beyond : (d : ImageSectionHeader) → begun < length sections → a < start (get_or rest (begun - from) d)
-  beyond d lt =
-      let at : from + (begun - from) ≡ begun = omega arith in
-      rw (get_or-drop from sections (begun - from) d, at) (high begun d (omega arith) lt)
-
-  rise : (i : ℕ) (d : ImageSectionHeader) → begun - from ≤ i → i < length rest → start (get_or rest (begun - from) d) ≤ start (get_or rest i d)
-  rise i d past lt =
-      let len = length-drop from sections in
-      rw (get_or-drop from sections (begun - from) d, get_or-drop from sections i d)
-      (starts_rise sections order (from + (begun - from)) (from + i) d (omega arith) (omega arith))
-
-  cut : {X : Type 0} (f : List ImageSectionHeader → X) → (begun < length sections → f (take (suc (begun - from)) rest) ≡ f rest) → f (take some rest) ≡ f rest
-  cut f there = elim (cases_lt begun (length sections)) [
-    | inl lt ↦
-        let n : some ≡ suc (begun - from) = omega arith in
-        rw n (there lt)
-    | inr all ↦
-        let n : some ≡ length sections - from = omega arith in
-        rw n (ap f (take_rest sections from))
-  ]
-
-  place_to : (number : ℕ) → place_from number (take some rest) a ≡ place_from number rest a
-  place_to number = cut (λ xs. place_from number xs a)
-      (λ lt. let len = length-drop from sections in place_cut rest number a (begun - from) (λ d. beyond d lt) (omega arith))
-
-  count_to : (limit : ℕ) → up_to_next (bounds (take some rest)) a limit ≡ up_to_next (bounds rest) a limit
-  count_to limit = cut (λ xs. up_to_next (bounds xs) a limit)
-      (λ lt. let len = length-drop from sections in count_cut rest a limit (begun - from) (λ d. beyond d lt) (omega arith) rise)
-
-nearest_two : (sections : List ImageSectionHeader) (a begun : ℕ) → DoAscend sections → begun ≤ length sections
-    → AllWithin (λ s. s.virtual_address ≤ a) sections 0 begun → AllWithin (λ s. a < s.virtual_address) sections begun (length sections)
-    → AreEnough sections a (begun - 1) (min (begun + 1) (length sections))
-nearest_two sections a begun order le low high =
-    let before : (k : ℕ) (d : ImageSectionHeader) → k < begun - 1 → end (get_or sections k d) ≤ a = λ k d lt.
-    let next = order k d (omega arith) in
-    let l = low (k + 1) d (omega arith) (omega arith) in
-    omega arith in
-    let one : begun - 1 + 1 ≡ 1 + (begun - 1) = omega arith in
-    record {
-      order = omega arith;
-      within = omega arith;
-      place =
-          place_to sections a (begun - 1) begun order le (omega arith) high (begun - 1 + 1)
-          ∙ ap (λ n. place_from n (drop (begun - 1) sections) a) one
-          ∙ sym (place_behind sections 1 a (begun - 1) before (omega arith));
-      count = λ limit.
-          count_to sections a (begun - 1) begun order le (omega arith) high limit
-          ∙ sym (count_behind sections a limit (begun - 1) before (omega arith));
-    }
-
--- where sections ascend, the last that begins at or below an address and the next one are enough for its place
-pub two_are_enough : (sections : List ImageSectionHeader) (a begun from to : ℕ) → from ≡ begun - 1 → to ≡ min (begun + 1) (length sections) → DoAscend sections → begun ≤ length sections
-    → AllWithin (λ s. s.virtual_address ≤ a) sections 0 begun → AllWithin (λ s. a < s.virtual_address) sections begun (length sections)
-    → AreEnough sections a from to
-two_are_enough sections a begun from to first last order le low high =
-    rw (first, last) (nearest_two sections a begun order le low high)
+-- and else it holds the address
+pub holds : (sections : List ImageSectionHeader) (ends : List ℕ) (a n : ℕ) (d : ImageSectionHeader) → n < length sections → (get_or sections n d).virtual_address ≤ a
+    → ArePassed sections ends a n → place sections a ≡ place_in (n + 1) (a - (get_or sections n d).virtual_address)
+holds sections ends a n d lt above p =
+    let len = ap length p.is ∙ length_ends 0 sections in
+    let beyond : a < get_or (greatest_ends 0 sections) n 0 = subst (λ (es : List ℕ). a < get_or es n 0) p.is (p.high n 0 (omega arith) (omega arith)) in
+    let end = ends_past sections 0 a n d (omega arith) (λ k e l. passed_of sections ends a n k e p l) lt beyond in
+    let one : 1 + n ≡ n + 1 = omega arith in
+    found sections ends a n d lt p
+    ∙ rw (one, le-ltb a (get_or sections n d).virtual_address above, lt-ltb (a - (get_or sections n d).virtual_address) (get_or sections n d).virtual_size (omega arith)) refl

@@ -1,9 +1,14 @@
 -- The distance to the next bound of a section, and the places up to it.
-use Rattle.std.proofs.Common.{◌≡◌, ℕ, ◌+◌, ◌-◌, ◌<◌, ◌≤◌, min, inl, inr, List, [], ◌∷◌, length, get_or, drop, refl, sym, ap, ◌∙◌, arith}
+use Rattle.std.proofs.Common.{◌≡◌, ℕ, zero, suc, ◌+◌, ◌-◌, ◌<◌, ◌≤◌, min, inl, inr, List, [], ◌∷◌, ◌++◌, length, get_or, drop, refl, sym, ap, subst, ◌∙◌, append_assoc, arith}
 use Rattle.std.specs.Prelude.{nat_le}
+use Rattle.std.specs.List.{All, AllWithin}
+use Rattle.std.specs.List.Sorted.{IsPermutation, IsSorted, IsNonDecreasing}
+use Rattle.std.specs.Ordering.{nat_cmp}
 use Rattle.std.proofs.lemmas.Bool.{lt-ltb, le-ltb, cases_lt, cases_Bool}
-use Rattle.std.proofs.lemmas.List.{drop_more, drop_all}
+use Rattle.std.proofs.lemmas.List.{append-nil, drop_more, drop_all, get_or_default}
+use Rattle.std.proofs.lemmas.List.Sorted.{All-permutation, IsPermutation-sym, IsNonDecreasingBy-from_sort}
 use Rattle.pdb_addresses.specs.declared.sections.ImageSectionHeader.{ImageSectionHeader}
+use Rattle.pdb_addresses.specs.SectionOrder.{end_of, AreInOrder}
 use Rattle.pdb_addresses.specs.SectionRun.{bounds, nearer, up_to_next, place_on}
 use Rattle.pdb_addresses.specs.Sections.{place_in, place_from}
 
@@ -15,32 +20,82 @@ past a b n lt = rw (lt-ltb a b lt) refl
 pub passed : (a b n : ℕ) → b ≤ a → nearer a b n ≡ n
 passed a b n le = rw (le-ltb a b le) refl
 
-commute : (a b c n : ℕ) → nearer a b (nearer a c n) ≡ nearer a c (nearer a b n)
-commute a b c n = elim (cases_lt a b) [
-  | inl l ↦ elim (cases_lt a c) [ inl m ↦ rw (lt-ltb a b l, lt-ltb a c m) (omega arith) | inr m ↦ rw (lt-ltb a b l, le-ltb a c m) refl ]
-  | inr l ↦ elim (cases_lt a c) [ inl m ↦ rw (le-ltb a b l, lt-ltb a c m) refl | inr m ↦ rw (le-ltb a b l, le-ltb a c m) refl ]
+-- ---- the next of several bounds
+
+most : (bs : List ℕ) (a n : ℕ) → up_to_next bs a n ≤ n
+most [] a n = omega arith
+most (b ∷ bs) a n = let le = most bs a n in elim (cases_lt a b) [
+  | inl l ↦ let e = past a b (up_to_next bs a n) l in omega arith
+  | inr l ↦ let e = passed a b (up_to_next bs a n) l in omega arith
 ]
 
-into : (bs : List ℕ) (a b n : ℕ) → nearer a b (up_to_next bs a n) ≡ up_to_next bs a (nearer a b n)
-into [] a b n = refl
-into (c ∷ bs) a b n = commute a b c (up_to_next bs a n) ∙ ap (nearer a c) (into bs a b n)
+-- no bound past the address is nearer
+least : (bs : List ℕ) (a n i d : ℕ) → i < length bs → a < get_or bs i d → up_to_next bs a n ≤ get_or bs i d - a
+least [] a n i d lt l = absurd (omega arith)
+least (b ∷ bs) a n zero d lt l = let e = past a b (up_to_next bs a n) l in omega arith
+least (b ∷ bs) a n (suc i) d lt l =
+    let le = least bs a n i d (omega arith) l in
+    elim (cases_lt a b) [ inl m ↦ let e = past a b (up_to_next bs a n) m in omega arith | inr m ↦ let e = passed a b (up_to_next bs a n) m in omega arith ]
 
--- one section's bounds more taken into the count
-pub run_more : (sections : List ImageSectionHeader) (a i count total : ℕ) (d : ImageSectionHeader) → i < length sections
-    → up_to_next (bounds (drop i sections)) a count ≡ total
-    → up_to_next (bounds (drop (i + 1) sections)) a (nearer a ((get_or sections i d).virtual_address + (get_or sections i d).virtual_size) (nearer a (get_or sections i d).virtual_address count)) ≡ total
-run_more sections a i count total d lt so_far =
-    let s = get_or sections i d in
-    let others = bounds (drop (i + 1) sections) in
-    let end = s.virtual_address + s.virtual_size in
-    let now : up_to_next (bounds (drop i sections)) a count ≡ nearer a s.virtual_address (nearer a end (up_to_next others a count)) = ap (λ xs. up_to_next (bounds xs) a count) (drop_more sections i d lt) in
-    let moved_in : nearer a s.virtual_address (nearer a end (up_to_next others a count)) ≡ up_to_next others a (nearer a end (nearer a s.virtual_address count)) =
-    ap (nearer a s.virtual_address) (into others a end count) ∙ into others a s.virtual_address (nearer a end count) ∙ ap (up_to_next others a) (commute a s.virtual_address end count) in
-    sym (now ∙ moved_in) ∙ so_far
+-- and of the numbers of which that holds it is the greatest
+greatest : (bs : List ℕ) (a n m : ℕ) → m ≤ n → All (λ b. a < b → m ≤ b - a) bs → m ≤ up_to_next bs a n
+greatest [] a n m le all = le
+greatest (b ∷ bs) a n m le all =
+    let rest = greatest bs a n m le (λ i d lt. all (suc i) d (omega arith)) in
+    elim (cases_lt a b) [
+      | inl l ↦ let one = all 0 b (omega arith) l in let e = past a b (up_to_next bs a n) l in omega arith
+      | inr l ↦ let e = passed a b (up_to_next bs a n) l in omega arith
+    ]
 
--- all bounds are taken: the count is the whole one
-pub run_done : (sections : List ImageSectionHeader) (a i count total : ℕ) → length sections ≤ i → up_to_next (bounds (drop i sections)) a count ≡ total → count ≡ total
-run_done sections a i count total le so_far = sym (ap (λ xs. up_to_next (bounds xs) a count) (drop_all i sections le)) ∙ so_far
+no_nearer : (bs cs : List ℕ) (a n : ℕ) → IsPermutation bs cs → up_to_next bs a n ≤ up_to_next cs a n
+no_nearer bs cs a n moved =
+    greatest cs a n (up_to_next bs a n) (most bs a n) (All-permutation (λ b. a < b → up_to_next bs a n ≤ b - a) bs cs moved (λ i d lt l. least bs a n i d lt l))
+
+-- the order of the bounds is nothing to it
+pub next_in_order : (bs cs : List ℕ) (a n : ℕ) → AreInOrder bs cs → up_to_next cs a n ≡ up_to_next bs a n
+next_in_order bs cs a n order =
+    let le = no_nearer bs cs a n order.same in
+    let ge = no_nearer cs bs a n (IsPermutation-sym bs cs order.same) in
+    omega arith
+
+-- no bound lies past the address
+pub none_past : (bs : List ℕ) (a n i : ℕ) → length bs ≤ i → AllWithin (λ b. b ≤ a) bs 0 i → up_to_next bs a n ≡ n
+none_past bs a n i le low =
+    let more = greatest bs a n n (omega arith) (λ k d lt l. let below = low k d (omega arith) (omega arith) in absurd (omega arith)) in
+    let less = most bs a n in
+    omega arith
+
+-- where bounds don't fall, the first past the address is the next
+pub first_past : (bs : List ℕ) (a n i d : ℕ) → IsNonDecreasing bs → i < length bs → d ≡ get_or bs i d → AllWithin (λ b. b ≤ a) bs 0 i → AllWithin (λ b. a < b) bs i (length bs) → up_to_next bs a n ≡ nearer a d n
+first_past bs a n i d rise lt is low high =
+    let l = high i d (omega arith) lt in
+    let e = past a d n (omega arith) in
+    let far = most bs a n in
+    let near = least bs a n i d lt l in
+    let all : All (λ b. a < b → min n (get_or bs i d - a) ≤ b - a) bs = λ k f m beyond. elim (cases_lt k i) [
+      | inl before ↦ let below = low k f (omega arith) before in absurd (omega arith)
+      | inr after ↦ let up = rise i k f after m in let same = get_or_default bs i d f lt in omega arith
+    ] in
+    let more = greatest bs a n (min n (get_or bs i d - a)) (omega arith) all in
+    omega arith
+
+-- ---- where sections start and end
+
+-- one section more
+pub bounds_more : (sections : List ImageSectionHeader) (i : ℕ) (so_far total : List ℕ) (d : ImageSectionHeader) → i < length sections
+    → so_far ++ bounds (drop i sections) ≡ total
+    → so_far ++ (get_or sections i d).virtual_address ∷ [] ++ end_of (get_or sections i d) ∷ [] ++ bounds (drop (i + 1) sections) ≡ total
+bounds_more sections i so_far total d lt is =
+    append_assoc (so_far ++ (get_or sections i d).virtual_address ∷ []) (end_of (get_or sections i d) ∷ []) (bounds (drop (i + 1) sections))
+    ∙ append_assoc so_far ((get_or sections i d).virtual_address ∷ []) (end_of (get_or sections i d) ∷ bounds (drop (i + 1) sections))
+    ∙ sym (ap (λ (xs : List ImageSectionHeader). so_far ++ bounds xs) (drop_more sections i d lt)) ∙ is
+
+-- all sections, and the bounds brought into order
+pub bounds_done : (sections : List ImageSectionHeader) (i : ℕ) (so_far total ascending : List ℕ) → length sections ≤ i → so_far ++ bounds (drop i sections) ≡ total
+    → IsPermutation so_far ascending → IsSorted nat_cmp ascending → AreInOrder total ascending
+bounds_done sections i so_far total ascending le is moved sorted =
+    let all : so_far ≡ total = sym (append-nil so_far) ∙ sym (ap (λ (xs : List ImageSectionHeader). so_far ++ bounds xs) (drop_all i sections le)) ∙ is in
+    record { same = subst (λ (bs : List ℕ). IsPermutation bs ascending) all moved; rise = IsNonDecreasingBy-from_sort (λ b. b) ascending sorted }
 
 -- ---- what holds up to the next bound
 

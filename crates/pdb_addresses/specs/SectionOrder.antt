@@ -1,21 +1,24 @@
--- Sections that lie one behind the other, and those of them that are enough to tell what concerns an address.
-use Rattle.std.specs.Prelude.{◌≡◌, ℕ, ◌+◌, ◌≤◌, List, length, slice_range}
-use Rattle.std.specs.List.{AllAdjacentBelow}
+-- What is kept of sections, in any order, so that what concerns an address is found by halving.
+use Rattle.std.specs.Prelude.{◌≡◌, ℕ, ◌+◌, max, List, [], ◌∷◌}
+use Rattle.std.specs.List.Sorted.{IsPermutation, IsNonDecreasing}
 use Rattle.pdb_addresses.specs.declared.sections.ImageSectionHeader.{ImageSectionHeader}
-use Rattle.pdb_addresses.specs.SectionRun.{bounds, up_to_next}
-use Rattle.pdb_addresses.specs.Sections.{place_from, place}
+use Rattle.pdb_addresses.specs.SectionRun.{bounds}
 
--- a section begins at or past the end of another, which can lie past 32 bits
-abbrev pub IsBehind : ImageSectionHeader → ImageSectionHeader → Type 0
-IsBehind other s = other.virtual_address + other.virtual_size ≤ s.virtual_address
+-- where a section ends, which can lie past 32 bits
+abbrev pub end_of : ImageSectionHeader → ℕ
+end_of s = s.virtual_address + s.virtual_size
 
--- each section begins at or past the end of the one before it
-abbrev pub DoAscend : List ImageSectionHeader → Type 0
-DoAscend sections = AllAdjacentBelow IsBehind sections (length sections)
+-- the greatest of a number and of the ends of the sections up to each one
+abbrev pub greatest_ends : ℕ → List ImageSectionHeader → List ℕ
+greatest_ends far [] = []
+greatest_ends far (s ∷ sections) = max far (end_of s) ∷ greatest_ends (max far (end_of s)) sections
 
--- the sections from one index to another tell the place of an address, and the next bound past it, as all of them do
-pub record AreEnough (sections : List ImageSectionHeader) (address start end : ℕ) : Type 0 where
-  pub order : start ≤ end
-  pub within : end ≤ length sections
-  pub place : place_from (start + 1) (slice_range sections start end) address ≡ place sections address
-  pub count : (limit : ℕ) → up_to_next (bounds (slice_range sections start end)) address limit ≡ up_to_next (bounds sections) address limit
+-- the same numbers, in ascending order
+pub record AreInOrder (numbers ascending : List ℕ) : Type 0 where
+  pub same : IsPermutation numbers ascending
+  pub rise : IsNonDecreasing ascending
+
+-- what is kept of sections: the greatest end up to each one, and where all start and end, in ascending order
+pub record AreKept (sections : List ImageSectionHeader) (greatest ascending : List ℕ) : Type 0 where
+  pub ends : greatest ≡ greatest_ends 0 sections
+  pub bounds : AreInOrder (bounds sections) ascending

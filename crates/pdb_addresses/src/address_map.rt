@@ -1,6 +1,6 @@
 //! The sections of an image and of the space in which its database was written, and the ways between them.
 
-ghost use Rattle.std.specs.Prelude.{◌≡◌, option_map};
+ghost use Rattle.std.specs.Prelude.{◌≡◌, option_map, IfOk};
 ghost use Rattle.std.specs.Bool.{Decides};
 ghost use Rattle.pdb_addresses.specs.Addresses.{map_of, IsInOrder, IsOrdered, is_in_order as in_order, is_ordered, inner, outer};
 ghost use Rattle.pdb_addresses.specs.Omap.{translated, records_of};
@@ -8,6 +8,7 @@ ghost use Rattle.pdb_addresses.specs.Omap.{translated, records_of};
 use crate::omap::{OMAPRecord, are_sources_in_order, lookup};
 use crate::section_list::SectionList;
 use crate::sections::ImageSectionHeader;
+use std::alloc::{AllocError, Global};
 use std::marker::{Model, PhantomData};
 
 /// The way from the addresses of an image to those of its database, and back. The two differ where a tool has moved the
@@ -35,20 +36,21 @@ impl<'s> AddressMap<'s> {
     /// that space is the image's, and the other two aren't used. `to_original` leads from addresses of the image into
     /// that space, `to_image` from there to the image; without one of them addresses keep their numbers that way.
     pub fn new(
+        alloc: Global,
         original_sections: Option<Vec<ImageSectionHeader>>,
         image_sections: Vec<ImageSectionHeader>,
         to_original: Option<Vec<OMAPRecord>>,
         to_image: Option<Vec<OMAPRecord>>,
-    ) -> AddressMap<'s>
-        ensures { result ≡ map_of (option_map (λ v. v.items) original_sections) image_sections.items (option_map (λ v. v.items) to_original) (option_map (λ v. v.items) to_image) }
+    ) -> Result<AddressMap<'s>, AllocError>
+        ensures { IfOk result (λ m. m ≡ map_of (option_map (λ v. v.items) original_sections) image_sections.items (option_map (λ v. v.items) to_original) (option_map (λ v. v.items) to_image)) }
     {
-        AddressMap {
-            original_sections: original_sections.map(SectionList::new),
-            image_sections: SectionList::new(image_sections),
+        Ok(AddressMap {
+            original_sections: list_if_there(alloc, original_sections)?,
+            image_sections: SectionList::new(alloc, image_sections)?,
             to_original,
             to_image,
             of: PhantomData,
-        }
+        })
     }
 
     /// Whether translations may be asked for: whether no source of either map lies below the one before it.
@@ -117,6 +119,19 @@ impl<'s> AddressMap<'s> {
         ensures { result ≡ outer self.now address }
     {
         translate(self.to_image(), address)
+    }
+}
+
+/// The list of sections, if there are any.
+fn list_if_there(
+    alloc: Global,
+    sections: Option<Vec<ImageSectionHeader>>,
+) -> Result<Option<SectionList>, AllocError>
+    ensures { IfOk result (λ s. s ≡ option_map (λ v. v.items) sections) }
+{
+    match sections {
+        None => Ok(None),
+        Some(headers) => Ok(Some(SectionList::new(alloc, headers)?)),
     }
 }
 

@@ -1,46 +1,54 @@
 //! Lists of sections: the places of addresses in them, and the addresses of places.
 
-ghost use Rattle.std.specs.Prelude.{◌≡◌, ◌+◌, ◌<◌, ◌≤◌, ◌^◌, length, option_map};
-ghost use Rattle.std.specs.Bool.{Decides};
+ghost use Rattle.std.specs.Prelude.{◌≡◌, ◌+◌, ◌<◌, ◌≤◌, ◌^◌, length, option_map, IfOk};
 ghost use Rattle.std.specs.List.{AllWithin};
+ghost use Rattle.std.specs.List.Sorted.{IsNonDecreasing};
+ghost use Rattle.pdb_addresses.specs.SectionOrder.{end_of as end_of_section, greatest_ends as greatest_ends_from, AreInOrder};
 ghost use Rattle.pdb_addresses.specs.Places.{image_place, as_internal};
-ghost use Rattle.pdb_addresses.specs.SectionOrder.{IsBehind, DoAscend, AreEnough};
 ghost use Rattle.pdb_addresses.specs.SectionRun.{bounds, nearer as nearer_of, up_to_next};
-ghost use Rattle.pdb_addresses.specs.Sections.{place_in, place_from, place as place_of, address as address_of};
+ghost use Rattle.pdb_addresses.specs.Sections.{place_in, place as place_of, address as address_of};
 
 use crate::internal_section_offset::PdbInternalSectionOffset;
 use crate::section_offset::SectionOffset;
 use crate::sections::ImageSectionHeader;
+use std::alloc::{AllocError, Global};
 use std::marker::Model;
-use std::ops::Range;
 
-/// The sections of a space, and whether each begins at or past the end of the one before it. Where they do, as in an
-/// image that a loader takes, what concerns an address is found by halving, and else by a walk over all of them.
+/// The sections of a space, in any order, and what is kept of them so that what concerns an address is found by halving:
+/// the greatest end of the sections up to each one, and where sections start and end, in ascending order.
 #[derive(Debug, Drop)]
 pub(crate) struct SectionList {
     headers: Vec<ImageSectionHeader>,
-    ascending: bool,
+    ends: Vec<u64>,
+    bounds: Vec<u64>,
 }
 
 impl Model for SectionList {
     ghost use Rattle.std.specs.Prelude.{List};
-    ghost use Rattle.std.specs.Bool.{Decides};
-    ghost use Rattle.pdb_addresses.specs.SectionOrder.{DoAscend};
+    ghost use Rattle.pdb_addresses.specs.SectionOrder.{AreKept};
     ghost use Rattle.pdb_addresses.specs.declared.sections.ImageSectionHeader.{ImageSectionHeader as Header};
 
     ghost Value = { List Header };
 
     ghost view = { λ s. s.headers.items };
 
-    ghost invariant = { λ s. Decides s.ascending (DoAscend s.headers.items) };
+    ghost invariant = { λ s. AreKept s.headers.items s.ends.items s.bounds.items };
 }
 
 impl SectionList {
-    pub(crate) fn new(headers: Vec<ImageSectionHeader>) -> SectionList
-        ensures { result ≡ headers.items }
+    pub(crate) fn new(
+        alloc: Global,
+        headers: Vec<ImageSectionHeader>,
+    ) -> Result<SectionList, AllocError>
+        ensures { IfOk result (λ s. s ≡ headers.items) }
     {
-        let ascending = do_ascend(&headers);
-        SectionList { headers, ascending }
+        let ends = greatest_ends(alloc, &headers)?;
+        let bounds = bounds_in_order(alloc, &headers)?;
+        Ok(SectionList {
+            headers,
+            ends,
+            bounds,
+        })
     }
 
     /// The headers.
@@ -55,21 +63,19 @@ impl SectionList {
     pub(crate) fn place(&self, address: u32) -> Option<SectionOffset>
         ensures { result ≡ option_map image_place (place_of self.now address) }
     {
-        let near = near(&self.headers, self.ascending, address);
-        place_among(&self.headers[near.start..near.end], near.start, address)
+        place_among(&self.headers, &self.ends, address)
     }
 
     /// The place of an address, and the lesser of `limit` and the distance to the next start or end of a section past
     /// it.
+    #[tactic(auto, using(crate::proofs::RunSteps::next_in_order))]
     pub(crate) fn run(&self, address: u32, limit: u32) -> (Option<SectionOffset>, u32)
         ensures place { result.0 ≡ option_map image_place (place_of self.now address) }
         ensures count { result.1 ≡ up_to_next (bounds self.now) address limit }
     {
-        let near = near(&self.headers, self.ascending, address);
-        let sections = &self.headers[near.start..near.end];
         (
-            place_among(sections, near.start, address),
-            run_length(sections, address, limit),
+            place_among(&self.headers, &self.ends, address),
+            run_length(&self.bounds, address, limit),
         )
     }
 
@@ -94,72 +100,65 @@ pub(crate) fn internal(place: Option<SectionOffset>) -> Option<PdbInternalSectio
     }
 }
 
-/// Whether each section begins at or past the end of the one before it.
-#[tactic(auto, using(crate::proofs::OrderSteps::ascent_start, crate::proofs::OrderSteps::ascent_more, crate::proofs::OrderSteps::ascent_done, crate::proofs::OrderSteps::descends))]
-fn do_ascend(sections: &[ImageSectionHeader]) -> bool
-    ensures { Decides result (DoAscend sections.now) }
+/// Where a section ends, which can lie past 32 bits.
+fn end_of(section: &ImageSectionHeader) -> u64
+    ensures { result ≡ end_of_section section.now }
 {
-    for i in 1..sections.len() {
-        if !is_behind(&sections[i - 1], &sections[i]) {
-            return false;
-        }
+    u64::from(section.virtual_address) + u64::from(section.virtual_size)
+}
+
+/// The greatest end of the sections up to each one.
+#[tactic(auto, using(crate::proofs::OrderSteps::ends_start, crate::proofs::OrderSteps::ends_more, crate::proofs::OrderSteps::ends_done))]
+fn greatest_ends(alloc: Global, sections: &[ImageSectionHeader]) -> Result<Vec<u64>, AllocError>
+    ensures { IfOk result (λ v. v.items ≡ greatest_ends_from 0 sections.now) }
+{
+    let mut ends = Vec::new(alloc);
+    let mut greatest = 0;
+    for section in sections {
+        greatest = greatest.max(end_of(section));
+        ends.push(greatest)?;
     }
-    true
+    Ok(ends)
 }
 
-/// Whether a section begins at or past the end of another, which can lie past 32 bits.
-fn is_behind(other: &ImageSectionHeader, section: &ImageSectionHeader) -> bool
-    ensures { Decides result (IsBehind other.now section.now) }
+/// Where sections start and end, in ascending order.
+#[tactic(auto, using(crate::proofs::RunSteps::bounds_more))]
+fn bounds_in_order(alloc: Global, sections: &[ImageSectionHeader]) -> Result<Vec<u64>, AllocError>
+    ensures { IfOk result (λ v. AreInOrder (bounds sections.now) v.items) }
 {
-    u64::from(other.virtual_address) + u64::from(other.virtual_size)
-        <= u64::from(section.virtual_address)
-}
-
-/// How many sections begin at or below an address, where they ascend. It halves.
-fn begun(sections: &[ImageSectionHeader], address: u32) -> usize
-    requires { DoAscend sections.now }
-    ensures bound { result ≤ length sections.now }
-    ensures low { AllWithin (λ s. s.virtual_address ≤ address) sections.now 0 result }
-    ensures high { AllWithin (λ s. address < s.virtual_address) sections.now result (length sections.now) }
-{
-    sections.partition_point(|section| section.virtual_address <= address)
-}
-
-/// The indices of sections that tell the place of an address and the next bound past it as all of them do: where they
-/// ascend, of the last that begins at or below the address and of the one behind it; else of all of them.
-#[tactic(auto, using(crate::proofs::OrderSteps::all_are_enough))]
-fn near(sections: &[ImageSectionHeader], ascending: bool, address: u32) -> Range<usize>
-    requires { Decides ascending (DoAscend sections.now) }
-    ensures { AreEnough sections.now address result.start result.end }
-{
-    let len = sections.len();
-    if !ascending {
-        return 0..len;
+    let mut bounds = Vec::new(alloc);
+    for section in sections {
+        bounds.push(u64::from(section.virtual_address))?;
+        bounds.push(end_of(section))?;
     }
-    let begun = begun(sections, address);
-    begun.saturating_sub(1)..begun.saturating_add(1).min(len)
+    bounds.sort_unstable();
+    Ok(bounds)
 }
 
-/// The place of an address among sections that so many others stand before.
-#[tactic(auto, using(crate::proofs::PlaceSteps::place_stops, crate::proofs::PlaceSteps::place_holds, crate::proofs::PlaceSteps::place_goes_on, crate::proofs::PlaceSteps::place_ends))]
-fn place_among(
-    sections: &[ImageSectionHeader],
-    before: usize,
-    address: u32,
-) -> Option<SectionOffset>
-    requires { before + length sections.now < 2 ^ 64 }
-    ensures { result ≡ option_map image_place (place_from (before + 1) sections.now address) }
+/// How many numbers, which don't fall, lie at or below an address. It halves.
+fn passed(numbers: &[u64], address: u32) -> usize
+    requires { IsNonDecreasing numbers.now }
+    ensures bound { result ≤ length numbers.now }
+    ensures low { AllWithin (λ n. n ≤ address) numbers.now 0 result }
+    ensures high { AllWithin (λ n. address < n) numbers.now result (length numbers.now) }
 {
-    for (index, section) in sections.iter().enumerate() {
-        if address < section.virtual_address {
-            return None;
-        }
-        let offset = address - section.virtual_address;
-        if offset < section.virtual_size {
-            return numbered(before + index, offset);
-        }
+    numbers.partition_point(|number| *number <= u64::from(address))
+}
+
+/// The place of an address. No section before the first one whose greatest end lies past the address holds it, and that
+/// one ends there: it holds the address exactly if it begins at or below it.
+fn place_among(sections: &[ImageSectionHeader], ends: &[u64], address: u32) -> Option<SectionOffset>
+    requires { ends.now ≡ greatest_ends_from 0 sections.now }
+    ensures { result ≡ option_map image_place (place_of sections.now address) }
+{
+    let index = passed(ends, address);
+    let Some(section) = sections.get(index) else {
+        return None;
+    };
+    match address.checked_sub(section.virtual_address) {
+        None => None,
+        Some(offset) => numbered(index, offset),
     }
-    None
 }
 
 /// The place at an offset of the section with that index, counted from 0; `None` past section 65535.
@@ -173,18 +172,16 @@ fn numbered(index: usize, offset: u32) -> Option<SectionOffset>
     Some(SectionOffset { offset, section })
 }
 
-/// The lesser of `limit` and the distance to the next start or end of a section past an address.
-#[tactic(auto, using(crate::proofs::RunSteps::run_more, crate::proofs::RunSteps::run_done))]
-fn run_length(sections: &[ImageSectionHeader], address: u32, limit: u32) -> u32
-    ensures { result ≡ up_to_next (bounds sections.now) address limit }
+/// The lesser of `limit` and the distance to the first of some bounds, which don't fall, past an address.
+#[tactic(auto, using(crate::proofs::RunSteps::none_past, crate::proofs::RunSteps::first_past))]
+fn run_length(bounds: &[u64], address: u32, limit: u32) -> u32
+    requires { IsNonDecreasing bounds.now }
+    ensures { result ≡ up_to_next bounds.now address limit }
 {
-    let mut count = limit;
-    for section in sections {
-        let start = u64::from(section.virtual_address);
-        let end = start + u64::from(section.virtual_size);
-        count = nearer(address, end, nearer(address, start, count));
+    match bounds.get(passed(bounds, address)) {
+        None => limit,
+        Some(bound) => nearer(address, *bound, limit),
     }
-    count
 }
 
 /// The lesser of `far` and the distance to a bound, if that lies past an address.

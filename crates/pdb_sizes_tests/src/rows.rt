@@ -33,12 +33,13 @@ fn section(alloc: Global) -> Result<Vec<ImageSectionHeader>, AllocError> {
 fn moved(alloc: Global) -> Result<AddressMap<'static>, AllocError> {
     let inward = records(alloc, &[(0x2000, 0x1010), (0x2008, 0)])?;
     let outward = records(alloc, &[(0x1010, 0x2000)])?;
-    Ok(AddressMap::new(
+    AddressMap::new(
+        alloc,
         Some(section(alloc)?),
         section(alloc)?,
         Some(inward),
         Some(outward),
-    ))
+    )
 }
 
 /// The report's text and the lookups.
@@ -58,7 +59,7 @@ fn sizes(
 
 /// One section, and no map.
 fn plain(alloc: Global) -> Result<AddressMap<'static>, AllocError> {
-    Ok(AddressMap::new(None, section(alloc)?, None, None))
+    AddressMap::new(alloc, None, section(alloc)?, None, None)
 }
 
 #[test]

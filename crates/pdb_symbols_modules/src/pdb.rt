@@ -309,7 +309,7 @@ impl<'s, S: Source + Drop> PDB<'s, S> {
         ensures { AnswersFrom S.bytes S.failures self.old self.new (λ m. m) result (map_with (optional_stream (streams (S.bytes self.old)) debug_information.now) image.items (option_map (λ v. v.items) original)) }
     {
         match original {
-            None => Ok(AddressMap::new(None, image, None, None)),
+            None => Ok(AddressMap::new(alloc, None, image, None, None)?),
             Some(original) => self.map_between(alloc, debug_information, image, original),
         }
     }
@@ -329,7 +329,7 @@ impl<'s, S: Source + Drop> PDB<'s, S> {
         let to_original = omap_in(alloc, to_source)?;
         let from_source = self.optional_stream(alloc, debug_information, OMAP_FROM_SOURCE)?;
         let to_image = omap_in(alloc, from_source)?;
-        Ok(AddressMap::new(Some(original), image, to_original, to_image))
+        Ok(AddressMap::new(alloc, Some(original), image, to_original, to_image)?)
     }
 }
 
