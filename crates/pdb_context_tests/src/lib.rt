@@ -8,4 +8,8 @@ mod files;
 #[cfg(test)]
 mod functions;
 #[cfg(test)]
+mod nested_sites;
+#[cfg(test)]
+mod provider_calls;
+#[cfg(test)]
 mod runs;
