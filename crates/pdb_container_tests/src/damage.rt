@@ -8,22 +8,22 @@ use std::io::ErrorKind;
 use std::test::Fail;
 
 /// A page lies past the file's end.
-const PAST_END: Error = Error::IoError(ErrorKind::UnexpectedEof);
+pub const PAST_END: Error = Error::IoError(ErrorKind::UnexpectedEof);
 
 /// The place of the page size in the header.
 const PAGE_SIZE: usize = 32;
 
 /// The place of the number of pages used.
-const PAGES_USED: usize = 40;
+pub const PAGES_USED: usize = 40;
 
 /// The place of the directory's size.
-const DIRECTORY_SIZE: usize = 44;
+pub const DIRECTORY_SIZE: usize = 44;
 
 /// The place of the number of the list's page.
-const LIST_PAGE: usize = 52;
+pub const LIST_PAGE: usize = 52;
 
 /// The place, in the list, of the number of the directory's page.
-const DIRECTORY_PAGE: usize = 0x100;
+pub const DIRECTORY_PAGE: usize = 0x100;
 
 /// The place of the size of stream 0.
 const SIZE_0: usize = 0x204;
@@ -35,7 +35,15 @@ const SIZE_3: usize = 0x210;
 const PAGES_0: usize = 0x214;
 
 /// Places in a file, and the numbers that are written there.
-type Numbers = &'static [(usize, u32)];
+pub type Numbers = &'static [(usize, u32)];
+
+/// Writes numbers over a file's bytes at places.
+pub fn write_numbers(bytes: &mut [u8], numbers: &[(usize, u32)]) -> Result<(), SampleError> {
+    for (at, number) in numbers {
+        overwrite(bytes, *at, &number.to_le_bytes())?;
+    }
+    Ok(())
+}
 
 /// A file with pages of 0x100 bytes, and numbers written over its bytes at places. Page 1 is the list, 2 the directory,
 /// 3 to 22 are stream 0, and 23 is stream 3; stream 1 is absent and stream 2 empty. The directory's 26 numbers take
@@ -44,9 +52,7 @@ fn damaged(alloc: Global, numbers: &[(usize, u32)]) -> Result<Vec<u8>, SampleErr
     let lengths = [Some(5000), None, Some(0), Some(10)];
     let description = container(alloc, 0x100, PageOrder::Natural, &lengths)?;
     let mut bytes = file(alloc, &description)?;
-    for (at, number) in numbers {
-        overwrite(bytes.as_mut_slice(), *at, &number.to_le_bytes())?;
-    }
+    write_numbers(bytes.as_mut_slice(), numbers)?;
     Ok(bytes)
 }
 
@@ -75,6 +81,9 @@ fn damaged_length(
 
 /// The third page of stream 0.
 const PAGE: usize = PAGES_0 + 8;
+
+/// Three pages of stream 0, all of which are page 9.
+const ONE_PAGE: Numbers = &[(SIZE_0, 768), (PAGES_0, 9), (PAGES_0 + 4, 9), (PAGE, 9)];
 
 /// Numbers that are written over a file, a stream, a limit, and how many bytes the file gives of it.
 type Row = (Numbers, u32, Option<usize>, Result<usize, Error>);
@@ -171,6 +180,12 @@ const ROWS: &[Row] = &[
     (&[(SIZE_3, 256)], 3, None, Ok(256)),
     (&[(SIZE_3, 257)], 3, Some(0), Err(Error::UnexpectedEof)),
     (&[(SIZE_0, 5121)], 3, None, Err(Error::UnexpectedEof)),
+    // Far more pages than have numbers: the other stream is there.
+    (&[(SIZE_3, 0xffff_fffe)], 0, None, Ok(5000)),
+    (&[(SIZE_3, 0xffff_fffe)], 3, None, Err(Error::UnexpectedEof)),
+    // Stream 0 is the same page three times, and stream 3 has the next number.
+    (ONE_PAGE, 3, None, Ok(10)),
+    (ONE_PAGE, 0, None, Ok(768)),
     (
         &[(SIZE_0, u32::MAX)],
         0,

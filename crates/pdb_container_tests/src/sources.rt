@@ -1,9 +1,13 @@
 //! Sources that fail for some views, and one that has only some slices.
 
+use crate::damage::{
+    DIRECTORY_PAGE, DIRECTORY_SIZE, LIST_PAGE, Numbers, PAGES_USED, PAST_END, write_numbers,
+};
 use crate::files::{container, counted, file, get};
 use pdb_container::{BigMSF, Error, Msf, ReadView, Source, SourceSlice, open_msf};
-use pdb_samples::{PageOrder, SampleError, overwrite};
+use pdb_samples::{PageOrder, SampleError};
 use std::alloc::Global;
+use std::cell::Cell;
 use std::io::{self, ErrorKind};
 use std::test::Fail;
 
@@ -130,23 +134,24 @@ fn the_directory_is_read_anew_where_the_source_failed(rt: HostRuntime) -> Result
     Ok(())
 }
 
-/// The bytes of a file, where each view behind the third has to be of these slices.
+/// The bytes of a file, where each view behind the third has to be of these slices. All views are counted.
 #[derive(Drop)]
-struct OwnPages {
+struct OwnPages<'c> {
     bytes: Vec<u8>,
-    views: u64,
+    views: &'c Cell<u64>,
     slices: &'static [(u64, usize)],
     failures: u64,
 }
 
-impl Source for OwnPages {
+impl<'c> Source for OwnPages<'c> {
     ghost bytes = { λ f. f.bytes.items };
 
     ghost failures = { λ f. f.failures };
 
     fn view(&mut self, alloc: Global, slices: &[SourceSlice]) -> io::Result<ReadView> {
-        self.views = self.views.saturating_add(1);
-        if self.views > 3 && !are_slices(slices, self.slices) {
+        let number = self.views.get();
+        self.views.set(number.saturating_add(1));
+        if number >= 3 && !are_slices(slices, self.slices) {
             self.failures = self.failures.saturating_add(1);
             return Err(ErrorKind::Other.into());
         }
@@ -170,55 +175,81 @@ fn are_slices(slices: &[SourceSlice], wanted: &[(u64, usize)]) -> bool {
     true
 }
 
-/// The length of stream 1, and why stream 0 is refused, where only these slices can be viewed.
+/// A container over these bytes, whose views are counted.
+fn counted_views<'c>(
+    alloc: Global,
+    bytes: Vec<u8>,
+    slices: &'static [(u64, usize)],
+    views: &'c Cell<u64>,
+) -> Result<BigMSF<'static, OwnPages<'c>>, Error> {
+    let source = OwnPages {
+        bytes,
+        views,
+        slices,
+        failures: 0,
+    };
+    open_msf(alloc, source)
+}
+
+/// The length of stream 1 and how many views there were then, and why stream 0 is refused, where only these slices can be
+/// viewed.
 fn by_own_pages(
     alloc: Global,
     order: PageOrder,
     slices: &'static [(u64, usize)],
-) -> Result<(usize, Option<Error>), Fail> {
-    let mut container = open_msf(
-        alloc,
-        OwnPages {
-            bytes: two_streams(alloc, order)?,
-            views: 0,
-            slices,
-            failures: 0,
-        },
-    )?;
+) -> Result<(usize, u64, Option<Error>), Fail> {
+    let views = Cell::new(0);
+    let mut container = counted_views(alloc, two_streams(alloc, order)?, slices, &views)?;
     let length = get(&mut container, alloc, 1, None)?.as_slice().len();
-    Ok((length, get(&mut container, alloc, 0, None).err()))
+    let count = views.get();
+    Ok((length, count, get(&mut container, alloc, 0, None).err()))
 }
 
 #[test]
-fn a_stream_views_its_own_pages_alone(rt: HostRuntime) -> Result<(), Fail> {
+fn a_stream_views_its_own_pages_once_and_alone(rt: HostRuntime) -> Result<(), Fail> {
     let other = Some(Error::IoError(ErrorKind::Other));
     let in_a_row = by_own_pages(rt.alloc(), PageOrder::Natural, &[(0x300, 300)])?;
-    assert_eq!(rt; in_a_row, (300, other));
+    assert_eq!(rt; in_a_row, (300, 4, other));
     let reversed: &[(u64, usize)] = &[(0x400, 0x100), (0x300, 44)];
     let apart = by_own_pages(rt.alloc(), PageOrder::StreamsReversed, reversed)?;
-    assert_eq!(rt; apart, (300, other));
+    assert_eq!(rt; apart, (300, 4, other));
     Ok(())
 }
 
-/// Why streams 0 and 1 are refused where the directory's page has number 0xff, which the file hasn't. Of the views that may fail
-/// here the header and the list need two.
-fn by_bad_directory(alloc: Global) -> Result<(Option<Error>, Option<Error>), Fail> {
+/// How many views there are by the opening and at the end, and why streams 0 and 1 are refused.
+type Refused = ([u64; 2], [Option<Error>; 2]);
+
+/// What is refused where numbers are written over the file.
+fn by_bad_directory(alloc: Global, numbers: &[(usize, u32)]) -> Result<Refused, Fail> {
     let mut bytes = two_streams(alloc, PageOrder::Natural)?;
-    overwrite(bytes.as_mut_slice(), 0x100, &0xff_u32.to_le_bytes())?;
-    let source = OwnPages {
-        bytes,
-        views: 1,
-        slices: &[],
-        failures: 0,
-    };
-    let mut container = open_msf(alloc, source)?;
+    write_numbers(bytes.as_mut_slice(), numbers)?;
+    let views = Cell::new(0);
+    let mut container = counted_views(alloc, bytes, &[], &views)?;
+    let opening = views.get();
     let first = get(&mut container, alloc, 0, None).err();
-    Ok((first, get(&mut container, alloc, 1, None).err()))
+    let second = get(&mut container, alloc, 1, None).err();
+    Ok(([opening, views.get()], [first, second]))
 }
+
+/// Numbers that are written over the file, how many views its opening takes, and why each stream is refused: a page of the
+/// directory past the number used, the list's past the file's end, the directory's there, and no count.
+const DIRECTORIES: &[(Numbers, u64, Error)] = &[
+    (
+        &[(DIRECTORY_PAGE, 0xff)],
+        2,
+        Error::PageReferenceOutOfRange(0xff),
+    ),
+    (&[(PAGES_USED, 900), (LIST_PAGE, 900)], 2, PAST_END),
+    (&[(PAGES_USED, 900), (DIRECTORY_PAGE, 900)], 3, PAST_END),
+    (&[(DIRECTORY_SIZE, 3)], 3, Error::UnexpectedEof),
+];
 
 #[test]
 fn a_directory_fault_is_kept(rt: HostRuntime) -> Result<(), Fail> {
-    let fault = Some(Error::PageReferenceOutOfRange(0xff));
-    assert_eq!(rt; by_bad_directory(rt.alloc())?, (fault, fault));
+    for (numbers, views, fault) in DIRECTORIES {
+        let refused = by_bad_directory(rt.alloc(), *numbers)?;
+        let wanted = ([*views, *views], [Some(*fault), Some(*fault)]);
+        assert_eq!(rt; refused, wanted, "{numbers:?}");
+    }
     Ok(())
 }
