@@ -13,3 +13,5 @@ mod nested_sites;
 mod provider_calls;
 #[cfg(test)]
 mod runs;
+#[cfg(test)]
+mod views;
