@@ -1,8 +1,6 @@
 -- The distance to the next of several bounds.
-use Rattle.std.proofs.Common.{◌≡◌, ℕ, ◌+◌, ◌-◌, ◌<◌, ◌≤◌, min, inl, inr, List, [], ◌∷◌, ◌++◌, length, get_or, drop, refl, sym, ap, ◌∙◌, arith}
-use Rattle.std.specs.List.{flat_map}
+use Rattle.std.proofs.Common.{◌≡◌, ℕ, ◌+◌, ◌-◌, ◌<◌, ◌≤◌, min, inl, inr, List, [], ◌∷◌, ◌++◌, refl, sym, ap, ◌∙◌, arith}
 use Rattle.std.proofs.lemmas.Bool.{lt-ltb, le-ltb, cases_lt}
-use Rattle.std.proofs.lemmas.List.{drop_more, drop_all}
 use Rattle.pdb_addresses.specs.SectionRun.{nearer, up_to_next}
 
 -- ---- one bound
@@ -43,20 +41,6 @@ last_asked (b ∷ bs) cs x far = ap (nearer x b) (last_asked bs cs x far)
 pub next_of_all : (bs cs ds : List ℕ) (x far : ℕ) → up_to_next bs x (up_to_next cs x (up_to_next ds x far)) ≡ up_to_next (bs ++ (cs ++ ds)) x far
 next_of_all bs cs ds x far = sym (last_asked bs (cs ++ ds) x far ∙ ap (up_to_next bs x) (last_asked cs ds x far))
 
--- ---- a list that is gone over
-
--- one more was asked
-pub next_more : {A : Type 0} (bounds : A → List ℕ) (xs : List A) (i x near now total : ℕ) (d : A) → i < length xs → now ≡ up_to_next (bounds (get_or xs i d)) x near
-    → up_to_next (flat_map bounds (drop i xs)) x near ≡ total → up_to_next (flat_map bounds (drop (i + 1) xs)) x now ≡ total
-next_more {A} bounds xs i x near now total d lt one so_far =
-    ap (up_to_next (flat_map bounds (drop (i + 1) xs)) x) one ∙ sym (first_asked (bounds (get_or xs i d)) (flat_map bounds (drop (i + 1) xs)) x near)
-    ∙ sym (ap (λ (ys : List A). up_to_next (flat_map bounds ys) x near) (drop_more xs i d lt)) ∙ so_far
-
--- the same, by the one that was asked
-pub next_item : {A : Type 0} (bounds : A → List ℕ) (xs : List A) (i x near now total : ℕ) (item : A) → i < length xs → item ≡ get_or xs i item → now ≡ up_to_next (bounds item) x near
-    → up_to_next (flat_map bounds (drop i xs)) x near ≡ total → up_to_next (flat_map bounds (drop (i + 1) xs)) x now ≡ total
-next_item {A} bounds xs i x near now total item lt is one so_far = next_more bounds xs i x near now total item lt (one ∙ ap (λ (y : A). up_to_next (bounds y) x near) is) so_far
-
--- all were asked
-pub next_done : {A : Type 0} (bounds : A → List ℕ) (xs : List A) (i x near total : ℕ) → length xs ≤ i → up_to_next (flat_map bounds (drop i xs)) x near ≡ total → near ≡ total
-next_done {A} bounds xs i x near total le so_far = sym (ap (λ (ys : List A). up_to_next (flat_map bounds ys) x near) (drop_all i xs le)) ∙ so_far
+-- two lists, where the third has nothing
+pub next_of_two : (bs cs : List ℕ) (x far : ℕ) → up_to_next bs x (up_to_next cs x far) ≡ up_to_next (bs ++ (cs ++ [])) x far
+next_of_two bs cs x far = next_of_all bs cs [] x far

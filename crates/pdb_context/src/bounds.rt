@@ -24,12 +24,7 @@ fn bound_number(section: u16, offset: u64) -> u64
 }
 
 /// Puts the numbers of a start and an end in a section behind others.
-fn push_bounds(
-    numbers: &mut Vec<u64>,
-    section: u16,
-    start: u64,
-    end: u64,
-) -> Result<(), AllocError>
+fn push_bounds(numbers: &mut Vec<u64>, section: u16, start: u64, end: u64) -> Result<(), AllocError>
     ensures { OnOk result (numbers.new.items ≡ numbers.old.items ++ numbers_of section start end) }
 {
     numbers.push(bound_number(section, start))?;
@@ -148,10 +143,7 @@ fn push_procedure(numbers: &mut Vec<u64>, procedure: &Procedure<'_>) -> Result<(
 
 /// The numbers of procedures' starts and ends.
 #[tactic(auto, using(crate::proofs::BoundSteps::numbers_done))]
-fn procedure_numbers_of(
-    alloc: Global,
-    procedures: &[Procedure<'_>],
-) -> Result<Vec<u64>, AllocError>
+fn procedure_numbers_of(alloc: Global, procedures: &[Procedure<'_>]) -> Result<Vec<u64>, AllocError>
     ensures { IfOk result (λ v. v.items ≡ flat_map procedure_numbers procedures.now) }
 {
     let mut numbers = Vec::new(alloc);

@@ -24,7 +24,7 @@ use crate::kept_names::KeptNames;
 use crate::maybe_owned::MaybeOwned;
 use crate::modules::BasicModuleInfo;
 use crate::parts::ContextParts;
-use crate::runs::to_next_bound;
+use crate::runs::{to_next_bound, to_next_shared_bound};
 use pdb_addresses::{AddressMap, ImageSectionHeader, PdbInternalSectionOffset};
 use pdb_container::StringTable;
 use pdb_contributions::ModuleSectionContribution;
@@ -365,10 +365,7 @@ fn run_here<'a, P: ModuleProvider>(
     ensures count { IfOk result (λ run. IsOneRun (database_of parts.now (scope_of P.provided provider.now formatter.old)) (as_place place) limit run.1) }
 {
     match parts.holder(place) {
-        None => {
-            let none: Option<BasicModuleInfo<'_, P::Info>> = None;
-            Ok((None, to_next_bound(parts, &none, place, limit)))
-        }
+        None => Ok((None, to_next_shared_bound(parts, place, limit))),
         Some(contribution) => run_at(
             alloc,
             provider,

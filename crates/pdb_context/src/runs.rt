@@ -1,6 +1,6 @@
 //! How far along a section answers stay.
 
-ghost use Rattle.std.specs.Prelude.{◌≡◌};
+ghost use Rattle.std.specs.Prelude.{◌≡◌, []};
 ghost use Rattle.std.specs.List.{flat_map};
 ghost use Rattle.pdb_addresses.specs.SectionRun.{nearer as nearer_of, up_to_next};
 ghost use Rattle.pdb_context.specs.Modules.{procedures_in};
@@ -61,6 +61,30 @@ fn to_next_public(publics: &PublicList<'_>, place: PdbInternalSectionOffset, far
     }
 }
 
+/// The lesser of `far` and the distance from a place to the next public entry, or start or end of a contribution.
+fn to_next_of_all_modules(
+    parts: &ContextParts<'_, '_>,
+    place: PdbInternalSectionOffset,
+    far: u32,
+) -> u32
+    ensures { result ≡ up_to_next (flat_map (contribution_bounds place) parts.now.contributions) place.offset (up_to_next (flat_map (public_bounds place) parts.now.publics) place.offset far) }
+{
+    let near = to_next_public(&parts.publics, place, far);
+    to_next_contribution(parts, place, near)
+}
+
+/// The lesser of `limit` and the distance from a place that no module holds to the next place at which an answer may change.
+#[tactic(auto, using(crate::proofs::NextBounds::next_of_two))]
+pub fn to_next_shared_bound(
+    parts: &ContextParts<'_, '_>,
+    place: PdbInternalSectionOffset,
+    limit: u32,
+) -> u32
+    ensures { result ≡ up_to_next (bounds_near parts.now [] place) place.offset limit }
+{
+    to_next_of_all_modules(parts, place, limit)
+}
+
 /// The lesser of `limit` and the distance from a place to the next place at which an answer may change, by the data of the module
 /// that holds it.
 #[tactic(auto, using(crate::proofs::NextBounds::next_of_all))]
@@ -73,6 +97,5 @@ pub fn to_next_bound<I: ModuleTables>(
     ensures { result ≡ up_to_next (bounds_near parts.now (procedures_in known.now) place) place.offset limit }
 {
     let near = to_next_procedure(known, place, limit);
-    let near = to_next_public(&parts.publics, place, near);
-    to_next_contribution(parts, place, near)
+    to_next_of_all_modules(parts, place, near)
 }
