@@ -69,7 +69,7 @@ fn functions_at_addresses(rt: HostRuntime) -> Result<(), Fail> {
 }
 
 /// A frame in one line.
-pub fn told_frame(alloc: Global, frame: &Frame<'_>) -> Result<String, Fail> {
+fn told_frame(alloc: Global, frame: &Frame<'_>) -> Result<String, Fail> {
     let name = text_of(&frame.function);
     let is_known = frame.file.is_some();
     match frame.line {

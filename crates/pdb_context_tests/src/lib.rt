@@ -8,10 +8,6 @@ mod files;
 #[cfg(test)]
 mod functions;
 #[cfg(test)]
-mod nested_sites;
-#[cfg(test)]
-mod provider_calls;
-#[cfg(test)]
 mod runs;
 #[cfg(test)]
 mod views;
