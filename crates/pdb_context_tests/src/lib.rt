@@ -9,5 +9,3 @@ mod files;
 mod functions;
 #[cfg(test)]
 mod runs;
-#[cfg(test)]
-mod views;
