@@ -1,6 +1,6 @@
 -- The numbers of the deepest sites at places, by what the rows of sites cover.
-use Rattle.std.proofs.Common.{◌≡◌, ℕ, ◌+◌, ◌^◌, ◌<◌, Bool, true, false, List, [], ◌∷◌, ◌++◌, map, refl, ap, sym, ◌∙◌, arith}
-use Rattle.std.specs.Prelude.{Option, None, Some, nat_lt, ◌||◌, unwrap_or, option_map, if◌then◌else◌}
+use Rattle.std.proofs.Common.{◌≡◌, ℕ, ◌+◌, ◌^◌, ◌<◌, Bool, true, false, List, [], ◌∷◌, map, refl, ap, subst, ◌∙◌, arith}
+use Rattle.std.specs.Prelude.{Option, None, Some, nat_lt, ◌||◌, option_map, if◌then◌else◌}
 use Rattle.std.specs.List.{list_any}
 use Rattle.std.proofs.lemmas.Bool.Decides.{nat_tests}
 use Rattle.pdb_addresses.specs.declared.internal_section_offset.PdbInternalSectionOffset.{PdbInternalSectionOffset}
@@ -12,16 +12,18 @@ use Rattle.pdb_pieces.specs.declared.span.Span.{Span}
 use Rattle.pdb_pieces.specs.Spans.{best, better, mark_over, place_number}
 use Rattle.pdb_pieces.proofs.Covers.{best-append}
 use Rattle.pdb_module_data.specs.Forest.{Site}
-use Rattle.pdb_module_data.specs.InlinedCalls.{is_over, deeper, deepest_from, deepest}
-use Rattle.pdb_module_data.specs.InlinePieces.{site_row_span, site_spans, IsShortRow, AreShortRows, AreShortSites, Ranges, StandForSites}
+use Rattle.pdb_module_data.specs.InlinedCalls.{is_over, deeper, deepest_from}
+use Rattle.pdb_module_data.specs.declared.call_rows.CallRow.{CallRow}
+use Rattle.pdb_module_data.specs.InlinePieces.{kept_rows, rows_of_sites, site_row_span, site_spans, covers_kept, IsShortRow, AreShortRows, AreShortSites, StandForSites}
+use Rattle.pdb_module_data.proofs.KeptRows.{any_kept}
 
 -- a site that was found, by its number and depth, as a mark
 abbrev as_mark : ℕ × ℕ → Mark
 as_mark found = record { rank = found.1; value = found.0 }
 
 -- a row's span is over the places that it covers
-span_over : (n d : ℕ) (row : LineInfo) (place : PdbInternalSectionOffset) → IsShortRow row → place.offset < 2 ^ 32
-    → mark_over (site_row_span n d row) (place_number place) ≡ (if covers row place then Some record { rank = d; value = n } else None)
+span_over : (n d : ℕ) (row : CallRow) (place : PdbInternalSectionOffset) → IsShortRow row → place.offset < 2 ^ 32
+    → mark_over (site_row_span n d row) (place_number place) ≡ (if covers_kept place row then Some record { rank = d; value = n } else None)
 span_over n d row place short small = grind (arith, nat_tests)
 
 one_of_rows : (m : Mark) (a b : Bool) → better (if a then Some m else None) (if b then Some m else None) ≡ (if a || b then Some m else None)
@@ -30,11 +32,15 @@ one_of_rows m true false = refl
 one_of_rows m true true = grind (arith, nat_tests)
 
 -- the spans of rows have the site's mark where one of them covers the place
-rows_over : (n d : ℕ) (rows : List LineInfo) (place : PdbInternalSectionOffset) → AreShortRows rows → place.offset < 2 ^ 32
-    → best (map (site_row_span n d) rows) (place_number place) ≡ (if list_any (λ row. covers row place) rows then Some record { rank = d; value = n } else None)
-rows_over n d [] place short small = refl
-rows_over n d (row ∷ rows) place short small =
-    rw (span_over n d row place short.0 small, rows_over n d rows place short.1 small) (one_of_rows record { rank = d; value = n } (covers row place) (list_any (λ row. covers row place) rows))
+kept_over : (n d : ℕ) (rows : List CallRow) (place : PdbInternalSectionOffset) → AreShortRows rows → place.offset < 2 ^ 32
+    → best (map (site_row_span n d) rows) (place_number place) ≡ (if list_any (covers_kept place) rows then Some record { rank = d; value = n } else None)
+kept_over n d [] place short small = refl
+kept_over n d (row ∷ rows) place short small =
+    rw (span_over n d row place short.0 small, kept_over n d rows place short.1 small) (one_of_rows record { rank = d; value = n } (covers_kept place row) (list_any (covers_kept place) rows))
+
+rows_over : (n d : ℕ) (rows : List LineInfo) (place : PdbInternalSectionOffset) → AreShortRows (kept_rows rows) → place.offset < 2 ^ 32
+    → best (map (site_row_span n d) (kept_rows rows)) (place_number place) ≡ (if list_any (λ row. covers row place) rows then Some record { rank = d; value = n } else None)
+rows_over n d rows place short small = kept_over n d (kept_rows rows) place short small ∙ ap (λ b. if b then Some record { rank = d; value = n } else None) (any_kept rows place)
 
 as_mark_if : (n d : ℕ) (b : Bool) → (if b then Some record { rank = d; value = n } else None) ≡ option_map as_mark (if b then Some (n, d) else None)
 as_mark_if n d true = refl
@@ -55,7 +61,7 @@ module _ (rows : InlineSiteForm → List LineInfo) (place : PdbInternalSectionOf
   sites_over : (n : ℕ) (sites : List Site) → AreShortSites rows sites → best (site_spans rows n sites) (place_number place) ≡ option_map as_mark (deepest_from rows place n sites)
   sites_over n [] short = refl
   sites_over n (site ∷ sites) short =
-      best-append (map (site_row_span n site.depth) (rows site.call)) (site_spans rows (n + 1) sites) (place_number place)
+      best-append (map (site_row_span n site.depth) (kept_rows (rows site.call))) (site_spans rows (n + 1) sites) (place_number place)
       ∙ rw (rows_over n site.depth (rows site.call) place short.0 small, sites_over (n + 1) sites short.1, as_mark_if n site.depth (is_over rows place site))
       (better_deeper (if is_over rows place site then Some (n, site.depth) else None) (deepest_from rows place (n + 1) sites))
 
@@ -64,7 +70,13 @@ by_number None = refl
 by_number (Some f) = refl
 
 -- pieces that stand with the best of what sites cover stand for these
-pub stand_for_sites : (rows : InlineSiteForm → List LineInfo) (sites : List Site) (pieces : List Span) → AreShortSites rows sites → ((p : ℕ) → best pieces p ≡ best (site_spans rows 0 sites) p)
-    → StandForSites rows record { sites = sites; pieces = pieces }
-stand_for_sites rows sites pieces short same =
-    record { each = λ place small. ap (option_map (λ (m : Mark). m.value)) (same (place_number place) ∙ sites_over rows place small 0 sites short) ∙ by_number (deepest_from rows place 0 sites) }
+stand_for_sites : (rows : InlineSiteForm → List LineInfo) (sites : List Site) (kept : List (List CallRow)) (pieces : List Span) → AreShortSites rows sites → kept ≡ rows_of_sites rows sites
+    → ((p : ℕ) → best pieces p ≡ best (site_spans rows 0 sites) p) → StandForSites rows record { sites = sites; rows = kept; pieces = pieces }
+stand_for_sites rows sites kept pieces short alike same =
+    record { kept = alike; each = λ place small. ap (option_map (λ (m : Mark). m.value)) (same (place_number place) ∙ sites_over rows place small 0 sites short) ∙ by_number (deepest_from rows place 0 sites) }
+
+-- the same by what was read of the sites
+pub stand_as_read : (rows : InlineSiteForm → List LineInfo) (sites read : List Site) (kept : List (List CallRow)) (spans cut pieces : List Span) → read ≡ sites → AreShortSites rows read → kept ≡ rows_of_sites rows read
+    → spans ≡ site_spans rows 0 read → cut ≡ spans → ((p : ℕ) → best pieces p ≡ best cut p) → StandForSites rows record { sites = sites; rows = kept; pieces = pieces }
+stand_as_read rows sites read kept spans cut pieces e short alike f g same =
+    subst (λ s. StandForSites rows record { sites = s; rows = kept; pieces = pieces }) e (stand_for_sites rows read kept pieces short alike (λ p. same p ∙ ap (λ ys. best ys p) (g ∙ f)))

@@ -1,8 +1,10 @@
+pub mod AscendingRows
 mod Bodies
 mod BodySteps
 mod CallsDeep
 mod ChainSteps
 mod ForestGrammar
+pub mod KeptRows
 mod NestedSites
 mod OpenBodies
 pub mod Deepest

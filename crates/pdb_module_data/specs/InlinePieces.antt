@@ -1,41 +1,71 @@
--- Pieces of places for the inline sites of a procedure: at each place the number of the deepest site over it.
-use Rattle.std.specs.Prelude.{◌≡◌, ℕ, ◌+◌, ◌^◌, ◌<◌, List, [], ◌∷◌, ◌++◌, map, unwrap_or, option_map}
+-- Pieces of places for the inline sites of a procedure: at each place the number of the deepest site over it; and what is kept of
+-- their rows.
+use Rattle.std.specs.Prelude.{◌≡◌, ℕ, ◌+◌, ◌^◌, ◌<◌, Bool, ◌&&◌, ◌==◌, nat_le, nat_lt, List, [], ◌∷◌, ◌++◌, map, unwrap_or, Option, None, Some, option_map, if◌then◌else◌}
+use Rattle.std.specs.List.{flat_map}
+use Rattle.pdb_indices.specs.declared.index.IdIndex.{IdIndex}
 use Rattle.pdb_addresses.specs.declared.internal_section_offset.PdbInternalSectionOffset.{PdbInternalSectionOffset}
 use Rattle.pdb_subsections.specs.declared.line_info.LineInfo.{LineInfo}
 use Rattle.pdb_symbols.specs.Forms.{InlineSiteForm}
 use Rattle.pdb_pieces.specs.declared.span.Span.{Span}
 use Rattle.pdb_pieces.specs.Spans.{best, place_number}
+use Rattle.pdb_module_data.specs.declared.call_rows.CallRow.{CallRow}
+use Rattle.pdb_module_data.specs.declared.inlined_calls.InlinedCall.{InlinedCall}
 use Rattle.pdb_module_data.specs.Forest.{Site}
-use Rattle.pdb_module_data.specs.InlinedCalls.{deepest}
+use Rattle.pdb_module_data.specs.InlinedCalls.{deepest, has_length}
 
--- what a row of the site with a number covers, ranked by the site's depth; a row without length covers nothing
-abbrev pub site_row_span : ℕ → ℕ → LineInfo → Span
-site_row_span number depth row = record { start = place_number row.offset; end = place_number row.offset + unwrap_or row.length 0; mark = record { rank = depth; value = number } }
+-- what is kept of a row: all that an answer needs, if the row covers anything
+abbrev pub kept_of : LineInfo → List CallRow
+kept_of row = if has_length row then record { offset = row.offset; length = unwrap_or row.length 0; file_index = row.file_index; line_start = row.line_start } ∷ [] else []
+
+-- what is kept of rows
+abbrev pub kept_rows : List LineInfo → List CallRow
+kept_rows rows = flat_map kept_of rows
+
+-- what is kept of the rows of sites
+abbrev pub rows_of_sites : (InlineSiteForm → List LineInfo) → List Site → List (List CallRow)
+rows_of_sites rows sites = map (λ site. kept_rows (rows site.call)) sites
+
+-- what a row of the site with a number covers, ranked by the site's depth
+abbrev pub site_row_span : ℕ → ℕ → CallRow → Span
+site_row_span number depth row = record { start = place_number row.offset; end = place_number row.offset + row.length; mark = record { rank = depth; value = number } }
 
 -- what sites cover by their rows, of which the first has this number
 abbrev pub site_spans : (InlineSiteForm → List LineInfo) → ℕ → List Site → List Span
 site_spans rows number [] = []
-site_spans rows number (site ∷ sites) = map (site_row_span number site.depth) (rows site.call) ++ site_spans rows (number + 1) sites
+site_spans rows number (site ∷ sites) = map (site_row_span number site.depth) (kept_rows (rows site.call)) ++ site_spans rows (number + 1) sites
 
 -- a row's start and length have 32 bits
-abbrev pub IsShortRow : LineInfo → Type 0
-IsShortRow row = ((row.offset).offset < 2 ^ 32) × (unwrap_or row.length 0 < 2 ^ 32)
+abbrev pub IsShortRow : CallRow → Type 0
+IsShortRow row = ((row.offset).offset < 2 ^ 32) × (row.length < 2 ^ 32)
 
 -- each row is so short
-abbrev pub AreShortRows : List LineInfo → Type 0
+abbrev pub AreShortRows : List CallRow → Type 0
 AreShortRows [] = Unit {0}
 AreShortRows (row ∷ rows) = IsShortRow row × AreShortRows rows
 
 -- the rows of each site are so short
 abbrev pub AreShortSites : (InlineSiteForm → List LineInfo) → List Site → Type 0
 AreShortSites rows [] = Unit {0}
-AreShortSites rows (site ∷ sites) = AreShortRows (rows site.call) × AreShortSites rows sites
+AreShortSites rows (site ∷ sites) = AreShortRows (kept_rows (rows site.call)) × AreShortSites rows sites
 
--- the sites of a procedure, and pieces for a search among them
+-- whether a row covers a place: it covers its start and so many bytes below 2^32
+abbrev pub covers_kept : PdbInternalSectionOffset → CallRow → Bool
+covers_kept place row = ((row.offset).section == place.section) && nat_le (row.offset).offset place.offset && nat_lt place.offset ((row.offset).offset + row.length) && nat_lt place.offset (2 ^ 32)
+
+-- a call by the row that is over a place, else by its first row
+abbrev pub call_by_kept : IdIndex → Option CallRow → List CallRow → InlinedCall
+call_by_kept id (Some row) rows = record { inlinee = id; file = Some row.file_index; line = Some row.line_start }
+call_by_kept id None [] = record { inlinee = id; file = None; line = None }
+call_by_kept id None (first ∷ rows) = record { inlinee = id; file = Some first.file_index; line = None }
+
+-- the sites of a procedure, what is kept of the rows of each, and pieces for a search among them
 pub record Ranges : Type 0 where
   pub sites : List Site
+  pub rows : List (List CallRow)
   pub pieces : List Span
 
--- by the rows of calls, at each place of a section stands the number of the deepest site over it
+-- By the rows of calls, at each place of a section stands the number of the deepest site over it, and what is kept is kept of the
+-- rows of each site.
 pub record StandForSites (rows : InlineSiteForm → List LineInfo) (ranges : Ranges) : Type 0 where
   pub each : (place : PdbInternalSectionOffset) → place.offset < 2 ^ 32 → option_map (λ m. m.value) (best ranges.pieces (place_number place)) ≡ deepest rows ranges.sites place
+  pub kept : ranges.rows ≡ rows_of_sites rows ranges.sites

@@ -1,5 +1,6 @@
--- Pieces of offsets for the line rows of a function: at each offset the number of the row there.
-use Rattle.std.specs.Prelude.{◌≡◌, ℕ, ◌+◌, ◌^◌, ◌<◌, List, [], ◌∷◌, ◌++◌, slice_get, option_and_then}
+-- How the line rows of a function are searched: as they stand where they ascend, else by pieces of offsets with the number of the
+-- row at each.
+use Rattle.std.specs.Prelude.{◌≡◌, ℕ, zero, suc, ◌+◌, ◌^◌, ◌<◌, ◌≤◌, List, [], ◌∷◌, ◌++◌, slice_get, Option, None, Some, option_and_then}
 use Rattle.pdb_pieces.specs.declared.span.Span.{Span}
 use Rattle.pdb_pieces.specs.Spans.{best}
 use Rattle.pdb_subsections.specs.declared.line_info.LineInfo.{LineInfo}
@@ -17,3 +18,23 @@ row_spans number (row ∷ rows) = row_spans (number + 1) rows ++ row_span number
 -- at each offset stands the number of the row there
 pub record StandForRows (pieces : List Span) (rows : List LineInfo) : Type 0 where
   pub each : (offset : ℕ) → offset < 2 ^ 32 → option_and_then (λ m. slice_get rows m.value) (best pieces offset) ≡ row_at rows offset
+
+-- rows in ascending order by their offsets, none before `low`
+abbrev pub AreAscending : ℕ → List LineInfo → Type 0
+AreAscending low [] = Unit {0}
+AreAscending low (row ∷ rows) = (low ≤ (row.offset).offset) × AreAscending (row.offset).offset rows
+
+-- pieces stand for rows, or else the rows ascend
+abbrev pub AreSearchable : List LineInfo → Option (List Span) → Type 0
+AreSearchable rows None = AreAscending 0 rows
+AreSearchable rows (Some pieces) = StandForRows pieces rows
+
+-- the row in front of a number
+abbrev pub row_before : List LineInfo → ℕ → Option LineInfo
+row_before rows zero = None
+row_before rows (suc n) = slice_get rows n
+
+-- So many rows begin at an offset or before it, and those behind them past it.
+pub record AreSplit (rows : List LineInfo) (offset n : ℕ) : Type 0 where
+  pub front : (i : ℕ) (row : LineInfo) → i < n → slice_get rows i ≡ Some row → (row.offset).offset ≤ offset
+  pub back : (i : ℕ) (row : LineInfo) → n ≤ i → slice_get rows i ≡ Some row → offset < (row.offset).offset

@@ -1,9 +1,9 @@
 //! The line rows of a function, and a search of the one at an offset by halving.
 
-ghost use Rattle.std.specs.Prelude.{◌≡◌, IfOk};
+ghost use Rattle.std.specs.Prelude.{◌≡◌, ◌≤◌, true, IfOk, length, slice_get};
 ghost use Rattle.pdb_container.specs.Fault.{Gives};
 ghost use Rattle.pdb_module_data.specs.FunctionLine.{function_rows, row_at};
-ghost use Rattle.pdb_module_data.specs.RowPieces.{row_span as span_of_row, row_spans as spans_of_rows, StandForRows};
+ghost use Rattle.pdb_module_data.specs.RowPieces.{row_span as span_of_row, row_spans as spans_of_rows, AreAscending, AreSearchable, AreSplit, StandForRows};
 
 use pdb_addresses::PdbInternalSectionOffset;
 use pdb_container::{FallibleIterator, Result};
@@ -13,24 +13,25 @@ use pdb_subsections::LineInfo;
 use std::alloc::{AllocError, Global};
 use std::marker::Model;
 
-/// The line rows of a function: those of its `DEBUG_S_LINES`, in their order, and pieces of offsets for a search among them.
+/// The line rows of a function: those of its `DEBUG_S_LINES`, in their order, and pieces of offsets for a search among them where
+/// they don't ascend.
 #[derive(Drop)]
 pub struct FunctionRows {
     rows: Vec<LineInfo>,
-    pieces: Pieces,
+    pieces: Option<Pieces>,
 }
 
 impl Model for FunctionRows {
     ghost use Rattle.std.specs.Prelude.{List};
     ghost use Rattle.pdb_subsections.specs.declared.line_info.LineInfo.{LineInfo};
-    ghost use Rattle.pdb_module_data.specs.RowPieces.{StandForRows};
+    ghost use Rattle.pdb_module_data.specs.RowPieces.{AreSearchable};
 
     ghost Value = { List LineInfo };
 
     ghost view = { λ r. r.rows.items };
 
-    // At each offset stands the row there.
-    ghost invariant = { λ r. StandForRows r.pieces r.rows.items };
+    // At each offset stands the row there, or the rows ascend.
+    ghost invariant = { λ r. AreSearchable r.rows.items r.pieces };
 }
 
 /// What a row of this number covers, to the end of its section, ranked by its start.
@@ -70,6 +71,73 @@ fn row_pieces(alloc: Global, rows: &[LineInfo]) -> std::result::Result<Pieces, A
     Pieces::new(alloc, spans.as_slice())
 }
 
+/// Whether no row begins before the one in front of it.
+fn are_ascending(rows: &[LineInfo]) -> bool
+    ensures { result ≡ true → AreAscending 0 rows.now }
+{
+    let mut last = 0;
+    for row in rows {
+        if row.offset.offset < last {
+            return false;
+        }
+        last = row.offset.offset;
+    }
+    true
+}
+
+/// Pieces of offsets with the number of the row at each, unless the rows ascend.
+fn pieces_unless_ascending(
+    alloc: Global,
+    rows: &[LineInfo],
+) -> std::result::Result<Option<Pieces>, AllocError>
+    ensures { IfOk result (λ pieces. AreSearchable rows.now pieces) }
+{
+    if are_ascending(rows) {
+        return Ok(None);
+    }
+    let pieces = row_pieces(alloc, rows)?;
+    Ok(Some(pieces))
+}
+
+/// How many rows begin at an offset or before it, of rows that ascend.
+fn count_begun(rows: &[LineInfo], offset: u32) -> usize
+    requires { AreAscending 0 rows.now }
+    ensures bound { result ≤ length rows.now }
+    ensures split { AreSplit rows.now offset result }
+{
+    rows.partition_point(|row| row.offset.offset <= offset)
+}
+
+/// The row of a number, if it is there.
+fn row_numbered(rows: &[LineInfo], number: usize) -> Option<LineInfo>
+    ensures { result ≡ slice_get rows.now number }
+{
+    rows.get(number).copied()
+}
+
+/// The row at an offset, of rows that ascend, by halving.
+fn row_by_halving(rows: &[LineInfo], offset: u32) -> Option<LineInfo>
+    requires { AreAscending 0 rows.now }
+    ensures { result ≡ row_at rows.now offset }
+{
+    let count = count_begun(rows, offset);
+    if count == 0 {
+        None
+    } else {
+        row_numbered(rows, count - 1)
+    }
+}
+
+/// The row at an offset, by pieces.
+fn row_by_pieces(rows: &[LineInfo], pieces: &Pieces, offset: u32) -> Option<LineInfo>
+    requires { StandForRows pieces.now rows.now }
+    ensures { result ≡ row_at rows.now offset }
+{
+    let place = PdbInternalSectionOffset { offset, section: 0 };
+    let number = pieces.value_at(place)?;
+    row_numbered(rows, number)
+}
+
 /// The rows of the function that begins at `start`, read to their end.
 #[tactic(auto, using(crate::proofs::RowSteps::rows_start, crate::proofs::RowSteps::rows_more, crate::proofs::RowSteps::rows_end, crate::proofs::RowSteps::rows_fault))]
 fn read_rows(
@@ -101,17 +169,18 @@ impl FunctionRows {
         ensures { Gives (λ r. r) ⊥ result (function_rows line_program.now start) }
     {
         let rows = read_rows(alloc, line_program, start)?;
-        let pieces = row_pieces(alloc, rows.as_slice())?;
+        let pieces = pieces_unless_ascending(alloc, rows.as_slice())?;
         Ok(FunctionRows { rows, pieces })
     }
 
     /// The row at an offset: of those that begin at it or before it the one with the greatest start, of equals the last. It
-    /// takes as many steps as the number of pieces has binary digits.
+    /// takes as many steps as the number of rows or of pieces has binary digits.
     pub fn at(&self, offset: u32) -> Option<LineInfo>
         ensures { result ≡ row_at self.now offset }
     {
-        let place = PdbInternalSectionOffset { offset, section: 0 };
-        let number = self.pieces.value_at(place)?;
-        self.rows.get(number).copied()
+        match &self.pieces {
+            None => row_by_halving(self.rows.as_slice(), offset),
+            Some(pieces) => row_by_pieces(self.rows.as_slice(), pieces, offset),
+        }
     }
 }

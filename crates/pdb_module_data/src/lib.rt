@@ -2,6 +2,7 @@
 //! It goes by symbols, line program, inlinees and string table, and knows nothing of files, caches or types.
 #![tactic(auto)]
 
+mod call_rows;
 mod function_line;
 mod function_rows;
 mod inline_ranges;

@@ -1,8 +1,9 @@
 -- Lists of pieces, and a round of merging neighbors.
-use Rattle.std.proofs.Common.{◌≡◌, ℕ, ◌+◌, ◌<◌, ◌≤◌, None, List, [], ◌∷◌, ◌++◌, length, take, get_or, length-append, inl, inr, zero, suc, refl, sym, ap, subst, ◌∙◌, arith}
+use Rattle.std.proofs.Common.{◌≡◌, ℕ, ◌+◌, ◌<◌, ◌≤◌, Option, None, List, [], ◌∷◌, ◌++◌, length, take, get_or, length-append, inl, inr, zero, suc, refl, sym, ap, subst, ◌∙◌, arith}
 use Rattle.std.proofs.lemmas.Bool.{cases_lt}
 use Rattle.std.proofs.lemmas.List.{take_more, take_all}
 use Rattle.std.specs.Global.{Vec}
+use Rattle.pdb_pieces.specs.declared.span.Mark.{Mark}
 use Rattle.pdb_pieces.specs.declared.span.Span.{Span}
 use Rattle.pdb_pieces.specs.Spans.{mark_over, better, best, ArePieces, AllPieces, best_of_all}
 use Rattle.pdb_pieces.proofs.Covers.{best-append, better-none, better_assoc, mark_over-before, mark_over-after}
@@ -54,14 +55,18 @@ IsSameBest-last rs done i x last h m k e same p =
 pub IsSameBest-end : (rs done : List (Vec Span)) (i : ℕ) → length rs ≤ i → IsSameBest done (take i rs) → IsSameBest done rs
 IsSameBest-end rs done i m same p = same p ∙ ap (λ ys. best_of_all ys p) (take_all i rs m)
 
--- a list for each span: one more span
-pub single_law : (runs : List (Vec Span)) (run : Vec Span) (spans : List Span) (i : ℕ) (d : Span) (p : ℕ) → i < length spans → run.items ≡ get_or spans i d ∷ [] → best_of_all runs p ≡ best (take i spans) p → best_of_all (runs ++ run ∷ []) p ≡ best (take (i + 1) spans) p
-single_law runs run spans i d p h e law =
-    let a = best_of_all-push runs run p in
-    let b = ap (λ ys. best ys p) e in
-    let c = ap (λ ys. best ys p) (take_more spans i d h) in
-    let f = best-append (take i spans) (get_or spans i d ∷ []) p in
-    cc
+-- one more span, behind the last list
+pub run_law : (runs : List (Vec Span)) (run after spans : List Span) (i : ℕ) (d : Span) (p : ℕ) → i < length spans → after ≡ run ++ get_or spans i d ∷ [] → better (best_of_all runs p) (best run p) ≡ best (take i spans) p
+    → better (best_of_all runs p) (best after p) ≡ best (take (i + 1) spans) p
+run_law runs run after spans i d p h e law =
+    let one = get_or spans i d ∷ [] in
+    ap (λ ys. better (best_of_all runs p) (best ys p)) e ∙ ap (better (best_of_all runs p)) (best-append run one p)
+    ∙ sym (better_assoc (best_of_all runs p) (best run p) (best one p)) ∙ ap (λ o. better o (best one p)) law
+    ∙ sym (best-append (take i spans) one p) ∙ sym (ap (λ ys. best ys p) (take_more spans i d h))
+
+-- the last list among the others, and an empty one behind it
+pub closed_law : (runs : List (Vec Span)) (run : Vec Span) (o : Option Mark) (p : ℕ) → better (best_of_all runs p) (best run.items p) ≡ o → better (best_of_all (runs ++ run ∷ []) p) None ≡ o
+closed_law runs run o p law = better-none (best_of_all (runs ++ run ∷ []) p) ∙ best_of_all-push runs run p ∙ law
 
 mark_over-empty : (s : Span) (p : ℕ) → s.end ≤ s.start → mark_over s p ≡ None
 mark_over-empty s p h = elim (cases_lt p s.start) [ inl l ↦ mark_over-before s p l | inr l ↦ mark_over-after s p (omega arith) ]
@@ -79,9 +84,6 @@ best_of_last rs (x ∷ left) r p e h = absurd (omega (arith, ap length e, length
 pub AllPieces-last : (high : ℕ) (rs left : List (Vec Span)) (r : Vec Span) → rs ≡ left ++ r ∷ [] → length rs ≤ 1 → AllPieces high rs → ArePieces 0 high r.items
 AllPieces-last high rs [] r e h k = let all = subst (AllPieces high) e k in all.0
 AllPieces-last high rs (x ∷ left) r e h k = absurd (omega (arith, ap length e, length-append left (r ∷ [])))
-
-pub single_is_pieces : {high : ℕ} (s : Span) → s.start < s.end → s.end ≤ high → ArePieces 0 high (s ∷ [])
-single_is_pieces s h k = (omega arith, h, k)
 
 -- what an index past a list's end reads
 abbrev pub no_span : Span

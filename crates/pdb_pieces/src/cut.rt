@@ -86,27 +86,25 @@ fn overlay(alloc: Global, left: &[Span], right: &[Span]) -> Result<Vec<Span>, Al
     Ok(pieces)
 }
 
-/// A list of one span.
-fn single_piece(alloc: Global, span: Span) -> Result<Vec<Span>, AllocError>
-    ensures { IfOk result (λ run. run.items ≡ span ∷ []) }
-{
-    let mut run = Vec::new(alloc);
-    run.push(span)?;
-    Ok(run)
-}
-
-/// A list of its own for each span that covers anything, in the spans' order.
-fn single_pieces(alloc: Global, spans: &[Span]) -> Result<Vec<Vec<Span>>, AllocError>
+/// The spans that cover anything, in lists: each list goes on as long as the spans ascend and lie apart.
+fn ascending_runs(alloc: Global, spans: &[Span]) -> Result<Vec<Vec<Span>>, AllocError>
     ensures pieces { IfOk result (λ runs. AllPieces u64.MAX runs.items) }
     ensures best { IfOk result (λ runs. (p : ℕ) → best_of_all runs.items p ≡ best spans.now p) }
 {
     let mut runs = Vec::new(alloc);
+    let mut run = Vec::new(alloc);
+    let mut end = 0;
     for span in spans {
         if span.start < span.end {
-            let run = single_piece(alloc, *span)?;
-            runs.push(run)?;
+            if span.start < end {
+                runs.push(run)?;
+                run = Vec::new(alloc);
+            }
+            end = span.end;
+            run.push(*span)?;
         }
     }
+    runs.push(run)?;
     Ok(runs)
 }
 
@@ -132,12 +130,12 @@ fn merge_pairs(alloc: Global, runs: &[Vec<Span>]) -> Result<Vec<Vec<Span>>, Allo
 }
 
 /// Pieces that at each place have the mark of the best span over it: the one of greatest rank, of equals the first. Neighbors
-/// are merged in rounds, so that n spans take some n log n steps.
+/// are merged in rounds, so that n spans take some n log n steps; spans that ascend and lie apart are pieces as they stand.
 pub fn cut(alloc: Global, spans: &[Span]) -> Result<Vec<Span>, AllocError>
     ensures pieces { IfOk result (λ v. ArePieces 0 u64.MAX v.items) }
     ensures best { IfOk result (λ v. (p : ℕ) → best v.items p ≡ best spans.now p) }
 {
-    let mut runs = single_pieces(alloc, spans)?;
+    let mut runs = ascending_runs(alloc, spans)?;
     while runs.len() > 1 {
         runs = merge_pairs(alloc, &runs)?;
     }
