@@ -1,10 +1,10 @@
 -- What is said of a fault of answering an input is said of the run's.
 use Rattle.std.specs.Prelude.{Err}
 use Rattle.std.specs.declared.io.ErrorKind.{ErrorKind}
-use Rattle.pdb_report.specs.declared.fault.InputFault.{InputFault}
-use Rattle.pdb_report.specs.declared.fault.InputFault.TheVariants.{Read, Write, InputTooLong, OutOfMemory}
+use Rattle.pdb_engine.specs.declared.fault.InputFault.{InputFault}
+use Rattle.pdb_engine.specs.declared.fault.InputFault.TheVariants.{Read, Write, InputTooLong, OutOfMemory}
 use Rattle.pdb_report.specs.declared.fault.LoadFault.{LoadFault}
-use Rattle.pdb_report.specs.InputFaults as inputs
+use Rattle.pdb_engine.specs.InputFaults as inputs
 use Rattle.pdb_report.specs.RunFaults.{OnRead, OnWrite, OnTooLong, OnLoad, OnMemory, OnReversed, OnCounted, IsOfFrames, IsOfSizes, run_fault_of_input}
 
 pub on_read : (fault : InputFault) (P : ErrorKind → Type 0) → inputs.OnRead fault P → OnRead (run_fault_of_input fault) P

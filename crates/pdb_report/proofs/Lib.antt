@@ -1,12 +1,8 @@
 pub mod FrameSteps
 pub mod InputFaultSteps
 pub mod Lifting
-pub mod LineLemmas
 pub mod OtherFiles
 pub mod OpeningSteps
 pub mod Pieces
-pub mod Pumped
-pub mod Runs
 pub mod ShortLines
 pub mod SizesSteps
-pub mod Writes

@@ -1,15 +1,14 @@
 -- What is written piece by piece.
 use Rattle.std.proofs.Common.{◌≡◌, inl, inr, Result, Ok, Err, ℕ, ◌+◌, ◌<◌, ◌≤◌, List, [], ◌∷◌, ◌++◌, length, get_or, take, drop, sym, ap, subst, ◌∙◌, append_assoc, append-nil, take-append-drop}
-use Rattle.std.specs.Prelude.{Option, Some, OnOk, OnErr, IfErr}
+use Rattle.std.specs.Prelude.{Option}
 use Rattle.std.specs.List.{flat_map}
 use Rattle.std.specs.Io.KnownBytes.{Appends}
 use Rattle.std.proofs.KnownBytes.{Appends-trans}
 use Rattle.std.proofs.lemmas.List.{take_more, take_all, drop_more}
 use Rattle.std.proofs.lemmas.List.Concat.{flat_map-append}
 use Rattle.std.specs.declared.io.ErrorKind.{ErrorKind}
-use Rattle.pdb_report.specs.declared.watched.Watched.{Watched}
-use Rattle.pdb_report.specs.ToldFault.{Count, HasFailed, PutsAll, PutsFront, Puts, Tells}
-use Rattle.pdb_report.specs.Watched.{inner_of, failures_of, last_kind_of, CountsFailure, IsQuiet, Writes, WritesFront}
+use Rattle.pdb_engine.specs.Puts.{Count, HasFailed, PutsAll, PutsFront, Puts}
+use Rattle.pdb_report.specs.ToldFault.{Tells}
 
 module _ {X : Type 0} (text : X → List ℕ) where
   one_more : (pieces : List X) (i : ℕ) (d : X) → i < length pieces → flat_map text (take (i + 1) pieces) ≡ flat_map text (take i pieces) ++ text (get_or pieces i d)
@@ -45,10 +44,3 @@ module _ {X : Type 0} (text : X → List ℕ) where
 pub told_either : {T : Type 0} (contents : T → Option (List ℕ)) (failures : T → Count) (old new : T) (result : Result (Unit {0}) ErrorKind) (line : List ℕ) → Puts contents failures old new result line → Tells contents failures old new line
 told_either contents failures old new (Ok done) line h = inl h
 told_either contents failures old new (Err kind) line h = inr h
-
--- a watched writer counts its failures
-pub watched_puts : {W : Type 0} (contents : W → Option (List ℕ)) (old new : Watched W) (result : Result (Unit {0}) ErrorKind) (bytes : List ℕ)
-    → OnOk result (Writes contents old new bytes) → OnOk result (IsQuiet old new) → IfErr result (λ kind. CountsFailure old new kind) → OnErr result (WritesFront contents old new bytes)
-    → Puts (λ (w : Watched W). contents (inner_of w)) (λ (w : Watched W). Some (failures_of w, last_kind_of w)) old new result bytes
-watched_puts contents old new (Ok done) bytes all quiet fails front = (λ i. Some (quiet.same_failures i, quiet.same_kind i), all)
-watched_puts contents old new (Err kind) bytes all quiet fails front = ((fails.rose, (kind, fails.kind_kept)), front)

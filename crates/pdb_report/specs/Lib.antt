@@ -2,11 +2,8 @@ pub mod AddressText
 pub mod Answer
 pub mod Faults
 pub mod FaultText
-pub mod InputFaults
-pub mod InputLines
 pub mod Kept
 pub mod Loading
 pub mod RunFaults
 pub mod SizesReport
 pub mod ToldFault
-pub mod Watched

@@ -4,8 +4,8 @@ use Rattle.std.specs.declared.io.ErrorKind.{ErrorKind}
 use Rattle.std.specs.declared.io.ErrorKind.TheVariants as kinds
 use Rattle.pdb_report.specs.declared.fault.LoadFault.{LoadFault}
 use Rattle.pdb_report.specs.declared.fault.LoadFault.TheVariants as faults
-use Rattle.pdb_report.specs.declared.fault.InputFault.{InputFault}
-use Rattle.pdb_report.specs.declared.fault.InputFault.TheVariants as inputs
+use Rattle.pdb_engine.specs.declared.fault.InputFault.{InputFault}
+use Rattle.pdb_engine.specs.declared.fault.InputFault.TheVariants as inputs
 use Rattle.pdb_report.specs.declared.fault.RunFault.{RunFault}
 use Rattle.pdb_report.specs.declared.fault.RunFault.TheVariants.{Load, ReversedRange, Read, Write, InputTooLong, OutOfMemory}
 

@@ -3,10 +3,10 @@
 ghost use Rattle.std.specs.Prelude.{◌≡◌};
 ghost use Rattle.pdb_report.specs.declared.fault.LoadFault.TheVariants as load_faults;
 ghost use Rattle.pdb_report.specs.FaultText.{HasPlainName};
-ghost use Rattle.pdb_report.specs.InputFaults.{read_fault_of, write_fault_of, IsOfRunning, IsOfWriting};
 
 use pdb_addr2line::Error;
 use pdb_container::kind_name;
+use pdb_engine::InputFault;
 use std::alloc::{AllocError, AllocFailed};
 use std::fmt;
 use std::io::ErrorKind;
@@ -18,19 +18,6 @@ pub enum LoadFault {
     Pdb(Error),
     /// The sources of an OMAP decrease.
     AddressTableDecreases,
-    /// Out of memory.
-    OutOfMemory,
-}
-
-/// Why the lines of an input weren't all answered.
-#[derive(Debug, Drop, PartialEq)]
-pub enum InputFault {
-    /// A read failed so.
-    Read(ErrorKind),
-    /// A write failed so.
-    Write(ErrorKind),
-    /// The input has more bytes than may be read.
-    InputTooLong,
     /// Out of memory.
     OutOfMemory,
 }
@@ -120,28 +107,6 @@ impl From<InputFault> for RunFault {
             InputFault::InputTooLong => RunFault::InputTooLong,
             InputFault::OutOfMemory => RunFault::OutOfMemory,
         }
-    }
-}
-
-/// How answering an input ends where a read failed: out of memory is a fault of its own.
-pub fn read_fault(kind: ErrorKind) -> InputFault
-    ensures value { result ≡ read_fault_of kind }
-    ensures kind { IsOfRunning result }
-{
-    match kind {
-        ErrorKind::OutOfMemory => InputFault::OutOfMemory,
-        _ => InputFault::Read(kind),
-    }
-}
-
-/// How answering an input ends where a write failed: out of memory is a fault of its own.
-pub fn write_fault(kind: ErrorKind) -> InputFault
-    ensures value { result ≡ write_fault_of kind }
-    ensures kind { IsOfWriting result }
-{
-    match kind {
-        ErrorKind::OutOfMemory => InputFault::OutOfMemory,
-        _ => InputFault::Write(kind),
     }
 }
 

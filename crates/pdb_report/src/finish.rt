@@ -4,8 +4,8 @@ ghost use Rattle.std.specs.Prelude.{◌≡◌, IsOk, IfErr};
 ghost use Rattle.pdb_report.specs.ToldFault.{Tells, fault_line};
 
 use crate::fault::RunFault;
-use crate::output::ErrorOutput;
 use crate::told::tell;
+use pdb_engine::ErrorOutput;
 
 /// The exit status of a run: 0 if it succeeded, and else 1, once its fault was told to `errors` in one
 /// line, `fault: ` and what the fault prints. A write to `errors` that fails is ignored, and ends the line. It takes no

@@ -2,28 +2,22 @@
 //! range each function has.
 #![tactic(auto)]
 
-mod answers;
-mod engine;
 mod fault;
 mod finish;
 pub mod laws;
-mod line_start;
 mod lines;
-mod output;
 mod report;
 mod sizes;
 mod symbolizer;
 mod texts;
 mod told;
-mod watched;
 
 pub use fault::{LoadFault, RunFault};
 pub use finish::finish_run;
-pub use output::ErrorOutput;
 pub use pdb_addr2line::{Context, Error};
 pub use pdb_address_lines::parse_address;
+pub use pdb_engine::{ErrorOutput, Watched};
 pub use pdb_files::read_file;
 pub use report::run_frames;
 pub use sizes::{Tally, run_sizes};
 pub use symbolizer::Symbolizer;
-pub use watched::Watched;

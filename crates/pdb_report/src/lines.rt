@@ -5,10 +5,10 @@ ghost use Rattle.pdb_context.specs.Context.{uncounted};
 ghost use Rattle.pdb_report.specs.Answer.{answer_of};
 ghost use Rattle.pdb_report.specs.AddressText.{line_text as text_of_line, text_at};
 
-use crate::answers::Answers;
 use crate::texts::{address_text, unreadable_text};
 use pdb_addr2line::{Context, Error, ModuleProvider};
 use pdb_address_lines::parse_address;
+use pdb_engine::Answers;
 use std::alloc::{AllocError, Global};
 
 /// What is written for an address.
@@ -43,14 +43,20 @@ fn line_text<P: ModuleProvider>(
     }
 }
 
-impl<'a, 's, P: ModuleProvider> Answers for Context<'a, 's, P> {
+/// A context that is asked for the answers to lines.
+#[derive(Drop)]
+pub struct LineAnswers<'a, 's, P: ModuleProvider> {
+    pub context: Context<'a, 's, P>,
+}
+
+impl<'a, 's, P: ModuleProvider> Answers for LineAnswers<'a, 's, P> {
     ghost use Rattle.pdb_report.specs.AddressText.{line_text};
     ghost use Rattle.pdb_report.specs.Answer.{answer_of};
 
-    ghost text = { λ c line. line_text (answer_of P.provided c) line };
+    ghost text = { λ answers line. line_text (answer_of P.provided answers.context) line };
 
     fn answer(&mut self, alloc: Global, line: &[u8]) -> Result<Vec<u8>, AllocError> {
-        let text = line_text(alloc, self, line)?;
+        let text = line_text(alloc, &mut self.context, line)?;
         Ok(text.into_bytes())
     }
 }

@@ -1,18 +1,18 @@
 //! The report on an input.
 
 ghost use Rattle.std.specs.Prelude.{◌≡◌, ℕ, ◌^◌, List, OnOk, OnErr, IfErr, IfSome, None, ◌⊎◌, length, take, ◌<◌, ◌≤◌};
+ghost use Rattle.pdb_engine.specs.InputLines.{report, report_of_ended};
+ghost use Rattle.pdb_engine.specs.Watched.{inner_of, CountsFailure, IsQuiet, Writes, WritesFront, Takes};
 ghost use Rattle.pdb_report.specs.AddressText.{line_text};
 ghost use Rattle.pdb_report.specs.Answer.{answer};
-ghost use Rattle.pdb_report.specs.InputLines.{report, report_of_ended};
 ghost use Rattle.pdb_report.specs.Loading.{load_fault, IsFileFault};
 ghost use Rattle.pdb_report.specs.RunFaults.{OnLoad, OnRead, OnWrite, OnTooLong, OnMemory, UnlessLoad, IsOfFrames};
 ghost use Rattle.pdb_symbols_modules.specs.Streams.{streams};
-ghost use Rattle.pdb_report.specs.Watched.{inner_of, CountsFailure, IsQuiet, Writes, WritesFront, Takes};
 
-use crate::engine::run;
 use crate::fault::RunFault;
+use crate::lines::LineAnswers;
 use crate::symbolizer::Symbolizer;
-use crate::watched::Watched;
+use pdb_engine::{Watched, run};
 use std::alloc::Global;
 use std::io::{Read, Write};
 
@@ -59,7 +59,7 @@ pub fn run_frames<R: Read, W: Write>(
         Err(fault) => return Err(RunFault::from(fault)),
     };
     match symbolizer.context(alloc) {
-        Ok(context) => match run(alloc, context, reader, writer, INPUT_LIMIT) {
+        Ok(context) => match run(alloc, LineAnswers { context }, reader, writer, INPUT_LIMIT) {
             Ok(()) => Ok(()),
             Err(fault) => Err(RunFault::from(fault)),
         },

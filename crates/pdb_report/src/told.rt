@@ -3,14 +3,15 @@
 ghost use Rattle.std.specs.Prelude.{◌≡◌, ◌++◌, codes, decimal};
 ghost use Rattle.std.specs.List.{flat_map};
 ghost use Rattle.pdb_container.specs.ErrorText.{module_fault_text, error_text};
+ghost use Rattle.pdb_engine.specs.Puts.{Puts};
 ghost use Rattle.pdb_report.specs.FaultText.{cause_text, load_fault_text, run_fault_text};
-ghost use Rattle.pdb_report.specs.ToldFault.{piece_text, text_of, fault_line, Puts};
+ghost use Rattle.pdb_report.specs.ToldFault.{piece_text, text_of, fault_line};
 
 use crate::fault::{LoadFault, RunFault, plain_name};
-use crate::output::ErrorOutput;
 use itoa::Buffer;
 use pdb_addr2line::Error;
 use pdb_container::{Error as PdbError, ModuleFault, kind_name};
+use pdb_engine::ErrorOutput;
 use std::io::ErrorKind;
 
 /// A piece of a text.

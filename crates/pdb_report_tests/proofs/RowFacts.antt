@@ -52,7 +52,7 @@ use Rattle.pdb_addr2line.specs.Loading.{items as items_read, tables as tables_re
 use Rattle.pdb_report.specs.AddressText.{answer_text, line_text}
 use Rattle.pdb_report.specs.Answer.{scope, answer}
 use Rattle.pdb_report.specs.Faults.{Pdb}
-use Rattle.pdb_report.specs.InputLines.{report}
+use Rattle.pdb_engine.specs.InputLines.{report}
 use Rattle.pdb_report.specs.Loading.{load_fault, loaded_behind, loaded_open, loaded}
 use Rattle.pdb_report_tests.specs.Samples as samples
 

@@ -7,7 +7,7 @@ ghost use Rattle.pdb_report.specs.AddressText.{line_text};
 ghost use Rattle.pdb_report.specs.Answer.{answer};
 ghost use Rattle.pdb_report.specs.Faults.{Pdb};
 ghost use Rattle.pdb_resolving.specs.Fault.{PdbError};
-ghost use Rattle.pdb_report.specs.InputLines.{report};
+ghost use Rattle.pdb_engine.specs.InputLines.{report};
 ghost use Rattle.pdb_report.specs.Loading.{load_fault};
 ghost use Rattle.pdb_symbols_modules.specs.Streams.{streams};
 ghost use Rattle.pdb_report_tests.specs.Samples as samples;

@@ -1,11 +1,11 @@
 use Rattle.std.proofs.Common.{ℕ, ◌^◌, ◌<◌, ◌≤◌, List, length, take, ap, subst, ◌∙◌}
 use Rattle.std.specs.Prelude.{IfSome}
 use Rattle.pdb_symbols_modules.specs.Streams.{streams}
+use Rattle.pdb_engine.specs.InputFaults as inputs
+use Rattle.pdb_engine.specs.InputLines.{report, report_of_ended}
+use Rattle.pdb_engine.specs.Watched.{inner_of, Writes, WritesFront, Takes}
 use Rattle.pdb_report.specs.AddressText.{Answers, line_text}
 use Rattle.pdb_report.specs.Answer.{answer}
-use Rattle.pdb_report.specs.InputFaults as inputs
-use Rattle.pdb_report.specs.InputLines.{report, report_of_ended}
-use Rattle.pdb_report.specs.Watched.{inner_of, Writes, WritesFront, Takes}
 use Rattle.pdb_report.proofs.InputFaultSteps.{on_read, on_too_long, on_load}
 use Rattle.pdb_report.proofs.report.run_frames.Goals as goal
 

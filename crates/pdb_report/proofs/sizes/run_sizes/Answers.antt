@@ -1,8 +1,8 @@
 use Rattle.std.proofs.Common.{◌≡◌, List, ℕ, arith}
+use Rattle.pdb_engine.specs.Watched.{Writes, WritesFront, CountsFailure}
 use Rattle.pdb_report.specs.declared.sizes.Tally.{Tally}
 use Rattle.pdb_report.specs.Answer.{database_in}
 use Rattle.pdb_report.specs.Kept.{answered_in}
-use Rattle.pdb_report.specs.Watched.{Writes, WritesFront, CountsFailure}
 use Rattle.pdb_report.proofs.InputFaultSteps.{on_load, on_write, on_reversed, on_counted, of_sizes}
 use Rattle.pdb_report.proofs.SizesSteps.{sizes_out, sizes_part, sizes_asked}
 use Rattle.pdb_report.proofs.sizes.run_sizes.Goals as goal

@@ -1,6 +1,7 @@
 use Rattle.std.proofs.Common.{take}
 use Rattle.std.specs.List.{flat_map}
-use Rattle.pdb_report.specs.ToldFault.{piece_text, PutsAll}
+use Rattle.pdb_engine.specs.Puts.{PutsAll}
+use Rattle.pdb_report.specs.ToldFault.{piece_text}
 use Rattle.pdb_report.proofs.told.write_pieces.Given as goal
 
 -- the pieces so far are out

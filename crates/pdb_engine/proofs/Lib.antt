@@ -1,0 +1,5 @@
+pub mod LineLemmas
+pub mod Pumped
+pub mod Puts
+pub mod Runs
+pub mod Writes

@@ -1,0 +1,232 @@
+-- The lines that the engine keeps are those of the definition.
+use Rattle.std.proofs.Common.{◌≡◌, ℕ, zero, suc, ◌+◌, ◌<◌, ◌≤◌, true, false, cond, List, [], ◌∷◌, ◌++◌, refl, sym, ap, ◌∙◌, append_assoc, append-nil, length, take, drop, get_or, take-append-drop}
+use Rattle.std.specs.Prelude.{◌==◌, Option, Result, Ok, Err, OnErr}
+use Rattle.std.specs.Io.KnownBytes.{Appends}
+use Rattle.std.proofs.KnownBytes.{Appends-trans}
+use Rattle.std.specs.List.{flat_map}
+use Rattle.std.proofs.lemmas.Grind.{flat_map-append}
+use Rattle.std.proofs.lemmas.List.{take_more, take_all}
+use Rattle.pdb_engine.specs.InputLines.{onto, input_lines, onto_ended, ended_input_lines, report, report_of_ended, kept_lines, kept_rest, Begins}
+
+-- bytes that come in two pieces
+pub kept_lines-append : (kept xs ys : List ℕ) → kept_lines kept (xs ++ ys) ≡ kept_lines kept xs ++ kept_lines (kept_rest kept xs) ys
+kept_lines-append kept [] ys = refl
+kept_lines-append kept (x ∷ xs) ys =
+    elim (x == 10) as (λ b. cond b (kept ∷ kept_lines [] (xs ++ ys)) (kept_lines (take 12 (kept ++ x ∷ [])) (xs ++ ys))
+    ≡ cond b (kept ∷ kept_lines [] xs) (kept_lines (take 12 (kept ++ x ∷ [])) xs) ++ kept_lines (cond b (kept_rest [] xs) (kept_rest (take 12 (kept ++ x ∷ [])) xs)) ys) [
+      | true ↦ ap (λ l. kept ∷ l) (kept_lines-append [] xs ys)
+      | false ↦ kept_lines-append (take 12 (kept ++ x ∷ [])) xs ys
+    ]
+
+-- what is kept behind bytes and further ones is kept in two steps
+pub kept_rest-append : (kept xs ys : List ℕ) → kept_rest kept (xs ++ ys) ≡ kept_rest (kept_rest kept xs) ys
+kept_rest-append kept [] ys = refl
+kept_rest-append kept (x ∷ xs) ys =
+    elim (x == 10) as (λ b. cond b (kept_rest [] (xs ++ ys)) (kept_rest (take 12 (kept ++ x ∷ [])) (xs ++ ys)) ≡ kept_rest (cond b (kept_rest [] xs) (kept_rest (take 12 (kept ++ x ∷ [])) xs)) ys) [
+      | true ↦ kept_rest-append [] xs ys
+      | false ↦ kept_rest-append (take 12 (kept ++ x ∷ [])) xs ys
+    ]
+
+-- whole lines, with the line so far
+ended_from : List ℕ → List ℕ → List (List ℕ)
+ended_from line [] = []
+ended_from line (b ∷ bs) = cond (b == 10) (line ∷ ended_from [] bs) (ended_from (line ++ b ∷ []) bs)
+
+rest_from : List ℕ → List ℕ → List ℕ
+rest_from line [] = line
+rest_from line (b ∷ bs) = cond (b == 10) (rest_from [] bs) (rest_from (line ++ b ∷ []) bs)
+
+take_front : (n : ℕ) (xs ys : List ℕ) → take n (take n xs ++ ys) ≡ take n (xs ++ ys)
+take_front zero xs ys = refl
+take_front (suc n) [] ys = refl
+take_front (suc n) (x ∷ xs) ys = ap (λ l. x ∷ l) (take_front n xs ys)
+
+-- the first twelve bytes are enough where they determine the text
+kept_report : (text : List ℕ → List ℕ) → ((line : List ℕ) → text (take 12 line) ≡ text line) → (line bs : List ℕ) → flat_map text (kept_lines (take 12 line) bs) ≡ flat_map text (ended_from line bs)
+unfolding ended_from
+kept_report text short line [] = refl
+kept_report text short line (b ∷ bs) =
+    elim (b == 10) as (λ t. flat_map text (cond t (take 12 line ∷ kept_lines [] bs) (kept_lines (take 12 (take 12 line ++ b ∷ [])) bs)) ≡ flat_map text (cond t (line ∷ ended_from [] bs) (ended_from (line ++ b ∷ []) bs))) [
+      | true ↦ ap (λ l. l ++ flat_map text (kept_lines [] bs)) (short line) ∙ ap (λ l. text line ++ l) (kept_report text short [] bs)
+      | false ↦ ap (λ l. flat_map text (kept_lines l bs)) (take_front 12 line (b ∷ [])) ∙ kept_report text short (line ++ b ∷ []) bs
+    ]
+
+kept_rest_is : (line bs : List ℕ) → kept_rest (take 12 line) bs ≡ take 12 (rest_from line bs)
+unfolding rest_from
+kept_rest_is line [] = refl
+kept_rest_is line (b ∷ bs) =
+    elim (b == 10) as (λ t. cond t (kept_rest [] bs) (kept_rest (take 12 (take 12 line ++ b ∷ [])) bs) ≡ take 12 (cond t (rest_from [] bs) (rest_from (line ++ b ∷ []) bs))) [
+      | true ↦ kept_rest_is [] bs
+      | false ↦ ap (λ l. kept_rest l bs) (take_front 12 line (b ∷ [])) ∙ kept_rest_is (line ++ b ∷ []) bs
+    ]
+
+front_ended : List ℕ → List (List ℕ) → List (List ℕ)
+front_ended line [] = []
+front_ended line (l ∷ ls) = (line ++ l) ∷ ls
+
+front_ended-nil : (ls : List (List ℕ)) → front_ended [] ls ≡ ls
+unfolding front_ended
+front_ended-nil [] = refl
+front_ended-nil (l ∷ ls) = refl
+
+front_ended-onto : (line : List ℕ) (b : ℕ) (ls : List (List ℕ)) → front_ended (line ++ b ∷ []) ls ≡ front_ended line (onto_ended b ls)
+unfolding front_ended
+front_ended-onto line b [] = refl
+front_ended-onto line b (l ∷ ls) = ap (λ h. h ∷ ls) (append_assoc line (b ∷ []) l)
+
+ended_is : (line bs : List ℕ) → ended_from line bs ≡ front_ended line (ended_input_lines bs)
+unfolding ended_from front_ended
+ended_is line [] = refl
+ended_is line (b ∷ bs) =
+    elim (b == 10) as (λ t. cond t (line ∷ ended_from [] bs) (ended_from (line ++ b ∷ []) bs) ≡ front_ended line (cond t ([] ∷ ended_input_lines bs) (onto_ended b (ended_input_lines bs)))) [
+      | true ↦ ap (λ l. line ∷ l) (ended_is [] bs ∙ front_ended-nil (ended_input_lines bs)) ∙ ap (λ h. h ∷ ended_input_lines bs) (sym (append-nil line))
+      | false ↦ ended_is (line ++ b ∷ []) bs ∙ front_ended-onto line b (ended_input_lines bs)
+    ]
+
+-- a line behind the last newline, if it has a byte
+abbrev pub last_line : List ℕ → List (List ℕ)
+last_line [] = []
+last_line (b ∷ bs) = (b ∷ bs) ∷ []
+
+front : List ℕ → List (List ℕ) → List (List ℕ)
+front line [] = last_line line
+front line (l ∷ ls) = (line ++ l) ∷ ls
+
+front-nil : (ls : List (List ℕ)) → front [] ls ≡ ls
+unfolding front
+front-nil [] = refl
+front-nil (l ∷ ls) = refl
+
+snoc_line : (line : List ℕ) (b : ℕ) → last_line (line ++ b ∷ []) ≡ (line ++ b ∷ []) ∷ []
+snoc_line [] b = refl
+snoc_line (x ∷ xs) b = refl
+
+front-onto : (line : List ℕ) (b : ℕ) (ls : List (List ℕ)) → front (line ++ b ∷ []) ls ≡ front line (onto b ls)
+unfolding front
+front-onto line b [] = snoc_line line b
+front-onto line b (l ∷ ls) = ap (λ h. h ∷ ls) (append_assoc line (b ∷ []) l)
+
+lines_split : (line bs : List ℕ) → front line (input_lines bs) ≡ ended_from line bs ++ last_line (rest_from line bs)
+unfolding ended_from rest_from front
+lines_split line [] = refl
+lines_split line (b ∷ bs) =
+    elim (b == 10) as (λ t. front line (cond t ([] ∷ input_lines bs) (onto b (input_lines bs))) ≡ cond t (line ∷ ended_from [] bs) (ended_from (line ++ b ∷ []) bs) ++ last_line (cond t (rest_from [] bs) (rest_from (line ++ b ∷ []) bs))) [
+      | true ↦ ap (λ h. h ∷ input_lines bs) (append-nil line) ∙ ap (λ l. line ∷ l) (sym (front-nil (input_lines bs)) ∙ lines_split [] bs)
+      | false ↦ sym (front-onto line b (input_lines bs)) ∙ lines_split (line ++ b ∷ []) bs
+    ]
+
+-- ---- what the engine writes
+
+-- for the lines that a newline ends
+pub report_of_ended_is : (text : List ℕ → List ℕ) → ((line : List ℕ) → text (take 12 line) ≡ text line) → (bs : List ℕ) → flat_map text (kept_lines [] bs) ≡ report_of_ended text bs
+report_of_ended_is text short bs = kept_report text short [] bs ∙ ap (flat_map text) (ended_is [] bs ∙ front_ended-nil (ended_input_lines bs))
+
+last_short : (text : List ℕ → List ℕ) → ((line : List ℕ) → text (take 12 line) ≡ text line) → (line : List ℕ) → flat_map text (last_line (take 12 line)) ≡ flat_map text (last_line line)
+last_short text short [] = refl
+last_short text short (x ∷ xs) = ap (λ l. l ++ []) (short (x ∷ xs))
+
+-- for all
+pub report_is : (text : List ℕ → List ℕ) → ((line : List ℕ) → text (take 12 line) ≡ text line) → (bs : List ℕ) → report text bs ≡ flat_map text (kept_lines [] bs) ++ flat_map text (last_line (kept_rest [] bs))
+report_is text short bs =
+    ap (flat_map text) (sym (front-nil (input_lines bs)) ∙ lines_split [] bs)
+    ∙ flat_map-append text (ended_from [] bs) (last_line (rest_from [] bs))
+    ∙ ap (λ l. l ++ flat_map text (last_line (rest_from [] bs))) (sym (kept_report text short [] bs))
+    ∙ ap (λ l. flat_map text (kept_lines [] bs) ++ l) (sym (last_short text short (rest_from [] bs)) ∙ ap (λ l. flat_map text (last_line l)) (sym (kept_rest_is [] bs)))
+
+-- ---- one byte more
+
+pub kept_lines-more : (kept bytes : List ℕ) (i : ℕ) → i < length bytes → kept_lines kept (take (i + 1) bytes) ≡ kept_lines kept (take i bytes) ++ kept_lines (kept_rest kept (take i bytes)) (get_or bytes i 0 ∷ [])
+kept_lines-more kept bytes i h = ap (kept_lines kept) (take_more bytes i 0 h) ∙ kept_lines-append kept (take i bytes) (get_or bytes i 0 ∷ [])
+
+pub kept_rest-more : (kept bytes : List ℕ) (i : ℕ) → i < length bytes → kept_rest kept (take (i + 1) bytes) ≡ kept_rest (kept_rest kept (take i bytes)) (get_or bytes i 0 ∷ [])
+kept_rest-more kept bytes i h = ap (kept_rest kept) (take_more bytes i 0 h) ∙ kept_rest-append kept (take i bytes) (get_or bytes i 0 ∷ [])
+
+-- the answers that a byte brings, where the text and the line so far have other names
+same_answer : (text text' : List ℕ → List ℕ) (kept kept' bytes : List ℕ) (i : ℕ) → text' ≡ text → kept' ≡ kept_rest kept (take i bytes)
+    → flat_map text' (kept_lines kept' (get_or bytes i 0 ∷ [])) ≡ flat_map text (kept_lines (kept_rest kept (take i bytes)) (get_or bytes i 0 ∷ []))
+same_answer text text' kept kept' bytes i et ek =
+    ap (λ (t : List ℕ → List ℕ). flat_map t (kept_lines kept' (get_or bytes i 0 ∷ []))) et ∙ ap (λ (k : List ℕ). flat_map text (kept_lines k (get_or bytes i 0 ∷ []))) ek
+
+-- the text is written, but for what is pending, its end
+abbrev pub AllBut : Option (List ℕ) → Option (List ℕ) → List ℕ → List ℕ → Type 0
+AllBut a b pending text = (out : List ℕ) × Appends a b out × (text ≡ out ++ pending)
+
+-- One byte more, as what a writer holds and what is pending; the text and the line so far may have other names at that call.
+pub out_more : (text text' : List ℕ → List ℕ) (a b c : Option (List ℕ)) (kept kept' pending pending' bytes : List ℕ) (i : ℕ) → i < length bytes → text' ≡ text → kept' ≡ kept_rest kept (take i bytes)
+    → AllBut a b pending (flat_map text (kept_lines kept (take i bytes))) → AllBut b c pending' (pending ++ flat_map text' (kept_lines kept' (get_or bytes i 0 ∷ []))) → AllBut a c pending' (flat_map text (kept_lines kept (take (i + 1) bytes)))
+out_more text text' a b c kept kept' pending pending' bytes i h et ek (out, p, e) (out', q, e') =
+    let answer = flat_map text (kept_lines (kept_rest kept (take i bytes)) (get_or bytes i 0 ∷ [])) in
+    let joined = ap (flat_map text) (kept_lines-more kept bytes i h) ∙ flat_map-append text (kept_lines kept (take i bytes)) (kept_lines (kept_rest kept (take i bytes)) (get_or bytes i 0 ∷ [])) in (
+      out ++ out',
+      Appends-trans a b c out out' p q,
+      joined ∙ ap (λ l. l ++ answer) e ∙ append_assoc out pending answer
+          ∙ ap (λ l. out ++ l) (ap (λ l. pending ++ l) (sym (same_answer text text' kept kept' bytes i et ek)) ∙ e')
+          ∙ sym (append_assoc out out' pending'),
+    )
+
+-- what is kept behind one byte more
+pub rest_more : (kept kept' kept'' bytes : List ℕ) (i : ℕ) → i < length bytes → kept' ≡ kept_rest kept (take i bytes) → kept'' ≡ kept_rest kept' (get_or bytes i 0 ∷ []) → kept'' ≡ kept_rest kept (take (i + 1) bytes)
+rest_more kept kept' kept'' bytes i h e e' = e' ∙ ap (λ k. kept_rest k (get_or bytes i 0 ∷ [])) e ∙ sym (kept_rest-more kept bytes i h)
+
+-- the answers behind bytes are those behind the bytes before one, then its own, then those behind the rest
+answers_around : (text : List ℕ → List ℕ) (kept bytes : List ℕ) (i : ℕ) → i < length bytes
+    → (rest : List ℕ) × (flat_map text (kept_lines kept bytes)
+    ≡ flat_map text (kept_lines kept (take i bytes)) ++ (flat_map text (kept_lines (kept_rest kept (take i bytes)) (get_or bytes i 0 ∷ [])) ++ rest))
+answers_around text kept bytes i h =
+    let done = flat_map text (kept_lines kept (take i bytes)) in
+    let answer = flat_map text (kept_lines (kept_rest kept (take i bytes)) (get_or bytes i 0 ∷ [])) in
+    let rest = flat_map text (kept_lines (kept_rest kept (take (i + 1) bytes)) (drop (i + 1) bytes)) in (
+      rest,
+      ap (λ l. flat_map text (kept_lines kept l)) (sym (take-append-drop (i + 1) bytes))
+          ∙ ap (flat_map text) (kept_lines-append kept (take (i + 1) bytes) (drop (i + 1) bytes))
+          ∙ flat_map-append text (kept_lines kept (take (i + 1) bytes)) _
+          ∙ ap (λ l. l ++ rest) (ap (flat_map text) (kept_lines-more kept bytes i h) ∙ flat_map-append text (kept_lines kept (take i bytes)) _)
+          ∙ append_assoc done answer rest,
+    )
+
+-- a front of what is pending and of one byte's answers, behind what is out, is a front of the answers to all
+pub part_more : (text text' : List ℕ → List ℕ) (a b c : Option (List ℕ)) (kept kept' pending bytes : List ℕ) (i : ℕ) → i < length bytes → text' ≡ text → kept' ≡ kept_rest kept (take i bytes)
+    → AllBut a b pending (flat_map text (kept_lines kept (take i bytes)))
+    → ((out : List ℕ) × Appends b c out × Begins out (pending ++ flat_map text' (kept_lines kept' (get_or bytes i 0 ∷ []))))
+    → (out : List ℕ) × Appends a c out × Begins out (flat_map text (kept_lines kept bytes))
+part_more text text' a b c kept kept' pending bytes i h et ek (out, p, e) (out', q, (more, begins)) =
+    let answer = flat_map text (kept_lines (kept_rest kept (take i bytes)) (get_or bytes i 0 ∷ [])) in
+    let around = answers_around text kept bytes i h in
+    let rest = around.0 in
+    let now : pending ++ answer ≡ out' ++ more = ap (λ l. pending ++ l) (sym (same_answer text text' kept kept' bytes i et ek)) ∙ begins in (
+      out ++ out',
+      Appends-trans a b c out out' p q,
+      (
+        more ++ rest,
+        around.1 ∙ ap (λ l. l ++ (answer ++ rest)) e ∙ append_assoc out pending (answer ++ rest)
+            ∙ ap (λ l. out ++ l) (sym (append_assoc pending answer rest) ∙ ap (λ l. l ++ rest) now ∙ append_assoc out' more rest)
+            ∙ sym (append_assoc out out' (more ++ rest)),
+      ),
+    )
+
+-- a front of what is pending behind all the bytes
+pub part_last : {T E : Type 0} (r : Result T E) (text : List ℕ → List ℕ) (a b c : Option (List ℕ)) (kept pending bytes : List ℕ) (i : ℕ) → length bytes ≤ i
+    → AllBut a b pending (flat_map text (kept_lines kept (take i bytes)))
+    → OnErr r ((out : List ℕ) × Appends b c out × Begins out pending) → OnErr r ((out : List ℕ) × Appends a c out × Begins out (flat_map text (kept_lines kept bytes)))
+part_last (Ok x) text a b c kept pending bytes i past so_far h = tt
+part_last (Err x) text a b c kept pending bytes i past (out, p, e) (out', q, (more, begins)) = (
+  out ++ out',
+  Appends-trans a b c out out' p q,
+  (
+    more,
+    ap (λ l. flat_map text (kept_lines kept l)) (sym (take_all i bytes past)) ∙ e ∙ ap (λ l. out ++ l) begins ∙ sym (append_assoc out out' more),
+  ),
+)
+
+-- a front of a text is one of the text with more behind it
+pub front_of_more : (a b : Option (List ℕ)) (text more : List ℕ) → ((out : List ℕ) × Appends a b out × Begins out text) → (out : List ℕ) × Appends a b out × Begins out (text ++ more)
+front_of_more a b text more (out, p, (rest, e)) = (out, p, (rest ++ more, ap (λ l. l ++ more) e ∙ append_assoc out rest more))
+
+-- the same front, of the same text under another name
+pub front_of_same : (a b : Option (List ℕ)) (text text' more : List ℕ) → text' ≡ text → ((out : List ℕ) × Appends a b out × Begins out (text' ++ more)) → (out : List ℕ) × Appends a b out × Begins out (text ++ more)
+front_of_same a b text text' more same (out, p, (rest, e)) = (out, p, (rest, ap (λ l. l ++ more) (sym same) ∙ e))
+
+-- what holds, holds where a call failed
+pub on_err : {T E P : Type 0} (r : Result T E) → P → OnErr r P
+on_err (Ok x) p = tt
+on_err (Err e) p = p

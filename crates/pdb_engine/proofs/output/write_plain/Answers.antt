@@ -1,0 +1,5 @@
+use Rattle.pdb_engine.proofs.Writes.{more_out}
+use Rattle.pdb_engine.proofs.output.write_plain.Goals as goal
+
+pub loop-rest-preserved : goal.loop-rest-preserved
+loop-rest-preserved g c = more_out _ _ _ _ _ c.in-Ok.count c.loop-rest.invariant c.in-Ok.ensures.bytes

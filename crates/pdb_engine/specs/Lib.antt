@@ -1,0 +1,4 @@
+pub mod InputFaults
+pub mod InputLines
+pub mod Puts
+pub mod Watched

@@ -1,0 +1,301 @@
+//! Reads lines, and writes the answer to each.
+
+ghost use Rattle.std.specs.Prelude.{◌≡◌, ℕ, List, OnOk, OnErr, IfErr, IfSome, [], ◌∷◌, ◌++◌, length, ◌<◌, ◌≤◌, take};
+ghost use Rattle.std.specs.List.{flat_map};
+ghost use Rattle.std.specs.Io.KnownBytes.{IsAtEnd};
+ghost use Rattle.pdb_engine.specs.Watched.{inner_of, CountsFailure, IsQuiet, Writes, WritesAllBut, WritesFront, Takes};
+ghost use Rattle.pdb_engine.specs.InputLines.{kept_lines, kept_rest, report, report_of_ended};
+ghost use Rattle.pdb_engine.specs.InputFaults.{OnRead, OnWrite, OnTooLong, IsOfWriting, IsOfRunning};
+
+use crate::answers::Answers;
+use crate::fault::{InputFault, read_fault, write_fault};
+use crate::line_start::LineStart;
+use crate::watched::Watched;
+use std::alloc::Global;
+use std::io::{ErrorKind, Read, Write};
+
+/// How many bytes a read asks for, and from how many on gathered answers are written before the next one.
+const CHUNK_SIZE: usize = 65_536;
+
+/// Answers every line of the reader's input, of which at most `limit` bytes are read, and writes
+/// nothing else; what answers ends with it. A last line that no newline ends counts if it has a byte.
+/// The answers to the lines that a read ends are out before the next read, in as few writes as their length allows.
+///
+/// # Errors
+/// `Read` and `Write` at the first call that failed, and `InputTooLong` past `limit` bytes. At `Read`,
+/// and at `InputTooLong` for the first `limit` bytes, the lines that newlines end are answered. `OutOfMemory`
+/// where memory ran out, in whichever call.
+pub fn run<A: Answers + Drop, R: Read, W: Write>(
+    alloc: Global,
+    mut answers: A,
+    reader: &mut Watched<R>,
+    writer: &mut Watched<W>,
+    limit: u64,
+) -> Result<(), InputFault>
+    // Every line is answered, and nothing else is written.
+    requires { (line : List ℕ) → A.text answers (take 12 line) ≡ A.text answers line }
+    ensures ok { OnOk result (IfSome (R.remaining (inner_of reader.old)) (λ input. (length input ≤ limit)
+        × Writes W.contents writer.old writer.new (report (A.text answers) input))) }
+    // No call failed unnoticed, and no fault is made up.
+    ensures quiet { OnOk result (IsQuiet reader.old reader.new × IsQuiet writer.old writer.new) }
+    ensures kind { IfErr result IsOfRunning }
+    ensures read_fails { IfErr result (λ fault. OnRead fault (λ kind. CountsFailure reader.old reader.new kind)) }
+    ensures write_fails { IfErr result (λ fault. OnWrite fault (λ kind. CountsFailure writer.old writer.new kind)) }
+    // The lines that were read whole before a failed read are answered.
+    ensures read_out { IfErr result (λ fault. OnRead fault (λ _. (taken : List ℕ) × Takes R.remaining reader.old reader.new taken
+        × Writes W.contents writer.old writer.new (report_of_ended (A.text answers) taken))) }
+    ensures too_long { IfErr result (λ fault. OnTooLong fault (IfSome (R.remaining (inner_of reader.old)) (λ input. (limit < length input)
+        × Writes W.contents writer.old writer.new (report_of_ended (A.text answers) (take limit input))))) }
+    // At each fault a front of the report is out.
+    ensures part { OnErr result (IfSome (R.remaining (inner_of reader.old)) (λ input. WritesFront W.contents writer.old writer.new (report (A.text answers) input))) }
+{
+    let Ok(mut chunk) = vec![in alloc; 0u8; CHUNK_SIZE] else {
+        return Err(InputFault::OutOfMemory);
+    };
+    let mut start = LineStart::new();
+    match pump(
+        alloc,
+        &mut answers,
+        reader,
+        writer,
+        &mut start,
+        &mut chunk,
+        limit,
+    ) {
+        Ok(()) => {}
+        Err(fault) => return Err(fault),
+    }
+    if start.bytes().is_empty() {
+        return Ok(());
+    }
+    match answer_line(alloc, &mut answers, writer, start.bytes()) {
+        Ok(()) => {}
+        Err(fault) => return Err(fault),
+    }
+    Ok(())
+}
+
+/// Reads to the end by way of the chunk, and answers each line that a newline ends.
+///
+/// # Errors
+/// As [`run`].
+fn pump<A: Answers, R: Read, W: Write>(
+    alloc: Global,
+    answers: &mut A,
+    reader: &mut Watched<R>,
+    writer: &mut Watched<W>,
+    start: &mut LineStart,
+    chunk: &mut [u8],
+    limit: u64,
+) -> Result<(), InputFault>
+    requires { 0 < length chunk.old }
+    ensures ok { OnOk result ((taken : List ℕ) × Takes R.remaining reader.old reader.new taken
+        × IsAtEnd (R.remaining (inner_of reader.new)) × (length taken ≤ limit)
+        × Writes W.contents writer.old writer.new (flat_map (A.text answers.old) (kept_lines start.old taken))
+        × (start.new ≡ kept_rest start.old taken)) }
+    ensures quiet { OnOk result (IsQuiet reader.old reader.new × IsQuiet writer.old writer.new) }
+    ensures same { A.text answers.new ≡ A.text answers.old }
+    ensures kind { IfErr result IsOfRunning }
+    ensures read_fails { IfErr result (λ fault. OnRead fault (λ kind. CountsFailure reader.old reader.new kind)) }
+    ensures write_fails { IfErr result (λ fault. OnWrite fault (λ kind. CountsFailure writer.old writer.new kind)) }
+    ensures read_out { IfErr result (λ fault. OnRead fault (λ _. (taken : List ℕ) × Takes R.remaining reader.old reader.new taken
+        × Writes W.contents writer.old writer.new (flat_map (A.text answers.old) (kept_lines start.old taken)))) }
+    ensures too_long { IfErr result (λ fault. OnTooLong fault ((taken : List ℕ) × Takes R.remaining reader.old reader.new taken
+        × (limit < length taken)
+        × Writes W.contents writer.old writer.new (flat_map (A.text answers.old) (kept_lines start.old (take limit taken))))) }
+    ensures part { OnErr result ((taken : List ℕ) × Takes R.remaining reader.old reader.new taken
+        × WritesFront W.contents writer.old writer.new (flat_map (A.text answers.old) (kept_lines start.old taken))) }
+{
+    let mut left = limit;
+    'chunks: loop {
+        let count = match reader.read(chunk) {
+            Ok(count) => count,
+            Err(error) => return Err(read_fault(error.kind())),
+        };
+        if count == 0 {
+            return Ok(());
+        }
+        if left < count as u64 {
+            match feed(alloc, answers, writer, start, &chunk[..left as usize]) {
+                Ok(()) => return Err(InputFault::InputTooLong),
+                Err(fault) => return Err(fault),
+            }
+        }
+        match feed(alloc, answers, writer, start, &chunk[..count]) {
+            Ok(()) => {}
+            Err(fault) => return Err(fault),
+        }
+        left -= count as u64;
+    }
+}
+
+/// Answers the lines that the bytes end, all of them before it returns, and keeps the start of the one behind them.
+///
+/// # Errors
+/// As [`answer_line`].
+fn feed<A: Answers, W: Write>(
+    alloc: Global,
+    answers: &mut A,
+    writer: &mut Watched<W>,
+    start: &mut LineStart,
+    bytes: &[u8],
+) -> Result<(), InputFault>
+    ensures ok { OnOk result (Writes W.contents writer.old writer.new (flat_map (A.text answers.old) (kept_lines start.old bytes.now))) }
+    ensures rest { OnOk result (start.new ≡ kept_rest start.old bytes.now) }
+    ensures same { A.text answers.new ≡ A.text answers.old }
+    ensures quiet { OnOk result (IsQuiet writer.old writer.new) }
+    ensures kind { IfErr result IsOfWriting }
+    ensures fails { IfErr result (λ fault. OnWrite fault (λ kind. CountsFailure writer.old writer.new kind)) }
+    ensures part { OnErr result (WritesFront W.contents writer.old writer.new (flat_map (A.text answers.old) (kept_lines start.old bytes.now))) }
+{
+    let mut pending = Vec::new(alloc);
+    for byte in bytes {
+        feed_byte(alloc, answers, writer, start, &mut pending, *byte)?;
+    }
+    write_pending(writer, &mut pending)
+}
+
+/// Gathers the answer to the line that the byte ends, or keeps the byte.
+///
+/// # Errors
+/// As [`answer_line`].
+fn feed_byte<A: Answers, W: Write>(
+    alloc: Global,
+    answers: &mut A,
+    writer: &mut Watched<W>,
+    start: &mut LineStart,
+    pending: &mut Vec<u8>,
+    byte: u8,
+) -> Result<(), InputFault>
+    ensures ok { OnOk result (WritesAllBut W.contents writer.old writer.new pending.new.items (pending.old.items ++ flat_map (A.text answers.old) (kept_lines start.old (byte ∷ [])))) }
+    ensures rest { OnOk result (start.new ≡ kept_rest start.old (byte ∷ [])) }
+    ensures same { A.text answers.new ≡ A.text answers.old }
+    ensures quiet { OnOk result (IsQuiet writer.old writer.new) }
+    ensures kind { IfErr result IsOfWriting }
+    ensures fails { IfErr result (λ fault. OnWrite fault (λ kind. CountsFailure writer.old writer.new kind)) }
+    ensures part { OnErr result (WritesFront W.contents writer.old writer.new (pending.old.items ++ flat_map (A.text answers.old) (kept_lines start.old (byte ∷ [])))) }
+{
+    if byte != b'\n' {
+        start.push(byte);
+        return Ok(());
+    }
+    match gather_answer(alloc, answers, writer, pending, start.bytes()) {
+        Ok(()) => {
+            start.clear();
+            Ok(())
+        }
+        Err(fault) => Err(fault),
+    }
+}
+
+/// Puts the answer to a line behind what is pending, and writes that once it is long.
+///
+/// # Errors
+/// As [`answer_line`].
+fn gather_answer<A: Answers, W: Write>(
+    alloc: Global,
+    answers: &mut A,
+    writer: &mut Watched<W>,
+    pending: &mut Vec<u8>,
+    line: &[u8],
+) -> Result<(), InputFault>
+    ensures ok { OnOk result (WritesAllBut W.contents writer.old writer.new pending.new.items (pending.old.items ++ A.text answers.old line.now)) }
+    // What is pending stays short.
+    ensures short { OnOk result (length pending.new.items < 65536) }
+    ensures same { A.text answers.new ≡ A.text answers.old }
+    ensures quiet { OnOk result (IsQuiet writer.old writer.new) }
+    ensures kind { IfErr result IsOfWriting }
+    ensures fails { IfErr result (λ fault. OnWrite fault (λ kind. CountsFailure writer.old writer.new kind)) }
+    ensures part { OnErr result (WritesFront W.contents writer.old writer.new (pending.old.items ++ A.text answers.old line.now)) }
+{
+    let Ok(text) = answers.answer(alloc, line) else {
+        return Err(write_last(writer, pending));
+    };
+    let Ok(()) = pending.extend_from_slice(&text) else {
+        return Err(write_last(writer, pending));
+    };
+    if pending.len() < CHUNK_SIZE {
+        return Ok(());
+    }
+    write_pending(writer, pending)
+}
+
+/// Writes what is pending where memory ran out, and returns that fault, or the write's own.
+fn write_last<W: Write>(writer: &mut Watched<W>, pending: &mut Vec<u8>) -> InputFault
+    ensures kind { IsOfWriting result }
+    ensures fails { OnWrite result (λ kind. CountsFailure writer.old writer.new kind) }
+    ensures part { (more : List ℕ) → WritesFront W.contents writer.old writer.new (pending.old.items ++ more) }
+{
+    match write_pending(writer, pending) {
+        Ok(()) => InputFault::OutOfMemory,
+        Err(fault) => fault,
+    }
+}
+
+/// Writes what is pending.
+///
+/// # Errors
+/// `Write` where a write failed, and `OutOfMemory`.
+fn write_pending<W: Write>(writer: &mut Watched<W>, pending: &mut Vec<u8>) -> Result<(), InputFault>
+    ensures ok { OnOk result (Writes W.contents writer.old writer.new pending.old.items) }
+    ensures none_pending { OnOk result (pending.new.items ≡ []) }
+    ensures quiet { OnOk result (IsQuiet writer.old writer.new) }
+    ensures kind { IfErr result IsOfWriting }
+    ensures fails { IfErr result (λ fault. OnWrite fault (λ kind. CountsFailure writer.old writer.new kind)) }
+    ensures part { OnErr result (WritesFront W.contents writer.old writer.new pending.old.items) }
+{
+    match write_all(writer, pending) {
+        Ok(()) => {
+            pending.clear();
+            Ok(())
+        }
+        Err(kind) => Err(write_fault(kind)),
+    }
+}
+
+/// Writes the answer to a line.
+///
+/// # Errors
+/// `Write` where a write failed, and `OutOfMemory`.
+fn answer_line<A: Answers, W: Write>(
+    alloc: Global,
+    answers: &mut A,
+    writer: &mut Watched<W>,
+    line: &[u8],
+) -> Result<(), InputFault>
+    ensures ok { OnOk result (Writes W.contents writer.old writer.new (A.text answers.old line.now)) }
+    ensures same { A.text answers.new ≡ A.text answers.old }
+    ensures quiet { OnOk result (IsQuiet writer.old writer.new) }
+    ensures kind { IfErr result IsOfWriting }
+    ensures fails { IfErr result (λ fault. OnWrite fault (λ kind. CountsFailure writer.old writer.new kind)) }
+    ensures part { OnErr result (WritesFront W.contents writer.old writer.new (A.text answers.old line.now)) }
+{
+    let Ok(text) = answers.answer(alloc, line) else {
+        return Err(InputFault::OutOfMemory);
+    };
+    match write_all(writer, &text) {
+        Ok(()) => Ok(()),
+        Err(kind) => Err(write_fault(kind)),
+    }
+}
+
+/// Writes all of the bytes, and stops at the first failure.
+///
+/// # Errors
+/// The kind of that failure.
+pub fn write_all<W: Write>(writer: &mut Watched<W>, bytes: &[u8]) -> Result<(), ErrorKind>
+    ensures ok { OnOk result (Writes W.contents writer.old writer.new bytes.now) }
+    ensures quiet { OnOk result (IsQuiet writer.old writer.new) }
+    ensures fails { IfErr result (λ kind. CountsFailure writer.old writer.new kind) }
+    ensures part { OnErr result (WritesFront W.contents writer.old writer.new bytes.now) }
+{
+    let mut rest = bytes;
+    while !rest.is_empty() {
+        match writer.write(rest) {
+            Ok(0) => return Err(ErrorKind::WriteZero),
+            Ok(count) => rest = &rest[count..],
+            Err(error) => return Err(error.kind()),
+        }
+    }
+    Ok(())
+}

@@ -1,0 +1,16 @@
+//! Answers the lines of an input: it reads these, asks what answers them, and writes each answer; and it counts the failures of
+//! readers and writers.
+#![tactic(auto)]
+
+mod answers;
+mod engine;
+mod fault;
+mod line_start;
+mod output;
+mod watched;
+
+pub use answers::Answers;
+pub use engine::{run, write_all};
+pub use fault::{InputFault, write_fault};
+pub use output::ErrorOutput;
+pub use watched::Watched;

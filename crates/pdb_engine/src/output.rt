@@ -1,0 +1,71 @@
+//! Where a fault is told.
+
+ghost use Rattle.std.specs.Prelude.{◌≡◌, ℕ, List, Option, OnOk, OnErr};
+ghost use Rattle.std.specs.Io.KnownBytes.{Appends};
+ghost use Rattle.std.specs.declared.io.ErrorKind.{ErrorKind as Kind};
+ghost use Rattle.pdb_engine.specs.Puts.{Puts};
+ghost use Rattle.pdb_engine.specs.InputLines.{Begins};
+
+use crate::engine::write_all;
+use crate::watched::Watched;
+use std::io::{ErrorKind, Write};
+
+/// Where a fault is told: any writer; a watched one also tells whether a write failed.
+pub trait ErrorOutput {
+    // what it holds, where that is known
+    ghost contents: { Self → Option (List ℕ) };
+    // how many of its calls failed and how the last one did, where that is counted
+    ghost failures: { Self → Option (ℕ × Option Kind) };
+
+    /// Writes all of the bytes, and stops at the first failure.
+    ///
+    /// # Errors
+    /// The kind of that failure.
+    fn put(&mut self, bytes: &[u8]) -> Result<(), ErrorKind>
+        ensures { Puts contents failures self.old self.new result bytes.now };
+}
+
+impl<W: Write> ErrorOutput for Watched<W> {
+    ghost use Rattle.std.specs.Prelude.{Some};
+    ghost use Rattle.pdb_engine.specs.Watched.{inner_of, failures_of, last_kind_of};
+
+    ghost contents = { λ w. W.contents (inner_of w) };
+
+    ghost failures = { λ w. Some (failures_of w, last_kind_of w) };
+
+    #[tactic(auto, using(crate::proofs::Puts::watched_puts))]
+    fn put(&mut self, bytes: &[u8]) -> Result<(), ErrorKind> {
+        write_all(self, bytes)
+    }
+}
+
+impl<W: Write> ErrorOutput for W {
+    ghost use Rattle.std.specs.Prelude.{None};
+
+    ghost contents = { λ w. W.contents w };
+
+    ghost failures = { λ _. None };
+
+    fn put(&mut self, bytes: &[u8]) -> Result<(), ErrorKind> {
+        write_plain(self, bytes)
+    }
+}
+
+/// Writes all of the bytes, and stops at the first failure.
+///
+/// # Errors
+/// The kind of that failure.
+fn write_plain<W: Write>(writer: &mut W, bytes: &[u8]) -> Result<(), ErrorKind>
+    ensures ok { OnOk result (Appends (W.contents writer.old) (W.contents writer.new) bytes.now) }
+    ensures part { OnErr result ((out : List ℕ) × Appends (W.contents writer.old) (W.contents writer.new) out × Begins out bytes.now) }
+{
+    let mut rest = bytes;
+    while !rest.is_empty() {
+        match writer.write(rest) {
+            Ok(0) => return Err(ErrorKind::WriteZero),
+            Ok(count) => rest = &rest[count..],
+            Err(error) => return Err(error.kind()),
+        }
+    }
+    Ok(())
+}

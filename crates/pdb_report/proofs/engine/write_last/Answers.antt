@@ -1,5 +1,0 @@
-use Rattle.pdb_report.proofs.LineLemmas.{front_of_more}
-use Rattle.pdb_report.proofs.engine.write_last.Goals as goal
-
-pub returns-in-Err-clause-part : goal.returns-in-Err-clause-part
-returns-in-Err-clause-part g c = λ more. front_of_more _ _ _ more c.in-Err.ensures.part
