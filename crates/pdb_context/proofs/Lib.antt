@@ -1,8 +1,6 @@
-pub mod BoundSteps
 pub mod FunctionSteps
 pub mod KeptProcedures
 pub mod KeptSteps
-pub mod NextBounds
 pub mod NextPublic
 pub mod ProcedureSteps
 pub mod RunLaw

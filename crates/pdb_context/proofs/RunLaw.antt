@@ -16,7 +16,8 @@ use Rattle.pdb_context.specs.Choice.{Parts, Scope, Chosen, chosen_of, chosen}
 use Rattle.pdb_context.specs.Frames.{function_at, function_of}
 use Rattle.pdb_context.specs.Modules.{module_data, procedures_in}
 use Rattle.pdb_functions.specs.Databases.{IsOneRun, place_of}
-use Rattle.pdb_context.specs.Runs.{if_there, contribution_bounds, procedure_bounds, public_bounds, bounds_near, procedures_of, is_bound, database_of}
+use Rattle.pdb_bounds.specs.SectionBounds.{if_there, contribution_bounds, procedure_bounds}
+use Rattle.pdb_context.specs.Runs.{public_bounds, bounds_near, procedures_of, is_bound, database_of}
 
 -- a place so many bytes on in its section
 abbrev on : PdbInternalSectionOffset → ℕ → PdbInternalSectionOffset

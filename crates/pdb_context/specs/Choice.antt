@@ -1,5 +1,5 @@
 -- What a context goes over, and what it chooses at a place: a procedure, or an entry of the public list.
-use Rattle.std.specs.Prelude.{ℕ, ◌+◌, ◌-◌, ◌&&◌, Bool, false, not, List, [], ◌∷◌, ◌==◌, Option, None, Some, option_map, option_and_then, if◌then◌else◌, Result, Ok, Err}
+use Rattle.std.specs.Prelude.{ℕ, ◌+◌, ◌-◌, ◌&&◌, not, List, [], ◌∷◌, ◌==◌, Option, None, Some, option_map, option_and_then, if◌then◌else◌, Result}
 use Rattle.std.specs.Str.Lossy.{utf8_lossy}
 use Rattle.pdb_container.specs.Fault as container
 use Rattle.pdb_addresses.specs.declared.internal_section_offset.PdbInternalSectionOffset.{PdbInternalSectionOffset}
@@ -10,9 +10,8 @@ use Rattle.pdb_modules.specs.ModuleStream.{ModuleStream}
 use Rattle.pdb_contributions.specs.declared.contribution.ModuleSectionContribution.{ModuleSectionContribution}
 use Rattle.pdb_public_list.specs.Publics.{PublicFunction, public_exactly, public_over, next_public}
 use Rattle.pdb_module_data.specs.Procedures.{Procedure, over}
-use Rattle.pdb_resolving.specs.Fault.{Fault}
 use Rattle.pdb_type_text.specs.Env.{Env}
-use Rattle.pdb_type_text.specs.Functions.{function_text}
+use Rattle.pdb_names.specs.Names.{is_decorated, typed_name}
 
 -- what every question goes over: the ways between addresses, what modules hold, the public list, and the string table, if
 -- there is one
@@ -53,11 +52,6 @@ start_address p c = outer_of_place p.map (start_of c).section (start_of c).offse
 
 -- ---- names
 
--- whether a name is decorated: it begins with a question mark
-abbrev pub is_decorated : List ℕ → Bool
-is_decorated [] = false
-is_decorated (byte ∷ name) = byte == 0x3f
-
 -- a name that may be there, if it is decorated
 abbrev pub if_decorated : Option (List ℕ) → Option (List ℕ)
 if_decorated None = None
@@ -66,15 +60,6 @@ if_decorated (Some name) = if is_decorated name then Some name else None
 -- the decorated public name at exactly a place
 abbrev pub decorated_at : Parts → PdbInternalSectionOffset → Option (List ℕ)
 decorated_at p place = if_decorated (option_and_then (λ f. f.name) (public_exactly p.publics place))
-
--- the text that could be made, if one could
-abbrev pub if_made : Result (List ℕ) Fault → Option (List ℕ)
-if_made (Ok text) = Some text
-if_made (Err e) = None
-
--- the name of a procedure by its type
-abbrev pub typed_name : Env → Procedure → Option (List ℕ)
-typed_name env q = if_made (function_text env (utf8_lossy q.name) (q.type_index).0)
 
 -- the decorated public name that a procedure has in place of its own: at its start, where it has no type and no decorated name
 -- of its own

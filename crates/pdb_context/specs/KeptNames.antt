@@ -1,8 +1,8 @@
 -- The names that a context keeps.
 use Rattle.pdb_resolving.specs.Resolving.{Provided}
 use Rattle.pdb_type_text.specs.Formatting.{Formatting}
-use Rattle.pdb_context.specs.InlineNames.{AreNames, inline_text}
-use Rattle.pdb_context.specs.TypedNames.{AreTyped, typed_text}
+use Rattle.pdb_names.specs.InlineNames.{AreNames, inline_text}
+use Rattle.pdb_names.specs.TypedNames.{AreTyped, typed_text}
 use Rattle.pdb_context.specs.declared.kept_names.KeptNames.{KeptNames}
 
 -- The names that are kept are those that the formatter gives.

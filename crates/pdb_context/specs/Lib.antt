@@ -1,9 +1,7 @@
-pub mod Bounds
 pub mod Choice
 pub mod Context
 pub mod Frames
 pub mod FunctionList
-pub mod InlineNames
 pub mod Kept
 pub mod KeptNames
 pub mod MaybeOwned
@@ -11,4 +9,3 @@ pub mod Modules
 pub mod ProcedureData
 pub mod Runs
 pub mod Seen
-pub mod TypedNames

@@ -1,5 +1,5 @@
 -- Runs: how far along a section the function stays.
-use Rattle.std.specs.Prelude.{ℕ, ◌+◌, Bool, ◌==◌, List, [], ◌∷◌, ◌++◌, Option, None, Some, option_and_then, if◌then◌else◌}
+use Rattle.std.specs.Prelude.{ℕ, Bool, ◌==◌, List, [], ◌∷◌, ◌++◌, Option, None, Some, option_and_then, if◌then◌else◌}
 use Rattle.std.specs.List.{flat_map, list_any}
 use Rattle.pdb_addresses.specs.declared.internal_section_offset.PdbInternalSectionOffset.{PdbInternalSectionOffset}
 use Rattle.pdb_addresses.specs.Places.{internal_place}
@@ -7,6 +7,7 @@ use Rattle.pdb_contributions.specs.declared.contribution.ModuleSectionContributi
 use Rattle.pdb_contributions.specs.Contributions.{holder}
 use Rattle.pdb_public_list.specs.Publics.{PublicFunction}
 use Rattle.pdb_module_data.specs.Procedures.{Procedure}
+use Rattle.pdb_bounds.specs.SectionBounds.{contribution_bounds, procedure_bounds}
 use Rattle.pdb_functions.specs.Databases.{Database}
 use Rattle.pdb_functions.specs.FunctionOrder.{Function}
 use Rattle.pdb_context.specs.Choice.{Parts, Scope}
@@ -14,18 +15,6 @@ use Rattle.pdb_context.specs.Frames.{held_at, function_at}
 use Rattle.pdb_context.specs.Modules.{module_data, procedures_in}
 
 -- ---- where answers may change
-
--- where something begins and ends, if it lies in the section that is asked for
-abbrev pub if_there : Bool → ℕ → ℕ → List ℕ
-if_there same start end = if same then start ∷ end ∷ [] else []
-
--- where a contribution begins and ends, if it lies in the section of a place
-abbrev pub contribution_bounds : PdbInternalSectionOffset → ModuleSectionContribution → List ℕ
-contribution_bounds p c = if_there (c.section_index == p.section) c.start_offset c.end_offset
-
--- the same of a procedure; its end may lie past 32 bits
-abbrev pub procedure_bounds : PdbInternalSectionOffset → Procedure → List ℕ
-procedure_bounds p q = if_there ((q.offset).section == p.section) (q.offset).offset ((q.offset).offset + q.len)
 
 -- where a public entry begins, if it lies in the section of a place
 abbrev pub public_bounds : PdbInternalSectionOffset → PublicFunction → List ℕ

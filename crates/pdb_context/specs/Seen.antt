@@ -1,8 +1,6 @@
--- What the code chose, and what it made, as the definitions see it.
-use Rattle.std.specs.Prelude.{◌≡◌, Option, None, Some, Result, Ok, Err}
+-- What the code chose, and what it read, as the definitions see it.
+use Rattle.std.specs.Prelude.{◌≡◌, Option, None, Some, Ok}
 use Rattle.std.specs.Borrow.{Bor}
-use Rattle.pdb_resolving.specs.declared.error.Error.{Error}
-use Rattle.pdb_resolving.specs.declared.error.Error.TheVariants as errors
 use Rattle.pdb_module_data.specs.InlinedCalls.{given_by}
 use Rattle.pdb_modules.specs.ModuleStream.{ModuleStream}
 use Rattle.pdb_context.specs.Modules.{ExtendedModule, extended_of}
@@ -15,12 +13,6 @@ use Rattle.pdb_context.specs.declared.choice.Chosen.TheVariants as chosen
 abbrev pub chosen_seen : Chosen → choice.Chosen
 chosen_seen (chosen.Procedure q) = choice.Proc q.now
 chosen_seen (chosen.Public f) = choice.Public f.now
-
--- a text, if a call that makes one returned it; want of memory is no missing text
-abbrev pub IsText : {T : Type 0} → Option T → Result T Error → Type 0
-IsText text (Ok made) = text ≡ Some made
-IsText text (Err errors.OutOfMemory) = ⊥
-IsText text (Err e) = text ≡ None
 
 -- the line program and what gives inlined functions, as they were read
 abbrev pub extended_seen : ExtendedModuleInfo → ExtendedModule

@@ -4,6 +4,7 @@ ghost use Rattle.std.specs.Prelude.{◌≡◌, IfOk, IsOkUnless, option_map, str
 ghost use Rattle.std.specs.Cow.{cow_str_bytes};
 ghost use Rattle.pdb_resolving.specs.declared.error.Error.TheVariants as errors;
 
+use pdb_names::clone_name;
 use pdb_resolving::Result;
 use std::alloc::{AllocError, Global};
 use std::borrow::CowStr;
@@ -47,22 +48,6 @@ impl<'a> Model for FunctionFrames<'a> {
     ghost Value = { answers.FunctionFrames };
 
     ghost view = { λ f. record { start_rva = f.start_rva; end_rva = f.end_rva; frames = f.frames.items } };
-}
-
-/// A copy of a name that may be missing.
-pub fn clone_name(
-    alloc: Global,
-    name: &Option<String>,
-) -> std::result::Result<Option<String>, AllocError>
-    ensures { IfOk result (λ n. option_map string_bytes n ≡ option_map string_bytes name.now) }
-{
-    match name {
-        None => Ok(None),
-        Some(name) => {
-            let name = String::from_str(alloc, name.as_str())?;
-            Ok(Some(name))
-        }
-    }
 }
 
 /// A copy of a file's name that may be missing; a borrowed one stays borrowed.

@@ -1,17 +1,17 @@
 //! The names that a context keeps.
 
 ghost use Rattle.std.specs.Prelude.{◌≡◌, IfOk, option_map, string_bytes};
-ghost use Rattle.pdb_context.specs.Choice.{name_of as name_of_chosen, procedure_name as name_of_procedure};
+ghost use Rattle.pdb_container.specs.RawString.{raw_bytes};
+ghost use Rattle.pdb_context.specs.Choice.{name_of as name_of_chosen, procedure_name as name_of_procedure, public_name as public_name_of};
 ghost use Rattle.pdb_context.specs.KeptNames.{AreKeptNames};
 ghost use Rattle.pdb_context.specs.Seen.{chosen_seen};
 ghost use Rattle.pdb_type_text.specs.Formatting.{env_of};
 
 use crate::choice::Chosen;
-use crate::inline_names::InlineNames;
-use crate::names::{if_named, public_name, raw_name};
 use crate::parts::ContextParts;
-use crate::typed_names::TypedNames;
+use pdb_container::RawString;
 use pdb_module_data::Procedure;
+use pdb_names::{InlineNames, TypedNames, if_named, is_decorated, raw_name};
 use pdb_resolving::ModuleProvider;
 use pdb_type_text::TypeFormatter;
 use std::alloc::{AllocError, Global};
@@ -23,6 +23,21 @@ pub struct KeptNames {
     pub inlined: InlineNames,
     /// Those of procedures by their types.
     pub typed: TypedNames,
+}
+
+/// The decorated public name that a procedure has in place of its own: at its start, where it has no type and no decorated name
+/// of its own.
+fn public_name<'p, 'a>(
+    parts: &'p ContextParts<'a, '_>,
+    procedure: &Procedure<'_>,
+) -> Option<&'p RawString<'a>>
+    ensures { option_map (λ n. raw_bytes n.now) result ≡ public_name_of parts.now procedure.now }
+{
+    if procedure.type_index.0 == 0 && !is_decorated(procedure.name.as_bytes()) {
+        parts.decorated_at(procedure.offset)
+    } else {
+        None
+    }
 }
 
 impl KeptNames {

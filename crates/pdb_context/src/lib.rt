@@ -2,23 +2,19 @@
 //! procedure, the names of functions and where functions begin are kept; what was asked before shows in no answer.
 #![tactic(auto)]
 
-mod bounds;
 mod choice;
 mod context;
 mod frames;
 mod function;
 mod function_starts;
 mod functions;
-mod inline_names;
 mod kept;
 mod kept_names;
 pub mod maybe_owned;
 mod modules;
-mod names;
 mod parts;
 mod procedure_data;
 mod runs;
-mod typed_names;
 
 pub use context::Context;
 pub use function::{Frame, FunctionFrames};

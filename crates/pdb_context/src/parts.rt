@@ -8,13 +8,13 @@ ghost use Rattle.pdb_resolving.specs.Fault.{Answers};
 ghost use Rattle.pdb_context.specs.Choice.{place_of, decorated_at as decorated_name_at};
 ghost use Rattle.pdb_context.specs.Context.{parts_of};
 
-use crate::bounds::{SortedBounds, contribution_bounds};
-use crate::names::is_decorated;
 use pdb_addresses::{AddressMap, ImageSectionHeader, PdbInternalSectionOffset, Rva};
+use pdb_bounds::{SortedBounds, contribution_bounds};
 use pdb_container::{RawString, StringTable};
 use pdb_contributions::{
     HeldPlaces, ModuleSectionContribution, SectionContributions, compute_section_contributions,
 };
+use pdb_names::is_decorated;
 use pdb_public_list::{PublicList, read_public_symbols};
 use pdb_resolving::Result;
 use pdb_symbols::SymbolTable;
@@ -40,7 +40,7 @@ pub struct ContextParts<'a, 's> {
 impl<'a, 's> Model for ContextParts<'a, 's> {
     ghost use Rattle.std.specs.Prelude.{option_map};
     ghost use Rattle.pdb_addresses.specs.Addresses.{IsOrdered};
-    ghost use Rattle.pdb_context.specs.Bounds.{AreContributionBounds};
+    ghost use Rattle.pdb_bounds.specs.Bounds.{AreContributionBounds};
     ghost use Rattle.pdb_context.specs.Choice as choice;
 
     ghost Value = { choice.Parts };

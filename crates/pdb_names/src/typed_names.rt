@@ -2,12 +2,11 @@
 
 ghost use Rattle.std.specs.Prelude.{◌≡◌, ◌↔◌, ◌/◌, ◌^◌, ℕ, true, IfOk, List, Option, option_map, string_bytes};
 ghost use Rattle.pdb_container.specs.RawString.{raw_bytes};
-ghost use Rattle.pdb_context.specs.Choice.{typed_name as name_by_type};
-ghost use Rattle.pdb_context.specs.TypedNames.{AreTyped, IsNamedBy, typed_text};
+ghost use Rattle.pdb_names.specs.Names.{typed_name as name_by_type};
+ghost use Rattle.pdb_names.specs.TypedNames.{AreTyped, IsNamedBy, typed_text};
 ghost use Rattle.pdb_type_text.specs.Formatting.{env_of};
 
-use crate::function::clone_name;
-use crate::names::typed_name;
+use crate::names::{clone_name, typed_name};
 use pdb_indices::{SymbolIndex, TypeIndex};
 use pdb_module_data::Procedure;
 use pdb_resolving::ModuleProvider;

@@ -3,12 +3,10 @@
 ghost use Rattle.std.specs.Prelude.{◌≡◌, IfOk, option_map, string_bytes};
 ghost use Rattle.std.specs.Str.Lossy.{utf8_lossy};
 ghost use Rattle.pdb_container.specs.RawString.{raw_bytes};
-ghost use Rattle.pdb_context.specs.Choice.{is_decorated as is_decorated_name, typed_name as name_by_type, public_name as public_name_of, if_made};
-ghost use Rattle.pdb_context.specs.Seen.{IsText};
+ghost use Rattle.pdb_names.specs.Names.{is_decorated as is_decorated_name, typed_name as name_by_type, if_made, IsText};
 ghost use Rattle.pdb_type_text.specs.Formatting.{env_of};
 ghost use Rattle.pdb_type_text.specs.Ids.{id_text};
 
-use crate::parts::ContextParts;
 use pdb_container::RawString;
 use pdb_indices::IdIndex;
 use pdb_module_data::Procedure;
@@ -74,21 +72,6 @@ pub fn typed_name<P: ModuleProvider>(
     if_text(made)
 }
 
-/// The decorated public name that a procedure has in place of its own: at its start, where it has no type and no decorated name
-/// of its own.
-pub fn public_name<'p, 'a>(
-    parts: &'p ContextParts<'a, '_>,
-    procedure: &Procedure<'_>,
-) -> Option<&'p RawString<'a>>
-    ensures { option_map (λ n. raw_bytes n.now) result ≡ public_name_of parts.now procedure.now }
-{
-    if procedure.type_index.0 == 0 && !is_decorated(procedure.name.as_bytes()) {
-        parts.decorated_at(procedure.offset)
-    } else {
-        None
-    }
-}
-
 /// A name that may be there, as text.
 pub fn if_named(
     alloc: Global,
@@ -100,6 +83,22 @@ pub fn if_named(
         None => Ok(None),
         Some(name) => {
             let name = raw_name(alloc, name)?;
+            Ok(Some(name))
+        }
+    }
+}
+
+/// A copy of a name that may be missing.
+pub fn clone_name(
+    alloc: Global,
+    name: &Option<String>,
+) -> std::result::Result<Option<String>, AllocError>
+    ensures { IfOk result (λ n. option_map string_bytes n ≡ option_map string_bytes name.now) }
+{
+    match name {
+        None => Ok(None),
+        Some(name) => {
+            let name = String::from_str(alloc, name.as_str())?;
             Ok(Some(name))
         }
     }

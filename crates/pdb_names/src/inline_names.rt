@@ -1,10 +1,9 @@
 //! The names of inlined functions that were asked for.
 
 ghost use Rattle.std.specs.Prelude.{◌≡◌, ◌/◌, ◌%◌, ◌^◌, ℕ, IfOk, List, Option, option_map, string_bytes};
-ghost use Rattle.pdb_context.specs.InlineNames.{AreNames, inline_text};
+ghost use Rattle.pdb_names.specs.InlineNames.{AreNames, inline_text};
 
-use crate::function::clone_name;
-use crate::names::inlinee_name;
+use crate::names::{clone_name, inlinee_name};
 use pdb_indices::IdIndex;
 use pdb_resolving::ModuleProvider;
 use pdb_type_text::TypeFormatter;

@@ -7,9 +7,9 @@ use Rattle.pdb_module_data.specs.Procedures.{Procedure}
 use Rattle.pdb_resolving.specs.Resolving.{Provided}
 use Rattle.pdb_type_text.specs.Formatting.{Formatting, env_of}
 use Rattle.pdb_type_text.specs.Functions.{function_text}
-use Rattle.pdb_context.specs.Choice.{if_made}
-use Rattle.pdb_context.specs.declared.typed_names.TypedName.{TypedName}
-use Rattle.pdb_context.specs.declared.typed_names.TypedNames.{TypedNames}
+use Rattle.pdb_names.specs.Names.{if_made}
+use Rattle.pdb_names.specs.declared.typed_names.TypedName.{TypedName}
+use Rattle.pdb_names.specs.declared.typed_names.TypedNames.{TypedNames}
 
 -- the procedure has the name and the type that this name was made of
 pub record IsNamedBy (q : Procedure) (name : TypedName) : Type 0 where

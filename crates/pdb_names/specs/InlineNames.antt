@@ -6,8 +6,8 @@ use Rattle.std.specs.BTreeMap.{get}
 use Rattle.pdb_resolving.specs.Resolving.{Provided}
 use Rattle.pdb_type_text.specs.Formatting.{Formatting, env_of}
 use Rattle.pdb_type_text.specs.Ids.{id_text}
-use Rattle.pdb_context.specs.Choice.{if_made}
-use Rattle.pdb_context.specs.declared.inline_names.InlineNames.{InlineNames}
+use Rattle.pdb_names.specs.Names.{if_made}
+use Rattle.pdb_names.specs.declared.inline_names.InlineNames.{InlineNames}
 
 -- Each name that is kept is the text of its id in its module.
 pub record AreNames (text : ℕ → ℕ → Option (List ℕ)) (names : InlineNames) : Type 0 where

@@ -1,0 +1,3 @@
+pub mod InlineNames
+pub mod Names
+pub mod TypedNames

@@ -1,0 +1,29 @@
+-- Names as they are stored, and texts that may be made of them.
+use Rattle.std.specs.Prelude.{◌≡◌, ℕ, Bool, false, List, [], ◌∷◌, ◌==◌, Option, None, Some, Result, Ok, Err}
+use Rattle.std.specs.Str.Lossy.{utf8_lossy}
+use Rattle.pdb_module_data.specs.Procedures.{Procedure}
+use Rattle.pdb_resolving.specs.declared.error.Error.{Error}
+use Rattle.pdb_resolving.specs.declared.error.Error.TheVariants as errors
+use Rattle.pdb_resolving.specs.Fault.{Fault}
+use Rattle.pdb_type_text.specs.Env.{Env}
+use Rattle.pdb_type_text.specs.Functions.{function_text}
+
+-- whether a name is decorated: it begins with a question mark
+abbrev pub is_decorated : List ℕ → Bool
+is_decorated [] = false
+is_decorated (byte ∷ name) = byte == 0x3f
+
+-- a text, if a call that makes one returned it; want of memory is no missing text
+abbrev pub IsText : {T : Type 0} → Option T → Result T Error → Type 0
+IsText text (Ok made) = text ≡ Some made
+IsText text (Err errors.OutOfMemory) = ⊥
+IsText text (Err e) = text ≡ None
+
+-- the text that could be made, if one could
+abbrev pub if_made : Result (List ℕ) Fault → Option (List ℕ)
+if_made (Ok text) = Some text
+if_made (Err e) = None
+
+-- the name of a procedure by its type
+abbrev pub typed_name : Env → Procedure → Option (List ℕ)
+typed_name env q = if_made (function_text env (utf8_lossy q.name) (q.type_index).0)
