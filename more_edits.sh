@@ -1,0 +1,29 @@
+#!/usr/bin/env bash
+# Tries the edits of crates/NAME/more-edits. As with those of must-fail, the proof has to refuse each. They stand apart since a
+# crate's first edit takes as long as the crate's proof: with all of them rt ci would take twice as long. Nothing else runs them,
+# so run them after a change of the crate's contracts. At the top of the repository:
+#
+#   ./more_edits.sh NAME ...
+#
+# It ends with 0 where each edit was refused. Without a name it lists the crates that have such edits.
+set -u
+cd "$(dirname "$0")"
+if [ $# -eq 0 ]; then
+    for folder in crates/*/more-edits; do
+        echo "$(basename "$(dirname "$folder")"): $(ls "$folder" | wc -l)"
+    done
+    exit 2
+fi
+status=0
+for name in "$@"; do
+    if [ ! -d "crates/$name/more-edits" ] || [ -e "crates/$name/must-fail" ]; then
+        echo "$name: there are no more edits, or some of both kinds"
+        exit 2
+    fi
+    trap 'mv "crates/$name/must-fail" "crates/$name/more-edits"' EXIT
+    mv "crates/$name/more-edits" "crates/$name/must-fail"
+    rt must-fail "$name" || status=1
+    mv "crates/$name/must-fail" "crates/$name/more-edits"
+    trap - EXIT
+done
+exit $status
