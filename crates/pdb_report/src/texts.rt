@@ -10,6 +10,9 @@ use pdb_addr2line::{Frame, FunctionFrames};
 use std::alloc::{AllocError, Global};
 use std::borrow::CowStr;
 
+/// How many bytes most answers fit into, so that their text isn't moved as it grows.
+const USUAL_LENGTH: usize = 256;
+
 /// Appends the line of a frame.
 fn append_frame(text: &mut String, frame: &Frame<'_>) -> Result<(), AllocError>
     ensures { OnOk result (string_bytes text.new ≡ string_bytes text.old ++ frame_text frame.now) }
@@ -73,7 +76,8 @@ pub fn address_text(
 ) -> Result<String, AllocError>
     ensures { IfOk result (λ t. string_bytes t ≡ codes "0x" ++ eight_digits address ++ 10 ∷ answer_text (Ok answer.now)) }
 {
-    let mut text = format!(in alloc; "0x{address:08x}\n")?;
+    let mut text = String::with_capacity(alloc, USUAL_LENGTH)?;
+    write!(text, "0x{address:08x}\n")?;
     append_answer(&mut text, answer)?;
     Ok(text)
 }

@@ -60,7 +60,8 @@ pub(crate) fn push_end(records: &mut Vec<u8>, start: usize, kind: u16) -> Result
 /// Appends a length that isn't known yet, and a kind. Returns where the record begins.
 pub(crate) fn begin_record(records: &mut Vec<u8>, kind: u16) -> Result<usize> {
     let start = records.len();
-    push_u16(records, &[0, kind])?;
+    push_u16(records, &[0])?;
+    push_u16(records, &[kind])?;
     Ok(start)
 }
 
