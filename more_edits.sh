@@ -14,16 +14,25 @@ if [ $# -eq 0 ]; then
     done
     exit 2
 fi
+put_back() {
+    mv "crates/$1/must-fail" "crates/$1/more-edits"
+    if [ -d "crates/$1/edits-aside" ]; then
+        mv "crates/$1/edits-aside" "crates/$1/must-fail"
+    fi
+}
 status=0
 for name in "$@"; do
-    if [ ! -d "crates/$name/more-edits" ] || [ -e "crates/$name/must-fail" ]; then
-        echo "$name: there are no more edits, or some of both kinds"
+    if [ ! -d "crates/$name/more-edits" ]; then
+        echo "$name: there are no more edits"
         exit 2
     fi
-    trap 'mv "crates/$name/must-fail" "crates/$name/more-edits"' EXIT
+    if [ -d "crates/$name/must-fail" ]; then
+        mv "crates/$name/must-fail" "crates/$name/edits-aside"
+    fi
     mv "crates/$name/more-edits" "crates/$name/must-fail"
+    trap 'put_back "$name"' EXIT
     rt must-fail "$name" || status=1
-    mv "crates/$name/must-fail" "crates/$name/more-edits"
+    put_back "$name"
     trap - EXIT
 done
 exit $status

@@ -177,15 +177,15 @@ fn subject_of(task: Task, word: &str) -> Subject<'_> {
 /// The task of a word.
 fn task_of(word: &str) -> Task {
     for (name, task) in TASKS {
-        if word == name {
-            return task;
+        if word == *name {
+            return *task;
         }
     }
     Task::Unknown
 }
 
 /// The tasks by their names.
-const TASKS: [(&str, Task); 51] = [
+const TASKS: &[(&str, Task)] = &[
     ("primitive", Task::Primitive),
     ("type", Task::Type),
     ("id", Task::Id),
