@@ -1,7 +1,7 @@
 #!/usr/bin/env bash
-# Tries the edits of crates/NAME/more-edits. As with those of must-fail, the proof has to refuse each. They stand apart since a
-# crate's first edit takes as long as the crate's proof: with all of them rt ci would take twice as long. Nothing else runs them,
-# so run them after a change of the crate's contracts. At the top of the repository:
+# Tries the edits of crates/NAME/more-edits. As with those of must-fail, the proof has to refuse each. They stand apart since each
+# of them has a whole cycle of functions proved again, which takes minutes. Nothing else runs them, so run them after a change of
+# the crate. At the top of the repository:
 #
 #   ./more_edits.sh NAME ...
 #
