@@ -4,8 +4,8 @@ use Rattle.std.specs.Prelude.{Option}
 use Rattle.pdb_container.specs.Fault as container
 use Rattle.pdb_container.specs.Fault.{◌>>=◌}
 use Rattle.pdb_addresses.specs.declared.internal_section_offset.PdbInternalSectionOffset.{PdbInternalSectionOffset}
-use Rattle.pdb_subsections.specs.declared.line_info.LineInfo.{LineInfo}
 use Rattle.pdb_modules.specs.ModuleStream.{ModuleStream, iteration_in}
+use Rattle.pdb_module_data.specs.declared.function_rows.LineRow.{LineRow}
 use Rattle.pdb_module_data.specs.Forest.{Site, sites_of}
 use Rattle.pdb_module_data.specs.FunctionLine.{function_rows, row_at}
 use Rattle.pdb_module_data.specs.declared.inlined_calls.InlinedCall.{InlinedCall}
@@ -20,27 +20,27 @@ use Rattle.pdb_context.specs.Frames.{row_and_calls}
 use Rattle.pdb_context.specs.Modules.{ExtendedModule, extended_procedure_of, procedure_sites, procedure_calls, sites_lifted}
 
 -- a row and calls as they are found, rows and sites as they are read, and the former by the latter
-abbrev found : Option LineInfo → List InlinedCall → Result (Option LineInfo × List InlinedCall) Fault
+abbrev found : Option LineRow → List InlinedCall → Result (Option LineRow × List InlinedCall) Fault
 found row calls = Ok (row, calls)
 
-abbrev read_both : List LineInfo → List Site → Result (List LineInfo × List Site) Fault
+abbrev read_both : List LineRow → List Site → Result (List LineRow × List Site) Fault
 read_both rows sites = Ok (rows, sites)
 
-abbrev found_in : (List LineInfo → Option LineInfo) → (List Site → List InlinedCall) → List LineInfo × List Site → Result (Option LineInfo × List InlinedCall) Fault
+abbrev found_in : (List LineRow → Option LineRow) → (List Site → List InlinedCall) → List LineRow × List Site → Result (Option LineRow × List InlinedCall) Fault
 found_in f g read = Ok (f read.0, g read.1)
 
-module _ (f : List LineInfo → Option LineInfo) (g : List Site → List InlinedCall) where
+module _ (f : List LineRow → Option LineRow) (g : List Site → List InlinedCall) where
   -- the same steps of sites, in either grouping
-  in_sites : (rows : List LineInfo) (sites : Result (List Site) Fault) → ((sites >>= λ t. Ok (g t)) >>= found (f rows)) ≡ ((sites >>= read_both rows) >>= found_in f g)
+  in_sites : (rows : List LineRow) (sites : Result (List Site) Fault) → ((sites >>= λ t. Ok (g t)) >>= found (f rows)) ≡ ((sites >>= read_both rows) >>= found_in f g)
   in_sites rows (Ok sites) = refl
   in_sites rows (Err e) = refl
 
-  in_symbols : {S : Type 0} → (rows : List LineInfo) (symbols : Result S container.Fault) (sites : S → Result (List Site) Fault)
+  in_symbols : {S : Type 0} → (rows : List LineRow) (symbols : Result S container.Fault) (sites : S → Result (List Site) Fault)
       → ((lifted symbols >>= λ s. sites s >>= λ t. Ok (g t)) >>= found (f rows)) ≡ (((lifted symbols >>= λ s. sites s) >>= read_both rows) >>= found_in f g)
   in_symbols rows (Ok s) sites = in_sites rows (sites s)
   in_symbols rows (Err e) sites = refl
 
-  in_rows : {S : Type 0} → (rows : Result (List LineInfo) container.Fault) (symbols : Result S container.Fault) (sites : S → Result (List Site) Fault)
+  in_rows : {S : Type 0} → (rows : Result (List LineRow) container.Fault) (symbols : Result S container.Fault) (sites : S → Result (List Site) Fault)
       → (lifted (rows >>= λ r. Ok (f r)) >>= λ row. (lifted symbols >>= λ s. sites s >>= λ t. Ok (g t)) >>= found row)
       ≡ ((lifted rows >>= λ r. (lifted symbols >>= λ s. sites s) >>= read_both r) >>= found_in f g)
   in_rows (Ok r) symbols sites = in_symbols r symbols sites
@@ -59,7 +59,7 @@ row_and_calls_by stream extended q place =
     (function_rows extended.program q.offset) (iteration_in stream 4) (λ symbols. sites_lifted (sites_of symbols.bytes (q.symbol_index).0 (q.end_symbol_index).0))
 
 -- they are found in what was read
-pub row_and_calls_are : (stream : ModuleStream) (extended : ExtendedModule) (q : Procedure) (place : PdbInternalSectionOffset) (rows : List LineInfo) (sites : List Site)
+pub row_and_calls_are : (stream : ModuleStream) (extended : ExtendedModule) (q : Procedure) (place : PdbInternalSectionOffset) (rows : List LineRow) (sites : List Site)
     → extended_procedure_of stream extended.program q ≡ Ok (rows, sites)
     → row_and_calls stream extended (Proc q) place ≡ Ok (row_at rows place.offset, calls_over (call_rows extended.inlinees q.offset) sites place)
 row_and_calls_are stream extended q place rows sites read =

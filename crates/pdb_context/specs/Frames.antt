@@ -4,13 +4,13 @@ use Rattle.pdb_container.specs.Fault.{◌>>=◌}
 use Rattle.pdb_addresses.specs.declared.internal_section_offset.PdbInternalSectionOffset.{PdbInternalSectionOffset}
 use Rattle.pdb_addresses.specs.Addresses.{outer_of_place}
 use Rattle.pdb_addresses.specs.Numbers.{in_32_bits}
-use Rattle.pdb_subsections.specs.declared.line_info.LineInfo.{LineInfo}
 use Rattle.pdb_lines.specs.LinesSubsections.{Program}
 use Rattle.pdb_modules.specs.ModuleStream.{ModuleStream}
 use Rattle.pdb_inlinees.specs.Inlinees.{InlinedFunction}
 use Rattle.pdb_contributions.specs.declared.contribution.ModuleSectionContribution.{ModuleSectionContribution}
 use Rattle.pdb_contributions.specs.Contributions.{holder}
 use Rattle.pdb_public_list.specs.Publics.{PublicFunction, next_public}
+use Rattle.pdb_module_data.specs.declared.function_rows.LineRow.{LineRow}
 use Rattle.pdb_module_data.specs.declared.inlined_calls.InlinedCall.{InlinedCall}
 use Rattle.pdb_module_data.specs.FunctionLine.{file_text, function_row}
 use Rattle.pdb_resolving.specs.Fault.{Fault, lifted}
@@ -41,7 +41,7 @@ call_frame p env program call =
     record { function = if_made (id_text env (call.inlinee).0); file = option_and_then (λ file. file_text program p.names file.0) call.file; line = call.line }
 
 -- the frame of a function by its row
-abbrev pub function_frame : Parts → Program → Option (List ℕ) → Option LineInfo → Frame
+abbrev pub function_frame : Parts → Program → Option (List ℕ) → Option LineRow → Frame
 function_frame p program name row =
     record { function = name; file = option_and_then (λ r. file_text program p.names (r.file_index).0) row; line = option_map (λ r. r.line_start) row }
 
@@ -52,7 +52,7 @@ calls_in stream inlinees (Public f) place = Ok []
 
 -- The line row of a place in a chosen function, and then the inlined calls over the place: the rows of the function's
 -- subsection, and a procedure's sites are read in this order.
-unfoldable pub row_and_calls : ModuleStream → ExtendedModule → Chosen → PdbInternalSectionOffset → Result (Option LineInfo × List InlinedCall) Fault
+unfoldable pub row_and_calls : ModuleStream → ExtendedModule → Chosen → PdbInternalSectionOffset → Result (Option LineRow × List InlinedCall) Fault
 row_and_calls stream extended c place = do
   row ← lifted (function_row extended.program (start_of c) place)
   calls ← calls_in stream extended.inlinees c place

@@ -4,10 +4,10 @@ use Rattle.pdb_container.specs.Fault as container
 use Rattle.pdb_container.specs.Fault.{◌>>=◌}
 use Rattle.pdb_addresses.specs.declared.internal_section_offset.PdbInternalSectionOffset.{PdbInternalSectionOffset}
 use Rattle.pdb_symbols.specs.Iteration.{symbols_left}
-use Rattle.pdb_subsections.specs.declared.line_info.LineInfo.{LineInfo}
 use Rattle.pdb_lines.specs.LinesSubsections.{Program}
 use Rattle.pdb_inlinees.specs.Inlinees.{InlinedFunction}
 use Rattle.pdb_modules.specs.ModuleStream.{ModuleStream, iteration_in, line_program_in, inlinees_in}
+use Rattle.pdb_module_data.specs.declared.function_rows.LineRow.{LineRow}
 use Rattle.pdb_module_data.specs.declared.inlined_calls.InlinedCall.{InlinedCall}
 use Rattle.pdb_module_data.specs.Procedures.{Procedure, procedures_of}
 use Rattle.pdb_module_data.specs.FunctionLine.{if_read, function_rows}
@@ -81,7 +81,7 @@ abbrev pub procedure_sites : ModuleStream → Procedure → Result (List Site) F
 procedure_sites stream q = lifted (iteration_in stream 4) >>= λ symbols. sites_lifted (sites_of symbols.bytes (q.symbol_index).0 (q.end_symbol_index).0)
 
 -- The line rows of a procedure, and then its inline sites.
-unfoldable pub extended_procedure_of : ModuleStream → Program → Procedure → Result (List LineInfo × List Site) Fault
+unfoldable pub extended_procedure_of : ModuleStream → Program → Procedure → Result (List LineRow × List Site) Fault
 extended_procedure_of stream program q = do
   rows ← lifted (function_rows program q.offset)
   sites ← procedure_sites stream q

@@ -21,9 +21,8 @@ use crate::parts::ContextParts;
 use crate::procedure_data::{ExtendedProcedureInfo, read_extended_procedure};
 use pdb_addresses::PdbInternalSectionOffset;
 use pdb_indices::FileIndex;
-use pdb_module_data::{FunctionRows, InlinedCall, Procedure, file_name};
+use pdb_module_data::{FunctionRows, InlinedCall, LineRow, Procedure, file_name};
 use pdb_resolving::{ModuleProvider, ModuleTables, Result};
-use pdb_subsections::LineInfo;
 use pdb_type_text::TypeFormatter;
 use std::alloc::{AllocError, Global};
 use std::borrow::CowStr;
@@ -35,7 +34,7 @@ fn row_and_calls_by<'a>(
     procedure: &Procedure<'_>,
     read: &ExtendedProcedureInfo<'a>,
     place: PdbInternalSectionOffset,
-) -> std::result::Result<(Option<LineInfo>, Vec<InlinedCall>), AllocError>
+) -> std::result::Result<(Option<LineRow>, Vec<InlinedCall>), AllocError>
     requires { StandForSites (call_rows (extended_seen extended.now).inlinees procedure.now.offset) (read.now).ranges }
     ensures row { IfOk result (λ r. r.0 ≡ row_at (read.now).rows place.offset) }
     ensures calls { IfOk result (λ r. (r.1).items ≡ calls_over (call_rows (extended_seen extended.now).inlinees procedure.now.offset) ((read.now).ranges).sites place) }
@@ -55,7 +54,7 @@ fn procedure_row_and_calls<'m, I: ModuleTables>(
     extended: &ExtendedModuleInfo<'m>,
     procedure: &Procedure<'_>,
     place: PdbInternalSectionOffset,
-) -> Result<(Option<LineInfo>, Vec<InlinedCall>)>
+) -> Result<(Option<LineRow>, Vec<InlinedCall>)>
     requires { extended_of (known.now).stream ≡ Ok (extended_seen extended.now) }
     ensures { Answers (λ r. (r.0, r.1.items)) result (row_and_calls (known.now).stream (extended_seen extended.now) (choice.Proc procedure.now) place) }
 {
@@ -76,7 +75,7 @@ fn row_and_calls_in<'m, I: ModuleTables>(
     extended: &ExtendedModuleInfo<'m>,
     chosen: Chosen<'_, '_>,
     place: PdbInternalSectionOffset,
-) -> Result<(Option<LineInfo>, Vec<InlinedCall>)>
+) -> Result<(Option<LineRow>, Vec<InlinedCall>)>
     requires { extended_of (known.now).stream ≡ Ok (extended_seen extended.now) }
     ensures { Answers (λ r. (r.0, r.1.items)) result (row_and_calls (known.now).stream (extended_seen extended.now) (chosen_seen chosen.entry) place) }
 {
@@ -169,7 +168,7 @@ fn function_frame<'a>(
     parts: &ContextParts<'a, '_>,
     extended: &ExtendedModuleInfo<'_>,
     function: Option<String>,
-    row: Option<LineInfo>,
+    row: Option<LineRow>,
 ) -> std::result::Result<Frame<'a>, AllocError>
     ensures { IfOk result (λ f. f ≡ frame_of_function parts.now (extended_seen extended.now).program (option_map string_bytes function) row) }
 {

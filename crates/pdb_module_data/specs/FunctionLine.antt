@@ -1,6 +1,6 @@
 -- The line of a place in a function, and the names of source files.
 -- That a function's lines are those of the last subsection at or before its start is what the pdb crate does.
-use Rattle.std.specs.Prelude.{ℕ, List, [], ◌∷◌, nat_le, nat_lt, Option, None, Some, if◌then◌else◌, Result, Ok, Err}
+use Rattle.std.specs.Prelude.{ℕ, List, [], ◌∷◌, map, nat_le, nat_lt, Option, None, Some, if◌then◌else◌, Result, Ok, Err}
 use Rattle.pdb_container.specs.Fault.{Fault, ◌>>=◌}
 use Rattle.pdb_container.specs.Listing.{whole}
 use Rattle.pdb_container.specs.StringTable.{text_in}
@@ -9,28 +9,33 @@ use Rattle.pdb_subsections.specs.declared.line_info.LineInfo.{LineInfo}
 use Rattle.pdb_lines.specs.Checksums.{file_in}
 use Rattle.pdb_lines.specs.LinesSubsections.{Program}
 use Rattle.pdb_lines.specs.LineRows.{lines_for}
+use Rattle.pdb_module_data.specs.declared.function_rows.LineRow.{LineRow}
+
+-- what is kept of a row: all that an answer needs
+abbrev pub row_of : LineInfo → LineRow
+row_of row = record { start = (row.offset).offset; file_index = row.file_index; line_start = row.line_start }
 
 -- the row with the greater start, of equals the later one
-abbrev pub later_row : Option LineInfo → Option LineInfo → Option LineInfo
+abbrev pub later_row : Option LineRow → Option LineRow → Option LineRow
 later_row a None = a
 later_row None (Some b) = Some b
-later_row (Some a) (Some b) = if nat_lt (b.offset).offset (a.offset).offset then Some a else Some b
+later_row (Some a) (Some b) = if nat_lt b.start a.start then Some a else Some b
 
 -- a row, if it begins at an offset or before it
-abbrev pub if_begun : LineInfo → ℕ → Option LineInfo
-if_begun row offset = if nat_le (row.offset).offset offset then Some row else None
+abbrev pub if_begun : LineRow → ℕ → Option LineRow
+if_begun row offset = if nat_le row.start offset then Some row else None
 
 -- of the rows that begin at an offset or before it the one with the greatest start, of equals the last
-abbrev pub row_at : List LineInfo → ℕ → Option LineInfo
+abbrev pub row_at : List LineRow → ℕ → Option LineRow
 row_at [] offset = None
 row_at (row ∷ rows) offset = later_row (if_begun row offset) (row_at rows offset)
 
 -- the rows of the function that begins at a place: those of its subsection, which have to be there to their end
-abbrev pub function_rows : Program → PdbInternalSectionOffset → Result (List LineInfo) Fault
-function_rows program start = whole (lines_for program start)
+abbrev pub function_rows : Program → PdbInternalSectionOffset → Result (List LineRow) Fault
+function_rows program start = whole (lines_for program start) >>= λ rows. Ok (map row_of rows)
 
 -- the row of a place in the function that begins at another one, of that one's rows
-abbrev pub function_row : Program → PdbInternalSectionOffset → PdbInternalSectionOffset → Result (Option LineInfo) Fault
+abbrev pub function_row : Program → PdbInternalSectionOffset → PdbInternalSectionOffset → Result (Option LineRow) Fault
 function_row program start place = function_rows program start >>= λ rows. Ok (row_at rows place.offset)
 
 -- what was read, if it could be

@@ -3,38 +3,38 @@
 use Rattle.std.specs.Prelude.{◌≡◌, ℕ, zero, suc, ◌+◌, ◌^◌, ◌<◌, ◌≤◌, List, [], ◌∷◌, ◌++◌, slice_get, Option, None, Some, option_and_then}
 use Rattle.pdb_pieces.specs.declared.span.Span.{Span}
 use Rattle.pdb_pieces.specs.Spans.{best}
-use Rattle.pdb_subsections.specs.declared.line_info.LineInfo.{LineInfo}
+use Rattle.pdb_module_data.specs.declared.function_rows.LineRow.{LineRow}
 use Rattle.pdb_module_data.specs.FunctionLine.{row_at}
 
 -- what a row covers: the offsets from its own on, of 32 bits; ranked by its own
-abbrev pub row_span : ℕ → LineInfo → Span
-row_span number row = record { start = (row.offset).offset; end = 2 ^ 32; mark = record { rank = (row.offset).offset; value = number } }
+abbrev pub row_span : ℕ → LineRow → Span
+row_span number row = record { start = row.start; end = 2 ^ 32; mark = record { rank = row.start; value = number } }
 
 -- what rows cover, of which the first has this number; the last row comes first, since of equal ranks the first counts
-abbrev pub row_spans : ℕ → List LineInfo → List Span
+abbrev pub row_spans : ℕ → List LineRow → List Span
 row_spans number [] = []
 row_spans number (row ∷ rows) = row_spans (number + 1) rows ++ row_span number row ∷ []
 
 -- at each offset stands the number of the row there
-pub record StandForRows (pieces : List Span) (rows : List LineInfo) : Type 0 where
+pub record StandForRows (pieces : List Span) (rows : List LineRow) : Type 0 where
   pub each : (offset : ℕ) → offset < 2 ^ 32 → option_and_then (λ m. slice_get rows m.value) (best pieces offset) ≡ row_at rows offset
 
 -- rows in ascending order by their offsets, none before `low`
-abbrev pub AreAscending : ℕ → List LineInfo → Type 0
+abbrev pub AreAscending : ℕ → List LineRow → Type 0
 AreAscending low [] = Unit {0}
-AreAscending low (row ∷ rows) = (low ≤ (row.offset).offset) × AreAscending (row.offset).offset rows
+AreAscending low (row ∷ rows) = (low ≤ row.start) × AreAscending row.start rows
 
 -- pieces stand for rows, or else the rows ascend
-abbrev pub AreSearchable : List LineInfo → Option (List Span) → Type 0
+abbrev pub AreSearchable : List LineRow → Option (List Span) → Type 0
 AreSearchable rows None = AreAscending 0 rows
 AreSearchable rows (Some pieces) = StandForRows pieces rows
 
 -- the row in front of a number
-abbrev pub row_before : List LineInfo → ℕ → Option LineInfo
+abbrev pub row_before : List LineRow → ℕ → Option LineRow
 row_before rows zero = None
 row_before rows (suc n) = slice_get rows n
 
 -- So many rows begin at an offset or before it, and those behind them past it.
-pub record AreSplit (rows : List LineInfo) (offset n : ℕ) : Type 0 where
-  pub front : (i : ℕ) (row : LineInfo) → i < n → slice_get rows i ≡ Some row → (row.offset).offset ≤ offset
-  pub back : (i : ℕ) (row : LineInfo) → n ≤ i → slice_get rows i ≡ Some row → offset < (row.offset).offset
+pub record AreSplit (rows : List LineRow) (offset n : ℕ) : Type 0 where
+  pub front : (i : ℕ) (row : LineRow) → i < n → slice_get rows i ≡ Some row → row.start ≤ offset
+  pub back : (i : ℕ) (row : LineRow) → n ≤ i → slice_get rows i ≡ Some row → offset < row.start

@@ -7,26 +7,37 @@ ghost use Rattle.pdb_module_data.specs.RowPieces.{row_span as span_of_row, row_s
 
 use pdb_addresses::PdbInternalSectionOffset;
 use pdb_container::{FallibleIterator, Result};
+use pdb_indices::FileIndex;
 use pdb_lines::LineProgram;
 use pdb_pieces::{Mark, Pieces, Span};
-use pdb_subsections::LineInfo;
 use std::alloc::{AllocError, Global};
 use std::marker::Model;
 
-/// The line rows of a function: those of its `DEBUG_S_LINES`, in their order, and pieces of offsets for a search among them where
-/// they don't ascend.
+/// What is kept of a line row of a function: where its code begins, and its file and line.
+#[derive(Clone, Copy, Debug, PartialEq, Eq)]
+pub struct LineRow {
+    /// Where the code begins: an offset in the function's section, in bytes.
+    pub start: u32,
+    /// The file, by its place among the module's checksums, in bytes.
+    pub file_index: FileIndex,
+    /// The line, counted from 1.
+    pub line_start: u32,
+}
+
+/// The line rows of a function: what is kept of those of its `DEBUG_S_LINES`, in their order, and pieces of offsets for a search
+/// among them where they don't ascend.
 #[derive(Drop)]
 pub struct FunctionRows {
-    rows: Vec<LineInfo>,
+    rows: Vec<LineRow>,
     pieces: Option<Pieces>,
 }
 
 impl Model for FunctionRows {
     ghost use Rattle.std.specs.Prelude.{List};
-    ghost use Rattle.pdb_subsections.specs.declared.line_info.LineInfo.{LineInfo};
+    ghost use Rattle.pdb_module_data.specs.declared.function_rows.LineRow.{LineRow};
     ghost use Rattle.pdb_module_data.specs.RowPieces.{AreSearchable};
 
-    ghost Value = { List LineInfo };
+    ghost Value = { List LineRow };
 
     ghost view = { λ r. r.rows.items };
 
@@ -35,10 +46,10 @@ impl Model for FunctionRows {
 }
 
 /// What a row of this number covers, to the end of its section, ranked by its start.
-fn row_span(number: usize, row: LineInfo) -> Span
+fn row_span(number: usize, row: LineRow) -> Span
     ensures { result ≡ span_of_row number row }
 {
-    let start = u64::from(row.offset.offset);
+    let start = u64::from(row.start);
     Span {
         start,
         end: 0x1_0000_0000,
@@ -50,7 +61,7 @@ fn row_span(number: usize, row: LineInfo) -> Span
 }
 
 /// What rows cover, each ranked by its start. The last row comes first, since of equal ranks the first counts.
-fn row_spans(alloc: Global, rows: &[LineInfo]) -> std::result::Result<Vec<Span>, AllocError>
+fn row_spans(alloc: Global, rows: &[LineRow]) -> std::result::Result<Vec<Span>, AllocError>
     ensures { IfOk result (λ v. v.items ≡ spans_of_rows 0 rows.now) }
 {
     let mut spans = Vec::new(alloc);
@@ -64,7 +75,7 @@ fn row_spans(alloc: Global, rows: &[LineInfo]) -> std::result::Result<Vec<Span>,
 
 /// Pieces of offsets with the number of the row at each.
 #[tactic(auto, using(crate::proofs::RowPieceSteps::stand_for_rows))]
-fn row_pieces(alloc: Global, rows: &[LineInfo]) -> std::result::Result<Pieces, AllocError>
+fn row_pieces(alloc: Global, rows: &[LineRow]) -> std::result::Result<Pieces, AllocError>
     ensures { IfOk result (λ pieces. StandForRows pieces rows.now) }
 {
     let spans = row_spans(alloc, rows)?;
@@ -72,15 +83,15 @@ fn row_pieces(alloc: Global, rows: &[LineInfo]) -> std::result::Result<Pieces, A
 }
 
 /// Whether no row begins before the one in front of it.
-fn are_ascending(rows: &[LineInfo]) -> bool
+fn are_ascending(rows: &[LineRow]) -> bool
     ensures { result ≡ true → AreAscending 0 rows.now }
 {
     let mut last = 0;
     for row in rows {
-        if row.offset.offset < last {
+        if row.start < last {
             return false;
         }
-        last = row.offset.offset;
+        last = row.start;
     }
     true
 }
@@ -88,7 +99,7 @@ fn are_ascending(rows: &[LineInfo]) -> bool
 /// Pieces of offsets with the number of the row at each, unless the rows ascend.
 fn pieces_unless_ascending(
     alloc: Global,
-    rows: &[LineInfo],
+    rows: &[LineRow],
 ) -> std::result::Result<Option<Pieces>, AllocError>
     ensures { IfOk result (λ pieces. AreSearchable rows.now pieces) }
 {
@@ -100,23 +111,23 @@ fn pieces_unless_ascending(
 }
 
 /// How many rows begin at an offset or before it, of rows that ascend.
-fn count_begun(rows: &[LineInfo], offset: u32) -> usize
+fn count_begun(rows: &[LineRow], offset: u32) -> usize
     requires { AreAscending 0 rows.now }
     ensures bound { result ≤ length rows.now }
     ensures split { AreSplit rows.now offset result }
 {
-    rows.partition_point(|row| row.offset.offset <= offset)
+    rows.partition_point(|row| row.start <= offset)
 }
 
 /// The row of a number, if it is there.
-fn row_numbered(rows: &[LineInfo], number: usize) -> Option<LineInfo>
+fn row_numbered(rows: &[LineRow], number: usize) -> Option<LineRow>
     ensures { result ≡ slice_get rows.now number }
 {
     rows.get(number).copied()
 }
 
 /// The row at an offset, of rows that ascend, by halving.
-fn row_by_halving(rows: &[LineInfo], offset: u32) -> Option<LineInfo>
+fn row_by_halving(rows: &[LineRow], offset: u32) -> Option<LineRow>
     requires { AreAscending 0 rows.now }
     ensures { result ≡ row_at rows.now offset }
 {
@@ -129,7 +140,7 @@ fn row_by_halving(rows: &[LineInfo], offset: u32) -> Option<LineInfo>
 }
 
 /// The row at an offset, by pieces.
-fn row_by_pieces(rows: &[LineInfo], pieces: &Pieces, offset: u32) -> Option<LineInfo>
+fn row_by_pieces(rows: &[LineRow], pieces: &Pieces, offset: u32) -> Option<LineRow>
     requires { StandForRows pieces.now rows.now }
     ensures { result ≡ row_at rows.now offset }
 {
@@ -144,13 +155,17 @@ fn read_rows(
     alloc: Global,
     line_program: &LineProgram<'_>,
     start: PdbInternalSectionOffset,
-) -> Result<Vec<LineInfo>>
+) -> Result<Vec<LineRow>>
     ensures { Gives (λ v. v.items) ⊥ result (function_rows line_program.now start) }
 {
     let mut remaining = line_program.lines_for_symbol(start);
     let mut rows = Vec::new(alloc);
     while let Some(row) = remaining.next()? {
-        rows.push(row)?;
+        rows.push(LineRow {
+            start: row.offset.offset,
+            file_index: row.file_index,
+            line_start: row.line_start,
+        })?;
     }
     Ok(rows)
 }
@@ -175,7 +190,7 @@ impl FunctionRows {
 
     /// The row at an offset: of those that begin at it or before it the one with the greatest start, of equals the last. It
     /// takes as many steps as the number of rows or of pieces has binary digits.
-    pub fn at(&self, offset: u32) -> Option<LineInfo>
+    pub fn at(&self, offset: u32) -> Option<LineRow>
         ensures { result ≡ row_at self.now offset }
     {
         match &self.pieces {

@@ -14,7 +14,7 @@ mod procedure_list;
 mod procedures;
 
 pub use function_line::file_name;
-pub use function_rows::FunctionRows;
+pub use function_rows::{FunctionRows, LineRow};
 pub use inline_ranges::InlineRanges;
 pub use inline_sites::{InlineSites, Site, SitesError};
 pub use inlined_calls::InlinedCall;

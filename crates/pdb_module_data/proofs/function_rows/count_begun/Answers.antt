@@ -7,5 +7,5 @@ use Rattle.pdb_module_data.proofs.function_rows.count_begun.Goals as goal
 pub returns-clause-split : goal.returns-clause-split
 returns-clause-split c =
     split_by c.args.rows.now c.args.offset c.partition_point.result
-    (IsPartitionPoint-from_clause (λ row. nat_le (row.offset).offset c.args.offset) _ _ c.partition_point.ensures.partitioned
+    (IsPartitionPoint-from_clause (λ row. nat_le row.start c.args.offset) _ _ c.partition_point.ensures.partitioned
     (starts_first 0 _ c.args.offset c.requires) (λ a r f k. search rules))
