@@ -44,6 +44,7 @@ fn kept_rows(alloc: Global, mut rows: InlineeLineIterator<'_>) -> Result<Vec<Cal
             })?;
         }
     }
+    kept.shrink_to_fit();
     Ok(kept)
 }
 

@@ -167,6 +167,7 @@ fn read_rows(
             line_start: row.line_start,
         })?;
     }
+    rows.shrink_to_fit();
     Ok(rows)
 }
 

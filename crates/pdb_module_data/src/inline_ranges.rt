@@ -53,8 +53,8 @@ fn rows_and_spans<'a>(
     ensures spans { IfOk result (λ r. r.spans.items ≡ spans_of_sites (call_rows (given_by inlinees.now) start) 0 sites.now) }
     ensures short { IfOk result (λ r. AreShortSites (call_rows (given_by inlinees.now) start) sites.now) }
 {
-    let mut rows = Vec::new(alloc);
-    let mut spans = Vec::new(alloc);
+    let mut rows = Vec::with_capacity(alloc, sites.len())?;
+    let mut spans = Vec::with_capacity(alloc, sites.len())?;
     for (number, site) in sites.iter().enumerate() {
         let kept = site_rows(alloc, site, inlinees, start)?;
         push_spans(&mut spans, number, site.depth, kept.as_slice())?;
