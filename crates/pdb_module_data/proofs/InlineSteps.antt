@@ -14,7 +14,7 @@ use Rattle.pdb_pieces.proofs.Covers.{best-append}
 use Rattle.pdb_module_data.specs.Forest.{Site}
 use Rattle.pdb_module_data.specs.InlinedCalls.{is_over, deeper, deepest_from}
 use Rattle.pdb_module_data.specs.declared.call_rows.CallRow.{CallRow}
-use Rattle.pdb_module_data.specs.InlinePieces.{kept_rows, rows_of_sites, site_row_span, site_spans, covers_kept, IsShortRow, AreShortRows, AreShortSites, StandForSites}
+use Rattle.pdb_module_data.specs.InlinePieces.{kept_rows, rows_of_sites, starts_of_sites, site_row_span, site_spans, covers_kept, IsShortRow, AreShortRows, AreShortSites, StandForSites}
 use Rattle.pdb_module_data.proofs.KeptRows.{any_kept}
 
 -- a site that was found, by its number and depth, as a mark
@@ -70,13 +70,13 @@ by_number None = refl
 by_number (Some f) = refl
 
 -- pieces that stand with the best of what sites cover stand for these
-stand_for_sites : (rows : InlineSiteForm → List LineInfo) (sites : List Site) (kept : List (List CallRow)) (pieces : List Span) → AreShortSites rows sites → kept ≡ rows_of_sites rows sites
-    → ((p : ℕ) → best pieces p ≡ best (site_spans rows 0 sites) p) → StandForSites rows record { sites = sites; rows = kept; pieces = pieces }
-stand_for_sites rows sites kept pieces short alike same =
-    record { kept = alike; each = λ place small. ap (option_map (λ (m : Mark). m.value)) (same (place_number place) ∙ sites_over rows place small 0 sites short) ∙ by_number (deepest_from rows place 0 sites) }
+stand_for_sites : (rows : InlineSiteForm → List LineInfo) (sites : List Site) (kept : List CallRow) (starts : List ℕ) (pieces : List Span) → AreShortSites rows sites → kept ≡ rows_of_sites rows sites → starts ≡ starts_of_sites rows 0 sites
+    → ((p : ℕ) → best pieces p ≡ best (site_spans rows 0 sites) p) → StandForSites rows record { sites = sites; rows = kept; starts = starts; pieces = pieces }
+stand_for_sites rows sites kept starts pieces short alike cut same =
+    record { kept = alike; starts = cut; each = λ place small. ap (option_map (λ (m : Mark). m.value)) (same (place_number place) ∙ sites_over rows place small 0 sites short) ∙ by_number (deepest_from rows place 0 sites) }
 
 -- the same by what was read of the sites
-pub stand_as_read : (rows : InlineSiteForm → List LineInfo) (sites read : List Site) (kept : List (List CallRow)) (spans cut pieces : List Span) → read ≡ sites → AreShortSites rows read → kept ≡ rows_of_sites rows read
-    → spans ≡ site_spans rows 0 read → cut ≡ spans → ((p : ℕ) → best pieces p ≡ best cut p) → StandForSites rows record { sites = sites; rows = kept; pieces = pieces }
-stand_as_read rows sites read kept spans cut pieces e short alike f g same =
-    subst (λ s. StandForSites rows record { sites = s; rows = kept; pieces = pieces }) e (stand_for_sites rows read kept pieces short alike (λ p. same p ∙ ap (λ ys. best ys p) (g ∙ f)))
+pub stand_as_read : (rows : InlineSiteForm → List LineInfo) (sites read : List Site) (kept : List CallRow) (starts : List ℕ) (spans ordered pieces : List Span) → read ≡ sites → AreShortSites rows read → kept ≡ rows_of_sites rows read → starts ≡ starts_of_sites rows 0 read
+    → spans ≡ site_spans rows 0 read → ordered ≡ spans → ((p : ℕ) → best pieces p ≡ best ordered p) → StandForSites rows record { sites = sites; rows = kept; starts = starts; pieces = pieces }
+stand_as_read rows sites read kept starts spans ordered pieces e short alike cut f g same =
+    subst (λ s. StandForSites rows record { sites = s; rows = kept; starts = starts; pieces = pieces }) e (stand_for_sites rows read kept starts pieces short alike cut (λ p. same p ∙ ap (λ ys. best ys p) (g ∙ f)))

@@ -1,19 +1,19 @@
 -- What is kept of rows answers as the rows do.
-use Rattle.std.proofs.Common.{◌≡◌, ℕ, zero, suc, Bool, true, false, List, [], ◌∷◌, ◌++◌, map, length, get_or, Option, None, Some, refl, sym, ap, ◌∙◌, arith}
-use Rattle.std.specs.Global.{Vec}
+use Rattle.std.proofs.Common.{◌≡◌, ℕ, zero, suc, ◌+◌, ◌-◌, ◌≤◌, Bool, true, false, List, [], ◌∷◌, ◌++◌, length, get_or, drop, Option, None, Some, refl, sym, ap, ◌∙◌, append_assoc, add-one, arith}
 use Rattle.pdb_symbols.specs.Forms.{InlineSiteForm}
 use Rattle.pdb_module_data.specs.Forest.{Site}
 use Rattle.std.specs.Prelude.{◌||◌, ◌<◌, if◌then◌else◌, unwrap_or, option_map, slice_get}
 use Rattle.std.specs.List.{find, list_any}
 use Rattle.std.proofs.lemmas.Bool.Decides.{nat_tests}
-use Rattle.std.proofs.lemmas.List.{length-map}
+use Rattle.std.proofs.lemmas.List.{length-append}
+use Rattle.std.proofs.Math.Seq.{drop-append_seam, take-append_seam}
 use Rattle.pdb_indices.specs.declared.index.IdIndex.{IdIndex}
 use Rattle.pdb_addresses.specs.declared.internal_section_offset.PdbInternalSectionOffset.{PdbInternalSectionOffset}
 use Rattle.pdb_subsections.specs.declared.line_info.LineInfo.{LineInfo}
 use Rattle.pdb_inlinees.specs.InlinedRows.{covers}
 use Rattle.pdb_module_data.specs.declared.call_rows.CallRow.{CallRow}
 use Rattle.pdb_module_data.specs.InlinedCalls.{has_length, call_by}
-use Rattle.pdb_module_data.specs.InlinePieces.{kept_rows, rows_of_sites, covers_kept, call_by_kept}
+use Rattle.pdb_module_data.specs.InlinePieces.{kept_rows, rows_of_sites, starts_of_sites, rows_between, covers_kept, call_by_kept, AreCut}
 
 -- what is kept of a row that covers anything
 abbrev kept_one : LineInfo → CallRow
@@ -69,23 +69,57 @@ pub call_kept : (id : IdIndex) (rows : List LineInfo) (kept : List CallRow) (pla
 call_kept id rows kept place e =
     ap (λ k. call_by_kept id (find (covers_kept place) k) k) e ∙ ap (λ o. call_by_kept id o (kept_rows rows)) (find_kept rows place) ∙ call_found id rows (find (λ row. covers row place) rows)
 
-kept_there : (all : List (Vec CallRow)) (sites : List Site) (lines : InlineSiteForm → List LineInfo) (k : ℕ) (r d : Vec CallRow) (site : Site) → map (λ v. v.items) all ≡ rows_of_sites lines sites → k < length all → r ≡ get_or all k d
-    → slice_get sites k ≡ Some site → r.items ≡ kept_rows (lines site.call)
-kept_there [] sites lines k r d site e h f g = absurd (omega arith)
-kept_there (x ∷ all) [] lines k r d site e h f g = cc
-kept_there (x ∷ all) (s ∷ sites) lines zero r d site e h f g =
-    let same : s ≡ site = cc in
-    let first : x.items ≡ kept_rows (lines s.call) = cc in
-    ap (λ v. v.items) f ∙ first ∙ ap (λ t. kept_rows (lines t.call)) same
-kept_there (x ∷ all) (s ∷ sites) lines (suc k) r d site e h f g =
-    let rest : map (λ v. v.items) all ≡ rows_of_sites lines sites = cc in
-    kept_there all sites lines k r d site rest (omega arith) f g
+-- the first start
+first_start : (lines : InlineSiteForm → List LineInfo) (n : ℕ) (sites : List Site) → get_or (starts_of_sites lines n sites) 0 0 ≡ n
+first_start lines n [] = refl
+first_start lines n (site ∷ sites) = refl
 
--- each site has its rows
-pub as_many : (all : List (Vec CallRow)) (sites : List Site) (lines : InlineSiteForm → List LineInfo) → map (λ v. v.items) all ≡ rows_of_sites lines sites → length all ≡ length sites
-as_many all sites lines e = sym (length-map all (λ v. v.items)) ∙ ap length e ∙ length-map sites (λ site. kept_rows (lines site.call))
+-- rows behind others, up to their end
+cut_out : (front kept rest : List CallRow) (n m : ℕ) → length front ≡ n → m ≡ n + length kept → rows_between (front ++ (kept ++ rest)) n m ≡ kept
+cut_out front kept rest n m e f =
+    let d : drop n (front ++ (kept ++ rest)) ≡ kept ++ rest = ap (λ i. drop i (front ++ (kept ++ rest))) (sym e) ∙ drop-append_seam front (kept ++ rest) in
+    let l : m - n ≡ length kept = omega arith in
+    rw (d, l) (take-append_seam kept rest)
+
+kept_behind : (lines : InlineSiteForm → List LineInfo) (front : List CallRow) (n : ℕ) (sites : List Site) (k : ℕ) (site : Site) → length front ≡ n → slice_get sites k ≡ Some site
+    → rows_between (front ++ rows_of_sites lines sites) (get_or (starts_of_sites lines n sites) k 0) (get_or (starts_of_sites lines n sites) (suc k) 0) ≡ kept_rows (lines site.call)
+kept_behind lines front n [] k site e g = cc
+kept_behind lines front n (s ∷ sites) zero site e g =
+    let same : s ≡ site = cc in
+    cut_out front (kept_rows (lines s.call)) (rows_of_sites lines sites) n _ e (first_start lines (n + length (kept_rows (lines s.call))) sites) ∙ ap (λ t. kept_rows (lines t.call)) same
+kept_behind lines front n (s ∷ sites) (suc k) site e g =
+    let kept = kept_rows (lines s.call) in
+    let starts = starts_of_sites lines (n + length kept) sites in
+    let far : length (front ++ kept) ≡ n + length kept = omega (arith, length-append front kept) in
+    ap (λ all. rows_between all (get_or starts k 0) (get_or starts (suc k) 0)) (sym (append_assoc front kept (rows_of_sites lines sites))) ∙ kept_behind lines (front ++ kept) (n + length kept) sites k site far g
 
 -- what is kept of the rows of the site of a number
-pub kept_at : (all : List (Vec CallRow)) (sites : List Site) (lines : InlineSiteForm → List LineInfo) (k : ℕ) (r : Vec CallRow) (site : Site) → map (λ v. v.items) all ≡ rows_of_sites lines sites → k < length sites → r ≡ get_or all k r
-    → slice_get sites k ≡ Some site → r.items ≡ kept_rows (lines site.call)
-kept_at all sites lines k r site e h f g = let l = as_many all sites lines e in kept_there all sites lines k r r site e (omega arith) f g
+pub kept_at : (rows : List CallRow) (starts : List ℕ) (sites : List Site) (lines : InlineSiteForm → List LineInfo) (k : ℕ) (site : Site) → rows ≡ rows_of_sites lines sites → starts ≡ starts_of_sites lines 0 sites
+    → slice_get sites k ≡ Some site → rows_between rows (get_or starts k 0) (get_or starts (k + 1) 0) ≡ kept_rows (lines site.call)
+kept_at rows starts sites lines k site e f g =
+    rw add-one (ap (λ all. rows_between all (get_or starts k 0) (get_or starts (suc k) 0)) e ∙ ap (λ at. rows_between (rows_of_sites lines sites) (get_or at k 0) (get_or at (suc k) 0)) f ∙ kept_behind lines [] 0 sites k site refl g)
+
+many_starts : (lines : InlineSiteForm → List LineInfo) (n : ℕ) (sites : List Site) → length (starts_of_sites lines n sites) ≡ length sites + 1
+many_starts lines n [] = refl
+many_starts lines n (s ∷ sites) = omega (arith, many_starts lines (n + length (kept_rows (lines s.call))) sites)
+
+starts_ascend : (lines : InlineSiteForm → List LineInfo) (n : ℕ) (sites : List Site) (k : ℕ) → k < length sites → get_or (starts_of_sites lines n sites) k 0 ≤ get_or (starts_of_sites lines n sites) (suc k) 0
+starts_ascend lines n [] k h = absurd (omega arith)
+starts_ascend lines n (s ∷ sites) zero h = omega (arith, first_start lines (n + length (kept_rows (lines s.call))) sites)
+starts_ascend lines n (s ∷ sites) (suc k) h = starts_ascend lines (n + length (kept_rows (lines s.call))) sites k (omega arith)
+
+starts_within : (lines : InlineSiteForm → List LineInfo) (n : ℕ) (sites : List Site) (k : ℕ) → k < length sites → get_or (starts_of_sites lines n sites) (suc k) 0 ≤ n + length (rows_of_sites lines sites)
+starts_within lines n [] k h = absurd (omega arith)
+starts_within lines n (s ∷ sites) zero h =
+    omega (arith, first_start lines (n + length (kept_rows (lines s.call))) sites, length-append (kept_rows (lines s.call)) (rows_of_sites lines sites))
+starts_within lines n (s ∷ sites) (suc k) h =
+    let rest = starts_within lines (n + length (kept_rows (lines s.call))) sites k (omega arith) in
+    omega (arith, rest, length-append (kept_rows (lines s.call)) (rows_of_sites lines sites))
+
+-- the starts of sites' rows cut these
+pub are_cut : (rows : List CallRow) (starts : List ℕ) (sites : List Site) (lines : InlineSiteForm → List LineInfo) → rows ≡ rows_of_sites lines sites → starts ≡ starts_of_sites lines 0 sites → AreCut (length sites) starts (length rows)
+are_cut rows starts sites lines e f = rw (e, f) record {
+  many = many_starts lines 0 sites;
+  ascend = λ k h. rw add-one (starts_ascend lines 0 sites k h);
+  bound = λ k h. rw add-one (omega (arith, starts_within lines 0 sites k h));
+}

@@ -1,6 +1,6 @@
 -- Pieces of places for the inline sites of a procedure: at each place the number of the deepest site over it; and what is kept of
 -- their rows.
-use Rattle.std.specs.Prelude.{◌≡◌, ℕ, ◌+◌, ◌^◌, ◌<◌, Bool, ◌&&◌, ◌==◌, nat_le, nat_lt, List, [], ◌∷◌, ◌++◌, map, unwrap_or, Option, None, Some, option_map, if◌then◌else◌}
+use Rattle.std.specs.Prelude.{◌≡◌, ℕ, ◌+◌, ◌-◌, ◌^◌, ◌<◌, ◌≤◌, Bool, ◌&&◌, ◌==◌, nat_le, nat_lt, List, [], ◌∷◌, ◌++◌, map, length, take, drop, slice_index, unwrap_or, Option, None, Some, option_map, if◌then◌else◌}
 use Rattle.std.specs.List.{flat_map}
 use Rattle.pdb_indices.specs.declared.index.IdIndex.{IdIndex}
 use Rattle.pdb_addresses.specs.declared.internal_section_offset.PdbInternalSectionOffset.{PdbInternalSectionOffset}
@@ -21,9 +21,24 @@ kept_of row = if has_length row then record { offset = row.offset; length = unwr
 abbrev pub kept_rows : List LineInfo → List CallRow
 kept_rows rows = flat_map kept_of rows
 
--- what is kept of the rows of sites
-abbrev pub rows_of_sites : (InlineSiteForm → List LineInfo) → List Site → List (List CallRow)
-rows_of_sites rows sites = map (λ site. kept_rows (rows site.call)) sites
+-- what is kept of the rows of sites, one after another
+abbrev pub rows_of_sites : (InlineSiteForm → List LineInfo) → List Site → List CallRow
+rows_of_sites rows sites = flat_map (λ site. kept_rows (rows site.call)) sites
+
+-- where what is kept of the rows of each site starts, of which the first starts at a number; and where that of the last one ends
+abbrev pub starts_of_sites : (InlineSiteForm → List LineInfo) → ℕ → List Site → List ℕ
+starts_of_sites rows from [] = from ∷ []
+starts_of_sites rows from (site ∷ sites) = from ∷ starts_of_sites rows (from + length (kept_rows (rows site.call))) sites
+
+-- the rows from a number on and before another one
+abbrev pub rows_between : List CallRow → ℕ → ℕ → List CallRow
+rows_between rows from to = take (to - from) (drop from rows)
+
+-- for so many sites there are starts that ascend among so many rows, and one more for the end
+pub record AreCut (sites : ℕ) (starts : List ℕ) (rows : ℕ) : Type 0 where
+  pub many : length starts ≡ sites + 1
+  pub ascend : (k : ℕ) → k < sites → slice_index starts k ≤ slice_index starts (k + 1)
+  pub bound : (k : ℕ) → k < sites → slice_index starts (k + 1) ≤ rows
 
 -- what a row of the site with a number covers, ranked by the site's depth
 abbrev pub site_row_span : ℕ → ℕ → CallRow → Span
@@ -58,10 +73,11 @@ call_by_kept id (Some row) rows = record { inlinee = id; file = Some row.file_in
 call_by_kept id None [] = record { inlinee = id; file = None; line = None }
 call_by_kept id None (first ∷ rows) = record { inlinee = id; file = Some first.file_index; line = None }
 
--- the sites of a procedure, what is kept of the rows of each, and pieces for a search among them
+-- the sites of a procedure, what is kept of their rows, where those of each start, and pieces for a search among them
 pub record Ranges : Type 0 where
   pub sites : List Site
-  pub rows : List (List CallRow)
+  pub rows : List CallRow
+  pub starts : List ℕ
   pub pieces : List Span
 
 -- By the rows of calls, at each place of a section stands the number of the deepest site over it, and what is kept is kept of the
@@ -69,3 +85,4 @@ pub record Ranges : Type 0 where
 pub record StandForSites (rows : InlineSiteForm → List LineInfo) (ranges : Ranges) : Type 0 where
   pub each : (place : PdbInternalSectionOffset) → place.offset < 2 ^ 32 → option_map (λ m. m.value) (best ranges.pieces (place_number place)) ≡ deepest rows ranges.sites place
   pub kept : ranges.rows ≡ rows_of_sites rows ranges.sites
+  pub starts : ranges.starts ≡ starts_of_sites rows 0 ranges.sites

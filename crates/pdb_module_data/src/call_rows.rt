@@ -1,6 +1,6 @@
 //! What is kept of the rows of an inlined call.
 
-ghost use Rattle.std.specs.Prelude.{◌≡◌, ◌++◌, IfOk, OnOk, map};
+ghost use Rattle.std.specs.Prelude.{◌≡◌, ◌++◌, OnOk, map};
 ghost use Rattle.std.specs.List.{find};
 ghost use Rattle.pdb_module_data.specs.InlinedCalls.{given_by, call_rows};
 ghost use Rattle.pdb_module_data.specs.InlinePieces.{kept_rows as kept_of_rows, site_row_span, call_by_kept, covers_kept, AreShortRows, IsShortRow};
@@ -13,7 +13,7 @@ use pdb_container::FallibleIterator;
 use pdb_indices::{FileIndex, IdIndex};
 use pdb_inlinees::InlineeLineIterator;
 use pdb_pieces::{Mark, Span, place_number};
-use std::alloc::{AllocError, Global};
+use std::alloc::AllocError;
 
 /// A row of an inlined call that covers something: where its code begins, how many bytes it has, and its file and line.
 #[derive(Clone, Copy, Debug, PartialEq, Eq)]
@@ -28,11 +28,10 @@ pub struct CallRow {
     pub line_start: u32,
 }
 
-/// What is kept of rows; a fault ends them.
-fn kept_rows(alloc: Global, mut rows: InlineeLineIterator<'_>) -> Result<Vec<CallRow>, AllocError>
-    ensures { IfOk result (λ v. v.items ≡ kept_of_rows rows.entry.items) }
+/// What is kept of rows, behind what stands there; a fault ends them.
+fn push_kept(kept: &mut Vec<CallRow>, mut rows: InlineeLineIterator<'_>) -> Result<(), AllocError>
+    ensures { OnOk result (kept.new.items ≡ kept.old.items ++ kept_of_rows rows.entry.items) }
 {
-    let mut kept = Vec::new(alloc);
     while let Ok(Some(row)) = rows.next() {
         let length = row.length.unwrap_or(0);
         if length > 0 {
@@ -44,22 +43,21 @@ fn kept_rows(alloc: Global, mut rows: InlineeLineIterator<'_>) -> Result<Vec<Cal
             })?;
         }
     }
-    kept.shrink_to_fit();
-    Ok(kept)
+    Ok(())
 }
 
-/// What is kept of the rows of a site, where its procedure begins at `start`.
-pub fn site_rows<'a>(
-    alloc: Global,
+/// What is kept of the rows of a site, where its procedure begins at `start`, behind what stands there.
+pub fn push_site_rows<'a>(
+    kept: &mut Vec<CallRow>,
     site: &Site<'a>,
     inlinees: &Inlinees<'a>,
     start: PdbInternalSectionOffset,
-) -> Result<Vec<CallRow>, AllocError>
-    ensures { IfOk result (λ v. v.items ≡ kept_of_rows (call_rows (given_by inlinees.now) start (site.now).call)) }
+) -> Result<(), AllocError>
+    ensures { OnOk result (kept.new.items ≡ kept.old.items ++ kept_of_rows (call_rows (given_by inlinees.now) start (site.now).call)) }
 {
     match inlinees.get(site.call.inlinee) {
-        None => Ok(Vec::new(alloc)),
-        Some(inlinee) => kept_rows(alloc, inlinee.lines(start, &site.call)),
+        None => Ok(()),
+        Some(inlinee) => push_kept(kept, inlinee.lines(start, &site.call)),
     }
 }
 

@@ -1,12 +1,12 @@
 //! The inline sites of a procedure, and a search of the deepest one over a place by halving.
 
-ghost use Rattle.std.specs.Prelude.{◌≡◌, IfOk, map};
+ghost use Rattle.std.specs.Prelude.{◌≡◌, ◌++◌, IfOk, OnOk, map};
 ghost use Rattle.pdb_module_data.specs.Forest.{sites_of};
 ghost use Rattle.pdb_module_data.specs.InlinedCalls.{given_by, call_rows, calls_over as calls_over_place};
-ghost use Rattle.pdb_module_data.specs.InlinePieces.{rows_of_sites, site_spans as spans_of_sites, AreShortSites, StandForSites};
+ghost use Rattle.pdb_module_data.specs.InlinePieces.{kept_rows, rows_of_sites, starts_of_sites, site_row_span, site_spans as spans_of_sites, AreShortRows, AreShortSites, StandForSites};
 ghost use Rattle.pdb_module_data.specs.SitesFaults.{Reads};
 
-use crate::call_rows::{CallRow, push_spans, site_rows};
+use crate::call_rows::{CallRow, push_site_rows, push_spans};
 use crate::inline_sites::{InlineSites, Site, SitesError};
 use crate::inlined_calls::{InlinedCall, calls_from};
 use crate::inlinees::Inlinees;
@@ -17,50 +17,76 @@ use pdb_symbols::SymbolIter;
 use std::alloc::{AllocError, Global};
 use std::marker::Model;
 
-/// The inline sites of a procedure (`S_INLINESITE`, `S_INLINESITE2`) in the order of the file, what is kept of the rows of each,
-/// and pieces of places for a search of the deepest one over a place.
+/// The inline sites of a procedure (`S_INLINESITE`, `S_INLINESITE2`) in the order of the file, what is kept of the rows of all of
+/// them one after another, with where those of each start, and pieces of places for a search of the deepest one over a place.
 #[derive(Drop)]
 pub struct InlineRanges<'t> {
     sites: InlineSites<'t>,
-    rows: Vec<Vec<CallRow>>,
+    rows: Vec<CallRow>,
+    starts: Vec<usize>,
     pieces: Pieces,
 }
 
 impl<'t> Model for InlineRanges<'t> {
-    ghost use Rattle.std.specs.Prelude.{map};
     ghost use Rattle.pdb_module_data.specs.InlinePieces as ranges;
 
     ghost Value = { ranges.Ranges };
 
-    ghost view = { λ r. record { sites = r.sites; rows = map (λ v. v.items) r.rows.items; pieces = r.pieces } };
+    ghost view = { λ r. record { sites = r.sites; rows = r.rows.items; starts = r.starts.items; pieces = r.pieces } };
 }
 
-/// What is kept of the rows of sites, and what they cover, each ranked by its site's depth.
+/// What is kept of the rows of sites, where those of each start, and what they cover, each ranked by its site's depth.
 #[derive(Drop)]
 struct RowsAndSpans {
-    rows: Vec<Vec<CallRow>>,
+    rows: Vec<CallRow>,
+    starts: Vec<usize>,
     spans: Vec<Span>,
 }
 
-/// The rows of sites, and what they cover.
+/// What is kept of the rows of the site of this number, and what they cover, behind what stands there.
+fn push_site<'a>(
+    rows: &mut Vec<CallRow>,
+    spans: &mut Vec<Span>,
+    number: usize,
+    site: &Site<'a>,
+    inlinees: &Inlinees<'a>,
+    start: PdbInternalSectionOffset,
+) -> Result<(), AllocError>
+    ensures rows { OnOk result (rows.new.items ≡ rows.old.items ++ kept_rows (call_rows (given_by inlinees.now) start (site.now).call)) }
+    ensures spans { OnOk result (spans.new.items ≡ spans.old.items ++ map (site_row_span number (site.now).depth) (kept_rows (call_rows (given_by inlinees.now) start (site.now).call))) }
+    ensures short { OnOk result (AreShortRows (kept_rows (call_rows (given_by inlinees.now) start (site.now).call))) }
+{
+    let from = rows.len();
+    push_site_rows(rows, site, inlinees, start)?;
+    push_spans(spans, number, site.depth, &rows.as_slice()[from..])
+}
+
+/// The rows of sites, where those of each start, and what they cover.
 fn rows_and_spans<'a>(
     alloc: Global,
     sites: &[Site<'a>],
     inlinees: &Inlinees<'a>,
     start: PdbInternalSectionOffset,
 ) -> Result<RowsAndSpans, AllocError>
-    ensures rows { IfOk result (λ r. map (λ v. v.items) r.rows.items ≡ rows_of_sites (call_rows (given_by inlinees.now) start) sites.now) }
+    ensures rows { IfOk result (λ r. r.rows.items ≡ rows_of_sites (call_rows (given_by inlinees.now) start) sites.now) }
+    ensures starts { IfOk result (λ r. r.starts.items ≡ starts_of_sites (call_rows (given_by inlinees.now) start) 0 sites.now) }
     ensures spans { IfOk result (λ r. r.spans.items ≡ spans_of_sites (call_rows (given_by inlinees.now) start) 0 sites.now) }
     ensures short { IfOk result (λ r. AreShortSites (call_rows (given_by inlinees.now) start) sites.now) }
 {
-    let mut rows = Vec::with_capacity(alloc, sites.len())?;
+    let mut rows = Vec::new(alloc);
+    let mut starts = Vec::with_capacity(alloc, sites.len() + 1)?;
     let mut spans = Vec::with_capacity(alloc, sites.len())?;
     for (number, site) in sites.iter().enumerate() {
-        let kept = site_rows(alloc, site, inlinees, start)?;
-        push_spans(&mut spans, number, site.depth, kept.as_slice())?;
-        rows.push(kept)?;
+        starts.push(rows.len())?;
+        push_site(&mut rows, &mut spans, number, site, inlinees, start)?;
     }
-    Ok(RowsAndSpans { rows, spans })
+    starts.push(rows.len())?;
+    rows.shrink_to_fit();
+    Ok(RowsAndSpans {
+        rows,
+        starts,
+        spans,
+    })
 }
 
 impl<'t> InlineRanges<'t> {
@@ -85,6 +111,7 @@ impl<'t> InlineRanges<'t> {
         Ok(InlineRanges {
             sites,
             rows: read.rows,
+            starts: read.starts,
             pieces,
         })
     }
@@ -93,7 +120,7 @@ impl<'t> InlineRanges<'t> {
     /// pieces were made by: that of the deepest site with a row over the place, of equally deep ones the first in the order of
     /// the file, and those of the sites that it lies in. None where no row covers the place. The deepest site is found by
     /// halving.
-    #[tactic(auto, using(crate::proofs::Deepest::deepest_within, crate::proofs::KeptRows::as_many))]
+    #[tactic(auto, using(crate::proofs::Deepest::deepest_within, crate::proofs::KeptRows::are_cut))]
     pub fn calls_over(
         &self,
         alloc: Global,
@@ -111,6 +138,7 @@ impl<'t> InlineRanges<'t> {
                     alloc,
                     self.sites.as_slice(),
                     self.rows.as_slice(),
+                    self.starts.as_slice(),
                     number,
                     place,
                 )?;

@@ -34,13 +34,13 @@ loop-next-preserved c =
     let further = depth_step sites k site w is in
     record {
       in_range = λ j e. parent_in_range sites k j site w is e;
-      rest = λ lines same. (
+      rest = λ lines same cut. (
           let calls = calls_of lines c.args.place in
           let all = flat_map (λ n. calls (slice_get sites n)) (chain sites c.args.number) in
           let rest : c.loop-next.calls.items ++ flat_map (λ n. calls (slice_get sites n)) (chain_at sites (Some k)) ≡ all =
-          ap (λ o. c.loop-next.calls.items ++ flat_map (λ n. calls (slice_get sites n)) (chain_at sites o)) (sym c.in-Some.is) ∙ v.rest lines same in
-          let kept = kept_at c.args.rows.now sites lines k c.index-rows-k.result site same (v.in_range k c.in-Some.is) c.index-rows-k.is is in
-          let pushed = c.in_ok-push.ensures.items ∙ ap (λ x. c.loop-next.calls.items ++ x ∷ []) (c.call_over.ensures ∙ call_kept _ (lines site.call) _ c.args.place (c.deref.ensures.value ∙ kept)) in
+          ap (λ o. c.loop-next.calls.items ++ flat_map (λ n. calls (slice_get sites n)) (chain_at sites o)) (sym c.in-Some.is) ∙ v.rest lines same cut in
+          let kept = kept_at c.args.rows.now c.args.starts.now sites lines k site same cut is in
+          let pushed = c.in_ok-push.ensures.items ∙ ap (λ x. c.loop-next.calls.items ++ x ∷ []) (c.call_over.ensures ∙ call_kept _ (lines site.call) _ c.args.place (c.rows_of_site-of_site.ensures ∙ kept)) in
           ap (λ ys. ys ++ flat_map (λ n. calls (slice_get sites n)) (chain_at sites site.parent)) pushed ∙ chain_more calls sites k site c.loop-next.calls.items all w is rest);
       deep = ap (λ n. n + depth_at sites site.parent) c.in_ok-push.ensures.len ∙ one_more c.loop-next.calls.len (depth_at sites site.parent) (depth_at sites (Some k)) further ∙ deep;
     }

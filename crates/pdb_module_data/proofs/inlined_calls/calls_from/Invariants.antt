@@ -1,9 +1,9 @@
-use Rattle.std.proofs.Common.{◌≡◌, ℕ, ◌+◌, ◌<◌, List, ◌++◌, map, Some, length, vec_len}
+use Rattle.std.proofs.Common.{◌≡◌, ℕ, ◌+◌, ◌<◌, List, ◌++◌, Some, length, vec_len}
 use Rattle.std.specs.Prelude.{slice_get}
 use Rattle.std.specs.List.{flat_map}
 use Rattle.pdb_subsections.specs.declared.line_info.LineInfo.{LineInfo}
 use Rattle.pdb_symbols.specs.Forms.{InlineSiteForm}
-use Rattle.pdb_module_data.specs.InlinePieces.{rows_of_sites}
+use Rattle.pdb_module_data.specs.InlinePieces.{rows_of_sites, starts_of_sites}
 use Rattle.pdb_module_data.specs.InlinedCalls.{calls_of, chain, chain_at}
 use Rattle.pdb_module_data.proofs.ChainSteps.{steps_of, depth_at}
 use Rattle.pdb_module_data.proofs.inlined_calls.calls_from.Given as goal
@@ -13,7 +13,7 @@ abbrev pub invariant-loop-next : goal.invariant-loop-next
 invariant-loop-next l =
     record {
       in_range : (k : ℕ) → l.next ≡ Some k → k < length l.sites;
-      rest : (lines : InlineSiteForm → List LineInfo) → map (λ r. r.items) l.rows ≡ rows_of_sites lines l.sites
+      rest : (lines : InlineSiteForm → List LineInfo) → l.rows ≡ rows_of_sites lines l.sites → l.starts ≡ starts_of_sites lines 0 l.sites
           → l.calls.items ++ flat_map (λ k. calls_of lines l.place (slice_get l.sites k)) (chain_at l.sites l.next) ≡ flat_map (λ k. calls_of lines l.place (slice_get l.sites k)) (chain l.sites l.number);
       deep : vec_len l.calls + depth_at l.sites l.next ≡ depth_at l.sites (Some l.number);
     }
