@@ -1,17 +1,16 @@
 -- The names of inlined functions that a context keeps.
-use Rattle.std.specs.Prelude.{◌≡◌, ℕ, ◌/◌, ◌%◌, ◌^◌, List, Option, Some, option_map, String, string_bytes}
+use Rattle.std.specs.Prelude.{◌≡◌, ℕ, List, Option, Some, option_map, String, string_bytes}
 use Rattle.std.specs.declared.alloc.Global.{Global}
-use Rattle.std.specs.Ordering.{nat_cmp}
-use Rattle.std.specs.BTreeMap.{get}
 use Rattle.pdb_resolving.specs.Resolving.{Provided}
 use Rattle.pdb_type_text.specs.Formatting.{Formatting, env_of}
 use Rattle.pdb_type_text.specs.Ids.{id_text}
+use Rattle.pdb_names.specs.ByModule.{kept_at}
 use Rattle.pdb_names.specs.Names.{if_made}
 use Rattle.pdb_names.specs.declared.inline_names.InlineNames.{InlineNames}
 
 -- Each name that is kept is the text of its id in its module.
 pub record AreNames (text : ℕ → ℕ → Option (List ℕ)) (names : InlineNames) : Type 0 where
-  pub each : (key : ℕ) (name : Option (String Global)) → get nat_cmp names.by_id key ≡ Some name → option_map string_bytes name ≡ text (key / 2 ^ 32) (key % 2 ^ 32)
+  pub each : (m id : ℕ) (name : Option (String Global)) → kept_at names.by_id m id ≡ Some name → option_map string_bytes name ≡ text m id
 
 -- the name of an inlined function by its id, as the module of a number has it, if a text can be made of it
 abbrev pub inline_text : {P : Type 0} → (P → Provided) → Formatting P → ℕ → ℕ → Option (List ℕ)

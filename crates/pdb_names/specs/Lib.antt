@@ -1,3 +1,4 @@
+pub mod ByModule
 pub mod InlineNames
 pub mod Names
 pub mod TypedNames

@@ -1,6 +1,7 @@
 //! The names of functions by a formatter, and what is kept of them.
 #![tactic(auto)]
 
+mod by_module;
 mod inline_names;
 mod names;
 mod typed_names;

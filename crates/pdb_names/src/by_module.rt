@@ -1,0 +1,64 @@
+//! What is kept by the number of a module and a number in it.
+
+ghost use Rattle.std.specs.Prelude.{◌≡◌, ◌<◌, ℕ, None, OnErr, OnOk, length, option_copied};
+ghost use Rattle.pdb_names.specs.ByModule.{IsKept, IsSameKept, kept_at};
+
+use std::alloc::{AllocError, Global};
+use std::collections::BTreeMap;
+
+/// Values that are kept, each under a module's number and a number in the module. A module's own map is small, so that few of
+/// its nodes stand between a question and its answer.
+#[derive(Drop)]
+pub struct ByModule<V> {
+    /// The values of each module, at the module's number. Modules past the last one of which a value was kept have no place.
+    modules: Vec<BTreeMap<u32, V>>,
+}
+
+impl<V: Drop> ByModule<V> {
+    /// No values yet.
+    pub fn new(alloc: Global) -> ByModule<V>
+        ensures { (m n : ℕ) → kept_at result m n ≡ None }
+    {
+        ByModule {
+            modules: Vec::new(alloc),
+        }
+    }
+
+    /// The value that is kept under a number in the module of a number, if there is one.
+    pub fn get(&self, module_index: u16, number: u32) -> Option<&V>
+        ensures { option_copied result ≡ kept_at self.now module_index number }
+    {
+        let Some(values) = self.modules.get(usize::from(module_index)) else {
+            return None;
+        };
+        values.get(&number)
+    }
+
+    /// Makes a place for the values of the module of a number, and for those of each module before it. What is kept stays.
+    fn reach(&mut self, alloc: Global, module_index: u16) -> Result<(), AllocError>
+        ensures reached { OnOk result (module_index < length self.new.modules.items) }
+        ensures same { IsSameKept self.old self.new }
+    {
+        for _ in self.modules.len()..usize::from(module_index) + 1 {
+            self.modules.push(BTreeMap::new(alloc))?;
+        }
+        Ok(())
+    }
+
+    /// Keeps a value under a number in the module of a number, in place of any that was kept there. Nothing changes of what is
+    /// kept where memory is short.
+    pub fn insert(
+        &mut self,
+        alloc: Global,
+        module_index: u16,
+        number: u32,
+        value: V,
+    ) -> Result<(), AllocError>
+        ensures kept { OnOk result (IsKept self.old self.new module_index number value) }
+        ensures failed { OnErr result (IsSameKept self.old self.new) }
+    {
+        self.reach(alloc, module_index)?;
+        self.modules[usize::from(module_index)].insert(number, value)?;
+        Ok(())
+    }
+}
