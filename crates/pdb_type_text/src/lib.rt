@@ -8,5 +8,6 @@ mod formatter;
 mod ids;
 mod signatures;
 mod types;
+mod words;
 
 pub use formatter::TypeFormatter;

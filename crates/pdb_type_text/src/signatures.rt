@@ -9,6 +9,7 @@ ghost use Rattle.pdb_type_text.specs.Formatting.{env_of};
 
 use crate::asker::Asker;
 use crate::formatter::TypeFormatter;
+use crate::words::leaves_out_arguments;
 use pdb_indices::TypeIndex;
 use pdb_records::{MemberFunctionType, ProcedureType, TypeData};
 use pdb_resolving::{ModuleProvider, Result};
@@ -16,9 +17,6 @@ use pdb_text_pieces::{Seen, emit, emit_name};
 
 /// The flag that leaves out `static`.
 const NO_MEMBER_FUNCTION_STATIC: u32 = 2;
-
-/// The flag that leaves out arguments.
-const NO_ARGUMENTS: u32 = 32;
 
 impl<'a, 's, P: ModuleProvider> TypeFormatter<'a, 's, P> {
     /// Appends a function of a name and a type; type 0 is none, and leaves the name alone.
@@ -160,7 +158,7 @@ impl<'a, 's, P: ModuleProvider> TypeFormatter<'a, 's, P> {
         ensures path { seen.new.path.now.items ≡ seen.old.path.now.items }
         ensures text { Prints result (string_bytes w.new) (arguments_unless (env_of P.provided self.old asker.module_index) seen.old.path.now.items list (string_bytes w.old)) }
     {
-        if self.flags & NO_ARGUMENTS != 0 {
+        if leaves_out_arguments(self.flags) {
             return Ok(());
         }
         emit(w, "(")?;

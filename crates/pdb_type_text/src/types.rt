@@ -5,14 +5,18 @@ ghost use Rattle.pdb_records.specs.Forms as forms;
 ghost use Rattle.pdb_records.specs.Forms.{Plain};
 ghost use Rattle.pdb_records.specs.Shapes.{shape, array_form};
 ghost use Rattle.pdb_resolving.specs.Fault.{CircularTypeDefinition};
-ghost use Rattle.pdb_text_pieces.specs.Printed.{Prints, say, Stopped, caught, read_or};
+ghost use Rattle.pdb_text_pieces.specs.Printed.{Prints, Stopped, caught, read_or};
 ghost use Rattle.pdb_text_pieces.specs.Paths.{may_enter};
 ghost use Rattle.pdb_type_text.specs.Arrays.{elements_of};
-ghost use Rattle.pdb_type_text.specs.Types.{Whole, Modified, PointedTo, PointedModified, MethodArguments, visiting, inside_text, returned, returned_unless, comma, arguments, more_arguments, with_extra, in_brackets, method_arguments, plain_text, array_text, record_text, modified_text, pointed_text};
+ghost use Rattle.pdb_type_text.specs.Types.{Whole, Modified, PointedTo, PointedModified, MethodArguments, visiting, inside_text, returned, returned_unless, arguments, more_arguments, with_extra, in_brackets, method_arguments, plain_text, array_text, record_text, modified_text, pointed_text};
 ghost use Rattle.pdb_type_text.specs.Formatting.{env_of};
 
 use crate::asker::Asker;
 use crate::formatter::TypeFormatter;
+use crate::words::{
+    emit_bare_function, emit_bare_method, emit_comma, emit_constant, emit_constant_object,
+    leaves_out_arguments, leaves_out_return,
+};
 use pdb_indices::TypeIndex;
 use pdb_records::{ArrayType, FunctionAttributes, MemberFunctionType, ProcedureType, TypeData};
 use pdb_resolving::{Error, ModuleProvider, Result};
@@ -20,29 +24,6 @@ use pdb_text_pieces::{
     PointerLevel, Seen, class_word, emit, emit_brackets, emit_missing, emit_named, emit_pointers,
     emit_primitive, emit_unhandled, emit_unread, ends_in_sigil, leading_to, level_of,
 };
-
-/// The flag that leaves out the return type of the function asked for.
-const NO_FUNCTION_RETURN: u32 = 1;
-
-/// The flag that puts a space behind a comma.
-const SPACE_AFTER_COMMA: u32 = 4;
-
-/// The flag that leaves out arguments.
-const NO_ARGUMENTS: u32 = 32;
-
-/// Appends what stands between arguments.
-fn emit_comma(w: &mut String, flags: u32) -> Result<()>
-    ensures { Prints result (string_bytes w.new) (say (comma flags) (string_bytes w.old)) }
-{
-    emit(
-        w,
-        if flags & SPACE_AFTER_COMMA != 0 {
-            ", "
-        } else {
-            ","
-        },
-    )
-}
 
 impl<'a, 's, P: ModuleProvider> TypeFormatter<'a, 's, P> {
     /// Appends a type on its own. What can't be read has a text of its own.
@@ -244,7 +225,7 @@ impl<'a, 's, P: ModuleProvider> TypeFormatter<'a, 's, P> {
         ensures text { Prints result (string_bytes w.new) (plain_text (env_of P.provided self.old asker.module_index) (visiting (env_of P.provided self.old asker.module_index) seen.old.path.now.items) seen.old.path.now.items (Plain (forms.MemberFunction t.now)) (string_bytes w.old)) }
     {
         self.maybe_emit_return_type(asker, w, Some(t.return_type), t.attributes, seen)?;
-        emit(w, "()")?;
+        emit_bare_method(w)?;
         self.emit_method_arguments(asker, w, t, false, seen)
     }
 
@@ -265,7 +246,7 @@ impl<'a, 's, P: ModuleProvider> TypeFormatter<'a, 's, P> {
         ensures text { Prints result (string_bytes w.new) (plain_text (env_of P.provided self.old asker.module_index) (visiting (env_of P.provided self.old asker.module_index) seen.old.path.now.items) seen.old.path.now.items (Plain (forms.Procedure t.now)) (string_bytes w.old)) }
     {
         self.maybe_emit_return_type(asker, w, t.return_type, t.attributes, seen)?;
-        emit(w, "()(")?;
+        emit_bare_function(w)?;
         self.emit_type_index(asker, w, t.argument_list, seen)
     }
 
@@ -286,7 +267,7 @@ impl<'a, 's, P: ModuleProvider> TypeFormatter<'a, 's, P> {
         ensures path { seen.new.path.now.items ≡ seen.old.path.now.items }
         ensures text { Prints result (string_bytes w.new) (returned_unless (env_of P.provided self.old asker.module_index) (visiting (env_of P.provided self.old asker.module_index) seen.old.path.now.items) seen.old.path.now.items index attributes (string_bytes w.old)) }
     {
-        if self.flags & NO_FUNCTION_RETURN != 0 {
+        if leaves_out_return(self.flags) {
             return Ok(());
         }
         self.emit_return_type(asker, w, index, attributes, seen)
@@ -406,7 +387,7 @@ impl<'a, 's, P: ModuleProvider> TypeFormatter<'a, 's, P> {
         ensures path { seen.new.path.now.items ≡ seen.old.path.now.items }
         ensures text { Prints result (string_bytes w.new) (method_arguments (env_of P.provided self.old asker.module_index) (visiting (env_of P.provided self.old asker.module_index) seen.old.path.now.items) seen.old.path.now.items t.now says_constant (string_bytes w.old)) }
     {
-        if self.flags & NO_ARGUMENTS != 0 {
+        if leaves_out_arguments(self.flags) {
             return Ok(());
         }
         self.emit_argument_list(asker, w, t, says_constant, seen)
@@ -481,10 +462,7 @@ impl<'a, 's, P: ModuleProvider> TypeFormatter<'a, 's, P> {
         emit(w, "(")?;
         self.emit_extra_and_arguments(asker, w, extra, list, seen)?;
         emit(w, ")")?;
-        if is_constant && says_constant {
-            return emit(w, " const");
-        }
-        Ok(())
+        emit_constant_object(w, is_constant && says_constant)
     }
 
     /// Appends what a Modifier is put on.
@@ -561,9 +539,7 @@ impl<'a, 's, P: ModuleProvider> TypeFormatter<'a, 's, P> {
         ensures path { seen.new.path.now.items ≡ seen.old.path.now.items }
         ensures text { Prints result (string_bytes w.new) (modified_text (env_of P.provided self.old asker.module_index) (visiting (env_of P.provided self.old asker.module_index) seen.old.path.now.items) seen.old.path.now.items is_constant (shape found.now) (string_bytes w.old)) }
     {
-        if is_constant {
-            emit(w, "const ")?;
-        }
+        emit_constant(w, is_constant)?;
         self.emit_type(asker, w, found, seen)
     }
 
