@@ -1,4 +1,4 @@
-//! The bound of 1,024 indices, passed by one. That it can be met is shown by cases of `recorded_reports`.
+//! The bound of 1,024 indices, passed by one. That it can be met is shown by cases of `recorded_cases`.
 
 use crate::answers::Question::{Function, Id};
 use crate::answers::{Case, wrong_answers};

@@ -5,7 +5,7 @@ use crate::answers::{Case, wrong_answers};
 use crate::files::File;
 use std::test::Fail;
 
-/// Signatures with other flags than the usual ones, and faults. The others are cases of `recorded_reports`.
+/// Signatures with other flags than the usual ones, and faults. The others are cases of `recorded_cases`.
 const SIGNATURES: &[Case] = &[
     // No type, and types of no functions.
     (

@@ -168,7 +168,7 @@ pub const IDS: &[Record] = &[
     Record::Text(b"n\xff"),
 ];
 
-/// Ids with other flags than the usual ones, and faults. The others are cases of `recorded_reports`.
+/// Ids with other flags than the usual ones, and faults. The others are cases of `recorded_cases`.
 const TEXTS: &[Case] = &[
     (0, Id(0x1000), "void g(int,char*)"),
     (55, Id(0x1000), "g"),

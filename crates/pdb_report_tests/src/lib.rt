@@ -1,5 +1,5 @@
 //! What is answered for program databases whose bytes are known, by the definitions and by the program's
-//! calls.
+//! calls; and what comes of the program's words.
 #![tactic(auto)]
 
 #[cfg(test)]
@@ -13,3 +13,4 @@ mod rows;
 mod sizes;
 #[cfg(test)]
 mod streams;
+pub mod words;

@@ -1,0 +1,11 @@
+use Rattle.std.specs.Prelude.{refl}
+use Rattle.clap.proofs.OnLiterals.{clap_on_literals}
+use Rattle.pdb_report_tests.proofs.words.definitions.frames.Goals as goal
+
+pub returns-clause-taken : goal.returns-clause-taken
+unfolding clap_on_literals
+returns-clause-taken c = refl
+
+pub returns-clause-task : goal.returns-clause-task
+unfolding clap_on_literals
+returns-clause-task c = refl

@@ -1,0 +1,240 @@
+//! What a case asks.
+
+/// What is asked.
+#[derive(Clone, Copy)]
+pub enum Task {
+    /// The primitive type of an index.
+    Primitive,
+    /// What a type's record says.
+    Type,
+    /// What an id's record says.
+    Id,
+    /// What attributes of types, members and pointers mean.
+    Attributes,
+    /// Binary annotations one by one.
+    Annotations,
+    /// The symbols of a list from a place on.
+    Symbols,
+    /// What the symbol at a place says.
+    Symbol,
+    /// What the kind of the symbol at a place means.
+    SymbolKind,
+    /// The first symbol at a place or later, and those behind it.
+    SkipTo,
+    /// The rows of a line program.
+    Lines,
+    /// The rows of the lines subsection of a place.
+    LinesAt,
+    /// The source files of a line program.
+    Files,
+    /// The source file of an index.
+    File,
+    /// The inlinees of a module.
+    Inlinees,
+    /// The rows of an inlined call.
+    Call,
+    /// What a type's index stands for in another module.
+    TypeImport,
+    /// What an id's index stands for in another module.
+    IdImport,
+    /// The cross-module exports.
+    Exports,
+    /// The type that an index leads to by the exports.
+    TypeExport,
+    /// The id that an index leads to by the exports.
+    IdExport,
+    /// The bytes of a stream by its number.
+    Raw,
+    /// The bytes of a stream by its index.
+    Get,
+    /// The bytes of a stream by its name.
+    Named,
+    /// The name at an offset of the string table.
+    Name,
+    /// What the information stream says.
+    Information,
+    /// The names of streams.
+    Names,
+    /// The machine and the age that the DBI stream says.
+    Debug,
+    /// The modules.
+    Modules,
+    /// The section contributions.
+    Contributions,
+    /// The global symbols.
+    Globals,
+    /// The global symbols from a place on.
+    GlobalsAt,
+    /// The section headers of the image.
+    Sections,
+    /// What the header of the TPI says.
+    TypeTable,
+    /// The types one by one.
+    Types,
+    /// The type of an index.
+    FindType,
+    /// What the header of the IPI says.
+    IdTable,
+    /// The ids one by one.
+    Ids,
+    /// The id of an index.
+    FindId,
+    /// The section headers of the address map.
+    ImageSections,
+    /// The names of these sections.
+    SectionNames,
+    /// What an RVA becomes.
+    ImageAddress,
+    /// What an internal RVA becomes.
+    InternalAddress,
+    /// What a place of the image becomes.
+    ImagePlace,
+    /// What an internal place becomes.
+    InternalPlace,
+    /// What a range of RVAs becomes.
+    ImageRange,
+    /// What a range of internal RVAs becomes.
+    InternalRange,
+    /// How far the place of an internal RVA goes on.
+    Run,
+    /// Sums and differences of an RVA.
+    ImageSums,
+    /// Sums and differences of an internal RVA.
+    InternalSums,
+    /// Sums of a place of the image.
+    ImagePlaceSums,
+    /// Sums of an internal place.
+    InternalPlaceSums,
+    /// A word that names no task.
+    Unknown,
+}
+
+/// Of what it is asked.
+#[derive(Clone, Copy)]
+pub enum Subject<'q> {
+    /// A number.
+    Number(u32),
+    /// Bytes in hexadecimal.
+    Bytes(&'q str),
+    /// A database's file.
+    File(&'q str),
+}
+
+/// What a case asks: a task, its subject, further bytes or the file's changes, numbers and a name.
+#[derive(Clone, Copy)]
+pub struct Question<'q> {
+    /// What is asked.
+    pub task: Task,
+    /// Of what it is asked.
+    pub subject: Subject<'q>,
+    /// Further bytes in hexadecimal, or how the file differs.
+    pub further: &'q str,
+    /// Numbers, whose meaning the task says.
+    pub numbers: (u32, u32, u32),
+    /// A name.
+    pub name: &'q str,
+}
+
+/// The question that words ask: task, subject, further bytes or changes, three numbers, a name. Words at the end may be
+/// missing.
+pub fn question_of(words: &str) -> Question<'_> {
+    let mut words = words.split(' ');
+    let task = task_of(words.next().unwrap_or(""));
+    let subject = subject_of(task, words.next().unwrap_or("-"));
+    let further = words.next().unwrap_or("-");
+    let numbers = (
+        number(words.next().unwrap_or("")),
+        number(words.next().unwrap_or("")),
+        number(words.next().unwrap_or("")),
+    );
+    Question {
+        task,
+        subject,
+        further,
+        numbers,
+        name: words.next().unwrap_or(""),
+    }
+}
+
+/// The number that a word spells, or 0.
+fn number(word: &str) -> u32 {
+    word.parse::<u32>().unwrap_or(0)
+}
+
+/// The subject of a task that a word names.
+fn subject_of(task: Task, word: &str) -> Subject<'_> {
+    match task {
+        Task::Primitive
+        | Task::ImageSums
+        | Task::InternalSums
+        | Task::ImagePlaceSums
+        | Task::InternalPlaceSums => Subject::Number(number(word)),
+        _ if word.ends_with(".pdb") => Subject::File(word),
+        _ => Subject::Bytes(word),
+    }
+}
+
+/// The task of a word.
+fn task_of(word: &str) -> Task {
+    for (name, task) in TASKS {
+        if word == *name {
+            return *task;
+        }
+    }
+    Task::Unknown
+}
+
+/// The tasks by their names.
+const TASKS: &[(&str, Task)] = &[
+    ("primitive", Task::Primitive),
+    ("type", Task::Type),
+    ("id", Task::Id),
+    ("attributes", Task::Attributes),
+    ("annotations", Task::Annotations),
+    ("symbols", Task::Symbols),
+    ("symbol", Task::Symbol),
+    ("symbol_kind", Task::SymbolKind),
+    ("skip_to", Task::SkipTo),
+    ("lines", Task::Lines),
+    ("lines_at", Task::LinesAt),
+    ("files", Task::Files),
+    ("file", Task::File),
+    ("inlinees", Task::Inlinees),
+    ("call", Task::Call),
+    ("type_import", Task::TypeImport),
+    ("id_import", Task::IdImport),
+    ("exports", Task::Exports),
+    ("type_export", Task::TypeExport),
+    ("id_export", Task::IdExport),
+    ("raw", Task::Raw),
+    ("get", Task::Get),
+    ("named", Task::Named),
+    ("name", Task::Name),
+    ("information", Task::Information),
+    ("names", Task::Names),
+    ("debug", Task::Debug),
+    ("modules", Task::Modules),
+    ("contributions", Task::Contributions),
+    ("globals", Task::Globals),
+    ("globals_at", Task::GlobalsAt),
+    ("sections", Task::Sections),
+    ("type_table", Task::TypeTable),
+    ("types", Task::Types),
+    ("find_type", Task::FindType),
+    ("id_table", Task::IdTable),
+    ("ids", Task::Ids),
+    ("find_id", Task::FindId),
+    ("image_sections", Task::ImageSections),
+    ("section_names", Task::SectionNames),
+    ("image_address", Task::ImageAddress),
+    ("internal_address", Task::InternalAddress),
+    ("image_place", Task::ImagePlace),
+    ("internal_place", Task::InternalPlace),
+    ("image_range", Task::ImageRange),
+    ("internal_range", Task::InternalRange),
+    ("run", Task::Run),
+    ("image_sums", Task::ImageSums),
+    ("internal_sums", Task::InternalSums),
+    ("image_place_sums", Task::ImagePlaceSums),
+    ("internal_place_sums", Task::InternalPlaceSums),
+];

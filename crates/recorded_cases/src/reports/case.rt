@@ -1,0 +1,96 @@
+//! Recorded cases.
+
+use crate::reports::text::push_lines;
+use anyhow::{Context, Result, bail, ensure};
+use pdb_report::parse_address;
+use std::alloc::Global;
+
+/// A case: what is asked of a program database, and what must come.
+#[derive(Drop)]
+pub struct Case<'t> {
+    /// Its name.
+    pub name: &'t str,
+    /// The file of the program database.
+    pub database: &'t str,
+    /// The range whose sizes are asked for, its start and its end. None where addresses are asked for.
+    pub range: Option<(u32, u32)>,
+    /// The bytes of the input.
+    pub input: Vec<u8>,
+    /// The bytes of the output that must come.
+    pub output: Vec<u8>,
+    /// The bytes of the error output that must come.
+    pub errors: Vec<u8>,
+    /// The exit status that must come.
+    pub status: u8,
+}
+
+impl<'t> Case<'t> {
+    /// The case of a paragraph.
+    ///
+    /// # Errors
+    /// A line of no such form, no line of names; out of memory.
+    pub fn read(alloc: Global, paragraph: &'t str) -> Result<Case<'t>> {
+        let mut case = Case {
+            name: "",
+            database: "",
+            range: None,
+            input: Vec::new(alloc),
+            output: Vec::new(alloc),
+            errors: Vec::new(alloc),
+            status: 0,
+        };
+        for line in paragraph.lines() {
+            case.add(line).context(format_args!("the line {line:?}"))?;
+        }
+        ensure!(!case.name.is_empty(), "a case without a name");
+        Ok(case)
+    }
+
+    /// Adds what a line says.
+    fn add(&mut self, line: &'t str) -> Result<()> {
+        let (word, rest) = line.split_once(' ').unwrap_or((line, ""));
+        match word {
+            "case" => self.set_names(rest),
+            "sizes" => self.set_range(rest),
+            "status" => self.set_status(rest),
+            _ => self.add_text(word, rest),
+        }
+    }
+
+    /// Sets the names of the case and of its database.
+    fn set_names(&mut self, names: &'t str) -> Result<()> {
+        let (name, database) = names.split_once(' ').context("two names are needed")?;
+        self.name = name;
+        self.database = database;
+        Ok(())
+    }
+
+    /// Sets the range whose sizes are asked for.
+    fn set_range(&mut self, words: &str) -> Result<()> {
+        let (start, end) = words.split_once(' ').context("two addresses are needed")?;
+        self.range = Some((address_of(start)?, address_of(end)?));
+        Ok(())
+    }
+
+    /// Sets the status.
+    fn set_status(&mut self, status: &str) -> Result<()> {
+        self.status = status.parse::<u8>()?;
+        Ok(())
+    }
+
+    /// Adds a line to the text of its sign.
+    fn add_text(&mut self, word: &str, text: &str) -> Result<()> {
+        let (sign, mark) = word.split_at_checked(1).context("a sign is needed")?;
+        match sign {
+            "<" => push_lines(&mut self.input, mark, text),
+            ">" => push_lines(&mut self.output, mark, text),
+            "!" => push_lines(&mut self.errors, mark, text),
+            _ => bail!("no such sign"),
+        }
+    }
+}
+
+/// The address of a word.
+fn address_of(word: &str) -> Result<u32> {
+    parse_address(word.as_bytes()).context("an address is needed")
+}

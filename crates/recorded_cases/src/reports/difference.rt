@@ -1,0 +1,36 @@
+//! How two texts differ.
+
+use crate::reports::text::shown;
+use anyhow::Result;
+
+/// Prints the first line in which a case's text differs from what must come, if one does.
+pub fn print_difference(
+    rt: &(impl Print + AllocGlobal),
+    case: &str,
+    which: &str,
+    came: &[u8],
+    wanted: &[u8],
+) -> Result<()> {
+    if came == wanted {
+        return Ok(());
+    }
+    let line = equal_lines(came, wanted);
+    let came = shown(rt.alloc(), line_at(came, line))?;
+    let wanted = shown(rt.alloc(), line_at(wanted, line))?;
+    let number = line.saturating_add(1);
+    println!(rt; "{case}: {which}, line {number}\n  gives   \"{came}\"\n  and not \"{wanted}\"")?;
+    Ok(())
+}
+
+/// How many lines two texts begin with alike.
+fn equal_lines(one: &[u8], other: &[u8]) -> usize {
+    let equal = one.iter().zip(other).take_while(|(a, b)| a == b);
+    equal.filter(|(byte, _)| **byte == b'\n').count()
+}
+
+/// The line of a text behind so many others, with its newline, or nothing past the end.
+fn line_at(text: &[u8], number: usize) -> &[u8] {
+    text.split_inclusive(|byte| *byte == b'\n')
+        .nth(number)
+        .unwrap_or(&[])
+}
