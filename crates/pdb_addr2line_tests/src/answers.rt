@@ -118,7 +118,7 @@ fn told(alloc: Global, text: Result<String, Error>) -> Result<String, Fail> {
 
 /// The flags of a formatter that is made without any: no return type of the function itself, no static, a space behind a comma, and
 /// names alone.
-const USUAL_FLAGS: u32 = 23;
+pub const USUAL_FLAGS: u32 = 23;
 
 /// What a formatter with these flags answers, or its fault behind `fault: `. That with the usual flags is made without any.
 pub fn answer(alloc: Global, data: &Data, flags: u32, question: Question) -> Result<String, Fail> {
@@ -138,7 +138,7 @@ pub fn open(alloc: Global, file: File) -> Result<Database, Fail> {
 }
 
 /// What is read of a file.
-fn data_of(alloc: Global, file: File) -> Result<Data, Fail> {
+pub fn data_of(alloc: Global, file: File) -> Result<Data, Fail> {
     Ok(ContextPdbData::try_from_pdb(alloc, open(alloc, file)?)?)
 }
 

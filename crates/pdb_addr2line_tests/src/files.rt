@@ -1,15 +1,21 @@
 //! Files of types and ids.
 
 use crate::ids::IDS;
+use crate::nested_sites::nested_sites;
 use crate::types::TYPES;
 use pdb_samples::{
-    FIRST_INDEX, ProgramDatabase, Record, Result, cross_imports, file_of_items, self_pointer,
+    Change, FIRST_INDEX, ProgramDatabase, Record, Result, cross_imports, file_of_items, file_with,
+    self_pointer,
 };
 use std::alloc::Global;
 
 /// A file that is asked about.
 #[derive(Clone, Copy)]
 pub enum File {
+    /// File F0 but for one thing.
+    With(Change),
+    /// As file F, with an inlined call in an inlined call.
+    NestedSites,
     /// The types and the ids of many forms.
     Items,
     /// A function of one argument, which is a pointer to itself.
@@ -32,6 +38,8 @@ pub enum File {
 /// The database of a file.
 pub fn database_of(alloc: Global, file: File) -> Result<ProgramDatabase> {
     match file {
+        File::With(change) => file_with(alloc, change),
+        File::NestedSites => nested_sites(alloc),
         File::Items => file_of_items(alloc, TYPES, IDS),
         File::SelfPointer => self_pointer(alloc),
         File::Imports => cross_imports(alloc),

@@ -1,6 +1,8 @@
-//! Tests of formatters, by their public calls.
+//! Tests of formatters and contexts, by their public calls.
 #![tactic(auto)]
 
+#[cfg(test)]
+mod addresses;
 #[cfg(test)]
 mod answers;
 #[cfg(test)]
@@ -17,6 +19,8 @@ mod flags;
 mod functions;
 #[cfg(test)]
 mod ids;
+#[cfg(test)]
+mod nested_sites;
 #[cfg(test)]
 mod seen;
 #[cfg(test)]

@@ -65,47 +65,74 @@ fn end_of(finder: &TypeFinder<'_>) -> Option<u32> {
     }
 }
 
-/// What is said of an index where it is asked twice for the same.
-fn said(last: u32, end: Option<u32>, kind: Result<u16>) -> Said {
-    (last, end, kind, kind)
-}
+/// What stands behind ten types of a stream, how many steps are shown, an index, and what is said of it: what is known of blocks,
+/// the known end, and the kind.
+const ROWS: &[(&[u8], usize, u32, u32, Option<u32>, Result<u16>)] = &[
+    (b"", 0, 0x74, 0x1007, None, Err(Error::UnexpectedEof)),
+    (
+        b"",
+        0,
+        0x1008,
+        0x1007,
+        None,
+        Err(Error::TypeNotIndexed(4104, 4104)),
+    ),
+    (b"", 10, 0x1008, 0x100f, None, Ok(8)),
+    (
+        b"",
+        10,
+        0x100a,
+        0x100f,
+        None,
+        Err(Error::TypeNotFound(4106)),
+    ),
+    (
+        b"",
+        10,
+        0x1010,
+        0x100f,
+        None,
+        Err(Error::TypeNotIndexed(4112, 4112)),
+    ),
+    (b"", 11, 0x1009, 0x100f, Some(0x100a), Ok(9)),
+    // A bad end.
+    (b"\x01\0", 8, 0x100a, 0x100f, None, Err(Error::TypeTooShort)),
+    (
+        b"\x01\0",
+        10,
+        0x100a,
+        0x100f,
+        None,
+        Err(Error::TypeTooShort),
+    ),
+    (
+        b"\x01\0",
+        11,
+        0x100a,
+        0x100f,
+        None,
+        Err(Error::TypeTooShort),
+    ),
+    (
+        b"\x01\0",
+        12,
+        0x100a,
+        0x100f,
+        None,
+        Err(Error::TypeTooShort),
+    ),
+];
 
 #[test]
 fn item_finder(rt: HostRuntime) -> std::result::Result<(), Fail> {
-    let types = table(rt.alloc(), &[])?;
-    for (steps, index, wanted) in [
-        (0, 0x74, said(0x1007, None, Err(Error::UnexpectedEof))),
-        (
-            0,
-            0x1008,
-            said(0x1007, None, Err(Error::TypeNotIndexed(4104, 4104))),
-        ),
-        (10, 0x1008, said(0x100f, None, Ok(8))),
-        (
-            10,
-            0x100a,
-            said(0x100f, None, Err(Error::TypeNotFound(4106))),
-        ),
-        (
-            10,
-            0x1010,
-            said(0x100f, None, Err(Error::TypeNotIndexed(4112, 4112))),
-        ),
-        (11, 0x1009, said(0x100f, Some(0x100a), Ok(9))),
-    ] {
-        let found = asked(rt.alloc(), &types, steps, index)?;
-        assert_eq!(rt; found, wanted, "{steps} steps, {index}");
-    }
-    Ok(())
-}
-
-#[test]
-fn bad_end(rt: HostRuntime) -> std::result::Result<(), Fail> {
-    let types = table(rt.alloc(), &[1, 0])?;
-    for steps in [8, 10, 11, 12] {
-        let found = asked(rt.alloc(), &types, steps, 0x100a)?;
-        let wanted = said(0x100f, None, Err(Error::TypeTooShort));
-        assert_eq!(rt; found, wanted, "{steps} steps");
+    for (tail, steps, index, last, end, kind) in ROWS {
+        let types = table(rt.alloc(), *tail)?;
+        let found = asked(rt.alloc(), &types, *steps, *index)?;
+        assert_eq!(rt;
+            found,
+            (*last, *end, *kind, *kind),
+            "{steps} steps, {index}"
+        );
     }
     Ok(())
 }

@@ -11,3 +11,5 @@ mod modules;
 mod names;
 #[cfg(test)]
 mod pages;
+#[cfg(test)]
+mod vectors;

@@ -70,70 +70,89 @@ fn next_kind(symbols: &mut SymbolIter<'_>) -> Result<Option<u16>> {
     }
 }
 
+/// Where symbols are sought first, if they are, and the kind of the next one then.
+const STEPS: &[(Option<u32>, Result<Option<u16>>)] = &[
+    (None, Ok(Some(0x114e))),
+    (None, Err(Error::SymbolTooShort)),
+    (None, Ok(None)),
+    (Some(4), Err(Error::SymbolTooShort)),
+    (Some(0), Ok(Some(0x114e))),
+];
+
 #[test]
 fn symbols(rt: HostRuntime) {
     let mut symbols = SymbolIter::over(b"\x02\0\x4e\x11\x01\0\0", SymbolIndex(0));
-    assert_eq!(rt; next_kind(&mut symbols), Ok(Some(0x114e)));
-    assert_eq!(rt; next_kind(&mut symbols), Err(Error::SymbolTooShort));
-    assert_eq!(rt; next_kind(&mut symbols), Ok(None));
-    symbols.seek(SymbolIndex(4));
-    assert_eq!(rt; next_kind(&mut symbols), Err(Error::SymbolTooShort));
-    symbols.seek(SymbolIndex(0));
-    assert_eq!(rt; next_kind(&mut symbols), Ok(Some(0x114e)));
+    for (place, wanted) in STEPS {
+        if let Some(place) = place {
+            symbols.seek(SymbolIndex(*place));
+        }
+        assert_eq!(rt; next_kind(&mut symbols), *wanted, "{place:?}");
+    }
 }
+
+/// The rows of the line data.
+const ROWS: &[Row] = &[
+    (0xa084, Some(0), 22),
+    (0xa084, Some(11), 23),
+    (0xa08f, Some(1), 24),
+];
 
 #[test]
 fn rows(rt: HostRuntime) -> std::result::Result<(), Fail> {
-    let wanted = [
-        (0xa084, Some(0), 22),
-        (0xa084, Some(11), 23),
-        (0xa08f, Some(1), 24),
-    ];
     let found = rows_in(rt.alloc(), THREE_ROWS)?;
-    assert_eq!(rt; found.as_slice(), wanted.as_slice());
+    assert_eq!(rt; found.as_slice(), ROWS);
     Ok(())
 }
 
+/// Annotations, and the rows of a call with these.
+const CALLS: &[(&[u8], &[(u32, Option<u32>)])] = &[
+    (b"\x03\x04", &[(0x124, None)]),
+    (
+        b"\x03\x04\x04\x08\x03\0",
+        &[(0x124, Some(8)), (0x12c, None)],
+    ),
+    (
+        b"\x0c\x02\x3f\x0c\x03\x09\0\0",
+        &[(0x15f, Some(2)), (0x168, Some(3))],
+    ),
+];
+
 #[test]
 fn annotations(rt: HostRuntime) -> std::result::Result<(), Fail> {
-    for (annotations, wanted) in [
-        (b"\x03\x04".as_slice(), [(0x124, None)].as_slice()),
-        (
-            b"\x03\x04\x04\x08\x03\0",
-            &[(0x124, Some(8)), (0x12c, None)],
-        ),
-        (
-            b"\x0c\x02\x3f\x0c\x03\x09\0\0",
-            &[(0x15f, Some(2)), (0x168, Some(3))],
-        ),
-    ] {
-        let found = rows_of_call(rt.alloc(), annotations)?;
-        assert_eq!(rt; found.as_slice(), wanted);
+    for (annotations, wanted) in CALLS {
+        let found = rows_of_call(rt.alloc(), *annotations)?;
+        assert_eq!(rt; found.as_slice(), *wanted);
     }
     Ok(())
 }
+
+/// What is exported.
+const EXPORTED: &[CrossModuleExport] = &[
+    CrossModuleExport::OfType(Local(TypeIndex(0x101f)), TypeIndex(0x100c)),
+    CrossModuleExport::OfType(Local(TypeIndex(0x1020)), TypeIndex(0x224f)),
+    CrossModuleExport::Id(Local(IdIndex(0x8000_115c)), IdIndex(0x1161)),
+    CrossModuleExport::Id(Local(IdIndex(0x8000_116d)), IdIndex(0x1162)),
+];
 
 #[test]
 fn exports(rt: HostRuntime) -> std::result::Result<(), Fail> {
     let exports = CrossModuleExports::parse(EXPORTS)?;
     let given: Vec<CrossModuleExport> = exports.exports().collect(rt.alloc())?;
-    let wanted = [
-        CrossModuleExport::OfType(Local(TypeIndex(0x101f)), TypeIndex(0x100c)),
-        CrossModuleExport::OfType(Local(TypeIndex(0x1020)), TypeIndex(0x224f)),
-        CrossModuleExport::Id(Local(IdIndex(0x8000_115c)), IdIndex(0x1161)),
-        CrossModuleExport::Id(Local(IdIndex(0x8000_116d)), IdIndex(0x1162)),
-    ];
-    assert_eq!(rt; given.as_slice(), wanted.as_slice());
+    assert_eq!(rt; given.as_slice(), EXPORTED);
     Ok(())
 }
 
 #[test]
 fn nothing(rt: HostRuntime) {
-    assert!(rt; CrossModuleExports::default().is_empty());
-    assert_eq!(rt; CrossModuleExports::default().exports().next(), None);
+    let exports = CrossModuleExports::default();
+    let found = (exports.is_empty(), exports.exports().next());
+    assert_eq!(rt; found, (true, None));
     let found = CrossModuleImports::empty(rt.alloc()).resolve_import(IdIndex(0x8000_0000));
     assert_eq!(rt; found, Err(Error::CrossModuleRefNotFound(0x8000_0000)));
-    assert!(rt; matches!(InlineeIterator::empty().next(), Ok(None)));
-    assert!(rt; BinaryAnnotation::ChangeCodeOffset(1).emits_line_info());
-    assert!(rt; !BinaryAnnotation::ChangeCodeLength(1).emits_line_info());
+    let found = (
+        matches!(InlineeIterator::empty().next(), Ok(None)),
+        BinaryAnnotation::ChangeCodeOffset(1).emits_line_info(),
+        BinaryAnnotation::ChangeCodeLength(1).emits_line_info(),
+    );
+    assert_eq!(rt; found, (true, true, false));
 }
