@@ -20,7 +20,7 @@ enum Asked {
     FramesAt(u32),
     /// The function at this offset of section 1, over how many bytes it stays the same, and how many places were looked up then.
     RunFrom(u32),
-    /// How many entries the public list has, and all functions.
+    /// How many entries the public list has, all functions, and behind that the function at 0x1014.
     Functions,
 }
 
@@ -99,6 +99,18 @@ fn functions_by<P: ModuleProvider>(
     Ok(text)
 }
 
+/// All functions of a context, and the one that it finds at an RVA once their list is gone.
+fn functions_and_one<P: ModuleProvider>(
+    alloc: Global,
+    context: &mut Context<'_, '_, P>,
+    probe: u32,
+) -> Result<String, Error> {
+    let mut text = functions_by(alloc, context)?;
+    let function = function_by(alloc, context, probe)?;
+    write!(text, ", then {function}")?;
+    Ok(text)
+}
+
 /// What a context answers.
 fn told_by<P: ModuleProvider>(
     alloc: Global,
@@ -109,7 +121,7 @@ fn told_by<P: ModuleProvider>(
         Asked::FunctionAt(probe) => function_by(alloc, &mut context, probe),
         Asked::FramesAt(probe) => frames_by(alloc, &mut context, probe),
         Asked::RunFrom(offset) => run_by(alloc, &mut context, offset),
-        Asked::Functions => functions_by(alloc, &mut context),
+        Asked::Functions => functions_and_one(alloc, &mut context, 0x1014),
     }
 }
 
@@ -240,26 +252,26 @@ const ANSWERS: &[(File, u32, Asked, &str)] = &[
         F0,
         23,
         Asked::Functions,
-        r#"1 listed; 1010 to 1030 Some("f")"#,
+        r#"1 listed; 1010 to 1030 Some("f"), then 1010 to 1030 Some("f")"#,
     ),
     (
         F,
         23,
         Asked::Functions,
-        r#"1 listed; 1010 to 1030 Some("f")"#,
+        r#"1 listed; 1010 to 1030 Some("f"), then 1010 to 1030 Some("f")"#,
     ),
     (
         PUBLIC,
         23,
         Asked::Functions,
-        r#"2 listed; 1010 to 1030 Some("f"); 1034 to 1100 Some("?p@@YAXXZ")"#,
+        r#"2 listed; 1010 to 1030 Some("f"); 1034 to 1100 Some("?p@@YAXXZ"), then 1010 to 1030 Some("f")"#,
     ),
     // A public symbol where the procedure begins adds no function, and its decorated name is the procedure's.
     (
         PUBLIC_AT_F,
         23,
         Asked::Functions,
-        r#"2 listed; 1010 to 1030 Some("?f@@YAXXZ")"#,
+        r#"2 listed; 1010 to 1030 Some("?f@@YAXXZ"), then 1010 to 1030 Some("?f@@YAXXZ")"#,
     ),
 ];
 
