@@ -8,13 +8,14 @@ use Rattle.pdb_symbols_modules.specs.Modules.{modules_of}
 use Rattle.pdb_type_sizes.specs.Reading.{Reading, pointer_bytes}
 use Rattle.pdb_type_text.specs.Formatting.{Formatting}
 use Rattle.pdb_resolving.specs.Fault.{Fault}
+use Rattle.pdb_resolving.specs.Resolving.{none_failed}
 use Rattle.pdb_context.specs.Choice.{Parts}
 use Rattle.pdb_context.specs.Context.{Context, parts_of, context_over}
 
 -- what types and ids are read from: what is held gives the modules, by the entries in stream 3
 abbrev pub reading_of : Held → Reading (List KeptInfo)
 reading_of h = record {
-  modules = record { provider = h.infos; entries = (modules_of h.debug_information.modules).items; names = h.names };
+  modules = record { provider = h.infos; entries = (modules_of h.debug_information.modules).items; names = h.names; failed = none_failed };
   types = h.tables.types;
   ids = h.tables.ids;
   pointer_size = pointer_bytes (machine_of h.debug_information.machine);

@@ -18,6 +18,8 @@ enum Asked {
     FunctionAt(u32),
     /// The frames at this RVA.
     FramesAt(u32),
+    /// The same, and what is answered when they are asked for again.
+    FramesTwice(u32),
     /// The function at this offset of section 1, over how many bytes it stays the same, and how many places were looked up then.
     RunFrom(u32),
     /// How many entries the public list has, all functions, and behind that the function at 0x1014.
@@ -70,6 +72,29 @@ fn frames_by<P: ModuleProvider>(
     }
 }
 
+/// An answer, or the fault behind `fault: `.
+fn told_or_fault(alloc: Global, answer: Result<String, Error>) -> Result<String, Error> {
+    match answer {
+        Ok(text) => Ok(text),
+        Err(Error::OutOfMemory) => Err(Error::OutOfMemory),
+        Err(error) => Ok(format!(in alloc; "fault: {error}")?),
+    }
+}
+
+/// The frames that a context finds at an RVA, and those that it finds there again.
+fn frames_twice_by<P: ModuleProvider>(
+    alloc: Global,
+    context: &mut Context<'_, '_, P>,
+    probe: u32,
+) -> Result<String, Error> {
+    let first = frames_by(alloc, context, probe);
+    let mut text = told_or_fault(alloc, first)?;
+    let second = frames_by(alloc, context, probe);
+    let again = told_or_fault(alloc, second)?;
+    write!(text, ", then {again}")?;
+    Ok(text)
+}
+
 /// The function that a context finds from an offset of section 1 on.
 fn run_by<P: ModuleProvider>(
     alloc: Global,
@@ -120,6 +145,7 @@ fn told_by<P: ModuleProvider>(
     match asked {
         Asked::FunctionAt(probe) => function_by(alloc, &mut context, probe),
         Asked::FramesAt(probe) => frames_by(alloc, &mut context, probe),
+        Asked::FramesTwice(probe) => frames_twice_by(alloc, &mut context, probe),
         Asked::RunFrom(offset) => run_by(alloc, &mut context, offset),
         Asked::Functions => functions_and_one(alloc, &mut context, 0x1014),
     }
@@ -229,6 +255,19 @@ const ANSWERS: &[(File, u32, Asked, &str)] = &[
         55,
         Asked::FramesAt(0x1019),
         r#"1010 to 1030 [Frame { function: Some("h"), file: Some("c.h"), line: Some(9) }, Frame { function: Some("g"), file: Some("b.h"), line: None }, Frame { function: Some("f"), file: Some("a.c"), line: Some(7) }]"#,
+    ),
+    // What can't be read has its own fault once.
+    (
+        File::ShortLineBlock,
+        23,
+        Asked::FramesTwice(0x1014),
+        "fault: PDB error: UnexpectedEof, then fault: Getting the procedure lines was unsuccessful",
+    ),
+    (
+        File::ShortLineBlock,
+        23,
+        Asked::FunctionAt(0x1014),
+        r#"1010 to 1030 Some("f")"#,
     ),
     // To the end of `f`, and not to the row of another line.
     (

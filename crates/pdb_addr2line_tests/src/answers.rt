@@ -26,6 +26,8 @@ pub enum Question {
     Nameless,
     /// The text of an inlined call's id in the module of this number.
     Inlinee(usize),
+    /// The texts or faults of an inlined call's id in the modules of these numbers, one after another.
+    InTurn(&'static [usize]),
     /// The size in bytes of this type in the first module.
     Size(u32),
     /// What is handed over to a writer of a function and of an inlined call's id, in two modules and then the other way round.
@@ -72,6 +74,25 @@ fn emitted_by<P: ModuleProvider>(
     Ok(text)
 }
 
+/// What a formatter answers of an inlined call's id in the modules of these numbers, one after another, each before `; `.
+fn answers_in_turn<P: ModuleProvider>(
+    alloc: Global,
+    mut formatter: TypeFormatter<'_, '_, P>,
+    modules: &[usize],
+) -> Result<String, Error> {
+    let mut text = String::new(alloc);
+    for module in modules {
+        let answer = match formatter.format_id(alloc, *module, INLINEE) {
+            Ok(answer) => answer,
+            Err(Error::OutOfMemory) => return Err(Error::OutOfMemory),
+            Err(error) => format!(in alloc; "{error}")?,
+        };
+        text.push_str(answer.as_str())?;
+        text.push_str("; ")?;
+    }
+    Ok(text)
+}
+
 /// What a formatter answers where a function or an id is refused: nothing, or the fault.
 fn refused_by<P: ModuleProvider>(
     alloc: Global,
@@ -100,6 +121,7 @@ fn answer_by<P: ModuleProvider>(
         Question::Nameless => formatter.format_function(alloc, "", 0, TypeIndex(0)),
         Question::Id(index) => formatter.format_id(alloc, 0, IdIndex(index)),
         Question::Inlinee(module) => formatter.format_id(alloc, module, INLINEE),
+        Question::InTurn(modules) => answers_in_turn(alloc, formatter, modules),
         Question::Size(index) => size_by(alloc, formatter, index),
         Question::Emitted => emitted_by(alloc, formatter),
         Question::RefusedFunction => refused_by(alloc, formatter, true),

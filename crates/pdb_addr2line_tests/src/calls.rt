@@ -1,6 +1,8 @@
 //! Calls over a file of three modules, of which two import from the third.
 
-use crate::answers::Question::{Emitted, Inlinee, Nameless, RefusedFunction, RefusedId, Size};
+use crate::answers::Question::{
+    Emitted, InTurn, Inlinee, Nameless, RefusedFunction, RefusedId, Size,
+};
 use crate::answers::{Case, Database, answer, open, wrong_answers};
 use crate::files::File;
 use pdb_addr2line::ContextPdbData;
@@ -17,6 +19,12 @@ const CALLS: &[Case] = &[
         23,
         Inlinee(9),
         "fault: The module index 9 was out-of-range.",
+    ),
+    // imports that couldn't be read are told as such from the second time on
+    (
+        23,
+        InTurn(&[9, 9, 0]),
+        "The module index 9 was out-of-range.; Getting the module imports was unsuccessful; g(); ",
     ),
     (23, Emitted, "1 f()g()h()h()g()"),
     (
@@ -38,10 +46,18 @@ const NO_NAMES: &[Case] = &[(
     "fault: Could not resolve cross-module reference due to missing string table",
 )];
 
+/// Exports that can't be read, whichever module asks for them.
+const NO_EXPORTS: &[Case] = &[(
+    23,
+    InTurn(&[0, 1, 0]),
+    "Could not get the ModuleInfo for module index 2; Getting the module exports was unsuccessful; Getting the module exports was unsuccessful; ",
+)];
+
 /// The files of these.
 const FILES: &[(File, &[Case])] = &[
     (File::Imports, CALLS),
     (File::ImportsWithoutNames, NO_NAMES),
+    (File::ImportsOfNoStream, NO_EXPORTS),
 ];
 
 #[test]

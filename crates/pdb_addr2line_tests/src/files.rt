@@ -16,6 +16,8 @@ pub enum File {
     With(Change),
     /// As file F, with an inlined call in an inlined call.
     NestedSites,
+    /// As file F, whose block of lines says that it has eight bytes, fewer than its own header.
+    ShortLineBlock,
     /// The types and the ids of many forms.
     Items,
     /// A function of one argument, which is a pointer to itself.
@@ -24,6 +26,8 @@ pub enum File {
     Imports,
     /// The same without a table of names.
     ImportsWithoutNames,
+    /// The same where the third has no stream.
+    ImportsOfNoStream,
     /// No types, for an image of the machine of this number.
     Machine(u16),
     /// So many pointers, each of which leads to the next and the last to `int`; behind these the list of one argument, the
@@ -40,10 +44,12 @@ pub fn database_of(alloc: Global, file: File) -> Result<ProgramDatabase> {
     match file {
         File::With(change) => file_with(alloc, change),
         File::NestedSites => nested_sites(alloc),
+        File::ShortLineBlock => short_line_block(alloc),
         File::Items => file_of_items(alloc, TYPES, IDS),
         File::SelfPointer => self_pointer(alloc),
         File::Imports => cross_imports(alloc),
         File::ImportsWithoutNames => imports_without_names(alloc),
+        File::ImportsOfNoStream => imports_of_no_stream(alloc),
         File::Machine(number) => file_of_machine(alloc, number),
         File::Pointers(count) => file_of_links(alloc, count, false),
         File::Arrays(count) => file_of_links(alloc, count, true),
@@ -51,9 +57,30 @@ pub fn database_of(alloc: Global, file: File) -> Result<ProgramDatabase> {
     }
 }
 
+/// Where the size of the block of lines stands in the module's line data.
+const BLOCK_SIZE: usize = 44;
+
+fn short_line_block(alloc: Global) -> Result<ProgramDatabase> {
+    let mut database = file_with(alloc, Change::LineData)?;
+    if let Some(module) = database.modules.first_mut() {
+        if let Some(size) = module.c13.get_mut(BLOCK_SIZE) {
+            *size = 8;
+        }
+    }
+    Ok(database)
+}
+
 fn imports_without_names(alloc: Global) -> Result<ProgramDatabase> {
     let mut database = cross_imports(alloc)?;
     database.has_names = false;
+    Ok(database)
+}
+
+fn imports_of_no_stream(alloc: Global) -> Result<ProgramDatabase> {
+    let mut database = cross_imports(alloc)?;
+    if let Some(third) = database.modules.last_mut() {
+        third.has_stream = false;
+    }
     Ok(database)
 }
 

@@ -1,3 +1,4 @@
+pub mod FailedSteps
 pub mod FunctionSteps
 pub mod KeptProcedures
 pub mod KeptSteps

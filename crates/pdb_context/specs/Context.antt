@@ -13,18 +13,25 @@ use Rattle.pdb_resolving.specs.Fault.{Fault, lifted}
 use Rattle.pdb_resolving.specs.Resolving.{Provided}
 use Rattle.pdb_type_text.specs.Formatting.{Formatting, env_of}
 use Rattle.pdb_context.specs.Choice.{Parts, Scope}
+use Rattle.pdb_context.specs.Failed.{Failures, no_failures}
 use Rattle.pdb_context.specs.Modules.{own_of}
 
--- what gives modules, what every question goes over, what names are made of, and how many places were looked up
+-- what gives modules, what every question goes over, what names are made of, how many places were looked up, and which parts of
+-- modules stand as failed
 pub record Context (P : Type 0) : Type 0 where
   pub provider : P
   pub parts : Parts
   pub formatting : Formatting P
   pub lookups : ℕ
+  pub failed : Failures
 
 -- all of a context but its count: what its answers depend on
 abbrev pub uncounted : {P : Type 0} → Context P → Context P
-uncounted c = record { provider = c.provider; parts = c.parts; formatting = c.formatting; lookups = 0 }
+uncounted c = record { provider = c.provider; parts = c.parts; formatting = c.formatting; lookups = 0; failed = c.failed }
+
+-- what no question changes: all of a context but its count and what stands as failed
+abbrev pub lasting : {P : Type 0} → Context P → Context P
+lasting c = record { provider = c.provider; parts = c.parts; formatting = c.formatting; lookups = 0; failed = no_failures }
 
 -- the count behind a question: one more where there was a place to look up, unless memory ran short; it stays at 2^64 - 1
 abbrev pub lookups_after : {A : Type 0} → Bool → Result A Error → ℕ → ℕ
@@ -54,4 +61,4 @@ parts_of sections map symbol_records contributions names = do
 
 -- a context over parts that were read, before any question
 abbrev pub context_over : {P : Type 0} → P → Formatting P → Result Parts Fault → Result (Context P) Fault
-context_over provider formatting parts = parts >>= λ p. Ok record { provider = provider; parts = p; formatting = formatting; lookups = 0 }
+context_over provider formatting parts = parts >>= λ p. Ok record { provider = provider; parts = p; formatting = formatting; lookups = 0; failed = no_failures }

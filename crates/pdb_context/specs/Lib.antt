@@ -1,5 +1,6 @@
 pub mod Choice
 pub mod Context
+pub mod Failed
 pub mod Frames
 pub mod FunctionList
 pub mod Kept

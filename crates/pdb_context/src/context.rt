@@ -6,7 +6,8 @@ ghost use Rattle.pdb_addresses.specs.SectionRun.{up_to_next};
 ghost use Rattle.pdb_resolving.specs.Fault.{Answers};
 ghost use Rattle.pdb_context.specs.Choice.{Parts, place_of};
 ghost use Rattle.pdb_context.specs.Kept.{AreKept};
-ghost use Rattle.pdb_context.specs.Context.{entries_of, parts_of, context_over, scope_of, scope_in, uncounted, lookups_after};
+ghost use Rattle.pdb_context.specs.Context.{entries_of, parts_of, context_over, lasting, scope_of, scope_in, uncounted, lookups_after};
+ghost use Rattle.pdb_context.specs.Failed.{failed_after, failing, failing_at, failing_if_held, failing_in as failing_in_module, told};
 ghost use Rattle.pdb_context.specs.Frames.{frames, frames_at as frames_at_place, frames_if_held, frames_of_chosen, function, function_at as function_at_contribution, function_of as function_of_chosen, held_at};
 ghost use Rattle.pdb_context.specs.KeptNames.{AreKeptNames};
 ghost use Rattle.pdb_context.specs.MaybeOwned.{value_of};
@@ -17,6 +18,7 @@ ghost use Rattle.pdb_functions.specs.Databases.{IsOneRun, place_of as as_place};
 ghost use Rattle.pdb_type_text.specs.Formatting.{env_of};
 
 use crate::choice::{Chosen, choose};
+use crate::failures::{Failures, Part, failing_in, unsuccessful};
 use crate::frames::frames_in;
 use crate::function::FunctionFrames;
 use crate::kept::{KeptModule, empty_places, keep_lines, keep_module, keep_procedure, known_at};
@@ -29,7 +31,7 @@ use pdb_addresses::{AddressMap, ImageSectionHeader, PdbInternalSectionOffset};
 use pdb_container::StringTable;
 use pdb_contributions::ModuleSectionContribution;
 use pdb_functions::Function;
-use pdb_resolving::{Error, ModuleProvider, Result};
+use pdb_resolving::{Error, ModuleProvider, ModuleTables, Result};
 use pdb_symbols::SymbolTable;
 use pdb_symbols_modules::DebugInformation;
 use pdb_type_text::TypeFormatter;
@@ -45,6 +47,7 @@ pub struct Context<'a, 's, P: ModuleProvider> {
     names: KeptNames,
     pub(crate) starts: Option<Vec<u32>>,
     lookups: u64,
+    failed: Failures,
 }
 
 impl<'a, 's, P: ModuleProvider> Model for Context<'a, 's, P> {
@@ -59,7 +62,7 @@ impl<'a, 's, P: ModuleProvider> Model for Context<'a, 's, P> {
 
     ghost Value = { contexts.Context P };
 
-    ghost view = { λ c. record { provider = c.provider.now; parts = c.parts; formatting = value_of c.type_formatter; lookups = c.lookups } };
+    ghost view = { λ c. record { provider = c.provider.now; parts = c.parts; formatting = value_of c.type_formatter; lookups = c.lookups; failed = c.failed } };
 
     // What is kept of each module is its own, the names that are kept are those that the formatter gives, and the starts those of
     // the file's functions.
@@ -76,12 +79,14 @@ impl<'a, 's, P: ModuleProvider> Drop for Context<'a, 's, P> {
             names,
             starts,
             lookups: _,
+            failed,
         } = self;
         drop(parts);
         drop(type_formatter);
         drop(kept);
         drop(names);
         drop(starts);
+        drop(failed);
     }
 }
 
@@ -132,6 +137,71 @@ fn frames_of<'a, P: ModuleProvider>(
     }
 }
 
+/// The same, and the part that can't be read, if one can't, stands as failed from then on: where it did before, that is told.
+#[tactic(auto, using(crate::proofs::FailedSteps::told_own, crate::proofs::FailedSteps::told_alone))]
+fn frames_told<'a, P: ModuleProvider>(
+    alloc: Global,
+    parts: &ContextParts<'a, '_>,
+    formatter: &mut TypeFormatter<'_, '_, P>,
+    names: &mut KeptNames,
+    failed: &mut Failures,
+    module_index: u16,
+    known: &Option<BasicModuleInfo<'_, P::Info>>,
+    chosen: Chosen<'_, '_>,
+    place: PdbInternalSectionOffset,
+) -> Result<Option<FunctionFrames<'a>>>
+    requires names { AreKeptNames P.provided formatter.old names.old }
+    ensures names { AreKeptNames P.provided formatter.old names.new }
+    ensures same { formatter.new ≡ formatter.old }
+    ensures failed { failed.new ≡ failed_after (failing_in_module module_index known.now (chosen_seen chosen.entry)) result failed.old }
+    ensures frames { Answers (λ f. f) result (told failed.old (failing_in_module module_index known.now (chosen_seen chosen.entry)) (frames_of_chosen parts.now (env_of P.provided formatter.old module_index) known.now place (Some (chosen_seen chosen.entry)))) }
+{
+    let frames = frames_of(
+        alloc,
+        parts,
+        formatter,
+        names,
+        module_index,
+        known,
+        chosen,
+        place,
+    );
+    match frames {
+        Ok(frames) => Ok(frames),
+        Err(Error::OutOfMemory) => Err(Error::OutOfMemory),
+        Err(fault) => match failing_in(alloc, module_index, known, chosen)? {
+            None => Err(fault),
+            Some(part) => {
+                let stood = failed.has(part);
+                failed.keep(part)?;
+                if stood {
+                    return Err(unsuccessful(part));
+                }
+                Err(fault)
+            }
+        },
+    }
+}
+
+/// Reads what frames at a place in a module are made of, and keeps it. Where the module's line program and inlinees stand as failed
+/// nothing is read.
+fn keep_parts<'a, I: ModuleTables>(
+    alloc: Global,
+    kept: &mut [KeptModule<'a, I>],
+    failed: &Failures,
+    module_index: u16,
+    place: PdbInternalSectionOffset,
+) -> std::result::Result<(), AllocError>
+    ensures { kept.new ≡ kept.old }
+{
+    if failed.has(Part::ExtendedModule(module_index)) {
+        return Ok(());
+    }
+    let module_index = usize::from(module_index);
+    keep_lines(alloc, kept, module_index)?;
+    keep_procedure(alloc, kept, module_index, place)
+}
+
 /// The frames at a place that a contribution holds.
 #[tactic(auto, unfolding(crate::specs::Frames::frames_at))]
 fn frames_at<'a, P: ModuleProvider>(
@@ -141,6 +211,7 @@ fn frames_at<'a, P: ModuleProvider>(
     parts: &ContextParts<'a, '_>,
     formatter: &mut TypeFormatter<'_, '_, P>,
     names: &mut KeptNames,
+    failed: &mut Failures,
     contribution: ModuleSectionContribution,
     place: PdbInternalSectionOffset,
 ) -> Result<Option<FunctionFrames<'a>>>
@@ -149,22 +220,23 @@ fn frames_at<'a, P: ModuleProvider>(
     ensures kept { AreKept (λ n. module_data (own_of (P.provided provider.now) (entries_of formatter.old) n)) kept.new }
     ensures names { AreKeptNames P.provided formatter.old names.new }
     ensures same { formatter.new ≡ formatter.old }
-    ensures frames { Answers (λ f. f) result (frames_at_place parts.now (scope_of P.provided provider.now formatter.old contribution.module_index) contribution place) }
+    ensures failed { failed.new ≡ failed_after (failing_at parts.now (scope_of P.provided provider.now formatter.old contribution.module_index) contribution place) result failed.old }
+    ensures frames { Answers (λ f. f) result (told failed.old (failing_at parts.now (scope_of P.provided provider.now formatter.old contribution.module_index) contribution place) (frames_at_place parts.now (scope_of P.provided provider.now formatter.old contribution.module_index) contribution place)) }
 {
     let module_index = usize::from(contribution.module_index);
     keep_module(alloc, kept, provider, formatter.modules(), module_index)?;
-    keep_lines(alloc, kept, module_index)?;
-    keep_procedure(alloc, kept, module_index, place)?;
+    keep_parts(alloc, kept, failed, contribution.module_index, place)?;
     let none = None;
     let known = known_at(kept, module_index, &none);
     match choose(parts, known, contribution, place) {
         None => Ok(None),
         Some(chosen) => {
-            frames_of(
+            frames_told(
                 alloc,
                 parts,
                 formatter,
                 names,
+                failed,
                 contribution.module_index,
                 known,
                 chosen,
@@ -246,6 +318,7 @@ fn frames_here<'a, P: ModuleProvider>(
     parts: &ContextParts<'a, '_>,
     formatter: &mut TypeFormatter<'_, '_, P>,
     names: &mut KeptNames,
+    failed: &mut Failures,
     place: PdbInternalSectionOffset,
 ) -> Result<Option<FunctionFrames<'a>>>
     requires kept { AreKept (λ n. module_data (own_of (P.provided provider.now) (entries_of formatter.old) n)) kept.old }
@@ -253,7 +326,8 @@ fn frames_here<'a, P: ModuleProvider>(
     ensures kept { AreKept (λ n. module_data (own_of (P.provided provider.now) (entries_of formatter.old) n)) kept.new }
     ensures names { AreKeptNames P.provided formatter.old names.new }
     ensures same { formatter.new ≡ formatter.old }
-    ensures frames { Answers (λ f. f) result (frames_if_held parts.now (scope_of P.provided provider.now formatter.old) (held_at parts.now (Some place))) }
+    ensures failed { failed.new ≡ failed_after (failing_if_held parts.now (scope_of P.provided provider.now formatter.old) (held_at parts.now (Some place))) result failed.old }
+    ensures frames { Answers (λ f. f) result (told failed.old (failing_if_held parts.now (scope_of P.provided provider.now formatter.old) (held_at parts.now (Some place))) (frames_if_held parts.now (scope_of P.provided provider.now formatter.old) (held_at parts.now (Some place)))) }
 {
     match parts.holder(place) {
         None => Ok(None),
@@ -264,6 +338,7 @@ fn frames_here<'a, P: ModuleProvider>(
             parts,
             formatter,
             names,
+            failed,
             contribution,
             place,
         ),
@@ -420,6 +495,7 @@ impl<'a, 's, P: ModuleProvider> Context<'a, 's, P> {
             names,
             starts: None,
             lookups: 0,
+            failed: Failures::new(alloc),
         })
     }
 
@@ -458,13 +534,15 @@ impl<'a, 's, P: ModuleProvider> Context<'a, 's, P> {
     ///
     /// # Errors
     /// Where the module's data are there and a part of them can't be read, the first part's fault, in the order line program,
-    /// inlinees, rows of the function's `DEBUG_S_LINES`, inline sites: `PdbError`, `ProcedureInlineRangesUnsuccessful`.
-    /// `OutOfMemory`.
+    /// inlinees, rows of the function's `DEBUG_S_LINES`, inline sites: `PdbError`, `ProcedureInlineRangesUnsuccessful`. From then
+    /// on the part stands as failed, and its fault is `ExtendedModuleInfoUnsuccessful`, `ProcedureLinesUnsuccessful` or
+    /// `ProcedureInlineRangesUnsuccessful`. `OutOfMemory`, and then nothing stands as failed that did not before.
     #[tactic(auto, unfolding(crate::specs::Frames::frames))]
     pub fn find_frames(&mut self, alloc: Global, probe: u32) -> Result<Option<FunctionFrames<'a>>>
-        ensures same { uncounted self.new ≡ uncounted self.old }
+        ensures same { lasting self.new ≡ lasting self.old }
+        ensures failed { self.new.failed ≡ failed_after (failing self.old.parts (scope_in P.provided self.old) probe) result self.old.failed }
         ensures lookups { self.new.lookups ≡ lookups_after (is_some (place_of self.old.parts probe)) result self.old.lookups }
-        ensures frames { Answers (λ f. f) result (frames self.old.parts (scope_in P.provided self.old) probe) }
+        ensures frames { Answers (λ f. f) result (told self.old.failed (failing self.old.parts (scope_in P.provided self.old) probe) (frames self.old.parts (scope_in P.provided self.old) probe)) }
     {
         let Some(place) = self.parts.place(probe) else {
             return Ok(None);
@@ -476,6 +554,7 @@ impl<'a, 's, P: ModuleProvider> Context<'a, 's, P> {
             &self.parts,
             self.type_formatter.get_mut(),
             &mut self.names,
+            &mut self.failed,
             place,
         );
         self.counted(frames)

@@ -4,6 +4,7 @@
 
 mod choice;
 mod context;
+mod failures;
 mod frames;
 mod function;
 mod function_starts;

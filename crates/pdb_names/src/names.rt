@@ -11,7 +11,7 @@ use pdb_container::RawString;
 use pdb_indices::IdIndex;
 use pdb_module_data::Procedure;
 use pdb_resolving::{Error, ModuleProvider, Result};
-use pdb_type_text::TypeFormatter;
+use pdb_type_text::{TypeFormatter, function_text_of, id_text_of};
 use std::alloc::{AllocError, Global};
 
 /// Whether a name is decorated: it begins with a question mark.
@@ -53,7 +53,7 @@ pub fn inlinee_name<P: ModuleProvider>(
     ensures same { formatter.new ≡ formatter.old }
     ensures name { IfOk result (λ n. option_map string_bytes n ≡ if_made (id_text (env_of P.provided formatter.old module_index) inlinee.0)) }
 {
-    let made = formatter.format_id(alloc, module_index, inlinee);
+    let made = id_text_of(formatter, alloc, module_index, inlinee);
     if_text(made)
 }
 
@@ -68,7 +68,13 @@ pub fn typed_name<P: ModuleProvider>(
     ensures name { IfOk result (λ n. option_map string_bytes n ≡ name_by_type (env_of P.provided formatter.old module_index) procedure.now) }
 {
     let name = raw_name(alloc, &procedure.name)?;
-    let made = formatter.format_function(alloc, name.as_str(), module_index, procedure.type_index);
+    let made = function_text_of(
+        formatter,
+        alloc,
+        name.as_str(),
+        module_index,
+        procedure.type_index,
+    );
     if_text(made)
 }
 

@@ -6,3 +6,4 @@ pub mod OpeningSteps
 pub mod Pieces
 pub mod ShortLines
 pub mod SizesSteps
+pub mod ToldSteps

@@ -15,11 +15,12 @@ use Rattle.pdb_symbols_modules.specs.Streams.{Streams, streams, fault_in}
 use Rattle.pdb_resolving.specs.declared.error.Error as context
 use Rattle.pdb_resolving.specs.declared.error.Error.TheVariants as contexts
 use Rattle.pdb_resolving.specs.Fault as answers
-use Rattle.pdb_resolving.specs.Resolving.{Provided}
+use Rattle.pdb_resolving.specs.Resolving.{Provided, none_failed}
 use Rattle.pdb_type_sizes.specs.Reading.{pointer_bytes}
 use Rattle.pdb_type_text.specs.Formatting.{Formatting}
 use Rattle.pdb_context.specs.Choice.{Parts, Scope}
 use Rattle.pdb_context.specs.Context.{Context, context_over, scope_of}
+use Rattle.pdb_context.specs.Failed.{no_failures}
 use Rattle.pdb_context.specs.Frames.{frames, function}
 use Rattle.pdb_addr2line.specs.Formatters as held
 use Rattle.pdb_addr2line.specs.Held.{Held, IsOwn, loaded_in, given, names_in}
@@ -241,7 +242,7 @@ memory_alone e c h = absurd cc
 abbrev over_given : Provided → Option (List ℕ) → Held → Formatting Provided
 over_given p names h = record {
   reading = record {
-    modules = record { provider = p; entries = (modules_of h.debug_information.modules).items; names = names };
+    modules = record { provider = p; entries = (modules_of h.debug_information.modules).items; names = names; failed = none_failed };
     types = h.tables.types;
     ids = h.tables.ids;
     pointer_size = pointer_bytes (machine_of h.debug_information.machine);
@@ -264,7 +265,7 @@ same_scope s h parts m modules_are names_are =
 
 -- a context over what is kept
 abbrev context_of : Held → Parts → Context (List KeptInfo)
-context_of h parts = record { provider = h.infos; parts = parts; formatting = held.formatting_of h 23; lookups = 0 }
+context_of h parts = record { provider = h.infos; parts = parts; formatting = held.formatting_of h 23; lookups = 0; failed = no_failures }
 
 -- what its list of functions goes over
 abbrev listing_in : Held → Parts → (ℕ → Scope) → Listing

@@ -6,7 +6,7 @@ use Rattle.pdb_symbols_modules.specs.Modules.{Module, modules_of}
 use Rattle.pdb_symbols_modules.specs.Shared.{shared}
 use Rattle.pdb_symbols_modules.specs.Streams.{Streams}
 use Rattle.pdb_resolving.specs.Fault.{Fault}
-use Rattle.pdb_resolving.specs.Resolving.{Provided}
+use Rattle.pdb_resolving.specs.Resolving.{Provided, none_failed}
 use Rattle.pdb_type_sizes.specs.Reading.{pointer_bytes}
 use Rattle.pdb_type_text.specs.Formatting.{Formatting}
 use Rattle.pdb_context.specs.Choice.{Parts, Scope}
@@ -27,7 +27,7 @@ given_in s number entry = given s number
 abbrev pub formatting_in : Streams → Loaded → Formatting Streams
 formatting_in s l = record {
   reading = record {
-    modules = record { provider = s; entries = (modules_of l.debug_information.modules).items; names = names_in s };
+    modules = record { provider = s; entries = (modules_of l.debug_information.modules).items; names = names_in s; failed = none_failed };
     types = l.tables.types;
     ids = l.tables.ids;
     pointer_size = pointer_bytes (machine_of l.debug_information.machine);

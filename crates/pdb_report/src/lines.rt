@@ -1,7 +1,7 @@
 //! What is written for a line of the input, by a context.
 
 ghost use Rattle.std.specs.Prelude.{◌≡◌, IfOk, Some, string_bytes};
-ghost use Rattle.pdb_context.specs.Context.{uncounted};
+ghost use Rattle.pdb_context.specs.Context.{lasting};
 ghost use Rattle.pdb_report.specs.Answer.{answer_of};
 ghost use Rattle.pdb_report.specs.AddressText.{line_text as text_of_line, text_at};
 
@@ -12,12 +12,13 @@ use pdb_engine::Answers;
 use std::alloc::{AllocError, Global};
 
 /// What is written for an address.
+#[tactic(auto, using(crate::proofs::ToldSteps::found_text, crate::proofs::ToldSteps::unreadable_text))]
 fn address_lines<P: ModuleProvider>(
     alloc: Global,
     context: &mut Context<'_, '_, P>,
     address: u32,
 ) -> Result<String, AllocError>
-    ensures same { uncounted context.new ≡ uncounted context.old }
+    ensures same { lasting context.new ≡ lasting context.old }
     ensures text { IfOk result (λ t. string_bytes t ≡ text_at (answer_of P.provided context.old) (Some address)) }
 {
     match context.find_frames(alloc, address) {
@@ -34,7 +35,7 @@ fn line_text<P: ModuleProvider>(
     context: &mut Context<'_, '_, P>,
     line: &[u8],
 ) -> Result<String, AllocError>
-    ensures same { uncounted context.new ≡ uncounted context.old }
+    ensures same { lasting context.new ≡ lasting context.old }
     ensures text { IfOk result (λ t. string_bytes t ≡ text_of_line (answer_of P.provided context.old) line.now) }
 {
     match parse_address(line) {

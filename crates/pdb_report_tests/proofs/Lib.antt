@@ -1,1 +1,2 @@
+pub mod FailingParts
 pub mod RowFacts

@@ -7,6 +7,7 @@ mod calls;
 pub mod definitions;
 #[cfg(test)]
 mod files;
+pub mod laws;
 #[cfg(test)]
 mod rows;
 #[cfg(test)]

@@ -1,5 +1,5 @@
 -- Indices that lead into another module, and what they stand for in the tables of types and ids.
-use Rattle.std.specs.Prelude.{ℕ, ◌+◌, Bool, List, [], ◌∷◌, Option, None, Some, Result, Ok, slice_get, if◌then◌else◌}
+use Rattle.std.specs.Prelude.{◌≡◌, ℕ, ◌+◌, ◌⊎◌, Bool, List, [], ◌∷◌, Option, None, Some, Result, Ok, Err, IsErr, slice_get, if◌then◌else◌}
 use Rattle.std.specs.Option.{ok_or}
 use Rattle.std.specs.Str.{str_eq_ignore_ascii_case, str_to_ascii_lowercase}
 use Rattle.std.specs.Str.Lossy.{utf8_lossy}
@@ -7,21 +7,35 @@ use Rattle.pdb_container.specs.Fault as container_fault
 use Rattle.pdb_container.specs.Fault.{◌>>=◌}
 use Rattle.pdb_container.specs.StringTable.{text_in}
 use Rattle.pdb_indices.specs.Index.{is_cross_module}
-use Rattle.pdb_cross_modules.specs.Exports.{first_export}
-use Rattle.pdb_cross_modules.specs.Imports.{imported}
+use Rattle.pdb_cross_modules.specs.Exports.{Entry, first_export}
+use Rattle.pdb_cross_modules.specs.Imports.{Import, imported}
+use Rattle.pdb_failed_parts.specs.Failed.{stands, with_part}
 use Rattle.pdb_modules.specs.ModuleStream.{ModuleStream, imports_in, exports_in}
 use Rattle.pdb_symbols_modules.specs.Modules.{Module}
-use Rattle.pdb_resolving.specs.Fault.{Fault, CantResolveCrossModuleRefWithoutStringTable, ModuleNameNotFound, LocalIndexNotInExports, OutOfRangeModuleIndex, ModuleInfoNotFound, lifted}
+use Rattle.pdb_resolving.specs.declared.table.Table.{Table}
+use Rattle.pdb_resolving.specs.declared.table.Table.TheVariants as tables
+use Rattle.pdb_resolving.specs.Fault.{Fault, ModuleImportsUnsuccessful, ModuleExportsUnsuccessful, CantResolveCrossModuleRefWithoutStringTable, ModuleNameNotFound, LocalIndexNotInExports, OutOfRangeModuleIndex, ModuleInfoNotFound, lifted}
 
 -- what gives modules: by a module's number and entry what its own stream holds, if it has one, or the fault
 abbrev pub Provided : Type 0
 Provided = ℕ → Module → Result (Option ModuleStream) container_fault.Fault
 
--- the modules of a database: their entries in order, what is given of each, and the names by which they refer to one another
+-- the tables of imports and of exports that stand as failed, each by its module's number
+pub record FailedTables : Type 0 where
+  pub imports : List ℕ
+  pub exports : List ℕ
+
+-- no table has failed
+abbrev pub none_failed : FailedTables
+none_failed = record { imports = []; exports = [] }
+
+-- the modules of a database: their entries in order, what is given of each, the names by which they refer to one another, and
+-- which of their tables stand as failed
 pub record Modules : Type 0 where
   pub entries : List Module
   pub provided : Provided
   pub names : Option (List ℕ)
+  pub failed : FailedTables
 
 -- ---- names of modules
 
@@ -52,18 +66,42 @@ module_numbered provided entries number = do
   stream ← lifted (provided number entry)
   ok_or stream (ModuleInfoNotFound number)
 
+-- what the module of a number imports, as its stream says
+unfoldable pub imports_read : Provided → List Module → ℕ → Result (List Import) Fault
+imports_read provided entries number = do
+  own ← module_numbered provided entries number
+  lifted (imports_in own)
+
+-- what the module of a number exports, as its stream says
+unfoldable pub exports_read : Provided → List Module → ℕ → Result (List Entry) Fault
+exports_read provided entries number = do
+  own ← module_numbered provided entries number
+  lifted (exports_in own)
+
+-- what the module of a number imports, unless that stands as failed
+abbrev pub imports_of : Modules → ℕ → Result (List Import) Fault
+imports_of modules number =
+    if stands modules.failed.imports number
+    then Err ModuleImportsUnsuccessful
+    else imports_read modules.provided modules.entries number
+
+-- what the module of a number exports, unless that stands as failed
+abbrev pub exports_of : Modules → ℕ → Result (List Entry) Fault
+exports_of modules number =
+    if stands modules.failed.exports number
+    then Err ModuleExportsUnsuccessful
+    else exports_read modules.provided modules.entries number
+
 -- What an index of the asking module stands for that leads into another one: that module's first export of what the asking
 -- module imports. The other module is the last one of the imported name.
 unfoldable pub resolved_elsewhere : Modules → ℕ → ℕ → Result ℕ Fault
 resolved_elsewhere modules asking index = do
   names ← ok_or modules.names CantResolveCrossModuleRefWithoutStringTable
-  own ← module_numbered modules.provided modules.entries asking
-  imports ← lifted (imports_in own)
+  imports ← imports_of modules asking
   target ← lifted (imported imports index)
   name ← lifted (text_in names target.name)
   number ← ok_or (last_named name modules.entries) (ModuleNameNotFound (str_to_ascii_lowercase name))
-  other ← module_numbered modules.provided modules.entries number
-  exports ← lifted (exports_in other)
+  exports ← exports_of modules number
   ok_or (first_export exports target.local) (LocalIndexNotInExports target.local)
 
 -- what an index stands for as a module has it: without bit 31 itself
@@ -72,12 +110,31 @@ resolve modules asking index = if is_cross_module index then resolved_elsewhere 
 
 -- ---- modules as they are kept
 
--- what resolving keeps: what gives modules, their entries, and the names
+-- what resolving keeps: what gives modules, their entries, the names, and the tables that stand as failed
 pub record Kept (P : Type 0) : Type 0 where
   pub provider : P
   pub entries : List Module
   pub names : Option (List ℕ)
+  pub failed : FailedTables
 
 -- the same, by what the provider gives
 abbrev pub modules_by : {P : Type 0} → (P → Provided) → Kept P → Modules
-modules_by provided kept = record { entries = kept.entries; provided = provided kept.provider; names = kept.names }
+modules_by provided kept = record { entries = kept.entries; provided = provided kept.provider; names = kept.names; failed = kept.failed }
+
+-- ---- tables that fail
+
+-- A table can't be read, or stands as failed.
+abbrev pub IsFailing : Modules → Table → Type 0
+IsFailing modules (tables.Imports number) = IsErr (imports_of modules number)
+IsFailing modules (tables.Exports number) = IsErr (exports_of modules number)
+
+-- the tables that stand as failed, with one more
+abbrev pub with_table : FailedTables → Table → FailedTables
+with_table failed (tables.Imports number) = record failed { imports = with_part failed.imports number }
+with_table failed (tables.Exports number) = record failed { exports = with_part failed.exports number }
+
+-- What a call that failed keeps: nothing, or that one more table fails.
+abbrev pub KeepsAsFailed : {P : Type 0} → (P → Provided) → Kept P → Kept P → Type 0
+KeepsAsFailed provided old new =
+    (new ≡ old)
+    ⊎ ((table : Table) × IsFailing (modules_by provided old) table × (new ≡ record old { failed = with_table old.failed table }))

@@ -5,6 +5,7 @@
 mod error;
 mod provider;
 mod resolver;
+mod table;
 
 pub use error::{Error, Result};
 pub use provider::{ModuleProvider, ModuleTables};

@@ -1,17 +1,21 @@
 //! Indices that lead into another module.
 
-ghost use Rattle.std.specs.Prelude.{◌≡◌, option_map, slice_get, IfOk};
+ghost use Rattle.std.specs.Prelude.{◌≡◌, option_map, slice_get, IfOk, OnErr, OnOk};
 ghost use Rattle.std.specs.Option.{ok_or};
 ghost use Rattle.std.specs.Str.{str_to_ascii_lowercase};
 ghost use Rattle.pdb_cross_modules.specs.Exports.{first_export};
 ghost use Rattle.pdb_resolving.specs.Fault.{Answers, lifted, ModuleNameNotFound, LocalIndexNotInExports};
-ghost use Rattle.pdb_resolving.specs.Resolving.{is_named as is_named_entry, last_named as last_named_entry, module_numbered, resolved_elsewhere, resolve, modules_by};
+ghost use Rattle.pdb_resolving.specs.Resolving.{is_named as is_named_entry, last_named as last_named_entry, module_numbered, imports_read, exports_read, imports_of as module_imports, exports_of as module_exports, resolved_elsewhere, resolve, none_failed, modules_by, KeepsAsFailed};
 
 use crate::error::{Error, Result};
 use crate::provider::{ModuleProvider, ModuleTables};
+use crate::table::Table;
 use pdb_container::StringTable;
+use pdb_failed_parts::FailedParts;
 use pdb_indices::{ItemIndex, Local, TypeIndex};
-use pdb_symbols_modules::{CrossModuleExports, CrossModuleRef, Module, ModuleRef};
+use pdb_symbols_modules::{
+    CrossModuleExports, CrossModuleImports, CrossModuleRef, Module, ModuleRef,
+};
 use std::alloc::{AllocError, Global};
 use std::marker::Model;
 
@@ -21,31 +25,43 @@ pub struct Resolver<'a, 's, P: ModuleProvider> {
     provider: &'a P,
     modules: Vec<Module<'a>>,
     string_table: Option<&'a StringTable<'s>>,
+    /// The modules whose imports stand as failed.
+    failed_imports: FailedParts,
+    /// The modules whose exports stand as failed.
+    failed_exports: FailedParts,
+    /// The last table that couldn't be read and doesn't stand as failed, if there is one since this was last forgotten.
+    failing: Option<Table>,
 }
 
 impl<'a, 's, P: ModuleProvider> Model for Resolver<'a, 's, P> {
-    ghost use Rattle.std.specs.Prelude.{option_map};
-    ghost use Rattle.pdb_resolving.specs.Resolving.{Kept};
+    ghost use Rattle.std.specs.Prelude.{option_map, IfSome};
+    ghost use Rattle.pdb_resolving.specs.Resolving.{Kept, IsFailing};
 
     ghost Value = { Kept P };
 
-    ghost view = { λ r. record { provider = r.provider.now; entries = r.modules.items; names = option_map (λ t. t.now) r.string_table } };
+    ghost view = { λ r. record { provider = r.provider.now; entries = r.modules.items; names = option_map (λ t. t.now) r.string_table; failed = record { imports = r.failed_imports; exports = r.failed_exports } } };
+
+    ghost invariant = { λ r. IfSome r.failing (IsFailing (record { provided = P.provided r.provider.now; entries = r.modules.items; names = option_map (λ t. t.now) r.string_table; failed = record { imports = r.failed_imports; exports = r.failed_exports } })) };
 }
 
 impl<'a, 's, P: ModuleProvider> Resolver<'a, 's, P> {
     /// What gives the modules, their entries in order, and the table of names by which they refer to one another, if there is
-    /// one.
+    /// one. No table stands as failed.
     pub fn new(
+        alloc: Global,
         provider: &'a P,
         modules: Vec<Module<'a>>,
         string_table: Option<&'a StringTable<'s>>,
     ) -> Resolver<'a, 's, P>
-        ensures { result ≡ record { provider = provider.now; entries = modules.entry.items; names = option_map (λ t. t.now) string_table.entry } }
+        ensures { result ≡ record { provider = provider.now; entries = modules.entry.items; names = option_map (λ t. t.now) string_table.entry; failed = none_failed } }
     {
         Resolver {
             provider,
             modules,
             string_table,
+            failed_imports: FailedParts::new(alloc),
+            failed_exports: FailedParts::new(alloc),
+            failing: None,
         }
     }
 
@@ -63,7 +79,8 @@ impl<'a, 's, P: ModuleProvider> Resolver<'a, 's, P> {
     /// # Errors
     /// The first fault of: `CantResolveCrossModuleRefWithoutStringTable`; the asking module's imports (`OutOfRangeModuleIndex`,
     /// the provider's fault, `ModuleInfoNotFound`, their own); `CrossModuleRefNotFound`; the module's name in the table of
-    /// names; `ModuleNameNotFound`; the other module's exports, as its imports; `LocalIndexNotInExports`. `OutOfMemory`.
+    /// names; `ModuleNameNotFound`; the other module's exports, as its imports; `LocalIndexNotInExports`. Imports and exports
+    /// that stand as failed are `ModuleImportsUnsuccessful` and `ModuleExportsUnsuccessful`. `OutOfMemory`.
     pub fn resolve(&mut self, alloc: Global, module_index: usize, index: u32) -> Result<u32>
         ensures same { self.new ≡ self.old }
         ensures value { Answers (λ n. n) result (resolve (modules_by P.provided self.old) module_index index) }
@@ -71,40 +88,114 @@ impl<'a, 's, P: ModuleProvider> Resolver<'a, 's, P> {
         if !TypeIndex(index).is_cross_module() {
             return Ok(index);
         }
-        resolve_elsewhere(
-            alloc,
-            self.provider,
-            self.modules.as_slice(),
-            self.string_table,
-            module_index,
-            TypeIndex(index),
-        )
+        self.resolve_elsewhere(alloc, module_index, TypeIndex(index))
+    }
+
+    /// Keeps as failed the table of imports or exports that couldn't be read last since [`Resolver::forget_failing`], if there
+    /// is one. Nothing changes where memory is short.
+    pub fn keep_failed(&mut self) -> std::result::Result<(), AllocError>
+        ensures kept { OnOk result (KeepsAsFailed P.provided self.old self.new) }
+        ensures same { OnErr result (self.new ≡ self.old) }
+    {
+        match self.failing.take() {
+            None => Ok(()),
+            Some(Table::Imports(number)) => self.failed_imports.keep(number as u64),
+            Some(Table::Exports(number)) => self.failed_exports.keep(number as u64),
+        }
+    }
+
+    /// Forgets which table couldn't be read last, so that it isn't kept as failed.
+    pub fn forget_failing(&mut self)
+        ensures { self.new ≡ self.old }
+    {
+        self.failing = None;
+    }
+
+    /// What an index stands for that leads into another module.
+    #[tactic(auto, using(crate::proofs::Lifting::fails_on, crate::proofs::Lifting::given_fails_on, crate::proofs::Lifting::parsed_fails_on), unfolding(crate::specs::Resolving::resolved_elsewhere))]
+    fn resolve_elsewhere(
+        &mut self,
+        alloc: Global,
+        module_index: usize,
+        index: TypeIndex,
+    ) -> Result<u32>
+        ensures same { self.new ≡ self.old }
+        ensures value { Answers (λ n. n) result (resolved_elsewhere (modules_by P.provided self.old) module_index index.0) }
+    {
+        let Some(names) = self.string_table else {
+            return Err(Error::CantResolveCrossModuleRefWithoutStringTable);
+        };
+        let imports = self.imports_of(alloc, module_index)?;
+        let CrossModuleRef(ModuleRef(name), local) = imports.resolve_import(index)?;
+        let name = name.to_string_lossy(alloc, names)?;
+        let number = module_named(alloc, self.modules(), name.as_str())?;
+        let exports = self.exports_of(number)?;
+        exported(&exports, local)
+    }
+
+    /// What the module of a number imports. `ModuleImportsUnsuccessful` where that stands as failed, else the module's fault, or
+    /// that of its imports. Such a fault is noted.
+    fn imports_of(&mut self, alloc: Global, number: usize) -> Result<CrossModuleImports<'a>>
+        ensures same { self.new ≡ self.old }
+        ensures value { Answers (λ i. i) result (module_imports (modules_by P.provided self.old) number) }
+    {
+        if self.failed_imports.stands(number as u64) {
+            return Err(Error::ModuleImportsUnsuccessful);
+        }
+        match read_imports(alloc, self.provider, self.modules.as_slice(), number) {
+            Ok(imports) => Ok(imports),
+            Err(Error::OutOfMemory) => Err(Error::OutOfMemory),
+            Err(fault) => {
+                self.failing = Some(Table::Imports(number));
+                Err(fault)
+            }
+        }
+    }
+
+    /// What the module of a number exports, as [`Resolver::imports_of`].
+    fn exports_of(&mut self, number: usize) -> Result<CrossModuleExports<'a>>
+        ensures same { self.new ≡ self.old }
+        ensures value { Answers (λ e. e) result (module_exports (modules_by P.provided self.old) number) }
+    {
+        if self.failed_exports.stands(number as u64) {
+            return Err(Error::ModuleExportsUnsuccessful);
+        }
+        match read_exports(self.provider, self.modules.as_slice(), number) {
+            Ok(exports) => Ok(exports),
+            Err(Error::OutOfMemory) => Err(Error::OutOfMemory),
+            Err(fault) => {
+                self.failing = Some(Table::Exports(number));
+                Err(fault)
+            }
+        }
     }
 }
 
-/// What an index stands for that leads into another module.
-#[tactic(auto, using(crate::proofs::Lifting::fails_on, crate::proofs::Lifting::given_fails_on, crate::proofs::Lifting::parsed_fails_on), unfolding(crate::specs::Resolving::resolved_elsewhere))]
-fn resolve_elsewhere<P: ModuleProvider>(
+/// What the module of a number imports. The module's fault, or that of its imports.
+#[tactic(auto, using(crate::proofs::Lifting::fails_on, crate::proofs::Lifting::given_fails), unfolding(crate::specs::Resolving::imports_read))]
+fn read_imports<'p, P: ModuleProvider>(
     alloc: Global,
-    provider: &P,
+    provider: &'p P,
     modules: &[Module<'_>],
-    string_table: Option<&StringTable<'_>>,
-    module_index: usize,
-    index: TypeIndex,
-) -> Result<u32>
-    ensures { Answers (λ n. n) result (resolved_elsewhere (record { entries = modules.now; provided = P.provided provider.now; names = option_map (λ t. t.now) string_table.entry }) module_index index.0) }
+    number: usize,
+) -> Result<CrossModuleImports<'p>>
+    ensures { Answers (λ i. i) result (imports_read (P.provided provider.now) modules.now number) }
 {
-    let Some(names) = string_table else {
-        return Err(Error::CantResolveCrossModuleRefWithoutStringTable);
-    };
-    let own = module_info(provider, modules, module_index)?;
-    let imports = own.imports(alloc)?;
-    let CrossModuleRef(ModuleRef(name), local) = imports.resolve_import(index)?;
-    let name = name.to_string_lossy(alloc, names)?;
-    let number = module_named(alloc, modules, name.as_str())?;
-    let other = module_info(provider, modules, number)?;
-    let exports = other.exports()?;
-    exported(&exports, local)
+    let own = module_info(provider, modules, number)?;
+    Ok(own.imports(alloc)?)
+}
+
+/// What the module of a number exports. The module's fault, or that of its exports.
+#[tactic(auto, using(crate::proofs::Lifting::fails_on, crate::proofs::Lifting::parsed_fails), unfolding(crate::specs::Resolving::exports_read))]
+fn read_exports<'p, P: ModuleProvider>(
+    provider: &'p P,
+    modules: &[Module<'_>],
+    number: usize,
+) -> Result<CrossModuleExports<'p>>
+    ensures { Answers (λ e. e) result (exports_read (P.provided provider.now) modules.now number) }
+{
+    let own = module_info(provider, modules, number)?;
+    Ok(own.exports()?)
 }
 
 /// What the module of a number holds. `OutOfRangeModuleIndex`, the provider's fault, `ModuleInfoNotFound`.

@@ -1,5 +1,5 @@
 -- Types and ids by their indices as a module has them.
-use Rattle.std.specs.Prelude.{ℕ, Result}
+use Rattle.std.specs.Prelude.{◌≡◌, ℕ, Result}
 use Rattle.pdb_container.specs.Fault.{◌>>=◌}
 use Rattle.pdb_items.specs.Items.{Table, item_at}
 use Rattle.pdb_items.specs.ItemType.{type_of_item}
@@ -10,6 +10,7 @@ use Rattle.pdb_symbols_modules.specs.declared.machine.MachineType.{MachineType}
 use Rattle.pdb_symbols_modules.specs.declared.machine.MachineType.TheVariants as machines
 use Rattle.pdb_resolving.specs.Fault.{Fault, lifted}
 use Rattle.pdb_resolving.specs.Resolving.{Kept, Modules, Provided, modules_by, resolve}
+use Rattle.pdb_resolving.specs.Resolving.{KeepsAsFailed as ModulesKeep}
 
 -- what types and ids are read from: the modules, the tables of types and of ids, and how many bytes a pointer has
 pub record Parts : Type 0 where
@@ -63,3 +64,8 @@ pub record Reading (P : Type 0) : Type 0 where
 -- the same, by what the provider gives
 abbrev pub parts_by : {P : Type 0} → (P → Provided) → Reading P → Parts
 parts_by provided r = record { modules = modules_by provided r.modules; types = r.types; ids = r.ids; pointer_size = r.pointer_size }
+
+-- What a call that failed keeps: at most that one more table of a module fails.
+pub record KeepsAsFailed {P : Type 0} (provided : P → Provided) (old : Reading P) (new : Reading P) : Type 0 where
+  pub modules : ModulesKeep provided old.modules new.modules
+  pub others : new ≡ record old { modules = new.modules }

@@ -1,13 +1,13 @@
 //! Types and ids by their indices as a module has them.
 
-ghost use Rattle.std.specs.Prelude.{◌≡◌, ℕ, Ok, option_map, IfOk, IsOkUnless};
+ghost use Rattle.std.specs.Prelude.{◌≡◌, ℕ, Ok, option_map, IfOk, IsOkUnless, OnErr, OnOk};
 ghost use Rattle.pdb_container.specs.declared.error.Error.TheVariants as causes;
 ghost use Rattle.pdb_records.specs.IdForms.{id_shape};
 ghost use Rattle.pdb_records.specs.Shapes.{shape};
 ghost use Rattle.pdb_symbols_modules.specs.Machine.{machine_of};
 ghost use Rattle.pdb_resolving.specs.Fault.{Answers};
-ghost use Rattle.pdb_resolving.specs.Resolving.{modules_by, resolve};
-ghost use Rattle.pdb_type_sizes.specs.Reading.{id_in, type_at, id_at, parts_by, pointer_bytes};
+ghost use Rattle.pdb_resolving.specs.Resolving.{modules_by, none_failed, resolve};
+ghost use Rattle.pdb_type_sizes.specs.Reading.{id_in, type_at, id_at, parts_by, pointer_bytes, KeepsAsFailed};
 ghost use Rattle.pdb_type_sizes.specs.Sizes.{resolved_bytes, size_at, stated_bytes};
 
 use crate::item_map::ItemMap;
@@ -43,7 +43,7 @@ impl<'a, 's, P: ModuleProvider> Model for ItemReader<'a, 's, P> {
 
 impl<'a, 's, P: ModuleProvider> ItemReader<'a, 's, P> {
     /// A reader over what gives the modules, their entries in order, the image for which the database was written, the tables
-    /// of types and of ids, and the table of names, if there is one.
+    /// of types and of ids, and the table of names, if there is one. No table of a module stands as failed.
     ///
     /// # Errors
     /// `OutOfMemory` alone.
@@ -57,7 +57,7 @@ impl<'a, 's, P: ModuleProvider> ItemReader<'a, 's, P> {
         string_table: Option<&'a StringTable<'s>>,
     ) -> pdb_container::Result<ItemReader<'a, 's, P>>
         ensures parts { IfOk result (λ r. r ≡ record {
-          modules = record { provider = provider.now; entries = modules.entry.items; names = option_map (λ t. t.now) string_table.entry };
+          modules = record { provider = provider.now; entries = modules.entry.items; names = option_map (λ t. t.now) string_table.entry; failed = none_failed };
           types = type_information.now;
           ids = id_information.now;
           pointer_size = pointer_bytes (machine_of debug_information.now.machine);
@@ -67,7 +67,7 @@ impl<'a, 's, P: ModuleProvider> ItemReader<'a, 's, P> {
         let types = ItemMap::of_types(alloc, type_information)?;
         let ids = ItemMap::of_ids(alloc, id_information)?;
         Ok(ItemReader {
-            resolver: Resolver::new(provider, modules, string_table),
+            resolver: Resolver::new(alloc, provider, modules, string_table),
             types,
             ids,
             pointer_size: pointer_size(debug_information.machine_type()),
@@ -79,6 +79,21 @@ impl<'a, 's, P: ModuleProvider> ItemReader<'a, 's, P> {
         ensures { result.now ≡ self.now.modules.entries }
     {
         self.resolver.modules()
+    }
+
+    /// As [`Resolver::keep_failed`].
+    pub fn keep_failed(&mut self) -> std::result::Result<(), AllocError>
+        ensures kept { OnOk result (KeepsAsFailed P.provided self.old self.new) }
+        ensures same { OnErr result (self.new ≡ self.old) }
+    {
+        self.resolver.keep_failed()
+    }
+
+    /// As [`Resolver::forget_failing`].
+    pub fn forget_failing(&mut self)
+        ensures { self.new ≡ self.old }
+    {
+        self.resolver.forget_failing();
     }
 
     /// The type of an index as the module of a number, counted from 0, has it.

@@ -1,7 +1,10 @@
 -- A formatter as the definitions see it.
-use Rattle.std.specs.Prelude.{ℕ}
+use Rattle.std.specs.Prelude.{◌≡◌, ℕ, Result, Ok, Err}
+use Rattle.pdb_resolving.specs.declared.error.Error.{Error}
+use Rattle.pdb_resolving.specs.declared.error.Error.TheVariants as errors
 use Rattle.pdb_resolving.specs.Resolving.{Provided}
 use Rattle.pdb_type_sizes.specs.Reading.{Reading, parts_by, type_at, id_at}
+use Rattle.pdb_type_sizes.specs.Reading.{KeepsAsFailed as ReadingKeeps}
 use Rattle.pdb_type_sizes.specs.Sizes.{size_at}
 use Rattle.pdb_type_text.specs.Env.{Env}
 
@@ -18,3 +21,21 @@ env_of provided f asking = record {
   size = size_at (parts_by provided f.reading) asking;
   flags = f.flags;
 }
+
+-- ---- what a call leaves
+
+-- What a call that failed keeps: at most that one more table of a module fails.
+pub record KeepsAsFailed {P : Type 0} (provided : P → Provided) (old : Formatting P) (new : Formatting P) : Type 0 where
+  pub reading : ReadingKeeps provided old.reading new.reading
+  pub others : new ≡ record old { reading = new.reading }
+
+-- What a call leaves that failed with an error: all as it was, where memory was short or a writer refused the text.
+abbrev pub LeavesAt : {P : Type 0} → (P → Provided) → Formatting P → Error → Formatting P → Type 0
+LeavesAt provided old errors.OutOfMemory new = new ≡ old
+LeavesAt provided old (errors.FormatError e) new = new ≡ old
+LeavesAt provided old e new = KeepsAsFailed provided old new
+
+-- What a call leaves, by what it returned: all as it was, where that is an answer.
+abbrev pub Leaves : {P A : Type 0} → (P → Provided) → Formatting P → Result A Error → Formatting P → Type 0
+Leaves provided old (Ok x) new = new ≡ old
+Leaves provided old (Err e) new = LeavesAt provided old e new

@@ -1,25 +1,26 @@
 //! The calls of a formatter.
 
-ghost use Rattle.std.specs.Prelude.{◌≡◌, IfOk, IsOkUnless, option_map, string_bytes, Ok};
+ghost use Rattle.std.specs.Prelude.{◌≡◌, ◌⊎◌, IfOk, IsOkUnless, option_map, string_bytes, Ok};
 ghost use Rattle.pdb_container.specs.declared.error.Error.TheVariants as causes;
 ghost use Rattle.pdb_symbols_modules.specs.Machine.{machine_of};
+ghost use Rattle.pdb_resolving.specs.declared.error.Error.TheVariants as errors;
 ghost use Rattle.pdb_resolving.specs.Fault.{Answers};
+ghost use Rattle.pdb_resolving.specs.Resolving.{none_failed};
 ghost use Rattle.pdb_type_sizes.specs.Reading.{parts_by, pointer_bytes};
 ghost use Rattle.pdb_type_sizes.specs.Sizes.{size_at};
-ghost use Rattle.pdb_type_text.specs.Formatting.{env_of};
+ghost use Rattle.pdb_type_text.specs.Formatting.{env_of, Leaves};
 ghost use Rattle.pdb_type_text.specs.Functions.{function_text};
 ghost use Rattle.pdb_type_text.specs.Ids.{id_text};
 ghost use Rattle.pdb_type_text.specs.Written.{Emits};
 
-use crate::asker::Asker;
 use crate::formatter::TypeFormatter;
+use crate::texts::{function_text_of, id_text_of};
 use bitflags::Flags;
 use pdb_container::StringTable;
 use pdb_indices::{IdIndex, TypeIndex};
 use pdb_items::{IdInformation, TypeInformation};
-use pdb_resolving::{ModuleProvider, Result};
+use pdb_resolving::{Error, ModuleProvider, Result};
 use pdb_symbols_modules::{DebugInformation, Module};
-use pdb_text_pieces::Seen;
 use pdb_type_flags::TypeFormatterFlags;
 use pdb_type_sizes::ItemReader;
 use std::alloc::Global;
@@ -27,7 +28,7 @@ use std::fmt::Write;
 
 impl<'a, 's, P: ModuleProvider> TypeFormatter<'a, 's, P> {
     /// A formatter over what gives the modules, their entries in order, the image for which the database was written, the
-    /// tables of types and of ids, and the table of names, if there is one.
+    /// tables of types and of ids, and the table of names, if there is one. No table of a module stands as failed.
     ///
     /// # Errors
     /// `OutOfMemory` alone.
@@ -43,7 +44,7 @@ impl<'a, 's, P: ModuleProvider> TypeFormatter<'a, 's, P> {
     ) -> pdb_container::Result<TypeFormatter<'a, 's, P>>
         ensures parts { IfOk result (λ f. f ≡ record {
           reading = record {
-            modules = record { provider = provider.now; entries = modules.entry.items; names = option_map (λ t. t.now) string_table.entry };
+            modules = record { provider = provider.now; entries = modules.entry.items; names = option_map (λ t. t.now) string_table.entry; failed = none_failed };
             types = type_information.now;
             ids = id_information.now;
             pointer_size = pointer_bytes (machine_of debug_information.now.machine);
@@ -96,8 +97,9 @@ impl<'a, 's, P: ModuleProvider> TypeFormatter<'a, 's, P> {
     ///
     /// # Errors
     /// The first fault in the order of printing: that of the type, `CircularTypeDefinition`, `ArgumentTypeNotArgumentList` and
-    /// others; a type inside that is missing or has no form has a text of its own. `OutOfMemory`.
-    #[tactic(auto, using(crate::proofs::Failing::stops_fails))]
+    /// others; a type inside that is missing or has no form has a text of its own. `OutOfMemory`. A module's imports or exports
+    /// that couldn't be read are kept as failed, and from the next call on `ModuleImportsUnsuccessful` and
+    /// `ModuleExportsUnsuccessful` tell of them in place of their own fault.
     pub fn format_function(
         &mut self,
         alloc: Global,
@@ -105,16 +107,12 @@ impl<'a, 's, P: ModuleProvider> TypeFormatter<'a, 's, P> {
         module_index: usize,
         function_type_index: TypeIndex,
     ) -> Result<String>
-        ensures same { self.new ≡ self.old }
+        ensures kept { Leaves P.provided self.old result self.new }
         ensures text { Answers string_bytes result (function_text (env_of P.provided self.old module_index) name.now function_type_index.0) }
     {
-        let asker = Asker {
-            alloc,
-            module_index,
-        };
-        let mut text = String::new(alloc);
-        self.emit_signature(asker, &mut text, name, function_type_index)?;
-        Ok(text)
+        self.reader.forget_failing();
+        let made = function_text_of(self, alloc, name, module_index, function_type_index);
+        self.keep_failed(made)
     }
 
     /// Makes the text of [`TypeFormatter::format_function`] and hands it over to a writer at once.
@@ -130,7 +128,7 @@ impl<'a, 's, P: ModuleProvider> TypeFormatter<'a, 's, P> {
         module_index: usize,
         function_type_index: TypeIndex,
     ) -> Result<()>
-        ensures same { self.new ≡ self.old }
+        ensures kept { Leaves P.provided self.old result self.new }
         ensures text { Emits W.write_str_gives w.old result w.new (function_text (env_of P.provided self.old module_index) name.now function_type_index.0) }
     {
         let text = self.format_function(alloc, name, module_index, function_type_index)?;
@@ -142,26 +140,20 @@ impl<'a, 's, P: ModuleProvider> TypeFormatter<'a, 's, P> {
     /// scopes, of a string the string.
     ///
     /// # Errors
-    /// As [`TypeFormatter::format_function`], and `FunctionIdIsNotProcedureType`, `MemberFunctionIdIsNotMemberFunctionType`.
-    #[tactic(auto, using(crate::proofs::Failing::stops_fails))]
+    /// As [`TypeFormatter::format_function`], and `FunctionIdIsNotProcedureType`, `MemberFunctionIdIsNotMemberFunctionType`. Imports
+    /// and exports that failed before are told as there.
     pub fn format_id(
         &mut self,
         alloc: Global,
         module_index: usize,
         id_index: IdIndex,
     ) -> Result<String>
-        ensures same { self.new ≡ self.old }
+        ensures kept { Leaves P.provided self.old result self.new }
         ensures text { Answers string_bytes result (id_text (env_of P.provided self.old module_index) id_index.0) }
     {
-        let asker = Asker {
-            alloc,
-            module_index,
-        };
-        let mut text = String::new(alloc);
-        let mut path = Vec::new(alloc);
-        let mut ids = Seen::new(&mut path);
-        self.emit_id_index(asker, &mut text, id_index, &mut ids)?;
-        Ok(text)
+        self.reader.forget_failing();
+        let made = id_text_of(self, alloc, module_index, id_index);
+        self.keep_failed(made)
     }
 
     /// Makes the text of [`TypeFormatter::format_id`] and hands it over to a writer at once.
@@ -176,11 +168,30 @@ impl<'a, 's, P: ModuleProvider> TypeFormatter<'a, 's, P> {
         module_index: usize,
         id_index: IdIndex,
     ) -> Result<()>
-        ensures same { self.new ≡ self.old }
+        ensures kept { Leaves P.provided self.old result self.new }
         ensures text { Emits W.write_str_gives w.old result w.new (id_text (env_of P.provided self.old module_index) id_index.0) }
     {
         let text = self.format_id(alloc, module_index, id_index)?;
         w.write_str(text.as_str())?;
         Ok(())
+    }
+
+    /// Passes on what a call made. Where it failed, the module's imports or exports that couldn't be read in it are kept as failed.
+    ///
+    /// # Errors
+    /// The call's; `OutOfMemory`.
+    fn keep_failed(&mut self, made: Result<String>) -> Result<String>
+        ensures kept { Leaves P.provided self.old result self.new }
+        ensures passed { (result ≡ made) ⊎ (result ≡ Err errors.OutOfMemory) }
+    {
+        match made {
+            Ok(text) => Ok(text),
+            Err(Error::OutOfMemory) => Err(Error::OutOfMemory),
+            Err(Error::FormatError(cause)) => Err(Error::FormatError(cause)),
+            Err(fault) => match self.reader.keep_failed() {
+                Ok(()) => Err(fault),
+                Err(_) => Err(Error::OutOfMemory),
+            },
+        }
     }
 }

@@ -7,7 +7,9 @@ mod elements;
 mod formatter;
 mod ids;
 mod signatures;
+mod texts;
 mod types;
 mod words;
 
 pub use formatter::TypeFormatter;
+pub use texts::{function_text_of, id_text_of};

@@ -1,0 +1,10 @@
+//! Tables by which modules refer to one another.
+
+/// A table of the module of a number, counted from 0.
+#[derive(Clone, Copy)]
+pub(crate) enum Table {
+    /// What the module imports.
+    Imports(usize),
+    /// What the module exports.
+    Exports(usize),
+}

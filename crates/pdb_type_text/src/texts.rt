@@ -1,0 +1,57 @@
+//! Texts by a formatter that stays as it is.
+
+ghost use Rattle.std.specs.Prelude.{◌≡◌, string_bytes};
+ghost use Rattle.pdb_resolving.specs.Fault.{Answers};
+ghost use Rattle.pdb_type_text.specs.Formatting.{env_of};
+ghost use Rattle.pdb_type_text.specs.Functions.{function_text};
+ghost use Rattle.pdb_type_text.specs.Ids.{id_text};
+
+use crate::asker::Asker;
+use crate::formatter::TypeFormatter;
+use pdb_indices::{IdIndex, TypeIndex};
+use pdb_resolving::{ModuleProvider, Result};
+use pdb_text_pieces::Seen;
+use std::alloc::Global;
+
+/// As [`TypeFormatter::format_function`], but no table of a module is kept as failed.
+#[tactic(auto, using(crate::proofs::Failing::stops_fails))]
+pub fn function_text_of<P: ModuleProvider>(
+    formatter: &mut TypeFormatter<'_, '_, P>,
+    alloc: Global,
+    name: &str,
+    module_index: usize,
+    function_type_index: TypeIndex,
+) -> Result<String>
+    ensures same { formatter.new ≡ formatter.old }
+    ensures text { Answers string_bytes result (function_text (env_of P.provided formatter.old module_index) name.now function_type_index.0) }
+{
+    let asker = Asker {
+        alloc,
+        module_index,
+    };
+    let mut text = String::new(alloc);
+    formatter.emit_signature(asker, &mut text, name, function_type_index)?;
+    Ok(text)
+}
+
+/// As [`TypeFormatter::format_id`], but no table of a module is kept as failed.
+#[tactic(auto, using(crate::proofs::Failing::stops_fails))]
+pub fn id_text_of<P: ModuleProvider>(
+    formatter: &mut TypeFormatter<'_, '_, P>,
+    alloc: Global,
+    module_index: usize,
+    id_index: IdIndex,
+) -> Result<String>
+    ensures same { formatter.new ≡ formatter.old }
+    ensures text { Answers string_bytes result (id_text (env_of P.provided formatter.old module_index) id_index.0) }
+{
+    let asker = Asker {
+        alloc,
+        module_index,
+    };
+    let mut text = String::new(alloc);
+    let mut path = Vec::new(alloc);
+    let mut ids = Seen::new(&mut path);
+    formatter.emit_id_index(asker, &mut text, id_index, &mut ids)?;
+    Ok(text)
+}
