@@ -27,7 +27,7 @@ use Rattle.pdb_context.specs.Choice.{Parts, Scope}
 use Rattle.pdb_context.specs.Context.{Context, scope_in, uncounted}
 use Rattle.pdb_context.specs.Frames.{function}
 use Rattle.pdb_context.specs.FunctionList.{if_any, addresses_of, procedure_starts_from, is_among, IsAscending, functions_at, FunctionsLeft, functions_left, none_left, GivesFunction}
-use Rattle.pdb_context.specs.Modules.{module_data, procedures_in}
+use Rattle.pdb_known_modules.specs.Modules.{module_data, procedures_in}
 
 -- ---- one address
 

@@ -14,7 +14,7 @@ use Rattle.pdb_module_data.specs.Procedures.{Procedure, contains, later, over}
 use Rattle.pdb_functions.specs.FunctionOrder.{Function}
 use Rattle.pdb_context.specs.Choice.{Parts, Scope, Chosen, chosen_of, chosen}
 use Rattle.pdb_context.specs.Frames.{function_at, function_of}
-use Rattle.pdb_context.specs.Modules.{module_data, procedures_in}
+use Rattle.pdb_known_modules.specs.Modules.{module_data, procedures_in}
 use Rattle.pdb_functions.specs.Databases.{IsOneRun, place_of}
 use Rattle.pdb_bounds.specs.SectionBounds.{if_there, contribution_bounds, procedure_bounds}
 use Rattle.pdb_context.specs.Runs.{public_bounds, bounds_near, procedures_of, is_bound, database_of}

@@ -14,7 +14,7 @@ use Rattle.pdb_resolving.specs.Resolving.{Provided}
 use Rattle.pdb_type_text.specs.Formatting.{Formatting, env_of}
 use Rattle.pdb_context.specs.Choice.{Parts, Scope}
 use Rattle.pdb_context.specs.Failed.{Failures, no_failures}
-use Rattle.pdb_context.specs.Modules.{own_of}
+use Rattle.pdb_known_modules.specs.Modules.{own_of}
 
 -- what gives modules, what every question goes over, what names are made of, how many places were looked up, and which parts of
 -- modules stand as failed

@@ -13,7 +13,7 @@ use Rattle.pdb_context.specs.declared.failures.Part.{Part}
 use Rattle.pdb_context.specs.declared.failures.Part.TheVariants as parts
 use Rattle.pdb_context.specs.Choice.{Parts, Scope, Chosen, Proc, Public, chosen, start_of, place_of}
 use Rattle.pdb_context.specs.Frames.{held_at}
-use Rattle.pdb_context.specs.Modules.{ModuleData, ExtendedModule, module_data, procedures_in, extended_of, procedure_sites}
+use Rattle.pdb_known_modules.specs.Modules.{ModuleData, ExtendedModule, module_data, procedures_in, extended_of, procedure_sites}
 
 -- ---- what stands as failed
 

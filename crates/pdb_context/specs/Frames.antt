@@ -18,7 +18,7 @@ use Rattle.pdb_type_text.specs.Env.{Env}
 use Rattle.pdb_type_text.specs.Ids.{id_text}
 use Rattle.pdb_names.specs.Names.{if_made}
 use Rattle.pdb_functions.specs.FunctionOrder.{Function}
-use Rattle.pdb_context.specs.Modules.{ModuleData, ExtendedModule, module_data, procedures_in, extended_of, procedure_calls}
+use Rattle.pdb_known_modules.specs.Modules.{ModuleData, ExtendedModule, module_data, procedures_in, extended_of, procedure_calls}
 use Rattle.pdb_context.specs.Choice.{Parts, Scope, Chosen, Proc, Public, chosen, start_of, start_address, name_of, length_of, end_behind, place_of}
 
 -- a function's name, and the file and line of a place in it; each may be missing

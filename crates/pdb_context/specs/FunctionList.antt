@@ -9,7 +9,7 @@ use Rattle.pdb_symbols_modules.specs.Modules.{Module}
 use Rattle.pdb_resolving.specs.declared.error.Error.{Error}
 use Rattle.pdb_resolving.specs.declared.error.Error.TheVariants as errors
 use Rattle.pdb_functions.specs.FunctionOrder.{Function}
-use Rattle.pdb_context.specs.Modules.{module_data, procedures_in}
+use Rattle.pdb_known_modules.specs.Modules.{module_data, procedures_in}
 use Rattle.pdb_context.specs.Choice.{Parts, Scope}
 use Rattle.pdb_context.specs.Frames.{function}
 

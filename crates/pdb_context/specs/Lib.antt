@@ -3,10 +3,7 @@ pub mod Context
 pub mod Failed
 pub mod Frames
 pub mod FunctionList
-pub mod Kept
 pub mod KeptNames
 pub mod MaybeOwned
-pub mod Modules
-pub mod ProcedureData
 pub mod Runs
 pub mod Seen

@@ -12,7 +12,7 @@ use Rattle.pdb_functions.specs.Databases.{Database}
 use Rattle.pdb_functions.specs.FunctionOrder.{Function}
 use Rattle.pdb_context.specs.Choice.{Parts, Scope}
 use Rattle.pdb_context.specs.Frames.{held_at, function_at}
-use Rattle.pdb_context.specs.Modules.{module_data, procedures_in}
+use Rattle.pdb_known_modules.specs.Modules.{module_data, procedures_in}
 
 -- ---- where answers may change
 

@@ -3,13 +3,13 @@
 ghost use Rattle.std.specs.Prelude.{◌≡◌, option_map};
 ghost use Rattle.pdb_context.specs.Choice.{chosen as chosen_at, start_of, start_address, length_of, end_behind};
 ghost use Rattle.pdb_context.specs.Frames.{function_end};
-ghost use Rattle.pdb_context.specs.Modules.{procedures_in};
+ghost use Rattle.pdb_known_modules.specs.Modules.{procedures_in};
 ghost use Rattle.pdb_context.specs.Seen.{chosen_seen};
 
-use crate::modules::{BasicModuleInfo, procedure_over};
 use crate::parts::ContextParts;
 use pdb_addresses::PdbInternalSectionOffset;
 use pdb_contributions::ModuleSectionContribution;
+use pdb_known_modules::{BasicModuleInfo, procedure_over};
 use pdb_module_data::Procedure;
 use pdb_public_list::PublicFunction;
 use pdb_resolving::ModuleTables;

@@ -2,14 +2,15 @@
 
 ghost use Rattle.std.specs.Prelude.{◌≡◌, IfOk, OnErr, OnOk};
 ghost use Rattle.pdb_context.specs.Failed.{failing_by, failing_in as failing_in_module, failing_procedure as failing_of_procedure, failing_sites as failing_of_sites, has_failed, no_failures, number_of as number_at, unsuccessful_error, with_failed};
-ghost use Rattle.pdb_context.specs.Modules.{extended_of, procedure_sites};
-ghost use Rattle.pdb_context.specs.Seen.{chosen_seen, extended_seen};
+ghost use Rattle.pdb_known_modules.specs.Modules.{extended_of, procedure_sites};
+ghost use Rattle.pdb_context.specs.Seen.{chosen_seen};
+ghost use Rattle.pdb_known_modules.specs.Seen.{extended_seen};
 ghost use Rattle.pdb_resolving.specs.Fault.{Answers};
 
 use crate::choice::Chosen;
-use crate::modules::{BasicModuleInfo, ExtendedModuleInfo, read_extended};
 use pdb_addresses::PdbInternalSectionOffset;
 use pdb_failed_parts::FailedParts;
+use pdb_known_modules::{BasicModuleInfo, ExtendedModuleInfo, read_extended};
 use pdb_module_data::{FunctionRows, InlineSites, Procedure, SitesError};
 use pdb_resolving::{Error, ModuleTables, Result};
 use std::alloc::{AllocError, Global};
@@ -103,7 +104,7 @@ pub fn unsuccessful(part: Part) -> Error
 
 /// The inline sites of a procedure, read to their end. The faults of [`ModuleTables::symbols`] and of the sites, as `PdbError`;
 /// `ProcedureInlineRangesUnsuccessful`; `OutOfMemory`.
-#[tactic(auto, using(crate::proofs::SitesSteps::sites_fail, pdb_resolving::proofs::Lifting::given_fails_on, pdb_resolving::proofs::Lifting::parsed_fails_on))]
+#[tactic(auto, using(pdb_known_modules::proofs::SitesSteps::sites_fail, pdb_resolving::proofs::Lifting::given_fails_on, pdb_resolving::proofs::Lifting::parsed_fails_on))]
 fn read_sites<'m, I: ModuleTables>(
     alloc: Global,
     module_info: &'m I,

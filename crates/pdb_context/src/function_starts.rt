@@ -4,11 +4,11 @@ ghost use Rattle.std.specs.Prelude.{◌≡◌, ◌++◌, IfOk, OnOk, map, option
 ghost use Rattle.pdb_addresses.specs.Addresses.{IsOrdered, outer_of_place};
 ghost use Rattle.pdb_context.specs.Context.{scope_of, entries_of};
 ghost use Rattle.pdb_context.specs.FunctionList.{if_any, addresses_of, procedure_starts_from, start_addresses, AreStarts, IsAscending};
-ghost use Rattle.pdb_context.specs.Modules.{module_data, procedures_in as procedures_of_module};
+ghost use Rattle.pdb_known_modules.specs.Modules.{module_data, procedures_in as procedures_of_module};
 
-use crate::modules::{get_basic_module_info, procedures_in};
 use crate::parts::ContextParts;
 use pdb_addresses::{AddressMap, PdbInternalSectionOffset};
+use pdb_known_modules::{get_basic_module_info, procedures_in};
 use pdb_module_data::Procedure;
 use pdb_public_list::PublicFunction;
 use pdb_resolving::ModuleProvider;

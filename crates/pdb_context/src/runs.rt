@@ -3,13 +3,13 @@
 ghost use Rattle.std.specs.Prelude.{◌≡◌, []};
 ghost use Rattle.std.specs.List.{flat_map};
 ghost use Rattle.pdb_addresses.specs.SectionRun.{nearer as nearer_of, up_to_next};
-ghost use Rattle.pdb_context.specs.Modules.{procedures_in};
+ghost use Rattle.pdb_known_modules.specs.Modules.{procedures_in};
 ghost use Rattle.pdb_bounds.specs.SectionBounds.{contribution_bounds, procedure_bounds};
 ghost use Rattle.pdb_context.specs.Runs.{public_bounds, bounds_near};
 
-use crate::modules::BasicModuleInfo;
 use crate::parts::ContextParts;
 use pdb_addresses::PdbInternalSectionOffset;
+use pdb_known_modules::BasicModuleInfo;
 use pdb_public_list::PublicList;
 use pdb_resolving::ModuleTables;
 

@@ -2,7 +2,7 @@ use Rattle.std.specs.Prelude.{◌≡◌, take, map}
 use Rattle.pdb_type_text.specs.Formatting.{env_of}
 use Rattle.pdb_context.specs.Frames.{call_frame}
 use Rattle.pdb_context.specs.KeptNames.{AreKeptNames}
-use Rattle.pdb_context.specs.Seen.{extended_seen}
+use Rattle.pdb_known_modules.specs.Seen.{extended_seen}
 use Rattle.pdb_context.proofs.frames.call_frames.Given as goal
 
 -- the frames of the calls so far, by the formatter as it was, and names that are kept are right

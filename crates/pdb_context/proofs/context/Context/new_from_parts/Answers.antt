@@ -1,8 +1,8 @@
 use Rattle.std.proofs.Common.{subst}
 use Rattle.pdb_context.specs.Context.{entries_of}
-use Rattle.pdb_context.specs.Kept.{AreKept}
+use Rattle.pdb_known_modules.specs.Kept.{AreKept}
 use Rattle.pdb_context.specs.KeptNames.{AreKeptNames}
-use Rattle.pdb_context.specs.Modules.{module_data, own_of}
+use Rattle.pdb_known_modules.specs.Modules.{module_data, own_of}
 use Rattle.pdb_context.proofs.context.Context.new_from_parts.Goals as goal
 
 -- nothing is kept yet

@@ -1,0 +1,3 @@
+pub mod KeptProcedures
+pub mod KeptSteps
+pub mod SitesSteps

@@ -1,0 +1,4 @@
+pub mod Kept
+pub mod Modules
+pub mod ProcedureData
+pub mod Seen

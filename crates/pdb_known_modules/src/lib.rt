@@ -1,0 +1,14 @@
+//! What is known of modules that were asked for: the data of a module's stream, of its line program and inlinees, and of its
+//! procedures, each read once and kept. It knows no names and no addresses of an image.
+#![tactic(auto)]
+
+mod kept;
+mod modules;
+mod procedure_data;
+
+pub use kept::{KeptModule, empty_places, keep_lines, keep_module, keep_procedure, known_at};
+pub use modules::{
+    BasicModuleInfo, ExtendedModuleInfo, get_basic_module_info, procedure_over, procedures_in,
+    read_extended,
+};
+pub use procedure_data::{ExtendedProcedureInfo, read_extended_procedure};

@@ -1,0 +1,270 @@
+//! What a module's own stream says.
+
+ghost use Rattle.std.specs.Prelude.{◌≡◌, ◌↔◌, true, IfOk, IfSome, None, Ok, Some, option_map, slice_get};
+ghost use Rattle.std.specs.List.{flat_map};
+ghost use Rattle.pdb_addresses.specs.SectionRun.{up_to_next};
+ghost use Rattle.pdb_bounds.specs.SectionBounds.{procedure_bounds as bounds_of_procedure};
+ghost use Rattle.pdb_container.specs.Fault.{Gives};
+ghost use Rattle.pdb_module_data.specs.Procedures.{over};
+ghost use Rattle.pdb_known_modules.specs.ProcedureData.{IsLentOf, IsOfStream};
+ghost use Rattle.pdb_known_modules.specs.Seen.{extended_seen, AreExtendedHere};
+ghost use Rattle.pdb_known_modules.specs.Modules.{data_of_stream, data_if_there, extended_of, module_data, own_of, procedures_in as procedures_of_module};
+
+use crate::procedure_data::{ExtendedProcedureInfo, empty_procedures, read_extended_procedure};
+use pdb_addresses::PdbInternalSectionOffset;
+use pdb_bounds::{SortedBounds, procedure_bounds};
+use pdb_container::{Error, Result};
+use pdb_lines::LineProgram;
+use pdb_module_data::{Inlinees, Procedure, Procedures};
+use pdb_resolving::{ModuleProvider, ModuleTables};
+use pdb_symbols_modules::Module;
+use std::alloc::{AllocError, Global};
+use std::marker::Model;
+
+/// A module's data: its stream, and its procedures.
+#[derive(Drop)]
+pub struct BasicModuleInfo<'a, I: ModuleTables> {
+    /// The module's own stream.
+    pub module_info: &'a I,
+    /// Its procedures, of those of one start the first.
+    pub procedures: Procedures<'a>,
+    /// Where they begin and end.
+    bounds: SortedBounds,
+    /// Its line program and inlinees, once they were read.
+    extended: Option<ExtendedModuleInfo<'a>>,
+    /// For each procedure a place, in which its data are kept once they were read; no place before line program and inlinees are.
+    kept_procedures: Vec<Option<ExtendedProcedureInfo<'a>>>,
+}
+
+impl<'a, I: ModuleTables> Model for BasicModuleInfo<'a, I> {
+    ghost use Rattle.pdb_bounds.specs.Bounds.{AreProcedureBounds};
+    ghost use Rattle.pdb_known_modules.specs.Modules as modules;
+    ghost use Rattle.pdb_known_modules.specs.ProcedureData.{AreOfStream};
+    ghost use Rattle.pdb_known_modules.specs.Seen.{AreExtended};
+
+    ghost Value = { modules.ModuleData };
+
+    ghost view = { λ m. record { stream = I.held m.module_info.now; procedures = m.procedures } };
+
+    // The bounds are those of the procedures. What is kept of lines and inlinees is the stream's, and so is what is kept of procedures.
+    ghost invariant = { λ m. AreProcedureBounds m.procedures m.bounds × AreExtended (I.held m.module_info.now) m.extended × AreOfStream (I.held m.module_info.now) m.kept_procedures.items };
+}
+
+impl<'a, I: ModuleTables> BasicModuleInfo<'a, I> {
+    /// The data of a module's stream, whose symbols are read to their end. The faults of [`ModuleTables::symbols`],
+    /// `SymbolTooShort`, `UnexpectedEof`; `OutOfMemory`.
+    #[tactic(auto, using(crate::proofs::KeptProcedures::no_places), unfolding(crate::specs::Modules::data_of_stream))]
+    fn try_from_module_info(alloc: Global, module_info: &'a I) -> Result<BasicModuleInfo<'a, I>>
+        ensures { Gives (λ m. m) ⊥ result (data_of_stream (I.held module_info.now)) }
+    {
+        let symbols = module_info.symbols()?;
+        let procedures = Procedures::read(alloc, symbols)?;
+        let bounds = procedure_bounds(alloc, procedures.as_slice())?;
+        Ok(BasicModuleInfo {
+            module_info,
+            procedures,
+            bounds,
+            extended: None,
+            kept_procedures: Vec::new(alloc),
+        })
+    }
+
+    /// The lesser of `far` and the distance from a place to the next start or end of a procedure.
+    #[tactic(auto, using(pdb_bounds::proofs::BoundSteps::procedures_alike))]
+    pub fn to_next_procedure(&self, place: PdbInternalSectionOffset, far: u32) -> u32
+        ensures { result ≡ up_to_next (flat_map (bounds_of_procedure place) (self.now).procedures) place.offset far }
+    {
+        self.bounds.up_to_next(place, far)
+    }
+
+    /// Reads the line program and the inlinees, and keeps them, unless they were kept before. Where they have a fault nothing
+    /// is kept, and so where memory is short.
+    #[tactic(auto, using(crate::proofs::KeptProcedures::nothing_kept))]
+    pub fn keep_extended(&mut self, alloc: Global) -> std::result::Result<(), AllocError>
+        ensures { self.new ≡ self.old }
+    {
+        if self.extended.is_some() {
+            return Ok(());
+        }
+        match read_extended(alloc, self.module_info) {
+            Ok(extended) => {
+                self.kept_procedures = empty_procedures(alloc, self.procedures.as_slice().len())?;
+                self.extended = Some(extended);
+                Ok(())
+            }
+            Err(Error::OutOfMemory) => Err(AllocError),
+            Err(_) => Ok(()),
+        }
+    }
+
+    /// The line program and the inlinees, if they are kept.
+    pub fn extended(&self) -> Option<&ExtendedModuleInfo<'a>>
+        ensures { AreExtendedHere (self.now).stream result }
+    {
+        self.extended.as_ref()
+    }
+
+    /// Reads the data of the procedure over a place, if line program and inlinees are kept, and keeps them, unless they were
+    /// kept before. Where they have a fault nothing is kept, and so where memory is short.
+    #[tactic(auto, using(crate::proofs::KeptProcedures::kept_now))]
+    pub fn keep_procedure(
+        &mut self,
+        alloc: Global,
+        place: PdbInternalSectionOffset,
+    ) -> std::result::Result<(), AllocError>
+        ensures { self.new ≡ self.old }
+    {
+        let Some(number) = self.procedures.number_over(place) else {
+            return Ok(());
+        };
+        if !is_empty_at(&self.kept_procedures, number) {
+            return Ok(());
+        }
+        match self.read_procedure(alloc, number)? {
+            None => {}
+            Some(data) => self.kept_procedures[number] = Some(data),
+        }
+        Ok(())
+    }
+
+    /// The data of the procedure of a number; `None` where line program and inlinees aren't kept, where there is no such procedure,
+    /// and where its data have a fault.
+    #[tactic(auto, using(crate::proofs::KeptProcedures::of_stream))]
+    fn read_procedure(
+        &self,
+        alloc: Global,
+        number: usize,
+    ) -> std::result::Result<Option<ExtendedProcedureInfo<'a>>, AllocError>
+        ensures { IfOk result (λ d. IfSome d (λ info. IsOfStream (self.now).stream info)) }
+    {
+        let Some(extended) = self.extended() else {
+            return Ok(None);
+        };
+        let Some(procedure) = self.procedures.as_slice().get(number) else {
+            return Ok(None);
+        };
+        match read_extended_procedure(alloc, self.module_info, extended, procedure) {
+            Ok(data) => Ok(Some(data)),
+            Err(pdb_resolving::Error::OutOfMemory) => Err(AllocError),
+            Err(_) => Ok(None),
+        }
+    }
+
+    /// The data of a procedure that is over a place, if they are kept.
+    #[tactic(auto, using(crate::proofs::KeptProcedures::lent_of))]
+    pub fn extended_procedure(
+        &self,
+        procedure: &Procedure<'_>,
+        place: PdbInternalSectionOffset,
+    ) -> Option<&ExtendedProcedureInfo<'a>>
+        ensures { IsLentOf (self.now).stream procedure.now result }
+    {
+        let number = self.procedures.number_over(place)?;
+        match place_at(&self.kept_procedures, number) {
+            Some(Some(data)) if data.is_of(procedure) => Some(data),
+            _ => None,
+        }
+    }
+}
+
+/// The place of a number, if it is there.
+fn place_at<'m, 'a>(
+    places: &'m Vec<Option<ExtendedProcedureInfo<'a>>>,
+    number: usize,
+) -> Option<&'m Option<ExtendedProcedureInfo<'a>>>
+    ensures { option_map (λ p. p.now) result ≡ slice_get places.now.items number }
+{
+    places.get(number)
+}
+
+/// Whether the place of a number is there and empty.
+fn is_empty_at(places: &[Option<ExtendedProcedureInfo<'_>>], number: usize) -> bool
+    ensures { (result ≡ true) ↔ (slice_get places.now number ≡ Some None) }
+{
+    matches!(places.get(number), Some(None))
+}
+
+/// The data of a module's stream; `None` where its symbols can't be read to their end.
+fn data_if_read<'a, I: ModuleTables>(
+    alloc: Global,
+    module_info: &'a I,
+) -> std::result::Result<Option<BasicModuleInfo<'a, I>>, AllocError>
+    ensures { IfOk result (λ m. m ≡ data_if_there (Some (I.held module_info.now))) }
+{
+    match BasicModuleInfo::try_from_module_info(alloc, module_info) {
+        Ok(data) => Ok(Some(data)),
+        Err(Error::OutOfMemory) => Err(AllocError),
+        Err(_) => Ok(None),
+    }
+}
+
+/// The data of the module of a number, counted from 0; `None` past the list, where it has no stream, and where that or its
+/// symbols can't be read to the end.
+pub fn get_basic_module_info<'a, P: ModuleProvider>(
+    alloc: Global,
+    provider: &'a P,
+    modules: &[Module<'_>],
+    module_index: usize,
+) -> std::result::Result<Option<BasicModuleInfo<'a, P::Info>>, AllocError>
+    ensures { IfOk result (λ m. m ≡ module_data (own_of (P.provided provider.now) modules.now module_index)) }
+{
+    let Some(module) = modules.get(module_index) else {
+        return Ok(None);
+    };
+    match provider.get_module_info(module_index, module) {
+        Ok(Some(module_info)) => data_if_read(alloc, module_info),
+        Ok(None) => Ok(None),
+        Err(_) => Ok(None),
+    }
+}
+
+/// A module's line program (`DEBUG_S_LINES`, `DEBUG_S_FILECHKSMS`) and inlinees (`DEBUG_S_INLINEELINES`).
+#[derive(Drop)]
+pub struct ExtendedModuleInfo<'a> {
+    /// The line program.
+    pub line_program: LineProgram<'a>,
+    /// The inlinees, by their ids.
+    pub inlinees: Inlinees<'a>,
+}
+
+/// The line program of a module, and then its inlinees, each to its end. The faults of [`ModuleTables::line_program`] and
+/// [`ModuleTables::inlinees`], `UnexpectedEof`; `OutOfMemory`.
+#[tactic(auto, unfolding(crate::specs::Modules::extended_of))]
+pub fn read_extended<'a, I: ModuleTables>(
+    alloc: Global,
+    module_info: &'a I,
+) -> Result<ExtendedModuleInfo<'a>>
+    ensures { Gives extended_seen ⊥ result (extended_of (I.held module_info.now)) }
+{
+    let line_program = module_info.line_program(alloc)?;
+    let inlinees = Inlinees::read(alloc, module_info.inlinees()?)?;
+    Ok(ExtendedModuleInfo {
+        line_program,
+        inlinees,
+    })
+}
+
+/// The procedures of a module; none without data.
+pub fn procedures_in<'m, 'a, I: ModuleTables>(
+    known: &'m Option<BasicModuleInfo<'a, I>>,
+) -> &'m [Procedure<'a>]
+    ensures { result.now ≡ procedures_of_module known.now }
+{
+    match known {
+        None => &[],
+        Some(known) => known.procedures.as_slice(),
+    }
+}
+
+/// The procedure of a module over a place; none without data.
+pub fn procedure_over<'m, 'a, I: ModuleTables>(
+    known: &'m Option<BasicModuleInfo<'a, I>>,
+    place: PdbInternalSectionOffset,
+) -> Option<&'m Procedure<'a>>
+    ensures { option_map (λ q. q.now) result ≡ over (procedures_of_module known.now) place }
+{
+    match known {
+        None => None,
+        Some(known) => known.procedures.over(place),
+    }
+}
