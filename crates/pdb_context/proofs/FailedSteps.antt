@@ -5,10 +5,9 @@ use Rattle.pdb_addresses.specs.declared.internal_section_offset.PdbInternalSecti
 use Rattle.pdb_resolving.specs.declared.error.Error.{Error}
 use Rattle.pdb_resolving.specs.Fault.{Fault, Answers, Fails}
 use Rattle.pdb_resolving.specs.Resolving.{Provided}
-use Rattle.pdb_type_text.specs.Formatting.{Formatting}
 use Rattle.pdb_context.specs.declared.failures.Part.{Part}
 use Rattle.pdb_context.specs.Choice.{place_of}
-use Rattle.pdb_context.specs.Context.{Context, scope_in, scope_of}
+use Rattle.pdb_context.specs.Context.{Context, scope_in}
 use Rattle.pdb_context.specs.Failed.{Failures, failing, failing_if_held, has_failed, told, unsuccessful}
 use Rattle.pdb_context.specs.Frames.{FunctionFrames, frames, frames_if_held, held_at}
 
@@ -29,12 +28,11 @@ pub told_own : {A : Type 0} (e : Error) (f : Failures) (part : Part) (r : Result
 told_own e f part r fresh h = subst (λ x. Fails e x) (sym (told_first f part r fresh)) h
 
 -- what is found at a place is told of the address that has the place
-pub frames_are_told : {P X : Type 0} (view : X → Option FunctionFrames) (provided : P → Provided) (c : Context P) (formatter : Formatting P) (a : ℕ) (place : PdbInternalSectionOffset) (found result : Result X Error)
-    → place_of c.parts a ≡ Some place → formatter ≡ c.formatting → result ≡ found
-    → Answers view found (told c.failed (failing_if_held c.parts (scope_of provided c.provider formatter) (held_at c.parts (Some place))) (frames_if_held c.parts (scope_of provided c.provider formatter) (held_at c.parts (Some place))))
+pub frames_are_told : {P X : Type 0} (view : X → Option FunctionFrames) (provided : P → Provided) (c : Context P) (a : ℕ) (place : PdbInternalSectionOffset) (found result : Result X Error)
+    → place_of c.parts a ≡ Some place → result ≡ found
+    → Answers view found (told c.failed (failing_if_held c.parts (scope_in provided c) (held_at c.parts (Some place))) (frames_if_held c.parts (scope_in provided c) (held_at c.parts (Some place))))
     → Answers view result (told c.failed (failing c.parts (scope_in provided c) a) (frames c.parts (scope_in provided c) a))
 unfolding frames
-frames_are_told view provided c formatter a place found result place_is same result_is told_is =
+frames_are_told view provided c a place found result place_is result_is told_is =
     subst (λ r. Answers view r (told c.failed (failing c.parts (scope_in provided c) a) (frames c.parts (scope_in provided c) a))) (sym result_is)
-    (subst (λ x. Answers view found (told c.failed (failing_if_held c.parts (scope_in provided c) (held_at c.parts x)) (frames_if_held c.parts (scope_in provided c) (held_at c.parts x)))) (sym place_is)
-    (subst (λ k. Answers view found (told c.failed (failing_if_held c.parts (scope_of provided c.provider k) (held_at c.parts (Some place))) (frames_if_held c.parts (scope_of provided c.provider k) (held_at c.parts (Some place))))) same told_is))
+    (subst (λ x. Answers view found (told c.failed (failing_if_held c.parts (scope_in provided c) (held_at c.parts x)) (frames_if_held c.parts (scope_in provided c) (held_at c.parts x)))) (sym place_is) told_is)

@@ -1,5 +1,5 @@
 -- A procedure's row and calls by what was read of it.
-use Rattle.std.proofs.Common.{◌≡◌, ℕ, Result, Ok, Err, List, refl, ap, sym, ◌∙◌}
+use Rattle.std.proofs.Common.{◌≡◌, Result, Ok, Err, List, refl, ap, ◌∙◌}
 use Rattle.std.specs.Prelude.{Option}
 use Rattle.pdb_container.specs.Fault as container
 use Rattle.pdb_container.specs.Fault.{◌>>=◌}
@@ -12,12 +12,11 @@ use Rattle.pdb_module_data.specs.declared.inlined_calls.InlinedCall.{InlinedCall
 use Rattle.pdb_module_data.specs.InlinedCalls.{call_rows, calls_over}
 use Rattle.pdb_module_data.specs.Procedures.{Procedure}
 use Rattle.pdb_resolving.specs.declared.error.Error.{Error}
-use Rattle.pdb_resolving.specs.declared.error.Error.TheVariants as errors
 use Rattle.pdb_resolving.specs.Fault.{Fault, Fails, lifted}
 use Rattle.pdb_resolving.proofs.Lifting.{fails_on}
 use Rattle.pdb_context.specs.Choice.{Proc}
 use Rattle.pdb_context.specs.Frames.{row_and_calls}
-use Rattle.pdb_known_modules.specs.Modules.{ExtendedModule, extended_procedure_of, procedure_sites, procedure_calls, sites_lifted}
+use Rattle.pdb_known_modules.specs.Modules.{ExtendedModule, extended_procedure_of, procedure_calls, sites_lifted}
 
 -- a row and calls as they are found, rows and sites as they are read, and the former by the latter
 abbrev found : Option LineRow → List InlinedCall → Result (Option LineRow × List InlinedCall) Fault

@@ -1,5 +1,5 @@
 -- What a context goes over, and what it chooses at a place: a procedure, or an entry of the public list.
-use Rattle.std.specs.Prelude.{ℕ, ◌+◌, ◌-◌, ◌&&◌, not, List, [], ◌∷◌, ◌==◌, Option, None, Some, option_map, option_and_then, if◌then◌else◌, Result}
+use Rattle.std.specs.Prelude.{ℕ, ◌+◌, ◌-◌, ◌&&◌, not, List, ◌==◌, Option, None, Some, option_map, option_and_then, if◌then◌else◌, Result}
 use Rattle.std.specs.Str.Lossy.{utf8_lossy}
 use Rattle.pdb_container.specs.Fault as container
 use Rattle.pdb_addresses.specs.declared.internal_section_offset.PdbInternalSectionOffset.{PdbInternalSectionOffset}

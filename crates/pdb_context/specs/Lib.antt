@@ -3,7 +3,5 @@ pub mod Context
 pub mod Failed
 pub mod Frames
 pub mod FunctionList
-pub mod KeptNames
-pub mod MaybeOwned
 pub mod Runs
 pub mod Seen

@@ -9,8 +9,7 @@ ghost use Rattle.pdb_known_modules.specs.Kept.{AreKept};
 ghost use Rattle.pdb_context.specs.Context.{entries_of, parts_of, context_over, lasting, scope_of, scope_in, uncounted, lookups_after};
 ghost use Rattle.pdb_context.specs.Failed.{failed_after, failing, failing_at, failing_if_held, failing_in as failing_in_module, told};
 ghost use Rattle.pdb_context.specs.Frames.{frames, frames_at as frames_at_place, frames_if_held, frames_of_chosen, function, function_at as function_at_contribution, function_of as function_of_chosen, held_at};
-ghost use Rattle.pdb_context.specs.KeptNames.{AreKeptNames};
-ghost use Rattle.pdb_context.specs.MaybeOwned.{value_of};
+ghost use Rattle.pdb_names.specs.MaybeOwned.{value_of};
 ghost use Rattle.pdb_known_modules.specs.Modules.{module_data, own_of};
 ghost use Rattle.pdb_context.specs.Runs.{bounds_near, database_of, function_here as function_at_place, procedures_of};
 ghost use Rattle.pdb_context.specs.Seen.{chosen_seen};
@@ -18,18 +17,21 @@ ghost use Rattle.pdb_functions.specs.Databases.{IsOneRun, place_of as as_place};
 ghost use Rattle.pdb_type_text.specs.Formatting.{env_of};
 
 use crate::choice::{Chosen, choose};
+use crate::chosen_name::name_of;
 use crate::failures::{Failures, Part, failing_in, unsuccessful};
 use crate::frames::frames_in;
 use crate::function::FunctionFrames;
-use crate::kept_names::KeptNames;
-use crate::maybe_owned::MaybeOwned;
 use crate::parts::ContextParts;
 use crate::runs::{to_next_bound, to_next_shared_bound};
 use pdb_addresses::{AddressMap, ImageSectionHeader, PdbInternalSectionOffset};
 use pdb_container::StringTable;
 use pdb_contributions::ModuleSectionContribution;
 use pdb_functions::Function;
-use pdb_known_modules::{BasicModuleInfo, KeptModule, empty_places, keep_lines, keep_module, keep_procedure, known_at};
+use pdb_known_modules::{
+    BasicModuleInfo, KeptModule, empty_places, keep_lines, keep_module, keep_procedure, known_at,
+};
+use pdb_names::Namer;
+use pdb_names::maybe_owned::MaybeOwned;
 use pdb_resolving::{Error, ModuleProvider, ModuleTables, Result};
 use pdb_symbols::SymbolTable;
 use pdb_symbols_modules::DebugInformation;
@@ -41,9 +43,8 @@ use std::marker::Model;
 pub struct Context<'a, 's, P: ModuleProvider> {
     pub(crate) provider: &'a P,
     pub(crate) parts: ContextParts<'a, 's>,
-    pub(crate) type_formatter: MaybeOwned<'a, TypeFormatter<'a, 's, P>>,
+    pub(crate) namer: Namer<'a, 's, P>,
     kept: Vec<KeptModule<'a, P::Info>>,
-    names: KeptNames,
     pub(crate) starts: Option<Vec<u32>>,
     lookups: u64,
     failed: Failures,
@@ -54,18 +55,15 @@ impl<'a, 's, P: ModuleProvider> Model for Context<'a, 's, P> {
     ghost use Rattle.pdb_context.specs.Context as contexts;
     ghost use Rattle.pdb_context.specs.Context.{entries_of, scope_of};
     ghost use Rattle.pdb_context.specs.FunctionList.{start_addresses, AreStarts};
-    ghost use Rattle.pdb_context.specs.KeptNames.{AreKeptNames};
     ghost use Rattle.pdb_known_modules.specs.Kept.{AreKept};
-    ghost use Rattle.pdb_context.specs.MaybeOwned.{value_of};
     ghost use Rattle.pdb_known_modules.specs.Modules.{module_data, own_of};
 
     ghost Value = { contexts.Context P };
 
-    ghost view = { λ c. record { provider = c.provider.now; parts = c.parts; formatting = value_of c.type_formatter; lookups = c.lookups; failed = c.failed } };
+    ghost view = { λ c. record { provider = c.provider.now; parts = c.parts; formatting = c.namer; lookups = c.lookups; failed = c.failed } };
 
-    // What is kept of each module is its own, the names that are kept are those that the formatter gives, and the starts those of
-    // the file's functions.
-    ghost invariant = { λ c. AreKept (λ n. module_data (own_of (P.provided c.provider.now) (entries_of (value_of c.type_formatter)) n)) c.kept.items × AreKeptNames P.provided (value_of c.type_formatter) c.names × AreStarts (start_addresses c.parts (scope_of P.provided c.provider.now (value_of c.type_formatter)) (entries_of (value_of c.type_formatter))) (option_map (λ v. v.items) c.starts) };
+    // What is kept of each module is its own, and the starts that are kept are those of the file's functions.
+    ghost invariant = { λ c. AreKept (λ n. module_data (own_of (P.provided c.provider.now) (entries_of c.namer) n)) c.kept.items × AreStarts (start_addresses c.parts (scope_of P.provided c.provider.now c.namer) (entries_of c.namer)) (option_map (λ v. v.items) c.starts) };
 }
 
 impl<'a, 's, P: ModuleProvider> Drop for Context<'a, 's, P> {
@@ -73,59 +71,45 @@ impl<'a, 's, P: ModuleProvider> Drop for Context<'a, 's, P> {
         let Context {
             provider: _,
             parts,
-            type_formatter,
+            namer,
             kept,
-            names,
             starts,
             lookups: _,
             failed,
         } = self;
         drop(parts);
-        drop(type_formatter);
+        drop(namer);
         drop(kept);
-        drop(names);
         drop(starts);
         drop(failed);
     }
 }
 
-/// Places for the modules of a formatter, in which nothing is kept yet.
+/// Places for the modules of a namer, in which nothing is kept yet.
 fn empty_modules<'a, P: ModuleProvider>(
     alloc: Global,
     _provider: &'a P,
-    formatter: &TypeFormatter<'_, '_, P>,
+    namer: &Namer<'_, '_, P>,
 ) -> std::result::Result<Vec<KeptModule<'a, P::Info>>, AllocError>
-    ensures { IfOk result (λ v. AreKept (λ n. module_data (own_of (P.provided _provider.now) (entries_of formatter.now) n)) v.items) }
+    ensures { IfOk result (λ v. AreKept (λ n. module_data (own_of (P.provided _provider.now) (entries_of namer.now) n)) v.items) }
 {
-    empty_places(alloc, formatter.modules().len())
+    empty_places(alloc, namer.modules().len())
 }
 
 /// The frames at a place in a chosen function, if it has an RVA. Its module's data are read before that is asked.
 fn frames_of<'a, P: ModuleProvider>(
     alloc: Global,
     parts: &ContextParts<'a, '_>,
-    formatter: &mut TypeFormatter<'_, '_, P>,
-    names: &mut KeptNames,
+    namer: &mut Namer<'_, '_, P>,
     module_index: u16,
     known: &Option<BasicModuleInfo<'_, P::Info>>,
     chosen: Chosen<'_, '_>,
     place: PdbInternalSectionOffset,
 ) -> Result<Option<FunctionFrames<'a>>>
-    requires names { AreKeptNames P.provided formatter.old names.old }
-    ensures names { AreKeptNames P.provided formatter.old names.new }
-    ensures same { formatter.new ≡ formatter.old }
-    ensures frames { Answers (λ f. f) result (frames_of_chosen parts.now (env_of P.provided formatter.old module_index) known.now place (Some (chosen_seen chosen.entry))) }
+    ensures same { namer.new ≡ namer.old }
+    ensures frames { Answers (λ f. f) result (frames_of_chosen parts.now (env_of P.provided namer.old module_index) known.now place (Some (chosen_seen chosen.entry))) }
 {
-    let frames = frames_in(
-        alloc,
-        parts,
-        formatter,
-        names,
-        module_index,
-        known,
-        chosen,
-        place,
-    )?;
+    let frames = frames_in(alloc, parts, namer, module_index, known, chosen, place)?;
     match chosen.start_rva(parts) {
         None => Ok(None),
         Some(start_rva) => Ok(Some(FunctionFrames {
@@ -141,30 +125,18 @@ fn frames_of<'a, P: ModuleProvider>(
 fn frames_told<'a, P: ModuleProvider>(
     alloc: Global,
     parts: &ContextParts<'a, '_>,
-    formatter: &mut TypeFormatter<'_, '_, P>,
-    names: &mut KeptNames,
+    namer: &mut Namer<'_, '_, P>,
     failed: &mut Failures,
     module_index: u16,
     known: &Option<BasicModuleInfo<'_, P::Info>>,
     chosen: Chosen<'_, '_>,
     place: PdbInternalSectionOffset,
 ) -> Result<Option<FunctionFrames<'a>>>
-    requires names { AreKeptNames P.provided formatter.old names.old }
-    ensures names { AreKeptNames P.provided formatter.old names.new }
-    ensures same { formatter.new ≡ formatter.old }
+    ensures same { namer.new ≡ namer.old }
     ensures failed { failed.new ≡ failed_after (failing_in_module module_index known.now (chosen_seen chosen.entry)) result failed.old }
-    ensures frames { Answers (λ f. f) result (told failed.old (failing_in_module module_index known.now (chosen_seen chosen.entry)) (frames_of_chosen parts.now (env_of P.provided formatter.old module_index) known.now place (Some (chosen_seen chosen.entry)))) }
+    ensures frames { Answers (λ f. f) result (told failed.old (failing_in_module module_index known.now (chosen_seen chosen.entry)) (frames_of_chosen parts.now (env_of P.provided namer.old module_index) known.now place (Some (chosen_seen chosen.entry)))) }
 {
-    let frames = frames_of(
-        alloc,
-        parts,
-        formatter,
-        names,
-        module_index,
-        known,
-        chosen,
-        place,
-    );
+    let frames = frames_of(alloc, parts, namer, module_index, known, chosen, place);
     match frames {
         Ok(frames) => Ok(frames),
         Err(Error::OutOfMemory) => Err(Error::OutOfMemory),
@@ -208,22 +180,19 @@ fn frames_at<'a, P: ModuleProvider>(
     provider: &'a P,
     kept: &mut [KeptModule<'a, P::Info>],
     parts: &ContextParts<'a, '_>,
-    formatter: &mut TypeFormatter<'_, '_, P>,
-    names: &mut KeptNames,
+    namer: &mut Namer<'_, '_, P>,
     failed: &mut Failures,
     contribution: ModuleSectionContribution,
     place: PdbInternalSectionOffset,
 ) -> Result<Option<FunctionFrames<'a>>>
-    requires kept { AreKept (λ n. module_data (own_of (P.provided provider.now) (entries_of formatter.old) n)) kept.old }
-    requires names { AreKeptNames P.provided formatter.old names.old }
-    ensures kept { AreKept (λ n. module_data (own_of (P.provided provider.now) (entries_of formatter.old) n)) kept.new }
-    ensures names { AreKeptNames P.provided formatter.old names.new }
-    ensures same { formatter.new ≡ formatter.old }
-    ensures failed { failed.new ≡ failed_after (failing_at parts.now (scope_of P.provided provider.now formatter.old contribution.module_index) contribution place) result failed.old }
-    ensures frames { Answers (λ f. f) result (told failed.old (failing_at parts.now (scope_of P.provided provider.now formatter.old contribution.module_index) contribution place) (frames_at_place parts.now (scope_of P.provided provider.now formatter.old contribution.module_index) contribution place)) }
+    requires kept { AreKept (λ n. module_data (own_of (P.provided provider.now) (entries_of namer.old) n)) kept.old }
+    ensures kept { AreKept (λ n. module_data (own_of (P.provided provider.now) (entries_of namer.old) n)) kept.new }
+    ensures same { namer.new ≡ namer.old }
+    ensures failed { failed.new ≡ failed_after (failing_at parts.now (scope_of P.provided provider.now namer.old contribution.module_index) contribution place) result failed.old }
+    ensures frames { Answers (λ f. f) result (told failed.old (failing_at parts.now (scope_of P.provided provider.now namer.old contribution.module_index) contribution place) (frames_at_place parts.now (scope_of P.provided provider.now namer.old contribution.module_index) contribution place)) }
 {
     let module_index = usize::from(contribution.module_index);
-    keep_module(alloc, kept, provider, formatter.modules(), module_index)?;
+    keep_module(alloc, kept, provider, namer.modules(), module_index)?;
     keep_parts(alloc, kept, failed, contribution.module_index, place)?;
     let none = None;
     let known = known_at(kept, module_index, &none);
@@ -233,8 +202,7 @@ fn frames_at<'a, P: ModuleProvider>(
             frames_told(
                 alloc,
                 parts,
-                formatter,
-                names,
+                namer,
                 failed,
                 contribution.module_index,
                 known,
@@ -249,15 +217,12 @@ fn frames_at<'a, P: ModuleProvider>(
 fn function_of<P: ModuleProvider>(
     alloc: Global,
     parts: &ContextParts<'_, '_>,
-    formatter: &mut TypeFormatter<'_, '_, P>,
-    names: &mut KeptNames,
+    namer: &mut Namer<'_, '_, P>,
     module_index: u16,
     chosen: Chosen<'_, '_>,
 ) -> Result<Option<Function>>
-    requires names { AreKeptNames P.provided formatter.old names.old }
-    ensures names { AreKeptNames P.provided formatter.old names.new }
-    ensures same { formatter.new ≡ formatter.old }
-    ensures function { Answers (λ f. f) result (Ok (function_of_chosen parts.now (env_of P.provided formatter.old module_index) (chosen_seen chosen.entry))) }
+    ensures same { namer.new ≡ namer.old }
+    ensures function { Answers (λ f. f) result (Ok (function_of_chosen parts.now (env_of P.provided namer.old module_index) (chosen_seen chosen.entry))) }
 {
     let Some(start_rva) = chosen.start_rva(parts) else {
         return Ok(None);
@@ -265,7 +230,7 @@ fn function_of<P: ModuleProvider>(
     let Some(end_rva) = chosen.end_of_function(parts, start_rva) else {
         return Ok(None);
     };
-    let name = names.name_of(alloc, parts, formatter, module_index, chosen)?;
+    let name = name_of(alloc, parts, namer, module_index, chosen)?;
     Ok(Some(Function {
         start_rva,
         end_rva,
@@ -280,32 +245,22 @@ fn function_at<'a, P: ModuleProvider>(
     provider: &'a P,
     kept: &mut [KeptModule<'a, P::Info>],
     parts: &ContextParts<'a, '_>,
-    formatter: &mut TypeFormatter<'_, '_, P>,
-    names: &mut KeptNames,
+    namer: &mut Namer<'_, '_, P>,
     contribution: ModuleSectionContribution,
     place: PdbInternalSectionOffset,
 ) -> Result<Option<Function>>
-    requires kept { AreKept (λ n. module_data (own_of (P.provided provider.now) (entries_of formatter.old) n)) kept.old }
-    requires names { AreKeptNames P.provided formatter.old names.old }
-    ensures kept { AreKept (λ n. module_data (own_of (P.provided provider.now) (entries_of formatter.old) n)) kept.new }
-    ensures names { AreKeptNames P.provided formatter.old names.new }
-    ensures same { formatter.new ≡ formatter.old }
-    ensures function { Answers (λ f. f) result (Ok (function_at_contribution parts.now (scope_of P.provided provider.now formatter.old contribution.module_index) contribution place)) }
+    requires kept { AreKept (λ n. module_data (own_of (P.provided provider.now) (entries_of namer.old) n)) kept.old }
+    ensures kept { AreKept (λ n. module_data (own_of (P.provided provider.now) (entries_of namer.old) n)) kept.new }
+    ensures same { namer.new ≡ namer.old }
+    ensures function { Answers (λ f. f) result (Ok (function_at_contribution parts.now (scope_of P.provided provider.now namer.old contribution.module_index) contribution place)) }
 {
     let module_index = usize::from(contribution.module_index);
-    keep_module(alloc, kept, provider, formatter.modules(), module_index)?;
+    keep_module(alloc, kept, provider, namer.modules(), module_index)?;
     let none = None;
     let known = known_at(kept, module_index, &none);
     match choose(parts, known, contribution, place) {
         None => Ok(None),
-        Some(chosen) => function_of(
-            alloc,
-            parts,
-            formatter,
-            names,
-            contribution.module_index,
-            chosen,
-        ),
+        Some(chosen) => function_of(alloc, parts, namer, contribution.module_index, chosen),
     }
 }
 
@@ -315,18 +270,15 @@ fn frames_here<'a, P: ModuleProvider>(
     provider: &'a P,
     kept: &mut [KeptModule<'a, P::Info>],
     parts: &ContextParts<'a, '_>,
-    formatter: &mut TypeFormatter<'_, '_, P>,
-    names: &mut KeptNames,
+    namer: &mut Namer<'_, '_, P>,
     failed: &mut Failures,
     place: PdbInternalSectionOffset,
 ) -> Result<Option<FunctionFrames<'a>>>
-    requires kept { AreKept (λ n. module_data (own_of (P.provided provider.now) (entries_of formatter.old) n)) kept.old }
-    requires names { AreKeptNames P.provided formatter.old names.old }
-    ensures kept { AreKept (λ n. module_data (own_of (P.provided provider.now) (entries_of formatter.old) n)) kept.new }
-    ensures names { AreKeptNames P.provided formatter.old names.new }
-    ensures same { formatter.new ≡ formatter.old }
-    ensures failed { failed.new ≡ failed_after (failing_if_held parts.now (scope_of P.provided provider.now formatter.old) (held_at parts.now (Some place))) result failed.old }
-    ensures frames { Answers (λ f. f) result (told failed.old (failing_if_held parts.now (scope_of P.provided provider.now formatter.old) (held_at parts.now (Some place))) (frames_if_held parts.now (scope_of P.provided provider.now formatter.old) (held_at parts.now (Some place)))) }
+    requires kept { AreKept (λ n. module_data (own_of (P.provided provider.now) (entries_of namer.old) n)) kept.old }
+    ensures kept { AreKept (λ n. module_data (own_of (P.provided provider.now) (entries_of namer.old) n)) kept.new }
+    ensures same { namer.new ≡ namer.old }
+    ensures failed { failed.new ≡ failed_after (failing_if_held parts.now (scope_of P.provided provider.now namer.old) (held_at parts.now (Some place))) result failed.old }
+    ensures frames { Answers (λ f. f) result (told failed.old (failing_if_held parts.now (scope_of P.provided provider.now namer.old) (held_at parts.now (Some place))) (frames_if_held parts.now (scope_of P.provided provider.now namer.old) (held_at parts.now (Some place)))) }
 {
     match parts.holder(place) {
         None => Ok(None),
@@ -335,8 +287,7 @@ fn frames_here<'a, P: ModuleProvider>(
             provider,
             kept,
             parts,
-            formatter,
-            names,
+            namer,
             failed,
             contribution,
             place,
@@ -350,29 +301,17 @@ fn function_here<'a, P: ModuleProvider>(
     provider: &'a P,
     kept: &mut [KeptModule<'a, P::Info>],
     parts: &ContextParts<'a, '_>,
-    formatter: &mut TypeFormatter<'_, '_, P>,
-    names: &mut KeptNames,
+    namer: &mut Namer<'_, '_, P>,
     place: PdbInternalSectionOffset,
 ) -> Result<Option<Function>>
-    requires kept { AreKept (λ n. module_data (own_of (P.provided provider.now) (entries_of formatter.old) n)) kept.old }
-    requires names { AreKeptNames P.provided formatter.old names.old }
-    ensures kept { AreKept (λ n. module_data (own_of (P.provided provider.now) (entries_of formatter.old) n)) kept.new }
-    ensures names { AreKeptNames P.provided formatter.old names.new }
-    ensures same { formatter.new ≡ formatter.old }
-    ensures function { Answers (λ f. f) result (Ok (function_at_place parts.now (scope_of P.provided provider.now formatter.old) place)) }
+    requires kept { AreKept (λ n. module_data (own_of (P.provided provider.now) (entries_of namer.old) n)) kept.old }
+    ensures kept { AreKept (λ n. module_data (own_of (P.provided provider.now) (entries_of namer.old) n)) kept.new }
+    ensures same { namer.new ≡ namer.old }
+    ensures function { Answers (λ f. f) result (Ok (function_at_place parts.now (scope_of P.provided provider.now namer.old) place)) }
 {
     match parts.holder(place) {
         None => Ok(None),
-        Some(contribution) => function_at(
-            alloc,
-            provider,
-            kept,
-            parts,
-            formatter,
-            names,
-            contribution,
-            place,
-        ),
+        Some(contribution) => function_at(alloc, provider, kept, parts, namer, contribution, place),
     }
 }
 
@@ -383,36 +322,26 @@ fn run_at<'a, P: ModuleProvider>(
     provider: &'a P,
     kept: &mut [KeptModule<'a, P::Info>],
     parts: &ContextParts<'a, '_>,
-    formatter: &mut TypeFormatter<'_, '_, P>,
-    names: &mut KeptNames,
+    namer: &mut Namer<'_, '_, P>,
     contribution: ModuleSectionContribution,
     place: PdbInternalSectionOffset,
     limit: u32,
 ) -> Result<(Option<Function>, u32)>
-    requires kept { AreKept (λ n. module_data (own_of (P.provided provider.now) (entries_of formatter.old) n)) kept.old }
-    requires names { AreKeptNames P.provided formatter.old names.old }
-    ensures kept { AreKept (λ n. module_data (own_of (P.provided provider.now) (entries_of formatter.old) n)) kept.new }
-    ensures names { AreKeptNames P.provided formatter.old names.new }
-    ensures same { formatter.new ≡ formatter.old }
-    ensures function { Answers (λ run. run.0) result (Ok (function_at_contribution parts.now (scope_of P.provided provider.now formatter.old contribution.module_index) contribution place)) }
-    ensures count { IfOk result (λ run. run.1 ≡ up_to_next (bounds_near parts.now (procedures_of (scope_of P.provided provider.now formatter.old) (Some contribution)) place) place.offset limit) }
+    requires kept { AreKept (λ n. module_data (own_of (P.provided provider.now) (entries_of namer.old) n)) kept.old }
+    ensures kept { AreKept (λ n. module_data (own_of (P.provided provider.now) (entries_of namer.old) n)) kept.new }
+    ensures same { namer.new ≡ namer.old }
+    ensures function { Answers (λ run. run.0) result (Ok (function_at_contribution parts.now (scope_of P.provided provider.now namer.old contribution.module_index) contribution place)) }
+    ensures count { IfOk result (λ run. run.1 ≡ up_to_next (bounds_near parts.now (procedures_of (scope_of P.provided provider.now namer.old) (Some contribution)) place) place.offset limit) }
 {
     let module_index = usize::from(contribution.module_index);
-    keep_module(alloc, kept, provider, formatter.modules(), module_index)?;
+    keep_module(alloc, kept, provider, namer.modules(), module_index)?;
     let none = None;
     let known = known_at(kept, module_index, &none);
     let count = to_next_bound(parts, known, place, limit);
     match choose(parts, known, contribution, place) {
         None => Ok((None, count)),
         Some(chosen) => {
-            let function = function_of(
-                alloc,
-                parts,
-                formatter,
-                names,
-                contribution.module_index,
-                chosen,
-            )?;
+            let function = function_of(alloc, parts, namer, contribution.module_index, chosen)?;
             Ok((function, count))
         }
     }
@@ -424,19 +353,16 @@ fn run_here<'a, P: ModuleProvider>(
     provider: &'a P,
     kept: &mut [KeptModule<'a, P::Info>],
     parts: &ContextParts<'a, '_>,
-    formatter: &mut TypeFormatter<'_, '_, P>,
-    names: &mut KeptNames,
+    namer: &mut Namer<'_, '_, P>,
     place: PdbInternalSectionOffset,
     limit: u32,
 ) -> Result<(Option<Function>, u32)>
     requires limit { 1 ≤ limit }
-    requires kept { AreKept (λ n. module_data (own_of (P.provided provider.now) (entries_of formatter.old) n)) kept.old }
-    requires names { AreKeptNames P.provided formatter.old names.old }
-    ensures kept { AreKept (λ n. module_data (own_of (P.provided provider.now) (entries_of formatter.old) n)) kept.new }
-    ensures names { AreKeptNames P.provided formatter.old names.new }
-    ensures same { formatter.new ≡ formatter.old }
-    ensures function { Answers (λ run. run.0) result (Ok (function_at_place parts.now (scope_of P.provided provider.now formatter.old) place)) }
-    ensures count { IfOk result (λ run. IsOneRun (database_of parts.now (scope_of P.provided provider.now formatter.old)) (as_place place) limit run.1) }
+    requires kept { AreKept (λ n. module_data (own_of (P.provided provider.now) (entries_of namer.old) n)) kept.old }
+    ensures kept { AreKept (λ n. module_data (own_of (P.provided provider.now) (entries_of namer.old) n)) kept.new }
+    ensures same { namer.new ≡ namer.old }
+    ensures function { Answers (λ run. run.0) result (Ok (function_at_place parts.now (scope_of P.provided provider.now namer.old) place)) }
+    ensures count { IfOk result (λ run. IsOneRun (database_of parts.now (scope_of P.provided provider.now namer.old)) (as_place place) limit run.1) }
 {
     match parts.holder(place) {
         None => Ok((None, to_next_shared_bound(parts, place, limit))),
@@ -445,8 +371,7 @@ fn run_here<'a, P: ModuleProvider>(
             provider,
             kept,
             parts,
-            formatter,
-            names,
+            namer,
             contribution,
             place,
             limit,
@@ -484,14 +409,13 @@ impl<'a, 's, P: ModuleProvider> Context<'a, 's, P> {
             string_table,
             debug_info,
         )?;
-        let kept = empty_modules(alloc, provider, type_formatter.get())?;
-        let names = KeptNames::new(alloc, type_formatter.get());
+        let namer = Namer::new(alloc, type_formatter);
+        let kept = empty_modules(alloc, provider, &namer)?;
         Ok(Context {
             provider,
             parts,
-            type_formatter,
+            namer,
             kept,
-            names,
             starts: None,
             lookups: 0,
             failed: Failures::new(alloc),
@@ -551,8 +475,7 @@ impl<'a, 's, P: ModuleProvider> Context<'a, 's, P> {
             self.provider,
             &mut self.kept,
             &self.parts,
-            self.type_formatter.get_mut(),
-            &mut self.names,
+            &mut self.namer,
             &mut self.failed,
             place,
         );
@@ -577,8 +500,7 @@ impl<'a, 's, P: ModuleProvider> Context<'a, 's, P> {
             self.provider,
             &mut self.kept,
             &self.parts,
-            self.type_formatter.get_mut(),
-            &mut self.names,
+            &mut self.namer,
             place,
         );
         self.counted(function)
@@ -607,8 +529,7 @@ impl<'a, 's, P: ModuleProvider> Context<'a, 's, P> {
             self.provider,
             &mut self.kept,
             &self.parts,
-            self.type_formatter.get_mut(),
-            &mut self.names,
+            &mut self.namer,
             offset,
             limit,
         );

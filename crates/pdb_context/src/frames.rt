@@ -9,21 +9,23 @@ ghost use Rattle.pdb_resolving.specs.Fault.{Answers};
 ghost use Rattle.pdb_type_text.specs.Formatting.{env_of};
 ghost use Rattle.pdb_context.specs.Choice as choice;
 ghost use Rattle.pdb_context.specs.Frames.{frames_in as frames_of_module, frames_in_data as frames_of_data, row_and_calls, call_frame as frame_of_call, function_frame as frame_of_function};
-ghost use Rattle.pdb_context.specs.KeptNames.{AreKeptNames};
 ghost use Rattle.pdb_known_modules.specs.Modules.{extended_of};
 ghost use Rattle.pdb_context.specs.Seen.{chosen_seen};
 ghost use Rattle.pdb_known_modules.specs.Seen.{extended_seen};
 
 use crate::choice::Chosen;
+use crate::chosen_name::name_of;
 use crate::function::Frame;
-use crate::kept_names::KeptNames;
 use crate::parts::ContextParts;
 use pdb_addresses::PdbInternalSectionOffset;
 use pdb_indices::FileIndex;
-use pdb_known_modules::{BasicModuleInfo, ExtendedModuleInfo, ExtendedProcedureInfo, read_extended, read_extended_procedure};
+use pdb_known_modules::{
+    BasicModuleInfo, ExtendedModuleInfo, ExtendedProcedureInfo, read_extended,
+    read_extended_procedure,
+};
 use pdb_module_data::{FunctionRows, InlinedCall, LineRow, Procedure, file_name};
+use pdb_names::Namer;
 use pdb_resolving::{ModuleProvider, ModuleTables, Result};
-use pdb_type_text::TypeFormatter;
 use std::alloc::{AllocError, Global};
 use std::borrow::CowStr;
 
@@ -109,20 +111,15 @@ fn file_of<'a>(
 fn call_frame<'a, P: ModuleProvider>(
     alloc: Global,
     parts: &ContextParts<'a, '_>,
-    formatter: &mut TypeFormatter<'_, '_, P>,
-    names: &mut KeptNames,
+    namer: &mut Namer<'_, '_, P>,
     module_index: u16,
     extended: &ExtendedModuleInfo<'_>,
     call: InlinedCall,
 ) -> std::result::Result<Frame<'a>, AllocError>
-    requires names { AreKeptNames P.provided formatter.old names.old }
-    ensures names { AreKeptNames P.provided formatter.old names.new }
-    ensures same { formatter.new ≡ formatter.old }
-    ensures frame { IfOk result (λ f. f ≡ frame_of_call parts.now (env_of P.provided formatter.old module_index) (extended_seen extended.now).program call) }
+    ensures same { namer.new ≡ namer.old }
+    ensures frame { IfOk result (λ f. f ≡ frame_of_call parts.now (env_of P.provided namer.old module_index) (extended_seen extended.now).program call) }
 {
-    let function = names
-        .inlined
-        .name(alloc, formatter, module_index, call.inlinee)?;
+    let function = namer.inlined_name(alloc, module_index, call.inlinee)?;
     let file = file_of(alloc, parts, extended, call.file)?;
     Ok(Frame {
         function,
@@ -135,28 +132,17 @@ fn call_frame<'a, P: ModuleProvider>(
 fn call_frames<'a, P: ModuleProvider>(
     alloc: Global,
     parts: &ContextParts<'a, '_>,
-    formatter: &mut TypeFormatter<'_, '_, P>,
-    names: &mut KeptNames,
+    namer: &mut Namer<'_, '_, P>,
     module_index: u16,
     extended: &ExtendedModuleInfo<'_>,
     calls: &[InlinedCall],
 ) -> std::result::Result<Vec<Frame<'a>>, AllocError>
-    requires names { AreKeptNames P.provided formatter.old names.old }
-    ensures names { AreKeptNames P.provided formatter.old names.new }
-    ensures same { formatter.new ≡ formatter.old }
-    ensures frames { IfOk result (λ v. v.items ≡ map (frame_of_call parts.now (env_of P.provided formatter.old module_index) (extended_seen extended.now).program) calls.now) }
+    ensures same { namer.new ≡ namer.old }
+    ensures frames { IfOk result (λ v. v.items ≡ map (frame_of_call parts.now (env_of P.provided namer.old module_index) (extended_seen extended.now).program) calls.now) }
 {
     let mut frames = Vec::new(alloc);
     for call in calls {
-        let frame = call_frame(
-            alloc,
-            parts,
-            formatter,
-            names,
-            module_index,
-            extended,
-            *call,
-        )?;
+        let frame = call_frame(alloc, parts, namer, module_index, extended, *call)?;
         frames.push(frame)?;
     }
     Ok(frames)
@@ -195,8 +181,7 @@ fn function_frame<'a>(
 fn frames_by<'a, 'm, P: ModuleProvider>(
     alloc: Global,
     parts: &ContextParts<'a, '_>,
-    formatter: &mut TypeFormatter<'_, '_, P>,
-    names: &mut KeptNames,
+    namer: &mut Namer<'_, '_, P>,
     module_index: u16,
     known: &BasicModuleInfo<'m, P::Info>,
     extended: &ExtendedModuleInfo<'m>,
@@ -204,22 +189,19 @@ fn frames_by<'a, 'm, P: ModuleProvider>(
     place: PdbInternalSectionOffset,
 ) -> Result<Vec<Frame<'a>>>
     requires extended { extended_of (known.now).stream ≡ Ok (extended_seen extended.now) }
-    requires names { AreKeptNames P.provided formatter.old names.old }
-    ensures names { AreKeptNames P.provided formatter.old names.new }
-    ensures same { formatter.new ≡ formatter.old }
-    ensures frames { Answers (λ v. v.items) result (frames_of_data parts.now (env_of P.provided formatter.old module_index) known.now (chosen_seen chosen.entry) place) }
+    ensures same { namer.new ≡ namer.old }
+    ensures frames { Answers (λ v. v.items) result (frames_of_data parts.now (env_of P.provided namer.old module_index) known.now (chosen_seen chosen.entry) place) }
 {
     let (row, calls) = row_and_calls_in(alloc, known, extended, chosen, place)?;
     let mut frames = call_frames(
         alloc,
         parts,
-        formatter,
-        names,
+        namer,
         module_index,
         extended,
         calls.as_slice(),
     )?;
-    let function = names.name_of(alloc, parts, formatter, module_index, chosen)?;
+    let function = name_of(alloc, parts, namer, module_index, chosen)?;
     let frame = function_frame(alloc, parts, extended, function, row)?;
     frames.push(frame)?;
     Ok(frames)
@@ -231,25 +213,21 @@ fn frames_by<'a, 'm, P: ModuleProvider>(
 fn frames_in_data<'a, P: ModuleProvider>(
     alloc: Global,
     parts: &ContextParts<'a, '_>,
-    formatter: &mut TypeFormatter<'_, '_, P>,
-    names: &mut KeptNames,
+    namer: &mut Namer<'_, '_, P>,
     module_index: u16,
     known: &BasicModuleInfo<'_, P::Info>,
     chosen: Chosen<'_, '_>,
     place: PdbInternalSectionOffset,
 ) -> Result<Vec<Frame<'a>>>
-    requires names { AreKeptNames P.provided formatter.old names.old }
-    ensures names { AreKeptNames P.provided formatter.old names.new }
-    ensures same { formatter.new ≡ formatter.old }
-    ensures frames { Answers (λ v. v.items) result (frames_of_data parts.now (env_of P.provided formatter.old module_index) known.now (chosen_seen chosen.entry) place) }
+    ensures same { namer.new ≡ namer.old }
+    ensures frames { Answers (λ v. v.items) result (frames_of_data parts.now (env_of P.provided namer.old module_index) known.now (chosen_seen chosen.entry) place) }
 {
     let Some(extended) = known.extended() else {
         let extended = read_extended(alloc, known.module_info)?;
         return frames_by(
             alloc,
             parts,
-            formatter,
-            names,
+            namer,
             module_index,
             known,
             &extended,
@@ -260,8 +238,7 @@ fn frames_in_data<'a, P: ModuleProvider>(
     frames_by(
         alloc,
         parts,
-        formatter,
-        names,
+        namer,
         module_index,
         known,
         extended,
@@ -274,21 +251,18 @@ fn frames_in_data<'a, P: ModuleProvider>(
 pub fn frames_in<'a, P: ModuleProvider>(
     alloc: Global,
     parts: &ContextParts<'a, '_>,
-    formatter: &mut TypeFormatter<'_, '_, P>,
-    names: &mut KeptNames,
+    namer: &mut Namer<'_, '_, P>,
     module_index: u16,
     known: &Option<BasicModuleInfo<'_, P::Info>>,
     chosen: Chosen<'_, '_>,
     place: PdbInternalSectionOffset,
 ) -> Result<Vec<Frame<'a>>>
-    requires names { AreKeptNames P.provided formatter.old names.old }
-    ensures names { AreKeptNames P.provided formatter.old names.new }
-    ensures same { formatter.new ≡ formatter.old }
-    ensures frames { Answers (λ v. v.items) result (frames_of_module parts.now (env_of P.provided formatter.old module_index) known.now (chosen_seen chosen.entry) place) }
+    ensures same { namer.new ≡ namer.old }
+    ensures frames { Answers (λ v. v.items) result (frames_of_module parts.now (env_of P.provided namer.old module_index) known.now (chosen_seen chosen.entry) place) }
 {
     match known {
         None => {
-            let function = names.name_of(alloc, parts, formatter, module_index, chosen)?;
+            let function = name_of(alloc, parts, namer, module_index, chosen)?;
             let mut frames = Vec::new(alloc);
             frames.push(Frame {
                 function,
@@ -297,17 +271,6 @@ pub fn frames_in<'a, P: ModuleProvider>(
             })?;
             Ok(frames)
         }
-        Some(known) => {
-            frames_in_data(
-                alloc,
-                parts,
-                formatter,
-                names,
-                module_index,
-                known,
-                chosen,
-                place,
-            )
-        }
+        Some(known) => { frames_in_data(alloc, parts, namer, module_index, known, chosen, place) }
     }
 }

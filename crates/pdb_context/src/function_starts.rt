@@ -10,9 +10,9 @@ use crate::parts::ContextParts;
 use pdb_addresses::{AddressMap, PdbInternalSectionOffset};
 use pdb_known_modules::{get_basic_module_info, procedures_in};
 use pdb_module_data::Procedure;
+use pdb_names::Namer;
 use pdb_public_list::PublicFunction;
 use pdb_resolving::ModuleProvider;
-use pdb_type_text::TypeFormatter;
 use std::alloc::{AllocError, Global};
 
 /// Puts the RVA of a place behind other addresses, if it has one.
@@ -70,13 +70,13 @@ fn push_module<P: ModuleProvider>(
     addresses: &mut Vec<u32>,
     address_map: &AddressMap<'_>,
     provider: &P,
-    formatter: &TypeFormatter<'_, '_, P>,
+    namer: &Namer<'_, '_, P>,
     module_index: usize,
 ) -> Result<(), AllocError>
     requires { IsOrdered address_map.now }
-    ensures { OnOk result (addresses.new.items ≡ addresses.old.items ++ addresses_of address_map.now (map (λ q. q.offset) (procedures_of_module (module_data (scope_of P.provided provider.now formatter.now module_index).own)))) }
+    ensures { OnOk result (addresses.new.items ≡ addresses.old.items ++ addresses_of address_map.now (map (λ q. q.offset) (procedures_of_module (module_data (scope_of P.provided provider.now namer.now module_index).own)))) }
 {
-    let known = get_basic_module_info(alloc, provider, formatter.modules(), module_index)?;
+    let known = get_basic_module_info(alloc, provider, namer.modules(), module_index)?;
     push_procedures(addresses, address_map, procedures_in(&known))
 }
 
@@ -87,20 +87,13 @@ fn push_modules<P: ModuleProvider>(
     addresses: &mut Vec<u32>,
     address_map: &AddressMap<'_>,
     provider: &P,
-    formatter: &TypeFormatter<'_, '_, P>,
+    namer: &Namer<'_, '_, P>,
 ) -> Result<(), AllocError>
     requires { IsOrdered address_map.now }
-    ensures { OnOk result (addresses.new.items ≡ addresses.old.items ++ addresses_of address_map.now (procedure_starts_from (scope_of P.provided provider.now formatter.now) 0 (entries_of formatter.now))) }
+    ensures { OnOk result (addresses.new.items ≡ addresses.old.items ++ addresses_of address_map.now (procedure_starts_from (scope_of P.provided provider.now namer.now) 0 (entries_of namer.now))) }
 {
-    for module_index in 0..formatter.modules().len() {
-        push_module(
-            alloc,
-            addresses,
-            address_map,
-            provider,
-            formatter,
-            module_index,
-        )?;
+    for module_index in 0..namer.modules().len() {
+        push_module(alloc, addresses, address_map, provider, namer, module_index)?;
     }
     Ok(())
 }
@@ -118,13 +111,13 @@ fn function_starts<P: ModuleProvider>(
     alloc: Global,
     provider: &P,
     parts: &ContextParts<'_, '_>,
-    formatter: &TypeFormatter<'_, '_, P>,
+    namer: &Namer<'_, '_, P>,
 ) -> Result<Vec<u32>, AllocError>
-    ensures { IfOk result (λ v. IsAscending (start_addresses parts.now (scope_of P.provided provider.now formatter.now) (entries_of formatter.now)) v.items) }
+    ensures { IfOk result (λ v. IsAscending (start_addresses parts.now (scope_of P.provided provider.now namer.now) (entries_of namer.now)) v.items) }
 {
     let mut starts = Vec::new(alloc);
     push_publics(&mut starts, parts.address_map, parts.publics.as_slice())?;
-    push_modules(alloc, &mut starts, parts.address_map, provider, formatter)?;
+    push_modules(alloc, &mut starts, parts.address_map, provider, namer)?;
     sort_and_dedup(&mut starts);
     Ok(starts)
 }
@@ -145,16 +138,16 @@ pub fn kept_starts<P: ModuleProvider>(
     kept: &mut Option<Vec<u32>>,
     provider: &P,
     parts: &ContextParts<'_, '_>,
-    formatter: &TypeFormatter<'_, '_, P>,
+    namer: &Namer<'_, '_, P>,
 ) -> Result<Vec<u32>, AllocError>
-    requires { AreStarts (start_addresses parts.now (scope_of P.provided provider.now formatter.now) (entries_of formatter.now)) (option_map (λ v. v.items) kept.old) }
-    ensures kept { AreStarts (start_addresses parts.now (scope_of P.provided provider.now formatter.now) (entries_of formatter.now)) (option_map (λ v. v.items) kept.new) }
-    ensures starts { IfOk result (λ v. IsAscending (start_addresses parts.now (scope_of P.provided provider.now formatter.now) (entries_of formatter.now)) v.items) }
+    requires { AreStarts (start_addresses parts.now (scope_of P.provided provider.now namer.now) (entries_of namer.now)) (option_map (λ v. v.items) kept.old) }
+    ensures kept { AreStarts (start_addresses parts.now (scope_of P.provided provider.now namer.now) (entries_of namer.now)) (option_map (λ v. v.items) kept.new) }
+    ensures starts { IfOk result (λ v. IsAscending (start_addresses parts.now (scope_of P.provided provider.now namer.now) (entries_of namer.now)) v.items) }
 {
     if let Some(starts) = kept {
         return copied(alloc, starts);
     }
-    let starts = function_starts(alloc, provider, parts, formatter)?;
+    let starts = function_starts(alloc, provider, parts, namer)?;
     let copy = copied(alloc, &starts)?;
     *kept = Some(starts);
     Ok(copy)

@@ -97,7 +97,7 @@ impl<'a, 's, P: ModuleProvider> Context<'a, 's, P> {
             &mut self.starts,
             self.provider,
             &self.parts,
-            self.type_formatter.get(),
+            &self.namer,
         )?;
         Ok(FunctionIter {
             context: self,

@@ -3,18 +3,14 @@
 #![tactic(auto)]
 
 mod choice;
+mod chosen_name;
 mod context;
 mod failures;
 mod frames;
 mod function;
 mod function_starts;
 mod functions;
-mod kept;
-mod kept_names;
-pub mod maybe_owned;
-mod modules;
 mod parts;
-mod procedure_data;
 mod runs;
 
 pub use context::Context;
@@ -22,3 +18,4 @@ pub use function::{Frame, FunctionFrames};
 pub use functions::FunctionIter;
 pub use parts::ContextParts;
 pub use pdb_functions::Function;
+pub use pdb_names::maybe_owned;

@@ -3,9 +3,10 @@
 
 mod by_module;
 mod inline_names;
+pub mod maybe_owned;
+mod namer;
 mod names;
 mod typed_names;
 
-pub use inline_names::InlineNames;
+pub use namer::Namer;
 pub use names::{clone_name, if_named, is_decorated, raw_name};
-pub use typed_names::TypedNames;

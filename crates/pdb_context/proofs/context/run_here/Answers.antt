@@ -5,10 +5,10 @@ use Rattle.pdb_context.proofs.context.run_here.Goals as goal
 
 pub returns-in-None-clause-count : goal.returns-in-None-clause-count
 returns-in-None-clause-count g c =
-    run_by_holder c.args.parts.now (scope_of g.P.ModuleProvider.provided c.args.provider.now c.args.formatter.now) c.args.place c.args.limit c.to_next_shared_bound.result None c.requires.limit
+    run_by_holder c.args.parts.now (scope_of g.P.ModuleProvider.provided c.args.provider.now c.args.namer.now) c.args.place c.args.limit c.to_next_shared_bound.result None c.requires.limit
     (sym c.in-None.is ∙ c.holder.ensures) c.to_next_shared_bound.ensures
 
 pub returns-in-Some-clause-count : goal.returns-in-Some-clause-count
 returns-in-Some-clause-count g c =
-    run_if_ok c.args.parts.now (scope_of g.P.ModuleProvider.provided c.args.provider.now c.args.formatter.now) c.args.place c.args.limit (Some c.in-Some.contribution) c.run_at.result c.requires.limit
+    run_if_ok c.args.parts.now (scope_of g.P.ModuleProvider.provided c.args.provider.now c.args.namer.now) c.args.place c.args.limit (Some c.in-Some.contribution) c.run_at.result c.requires.limit
     (sym c.in-Some.is ∙ c.holder.ensures) c.run_at.ensures.count

@@ -1,4 +1,3 @@
-use Rattle.std.proofs.Common.{◌≡◌, sym, ap, ◌∙◌}
 use Rattle.pdb_known_modules.specs.Seen.{extended_seen}
 use Rattle.pdb_context.proofs.ProcedureSteps.{row_and_calls_are}
 use Rattle.pdb_context.proofs.frames.procedure_row_and_calls.Goals as goal

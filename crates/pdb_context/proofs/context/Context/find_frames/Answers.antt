@@ -1,4 +1,4 @@
-use Rattle.std.proofs.Common.{◌≡◌, sym, ◌∙◌}
+use Rattle.std.proofs.Common.{sym, ◌∙◌}
 use Rattle.pdb_context.proofs.FailedSteps.{frames_are_told}
 use Rattle.pdb_context.proofs.context.Context.find_frames.Goals as goal
 
@@ -6,5 +6,5 @@ use Rattle.pdb_context.proofs.context.Context.find_frames.Goals as goal
 pub returns-clause-frames : goal.returns-clause-frames
 returns-clause-frames g c =
     rw (sym c.self.view_is)
-    (frames_are_told (λ f. f) g.P.ModuleProvider.provided (record { provider = _; parts = _; formatting = _; lookups = 0; failed = _ }) c.get_mut.result.now c.args.probe c.in-Some.place c.frames_here-frames.result c.counted.result
-    (sym c.place.ensures ∙ c.in-Some.is) c.get_mut.ensures.value c.counted.ensures.answer c.frames_here-frames.ensures.frames)
+    (frames_are_told (λ f. f) g.P.ModuleProvider.provided (record { provider = _; parts = _; formatting = _; lookups = 0; failed = _ }) c.args.probe c.in-Some.place c.frames_here-frames.result c.counted.result
+    (sym c.place.ensures ∙ c.in-Some.is) c.counted.ensures.answer c.frames_here-frames.ensures.frames)

@@ -1,6 +1,6 @@
 -- The value that is owned, or borrowed for writing.
-use Rattle.pdb_context.specs.declared.maybe_owned.MaybeOwned.{MaybeOwned}
-use Rattle.pdb_context.specs.declared.maybe_owned.MaybeOwned.TheVariants.{Owned, Borrowed}
+use Rattle.pdb_names.specs.declared.maybe_owned.MaybeOwned.{MaybeOwned}
+use Rattle.pdb_names.specs.declared.maybe_owned.MaybeOwned.TheVariants.{Owned, Borrowed}
 
 -- the value, wherever it lies
 abbrev pub value_of : {T : Type 0} → MaybeOwned T → T

@@ -3,8 +3,8 @@
 ghost use Rattle.std.specs.Prelude.{◌≡◌, []};
 ghost use Rattle.std.specs.Borrow.{sem, Lends};
 ghost use mir.Syntax.{named};
-ghost use Rattle.pdb_context.specs.MaybeOwned.{value_of, with_value};
-ghost use Rattle.pdb_context.specs.contracts.maybe_owned.MaybeOwned.{the_row};
+ghost use Rattle.pdb_names.specs.MaybeOwned.{value_of, with_value};
+ghost use Rattle.pdb_names.specs.contracts.maybe_owned.MaybeOwned.{the_row};
 
 /// A value that is owned, or borrowed for writing.
 #[derive(Drop)]

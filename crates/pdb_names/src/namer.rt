@@ -1,0 +1,107 @@
+//! What names functions.
+
+ghost use Rattle.std.specs.Prelude.{◌≡◌, IfOk, option_map, string_bytes};
+ghost use Rattle.pdb_names.specs.InlineNames.{inline_text};
+ghost use Rattle.pdb_names.specs.MaybeOwned.{value_of};
+ghost use Rattle.pdb_names.specs.Names.{typed_name};
+ghost use Rattle.pdb_type_text.specs.Formatting.{env_of};
+
+use crate::inline_names::InlineNames;
+use crate::maybe_owned::MaybeOwned;
+use crate::typed_names::TypedNames;
+use pdb_indices::IdIndex;
+use pdb_module_data::Procedure;
+use pdb_resolving::ModuleProvider;
+use pdb_symbols_modules::Module;
+use pdb_type_text::TypeFormatter;
+use std::alloc::{AllocError, Global};
+use std::marker::Model;
+
+/// What names functions: a formatter of types, and the names that were asked for. Its value is that of the formatter: which names
+/// are kept shows in no name.
+pub struct Namer<'a, 's, P: ModuleProvider> {
+    formatter: MaybeOwned<'a, TypeFormatter<'a, 's, P>>,
+    /// Those of inlined functions.
+    inlined: InlineNames,
+    /// Those of procedures by their types.
+    typed: TypedNames,
+}
+
+impl<'a, 's, P: ModuleProvider> Model for Namer<'a, 's, P> {
+    ghost use Rattle.pdb_names.specs.InlineNames.{AreNames, inline_text};
+    ghost use Rattle.pdb_names.specs.MaybeOwned.{value_of};
+    ghost use Rattle.pdb_names.specs.TypedNames.{AreTyped, typed_text};
+    ghost use Rattle.pdb_type_text.specs.Formatting.{Formatting};
+
+    ghost Value = { Formatting P };
+
+    ghost view = { λ n. value_of n.formatter };
+
+    // The names that are kept are those that the formatter gives.
+    ghost invariant = { λ n. AreNames (inline_text P.provided (value_of n.formatter)) n.inlined × AreTyped (typed_text P.provided (value_of n.formatter)) n.typed };
+}
+
+impl<'a, 's, P: ModuleProvider> Drop for Namer<'a, 's, P> {
+    fn drop(self) {
+        let Namer {
+            formatter,
+            inlined,
+            typed,
+        } = self;
+        drop(formatter);
+        drop(inlined);
+        drop(typed);
+    }
+}
+
+impl<'a, 's, P: ModuleProvider> Namer<'a, 's, P> {
+    /// Names by a formatter, of which none is kept yet.
+    pub fn new(
+        alloc: Global,
+        formatter: MaybeOwned<'a, TypeFormatter<'a, 's, P>>,
+    ) -> Namer<'a, 's, P>
+        ensures { result ≡ value_of formatter.entry }
+    {
+        Namer {
+            formatter,
+            inlined: InlineNames::new(alloc),
+            typed: TypedNames::new(alloc),
+        }
+    }
+
+    /// The modules in order.
+    pub fn modules(&self) -> &[Module<'a>]
+        ensures { result.now ≡ (self.now).reading.modules.entries }
+    {
+        self.formatter.get().modules()
+    }
+
+    /// The name of an inlined function by its id in the IPI, as the module of a number has it; `None` where no text can be made
+    /// of it.
+    pub fn inlined_name(
+        &mut self,
+        alloc: Global,
+        module_index: u16,
+        inlinee: IdIndex,
+    ) -> Result<Option<String>, AllocError>
+        ensures same { self.new ≡ self.old }
+        ensures name { IfOk result (λ n. option_map string_bytes n ≡ inline_text P.provided self.old module_index inlinee.0) }
+    {
+        self.inlined
+            .name(alloc, self.formatter.get_mut(), module_index, inlinee)
+    }
+
+    /// The name of a procedure by its type in the module of a number; `None` where no text can be made of it.
+    pub fn typed_name(
+        &mut self,
+        alloc: Global,
+        module_index: u16,
+        procedure: &Procedure<'_>,
+    ) -> Result<Option<String>, AllocError>
+        ensures same { self.new ≡ self.old }
+        ensures name { IfOk result (λ n. option_map string_bytes n ≡ typed_name (env_of P.provided self.old module_index) procedure.now) }
+    {
+        self.typed
+            .name(alloc, self.formatter.get_mut(), module_index, procedure)
+    }
+}
