@@ -1,5 +1,2 @@
 pub mod FailedSteps
 pub mod FunctionSteps
-pub mod NextPublic
-pub mod ProcedureSteps
-pub mod RunLaw

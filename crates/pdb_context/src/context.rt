@@ -4,29 +4,27 @@ ghost use Rattle.std.specs.Prelude.{◌≡◌, ◌≤◌, true, IfOk, Ok, Some, 
 ghost use Rattle.pdb_addresses.specs.Addresses.{IsOrdered};
 ghost use Rattle.pdb_addresses.specs.SectionRun.{up_to_next};
 ghost use Rattle.pdb_resolving.specs.Fault.{Answers};
-ghost use Rattle.pdb_context.specs.Choice.{Parts, place_of};
+ghost use Rattle.pdb_frames.specs.Choice.{Parts, place_of};
 ghost use Rattle.pdb_known_modules.specs.Kept.{AreKept};
-ghost use Rattle.pdb_context.specs.Context.{entries_of, parts_of, context_over, lasting, scope_of, scope_in, uncounted, lookups_after};
-ghost use Rattle.pdb_context.specs.Failed.{failed_after, failing, failing_at, failing_if_held, failing_in as failing_in_module, told};
-ghost use Rattle.pdb_context.specs.Frames.{frames, frames_at as frames_at_place, frames_if_held, frames_of_chosen, function, function_at as function_at_contribution, function_of as function_of_chosen, held_at};
+ghost use Rattle.pdb_frames.specs.Parts.{entries_of, parts_of, scope_of};
+ghost use Rattle.pdb_context.specs.Context.{context_over, lasting, scope_in, uncounted, lookups_after};
+ghost use Rattle.pdb_frames.specs.Failed.{failed_after, failing, failing_at, failing_if_held, failing_in as failing_in_module, told};
+ghost use Rattle.pdb_frames.specs.Frames.{frames, frames_at as frames_at_place, frames_if_held, frames_of_chosen, function, function_at as function_at_contribution, function_of as function_of_chosen, held_at};
 ghost use Rattle.pdb_names.specs.MaybeOwned.{value_of};
 ghost use Rattle.pdb_known_modules.specs.Modules.{module_data, own_of};
-ghost use Rattle.pdb_context.specs.Runs.{bounds_near, database_of, function_here as function_at_place, procedures_of};
-ghost use Rattle.pdb_context.specs.Seen.{chosen_seen};
+ghost use Rattle.pdb_frames.specs.Runs.{bounds_near, database_of, function_here as function_at_place, procedures_of};
+ghost use Rattle.pdb_frames.specs.Seen.{chosen_seen};
 ghost use Rattle.pdb_functions.specs.Databases.{IsOneRun, place_of as as_place};
 ghost use Rattle.pdb_type_text.specs.Formatting.{env_of};
 
-use crate::choice::{Chosen, choose};
-use crate::chosen_name::name_of;
-use crate::failures::{Failures, Part, failing_in, unsuccessful};
-use crate::frames::frames_in;
-use crate::function::FunctionFrames;
-use crate::parts::ContextParts;
-use crate::runs::{to_next_bound, to_next_shared_bound};
-use pdb_addresses::{AddressMap, ImageSectionHeader, PdbInternalSectionOffset};
+use pdb_addresses::{AddressMap, ImageSectionHeader, PdbInternalSectionOffset, Rva};
 use pdb_container::StringTable;
 use pdb_contributions::ModuleSectionContribution;
-use pdb_functions::Function;
+use pdb_frames::{
+    Chosen, ContextParts, Failures, Part, choose, failing_in, frames_in, name_of, to_next_bound,
+    to_next_shared_bound, unsuccessful,
+};
+use pdb_functions::{Function, FunctionFrames};
 use pdb_known_modules::{
     BasicModuleInfo, KeptModule, empty_places, keep_lines, keep_module, keep_procedure, known_at,
 };
@@ -53,8 +51,8 @@ pub struct Context<'a, 's, P: ModuleProvider> {
 impl<'a, 's, P: ModuleProvider> Model for Context<'a, 's, P> {
     ghost use Rattle.std.specs.Prelude.{option_map};
     ghost use Rattle.pdb_context.specs.Context as contexts;
-    ghost use Rattle.pdb_context.specs.Context.{entries_of, scope_of};
-    ghost use Rattle.pdb_context.specs.FunctionList.{start_addresses, AreStarts};
+    ghost use Rattle.pdb_frames.specs.Parts.{entries_of, scope_of};
+    ghost use Rattle.pdb_frames.specs.Starts.{start_addresses, AreStarts};
     ghost use Rattle.pdb_known_modules.specs.Kept.{AreKept};
     ghost use Rattle.pdb_known_modules.specs.Modules.{module_data, own_of};
 
@@ -83,6 +81,13 @@ impl<'a, 's, P: ModuleProvider> Drop for Context<'a, 's, P> {
         drop(starts);
         drop(failed);
     }
+}
+
+/// The place of an RVA, if it has one.
+fn place_at(parts: &ContextParts<'_, '_>, probe: u32) -> Option<PdbInternalSectionOffset>
+    ensures { result ≡ place_of parts.now probe }
+{
+    Rva(probe).to_internal_offset(parts.address_map)
 }
 
 /// Places for the modules of a namer, in which nothing is kept yet.
@@ -174,7 +179,7 @@ fn keep_parts<'a, I: ModuleTables>(
 }
 
 /// The frames at a place that a contribution holds.
-#[tactic(auto, unfolding(crate::specs::Frames::frames_at))]
+#[tactic(auto, unfolding(pdb_frames::specs::Frames::frames_at))]
 fn frames_at<'a, P: ModuleProvider>(
     alloc: Global,
     provider: &'a P,
@@ -239,7 +244,7 @@ fn function_of<P: ModuleProvider>(
 }
 
 /// The function at a place that a contribution holds.
-#[tactic(auto, unfolding(crate::specs::Frames::function_at))]
+#[tactic(auto, unfolding(pdb_frames::specs::Frames::function_at))]
 fn function_at<'a, P: ModuleProvider>(
     alloc: Global,
     provider: &'a P,
@@ -316,7 +321,7 @@ fn function_here<'a, P: ModuleProvider>(
 }
 
 /// The function at a place that a contribution holds, and how far it goes on.
-#[tactic(auto, unfolding(crate::specs::Frames::function_at))]
+#[tactic(auto, unfolding(pdb_frames::specs::Frames::function_at))]
 fn run_at<'a, P: ModuleProvider>(
     alloc: Global,
     provider: &'a P,
@@ -460,14 +465,14 @@ impl<'a, 's, P: ModuleProvider> Context<'a, 's, P> {
     /// inlinees, rows of the function's `DEBUG_S_LINES`, inline sites: `PdbError`, `ProcedureInlineRangesUnsuccessful`. From then
     /// on the part stands as failed, and its fault is `ExtendedModuleInfoUnsuccessful`, `ProcedureLinesUnsuccessful` or
     /// `ProcedureInlineRangesUnsuccessful`. `OutOfMemory`, and then nothing stands as failed that did not before.
-    #[tactic(auto, unfolding(crate::specs::Frames::frames))]
+    #[tactic(auto, unfolding(pdb_frames::specs::Frames::frames))]
     pub fn find_frames(&mut self, alloc: Global, probe: u32) -> Result<Option<FunctionFrames<'a>>>
         ensures same { lasting self.new ≡ lasting self.old }
         ensures failed { self.new.failed ≡ failed_after (failing self.old.parts (scope_in P.provided self.old) probe) result self.old.failed }
         ensures lookups { self.new.lookups ≡ lookups_after (is_some (place_of self.old.parts probe)) result self.old.lookups }
         ensures frames { Answers (λ f. f) result (told self.old.failed (failing self.old.parts (scope_in P.provided self.old) probe) (frames self.old.parts (scope_in P.provided self.old) probe)) }
     {
-        let Some(place) = self.parts.place(probe) else {
+        let Some(place) = place_at(&self.parts, probe) else {
             return Ok(None);
         };
         let frames = frames_here(
@@ -486,13 +491,13 @@ impl<'a, 's, P: ModuleProvider> Context<'a, 's, P> {
     ///
     /// # Errors
     /// `OutOfMemory` alone.
-    #[tactic(auto, unfolding(crate::specs::Frames::function))]
+    #[tactic(auto, unfolding(pdb_frames::specs::Frames::function))]
     pub fn find_function(&mut self, alloc: Global, probe: u32) -> Result<Option<Function>>
         ensures same { uncounted self.new ≡ uncounted self.old }
         ensures lookups { self.new.lookups ≡ lookups_after (is_some (place_of self.old.parts probe)) result self.old.lookups }
         ensures function { Answers (λ f. f) result (Ok (function self.old.parts (scope_in P.provided self.old) probe)) }
     {
-        let Some(place) = self.parts.place(probe) else {
+        let Some(place) = place_at(&self.parts, probe) else {
             return Ok(None);
         };
         let function = function_here(

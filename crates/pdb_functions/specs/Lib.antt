@@ -1,3 +1,4 @@
 pub mod Databases
+pub mod Frames
 pub mod FunctionOrder
 pub mod OrderLaws

@@ -44,7 +44,7 @@ impl Function {
 }
 
 /// A copy of a name that may be missing.
-fn clone_name(alloc: Global, name: &Option<String>) -> Result<Option<String>, AllocError>
+pub(crate) fn clone_name(alloc: Global, name: &Option<String>) -> Result<Option<String>, AllocError>
     ensures { IfOk result (λ n. option_map string_bytes n ≡ option_map string_bytes name.now) }
 {
     match name {

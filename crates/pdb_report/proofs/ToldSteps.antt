@@ -2,9 +2,9 @@
 use Rattle.std.proofs.Common.{◌≡◌, Result, Ok, Err, refl, sym, ap, ◌∙◌}
 use Rattle.std.specs.Prelude.{Option}
 use Rattle.pdb_resolving.specs.Fault.{Fault}
-use Rattle.pdb_context.specs.declared.failures.Part.{Part}
-use Rattle.pdb_context.specs.Failed.{Failures, told}
-use Rattle.pdb_context.specs.Frames.{FunctionFrames}
+use Rattle.pdb_frames.specs.declared.failures.Part.{Part}
+use Rattle.pdb_frames.specs.Failed.{Failures, told}
+use Rattle.pdb_functions.specs.Frames.{FunctionFrames}
 use Rattle.pdb_report.specs.AddressText.{answer_text}
 
 told_text : (f : Failures) (part : Option Part) (r : Result (Option FunctionFrames) Fault) → answer_text (told f part r) ≡ answer_text r

@@ -4,7 +4,7 @@ use Rattle.pdb_addresses.specs.Addresses.{IsOrdered}
 use Rattle.pdb_symbols_modules.specs.Shared.{shared}
 use Rattle.pdb_symbols_modules.specs.Streams.{streams}
 use Rattle.pdb_resolving.specs.Resolving.{Provided}
-use Rattle.pdb_context.specs.Choice.{Parts}
+use Rattle.pdb_frames.specs.Choice.{Parts}
 use Rattle.pdb_addr2line.specs.Formatters as kept
 use Rattle.pdb_addr2line.specs.Held.{Held, given, names_in}
 use Rattle.pdb_addr2line.specs.Kept.{KeptInfo, answered_at}

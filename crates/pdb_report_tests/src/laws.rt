@@ -1,9 +1,9 @@
 //! What the definitions say of each other.
 
 ghost use Rattle.std.specs.Prelude.{◌≡◌, ℕ, Err, is_some, true};
-ghost use Rattle.pdb_context.specs.Choice.{Parts, Scope};
-ghost use Rattle.pdb_context.specs.Failed.{failing};
-ghost use Rattle.pdb_context.specs.Frames.{frames};
+ghost use Rattle.pdb_frames.specs.Choice.{Parts, Scope};
+ghost use Rattle.pdb_frames.specs.Failed.{failing};
+ghost use Rattle.pdb_frames.specs.Frames.{frames};
 ghost use Rattle.pdb_resolving.specs.Fault.{Fault};
 
 /// An answer that has a fault has a part that fails. So that part stands as failed from then on, and its fault is told once.

@@ -1,6 +1,6 @@
 use Rattle.std.proofs.Common.{sym, ◌∙◌, Some, None}
-use Rattle.pdb_context.specs.Context.{scope_of}
-use Rattle.pdb_context.proofs.RunLaw.{run_by_holder, run_if_ok}
+use Rattle.pdb_frames.specs.Parts.{scope_of}
+use Rattle.pdb_frames.proofs.RunLaw.{run_by_holder, run_if_ok}
 use Rattle.pdb_context.proofs.context.run_here.Goals as goal
 
 pub returns-in-None-clause-count : goal.returns-in-None-clause-count

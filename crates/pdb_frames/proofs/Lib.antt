@@ -1,0 +1,4 @@
+pub mod NextPublic
+pub mod ProcedureSteps
+pub mod RunLaw
+pub mod StartSteps

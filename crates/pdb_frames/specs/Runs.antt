@@ -1,0 +1,45 @@
+-- Runs: how far along a section the function stays.
+use Rattle.std.specs.Prelude.{ℕ, Bool, ◌==◌, List, [], ◌∷◌, ◌++◌, Option, None, Some, option_and_then, if◌then◌else◌}
+use Rattle.std.specs.List.{flat_map, list_any}
+use Rattle.pdb_addresses.specs.declared.internal_section_offset.PdbInternalSectionOffset.{PdbInternalSectionOffset}
+use Rattle.pdb_addresses.specs.Places.{internal_place}
+use Rattle.pdb_contributions.specs.declared.contribution.ModuleSectionContribution.{ModuleSectionContribution}
+use Rattle.pdb_contributions.specs.Contributions.{holder}
+use Rattle.pdb_public_list.specs.Publics.{PublicFunction}
+use Rattle.pdb_module_data.specs.Procedures.{Procedure}
+use Rattle.pdb_bounds.specs.SectionBounds.{contribution_bounds, procedure_bounds}
+use Rattle.pdb_functions.specs.Databases.{Database}
+use Rattle.pdb_functions.specs.FunctionOrder.{Function}
+use Rattle.pdb_frames.specs.Choice.{Parts, Scope}
+use Rattle.pdb_frames.specs.Frames.{held_at, function_at}
+use Rattle.pdb_known_modules.specs.Modules.{module_data, procedures_in}
+
+-- ---- where answers may change
+
+-- where a public entry begins, if it lies in the section of a place
+abbrev pub public_bounds : PdbInternalSectionOffset → PublicFunction → List ℕ
+public_bounds p f = if (f.start_offset).section == p.section then (f.start_offset).offset ∷ [] else []
+
+-- where contributions, public entries and these procedures begin and end in the section of a place
+abbrev pub bounds_near : Parts → List Procedure → PdbInternalSectionOffset → List ℕ
+bounds_near p procedures place = flat_map (contribution_bounds place) p.contributions ++ (flat_map (public_bounds place) p.publics ++ flat_map (procedure_bounds place) procedures)
+
+-- the procedures of the module that a contribution belongs to; none without one
+abbrev pub procedures_of : (ℕ → Scope) → Option ModuleSectionContribution → List Procedure
+procedures_of scope None = []
+procedures_of scope (Some c) = procedures_in (module_data (scope c.module_index).own)
+
+-- An answer may change at a place: a contribution begins or ends there, a public entry begins there, or a procedure of the module
+-- that holds the place begins or ends there.
+abbrev pub is_bound : Parts → (ℕ → Scope) → PdbInternalSectionOffset → Bool
+is_bound p scope place = list_any (λ bound. place.offset == bound) (bounds_near p (procedures_of scope (holder p.contributions place)) place)
+
+-- ---- runs
+
+-- the function at a place
+abbrev pub function_here : Parts → (ℕ → Scope) → PdbInternalSectionOffset → Option Function
+function_here p scope place = option_and_then (λ held. function_at p (scope (held.0).module_index) held.0 held.1) (held_at p (Some place))
+
+-- the function at each place, and whether an answer may change there
+abbrev pub database_of : Parts → (ℕ → Scope) → Database
+database_of p scope = record { function = λ place. function_here p scope (internal_place place); is_bound = λ place. is_bound p scope (internal_place place) }

@@ -1,0 +1,73 @@
+//! The name of a chosen function.
+
+ghost use Rattle.std.specs.Prelude.{◌≡◌, IfOk, option_map, string_bytes};
+ghost use Rattle.pdb_container.specs.RawString.{raw_bytes};
+ghost use Rattle.pdb_frames.specs.Choice.{name_of as name_of_chosen, procedure_name as name_of_procedure, public_name as public_name_of};
+ghost use Rattle.pdb_frames.specs.Seen.{chosen_seen};
+ghost use Rattle.pdb_type_text.specs.Formatting.{env_of};
+
+use crate::choice::Chosen;
+use crate::parts::ContextParts;
+use pdb_container::RawString;
+use pdb_module_data::Procedure;
+use pdb_names::{Namer, if_named, is_decorated, raw_name};
+use pdb_resolving::ModuleProvider;
+use std::alloc::{AllocError, Global};
+
+/// The decorated public name that a procedure has in place of its own: at its start, where it has no type and no decorated name
+/// of its own.
+fn public_name<'p, 'a>(
+    parts: &'p ContextParts<'a, '_>,
+    procedure: &Procedure<'_>,
+) -> Option<&'p RawString<'a>>
+    ensures { option_map (λ n. raw_bytes n.now) result ≡ public_name_of parts.now procedure.now }
+{
+    if procedure.type_index.0 == 0 && !is_decorated(procedure.name.as_bytes()) {
+        parts.decorated_at(procedure.offset)
+    } else {
+        None
+    }
+}
+
+/// A procedure's name in the module of a number: the decorated public name in place of its own, or that by its type.
+fn procedure_name<P: ModuleProvider>(
+    alloc: Global,
+    parts: &ContextParts<'_, '_>,
+    namer: &mut Namer<'_, '_, P>,
+    module_index: u16,
+    procedure: &Procedure<'_>,
+) -> Result<Option<String>, AllocError>
+    ensures same { namer.new ≡ namer.old }
+    ensures name { IfOk result (λ n. option_map string_bytes n ≡ name_of_procedure parts.now (env_of P.provided namer.old module_index) procedure.now) }
+{
+    match public_name(parts, procedure) {
+        Some(name) => {
+            let name = raw_name(alloc, name)?;
+            Ok(Some(name))
+        }
+        None => namer.typed_name(alloc, module_index, procedure),
+    }
+}
+
+/// The name of a chosen function in the module of a number.
+pub fn name_of<P: ModuleProvider>(
+    alloc: Global,
+    parts: &ContextParts<'_, '_>,
+    namer: &mut Namer<'_, '_, P>,
+    module_index: u16,
+    chosen: Chosen<'_, '_>,
+) -> Result<Option<String>, AllocError>
+    ensures same { namer.new ≡ namer.old }
+    ensures name { IfOk result (λ n. option_map string_bytes n ≡ name_of_chosen parts.now (env_of P.provided namer.old module_index) (chosen_seen chosen.entry)) }
+{
+    match chosen {
+        Chosen::Procedure(procedure) => procedure_name(
+            alloc,
+            parts,
+            namer,
+            module_index,
+            procedure,
+        ),
+        Chosen::Public(public) => if_named(alloc, &public.name),
+    }
+}

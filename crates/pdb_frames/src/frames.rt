@@ -1,0 +1,276 @@
+//! The frames at a place in a chosen function.
+
+ghost use Rattle.std.specs.Prelude.{◌≡◌, Ok, IfOk, map, option_map, option_and_then, string_bytes};
+ghost use Rattle.std.specs.Cow.{cow_str_bytes};
+ghost use Rattle.pdb_module_data.specs.FunctionLine.{file_text, row_at};
+ghost use Rattle.pdb_module_data.specs.InlinedCalls.{call_rows, calls_over};
+ghost use Rattle.pdb_module_data.specs.InlinePieces.{StandForSites};
+ghost use Rattle.pdb_resolving.specs.Fault.{Answers};
+ghost use Rattle.pdb_type_text.specs.Formatting.{env_of};
+ghost use Rattle.pdb_frames.specs.Choice as choice;
+ghost use Rattle.pdb_frames.specs.Frames.{frames_in as frames_of_module, frames_in_data as frames_of_data, row_and_calls, call_frame as frame_of_call, function_frame as frame_of_function};
+ghost use Rattle.pdb_known_modules.specs.Modules.{extended_of};
+ghost use Rattle.pdb_frames.specs.Seen.{chosen_seen};
+ghost use Rattle.pdb_known_modules.specs.Seen.{extended_seen};
+
+use crate::choice::Chosen;
+use crate::chosen_name::name_of;
+use crate::parts::ContextParts;
+use pdb_addresses::PdbInternalSectionOffset;
+use pdb_functions::Frame;
+use pdb_indices::FileIndex;
+use pdb_known_modules::{
+    BasicModuleInfo, ExtendedModuleInfo, ExtendedProcedureInfo, read_extended,
+    read_extended_procedure,
+};
+use pdb_module_data::{FunctionRows, InlinedCall, LineRow, Procedure, file_name};
+use pdb_names::Namer;
+use pdb_resolving::{ModuleProvider, ModuleTables, Result};
+use std::alloc::{AllocError, Global};
+use std::borrow::CowStr;
+
+/// The line row of a place in a procedure, and the inlined calls over the place, by what was read of the procedure.
+fn row_and_calls_by<'a>(
+    alloc: Global,
+    extended: &ExtendedModuleInfo<'a>,
+    procedure: &Procedure<'_>,
+    read: &ExtendedProcedureInfo<'a>,
+    place: PdbInternalSectionOffset,
+) -> std::result::Result<(Option<LineRow>, Vec<InlinedCall>), AllocError>
+    requires { StandForSites (call_rows (extended_seen extended.now).inlinees procedure.now.offset) (read.now).ranges }
+    ensures row { IfOk result (λ r. r.0 ≡ row_at (read.now).rows place.offset) }
+    ensures calls { IfOk result (λ r. (r.1).items ≡ calls_over (call_rows (extended_seen extended.now).inlinees procedure.now.offset) ((read.now).ranges).sites place) }
+{
+    let calls = read
+        .ranges
+        .calls_over(alloc, &extended.inlinees, procedure.offset, place)?;
+    Ok((read.rows.at(place.offset), calls))
+}
+
+/// The line row of a place in a procedure, and the inlined calls over the place, innermost first, by its module's line program and
+/// inlinees: what is kept of the procedure is used, or else it is read.
+#[tactic(auto, using(crate::proofs::ProcedureSteps::row_and_calls_are, crate::proofs::ProcedureSteps::row_and_calls_fail))]
+fn procedure_row_and_calls<'m, I: ModuleTables>(
+    alloc: Global,
+    known: &BasicModuleInfo<'m, I>,
+    extended: &ExtendedModuleInfo<'m>,
+    procedure: &Procedure<'_>,
+    place: PdbInternalSectionOffset,
+) -> Result<(Option<LineRow>, Vec<InlinedCall>)>
+    requires { extended_of (known.now).stream ≡ Ok (extended_seen extended.now) }
+    ensures { Answers (λ r. (r.0, r.1.items)) result (row_and_calls (known.now).stream (extended_seen extended.now) (choice.Proc procedure.now) place) }
+{
+    if let Some(read) = known.extended_procedure(procedure, place) {
+        let found = row_and_calls_by(alloc, extended, procedure, read, place)?;
+        return Ok(found);
+    }
+    let read = read_extended_procedure(alloc, known.module_info, extended, procedure)?;
+    let found = row_and_calls_by(alloc, extended, procedure, &read, place)?;
+    Ok(found)
+}
+
+/// The line row of a place in a chosen function, and the inlined calls over the place, innermost first; none in a public entry.
+#[tactic(auto, using(pdb_resolving::proofs::Lifting::given_fails_on), unfolding(crate::specs::Frames::row_and_calls))]
+fn row_and_calls_in<'m, I: ModuleTables>(
+    alloc: Global,
+    known: &BasicModuleInfo<'m, I>,
+    extended: &ExtendedModuleInfo<'m>,
+    chosen: Chosen<'_, '_>,
+    place: PdbInternalSectionOffset,
+) -> Result<(Option<LineRow>, Vec<InlinedCall>)>
+    requires { extended_of (known.now).stream ≡ Ok (extended_seen extended.now) }
+    ensures { Answers (λ r. (r.0, r.1.items)) result (row_and_calls (known.now).stream (extended_seen extended.now) (chosen_seen chosen.entry) place) }
+{
+    match chosen {
+        Chosen::Procedure(procedure) => {
+            procedure_row_and_calls(alloc, known, extended, procedure, place)
+        }
+        Chosen::Public(public) => {
+            let rows = FunctionRows::read(alloc, &extended.line_program, public.start_offset)?;
+            Ok((rows.at(place.offset), Vec::new(alloc)))
+        }
+    }
+}
+
+/// The name of a source file that may be known.
+fn file_of<'a>(
+    alloc: Global,
+    parts: &ContextParts<'a, '_>,
+    extended: &ExtendedModuleInfo<'_>,
+    file: Option<FileIndex>,
+) -> std::result::Result<Option<CowStr<'a>>, AllocError>
+    ensures { IfOk result (λ n. option_map cow_str_bytes n ≡ option_and_then (λ f. file_text (extended_seen extended.now).program parts.now.names f.0) file) }
+{
+    match file {
+        None => Ok(None),
+        Some(index) => file_name(alloc, &extended.line_program, parts.string_table, index),
+    }
+}
+
+/// The frame of an inlined call.
+fn call_frame<'a, P: ModuleProvider>(
+    alloc: Global,
+    parts: &ContextParts<'a, '_>,
+    namer: &mut Namer<'_, '_, P>,
+    module_index: u16,
+    extended: &ExtendedModuleInfo<'_>,
+    call: InlinedCall,
+) -> std::result::Result<Frame<'a>, AllocError>
+    ensures same { namer.new ≡ namer.old }
+    ensures frame { IfOk result (λ f. f ≡ frame_of_call parts.now (env_of P.provided namer.old module_index) (extended_seen extended.now).program call) }
+{
+    let function = namer.inlined_name(alloc, module_index, call.inlinee)?;
+    let file = file_of(alloc, parts, extended, call.file)?;
+    Ok(Frame {
+        function,
+        file,
+        line: call.line,
+    })
+}
+
+/// The frames of inlined calls, in their order.
+fn call_frames<'a, P: ModuleProvider>(
+    alloc: Global,
+    parts: &ContextParts<'a, '_>,
+    namer: &mut Namer<'_, '_, P>,
+    module_index: u16,
+    extended: &ExtendedModuleInfo<'_>,
+    calls: &[InlinedCall],
+) -> std::result::Result<Vec<Frame<'a>>, AllocError>
+    ensures same { namer.new ≡ namer.old }
+    ensures frames { IfOk result (λ v. v.items ≡ map (frame_of_call parts.now (env_of P.provided namer.old module_index) (extended_seen extended.now).program) calls.now) }
+{
+    let mut frames = Vec::new(alloc);
+    for call in calls {
+        let frame = call_frame(alloc, parts, namer, module_index, extended, *call)?;
+        frames.push(frame)?;
+    }
+    Ok(frames)
+}
+
+/// The frame of a function with a name, by its line row.
+fn function_frame<'a>(
+    alloc: Global,
+    parts: &ContextParts<'a, '_>,
+    extended: &ExtendedModuleInfo<'_>,
+    function: Option<String>,
+    row: Option<LineRow>,
+) -> std::result::Result<Frame<'a>, AllocError>
+    ensures { IfOk result (λ f. f ≡ frame_of_function parts.now (extended_seen extended.now).program (option_map string_bytes function) row) }
+{
+    match row {
+        None => Ok(Frame {
+            function,
+            file: None,
+            line: None,
+        }),
+        Some(row) => {
+            let file = file_of(alloc, parts, extended, Some(row.file_index))?;
+            Ok(Frame {
+                function,
+                file,
+                line: Some(row.line_start),
+            })
+        }
+    }
+}
+
+/// The frames at a place in a chosen function, by its module's line program and inlinees: the rows of the function's
+/// subsection and a procedure's sites are read in this order, and the first fault is returned.
+#[tactic(auto, using(pdb_resolving::proofs::Lifting::given_fails_on, pdb_resolving::proofs::Lifting::parsed_fails_on, pdb_resolving::proofs::Lifting::fails_on), unfolding(crate::specs::Frames::frames_in_data))]
+fn frames_by<'a, 'm, P: ModuleProvider>(
+    alloc: Global,
+    parts: &ContextParts<'a, '_>,
+    namer: &mut Namer<'_, '_, P>,
+    module_index: u16,
+    known: &BasicModuleInfo<'m, P::Info>,
+    extended: &ExtendedModuleInfo<'m>,
+    chosen: Chosen<'_, '_>,
+    place: PdbInternalSectionOffset,
+) -> Result<Vec<Frame<'a>>>
+    requires extended { extended_of (known.now).stream ≡ Ok (extended_seen extended.now) }
+    ensures same { namer.new ≡ namer.old }
+    ensures frames { Answers (λ v. v.items) result (frames_of_data parts.now (env_of P.provided namer.old module_index) known.now (chosen_seen chosen.entry) place) }
+{
+    let (row, calls) = row_and_calls_in(alloc, known, extended, chosen, place)?;
+    let mut frames = call_frames(
+        alloc,
+        parts,
+        namer,
+        module_index,
+        extended,
+        calls.as_slice(),
+    )?;
+    let function = name_of(alloc, parts, namer, module_index, chosen)?;
+    let frame = function_frame(alloc, parts, extended, function, row)?;
+    frames.push(frame)?;
+    Ok(frames)
+}
+
+/// The frames at a place in a chosen function, by its module's data: line program and inlinees are those that are kept, or
+/// else are read first, and their first fault is returned.
+#[tactic(auto, using(pdb_resolving::proofs::Lifting::given_fails_on), unfolding(crate::specs::Frames::frames_in_data))]
+fn frames_in_data<'a, P: ModuleProvider>(
+    alloc: Global,
+    parts: &ContextParts<'a, '_>,
+    namer: &mut Namer<'_, '_, P>,
+    module_index: u16,
+    known: &BasicModuleInfo<'_, P::Info>,
+    chosen: Chosen<'_, '_>,
+    place: PdbInternalSectionOffset,
+) -> Result<Vec<Frame<'a>>>
+    ensures same { namer.new ≡ namer.old }
+    ensures frames { Answers (λ v. v.items) result (frames_of_data parts.now (env_of P.provided namer.old module_index) known.now (chosen_seen chosen.entry) place) }
+{
+    let Some(extended) = known.extended() else {
+        let extended = read_extended(alloc, known.module_info)?;
+        return frames_by(
+            alloc,
+            parts,
+            namer,
+            module_index,
+            known,
+            &extended,
+            chosen,
+            place,
+        );
+    };
+    frames_by(
+        alloc,
+        parts,
+        namer,
+        module_index,
+        known,
+        extended,
+        chosen,
+        place,
+    )
+}
+
+/// The same where the module may have no data: then the function alone, without file and line.
+pub fn frames_in<'a, P: ModuleProvider>(
+    alloc: Global,
+    parts: &ContextParts<'a, '_>,
+    namer: &mut Namer<'_, '_, P>,
+    module_index: u16,
+    known: &Option<BasicModuleInfo<'_, P::Info>>,
+    chosen: Chosen<'_, '_>,
+    place: PdbInternalSectionOffset,
+) -> Result<Vec<Frame<'a>>>
+    ensures same { namer.new ≡ namer.old }
+    ensures frames { Answers (λ v. v.items) result (frames_of_module parts.now (env_of P.provided namer.old module_index) known.now (chosen_seen chosen.entry) place) }
+{
+    match known {
+        None => {
+            let function = name_of(alloc, parts, namer, module_index, chosen)?;
+            let mut frames = Vec::new(alloc);
+            frames.push(Frame {
+                function,
+                file: None,
+                line: None,
+            })?;
+            Ok(frames)
+        }
+        Some(known) => { frames_in_data(alloc, parts, namer, module_index, known, chosen, place) }
+    }
+}

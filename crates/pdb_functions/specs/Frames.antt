@@ -1,0 +1,14 @@
+-- The frames at an address in a function.
+use Rattle.std.specs.Prelude.{ℕ, List, Option}
+
+-- a function's name, and the file and line of a place in it; each may be missing
+pub record Frame : Type 0 where
+  pub function : Option (List ℕ)
+  pub file : Option (List ℕ)
+  pub line : Option ℕ
+
+-- where a function begins and ends, and its frames at a place, innermost first
+pub record FunctionFrames : Type 0 where
+  pub start_rva : ℕ
+  pub end_rva : Option ℕ
+  pub frames : List Frame
