@@ -2,4 +2,5 @@ pub mod Chains
 pub mod Failing
 pub mod Others
 pub mod Scopes
+pub mod Steps
 pub mod Visits

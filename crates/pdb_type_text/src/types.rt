@@ -119,7 +119,6 @@ impl<'a, 's, P: ModuleProvider> TypeFormatter<'a, 's, P> {
 
     /// Appends an array of arrays: the innermost element, and the brackets.
     #[cycle(printing)]
-    #[tactic(auto, using(crate::proofs::Failing::fails_stops, crate::proofs::Failing::sure_stops))]
     fn emit_array(
         &mut self,
         asker: Asker,
@@ -489,7 +488,6 @@ impl<'a, 's, P: ModuleProvider> TypeFormatter<'a, 's, P> {
 
     /// The same once its index is on the path.
     #[cycle(printing)]
-    #[tactic(auto, using(crate::proofs::Failing::fails_stops))]
     fn emit_modified_inside(
         &mut self,
         asker: Asker,
@@ -568,7 +566,6 @@ impl<'a, 's, P: ModuleProvider> TypeFormatter<'a, 's, P> {
 
     /// The same once its index is on the path.
     #[cycle(printing)]
-    #[tactic(auto, using(crate::proofs::Failing::fails_stops))]
     fn emit_pointee_inside(
         &mut self,
         asker: Asker,
@@ -637,7 +634,6 @@ impl<'a, 's, P: ModuleProvider> TypeFormatter<'a, 's, P> {
 
     /// The same once its index is on the path.
     #[cycle(printing)]
-    #[tactic(auto, using(crate::proofs::Failing::fails_stops))]
     fn emit_pointee_modified_inside(
         &mut self,
         asker: Asker,
