@@ -1,14 +1,8 @@
-//! Tests of formatters and contexts, by their public calls.
+//! Tests of formatters and contexts by their public calls, where recorded cases can't show it.
 #![tactic(auto)]
 
 #[cfg(test)]
-mod addresses;
-#[cfg(test)]
-mod answers;
-#[cfg(test)]
-mod bounds;
-#[cfg(test)]
-mod calls;
+mod contexts;
 #[cfg(test)]
 mod errors;
 #[cfg(test)]
@@ -16,14 +10,6 @@ mod files;
 #[cfg(test)]
 mod flags;
 #[cfg(test)]
-mod functions;
-#[cfg(test)]
-mod ids;
-#[cfg(test)]
-mod nested_sites;
+mod formatters;
 #[cfg(test)]
 mod seen;
-#[cfg(test)]
-mod sizes;
-#[cfg(test)]
-mod types;

@@ -43,8 +43,6 @@ pub struct ProgramDatabase {
     pub symbol_records: Vec<u8>,
     /// The names of the names table, each with the zero byte that ends it.
     pub names: Vec<u8>,
-    /// Whether the names table is found by its name.
-    pub has_names: bool,
     /// The streams behind these, and `None` for an absent one.
     pub further_streams: Vec<Option<Vec<u8>>>,
 }
@@ -66,11 +64,8 @@ impl ProgramDatabase {
         })
     }
 
-    /// The number of the names table's stream, or 0xffff.
+    /// The number of the names table's stream.
     fn names_stream(&self) -> u32 {
-        if !self.has_names {
-            return 0xffff;
-        }
         let mut stream = u32::from(FIRST_MODULE_STREAM);
         for module in &self.modules {
             stream = stream.saturating_add(u32::from(module.has_stream));

@@ -24,23 +24,14 @@ pub struct Module {
     pub name: Vec<u8>,
     /// The name of its object file.
     pub object_name: Vec<u8>,
-    /// What its stream begins with.
-    pub symbols: ModuleSymbols,
+    /// The records of its symbols, behind the usual signature.
+    pub symbols: Vec<u8>,
     /// The bytes of its C11 line data.
     pub c11: Vec<u8>,
     /// The bytes of its C13 line data.
     pub c13: Vec<u8>,
     /// Without one its entry names no stream, and keeps the sizes.
     pub has_stream: bool,
-}
-
-/// What a module's stream begins with.
-#[derive(Drop)]
-pub enum ModuleSymbols {
-    /// The usual signature and these records.
-    Records(Vec<u8>),
-    /// These very bytes.
-    Bytes(Vec<u8>),
 }
 
 /// The debug information's stream, but for the modules.
@@ -59,31 +50,19 @@ pub struct DebugInformation {
 impl Module {
     /// Appends what the module's stream holds.
     pub(crate) fn push_stream(&self, bytes: &mut Vec<u8>) -> Result<()> {
-        match &self.symbols {
-            ModuleSymbols::Records(records) => {
-                push_u32(bytes, &[SYMBOLS_SIGNATURE])?;
-                bytes.extend_from_slice(records.as_slice())?;
-            }
-            ModuleSymbols::Bytes(symbols) => bytes.extend_from_slice(symbols.as_slice())?,
-        }
+        push_u32(bytes, &[SYMBOLS_SIGNATURE])?;
+        bytes.extend_from_slice(self.symbols.as_slice())?;
         bytes.extend_from_slice(self.c11.as_slice())?;
         bytes.extend_from_slice(self.c13.as_slice())?;
         Ok(())
-    }
-
-    /// How many bytes of symbols there are.
-    fn symbols_size(&self) -> usize {
-        match &self.symbols {
-            ModuleSymbols::Records(records) => records.len().saturating_add(4),
-            ModuleSymbols::Bytes(symbols) => symbols.len(),
-        }
     }
 
     /// Appends the module's entry, with the number of its stream.
     fn push_entry(&self, bytes: &mut Vec<u8>, stream: u16) -> Result<()> {
         let stream = if self.has_stream { stream } else { NO_STREAM };
         push_u32(bytes, &[0, 0, 0, 0, 0, 0, 0, 0, u32::from(stream) << 16])?;
-        for size in [self.symbols_size(), self.c11.len(), self.c13.len()] {
+        let symbols_size = self.symbols.len().saturating_add(4);
+        for size in [symbols_size, self.c11.len(), self.c13.len()] {
             push_u32(bytes, &[u32::try_from(size)?])?;
         }
         self.push_names(bytes)

@@ -99,39 +99,28 @@ const IDS: &[Record] = &[
     },
 ];
 
-/// A pointer to itself, arguments of its type, and a function of these that returns nothing: 0x1000 to 0x1002.
-const SELF_POINTER: &[Record] = &[
-    Record::Pointer {
-        underlying: 0x1000,
-        attributes: 0x1_000c,
-    },
-    Record::ArgumentList(&[0x1000]),
-    Record::Procedure {
-        return_type: 3,
-        attributes: 0,
-        arguments: 0x1001,
-    },
-];
-
 /// File F0 with these types and ids.
-pub fn file_of_items(alloc: Global, types: &[Record], ids: &[Record]) -> Result<ProgramDatabase> {
+fn file_of_items(alloc: Global, types: &[Record], ids: &[Record]) -> Result<ProgramDatabase> {
     let mut database = file_with(alloc, Change::Nothing)?;
     database.types.extend(types)?;
     database.ids.extend(ids)?;
     Ok(database)
 }
 
-/// File F0 where `f` has one argument, which is a pointer to itself.
-pub fn self_pointer(alloc: Global) -> Result<ProgramDatabase> {
-    let mut database = file_with(alloc, Change::TypedProcedure(0x1002))?;
-    database.types.extend(SELF_POINTER)?;
-    Ok(database)
-}
-
 /// Three modules with file F's section. The first two, `a.obj` with `f` and `b.obj` with a procedure `k` at 0x90 of length
 /// 0x20, have an inline site of the same inlinee, 0x80000000, which each imports from the third, `c.obj`: the functions `g`
 /// and `h`.
-pub fn cross_imports(alloc: Global) -> Result<ProgramDatabase> {
+pub fn cross_imports(alloc: Global) -> Result<Vec<u8>> {
+    imports(alloc, true)?.bytes(alloc)
+}
+
+/// The same where the third has no stream, and so no exports.
+pub fn imports_of_no_stream(alloc: Global) -> Result<Vec<u8>> {
+    imports(alloc, false)?.bytes(alloc)
+}
+
+/// The same where the third has a stream or has none.
+fn imports(alloc: Global, has_stream: bool) -> Result<ProgramDatabase> {
     let mut database = file_of_items(alloc, TYPES, IDS)?;
     database.names.clear();
     database.names.extend_from_slice(NAMES)?;
@@ -143,6 +132,7 @@ pub fn cross_imports(alloc: Global) -> Result<ProgramDatabase> {
     database.modules.push(second)?;
     let mut third = module_of_symbols(alloc, b"c.obj", Vec::new(alloc))?;
     push_u32(&mut third.c13, &EXPORTS)?;
+    third.has_stream = has_stream;
     database.modules.push(third)?;
     Ok(database)
 }

@@ -18,3 +18,23 @@ pub(crate) const LINE_DATA_OF_F: [u32; 16] = [
     8,
     0x8000_0007,
 ];
+
+/// The same, where the block of lines says that it has eight bytes in place of 28.
+pub(crate) const SHORT_LINE_BLOCK: [u32; 16] = [
+    0xf4,
+    8,
+    1,
+    0,
+    0xf2,
+    40,
+    0x10,
+    1,
+    0x20,
+    0,
+    2,
+    8,
+    0,
+    0x8000_0005,
+    8,
+    0x8000_0007,
+];

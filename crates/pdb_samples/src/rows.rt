@@ -1,9 +1,9 @@
 use crate::bytes::{push_text, push_u16, push_u32};
 use crate::container::PageOrder;
 use crate::database::ProgramDatabase;
-use crate::debug_information::{DebugInformation, Module, ModuleSymbols, NO_STREAM};
+use crate::debug_information::{DebugInformation, Module, NO_STREAM};
 use crate::error::{Result, SampleError};
-use crate::line_data::LINE_DATA_OF_F;
+use crate::line_data::{LINE_DATA_OF_F, SHORT_LINE_BLOCK};
 use crate::records::ItemTable;
 use crate::symbols::{FIRST_PLACE, Procedure, begin_record, end_record, push_end, push_record};
 use std::alloc::Global;
@@ -53,6 +53,8 @@ pub enum Change {
     Nothing,
     /// Line data, as in file F.
     LineData,
+    /// The same, where the block of lines says that it has eight bytes, fewer than its own header.
+    ShortLineBlock,
     /// Four bytes of the older line data.
     OlderLines,
     /// Another name of its procedure.
@@ -71,9 +73,7 @@ pub enum Change {
     PublicSymbol(u32, &'static [u8]),
     /// A second contribution of its module, at 0x80 of size 0x10.
     SecondContribution,
-    /// A second module of four bytes of symbols that can't be read.
-    DamagedModule,
-    /// The same module without a stream.
+    /// A second module without a stream.
     MissingModule,
     /// Its optional header names a further stream at this place. The stream is empty.
     FurtherStream(usize),
@@ -94,6 +94,11 @@ pub fn file_f(alloc: Global) -> Result<ProgramDatabase> {
     file_with(alloc, Change::LineData)
 }
 
+/// As file F, where the block of lines says that it has eight bytes, fewer than its own header.
+pub fn short_line_block(alloc: Global) -> Result<Vec<u8>> {
+    file_with(alloc, Change::ShortLineBlock)?.bytes(alloc)
+}
+
 /// File F0 but for one thing.
 pub fn file_with(alloc: Global, change: Change) -> Result<ProgramDatabase> {
     let mut records = Vec::new(alloc);
@@ -108,7 +113,7 @@ pub fn module_of_symbols(alloc: Global, name: &[u8], records: Vec<u8>) -> Result
     let mut module = Module {
         name: Vec::new(alloc),
         object_name: Vec::new(alloc),
-        symbols: ModuleSymbols::Records(records),
+        symbols: records,
         c11: Vec::new(alloc),
         c13: Vec::new(alloc),
         has_stream: true,
@@ -135,7 +140,6 @@ fn empty(alloc: Global) -> ProgramDatabase {
         modules: Vec::new(alloc),
         symbol_records: Vec::new(alloc),
         names: Vec::new(alloc),
-        has_names: true,
         further_streams: Vec::new(alloc),
     }
 }
@@ -229,15 +233,15 @@ impl Change {
     /// Changes file F0, but for its symbols.
     fn apply(self, alloc: Global, database: &mut ProgramDatabase) -> Result<()> {
         match self {
-            Change::LineData | Change::OlderLines | Change::PermutedPages => {
-                self.change_module(database)
-            }
+            Change::LineData
+            | Change::ShortLineBlock
+            | Change::OlderLines
+            | Change::PermutedPages => self.change_module(database),
             Change::PublicSymbol(offset, name) => {
                 push_public(&mut database.symbol_records, offset, name)
             }
             Change::SecondContribution => push_u32(&mut database.debug.contributions, &SECOND),
-            Change::DamagedModule => push_second_module(alloc, &mut database.modules, true),
-            Change::MissingModule => push_second_module(alloc, &mut database.modules, false),
+            Change::MissingModule => push_second_module(alloc, &mut database.modules),
             Change::FurtherStream(place) => {
                 set_number(&mut database.debug, place, FURTHER_STREAM)?;
                 database.further_streams.push(Some(Vec::new(alloc)))?;
@@ -254,6 +258,7 @@ impl Change {
         };
         match self {
             Change::LineData => push_u32(&mut module.c13, &LINE_DATA_OF_F),
+            Change::ShortLineBlock => push_u32(&mut module.c13, &SHORT_LINE_BLOCK),
             Change::OlderLines => push_u32(&mut module.c11, &[0]),
             _ => {
                 module.object_name.resize(400, b'x')?;
@@ -283,13 +288,11 @@ fn push_zeros(alloc: Global, streams: &mut Vec<Option<Vec<u8>>>) -> Result<()> {
     Ok(())
 }
 
-/// Adds a module of four bytes of symbols that can't be read, or, without a stream, are not there.
-fn push_second_module(alloc: Global, modules: &mut Vec<Module>, has_stream: bool) -> Result<()> {
-    modules.push(module_of_symbols(alloc, b"b.obj", Vec::new(alloc))?)?;
-    if let Some(module) = modules.last_mut() {
-        module.symbols = ModuleSymbols::Bytes(vec![in alloc; 0xffu8; 4]?);
-        module.has_stream = has_stream;
-    }
+/// Adds a module without a stream.
+fn push_second_module(alloc: Global, modules: &mut Vec<Module>) -> Result<()> {
+    let mut module = module_of_symbols(alloc, b"b.obj", Vec::new(alloc))?;
+    module.has_stream = false;
+    modules.push(module)?;
     Ok(())
 }
 

@@ -22,7 +22,7 @@
 //! differs. A file or a DATABASE that can't be read so is an error.
 
 mod case;
-mod database;
+pub mod database;
 mod difference;
 mod text;
 

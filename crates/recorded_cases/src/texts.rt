@@ -1,0 +1,70 @@
+//! Cases of texts: what formatters of types print, and what contexts answer about addresses.
+//!
+//! A line of a file is a case if it holds ` => `. Before that stand five words: what is asked; a DATABASE, as in cases of
+//! reports; the number of a module, counted from 0; the flags; an index or an RVA in hexadecimal. Behind it stands the
+//! answer that must come, or `fault: ` and the fault. What is asked:
+//!
+//! - `function`: the signature of a function `f` whose type has this index
+//! - `id`: the text of the id of this index
+//! - `size`: the size in bytes of the type of this index
+//! - `function_at`: the function at this RVA
+//! - `frames_at`: the frames at this RVA
+//! - `run_from`: the function at this offset of section 1, over how many bytes up to 256 it stays the same, and how many
+//!   places were looked up then
+//! - `functions`: how many entries the public list has, and all functions
+//!
+//! A case that is answered otherwise is printed.
+
+mod contexts;
+mod formatters;
+mod question;
+
+use crate::reports::database::database_bytes;
+use anyhow::Result;
+use pdb_addr2line::pdb::PDB;
+use pdb_addr2line::{ContextPdbData, Error};
+use question::{Question, question_of};
+use std::alloc::{AllocError, Global};
+use std::fs;
+use std::rt::Files;
+
+/// Goes through the cases of a file, and returns how many there are.
+pub fn run_file(rt: &(impl Files + Print + AllocGlobal), file: &str) -> Result<u64> {
+    let text = fs::read_to_string(rt, file)?;
+    let mut count = 0u64;
+    for line in text.lines() {
+        if let Some((question, wanted)) = line.split_once(" => ") {
+            run_case(rt, question, wanted)?;
+            count = count.saturating_add(1);
+        }
+    }
+    Ok(count)
+}
+
+/// Prints a case that is answered otherwise.
+fn run_case(rt: &(impl Files + Print + AllocGlobal), words: &str, wanted: &str) -> Result<()> {
+    let question = question_of(words);
+    let bytes = database_bytes(rt, question.file)?;
+    let answer = told(rt.alloc(), answer(rt.alloc(), bytes, &question))?;
+    if answer.as_str() == wanted {
+        return Ok(());
+    }
+    Ok(println!(rt; "{words}\n  gives {answer}\n  and not {wanted}")?)
+}
+
+/// An answer, or the fault behind `fault: `.
+fn told(alloc: Global, answer: Result<String, Error>) -> Result<String, AllocError> {
+    match answer {
+        Ok(text) => Ok(text),
+        Err(fault) => format!(in alloc; "fault: {fault}"),
+    }
+}
+
+/// The answer to a question of a file's bytes.
+fn answer(alloc: Global, bytes: Vec<u8>, question: &Question<'_>) -> Result<String, Error> {
+    let data = ContextPdbData::try_from_pdb(alloc, PDB::open(alloc, bytes)?)?;
+    if question.is_of_types() {
+        return formatters::ask(alloc, &data, question);
+    }
+    contexts::ask(alloc, &data, question)
+}

@@ -1,0 +1,42 @@
+//! Answers of formatters of types.
+
+use crate::texts::question::Question;
+use pdb_addr2line::pdb::{IdIndex, TypeIndex};
+use pdb_addr2line::{ContextPdbData, Error, ModuleProvider, TypeFormatter};
+use std::alloc::Global;
+
+/// The answer of a formatter with the question's flags.
+pub fn ask(
+    alloc: Global,
+    data: &ContextPdbData<'static, 'static, Vec<u8>>,
+    question: &Question<'_>,
+) -> Result<String, Error> {
+    let flags = question.formatter_flags();
+    let formatter = data.make_type_formatter_with_flags(alloc, flags)?;
+    answer_by(alloc, formatter, question)
+}
+
+/// The answer of a formatter.
+fn answer_by<P: ModuleProvider>(
+    alloc: Global,
+    mut formatter: TypeFormatter<'_, '_, P>,
+    question: &Question<'_>,
+) -> Result<String, Error> {
+    let (module, index) = (question.module, question.index);
+    match question.asked {
+        "function" => formatter.format_function(alloc, "f", module, TypeIndex(index)),
+        "id" => formatter.format_id(alloc, module, IdIndex(index)),
+        _ => size_text(
+            alloc,
+            formatter.get_type_size(alloc, module, TypeIndex(index)),
+        ),
+    }
+}
+
+/// A size as a text.
+fn size_text(alloc: Global, size: Result<u64, Error>) -> Result<String, Error> {
+    match size {
+        Ok(size) => Ok(format!(in alloc; "{size}")?),
+        Err(fault) => Err(fault),
+    }
+}
