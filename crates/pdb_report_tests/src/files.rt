@@ -1,9 +1,7 @@
 //! The files that the tests report on, and reports on them.
 
 use pdb_report::{RunFault, Watched, finish_run, run_frames};
-use pdb_samples::{
-    Change, ProgramDatabase, Result, SampleError, cut_dbi, file_f, file_with, push_u32,
-};
+use pdb_samples::{Change, ProgramDatabase, Result, SampleError, file_f, file_with, push_u32};
 use std::alloc::Global;
 use std::io::Read;
 use std::test::Fail;
@@ -11,10 +9,6 @@ use std::test::Fail;
 /// A file.
 #[derive(Clone, Copy)]
 pub enum File {
-    /// Four bytes that another format begins with.
-    Elf,
-    /// File F0 where its debug information reaches past its end.
-    CutDbi,
     /// File F whose code was moved: two OMAPs lead from 0x2000 to the code at 0x1010 and back, and nowhere from 0x2008 on.
     MovedCode,
     /// File F0 but for one thing.
@@ -39,8 +33,6 @@ impl File {
     /// The file's bytes.
     pub fn made(self, alloc: Global) -> Result<Vec<u8>> {
         match self {
-            File::Elf => Ok(Vec::from_slice(alloc, b"\x7fELF")?),
-            File::CutDbi => cut_dbi(alloc),
             File::MovedCode => moved_code(alloc)?.bytes(alloc),
             File::With(change) => file_with(alloc, change)?.bytes(alloc),
         }
@@ -96,15 +88,6 @@ pub fn run_over<R: Read + Drop>(alloc: Global, bytes: Vec<u8>, input: R) -> Run 
     let mut writer = Watched::new(&mut report);
     let outcome = run_frames(alloc, bytes, &mut reader, &mut writer);
     Run { report, outcome }
-}
-
-/// A run over a file; the second one where the first finds no memory.
-pub fn run_on(alloc: Global, file: File, input: &[u8]) -> Result<Run> {
-    let run = run_over(alloc, file.bytes(alloc)?, input);
-    match run.outcome {
-        Err(RunFault::OutOfMemory) => Ok(run_over(alloc, file.bytes(alloc)?, input)),
-        _ => Ok(run),
-    }
 }
 
 /// An empty list with room for the bytes of some lines.

@@ -9,8 +9,6 @@ pub mod definitions;
 mod files;
 pub mod laws;
 #[cfg(test)]
-mod rows;
-#[cfg(test)]
 mod sizes;
 #[cfg(test)]
 mod streams;

@@ -1,6 +1,6 @@
 //! Reports on ranges of addresses, and what was looked up for them.
 
-use crate::files::{F, File, line_buffer, told};
+use crate::files::{F, File, line_buffer};
 use pdb_report::{RunFault, Tally, Watched, run_sizes};
 use pdb_samples::{Change, PieceWriter};
 use std::alloc::Global;
@@ -65,95 +65,6 @@ fn is_counted(alloc: Global, row: &Row) -> Result<bool, Fail> {
 fn sizes(rt: HostRuntime) -> Result<(), Fail> {
     for (number, row) in ROWS.iter().enumerate() {
         assert!(rt; is_counted(rt.alloc(), row)?, "row {number}");
-    }
-    Ok(())
-}
-
-/// Addresses at which the rows' ranges are parted: in `f`, at the start of `g`, in it, at its end, at the end of `f`, behind
-/// both, in the moved code and at its end.
-const MIDDLES: &[u32] = &[
-    0x1014, 0x1018, 0x101c, 0x1020, 0x1030, 0x1080, 0x2004, 0x2008,
-];
-
-/// How many addresses are counted in those lines of a report that begin so: `none`, a function's start, or any where it is
-/// empty.
-fn count_of(report: &[u8], begin: &str) -> Result<u64, Fail> {
-    let mut count = 0u64;
-    for line in str::from_utf8(report)?.lines() {
-        if let (true, Some(number)) = (line.starts_with(begin), line.split(' ').nth(1)) {
-            count = count.saturating_add(number.parse::<u64>()?);
-        }
-    }
-    Ok(count)
-}
-
-/// The report on a range, unless it counts more or fewer addresses than the range has.
-fn report_on(alloc: Global, file: File, range: (u32, u32)) -> Result<Vec<u8>, Fail> {
-    let (report, outcome) = run_on(alloc, file, range)?;
-    outcome?;
-    if count_of(&report, "")? != u64::from(range.1.saturating_sub(range.0)) {
-        return Err(Fail::from("the counts aren't the range's length"));
-    }
-    Ok(report)
-}
-
-/// Whether the reports on two parts of a range count together what the one on the whole does, line by line.
-fn are_parts(whole: &[u8], before: &[u8], behind: &[u8]) -> Result<bool, Fail> {
-    for line in str::from_utf8(whole)?.lines() {
-        let begin = line.split(' ').next().unwrap_or("");
-        let together = count_of(before, begin)?.saturating_add(count_of(behind, begin)?);
-        if count_of(whole, begin)? != together {
-            return Ok(false);
-        }
-    }
-    Ok(true)
-}
-
-/// Whether the counts of a range add up: to its length, and from those of the parts before and from each address on that lies
-/// in it.
-fn adds_up(alloc: Global, file: File, range: (u32, u32)) -> Result<bool, Fail> {
-    let whole = report_on(alloc, file, range)?;
-    for middle in MIDDLES {
-        if range.0 <= *middle && *middle <= range.1 {
-            let before = report_on(alloc, file, (range.0, *middle))?;
-            let behind = report_on(alloc, file, (*middle, range.1))?;
-            if !are_parts(&whole, &before, &behind)? {
-                return Ok(false);
-            }
-        }
-    }
-    Ok(true)
-}
-
-#[test]
-fn counts_add_up(rt: HostRuntime) -> Result<(), Fail> {
-    for (number, row) in ROWS.iter().enumerate() {
-        assert!(rt; adds_up(rt.alloc(), row.0, row.1)?, "row {number}");
-    }
-    Ok(())
-}
-
-/// Whether a run over a range whose start lies above its end writes nothing, and this is told of it.
-fn is_refused(alloc: Global, file: File, fault: &str) -> Result<bool, Fail> {
-    let (report, outcome) = run_on(alloc, file, (0x1030, 0x1018))?;
-    let outcome = match outcome {
-        Ok(_) => Ok(()),
-        Err(fault) => Err(fault),
-    };
-    let (status, errors) = told(alloc, outcome)?;
-    Ok(report.is_empty() && status == 1 && errors.as_slice() == fault.as_bytes())
-}
-
-/// Files, and what is told of such a run over them: what keeps a file from being loaded comes first.
-const REFUSED: &[(File, &str)] = &[
-    (F, "fault: ReversedRange\n"),
-    (File::Elf, "fault: UnrecognizedFileFormat\n"),
-];
-
-#[test]
-fn reversed_ranges(rt: HostRuntime) -> Result<(), Fail> {
-    for (file, fault) in REFUSED {
-        assert!(rt; is_refused(rt.alloc(), *file, *fault)?, "{fault}");
     }
     Ok(())
 }
