@@ -51,11 +51,19 @@ fn function_by<P: ModuleProvider>(
 /// The first function of a context, and once the list of all is gone that at 0x1014.
 fn functions_by<P: ModuleProvider>(
     alloc: Global,
+    context: &mut Context<'_, '_, P>,
+) -> Result<(String, String), Error> {
+    let first = first_function(alloc, context)?;
+    let second = function_by(alloc, context)?;
+    Ok((first, second))
+}
+
+/// The same of a context that no one else needs.
+fn functions_of<P: ModuleProvider>(
+    alloc: Global,
     mut context: Context<'_, '_, P>,
-) -> (Result<String, Error>, Result<String, Error>) {
-    let first = first_function(alloc, &mut context);
-    let second = function_by(alloc, &mut context);
-    (first, second)
+) -> Result<(String, String), Error> {
+    functions_by(alloc, &mut context)
 }
 
 /// What is told of `f`.
@@ -65,9 +73,9 @@ const TOLD: &str = r#"Function { start_rva: 4112, end_rva: Some(4144), name: Som
 fn functions_and_then_one(rt: HostRuntime) -> Result<(), Fail> {
     let data = data_of(rt.alloc(), cross_imports(rt.alloc())?)?;
     let context = context_of(rt.alloc(), &data)?;
-    let (first, second) = functions_by(rt.alloc(), context);
-    assert_eq!(rt; first?.as_str(), TOLD);
-    assert_eq!(rt; second?.as_str(), TOLD);
+    let (first, second) = functions_of(rt.alloc(), context)?;
+    assert_eq!(rt; first.as_str(), TOLD);
+    assert_eq!(rt; second.as_str(), TOLD);
     Ok(())
 }
 

@@ -1,6 +1,6 @@
 -- The steps of opening a file: where one fails, what is kept at the end, and that a context over it answers as the file does.
 use Rattle.std.proofs.Common.{◌≡◌, ℕ, ◌⊎◌, inl, inr, true, false, List, Result, Ok, Err, refl, sym, ap, ◌∙◌, arith}
-use Rattle.std.specs.Prelude.{Option, None, Some}
+use Rattle.std.specs.Prelude.{Option, None, Some, IfErr}
 use mathlib.Core.Path.{fun_ext}
 use Rattle.pdb_container.specs.declared.error.Error.{Error}
 use Rattle.pdb_container.specs.declared.error.Error.TheVariants as errors
@@ -215,6 +215,10 @@ refuses faults.OutOfMemory s h = tt
 refuses (faults.Pdb contexts.OutOfMemory) s h = h
 refuses (faults.Pdb (contexts.PdbError errors.OutOfMemory)) s h = h
 refuses e s h = ap fault_in h
+
+pub all_refused : {A : Type 0} (r : Result A LoadFault) (s : Streams) → IfErr r (λ e. FailsLoading e (loaded (shared s))) → IfErr r (λ e. Refuses e (load_fault s))
+all_refused (Ok x) s h = tt
+all_refused (Err e) s h = refuses e s h
 
 -- how a run ends where the file is refused
 pub run_refused : (e : LoadFault) (fault : Option LoadingFault) (quiet : Type 0) → Refuses e fault → quiet → OnLoad (run_fault_of e) (λ cause. IsFileFault cause fault × quiet)

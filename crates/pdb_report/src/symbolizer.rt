@@ -43,6 +43,7 @@ impl Model for Symbolizer {
 fn load(alloc: Global, mut pdb: Database) -> Result<Symbolizer, LoadFault>
     requires { (streams pdb.items).open_fault ≡ None }
     ensures ok { IfOk result (λ s. s ≡ pdb.entry.items) }
+    ensures loaded { OnOk result (load_fault (streams pdb.entry.items) ≡ None) }
     ensures err { IfErr result (λ e. FailsLoading e (loaded (shared (streams pdb.entry.items)))) }
 {
     let debug_information = pdb.debug_information(alloc)?;
@@ -63,7 +64,6 @@ impl Symbolizer {
     /// The first fault, in the order in which a file is read: the container; stream 3 and its header; the stream of symbol
     /// records, types and ids with their headers; the address tables; `AddressTableDecreases` where the sources of an OMAP
     /// decrease; the module list; the symbol records to their end; the section contributions. `OutOfMemory`.
-    #[tactic(auto, using(crate::proofs::OpeningSteps::container_fails, crate::proofs::OpeningSteps::refuses, crate::proofs::OpeningSteps::kept_loads))]
     pub fn open(alloc: Global, bytes: Vec<u8>) -> Result<Symbolizer, LoadFault>
         ensures ok { IfOk result (λ s. s ≡ bytes.items) }
         ensures loaded { OnOk result (load_fault (streams bytes.items) ≡ None) }
@@ -74,7 +74,6 @@ impl Symbolizer {
     }
 
     /// The ways between addresses of the image and places in sections; the sources of its OMAPs don't decrease.
-    #[tactic(auto, using(crate::proofs::OpeningSteps::map_kept, crate::proofs::OpeningSteps::map_ordered))]
     pub fn address_map(&self) -> &AddressMap<'static>
         ensures map { address_map_of (streams self.now) ≡ Some result.now }
         ensures ordered { IsOrdered result.now }

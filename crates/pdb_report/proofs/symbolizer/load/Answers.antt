@@ -5,7 +5,7 @@ use Rattle.pdb_addr2line.specs.Loading.{Tables}
 use Rattle.pdb_symbols_modules.specs.DatabaseCalls.{debug_information}
 use Rattle.pdb_symbols_modules.specs.Shared.{shared}
 use Rattle.pdb_symbols_modules.specs.Streams.{streams}
-use Rattle.pdb_report.proofs.OpeningSteps.{dbi_fails, tables_fail, order_fails, list_fails, parts_fail, kept_ordered, is_kept}
+use Rattle.pdb_report.proofs.OpeningSteps.{dbi_fails, tables_fail, order_fails, list_fails, parts_fail, kept_ordered, is_kept, kept_loads}
 use Rattle.pdb_report.proofs.symbolizer.load.Goals as goal
 
 pub returns-in_err-debug_information-clause-err : goal.returns-in_err-debug_information-clause-err
@@ -83,3 +83,28 @@ try_from_tables-requires c =
 
 pub returns-clause-ok : goal.returns-clause-ok
 returns-clause-ok c = c.try_from_tables.ensures.loads.same ∙ c.read_tables.ensures.same ∙ c.debug_information.ensures.same
+
+pub returns-in_err-debug_information-clause-loaded : goal.returns-in_err-debug_information-clause-loaded
+returns-in_err-debug_information-clause-loaded c =
+    let p = err_from_is_err_and c.from_residual.result c.from_residual.ensures.1 in rw p.1 tt
+
+pub returns-in_err-tables-clause-loaded : goal.returns-in_err-tables-clause-loaded
+returns-in_err-tables-clause-loaded c =
+    let p = err_from_is_err_and c.from_residual-in_err-tables.result c.from_residual-in_err-tables.ensures.1 in rw p.1 tt
+
+pub returns-in_err-held-clause-loaded : goal.returns-in_err-held-clause-loaded
+returns-in_err-held-clause-loaded c =
+    let p = err_from_is_err_and c.from_residual-in_err-held.result c.from_residual-in_err-held.ensures.1 in rw p.1 tt
+
+pub returns-in_err-check_context-clause-loaded : goal.returns-in_err-check_context-clause-loaded
+returns-in_err-check_context-clause-loaded c =
+    let p = err_from_is_err_and c.from_residual-in_err-check_context.result c.from_residual-in_err-check_context.ensures.1 in rw p.1 tt
+
+pub returns-clause-loaded : goal.returns-clause-loaded
+returns-clause-loaded c =
+    let read = rw c.debug_information.ensures.same at c.in_ok-tables.ensures.exact in
+    let same = c.read_tables.ensures.same ∙ c.debug_information.ensures.same in
+    let own = rw same at c.in_ok-held.ensures.own in
+    let map_is = ap (λ (t : Tables). t.map) c.tables.view_is in
+    kept_loads c.args.pdb.items c.in_ok-held.held (is_kept c.args.pdb.items c.in_ok-debug_information.debug_information c.in_ok-tables.tables c.in_ok-held.held tt c.requires c.in_ok-debug_information.ensures.exact read
+    (sym (c.if-not-is_ordered.ensures.value ∙ ap (λ (t : Tables). is_ordered t.map) c.tables.view_is)) (rw map_is at (c.if-not-is_ordered.ensures.meaning.0 refl)) c.in_ok-held.ensures.loads.exact own c.in_ok-check_context.ensures)
