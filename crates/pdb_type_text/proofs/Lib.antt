@@ -2,5 +2,4 @@ pub mod Chains
 pub mod Failing
 pub mod Others
 pub mod Scopes
-pub mod Steps
 pub mod Visits

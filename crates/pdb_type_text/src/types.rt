@@ -119,6 +119,7 @@ impl<'a, 's, P: ModuleProvider> TypeFormatter<'a, 's, P> {
 
     /// Appends an array of arrays: the innermost element, and the brackets.
     #[cycle(printing)]
+    #[tactic(auto, using(crate::proofs::Failing::fails_stops, crate::proofs::Failing::sure_stops))]
     fn emit_array(
         &mut self,
         asker: Asker,
@@ -488,6 +489,7 @@ impl<'a, 's, P: ModuleProvider> TypeFormatter<'a, 's, P> {
 
     /// The same once its index is on the path.
     #[cycle(printing)]
+    #[tactic(auto, using(crate::proofs::Failing::fails_stops))]
     fn emit_modified_inside(
         &mut self,
         asker: Asker,
@@ -566,6 +568,7 @@ impl<'a, 's, P: ModuleProvider> TypeFormatter<'a, 's, P> {
 
     /// The same once its index is on the path.
     #[cycle(printing)]
+    #[tactic(auto, using(crate::proofs::Failing::fails_stops))]
     fn emit_pointee_inside(
         &mut self,
         asker: Asker,
@@ -634,6 +637,7 @@ impl<'a, 's, P: ModuleProvider> TypeFormatter<'a, 's, P> {
 
     /// The same once its index is on the path.
     #[cycle(printing)]
+    #[tactic(auto, using(crate::proofs::Failing::fails_stops))]
     fn emit_pointee_modified_inside(
         &mut self,
         asker: Asker,

@@ -1,13 +1,10 @@
-use Rattle.std.proofs.Common.{◌≡◌, true, false, [], ◌∷◌, ◌++◌, string_bytes, refl, sym, subst, ◌∙◌}
+use Rattle.std.proofs.Common.{◌≡◌, [], ◌∷◌, ◌++◌, string_bytes, refl, sym, subst, ◌∙◌}
 use Rattle.std.proofs.lemmas.Result.{err_from_is_err_and}
-use Rattle.pdb_records.specs.Attributes.{constructs}
 use Rattle.pdb_records.specs.Shapes.{shape}
 use Rattle.pdb_text_pieces.specs.Printed.{Printed, Prints, Stops}
-use Rattle.pdb_type_text.proofs.Failing.{fails_stops, sure_stops}
 use Rattle.pdb_type_text.proofs.Others.{no_array, no_function, stops_on, other_modified, other_pointee, other_modified_pointee}
 use Rattle.pdb_type_text.specs.Types.{visiting, Whole, PointedTo, PointedModified, Modified, MethodArguments}
 use Rattle.pdb_type_text.specs.Formatting.{env_of}
-use Rattle.pdb_type_text.proofs.Steps.{failed, goes_on, sure_step}
 use Rattle.pdb_type_text.proofs.Visits.{whole_read, whole_unread, level_ok, level_err, entered_err}
 use Rattle.pdb_type_text.proofs.formatter.TypeFormatter.+printing.Goals as goal
 
@@ -83,93 +80,3 @@ pub emit_pointee_modified_inside-returns-in_default-clause-text : goal.emit_poin
 emit_pointee_modified_inside-returns-in_default-clause-text g t c =
     let all : c.deref.result.now ≡ c.args.before.now.items ++ c.args.last ∷ [] = c.deref.ensures.value ∙ c.in_ok-push.ensures.items in
     other_modified_pointee (λ f. env_of g.P.ModuleProvider.provided f c.args.asker.module_index) c.args.self.now c.read.new.self c.args.before.now.items c.args.last c.args.seen.now.path.now.items c.args.index.0 (string_bytes c.args.w.now) c.in_ok-found.found c.in_ok-found.found c.deref.result.now _ (string_bytes c.emit_pointed.new.w) c.in_ok-found.ensures.same c.in_ok-found.ensures.value refl all (λ x e. c.in_default.not-Pointer x cc) c.emit_pointed.ensures.text
-
-pub emit_array-returns-in_err-elements-clause-text : goal.emit_array-returns-in_err-elements-clause-text
-emit_array-returns-in_err-elements-clause-text g t c =
-    failed _ _ _ _ c.from_residual.ensures.1 (fails_stops _ _ _ _ c.in_err-elements.ensures.value)
-
-pub emit_array-returns-in_err-size-clause-text : goal.emit_array-returns-in_err-size-clause-text
-emit_array-returns-in_err-size-clause-text g t c =
-    failed _ _ _ _ c.from_residual-in_err-size.ensures.1 (sure_stops _ _ _ _ c.in_err-size.ensures.value)
-
-pub emit_member_function-returns-in_err-maybe_emit_return_type-clause-text : goal.emit_member_function-returns-in_err-maybe_emit_return_type-clause-text
-emit_member_function-returns-in_err-maybe_emit_return_type-clause-text g t c =
-    failed _ _ _ _ c.from_residual.ensures.1 (stops_on _ _ _ _ c.in_err-maybe_emit_return_type.ensures.text)
-
-pub emit_member_function-returns-in_err-emit_bare_method-clause-text : goal.emit_member_function-returns-in_err-emit_bare_method-clause-text
-emit_member_function-returns-in_err-emit_bare_method-clause-text g t c =
-    failed _ _ _ _ c.from_residual-in_err-emit_bare_method.ensures.1 (sure_step _ _ _ _ c.in_err-emit_bare_method.ensures)
-
-pub emit_procedure-returns-in_err-maybe_emit_return_type-clause-text : goal.emit_procedure-returns-in_err-maybe_emit_return_type-clause-text
-emit_procedure-returns-in_err-maybe_emit_return_type-clause-text g t c =
-    failed _ _ _ _ c.from_residual.ensures.1 (stops_on _ _ _ _ c.in_err-maybe_emit_return_type.ensures.text)
-
-pub emit_procedure-returns-in_err-emit_bare_function-clause-text : goal.emit_procedure-returns-in_err-emit_bare_function-clause-text
-emit_procedure-returns-in_err-emit_bare_function-clause-text g t c =
-    failed _ _ _ _ c.from_residual-in_err-emit_bare_function.ensures.1 (sure_step _ _ _ _ c.in_err-emit_bare_function.ensures)
-
-pub emit_return_type-returns-in_default-clause-text : goal.emit_return_type-returns-in_default-clause-text
-emit_return_type-returns-in_default-clause-text g t c = rw c.in_default.is
-
-pub emit_return_type-returns-then-is_constructor-clause-text : goal.emit_return_type-returns-then-is_constructor-clause-text
-emit_return_type-returns-then-is_constructor-clause-text g t c =
-    let constructor : constructs c.args.attributes ≡ true = sym c.is_constructor.ensures ∙ c.if-is_constructor.true in
-    rw (c.in-Some.is, constructor)
-
-pub emit_return_type-returns-in_err-emit_type_index-clause-text : goal.emit_return_type-returns-in_err-emit_type_index-clause-text
-emit_return_type-returns-in_err-emit_type_index-clause-text g t c =
-    let other : constructs c.args.attributes ≡ false = sym c.is_constructor.ensures ∙ c.if-is_constructor.false in
-    failed _ _ _ _ c.from_residual.ensures.1 (rw (c.in-Some.is, other) (stops_on _ _ _ _ c.in_err-emit_type_index.ensures.text))
-
-pub emit_return_type-returns-clause-text : goal.emit_return_type-returns-clause-text
-emit_return_type-returns-clause-text g t c =
-    let other : constructs c.args.attributes ≡ false = sym c.is_constructor.ensures ∙ c.if-is_constructor.false in
-    rw (c.in-Some.is, other) (goes_on _ _ _ _ _ c.in_ok-emit_type_index.ensures.text c.emit.ensures)
-
-pub emit_argument_list_inside-returns-in_err-list-clause-text : goal.emit_argument_list_inside-returns-in_err-list-clause-text
-emit_argument_list_inside-returns-in_err-list-clause-text g t c =
-    failed _ _ _ _ c.from_residual.ensures.1 (fails_stops _ _ _ _ c.in_err-list.ensures.value)
-
-pub emit_modified_inside-returns-in_err-found-clause-text : goal.emit_modified_inside-returns-in_err-found-clause-text
-emit_modified_inside-returns-in_err-found-clause-text g t c =
-    failed _ _ _ _ c.from_residual.ensures.1 (fails_stops _ _ _ _ c.in_err-found.ensures.value)
-
-pub emit_pointee_inside-returns-in_err-found-clause-text : goal.emit_pointee_inside-returns-in_err-found-clause-text
-emit_pointee_inside-returns-in_err-found-clause-text g t c =
-    failed _ _ _ _ c.from_residual.ensures.1 (fails_stops _ _ _ _ c.in_err-found.ensures.value)
-
-pub emit_pointee_modified_inside-returns-in_err-found-clause-text : goal.emit_pointee_modified_inside-returns-in_err-found-clause-text
-emit_pointee_modified_inside-returns-in_err-found-clause-text g t c =
-    failed _ _ _ _ c.from_residual.ensures.1 (fails_stops _ _ _ _ c.in_err-found.ensures.value)
-
-pub emit_member_pointer-returns-in_err-emit-clause-text : goal.emit_member_pointer-returns-in_err-emit-clause-text
-emit_member_pointer-returns-in_err-emit-clause-text g t c =
-    failed _ _ _ _ c.from_residual-in_err-emit.ensures.1 (sure_step _ _ _ _ c.in_err-emit.ensures)
-
-pub emit_member_pointer-returns-in_err-emit_pointers-clause-text : goal.emit_member_pointer-returns-in_err-emit_pointers-clause-text
-emit_member_pointer-returns-in_err-emit_pointers-clause-text g t c =
-    failed _ _ _ _ c.from_residual-in_err-emit_pointers.ensures.1 (sure_step _ _ _ _ c.in_err-emit_pointers.ensures)
-
-pub emit_member_pointer-returns-in_err-emit-2-clause-text : goal.emit_member_pointer-returns-in_err-emit-2-clause-text
-emit_member_pointer-returns-in_err-emit-2-clause-text g t c =
-    failed _ _ _ _ c.from_residual-in_err-emit-2.ensures.1 (sure_step _ _ _ _ c.in_err-emit-2.ensures)
-
-pub emit_member_pointer-returns-in_err-emit_return_type-clause-text : goal.emit_member_pointer-returns-in_err-emit_return_type-clause-text
-emit_member_pointer-returns-in_err-emit_return_type-clause-text g t c =
-    failed _ _ _ _ c.from_residual.ensures.1 (stops_on _ _ _ _ c.in_err-emit_return_type.ensures.text)
-
-pub emit_procedure_pointer-returns-in_err-emit-clause-text : goal.emit_procedure_pointer-returns-in_err-emit-clause-text
-emit_procedure_pointer-returns-in_err-emit-clause-text g t c =
-    failed _ _ _ _ c.from_residual-in_err-emit.ensures.1 (sure_step _ _ _ _ c.in_err-emit.ensures)
-
-pub emit_procedure_pointer-returns-in_err-emit_pointers-clause-text : goal.emit_procedure_pointer-returns-in_err-emit_pointers-clause-text
-emit_procedure_pointer-returns-in_err-emit_pointers-clause-text g t c =
-    failed _ _ _ _ c.from_residual-in_err-emit_pointers.ensures.1 (sure_step _ _ _ _ c.in_err-emit_pointers.ensures)
-
-pub emit_procedure_pointer-returns-in_err-emit-2-clause-text : goal.emit_procedure_pointer-returns-in_err-emit-2-clause-text
-emit_procedure_pointer-returns-in_err-emit-2-clause-text g t c =
-    failed _ _ _ _ c.from_residual-in_err-emit-2.ensures.1 (sure_step _ _ _ _ c.in_err-emit-2.ensures)
-
-pub emit_procedure_pointer-returns-in_err-emit_return_type-clause-text : goal.emit_procedure_pointer-returns-in_err-emit_return_type-clause-text
-emit_procedure_pointer-returns-in_err-emit_return_type-clause-text g t c =
-    failed _ _ _ _ c.from_residual.ensures.1 (stops_on _ _ _ _ c.in_err-emit_return_type.ensures.text)
