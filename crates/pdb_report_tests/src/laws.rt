@@ -6,7 +6,7 @@ ghost use Rattle.pdb_frames.specs.Failed.{failing};
 ghost use Rattle.pdb_frames.specs.Frames.{frames};
 ghost use Rattle.pdb_resolving.specs.Fault.{Fault};
 
-/// An answer that has a fault has a part that fails. So that part stands as failed from then on, and its fault is told once.
+/// An answer that has a fault has a part that fails: it is that part that stands as failed from then on.
 #[tactic(auto, using(crate::proofs::FailingParts::answers_fail_in_a_part))]
 pub fn answers_fail_in_a_part()
     ensures { (parts : Parts) (scope : ℕ → Scope) (address : ℕ) (e : Fault) → frames parts scope address ≡ Err e → is_some (failing parts scope address) ≡ true }
