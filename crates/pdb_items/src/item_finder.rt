@@ -103,7 +103,7 @@ impl<'t, I: ItemIndex> ItemFinder<'t, I> {
     }
 
     /// The item of an index. Counts the lengths of items that it reads: eight at most.
-    pub(crate) fn find_counting(&self, index: I, lengths: &mut u32) -> Result<Item<'t, I>>
+    fn find_counting(&self, index: I, lengths: &mut u32) -> Result<Item<'t, I>>
         requires none { lengths.old ≡ 0 }
         ensures item { Parses item_bytes result (find_in self.now (I.number index)) }
         ensures index { IfOk result (λ item. item.index ≡ index) }

@@ -9,8 +9,6 @@ mod item_information;
 mod item_iter;
 mod item_list;
 pub mod laws;
-#[cfg(test)]
-mod tests;
 
 pub use item::Item;
 pub use item_finder::ItemFinder;

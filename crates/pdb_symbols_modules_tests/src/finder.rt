@@ -77,7 +77,17 @@ const ROWS: &[(&[u8], usize, u32, u32, Option<u32>, Result<u16>)] = &[
         None,
         Err(Error::TypeNotIndexed(4104, 4104)),
     ),
+    // Each place of a block of eight.
+    (b"", 10, 0x1000, 0x100f, None, Ok(0)),
+    (b"", 10, 0x1001, 0x100f, None, Ok(1)),
+    (b"", 10, 0x1002, 0x100f, None, Ok(2)),
+    (b"", 10, 0x1003, 0x100f, None, Ok(3)),
+    (b"", 10, 0x1004, 0x100f, None, Ok(4)),
+    (b"", 10, 0x1005, 0x100f, None, Ok(5)),
+    (b"", 10, 0x1006, 0x100f, None, Ok(6)),
+    (b"", 10, 0x1007, 0x100f, None, Ok(7)),
     (b"", 10, 0x1008, 0x100f, None, Ok(8)),
+    (b"", 10, 0x1009, 0x100f, None, Ok(9)),
     (
         b"",
         10,
