@@ -7,20 +7,20 @@ use pdb_samples::{cross_imports, short_line_block};
 use std::alloc::Global;
 use std::test::Fail;
 
-/// A context over what was read, whose address map is in order.
-fn context_of(
-    alloc: Global,
-    data: &Data,
-) -> Result<Context<'_, 'static, KeptModules<'static>>, Error> {
-    if !data.address_map().is_ordered() {
-        return Err(Error::CircularTypeDefinition(0));
-    }
-    data.make_context(alloc)
+/// What a context is asked for.
+#[derive(Clone, Copy)]
+enum Question {
+    /// The first function, and once the list of all is gone that at 0x1014, each told of its copy.
+    Functions,
+    /// The frames at 0x1014, told of their copy.
+    Frames,
+    /// Twice the frames at 0x1014, whose lines can't be read.
+    FailedLines,
 }
 
 /// A function, told of its copy.
-fn told_function(alloc: Global, function: Result<Function, Error>) -> Result<String, Error> {
-    let copy = function?.try_clone(alloc)?;
+fn told_function(alloc: Global, function: &Function) -> Result<String, Error> {
+    let copy = function.try_clone(alloc)?;
     Ok(format!(in alloc; "{copy:?}")?)
 }
 
@@ -29,10 +29,10 @@ fn first_function<P: ModuleProvider>(
     alloc: Global,
     context: &mut Context<'_, '_, P>,
 ) -> Result<String, Error> {
-    let mut functions = context.functions(alloc)?;
-    match functions.next() {
+    match context.functions(alloc)?.next() {
         None => Ok(String::new(alloc)),
-        Some(function) => told_function(alloc, function),
+        Some(Ok(function)) => told_function(alloc, &function),
+        Some(Err(fault)) => Err(fault),
     }
 }
 
@@ -42,7 +42,7 @@ fn function_by<P: ModuleProvider>(
     context: &mut Context<'_, '_, P>,
 ) -> Result<String, Error> {
     match context.find_function(alloc, 0x1014) {
-        Ok(Some(function)) => told_function(alloc, Ok(function)),
+        Ok(Some(function)) => told_function(alloc, &function),
         Ok(None) => Ok(String::new(alloc)),
         Err(fault) => Err(fault),
     }
@@ -52,31 +52,10 @@ fn function_by<P: ModuleProvider>(
 fn functions_by<P: ModuleProvider>(
     alloc: Global,
     context: &mut Context<'_, '_, P>,
-) -> Result<(String, String), Error> {
+) -> Result<String, Error> {
     let first = first_function(alloc, context)?;
     let second = function_by(alloc, context)?;
-    Ok((first, second))
-}
-
-/// The same of a context that no one else needs.
-fn functions_of<P: ModuleProvider>(
-    alloc: Global,
-    mut context: Context<'_, '_, P>,
-) -> Result<(String, String), Error> {
-    functions_by(alloc, &mut context)
-}
-
-/// What is told of `f`.
-const TOLD: &str = r#"Function { start_rva: 4112, end_rva: Some(4144), name: Some("f") }"#;
-
-#[test]
-fn functions_and_then_one(rt: HostRuntime) -> Result<(), Fail> {
-    let data = data_of(rt.alloc(), cross_imports(rt.alloc())?)?;
-    let context = context_of(rt.alloc(), &data)?;
-    let (first, second) = functions_of(rt.alloc(), context)?;
-    assert_eq!(rt; first.as_str(), TOLD);
-    assert_eq!(rt; second.as_str(), TOLD);
-    Ok(())
+    Ok(format!(in alloc; "{first}; {second}")?)
 }
 
 /// Frames, told of their copy.
@@ -88,7 +67,7 @@ fn told_frames(alloc: Global, found: &FunctionFrames<'_>) -> Result<String, Erro
 /// The frames that a context finds at 0x1014, told of their copy.
 fn frames_by<P: ModuleProvider>(
     alloc: Global,
-    mut context: Context<'_, '_, P>,
+    context: &mut Context<'_, '_, P>,
 ) -> Result<String, Error> {
     match context.find_frames(alloc, 0x1014) {
         Ok(Some(found)) => told_frames(alloc, &found),
@@ -97,11 +76,74 @@ fn frames_by<P: ModuleProvider>(
     }
 }
 
+/// What is told of lines that can't be read: their own fault, or that they stand as failed.
+fn lines_fault<P: ModuleProvider>(alloc: Global, context: &mut Context<'_, '_, P>) -> &'static str {
+    match context.find_frames(alloc, 0x1014) {
+        Err(Error::PdbError(Cause::UnexpectedEof)) => "their own",
+        Err(Error::ProcedureLinesUnsuccessful) => "as failed",
+        _ => "another",
+    }
+}
+
+/// The same twice.
+fn lines_faults<P: ModuleProvider>(
+    alloc: Global,
+    context: &mut Context<'_, '_, P>,
+) -> Result<String, Error> {
+    let first = lines_fault(alloc, context);
+    let second = lines_fault(alloc, context);
+    Ok(format!(in alloc; "{first}, {second}")?)
+}
+
+/// What a context answers.
+fn asked<P: ModuleProvider>(
+    alloc: Global,
+    mut context: Context<'_, '_, P>,
+    question: Question,
+) -> Result<String, Error> {
+    match question {
+        Question::Functions => functions_by(alloc, &mut context),
+        Question::Frames => frames_by(alloc, &mut context),
+        Question::FailedLines => lines_faults(alloc, &mut context),
+    }
+}
+
+/// A context over what was read, whose address map is in order.
+fn context_of(
+    alloc: Global,
+    data: &Data,
+) -> Result<Context<'_, 'static, KeptModules<'static>>, Error> {
+    if !data.address_map().is_ordered() {
+        return Err(Error::CircularTypeDefinition(0));
+    }
+    data.make_context(alloc)
+}
+
+/// What a context over what was read answers.
+fn asked_over(alloc: Global, data: &Data, question: Question) -> Result<String, Error> {
+    let context = context_of(alloc, data)?;
+    asked(alloc, context, question)
+}
+
+/// What a context over a file's bytes answers.
+fn answer(alloc: Global, bytes: Vec<u8>, question: Question) -> Result<String, Error> {
+    let data = data_of(alloc, bytes)?;
+    asked_over(alloc, &data, question)
+}
+
+#[test]
+fn functions_and_then_one(rt: HostRuntime) -> Result<(), Fail> {
+    let text = answer(rt.alloc(), cross_imports(rt.alloc())?, Question::Functions)?;
+    assert_eq!(rt;
+        text.as_str(),
+        r#"Function { start_rva: 4112, end_rva: Some(4144), name: Some("f") }; Function { start_rva: 4112, end_rva: Some(4144), name: Some("f") }"#
+    );
+    Ok(())
+}
+
 #[test]
 fn copies_of_frames(rt: HostRuntime) -> Result<(), Fail> {
-    let data = data_of(rt.alloc(), cross_imports(rt.alloc())?)?;
-    let context = context_of(rt.alloc(), &data)?;
-    let text = frames_by(rt.alloc(), context)?;
+    let text = answer(rt.alloc(), cross_imports(rt.alloc())?, Question::Frames)?;
     assert_eq!(rt;
         text.as_str(),
         r#"FunctionFrames { start_rva: 4112, end_rva: Some(4144), frames: [Frame { function: Some("g()"), file: Some("b.h"), line: Some(3) }, Frame { function: Some("f"), file: Some("a.c"), line: Some(5) }] }"#
@@ -109,22 +151,14 @@ fn copies_of_frames(rt: HostRuntime) -> Result<(), Fail> {
     Ok(())
 }
 
-/// Whether lines that can't be read are told by their own fault, and as such from the second time on.
-fn are_lines_failed<P: ModuleProvider>(
-    alloc: Global,
-    mut context: Context<'_, '_, P>,
-) -> (bool, bool) {
-    let first = context.find_frames(alloc, 0x1014);
-    let is_own = matches!(&first, Err(Error::PdbError(Cause::UnexpectedEof)));
-    let second = context.find_frames(alloc, 0x1014);
-    let is_told = matches!(&second, Err(Error::ProcedureLinesUnsuccessful));
-    (is_own, is_told)
-}
-
+// Lines that can't be read are told by their own fault, and as such from the second time on.
 #[test]
 fn lines_that_failed_before(rt: HostRuntime) -> Result<(), Fail> {
-    let data = data_of(rt.alloc(), short_line_block(rt.alloc())?)?;
-    let context = context_of(rt.alloc(), &data)?;
-    assert_eq!(rt; are_lines_failed(rt.alloc(), context), (true, true));
+    let text = answer(
+        rt.alloc(),
+        short_line_block(rt.alloc())?,
+        Question::FailedLines,
+    )?;
+    assert_eq!(rt; text.as_str(), "their own, as failed");
     Ok(())
 }

@@ -1,12 +1,25 @@
 //! Calls of formatters over a file of three modules, of which two import from the third.
 
 use crate::files::{Data, data_of};
-use pdb_addr2line::pdb::{IdIndex, PDB, StringRef, TypeIndex};
+use pdb_addr2line::pdb::{IdIndex, PDB, StringRef, StringTable, TypeIndex};
 use pdb_addr2line::{ContextPdbData, Error, ModuleProvider, TypeFormatter};
 use pdb_samples::{cross_imports, imports_of_no_stream};
 use std::alloc::Global;
 use std::fmt;
 use std::test::Fail;
+
+/// What a formatter is asked for.
+#[derive(Clone, Copy)]
+enum Question {
+    /// To hand a function and an id over to a writer.
+    Emitted,
+    /// To hand both over to a writer that refuses them.
+    Refused,
+    /// Ids whose imports can't be read, and then one whose can.
+    FailedImports,
+    /// Ids whose exports can't be read.
+    FailedExports,
+}
 
 /// A writer that refuses every text.
 #[derive(Drop)]
@@ -21,52 +34,35 @@ impl fmt::Write for Refusing {
 /// The id of the inlined calls.
 const INLINEE: IdIndex = IdIndex(0x8000_0000);
 
-/// Whether a formatter hands a function, and then an id in the second module, over to a writer.
+/// Whether a formatter hands a function, and then an id in the second module, over to a writer, and whether that has their texts.
 fn are_emitted<P: ModuleProvider>(
     alloc: Global,
-    mut formatter: TypeFormatter<'_, '_, P>,
-    text: &mut String,
-) -> (bool, bool) {
-    let function = formatter.emit_function(alloc, text, "f", 0, TypeIndex(0x1001));
-    let id = formatter.emit_id(alloc, text, 1, INLINEE);
-    (function.is_ok(), id.is_ok())
-}
-
-#[test]
-fn texts_for_a_writer(rt: HostRuntime) -> Result<(), Fail> {
-    let data = data_of(rt.alloc(), cross_imports(rt.alloc())?)?;
-    let mut text = String::new(rt.alloc());
-    let formatter = data.make_type_formatter(rt.alloc())?;
-    assert_eq!(rt; are_emitted(rt.alloc(), formatter, &mut text), (true, true));
-    assert_eq!(rt; text.as_str(), "f()h()");
-    Ok(())
+    formatter: &mut TypeFormatter<'_, '_, P>,
+) -> (bool, bool, bool) {
+    let mut text = String::new(alloc);
+    let function = formatter.emit_function(alloc, &mut text, "f", 0, TypeIndex(0x1001));
+    let id = formatter.emit_id(alloc, &mut text, 1, INLINEE);
+    (function.is_ok(), id.is_ok(), text.as_str() == "f()h()")
 }
 
 /// Whether a formatter answers that a function, and then an id, was refused.
 fn are_refused<P: ModuleProvider>(
     alloc: Global,
-    mut formatter: TypeFormatter<'_, '_, P>,
-) -> (bool, bool) {
+    formatter: &mut TypeFormatter<'_, '_, P>,
+) -> (bool, bool, bool) {
     let function = formatter.emit_function(alloc, &mut Refusing, "f", 0, TypeIndex(0x1001));
     let id = formatter.emit_id(alloc, &mut Refusing, 0, IdIndex(0x1000));
     (
         matches!(&function, Err(Error::FormatError(_))),
         matches!(&id, Err(Error::FormatError(_))),
+        true,
     )
-}
-
-#[test]
-fn texts_that_a_writer_refuses(rt: HostRuntime) -> Result<(), Fail> {
-    let data = data_of(rt.alloc(), cross_imports(rt.alloc())?)?;
-    let formatter = data.make_type_formatter(rt.alloc())?;
-    assert_eq!(rt; are_refused(rt.alloc(), formatter), (true, true));
-    Ok(())
 }
 
 /// Whether imports that couldn't be read are told by their own fault, and as such from the second time on.
 fn are_imports_failed<P: ModuleProvider>(
     alloc: Global,
-    mut formatter: TypeFormatter<'_, '_, P>,
+    formatter: &mut TypeFormatter<'_, '_, P>,
 ) -> (bool, bool, bool) {
     let first = formatter.format_id(alloc, 9, INLINEE);
     let second = formatter.format_id(alloc, 9, INLINEE);
@@ -78,21 +74,10 @@ fn are_imports_failed<P: ModuleProvider>(
     )
 }
 
-#[test]
-fn imports_that_failed_before(rt: HostRuntime) -> Result<(), Fail> {
-    let data = data_of(rt.alloc(), cross_imports(rt.alloc())?)?;
-    let formatter = data.make_type_formatter(rt.alloc())?;
-    assert_eq!(rt;
-        are_imports_failed(rt.alloc(), formatter),
-        (true, true, true)
-    );
-    Ok(())
-}
-
 /// Whether exports that can't be read are told by their own fault, and as such from the second time on, whichever module asks.
 fn are_exports_failed<P: ModuleProvider>(
     alloc: Global,
-    mut formatter: TypeFormatter<'_, '_, P>,
+    formatter: &mut TypeFormatter<'_, '_, P>,
 ) -> (bool, bool, bool) {
     let first = formatter.format_id(alloc, 0, INLINEE);
     let second = formatter.format_id(alloc, 1, INLINEE);
@@ -104,22 +89,78 @@ fn are_exports_failed<P: ModuleProvider>(
     )
 }
 
+/// What a formatter answers.
+fn asked<P: ModuleProvider>(
+    alloc: Global,
+    mut formatter: TypeFormatter<'_, '_, P>,
+    question: Question,
+) -> (bool, bool, bool) {
+    match question {
+        Question::Emitted => are_emitted(alloc, &mut formatter),
+        Question::Refused => are_refused(alloc, &mut formatter),
+        Question::FailedImports => are_imports_failed(alloc, &mut formatter),
+        Question::FailedExports => are_exports_failed(alloc, &mut formatter),
+    }
+}
+
+/// What a formatter over what was read answers.
+fn asked_over(alloc: Global, data: &Data, question: Question) -> Result<(bool, bool, bool), Error> {
+    let formatter = data.make_type_formatter(alloc)?;
+    Ok(asked(alloc, formatter, question))
+}
+
+/// What a formatter over a file's bytes answers.
+fn answer(alloc: Global, bytes: Vec<u8>, question: Question) -> Result<(bool, bool, bool), Error> {
+    let data = data_of(alloc, bytes)?;
+    asked_over(alloc, &data, question)
+}
+
 #[test]
-fn exports_that_failed_before(rt: HostRuntime) -> Result<(), Fail> {
-    let data = data_of(rt.alloc(), imports_of_no_stream(rt.alloc())?)?;
-    let formatter = data.make_type_formatter(rt.alloc())?;
-    assert_eq!(rt;
-        are_exports_failed(rt.alloc(), formatter),
-        (true, true, true)
-    );
+fn texts_for_a_writer(rt: HostRuntime) -> Result<(), Fail> {
+    let said = answer(rt.alloc(), cross_imports(rt.alloc())?, Question::Emitted)?;
+    assert_eq!(rt; said, (true, true, true));
     Ok(())
 }
 
-/// The name at 5 of the file's names table.
-fn name_of_module(alloc: Global, pdb: &mut PDB<'static, Vec<u8>>) -> Result<String, Fail> {
-    let table = pdb.string_table(alloc)?;
+#[test]
+fn texts_that_a_writer_refuses(rt: HostRuntime) -> Result<(), Fail> {
+    let said = answer(rt.alloc(), cross_imports(rt.alloc())?, Question::Refused)?;
+    assert_eq!(rt; said, (true, true, true));
+    Ok(())
+}
+
+#[test]
+fn imports_that_failed_before(rt: HostRuntime) -> Result<(), Fail> {
+    let said = answer(
+        rt.alloc(),
+        cross_imports(rt.alloc())?,
+        Question::FailedImports,
+    )?;
+    assert_eq!(rt; said, (true, true, true));
+    Ok(())
+}
+
+#[test]
+fn exports_that_failed_before(rt: HostRuntime) -> Result<(), Fail> {
+    let said = answer(
+        rt.alloc(),
+        imports_of_no_stream(rt.alloc())?,
+        Question::FailedExports,
+    )?;
+    assert_eq!(rt; said, (true, true, true));
+    Ok(())
+}
+
+/// The name of a file's names table at 5.
+fn name_at_five(alloc: Global, table: &StringTable<'_>) -> Result<String, Error> {
     let name = table.get(StringRef(5))?;
     Ok(format!(in alloc; "{name}")?)
+}
+
+/// The same of an open database.
+fn name_of_module(alloc: Global, pdb: &mut PDB<'static, Vec<u8>>) -> Result<String, Error> {
+    let table = pdb.string_table(alloc)?;
+    name_at_five(alloc, &table)
 }
 
 /// What a formatter answers of the inlined call's id in the first module.
@@ -136,16 +177,30 @@ fn text_of(alloc: Global, data: &Data) -> Result<String, Error> {
     inlinee_text(alloc, formatter)
 }
 
+/// The same over a database that is only lent.
+fn text_of_lent(alloc: Global, pdb: &mut PDB<'static, Vec<u8>>) -> Result<String, Error> {
+    let data = ContextPdbData::try_from_pdb_ref(alloc, pdb)?;
+    text_of(alloc, &data)
+}
+
+/// A name of the names table, a text over the database while it is lent, and the name again.
+fn lent_and_back(alloc: Global, pdb: &mut PDB<'static, Vec<u8>>) -> Result<String, Error> {
+    let before = name_of_module(alloc, pdb)?;
+    let text = text_of_lent(alloc, pdb)?;
+    let after = name_of_module(alloc, pdb)?;
+    Ok(format!(in alloc; "{before} {text} {after}")?)
+}
+
+/// The same of a file's bytes.
+fn texts_of_file(alloc: Global, bytes: Vec<u8>) -> Result<String, Error> {
+    let mut pdb = PDB::open(alloc, bytes)?;
+    lent_and_back(alloc, &mut pdb)
+}
+
 // What was read outlives nothing of the database, and leaves it as it was.
 #[test]
 fn lent_database(rt: HostRuntime) -> Result<(), Fail> {
-    let mut pdb = PDB::open(rt.alloc(), cross_imports(rt.alloc())?)?;
-    let before = name_of_module(rt.alloc(), &mut pdb)?;
-    let data = ContextPdbData::try_from_pdb_ref(rt.alloc(), &mut pdb)?;
-    let text = text_of(rt.alloc(), &data)?;
-    drop(data);
-    let after = name_of_module(rt.alloc(), &mut pdb)?;
-    assert_eq!(rt; (before.as_str(), text.as_str()), ("c.obj", "g()"));
-    assert_eq!(rt; after.as_str(), "c.obj");
+    let texts = texts_of_file(rt.alloc(), cross_imports(rt.alloc())?)?;
+    assert_eq!(rt; texts.as_str(), "c.obj g() c.obj");
     Ok(())
 }
