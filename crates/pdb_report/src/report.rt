@@ -1,6 +1,7 @@
 //! The report on an input.
 
 ghost use Rattle.std.specs.Prelude.{◌≡◌, ℕ, ◌^◌, List, OnOk, OnErr, IfErr, IfSome, None, ◌⊎◌, length, take, ◌<◌, ◌≤◌};
+ghost use Rattle.pdb_engine.specs.InputFaults.{IsOfRunning, OnRead as OnInputRead, OnWrite as OnInputWrite, OnTooLong as OnInputTooLong};
 ghost use Rattle.pdb_engine.specs.InputLines.{report, report_of_ended};
 ghost use Rattle.pdb_engine.specs.Watched.{inner_of, CountsFailure, IsQuiet, Writes, WritesFront, Takes};
 ghost use Rattle.pdb_report.specs.AddressText.{line_text};
@@ -12,12 +13,41 @@ ghost use Rattle.pdb_symbols_modules.specs.Streams.{streams};
 use crate::fault::RunFault;
 use crate::lines::LineAnswers;
 use crate::symbolizer::Symbolizer;
-use pdb_engine::{Watched, run};
+use pdb_engine::{InputFault, Watched, run};
 use std::alloc::Global;
 use std::io::{Read, Write};
 
 /// The most bytes of input that a run reads.
 const INPUT_LIMIT: u64 = 1 << 30;
+
+/// Answers the lines of the reader by a file that was loaded.
+///
+/// # Errors
+/// Those of [`run`].
+#[tactic(auto, using(crate::proofs::ShortLines::line_short))]
+fn answer_lines<R: Read, W: Write>(
+    alloc: Global,
+    symbolizer: &Symbolizer,
+    reader: &mut Watched<R>,
+    writer: &mut Watched<W>,
+) -> Result<(), InputFault>
+    ensures ok { OnOk result (IfSome (R.remaining (inner_of reader.old)) (λ input. (length input ≤ 2 ^ 30)
+        × Writes W.contents writer.old writer.new (report (line_text (answer (streams symbolizer.now))) input))) }
+    ensures quiet { OnOk result (IsQuiet reader.old reader.new × IsQuiet writer.old writer.new) }
+    ensures kind { IfErr result IsOfRunning }
+    ensures read_fails { IfErr result (λ fault. OnInputRead fault (λ kind. CountsFailure reader.old reader.new kind)) }
+    ensures write_fails { IfErr result (λ fault. OnInputWrite fault (λ kind. CountsFailure writer.old writer.new kind)) }
+    ensures read_out { IfErr result (λ fault. OnInputRead fault (λ _. (taken : List ℕ) × Takes R.remaining reader.old reader.new taken
+        × Writes W.contents writer.old writer.new (report_of_ended (line_text (answer (streams symbolizer.now))) taken))) }
+    ensures too_long { IfErr result (λ fault. OnInputTooLong fault (IfSome (R.remaining (inner_of reader.old)) (λ input. (2 ^ 30 < length input)
+        × Writes W.contents writer.old writer.new (report_of_ended (line_text (answer (streams symbolizer.now))) (take (2 ^ 30) input))))) }
+    ensures part { OnErr result (IfSome (R.remaining (inner_of reader.old)) (λ input. WritesFront W.contents writer.old writer.new (report (line_text (answer (streams symbolizer.now))) input))) }
+{
+    match symbolizer.context(alloc) {
+        Ok(context) => run(alloc, LineAnswers { context }, reader, writer, INPUT_LIMIT),
+        Err(_) => Err(InputFault::OutOfMemory),
+    }
+}
 
 /// Writes the report on the lines of the reader: for each line the answer for its address in the program database of
 /// the bytes, and nothing else.
@@ -25,7 +55,7 @@ const INPUT_LIMIT: u64 = 1 << 30;
 /// # Errors
 /// `Load` where the file has a loading fault, and then nothing was read and nothing written; `Read` and `Write` where
 /// that end failed in this call; `InputTooLong` past 2^30 bytes of input; `OutOfMemory`.
-#[tactic(auto, using(crate::proofs::ShortLines::line_short, crate::proofs::OpeningSteps::run_refused, crate::proofs::InputFaultSteps::on_read, crate::proofs::InputFaultSteps::on_write, crate::proofs::InputFaultSteps::on_too_long, crate::proofs::InputFaultSteps::of_frames, crate::proofs::InputFaultSteps::on_memory))]
+#[tactic(auto, using(crate::proofs::OpeningSteps::run_refused, crate::proofs::InputFaultSteps::on_read, crate::proofs::InputFaultSteps::on_write, crate::proofs::InputFaultSteps::on_too_long, crate::proofs::InputFaultSteps::of_frames, crate::proofs::InputFaultSteps::on_memory))]
 pub fn run_frames<R: Read, W: Write>(
     alloc: Global,
     bytes: Vec<u8>,
@@ -54,12 +84,8 @@ pub fn run_frames<R: Read, W: Write>(
     // At every fault what is out is the front of the report.
     ensures part { OnErr result (IfSome (R.remaining (inner_of reader.old)) (λ input. WritesFront W.contents writer.old writer.new (report (line_text (answer (streams bytes.items))) input))) }
 {
-    let symbolizer = match Symbolizer::open(alloc, bytes) {
-        Ok(symbolizer) => symbolizer,
-        Err(fault) => return Err(RunFault::from(fault)),
-    };
-    match symbolizer.context(alloc) {
-        Ok(context) => match run(alloc, LineAnswers { context }, reader, writer, INPUT_LIMIT) {
+    match Symbolizer::open(alloc, bytes) {
+        Ok(symbolizer) => match answer_lines(alloc, &symbolizer, reader, writer) {
             Ok(()) => Ok(()),
             Err(fault) => Err(RunFault::from(fault)),
         },
