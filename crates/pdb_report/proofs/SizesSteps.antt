@@ -1,6 +1,6 @@
 -- The report on a range by a context is that of the file.
-use Rattle.std.proofs.Common.{◌≡◌, ℕ, ◌+◌, ◌≤◌, ◌⊎◌, List, Some, inl, inr, refl, sym, ap, subst, ◌∙◌, arith}
-use Rattle.std.specs.Prelude.{Option}
+use Rattle.std.proofs.Common.{◌≡◌, ℕ, ◌+◌, ◌≤◌, ◌⊎◌, List, Some, Result, Ok, Err, inl, inr, refl, sym, ap, subst, ◌∙◌, arith}
+use Rattle.std.specs.Prelude.{Option, OnOk, OnErr, IfOk}
 use Rattle.pdb_addresses.specs.Addresses.{Map}
 use Rattle.pdb_functions.specs.Databases.{Database}
 use Rattle.pdb_functions.specs.FunctionOrder.{Function}
@@ -9,6 +9,7 @@ use Rattle.pdb_sizes.specs.Report.{IsReport}
 use Rattle.pdb_sizes.specs.Table.{IsTable, count_in}
 use Rattle.pdb_sizes.specs.Texts.{sizes_text}
 use Rattle.pdb_symbols_modules.specs.Streams.{streams}
+use Rattle.pdb_report.specs.declared.sizes.Tally.{Tally}
 use Rattle.pdb_report.specs.Answer.{address_map, database}
 use Rattle.pdb_report.specs.SizesReport.{IsSizesReport, IsWithinPieces}
 
@@ -41,3 +42,17 @@ module _ (file loaded : List ℕ) (m : Map) (db : Database) (start end : ℕ) (s
   pub sizes_asked : (asked lookups : ℕ) → asked ≡ 0 → lookups ≤ asked + pieces m db start end → IsWithinPieces (streams file) start end lookups
   sizes_asked asked lookups none few =
       record { map = m; map_is = map_of_file; few = subst (λ (d : Database). lookups ≤ pieces m d start end) places_of_file (omega (arith, none, few)) }
+
+  -- the same of what a call returned
+  pub sizes_out_of : {A E : Type 0} (r : Result A E) (Out : List ℕ → Type 0) → OnOk r ((text : List ℕ) × IsReport m db start end text × Out text) → OnOk r ((text : List ℕ) × IsSizesReport (streams file) start end text × Out text)
+  sizes_out_of (Ok x) Out h = sizes_out Out h
+  sizes_out_of (Err e) Out h = tt
+
+  pub sizes_part_of : {A E : Type 0} (r : Result A E) (quiet : Type 0) (Out : List ℕ → Type 0) → OnErr r (quiet ⊎ ((text : List ℕ) × IsReport m db start end text × Out text))
+      → OnErr r (quiet ⊎ ((text : List ℕ) × IsSizesReport (streams file) start end text × Out text))
+  sizes_part_of (Ok x) quiet Out h = tt
+  sizes_part_of (Err e) quiet Out h = sizes_part quiet Out h
+
+  pub sizes_asked_of : {E : Type 0} (r : Result Tally E) (asked : ℕ) → asked ≡ 0 → IfOk r (λ tally. tally.lookups ≤ asked + pieces m db start end) → IfOk r (λ tally. IsWithinPieces (streams file) start end tally.lookups)
+  sizes_asked_of (Ok tally) asked none few = sizes_asked asked tally.lookups none few
+  sizes_asked_of (Err e) asked none few = tt

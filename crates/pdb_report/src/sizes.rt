@@ -90,6 +90,31 @@ fn write_sizes<P: ModuleProvider, W: Write>(
     }
 }
 
+/// Writes the report on a range by a file that was loaded.
+///
+/// # Errors
+/// `Write` where a write failed; `OutOfMemory`.
+fn sizes_of<W: Write>(
+    alloc: Global,
+    symbolizer: &Symbolizer,
+    start: u32,
+    end: u32,
+    writer: &mut Watched<W>,
+) -> Result<Tally, InputFault>
+    requires { start ≤ end }
+    ensures ok { OnOk result ((text : List ℕ) × IsSizesReport (streams symbolizer.now) start end text × Writes W.contents writer.old writer.new text) }
+    ensures lookups { IfOk result (λ tally. IsWithinPieces (streams symbolizer.now) start end tally.lookups) }
+    ensures quiet { OnOk result (IsQuiet writer.old writer.new) }
+    ensures kind { IfErr result IsOfWriting }
+    ensures write_fails { IfErr result (λ fault. OnInputWrite fault (λ kind. CountsFailure writer.old writer.new kind)) }
+    ensures part { OnErr result ((writer.new ≡ writer.old) ⊎ ((text : List ℕ) × IsSizesReport (streams symbolizer.now) start end text × WritesFront W.contents writer.old writer.new text)) }
+{
+    match symbolizer.context(alloc) {
+        Ok(context) => write_sizes(alloc, symbolizer.address_map(), context, start, end, writer),
+        Err(_) => Err(InputFault::OutOfMemory),
+    }
+}
+
 /// Writes how many of the addresses from `start` on and before `end` each function has in the program database of the bytes: a line
 /// for each function, in the order of start, end and name, and last `none` and how many addresses have none.
 ///
@@ -122,16 +147,12 @@ pub fn run_sizes<W: Write>(
     // At every fault nothing is out, or a front of the report.
     ensures part { OnErr result ((writer.new ≡ writer.old) ⊎ ((text : List ℕ) × IsSizesReport (streams bytes.items) start end text × WritesFront W.contents writer.old writer.new text)) }
 {
-    let symbolizer = match Symbolizer::open(alloc, bytes) {
-        Ok(symbolizer) => symbolizer,
-        Err(fault) => return Err(RunFault::from(fault)),
-    };
-    if end < start {
-        return Err(RunFault::ReversedRange);
-    }
-    match symbolizer.context(alloc) {
-        Ok(context) => {
-            match write_sizes(alloc, symbolizer.address_map(), context, start, end, writer) {
+    match Symbolizer::open(alloc, bytes) {
+        Ok(symbolizer) => {
+            if end < start {
+                return Err(RunFault::ReversedRange);
+            }
+            match sizes_of(alloc, &symbolizer, start, end, writer) {
                 Ok(tally) => Ok(tally),
                 Err(fault) => Err(RunFault::from(fault)),
             }
