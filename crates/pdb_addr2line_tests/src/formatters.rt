@@ -179,7 +179,7 @@ fn text_of(alloc: Global, data: &Data) -> Result<String, Error> {
 
 /// The same over a database that is only lent.
 fn text_of_lent(alloc: Global, pdb: &mut PDB<'static, Vec<u8>>) -> Result<String, Error> {
-    let data = ContextPdbData::try_from_pdb_ref(alloc, pdb)?;
+    let data: Data = ContextPdbData::try_from_pdb_ref(alloc, pdb)?;
     text_of(alloc, &data)
 }
 
