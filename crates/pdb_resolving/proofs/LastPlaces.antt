@@ -1,9 +1,15 @@
--- The last module of a name, as a search from the end comes to it.
-use Rattle.std.proofs.Common.{◌≡◌, ℕ, ◌+◌, ◌-◌, ◌<◌, ◌≤◌, List, [], ◌∷◌, ◌++◌, length, take, get_or, refl, sym, ap, ◌∙◌, Bool, true, false, cond, arith}
-use Rattle.std.specs.Prelude.{Option, Some, None}
-use Rattle.std.proofs.Math.Seq.{take-length}
+-- The last module of each name, as a list of modules is gone over.
+use Rattle.std.proofs.Common.{◌≡◌, ℕ, ◌+◌, ◌<◌, List, [], ◌∷◌, ◌++◌, length, take, get_or, refl, sym, ap, ◌∙◌, Bool, true, false, cond, arith, string_bytes}
+use Rattle.std.specs.Prelude.{Option, Some, None, String}
+use Rattle.std.specs.BTreeMap.{BTreeMap, IsEmpty, Updates, get_by_text}
+use Rattle.std.specs.declared.alloc.Global.{Global}
+use Rattle.std.specs.Str.{str_to_ascii_lowercase}
+use Rattle.std.specs.Str.Lossy.{utf8_lossy}
+use Rattle.std.specs.String.{string_cmp}
 use Rattle.std.proofs.lemmas.List.{take_more, length-take-le}
+use Rattle.std.proofs.lemmas.Map.Text.{btree_map_updates_text}
 use Rattle.pdb_symbols_modules.specs.Modules.{Module}
+use Rattle.pdb_resolving.specs.KeptTables.{AreLast}
 use Rattle.pdb_resolving.specs.Resolving.{is_named, place_from, last_place, last_named}
 
 -- an element behind others comes first
@@ -15,39 +21,27 @@ last_place_behind test (y ∷ ys) x =
     (elim (test x) as (λ b. place_from (test y) (cond b (Some (length ys)) (last_place test ys)) ≡ cond b (Some (length (y ∷ ys))) (place_from (test y) (last_place test ys)))
     [ true ↦ ap Some (omega arith) | false ↦ refl ])
 
--- the modules before the last so many, of which one more is gone over
-one_more : (name : List ℕ) (modules : List Module) (behind : ℕ) (d : Module) → behind < length modules
-    → last_named name (take (length modules - behind) modules)
-    ≡ cond (is_named name (get_or modules (length modules - 1 - behind) d)) (Some (length modules - 1 - behind)) (last_named name (take (length modules - (behind + 1)) modules))
-one_more name modules behind d lt =
-    let n = length modules - 1 - behind in
-    let here : length modules - behind ≡ length modules - 1 - behind + 1 = omega arith in
-    let next : length modules - (behind + 1) ≡ length modules - 1 - behind = omega arith in
-    let size : length (take (length modules - 1 - behind) modules) ≡ length modules - 1 - behind = length-take-le (length modules - 1 - behind) modules (omega arith) in
-    rw (here, next, take_more modules (length modules - 1 - behind) d (omega arith))
-    (last_place_behind (is_named name) (take (length modules - 1 - behind) modules) (get_or modules (length modules - 1 - behind) d)
-    ∙ ap (λ k. cond (is_named name (get_or modules (length modules - 1 - behind) d)) (Some k) (last_named name (take (length modules - 1 - behind) modules))) size)
+-- a module of the name is the last one among those up to it
+one_more : (name : List ℕ) (modules : List Module) (n : ℕ) (d : Module) → n < length modules
+    → last_named name (take (n + 1) modules) ≡ cond (is_named name (get_or modules n d)) (Some n) (last_named name (take n modules))
+one_more name modules n d lt =
+    rw (take_more modules n d lt)
+    (last_place_behind (is_named name) (take n modules) (get_or modules n d)
+    ∙ ap (λ k. cond (is_named name (get_or modules n d)) (Some k) (last_named name (take n modules))) (length-take-le n modules (omega arith)))
 
--- before any module was looked at, all are left
-pub last_start : (name : List ℕ) (modules : List Module) → last_named name (take (length modules - 0) modules) ≡ last_named name modules
-last_start name modules = let all : length modules - 0 ≡ length modules = omega arith in rw (all, take-length modules) refl
-
--- a module of the name, where none behind it has it, is the last one
-pub last_here : (name : List ℕ) (modules : List Module) (behind : ℕ) (d : Module) (total : Option ℕ) → behind < length modules → is_named name (get_or modules (length modules - 1 - behind) d) ≡ true
-    → last_named name (take (length modules - behind) modules) ≡ total → total ≡ Some (length modules - 1 - behind)
-last_here name modules behind d total lt here so_far =
-    sym so_far ∙ one_more name modules behind d lt
-    ∙ ap (λ b. cond b (Some (length modules - 1 - behind)) (last_named name (take (length modules - (behind + 1)) modules))) here
-
--- where a module has another name, the last one is among those before it
-pub last_further : (name : List ℕ) (modules : List Module) (behind : ℕ) (d : Module) (total : Option ℕ) → behind < length modules → is_named name (get_or modules (length modules - 1 - behind) d) ≡ false
-    → last_named name (take (length modules - behind) modules) ≡ total → last_named name (take (length modules - (behind + 1)) modules) ≡ total
-last_further name modules behind d total lt other so_far =
-    sym (one_more name modules behind d lt
-    ∙ ap (λ b. cond b (Some (length modules - 1 - behind)) (last_named name (take (length modules - (behind + 1)) modules))) other)
-    ∙ so_far
-
--- where no module is left, none has the name
-pub last_none : (name : List ℕ) (modules : List Module) (behind : ℕ) (total : Option ℕ) → length modules ≤ behind → last_named name (take (length modules - behind) modules) ≡ total → total ≡ None
+-- no module has a name
+pub last_start : (numbers : BTreeMap (String Global) ℕ) → IsEmpty numbers → AreLast [] numbers
 unfolding last_place
-last_none name modules behind total past so_far = let none : length modules - behind ≡ 0 = omega arith in sym so_far ∙ ap (λ n. last_named name (take n modules)) none
+last_start numbers empty = record { each = λ name. rw empty refl }
+
+-- one more module takes the place of one before it that has its name
+pub last_further : (modules : List Module) (n : ℕ) (d : Module) (key : String Global) (old new : BTreeMap (String Global) ℕ) → n < length modules
+    → d ≡ get_or modules n d → string_bytes key ≡ str_to_ascii_lowercase (utf8_lossy d.module_name)
+    → AreLast (take n modules) old → Updates string_cmp old new key (Some n) → AreLast (take (n + 1) modules) new
+last_further modules n d key old new lt at named so_far updates = record {
+  each = λ name.
+      btree_map_updates_text (string_bytes key) old new (Some n) updates (str_to_ascii_lowercase name)
+      ∙ rw (named, so_far.each name) refl
+      ∙ ap (λ m. cond (is_named name m) (Some n) (last_named name (take n modules))) at
+      ∙ sym (one_more name modules n d lt);
+}

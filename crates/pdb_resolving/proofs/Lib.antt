@@ -1,3 +1,4 @@
 pub mod LastPlaces
 pub mod Lifting
 pub mod ModuleSteps
+pub mod Steps

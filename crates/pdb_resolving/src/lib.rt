@@ -3,6 +3,8 @@
 #![tactic(auto)]
 
 mod error;
+mod kept_tables;
+mod module_names;
 mod provider;
 mod resolver;
 mod table;

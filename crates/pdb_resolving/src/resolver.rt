@@ -1,14 +1,17 @@
 //! Indices that lead into another module.
 
-ghost use Rattle.std.specs.Prelude.{◌≡◌, option_map, slice_get, IfOk, OnErr, OnOk};
+ghost use Rattle.std.specs.Prelude.{◌≡◌, option_map, OnErr, OnOk};
 ghost use Rattle.std.specs.Option.{ok_or};
-ghost use Rattle.std.specs.Str.{str_to_ascii_lowercase};
 ghost use Rattle.pdb_cross_modules.specs.Exports.{first_export};
-ghost use Rattle.pdb_resolving.specs.Fault.{Answers, lifted, ModuleNameNotFound, LocalIndexNotInExports};
-ghost use Rattle.pdb_resolving.specs.Resolving.{is_named as is_named_entry, last_named as last_named_entry, module_numbered, imports_read, exports_read, imports_of as module_imports, exports_of as module_exports, resolved_elsewhere, resolve, none_failed, modules_by, KeepsAsFailed};
+ghost use Rattle.pdb_cross_modules.specs.Imports.{imported as import_by, reference};
+ghost use Rattle.pdb_resolving.specs.Fault.{Answers, lifted, LocalIndexNotInExports};
+ghost use Rattle.pdb_resolving.specs.KeptTables.{export_of as module_export, import_of as module_import, numbered, resolved_by_steps};
+ghost use Rattle.pdb_resolving.specs.Resolving.{resolve, none_failed, modules_by, KeepsAsFailed};
 
 use crate::error::{Error, Result};
-use crate::provider::{ModuleProvider, ModuleTables};
+use crate::kept_tables::{KeptExports, KeptImports, keep_exports, keep_imports};
+use crate::module_names::ModuleNames;
+use crate::provider::ModuleProvider;
 use crate::table::Table;
 use pdb_container::StringTable;
 use pdb_failed_parts::FailedParts;
@@ -17,14 +20,22 @@ use pdb_symbols_modules::{
     CrossModuleExports, CrossModuleImports, CrossModuleRef, Module, ModuleRef,
 };
 use std::alloc::{AllocError, Global};
+use std::collections::BTreeMap;
 use std::marker::Model;
 
-/// The modules of a database, by which indices are resolved that lead from one into another.
+/// The modules of a database, by which indices are resolved that lead from one into another. Imports, exports and names of modules
+/// that were read are kept, each once it was asked for.
 #[derive(Drop)]
 pub struct Resolver<'a, 's, P: ModuleProvider> {
     provider: &'a P,
     modules: Vec<Module<'a>>,
     string_table: Option<&'a StringTable<'s>>,
+    /// The numbers of the modules by their names.
+    names: ModuleNames,
+    /// The imports that were read.
+    imports: KeptImports<'a>,
+    /// The exports that were read.
+    exports: KeptExports<'a>,
     /// The modules whose imports stand as failed.
     failed_imports: FailedParts,
     /// The modules whose exports stand as failed.
@@ -35,13 +46,15 @@ pub struct Resolver<'a, 's, P: ModuleProvider> {
 
 impl<'a, 's, P: ModuleProvider> Model for Resolver<'a, 's, P> {
     ghost use Rattle.std.specs.Prelude.{option_map, IfSome};
-    ghost use Rattle.pdb_resolving.specs.Resolving.{Kept, IsFailing};
+    ghost use Rattle.pdb_resolving.specs.KeptTables.{AreNames, AreRead};
+    ghost use Rattle.pdb_resolving.specs.Resolving.{exports_read, imports_read, IsFailing, Kept};
 
     ghost Value = { Kept P };
 
     ghost view = { λ r. record { provider = r.provider.now; entries = r.modules.items; names = option_map (λ t. t.now) r.string_table; failed = record { imports = r.failed_imports; exports = r.failed_exports } } };
 
-    ghost invariant = { λ r. IfSome r.failing (IsFailing (record { provided = P.provided r.provider.now; entries = r.modules.items; names = option_map (λ t. t.now) r.string_table; failed = record { imports = r.failed_imports; exports = r.failed_exports } })) };
+    // What is kept is what reading gives, so that it shows nowhere.
+    ghost invariant = { λ r. IfSome r.failing (IsFailing (record { provided = P.provided r.provider.now; entries = r.modules.items; names = option_map (λ t. t.now) r.string_table; failed = record { imports = r.failed_imports; exports = r.failed_exports } })) × AreNames r.modules.items r.names × AreRead (imports_read (P.provided r.provider.now) r.modules.items) r.imports × AreRead (exports_read (P.provided r.provider.now) r.modules.items) r.exports };
 }
 
 impl<'a, 's, P: ModuleProvider> Resolver<'a, 's, P> {
@@ -59,6 +72,9 @@ impl<'a, 's, P: ModuleProvider> Resolver<'a, 's, P> {
             provider,
             modules,
             string_table,
+            names: ModuleNames::new(),
+            imports: BTreeMap::new(alloc),
+            exports: BTreeMap::new(alloc),
             failed_imports: FailedParts::new(alloc),
             failed_exports: FailedParts::new(alloc),
             failing: None,
@@ -81,6 +97,7 @@ impl<'a, 's, P: ModuleProvider> Resolver<'a, 's, P> {
     /// the provider's fault, `ModuleInfoNotFound`, their own); `CrossModuleRefNotFound`; the module's name in the table of
     /// names; `ModuleNameNotFound`; the other module's exports, as its imports; `LocalIndexNotInExports`. Imports and exports
     /// that stand as failed are `ModuleImportsUnsuccessful` and `ModuleExportsUnsuccessful`. `OutOfMemory`.
+    #[tactic(auto, using(crate::proofs::Steps::by_steps))]
     pub fn resolve(&mut self, alloc: Global, module_index: usize, index: u32) -> Result<u32>
         ensures same { self.new ≡ self.old }
         ensures value { Answers (λ n. n) result (resolve (modules_by P.provided self.old) module_index index) }
@@ -112,7 +129,7 @@ impl<'a, 's, P: ModuleProvider> Resolver<'a, 's, P> {
     }
 
     /// What an index stands for that leads into another module.
-    #[tactic(auto, using(crate::proofs::Lifting::fails_on, crate::proofs::Lifting::given_fails_on, crate::proofs::Lifting::parsed_fails_on), unfolding(crate::specs::Resolving::resolved_elsewhere))]
+    #[tactic(auto, using(crate::proofs::Lifting::fails_on, crate::proofs::Lifting::given_fails_on), unfolding(crate::specs::KeptTables::resolved_by_steps))]
     fn resolve_elsewhere(
         &mut self,
         alloc: Global,
@@ -120,30 +137,34 @@ impl<'a, 's, P: ModuleProvider> Resolver<'a, 's, P> {
         index: TypeIndex,
     ) -> Result<u32>
         ensures same { self.new ≡ self.old }
-        ensures value { Answers (λ n. n) result (resolved_elsewhere (modules_by P.provided self.old) module_index index.0) }
+        ensures value { Answers (λ n. n) result (resolved_by_steps (modules_by P.provided self.old) module_index index.0) }
     {
         let Some(names) = self.string_table else {
             return Err(Error::CantResolveCrossModuleRefWithoutStringTable);
         };
-        let imports = self.imports_of(alloc, module_index)?;
-        let CrossModuleRef(ModuleRef(name), local) = imports.resolve_import(index)?;
+        let CrossModuleRef(ModuleRef(name), local) = self.import_of(alloc, module_index, index)?;
         let name = name.to_string_lossy(alloc, names)?;
-        let number = module_named(alloc, self.modules(), name.as_str())?;
-        let exports = self.exports_of(number)?;
-        exported(&exports, local)
+        let number = self.number_of(alloc, name.as_str())?;
+        self.export_of(number, local)
     }
 
-    /// What the module of a number imports. `ModuleImportsUnsuccessful` where that stands as failed, else the module's fault, or
-    /// that of its imports. Such a fault is noted.
-    fn imports_of(&mut self, alloc: Global, number: usize) -> Result<CrossModuleImports<'a>>
+    /// What an index stands for as the module of a number imports it. `ModuleImportsUnsuccessful` where the module's imports stand
+    /// as failed, else the module's fault, that of its imports, or `CrossModuleRefNotFound`. A fault of the imports is noted.
+    fn import_of(
+        &mut self,
+        alloc: Global,
+        number: usize,
+        index: TypeIndex,
+    ) -> Result<CrossModuleRef<TypeIndex>>
         ensures same { self.new ≡ self.old }
-        ensures value { Answers (λ i. i) result (module_imports (modules_by P.provided self.old) number) }
+        ensures value { Answers (reference (λ i. i.0)) result (module_import (modules_by P.provided self.old) number index.0) }
     {
         if self.failed_imports.stands(number as u64) {
             return Err(Error::ModuleImportsUnsuccessful);
         }
-        match read_imports(alloc, self.provider, self.modules.as_slice(), number) {
-            Ok(imports) => Ok(imports),
+        let modules = self.modules.as_slice();
+        match keep_imports(&mut self.imports, alloc, self.provider, modules, number) {
+            Ok(()) => imported(&self.imports[&number], index),
             Err(Error::OutOfMemory) => Err(Error::OutOfMemory),
             Err(fault) => {
                 self.failing = Some(Table::Imports(number));
@@ -152,16 +173,30 @@ impl<'a, 's, P: ModuleProvider> Resolver<'a, 's, P> {
         }
     }
 
-    /// What the module of a number exports, as [`Resolver::imports_of`].
-    fn exports_of(&mut self, number: usize) -> Result<CrossModuleExports<'a>>
+    /// The number of the last module of a name. `ModuleNameNotFound`, `OutOfMemory`.
+    fn number_of(&mut self, alloc: Global, name: &str) -> Result<usize>
         ensures same { self.new ≡ self.old }
-        ensures value { Answers (λ e. e) result (module_exports (modules_by P.provided self.old) number) }
+        ensures value { Answers (λ n. n) result (numbered name.now self.old.entries) }
+    {
+        self.names.number(alloc, self.modules.as_slice(), name)
+    }
+
+    /// What the module of a number exports first under an index as it names it, as [`Resolver::import_of`].
+    /// `LocalIndexNotInExports`.
+    fn export_of(&mut self, number: usize, local: Local<TypeIndex>) -> Result<u32>
+        ensures same { self.new ≡ self.old }
+        ensures value { Answers (λ n. n) result (module_export (modules_by P.provided self.old) number local.0.0) }
     {
         if self.failed_exports.stands(number as u64) {
             return Err(Error::ModuleExportsUnsuccessful);
         }
-        match read_exports(self.provider, self.modules.as_slice(), number) {
-            Ok(exports) => Ok(exports),
+        match keep_exports(
+            &mut self.exports,
+            self.provider,
+            self.modules.as_slice(),
+            number,
+        ) {
+            Ok(()) => exported(&self.exports[&number], local),
             Err(Error::OutOfMemory) => Err(Error::OutOfMemory),
             Err(fault) => {
                 self.failing = Some(Table::Exports(number));
@@ -171,107 +206,12 @@ impl<'a, 's, P: ModuleProvider> Resolver<'a, 's, P> {
     }
 }
 
-/// What the module of a number imports. The module's fault, or that of its imports.
-#[tactic(auto, using(crate::proofs::Lifting::fails_on, crate::proofs::Lifting::given_fails), unfolding(crate::specs::Resolving::imports_read))]
-fn read_imports<'p, P: ModuleProvider>(
-    alloc: Global,
-    provider: &'p P,
-    modules: &[Module<'_>],
-    number: usize,
-) -> Result<CrossModuleImports<'p>>
-    ensures { Answers (λ i. i) result (imports_read (P.provided provider.now) modules.now number) }
-{
-    let own = module_info(provider, modules, number)?;
-    Ok(own.imports(alloc)?)
-}
-
-/// What the module of a number exports. The module's fault, or that of its exports.
-#[tactic(auto, using(crate::proofs::Lifting::fails_on, crate::proofs::Lifting::parsed_fails), unfolding(crate::specs::Resolving::exports_read))]
-fn read_exports<'p, P: ModuleProvider>(
-    provider: &'p P,
-    modules: &[Module<'_>],
-    number: usize,
-) -> Result<CrossModuleExports<'p>>
-    ensures { Answers (λ e. e) result (exports_read (P.provided provider.now) modules.now number) }
-{
-    let own = module_info(provider, modules, number)?;
-    Ok(own.exports()?)
-}
-
-/// What the module of a number holds. `OutOfRangeModuleIndex`, the provider's fault, `ModuleInfoNotFound`.
-#[tactic(auto, using(crate::proofs::ModuleSteps::module_past, crate::proofs::ModuleSteps::module_given, crate::proofs::ModuleSteps::module_missing, crate::proofs::ModuleSteps::module_fails))]
-fn module_info<'p, P: ModuleProvider>(
-    provider: &'p P,
-    modules: &[Module<'_>],
-    number: usize,
-) -> Result<&'p P::Info>
-    ensures { Answers (λ info. P.Info.held info.now) result (module_numbered (P.provided provider.now) modules.now number) }
-{
-    let Some(module) = module_at(modules, number) else {
-        return Err(Error::OutOfRangeModuleIndex(number));
-    };
-    match info_of(provider, module, number) {
-        Ok(Some(info)) => Ok(info),
-        Ok(None) => Err(Error::ModuleInfoNotFound(number)),
-        Err(fault) => Err(fault),
-    }
-}
-
-/// What the module of a number and an entry holds, if it has a stream of its own. The provider's fault.
+/// What an index stands for by what a module imports. `CrossModuleRefNotFound`.
 #[tactic(auto, using(crate::proofs::Lifting::parsed_fails))]
-fn info_of<'p, P: ModuleProvider>(
-    provider: &'p P,
-    module: &Module<'_>,
-    number: usize,
-) -> Result<Option<&'p P::Info>>
-    ensures { Answers (option_map (λ info. P.Info.held info.now)) result (lifted (P.provided provider.now number «module».now)) }
+fn imported(imports: &CrossModuleImports<'_>, index: TypeIndex) -> Result<CrossModuleRef<TypeIndex>>
+    ensures { Answers (reference (λ i. i.0)) result (lifted (import_by imports.now index.0)) }
 {
-    Ok(provider.get_module_info(number, module)?)
-}
-
-/// The module of a number, counted from 0.
-fn module_at<'m, 'a>(modules: &'m [Module<'a>], number: usize) -> Option<&'m Module<'a>>
-    ensures { option_map (λ m. m.now) result ≡ slice_get modules.now number }
-{
-    modules.get(number)
-}
-
-/// The number of the last module of a name. `ModuleNameNotFound`, `OutOfMemory`.
-fn module_named(alloc: Global, modules: &[Module<'_>], name: &str) -> Result<usize>
-    ensures { Answers (λ n. n) result (ok_or (last_named_entry name.now modules.now) (ModuleNameNotFound (str_to_ascii_lowercase name.now))) }
-{
-    match last_named(alloc, modules, name)? {
-        Some(number) => Ok(number),
-        None => Err(Error::ModuleNameNotFound(name.to_ascii_lowercase(alloc)?)),
-    }
-}
-
-/// The number of the last module of a name, if there is one.
-#[tactic(auto, using(crate::proofs::LastPlaces::last_start, crate::proofs::LastPlaces::last_here, crate::proofs::LastPlaces::last_further, crate::proofs::LastPlaces::last_none))]
-fn last_named(
-    alloc: Global,
-    modules: &[Module<'_>],
-    name: &str,
-) -> std::result::Result<Option<usize>, AllocError>
-    ensures { IfOk result (λ found. found ≡ last_named_entry name.now modules.now) }
-{
-    for behind in 0..modules.len() {
-        let number = modules.len() - 1 - behind;
-        if is_named(alloc, &modules[number], name)? {
-            return Ok(Some(number));
-        }
-    }
-    Ok(None)
-}
-
-/// Whether a module has a name, upper and lower case of ASCII letters apart.
-fn is_named(alloc: Global, module: &Module<'_>, name: &str) -> std::result::Result<bool, AllocError>
-    ensures { IfOk result (λ same. same ≡ is_named_entry name.now «module».now) }
-{
-    match module.module_name(alloc) {
-        Ok(own) => Ok(own.as_str().eq_ignore_ascii_case(name)),
-        Err(_) => Err(AllocError),
-    }
+    Ok(imports.resolve_import(index)?)
 }
 
 /// The index in the database's table by a module's first export of an index as it names it. `LocalIndexNotInExports`.

@@ -1,0 +1,54 @@
+-- What is kept of the modules among which indices are resolved: the tables that were read, and the numbers of modules by their names.
+use Rattle.std.specs.Prelude.{◌≡◌, ℕ, List, Some, Result, Ok, String}
+use Rattle.std.specs.declared.alloc.Global.{Global}
+use Rattle.std.specs.BTreeMap.{BTreeMap, get, get_by_text}
+use Rattle.std.specs.Option.{ok_or}
+use Rattle.std.specs.Ordering.{nat_cmp}
+use Rattle.std.specs.Str.{str_to_ascii_lowercase}
+use Rattle.pdb_container.specs.Fault.{◌>>=◌}
+use Rattle.pdb_container.specs.StringTable.{text_in}
+use Rattle.pdb_cross_modules.specs.Exports.{first_export}
+use Rattle.pdb_cross_modules.specs.Imports.{Imported, imported}
+use Rattle.pdb_symbols_modules.specs.Modules.{Module}
+use Rattle.pdb_resolving.specs.declared.module_names.ModuleNames.{ModuleNames}
+use Rattle.pdb_resolving.specs.Fault.{Fault, CantResolveCrossModuleRefWithoutStringTable, ModuleNameNotFound, LocalIndexNotInExports, lifted}
+use Rattle.pdb_resolving.specs.Resolving.{Modules, last_named, imports_of, exports_of}
+
+-- Each table that is kept is what reading gives of its module.
+pub record AreRead {T : Type 0} (read : ℕ → Result T Fault) (tables : BTreeMap ℕ T) : Type 0 where
+  pub each : (number : ℕ) (table : T) → get nat_cmp tables number ≡ Some table → read number ≡ Ok table
+
+-- Each name in ASCII lower case has the number of the last module of that name.
+pub record AreLast (entries : List Module) (numbers : BTreeMap (String Global) ℕ) : Type 0 where
+  pub each : (name : List ℕ) → get_by_text numbers (str_to_ascii_lowercase name) ≡ last_named name entries
+
+-- The numbers of modules that are kept by their names, if any are, are those of the last module of each name.
+pub record AreNames (entries : List Module) (names : ModuleNames) : Type 0 where
+  pub each : (numbers : BTreeMap (String Global) ℕ) → names.numbers ≡ Some numbers → AreLast entries numbers
+
+-- ---- an index that leads into another module, in the steps that are gone
+
+-- what a module imports by an index
+abbrev pub import_of : Modules → ℕ → ℕ → Result Imported Fault
+import_of modules asking index = do
+  imports ← imports_of modules asking
+  lifted (imported imports index)
+
+-- the number of the last module of a name
+abbrev pub numbered : List ℕ → List Module → Result ℕ Fault
+numbered name entries = ok_or (last_named name entries) (ModuleNameNotFound (str_to_ascii_lowercase name))
+
+-- what a module exports first under an index as it names it
+abbrev pub export_of : Modules → ℕ → ℕ → Result ℕ Fault
+export_of modules number local = do
+  exports ← exports_of modules number
+  ok_or (first_export exports local) (LocalIndexNotInExports local)
+
+-- what an index stands for that leads into another module, by these steps
+unfoldable pub resolved_by_steps : Modules → ℕ → ℕ → Result ℕ Fault
+resolved_by_steps modules asking index = do
+  names ← ok_or modules.names CantResolveCrossModuleRefWithoutStringTable
+  target ← import_of modules asking index
+  name ← lifted (text_in names target.name)
+  number ← numbered name modules.entries
+  export_of modules number target.local

@@ -1,0 +1,127 @@
+//! The imports and exports of modules, as they are read and kept.
+
+ghost use Rattle.std.specs.Prelude.{◌≡◌, IfErr, IsSome, OnOk, option_map, slice_get};
+ghost use Rattle.std.specs.BTreeMap.{get};
+ghost use Rattle.std.specs.Ordering.{nat_cmp};
+ghost use Rattle.pdb_resolving.specs.Fault.{Answers, Fails, lifted};
+ghost use Rattle.pdb_resolving.specs.KeptTables.{AreRead};
+ghost use Rattle.pdb_resolving.specs.Resolving.{exports_read, imports_read, module_numbered};
+
+use crate::error::{Error, Result};
+use crate::provider::{ModuleProvider, ModuleTables};
+use pdb_symbols_modules::{CrossModuleExports, CrossModuleImports, Module};
+use std::alloc::Global;
+use std::collections::BTreeMap;
+
+/// The imports of modules that were read, each under its module's number.
+pub(crate) type KeptImports<'a> = BTreeMap<usize, CrossModuleImports<'a>>;
+
+/// The exports of modules that were read, each under its module's number.
+pub(crate) type KeptExports<'a> = BTreeMap<usize, CrossModuleExports<'a>>;
+
+/// Reads and keeps what the module of a number imports, unless it is kept. The module's fault, or that of its imports; nothing
+/// changes then, nor where memory is short.
+pub(crate) fn keep_imports<'a, P: ModuleProvider>(
+    kept: &mut KeptImports<'a>,
+    alloc: Global,
+    provider: &'a P,
+    modules: &[Module<'_>],
+    number: usize,
+) -> Result<()>
+    requires { AreRead (imports_read (P.provided provider.now) modules.now) kept.old }
+    ensures right { AreRead (imports_read (P.provided provider.now) modules.now) kept.new }
+    ensures there { OnOk result (IsSome (get nat_cmp kept.new number)) }
+    ensures fails { IfErr result (λ e. Fails e (imports_read (P.provided provider.now) modules.now number)) }
+{
+    if kept.contains_key(&number) {
+        return Ok(());
+    }
+    let imports = read_imports(alloc, provider, modules, number)?;
+    kept.insert(number, imports)?;
+    Ok(())
+}
+
+/// Reads and keeps what the module of a number exports, as [`keep_imports`].
+pub(crate) fn keep_exports<'a, P: ModuleProvider>(
+    kept: &mut KeptExports<'a>,
+    provider: &'a P,
+    modules: &[Module<'_>],
+    number: usize,
+) -> Result<()>
+    requires { AreRead (exports_read (P.provided provider.now) modules.now) kept.old }
+    ensures right { AreRead (exports_read (P.provided provider.now) modules.now) kept.new }
+    ensures there { OnOk result (IsSome (get nat_cmp kept.new number)) }
+    ensures fails { IfErr result (λ e. Fails e (exports_read (P.provided provider.now) modules.now number)) }
+{
+    if kept.contains_key(&number) {
+        return Ok(());
+    }
+    let exports = read_exports(provider, modules, number)?;
+    kept.insert(number, exports)?;
+    Ok(())
+}
+
+/// What the module of a number imports. The module's fault, or that of its imports.
+#[tactic(auto, using(crate::proofs::Lifting::fails_on, crate::proofs::Lifting::given_fails), unfolding(crate::specs::Resolving::imports_read))]
+fn read_imports<'p, P: ModuleProvider>(
+    alloc: Global,
+    provider: &'p P,
+    modules: &[Module<'_>],
+    number: usize,
+) -> Result<CrossModuleImports<'p>>
+    ensures { Answers (λ i. i) result (imports_read (P.provided provider.now) modules.now number) }
+{
+    let own = module_info(provider, modules, number)?;
+    Ok(own.imports(alloc)?)
+}
+
+/// What the module of a number exports. The module's fault, or that of its exports.
+#[tactic(auto, using(crate::proofs::Lifting::fails_on, crate::proofs::Lifting::parsed_fails), unfolding(crate::specs::Resolving::exports_read))]
+fn read_exports<'p, P: ModuleProvider>(
+    provider: &'p P,
+    modules: &[Module<'_>],
+    number: usize,
+) -> Result<CrossModuleExports<'p>>
+    ensures { Answers (λ e. e) result (exports_read (P.provided provider.now) modules.now number) }
+{
+    let own = module_info(provider, modules, number)?;
+    Ok(own.exports()?)
+}
+
+/// What the module of a number holds. `OutOfRangeModuleIndex`, the provider's fault, `ModuleInfoNotFound`.
+#[tactic(auto, using(crate::proofs::ModuleSteps::module_past, crate::proofs::ModuleSteps::module_given, crate::proofs::ModuleSteps::module_missing, crate::proofs::ModuleSteps::module_fails))]
+fn module_info<'p, P: ModuleProvider>(
+    provider: &'p P,
+    modules: &[Module<'_>],
+    number: usize,
+) -> Result<&'p P::Info>
+    ensures { Answers (λ info. P.Info.held info.now) result (module_numbered (P.provided provider.now) modules.now number) }
+{
+    let Some(module) = module_at(modules, number) else {
+        return Err(Error::OutOfRangeModuleIndex(number));
+    };
+    match info_of(provider, module, number) {
+        Ok(Some(info)) => Ok(info),
+        Ok(None) => Err(Error::ModuleInfoNotFound(number)),
+        Err(fault) => Err(fault),
+    }
+}
+
+/// What the module of a number and an entry holds, if it has a stream of its own. The provider's fault.
+#[tactic(auto, using(crate::proofs::Lifting::parsed_fails))]
+fn info_of<'p, P: ModuleProvider>(
+    provider: &'p P,
+    module: &Module<'_>,
+    number: usize,
+) -> Result<Option<&'p P::Info>>
+    ensures { Answers (option_map (λ info. P.Info.held info.now)) result (lifted (P.provided provider.now number «module».now)) }
+{
+    Ok(provider.get_module_info(number, module)?)
+}
+
+/// The module of a number, counted from 0.
+fn module_at<'m, 'a>(modules: &'m [Module<'a>], number: usize) -> Option<&'m Module<'a>>
+    ensures { option_map (λ m. m.now) result ≡ slice_get modules.now number }
+{
+    modules.get(number)
+}
