@@ -191,7 +191,7 @@ fn pointer_size(machine: MachineType) -> u64
 }
 
 /// The id of an index of the table. Its item's fault, or that of its record.
-#[tactic(auto, using(pdb_resolving::proofs::Lifting::parsed_fails_on, pdb_resolving::proofs::Lifting::given_fails), unfolding(crate::specs::Reading::id_in))]
+#[tactic(auto, unfolding(crate::specs::Reading::id_in))]
 fn read_id_in<'t>(alloc: Global, ids: &mut ItemMap<'t, IdIndex>, index: u32) -> Result<IdData<'t>>
     ensures same { ids.new ≡ ids.old }
     ensures value { Answers id_shape result (id_in ids.old index) }

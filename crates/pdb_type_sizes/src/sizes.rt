@@ -119,7 +119,7 @@ fn stated_size(
 }
 
 /// The type of an index of the table. Its item's fault, or that of its record.
-#[tactic(auto, using(pdb_resolving::proofs::Lifting::parsed_fails_on, pdb_resolving::proofs::Lifting::given_fails), unfolding(crate::specs::Reading::type_in))]
+#[tactic(auto, unfolding(crate::specs::Reading::type_in))]
 pub(crate) fn read_type_in<'t>(
     alloc: Global,
     types: &mut ItemMap<'t, TypeIndex>,
