@@ -1,3 +1,4 @@
 pub mod DefinitionSteps
 pub mod EndSteps
+pub mod KeptSteps
 pub mod SizeSteps

@@ -1,3 +1,4 @@
 pub mod Ends
+pub mod KeptSizes
 pub mod Reading
 pub mod Sizes

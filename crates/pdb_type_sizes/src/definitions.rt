@@ -6,6 +6,7 @@ ghost use Rattle.pdb_items.specs.Item.{item_bytes};
 ghost use Rattle.pdb_items.specs.ItemType.{type_of_item};
 ghost use Rattle.pdb_records.specs.Attributes.{is_forward};
 ghost use Rattle.pdb_records.specs.Shapes.{shape};
+ghost use Rattle.pdb_type_sizes.specs.KeptSizes.{is_reference};
 ghost use Rattle.pdb_type_sizes.specs.Sizes.{key_name as key_name_of, size_if_defined as size_if_defined_by, form_size, defined_size as defined_size_in, definition_behind as definition_behind_index, aggregate_bytes};
 
 use crate::item_map::ItemMap;
@@ -14,6 +15,17 @@ use pdb_indices::TypeIndex;
 use pdb_items::Type;
 use pdb_records::{TypeData, TypeProperties};
 use std::alloc::{AllocError, Global};
+
+/// Whether a type is a class or a union that is defined elsewhere.
+pub(crate) fn is_forward_reference(type_data: &TypeData<'_>) -> bool
+    ensures { result ≡ is_reference (shape type_data.now) }
+{
+    match type_data {
+        TypeData::Class(t) => t.properties.forward_reference(),
+        TypeData::Union(t) => t.properties.forward_reference(),
+        _ => false,
+    }
+}
 
 /// The name by which a class or a union is looked for: the unique one, if it has one.
 pub(crate) fn key_name<'t>(name: RawString<'t>, unique_name: Option<RawString<'t>>) -> RawString<'t>

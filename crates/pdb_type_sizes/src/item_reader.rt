@@ -11,7 +11,8 @@ ghost use Rattle.pdb_type_sizes.specs.Reading.{id_in, type_at, id_at, parts_by, 
 ghost use Rattle.pdb_type_sizes.specs.Sizes.{resolved_bytes, size_at, stated_bytes};
 
 use crate::item_map::ItemMap;
-use crate::sizes::{Stated, read_type_in, stated_in};
+use crate::sized_types::SizedTypes;
+use crate::sizes::Stated;
 use pdb_container::StringTable;
 use pdb_indices::{IdIndex, TypeIndex};
 use pdb_items::{IdInformation, TypeInformation};
@@ -28,7 +29,7 @@ const MOST_STEPS: u32 = 1024;
 #[derive(Drop)]
 pub struct ItemReader<'a, 's, P: ModuleProvider> {
     resolver: Resolver<'a, 's, P>,
-    types: ItemMap<'a, TypeIndex>,
+    types: SizedTypes<'a>,
     ids: ItemMap<'a, IdIndex>,
     pointer_size: u64,
 }
@@ -64,7 +65,7 @@ impl<'a, 's, P: ModuleProvider> ItemReader<'a, 's, P> {
         }) }
         ensures memory { IsOkUnless result causes.OutOfMemory }
     {
-        let types = ItemMap::of_types(alloc, type_information)?;
+        let types = SizedTypes::of(alloc, type_information)?;
         let ids = ItemMap::of_ids(alloc, id_information)?;
         Ok(ItemReader {
             resolver: Resolver::new(alloc, provider, modules, string_table),
@@ -112,7 +113,7 @@ impl<'a, 's, P: ModuleProvider> ItemReader<'a, 's, P> {
         ensures value { Answers shape result (type_at (parts_by P.provided self.old) module_index index.0) }
     {
         match self.resolver.resolve(alloc, module_index, index.0) {
-            Ok(resolved) => read_type_in(alloc, &mut self.types, resolved),
+            Ok(resolved) => self.types.read(alloc, resolved),
             Err(fault) => Err(fault),
         }
     }
@@ -168,7 +169,7 @@ impl<'a, 's, P: ModuleProvider> ItemReader<'a, 's, P> {
         ensures size { IfOk result (λ s. (of : ℕ → ℕ) → stated_bytes of s ≡ resolved_bytes self.old.types self.old.pointer_size of (resolve (modules_by P.provided self.old.modules) module_index index.0)) }
     {
         match self.resolver.resolve(alloc, module_index, index.0) {
-            Ok(resolved) => stated_in(alloc, &mut self.types, self.pointer_size, resolved),
+            Ok(resolved) => self.types.stated(alloc, self.pointer_size, resolved),
             Err(Error::OutOfMemory) => Err(AllocError),
             Err(_) => Ok(Stated::Bytes(0)),
         }
@@ -190,7 +191,7 @@ fn pointer_size(machine: MachineType) -> u64
 }
 
 /// The id of an index of the table. Its item's fault, or that of its record.
-#[tactic(auto, using(pdb_resolving::proofs::Lifting::parsed_fails_on, pdb_resolving::proofs::Lifting::given_fails), unfolding(crate::specs::Reading::id_in))]
+#[tactic(auto, unfolding(crate::specs::Reading::id_in))]
 fn read_id_in<'t>(alloc: Global, ids: &mut ItemMap<'t, IdIndex>, index: u32) -> Result<IdData<'t>>
     ensures same { ids.new ≡ ids.old }
     ensures value { Answers id_shape result (id_in ids.old index) }

@@ -5,6 +5,7 @@ mod definitions;
 mod item_map;
 mod item_reader;
 mod primitives;
+mod sized_types;
 mod sizes;
 
 pub use item_map::ItemMap;

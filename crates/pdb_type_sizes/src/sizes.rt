@@ -1,19 +1,21 @@
 //! Sizes of types in bytes.
 
-ghost use Rattle.std.specs.Prelude.{◌≡◌, ℕ, IfOk};
+ghost use Rattle.std.specs.Prelude.{◌≡◌, ℕ, Ok, IfOk};
 ghost use Rattle.pdb_records.specs.Attributes.{is_forward};
 ghost use Rattle.pdb_records.specs.Shapes.{shape, class_form, union_form};
 ghost use Rattle.pdb_resolving.specs.Fault.{Answers};
+ghost use Rattle.pdb_type_sizes.specs.KeptSizes.{AreSizes};
 ghost use Rattle.pdb_type_sizes.specs.Reading.{type_in};
 ghost use Rattle.pdb_type_sizes.specs.Sizes.{variant_bytes, last_dimension as last_dimension_of, key_name as key_name_of, aggregate_bytes, form_bytes, read_bytes, stated_bytes};
 
-use crate::definitions::{aggregate_size, key_name};
+use crate::definitions::{aggregate_size, is_forward_reference, key_name};
 use crate::item_map::ItemMap;
 use crate::primitives::primitive_size;
 use pdb_indices::{TypeIndex, Variant};
 use pdb_records::{ClassType, TypeData, UnionType};
 use pdb_resolving::{Error, Result};
 use std::alloc::{AllocError, Global};
+use std::collections::BTreeMap;
 
 /// What a type says of its size.
 #[derive(Clone, Copy, Debug)]
@@ -117,7 +119,7 @@ fn stated_size(
 }
 
 /// The type of an index of the table. Its item's fault, or that of its record.
-#[tactic(auto, using(pdb_resolving::proofs::Lifting::parsed_fails_on, pdb_resolving::proofs::Lifting::given_fails), unfolding(crate::specs::Reading::type_in))]
+#[tactic(auto, unfolding(crate::specs::Reading::type_in))]
 pub(crate) fn read_type_in<'t>(
     alloc: Global,
     types: &mut ItemMap<'t, TypeIndex>,
@@ -130,19 +132,71 @@ pub(crate) fn read_type_in<'t>(
     Ok(item.parse(alloc)?)
 }
 
-/// What is known of the size of the type of an index of the table; 0 where it can't be read.
-pub(crate) fn stated_in(
+/// What a type of an index of the table says of its size, which is kept where the type is a forward reference. Nothing is kept
+/// where memory is short.
+fn stated_and_kept(
     alloc: Global,
     types: &mut ItemMap<'_, TypeIndex>,
+    sizes: &mut BTreeMap<u32, u64>,
+    pointer_size: u64,
+    index: u32,
+    type_data: &TypeData<'_>,
+) -> std::result::Result<Stated, AllocError>
+    requires sizes { AreSizes types.old sizes.old }
+    requires read { type_in types.old index ≡ Ok (shape type_data.now) }
+    ensures same { types.new ≡ types.old }
+    ensures kept { AreSizes types.old sizes.new }
+    ensures size { IfOk result (λ s. (of : ℕ → ℕ) → stated_bytes of s ≡ form_bytes types.old pointer_size of index (shape type_data.now)) }
+{
+    let stated = stated_size(alloc, types, pointer_size, index, type_data)?;
+    if !is_forward_reference(type_data) {
+        return Ok(stated);
+    }
+    match stated {
+        Stated::Bytes(size) => {
+            sizes.insert(index, size)?;
+            Ok(stated)
+        }
+        Stated::SameAs(_) => Ok(stated),
+    }
+}
+
+/// What is known of the size of the type of an index of the table, of which none is kept; 0 where it can't be read.
+fn read_stated(
+    alloc: Global,
+    types: &mut ItemMap<'_, TypeIndex>,
+    sizes: &mut BTreeMap<u32, u64>,
     pointer_size: u64,
     index: u32,
 ) -> std::result::Result<Stated, AllocError>
+    requires { AreSizes types.old sizes.old }
     ensures same { types.new ≡ types.old }
+    ensures kept { AreSizes types.old sizes.new }
     ensures size { IfOk result (λ s. (of : ℕ → ℕ) → stated_bytes of s ≡ read_bytes types.old pointer_size of index (type_in types.old index)) }
 {
     match read_type_in(alloc, types, index) {
-        Ok(type_data) => stated_size(alloc, types, pointer_size, index, &type_data),
+        Ok(type_data) => stated_and_kept(alloc, types, sizes, pointer_size, index, &type_data),
         Err(Error::OutOfMemory) => Err(AllocError),
         Err(_) => Ok(Stated::Bytes(0)),
     }
+}
+
+/// What is known of the size of the type of an index of the table, by what is kept or else by its record; 0 where it can't be
+/// read.
+pub(crate) fn stated_in(
+    alloc: Global,
+    types: &mut ItemMap<'_, TypeIndex>,
+    sizes: &mut BTreeMap<u32, u64>,
+    pointer_size: u64,
+    index: u32,
+) -> std::result::Result<Stated, AllocError>
+    requires { AreSizes types.old sizes.old }
+    ensures same { types.new ≡ types.old }
+    ensures kept { AreSizes types.old sizes.new }
+    ensures size { IfOk result (λ s. (of : ℕ → ℕ) → stated_bytes of s ≡ read_bytes types.old pointer_size of index (type_in types.old index)) }
+{
+    if let Some(size) = sizes.get(&index) {
+        return Ok(Stated::Bytes(*size));
+    }
+    read_stated(alloc, types, sizes, pointer_size, index)
 }
