@@ -86,12 +86,12 @@ pub fn keep_lines<'a, I: ModuleTables>(
 /// Reads the data of the procedure over a place in the module of a number, if the module's data are kept, and keeps them too.
 fn keep_procedure_at<'a, I: ModuleTables>(
     alloc: Global,
-    module: &mut KeptModule<'a, I>,
+    kept_module: &mut KeptModule<'a, I>,
     place: PdbInternalSectionOffset,
 ) -> Result<(), AllocError>
-    ensures { module.new ≡ module.old }
+    ensures { kept_module.new ≡ kept_module.old }
 {
-    match module {
+    match kept_module {
         Some(Some(known)) => known.keep_procedure(alloc, place),
         _ => Ok(()),
     }
@@ -108,6 +108,36 @@ pub fn keep_procedure<'a, I: ModuleTables>(
 {
     if module_index < kept.len() {
         keep_procedure_at(alloc, &mut kept[module_index], place)?;
+    }
+    Ok(())
+}
+
+/// Reads the line rows of the function that begins at a place, if its module's data are kept there, and keeps them too.
+fn keep_public_rows_at<'a, I: ModuleTables>(
+    alloc: Global,
+    kept_module: &mut KeptModule<'a, I>,
+    start: PdbInternalSectionOffset,
+) -> Result<(), AllocError>
+    ensures { kept_module.new ≡ kept_module.old }
+{
+    match kept_module {
+        Some(Some(known)) => known.keep_public_rows(alloc, start),
+        _ => Ok(()),
+    }
+}
+
+/// Reads the line rows of the function that begins at a place in the module of a number, if the module's data are kept, and keeps
+/// them too.
+pub fn keep_public_rows<'a, I: ModuleTables>(
+    alloc: Global,
+    kept: &mut [KeptModule<'a, I>],
+    module_index: usize,
+    start: PdbInternalSectionOffset,
+) -> Result<(), AllocError>
+    ensures { kept.new ≡ kept.old }
+{
+    if module_index < kept.len() {
+        keep_public_rows_at(alloc, &mut kept[module_index], start)?;
     }
     Ok(())
 }
