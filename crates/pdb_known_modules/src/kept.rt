@@ -1,6 +1,6 @@
 //! What is kept of modules that were asked for.
 
-ghost use Rattle.std.specs.Prelude.{◌≡◌, IfOk, length, replicate, None, slice_get};
+ghost use Rattle.std.specs.Prelude.{◌≡◌, IfOk, length, option_copied, replicate, None, slice_get};
 ghost use Rattle.pdb_known_modules.specs.Kept.{AreKept, known_in, is_empty as is_empty_place};
 ghost use Rattle.pdb_known_modules.specs.Modules.{module_data, own_of};
 
@@ -142,17 +142,15 @@ pub fn keep_public_rows<'a, I: ModuleTables>(
     Ok(())
 }
 
-/// The data that are kept of the module of a number, or else what stands for none.
+/// The data that are kept of the module of a number, if there are some.
 pub fn known_at<'m, 'a, I: ModuleTables>(
     kept: &'m [KeptModule<'a, I>],
     module_index: usize,
-    none: &'m Option<BasicModuleInfo<'a, I>>,
-) -> &'m Option<BasicModuleInfo<'a, I>>
-    requires { none.now ≡ None }
-    ensures { result.now ≡ known_in kept.now module_index }
+) -> Option<&'m BasicModuleInfo<'a, I>>
+    ensures { option_copied result ≡ known_in kept.now module_index }
 {
-    let Some(Some(known)) = kept.get(module_index) else {
-        return none;
-    };
-    known
+    match kept.get(module_index) {
+        Some(Some(known)) => known.as_ref(),
+        _ => None,
+    }
 }

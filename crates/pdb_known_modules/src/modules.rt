@@ -1,6 +1,6 @@
 //! What a module's own stream says.
 
-ghost use Rattle.std.specs.Prelude.{◌≡◌, ◌↔◌, true, IfOk, IfSome, None, Ok, Some, option_map, slice_get};
+ghost use Rattle.std.specs.Prelude.{◌≡◌, ◌↔◌, true, IfOk, IfSome, None, Ok, Some, option_copied, option_map, slice_get};
 ghost use Rattle.std.specs.List.{flat_map};
 ghost use Rattle.pdb_addresses.specs.SectionRun.{up_to_next};
 ghost use Rattle.pdb_bounds.specs.SectionBounds.{procedure_bounds as bounds_of_procedure};
@@ -309,10 +309,10 @@ pub fn procedures_in<'m, 'a, I: ModuleTables>(
 
 /// The procedure of a module over a place; none without data.
 pub fn procedure_over<'m, 'a, I: ModuleTables>(
-    known: &'m Option<BasicModuleInfo<'a, I>>,
+    known: Option<&'m BasicModuleInfo<'a, I>>,
     place: PdbInternalSectionOffset,
 ) -> Option<&'m Procedure<'a>>
-    ensures { option_map (λ q. q.now) result ≡ over (procedures_of_module known.now) place }
+    ensures { option_map (λ q. q.now) result ≡ over (procedures_of_module (option_copied known.entry)) place }
 {
     match known {
         None => None,
