@@ -1,17 +1,17 @@
 //! A context: answers about addresses of an image.
 
-ghost use Rattle.std.specs.Prelude.{◌≡◌, ◌≤◌, true, IfOk, Ok, Some, is_some, length, option_map};
+ghost use Rattle.std.specs.Prelude.{◌≡◌, ◌≤◌, true, IfOk, Ok, Some, is_some, length, option_and_then, option_copied, option_map};
 ghost use Rattle.pdb_addresses.specs.Addresses.{IsOrdered};
 ghost use Rattle.pdb_addresses.specs.SectionRun.{up_to_next};
 ghost use Rattle.pdb_resolving.specs.Fault.{Answers};
-ghost use Rattle.pdb_frames.specs.Choice.{Parts, place_of};
-ghost use Rattle.pdb_known_modules.specs.Kept.{AreKept};
+ghost use Rattle.pdb_frames.specs.Choice.{Parts, chosen as chosen_at, place_of, public_start as public_start_of};
+ghost use Rattle.pdb_known_modules.specs.Kept.{AreKept, known_in};
 ghost use Rattle.pdb_frames.specs.Parts.{entries_of, parts_of, scope_of};
 ghost use Rattle.pdb_context.specs.Context.{context_over, lasting, scope_in, uncounted, lookups_after};
 ghost use Rattle.pdb_frames.specs.Failed.{failed_after, failing, failing_at, failing_if_held, failing_in as failing_in_module, told};
 ghost use Rattle.pdb_frames.specs.Frames.{frames, frames_at as frames_at_place, frames_if_held, frames_of_chosen, function, function_at as function_at_contribution, function_of as function_of_chosen, held_at};
 ghost use Rattle.pdb_names.specs.MaybeOwned.{value_of};
-ghost use Rattle.pdb_known_modules.specs.Modules.{module_data, own_of};
+ghost use Rattle.pdb_known_modules.specs.Modules.{module_data, own_of, procedures_in as procedures_of_module};
 ghost use Rattle.pdb_frames.specs.Runs.{bounds_near, database_of, function_here as function_at_place, procedures_of};
 ghost use Rattle.pdb_frames.specs.Seen.{chosen_seen};
 ghost use Rattle.pdb_functions.specs.Databases.{IsOneRun, place_of as as_place};
@@ -26,7 +26,8 @@ use pdb_frames::{
 };
 use pdb_functions::{Function, FunctionFrames};
 use pdb_known_modules::{
-    BasicModuleInfo, KeptModule, empty_places, keep_lines, keep_module, keep_procedure, known_at,
+    BasicModuleInfo, KeptModule, empty_places, keep_lines, keep_module, keep_procedure,
+    keep_public_rows, known_at,
 };
 use pdb_names::Namer;
 use pdb_names::maybe_owned::MaybeOwned;
@@ -107,12 +108,12 @@ fn frames_of<'a, P: ModuleProvider>(
     parts: &ContextParts<'a, '_>,
     namer: &mut Namer<'_, '_, P>,
     module_index: u16,
-    known: &Option<BasicModuleInfo<'_, P::Info>>,
+    known: Option<&BasicModuleInfo<'_, P::Info>>,
     chosen: Chosen<'_, '_>,
     place: PdbInternalSectionOffset,
 ) -> Result<Option<FunctionFrames<'a>>>
     ensures same { namer.new ≡ namer.old }
-    ensures frames { Answers (λ f. f) result (frames_of_chosen parts.now (env_of P.provided namer.old module_index) known.now place (Some (chosen_seen chosen.entry))) }
+    ensures frames { Answers (λ f. f) result (frames_of_chosen parts.now (env_of P.provided namer.old module_index) (option_copied known.entry) place (Some (chosen_seen chosen.entry))) }
 {
     let frames = frames_in(alloc, parts, namer, module_index, known, chosen, place)?;
     match chosen.start_rva(parts) {
@@ -133,13 +134,13 @@ fn frames_told<'a, P: ModuleProvider>(
     namer: &mut Namer<'_, '_, P>,
     failed: &mut Failures,
     module_index: u16,
-    known: &Option<BasicModuleInfo<'_, P::Info>>,
+    known: Option<&BasicModuleInfo<'_, P::Info>>,
     chosen: Chosen<'_, '_>,
     place: PdbInternalSectionOffset,
 ) -> Result<Option<FunctionFrames<'a>>>
     ensures same { namer.new ≡ namer.old }
-    ensures failed { failed.new ≡ failed_after (failing_in_module module_index known.now (chosen_seen chosen.entry)) result failed.old }
-    ensures frames { Answers (λ f. f) result (told failed.old (failing_in_module module_index known.now (chosen_seen chosen.entry)) (frames_of_chosen parts.now (env_of P.provided namer.old module_index) known.now place (Some (chosen_seen chosen.entry)))) }
+    ensures failed { failed.new ≡ failed_after (failing_in_module module_index (option_copied known.entry) (chosen_seen chosen.entry)) result failed.old }
+    ensures frames { Answers (λ f. f) result (told failed.old (failing_in_module module_index (option_copied known.entry) (chosen_seen chosen.entry)) (frames_of_chosen parts.now (env_of P.provided namer.old module_index) (option_copied known.entry) place (Some (chosen_seen chosen.entry)))) }
 {
     let frames = frames_of(alloc, parts, namer, module_index, known, chosen, place);
     match frames {
@@ -159,23 +160,59 @@ fn frames_told<'a, P: ModuleProvider>(
     }
 }
 
-/// Reads what frames at a place in a module are made of, and keeps it. Where the module's line program and inlinees stand as failed
-/// nothing is read.
-fn keep_parts<'a, I: ModuleTables>(
+/// Where the public entry begins that is chosen at a place that a contribution holds, if one is, by what is kept of its module.
+fn public_start_at<'a, I: ModuleTables>(
+    kept: &[KeptModule<'a, I>],
+    parts: &ContextParts<'a, '_>,
+    contribution: ModuleSectionContribution,
+    place: PdbInternalSectionOffset,
+) -> Option<PdbInternalSectionOffset>
+    ensures { result ≡ option_and_then public_start_of (chosen_at parts.now (procedures_of_module (known_in kept.now contribution.module_index)) contribution place) }
+{
+    let known = known_at(kept, usize::from(contribution.module_index));
+    choose(parts, known, contribution, place)?.public_start()
+}
+
+/// Reads the rows of the public entry that is chosen at a place that a contribution holds, if one is, and keeps them. Where they
+/// stand as failed nothing is read.
+fn keep_public_entry<'a, I: ModuleTables>(
     alloc: Global,
     kept: &mut [KeptModule<'a, I>],
+    parts: &ContextParts<'a, '_>,
     failed: &Failures,
-    module_index: u16,
+    contribution: ModuleSectionContribution,
     place: PdbInternalSectionOffset,
 ) -> std::result::Result<(), AllocError>
     ensures { kept.new ≡ kept.old }
 {
-    if failed.has(Part::ExtendedModule(module_index)) {
+    let module_index = contribution.module_index;
+    match public_start_at(kept, parts, contribution, place) {
+        Some(start) if !failed.has(Part::ProcedureLines(module_index, start)) => {
+            keep_public_rows(alloc, kept, usize::from(module_index), start)
+        }
+        _ => Ok(()),
+    }
+}
+
+/// Reads what frames at a place that a contribution holds are made of, and keeps it. Where its module's line program and inlinees
+/// stand as failed nothing is read.
+fn keep_parts<'a, I: ModuleTables>(
+    alloc: Global,
+    kept: &mut [KeptModule<'a, I>],
+    parts: &ContextParts<'a, '_>,
+    failed: &Failures,
+    contribution: ModuleSectionContribution,
+    place: PdbInternalSectionOffset,
+) -> std::result::Result<(), AllocError>
+    ensures { kept.new ≡ kept.old }
+{
+    if failed.has(Part::ExtendedModule(contribution.module_index)) {
         return Ok(());
     }
-    let module_index = usize::from(module_index);
+    let module_index = usize::from(contribution.module_index);
     keep_lines(alloc, kept, module_index)?;
-    keep_procedure(alloc, kept, module_index, place)
+    keep_procedure(alloc, kept, module_index, place)?;
+    keep_public_entry(alloc, kept, parts, failed, contribution, place)
 }
 
 /// The frames at a place that a contribution holds.
@@ -198,9 +235,8 @@ fn frames_at<'a, P: ModuleProvider>(
 {
     let module_index = usize::from(contribution.module_index);
     keep_module(alloc, kept, provider, namer.modules(), module_index)?;
-    keep_parts(alloc, kept, failed, contribution.module_index, place)?;
-    let none = None;
-    let known = known_at(kept, module_index, &none);
+    keep_parts(alloc, kept, parts, failed, contribution, place)?;
+    let known = known_at(kept, module_index);
     match choose(parts, known, contribution, place) {
         None => Ok(None),
         Some(chosen) => {
@@ -261,8 +297,7 @@ fn function_at<'a, P: ModuleProvider>(
 {
     let module_index = usize::from(contribution.module_index);
     keep_module(alloc, kept, provider, namer.modules(), module_index)?;
-    let none = None;
-    let known = known_at(kept, module_index, &none);
+    let known = known_at(kept, module_index);
     match choose(parts, known, contribution, place) {
         None => Ok(None),
         Some(chosen) => function_of(alloc, parts, namer, contribution.module_index, chosen),
@@ -340,8 +375,7 @@ fn run_at<'a, P: ModuleProvider>(
 {
     let module_index = usize::from(contribution.module_index);
     keep_module(alloc, kept, provider, namer.modules(), module_index)?;
-    let none = None;
-    let known = known_at(kept, module_index, &none);
+    let known = known_at(kept, module_index);
     let count = to_next_bound(parts, known, place, limit);
     match choose(parts, known, contribution, place) {
         None => Ok((None, count)),

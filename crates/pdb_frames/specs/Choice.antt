@@ -46,6 +46,11 @@ abbrev pub start_of : Chosen → PdbInternalSectionOffset
 start_of (Proc q) = q.offset
 start_of (Public f) = f.start_offset
 
+-- where it begins, if it is a public entry
+abbrev pub public_start : Chosen → Option PdbInternalSectionOffset
+public_start (Proc q) = None
+public_start (Public f) = Some f.start_offset
+
 -- the image address at which it begins, if it has one
 abbrev pub start_address : Parts → Chosen → Option ℕ
 start_address p c = outer_of_place p.map (start_of c).section (start_of c).offset

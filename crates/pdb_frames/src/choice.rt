@@ -1,7 +1,7 @@
 //! What is chosen at a place.
 
-ghost use Rattle.std.specs.Prelude.{◌≡◌, option_map};
-ghost use Rattle.pdb_frames.specs.Choice.{chosen as chosen_at, start_of, start_address, length_of, end_behind};
+ghost use Rattle.std.specs.Prelude.{◌≡◌, option_copied, option_map};
+ghost use Rattle.pdb_frames.specs.Choice.{chosen as chosen_at, public_start as public_start_of, start_of, start_address, length_of, end_behind};
 ghost use Rattle.pdb_frames.specs.Frames.{function_end};
 ghost use Rattle.pdb_known_modules.specs.Modules.{procedures_in};
 ghost use Rattle.pdb_frames.specs.Seen.{chosen_seen};
@@ -27,11 +27,11 @@ pub enum Chosen<'c, 'a> {
 /// of the public list, unless that one lies before the contribution.
 pub fn choose<'c, 'a, I: ModuleTables>(
     parts: &'c ContextParts<'a, '_>,
-    known: &'c Option<BasicModuleInfo<'a, I>>,
+    known: Option<&'c BasicModuleInfo<'a, I>>,
     contribution: ModuleSectionContribution,
     place: PdbInternalSectionOffset,
 ) -> Option<Chosen<'c, 'a>>
-    ensures { option_map chosen_seen result ≡ chosen_at parts.now (procedures_in known.now) contribution place }
+    ensures { option_map chosen_seen result ≡ chosen_at parts.now (procedures_in (option_copied known.entry)) contribution place }
 {
     if let Some(procedure) = procedure_over(known, place) {
         return Some(Chosen::Procedure(procedure));
@@ -50,6 +50,16 @@ impl<'c, 'a> Chosen<'c, 'a> {
         match self {
             Chosen::Procedure(procedure) => procedure.offset,
             Chosen::Public(public) => public.start_offset,
+        }
+    }
+
+    /// Where it begins, if it is an entry of the public list.
+    pub fn public_start(self) -> Option<PdbInternalSectionOffset>
+        ensures { result ≡ public_start_of (chosen_seen self.entry) }
+    {
+        match self {
+            Chosen::Procedure(_) => None,
+            Chosen::Public(public) => Some(public.start_offset),
         }
     }
 

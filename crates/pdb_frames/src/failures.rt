@@ -1,6 +1,6 @@
 //! The parts of modules that can't be read, and those that stand as failed since they were asked for.
 
-ghost use Rattle.std.specs.Prelude.{◌≡◌, IfOk, OnErr, OnOk};
+ghost use Rattle.std.specs.Prelude.{◌≡◌, IfOk, OnErr, OnOk, option_copied};
 ghost use Rattle.pdb_frames.specs.Failed.{failing_by, failing_in as failing_in_module, failing_procedure as failing_of_procedure, failing_sites as failing_of_sites, has_failed, no_failures, number_of as number_at, unsuccessful_error, with_failed};
 ghost use Rattle.pdb_known_modules.specs.Modules.{extended_of, procedure_sites};
 ghost use Rattle.pdb_frames.specs.Seen.{chosen_seen};
@@ -178,10 +178,10 @@ fn failing_module<I: ModuleTables>(
 pub fn failing_in<I: ModuleTables>(
     alloc: Global,
     module_index: u16,
-    known: &Option<BasicModuleInfo<'_, I>>,
+    known: Option<&BasicModuleInfo<'_, I>>,
     chosen: Chosen<'_, '_>,
 ) -> std::result::Result<Option<Part>, AllocError>
-    ensures { IfOk result (λ p. p ≡ failing_in_module module_index known.now (chosen_seen chosen.entry)) }
+    ensures { IfOk result (λ p. p ≡ failing_in_module module_index (option_copied known.entry) (chosen_seen chosen.entry)) }
 {
     let Some(known) = known else {
         return Ok(None);

@@ -1,8 +1,9 @@
 //! The frames at a place in a chosen function.
 
-ghost use Rattle.std.specs.Prelude.{◌≡◌, Ok, IfOk, map, option_map, option_and_then, string_bytes};
+ghost use Rattle.std.specs.Prelude.{◌≡◌, Ok, IfOk, map, option_copied, option_map, option_and_then, string_bytes};
 ghost use Rattle.std.specs.Cow.{cow_str_bytes};
-ghost use Rattle.pdb_module_data.specs.FunctionLine.{file_text, row_at};
+ghost use Rattle.pdb_container.specs.Fault.{Gives};
+ghost use Rattle.pdb_module_data.specs.FunctionLine.{file_text, function_row, row_at};
 ghost use Rattle.pdb_module_data.specs.InlinedCalls.{call_rows, calls_over};
 ghost use Rattle.pdb_module_data.specs.InlinePieces.{StandForSites};
 ghost use Rattle.pdb_resolving.specs.Fault.{Answers};
@@ -69,6 +70,25 @@ fn procedure_row_and_calls<'m, I: ModuleTables>(
     Ok(found)
 }
 
+/// The line row of a place in the function that begins at another one, by its module's line program: the rows that are kept of
+/// that function are used, or else they are read.
+fn public_row<'m, I: ModuleTables>(
+    alloc: Global,
+    known: &BasicModuleInfo<'m, I>,
+    extended: &ExtendedModuleInfo<'m>,
+    start: PdbInternalSectionOffset,
+    place: PdbInternalSectionOffset,
+) -> pdb_container::Result<Option<LineRow>>
+    requires { extended_of (known.now).stream ≡ Ok (extended_seen extended.now) }
+    ensures { Gives (λ r. r) ⊥ result (function_row (extended_seen extended.now).program start place) }
+{
+    if let Some(rows) = known.public_rows(start) {
+        return Ok(rows.at(place.offset));
+    }
+    let rows = FunctionRows::read(alloc, &extended.line_program, start)?;
+    Ok(rows.at(place.offset))
+}
+
 /// The line row of a place in a chosen function, and the inlined calls over the place, innermost first; none in a public entry.
 #[tactic(auto, using(pdb_resolving::proofs::Lifting::given_fails_on), unfolding(crate::specs::Frames::row_and_calls))]
 fn row_and_calls_in<'m, I: ModuleTables>(
@@ -86,8 +106,8 @@ fn row_and_calls_in<'m, I: ModuleTables>(
             procedure_row_and_calls(alloc, known, extended, procedure, place)
         }
         Chosen::Public(public) => {
-            let rows = FunctionRows::read(alloc, &extended.line_program, public.start_offset)?;
-            Ok((rows.at(place.offset), Vec::new(alloc)))
+            let row = public_row(alloc, known, extended, public.start_offset, place)?;
+            Ok((row, Vec::new(alloc)))
         }
     }
 }
@@ -253,12 +273,12 @@ pub fn frames_in<'a, P: ModuleProvider>(
     parts: &ContextParts<'a, '_>,
     namer: &mut Namer<'_, '_, P>,
     module_index: u16,
-    known: &Option<BasicModuleInfo<'_, P::Info>>,
+    known: Option<&BasicModuleInfo<'_, P::Info>>,
     chosen: Chosen<'_, '_>,
     place: PdbInternalSectionOffset,
 ) -> Result<Vec<Frame<'a>>>
     ensures same { namer.new ≡ namer.old }
-    ensures frames { Answers (λ v. v.items) result (frames_of_module parts.now (env_of P.provided namer.old module_index) known.now (chosen_seen chosen.entry) place) }
+    ensures frames { Answers (λ v. v.items) result (frames_of_module parts.now (env_of P.provided namer.old module_index) (option_copied known.entry) (chosen_seen chosen.entry) place) }
 {
     match known {
         None => {

@@ -1,6 +1,6 @@
 //! How far along a section answers stay.
 
-ghost use Rattle.std.specs.Prelude.{◌≡◌, []};
+ghost use Rattle.std.specs.Prelude.{◌≡◌, [], option_copied};
 ghost use Rattle.std.specs.List.{flat_map};
 ghost use Rattle.pdb_addresses.specs.SectionRun.{nearer as nearer_of, up_to_next};
 ghost use Rattle.pdb_known_modules.specs.Modules.{procedures_in};
@@ -39,11 +39,11 @@ fn to_next_contribution(
 
 /// The lesser of `far` and the distance from a place to the next start or end of a module's procedure; none has one without data.
 fn to_next_procedure<I: ModuleTables>(
-    known: &Option<BasicModuleInfo<'_, I>>,
+    known: Option<&BasicModuleInfo<'_, I>>,
     place: PdbInternalSectionOffset,
     far: u32,
 ) -> u32
-    ensures { result ≡ up_to_next (flat_map (procedure_bounds place) (procedures_in known.now)) place.offset far }
+    ensures { result ≡ up_to_next (flat_map (procedure_bounds place) (procedures_in (option_copied known.entry))) place.offset far }
 {
     match known {
         None => far,
@@ -91,11 +91,11 @@ pub fn to_next_shared_bound(
 #[tactic(auto, using(pdb_bounds::proofs::NextBounds::next_of_all))]
 pub fn to_next_bound<I: ModuleTables>(
     parts: &ContextParts<'_, '_>,
-    known: &Option<BasicModuleInfo<'_, I>>,
+    known: Option<&BasicModuleInfo<'_, I>>,
     place: PdbInternalSectionOffset,
     limit: u32,
 ) -> u32
-    ensures { result ≡ up_to_next (bounds_near parts.now (procedures_in known.now) place) place.offset limit }
+    ensures { result ≡ up_to_next (bounds_near parts.now (procedures_in (option_copied known.entry)) place) place.offset limit }
 {
     let near = to_next_procedure(known, place, limit);
     to_next_of_all_modules(parts, place, near)

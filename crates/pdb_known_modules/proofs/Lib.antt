@@ -1,3 +1,4 @@
 pub mod KeptProcedures
+pub mod KeptRows
 pub mod KeptSteps
 pub mod SitesSteps

@@ -1,4 +1,5 @@
 pub mod Kept
 pub mod Modules
 pub mod ProcedureData
+pub mod PublicRows
 pub mod Seen

@@ -1,6 +1,6 @@
 //! What is kept of modules that were asked for.
 
-ghost use Rattle.std.specs.Prelude.{◌≡◌, IfOk, length, replicate, None, slice_get};
+ghost use Rattle.std.specs.Prelude.{◌≡◌, IfOk, length, option_copied, replicate, None, slice_get};
 ghost use Rattle.pdb_known_modules.specs.Kept.{AreKept, known_in, is_empty as is_empty_place};
 ghost use Rattle.pdb_known_modules.specs.Modules.{module_data, own_of};
 
@@ -86,12 +86,12 @@ pub fn keep_lines<'a, I: ModuleTables>(
 /// Reads the data of the procedure over a place in the module of a number, if the module's data are kept, and keeps them too.
 fn keep_procedure_at<'a, I: ModuleTables>(
     alloc: Global,
-    module: &mut KeptModule<'a, I>,
+    kept_module: &mut KeptModule<'a, I>,
     place: PdbInternalSectionOffset,
 ) -> Result<(), AllocError>
-    ensures { module.new ≡ module.old }
+    ensures { kept_module.new ≡ kept_module.old }
 {
-    match module {
+    match kept_module {
         Some(Some(known)) => known.keep_procedure(alloc, place),
         _ => Ok(()),
     }
@@ -112,17 +112,45 @@ pub fn keep_procedure<'a, I: ModuleTables>(
     Ok(())
 }
 
-/// The data that are kept of the module of a number, or else what stands for none.
+/// Reads the line rows of the function that begins at a place, if its module's data are kept there, and keeps them too.
+fn keep_public_rows_at<'a, I: ModuleTables>(
+    alloc: Global,
+    kept_module: &mut KeptModule<'a, I>,
+    start: PdbInternalSectionOffset,
+) -> Result<(), AllocError>
+    ensures { kept_module.new ≡ kept_module.old }
+{
+    match kept_module {
+        Some(Some(known)) => known.keep_public_rows(alloc, start),
+        _ => Ok(()),
+    }
+}
+
+/// Reads the line rows of the function that begins at a place in the module of a number, if the module's data are kept, and keeps
+/// them too.
+pub fn keep_public_rows<'a, I: ModuleTables>(
+    alloc: Global,
+    kept: &mut [KeptModule<'a, I>],
+    module_index: usize,
+    start: PdbInternalSectionOffset,
+) -> Result<(), AllocError>
+    ensures { kept.new ≡ kept.old }
+{
+    if module_index < kept.len() {
+        keep_public_rows_at(alloc, &mut kept[module_index], start)?;
+    }
+    Ok(())
+}
+
+/// The data that are kept of the module of a number, if there are some.
 pub fn known_at<'m, 'a, I: ModuleTables>(
     kept: &'m [KeptModule<'a, I>],
     module_index: usize,
-    none: &'m Option<BasicModuleInfo<'a, I>>,
-) -> &'m Option<BasicModuleInfo<'a, I>>
-    requires { none.now ≡ None }
-    ensures { result.now ≡ known_in kept.now module_index }
+) -> Option<&'m BasicModuleInfo<'a, I>>
+    ensures { option_copied result ≡ known_in kept.now module_index }
 {
-    let Some(Some(known)) = kept.get(module_index) else {
-        return none;
-    };
-    known
+    match kept.get(module_index) {
+        Some(Some(known)) => known.as_ref(),
+        _ => None,
+    }
 }

@@ -5,8 +5,11 @@
 mod kept;
 mod modules;
 mod procedure_data;
+mod public_rows;
 
-pub use kept::{KeptModule, empty_places, keep_lines, keep_module, keep_procedure, known_at};
+pub use kept::{
+    KeptModule, empty_places, keep_lines, keep_module, keep_procedure, keep_public_rows, known_at,
+};
 pub use modules::{
     BasicModuleInfo, ExtendedModuleInfo, get_basic_module_info, procedure_over, procedures_in,
     read_extended,

@@ -1,21 +1,23 @@
 //! What a module's own stream says.
 
-ghost use Rattle.std.specs.Prelude.{◌≡◌, ◌↔◌, true, IfOk, IfSome, None, Ok, Some, option_map, slice_get};
+ghost use Rattle.std.specs.Prelude.{◌≡◌, ◌↔◌, true, IfOk, IfSome, None, Ok, Some, option_copied, option_map, slice_get};
 ghost use Rattle.std.specs.List.{flat_map};
 ghost use Rattle.pdb_addresses.specs.SectionRun.{up_to_next};
 ghost use Rattle.pdb_bounds.specs.SectionBounds.{procedure_bounds as bounds_of_procedure};
 ghost use Rattle.pdb_container.specs.Fault.{Gives};
 ghost use Rattle.pdb_module_data.specs.Procedures.{over};
 ghost use Rattle.pdb_known_modules.specs.ProcedureData.{IsLentOf, IsOfStream};
+ghost use Rattle.pdb_known_modules.specs.PublicRows.{AreLentAt, AreRowsAt};
 ghost use Rattle.pdb_known_modules.specs.Seen.{extended_seen, AreExtendedHere};
 ghost use Rattle.pdb_known_modules.specs.Modules.{data_of_stream, data_if_there, extended_of, module_data, own_of, procedures_in as procedures_of_module};
 
 use crate::procedure_data::{ExtendedProcedureInfo, empty_procedures, read_extended_procedure};
+use crate::public_rows::PublicRows;
 use pdb_addresses::PdbInternalSectionOffset;
 use pdb_bounds::{SortedBounds, procedure_bounds};
 use pdb_container::{Error, Result};
 use pdb_lines::LineProgram;
-use pdb_module_data::{Inlinees, Procedure, Procedures};
+use pdb_module_data::{FunctionRows, Inlinees, Procedure, Procedures};
 use pdb_resolving::{ModuleProvider, ModuleTables};
 use pdb_symbols_modules::Module;
 use std::alloc::{AllocError, Global};
@@ -34,20 +36,24 @@ pub struct BasicModuleInfo<'a, I: ModuleTables> {
     extended: Option<ExtendedModuleInfo<'a>>,
     /// For each procedure a place, in which its data are kept once they were read; no place before line program and inlinees are.
     kept_procedures: Vec<Option<ExtendedProcedureInfo<'a>>>,
+    /// The line rows of functions that begin at public entries, once they were read; none before line program and inlinees are.
+    public_rows: PublicRows,
 }
 
 impl<'a, I: ModuleTables> Model for BasicModuleInfo<'a, I> {
     ghost use Rattle.pdb_bounds.specs.Bounds.{AreProcedureBounds};
     ghost use Rattle.pdb_known_modules.specs.Modules as modules;
     ghost use Rattle.pdb_known_modules.specs.ProcedureData.{AreOfStream};
+    ghost use Rattle.pdb_known_modules.specs.PublicRows.{AreRowsOfStream};
     ghost use Rattle.pdb_known_modules.specs.Seen.{AreExtended};
 
     ghost Value = { modules.ModuleData };
 
     ghost view = { λ m. record { stream = I.held m.module_info.now; procedures = m.procedures } };
 
-    // The bounds are those of the procedures. What is kept of lines and inlinees is the stream's, and so is what is kept of procedures.
-    ghost invariant = { λ m. AreProcedureBounds m.procedures m.bounds × AreExtended (I.held m.module_info.now) m.extended × AreOfStream (I.held m.module_info.now) m.kept_procedures.items };
+    // The bounds are those of the procedures. What is kept of lines and inlinees is the stream's, and so is what is kept of procedures
+    // and of public entries.
+    ghost invariant = { λ m. AreProcedureBounds m.procedures m.bounds × AreExtended (I.held m.module_info.now) m.extended × AreOfStream (I.held m.module_info.now) m.kept_procedures.items × AreRowsOfStream (I.held m.module_info.now) m.public_rows };
 }
 
 impl<'a, I: ModuleTables> BasicModuleInfo<'a, I> {
@@ -66,6 +72,7 @@ impl<'a, I: ModuleTables> BasicModuleInfo<'a, I> {
             bounds,
             extended: None,
             kept_procedures: Vec::new(alloc),
+            public_rows: PublicRows::new(alloc),
         })
     }
 
@@ -165,6 +172,50 @@ impl<'a, I: ModuleTables> BasicModuleInfo<'a, I> {
             _ => None,
         }
     }
+
+    /// Reads the line rows of the function that begins at a place, if line program and inlinees are kept, and keeps them, unless they
+    /// were kept before. Where they have a fault nothing is kept, and so where memory is short.
+    pub fn keep_public_rows(
+        &mut self,
+        alloc: Global,
+        start: PdbInternalSectionOffset,
+    ) -> std::result::Result<(), AllocError>
+        ensures { self.new ≡ self.old }
+    {
+        if self.public_rows.get(start).is_some() {
+            return Ok(());
+        }
+        match self.read_public_rows(alloc, start)? {
+            None => Ok(()),
+            Some(rows) => self.public_rows.keep(start, rows),
+        }
+    }
+
+    /// The line rows of the function that begins at a place; `None` where line program and inlinees aren't kept, and where the rows
+    /// have a fault.
+    fn read_public_rows(
+        &self,
+        alloc: Global,
+        start: PdbInternalSectionOffset,
+    ) -> std::result::Result<Option<FunctionRows>, AllocError>
+        ensures { IfOk result (λ r. IfSome r (λ rows. AreRowsAt (self.now).stream start rows)) }
+    {
+        let Some(extended) = self.extended() else {
+            return Ok(None);
+        };
+        match FunctionRows::read(alloc, &extended.line_program, start) {
+            Ok(rows) => Ok(Some(rows)),
+            Err(Error::OutOfMemory) => Err(AllocError),
+            Err(_) => Ok(None),
+        }
+    }
+
+    /// The line rows of the function that begins at a place, if they are kept.
+    pub fn public_rows(&self, start: PdbInternalSectionOffset) -> Option<&FunctionRows>
+        ensures { AreLentAt (self.now).stream start result }
+    {
+        self.public_rows.get(start)
+    }
 }
 
 /// The place of a number, if it is there.
@@ -258,10 +309,10 @@ pub fn procedures_in<'m, 'a, I: ModuleTables>(
 
 /// The procedure of a module over a place; none without data.
 pub fn procedure_over<'m, 'a, I: ModuleTables>(
-    known: &'m Option<BasicModuleInfo<'a, I>>,
+    known: Option<&'m BasicModuleInfo<'a, I>>,
     place: PdbInternalSectionOffset,
 ) -> Option<&'m Procedure<'a>>
-    ensures { option_map (λ q. q.now) result ≡ over (procedures_of_module known.now) place }
+    ensures { option_map (λ q. q.now) result ≡ over (procedures_of_module (option_copied known.entry)) place }
 {
     match known {
         None => None,

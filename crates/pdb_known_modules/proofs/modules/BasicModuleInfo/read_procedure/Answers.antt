@@ -1,4 +1,4 @@
-use Rattle.std.proofs.Common.{◌≡◌, ap}
+use Rattle.std.proofs.Common.{ap}
 use Rattle.pdb_known_modules.specs.Modules.{ModuleData}
 use Rattle.pdb_known_modules.specs.Seen.{extended_seen}
 use Rattle.pdb_known_modules.proofs.KeptProcedures.{of_held}
