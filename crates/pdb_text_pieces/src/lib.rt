@@ -3,15 +3,21 @@
 
 mod brackets;
 mod names;
+mod objects;
 mod path;
 mod pointers;
 mod text;
+mod words;
 
 pub use brackets::{emit_brackets, first_or_zero};
 pub use names::{
     class_word, emit_name, emit_named, emit_primitive, emit_string, emit_unhandled,
     emit_unhandled_id,
 };
+pub use objects::{emit_constant_object, emit_static, this_behind};
 pub use path::{Seen, is_on};
 pub use pointers::{PointerLevel, emit_pointers, ends_in_sigil, leading_to, level_of};
 pub use text::{emit, emit_missing, emit_unread};
+pub use words::{
+    emit_bare_function, emit_bare_method, emit_constant, emit_scope_end, shown_return,
+};

@@ -1,5 +1,7 @@
 pub mod Chains
 pub mod Failing
 pub mod Others
+pub mod Returns
 pub mod Scopes
+pub mod Steps
 pub mod Visits

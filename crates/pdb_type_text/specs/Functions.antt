@@ -11,12 +11,8 @@ use Rattle.pdb_text_pieces.specs.Printed.{Text, Printed, Done, Stopped, ◌>>=�
 use Rattle.pdb_type_text.specs.Env.{Env}
 use Rattle.pdb_text_pieces.specs.Paths.{Path}
 use Rattle.pdb_text_pieces.specs.Names.{name_or_omitted}
+use Rattle.pdb_text_pieces.specs.Objects.{static_word}
 use Rattle.pdb_type_text.specs.Types.{Whole, visiting, returned_unless, method_arguments}
-
--- the word before a method that has no object, which flag 2 leaves out
-abbrev pub static_word : ℕ → Option TypeIndex → Text → Printed
-static_word flags None w = if has_bit flags 2 then Done w else say (codes "static ") w
-static_word flags (Some this) w = Done w
 
 -- the class that holds a method, before its name
 abbrev pub parent_text : Env → Path → Option TypeIndex → Text → Printed

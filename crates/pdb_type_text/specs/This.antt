@@ -1,20 +1,12 @@
 -- The pointer by which a method is told its object.
-use Rattle.std.specs.Prelude.{ℕ, Bool, true, false, Option, Some, None, Result, Ok, Err, if◌then◌else◌, ◌==◌}
+use Rattle.std.specs.Prelude.{false, Option, Some, None, Result, Ok, Err, if◌then◌else◌, ◌==◌}
 use Rattle.pdb_container.specs.Fault.{◌>>=◌}
 use Rattle.pdb_indices.specs.declared.index.TypeIndex.{TypeIndex}
 use Rattle.pdb_records.specs.Forms as forms
 use Rattle.pdb_records.specs.Forms.{TypeForm, Plain}
 use Rattle.pdb_resolving.specs.Fault.{Fault}
+use Rattle.pdb_text_pieces.specs.Objects.{This, this_to_modified}
 use Rattle.pdb_type_text.specs.Env.{Env}
-
--- whether the object is constant; and the pointer itself as an argument to be printed, where it isn't plainly one to the class
-abbrev pub This : Type 0
-This = Bool × Option TypeIndex
-
--- a pointer that leads to a Modifier of the class is plain
-abbrev pub this_to_modified : TypeIndex → TypeIndex → TypeForm → This
-this_to_modified class this (Plain (forms.Modifier m)) = if m.underlying_type.0 == class.0 then (m.constant, None) else (false, Some this)
-this_to_modified class this form = (false, Some this)
 
 -- a pointer that leads to the class is plain; else what it leads to is read
 abbrev pub this_to : Env → TypeIndex → TypeIndex → TypeIndex → Result This Fault

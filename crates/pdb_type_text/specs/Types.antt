@@ -15,7 +15,8 @@ use Rattle.pdb_text_pieces.specs.Paths.{Path, is_on, room}
 use Rattle.pdb_text_pieces.specs.Names.{primitive_text, class_word, named}
 use Rattle.pdb_text_pieces.specs.FormNames.{unhandled}
 use Rattle.pdb_text_pieces.specs.Pointers.{level_of, leading_to, pointers_text, ends_in_sigil}
-use Rattle.pdb_type_text.specs.This.{This, this_of}
+use Rattle.pdb_text_pieces.specs.Objects.{This}
+use Rattle.pdb_type_text.specs.This.{this_of}
 use Rattle.pdb_text_pieces.specs.Brackets.{brackets}
 use Rattle.pdb_type_text.specs.Arrays.{Elements, elements_of}
 
@@ -37,6 +38,11 @@ abbrev pub Visit : Type 0
 Visit = Task → Path → ℕ → Text → Printed
 
 -- ---- parts of functions
+
+-- the type with which a function's text begins, if there is one, and a space
+abbrev pub shown_text : Visit → Path → Option TypeIndex → Text → Printed
+shown_text visit path None w = Done w
+shown_text visit path (Some t) w = visit Whole path t.0 w >>= say (codes " ")
 
 -- the type that a function returns, and a space; nothing for a constructor
 abbrev pub returned : Visit → Path → Option TypeIndex → FunctionAttributes → Text → Printed

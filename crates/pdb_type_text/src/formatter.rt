@@ -13,7 +13,7 @@ use crate::elements::{Elements, MAX_ELEMENTS, array_step};
 use pdb_indices::{IdIndex, TypeIndex};
 use pdb_records::{ArrayType, IdData, TypeData};
 use pdb_resolving::{Error, ModuleProvider, Result};
-use pdb_text_pieces::{first_or_zero, is_on};
+use pdb_text_pieces::{first_or_zero, is_on, this_behind};
 use pdb_type_sizes::ItemReader;
 use std::marker::Model;
 
@@ -128,15 +128,7 @@ impl<'a, 's, P: ModuleProvider> TypeFormatter<'a, 's, P> {
         if target.0 == class.0 {
             return Ok((false, None));
         }
-        match self.read(asker, target)? {
-            TypeData::Modifier(t) => {
-                if t.underlying_type.0 == class.0 {
-                    Ok((t.constant, None))
-                } else {
-                    Ok((false, Some(this)))
-                }
-            }
-            _ => Ok((false, Some(this))),
-        }
+        let found = self.read(asker, target)?;
+        Ok(this_behind(class, this, &found))
     }
 }

@@ -14,7 +14,7 @@ use crate::formatter::TypeFormatter;
 use pdb_indices::{IdIndex, TypeIndex};
 use pdb_records::{FunctionId, IdData, MemberFunctionId, ProcedureType, TypeData};
 use pdb_resolving::{Error, ModuleProvider, Result};
-use pdb_text_pieces::{Seen, emit, emit_string, emit_unhandled_id, emit_unread};
+use pdb_text_pieces::{Seen, emit, emit_scope_end, emit_string, emit_unhandled_id, emit_unread};
 
 impl<'a, 's, P: ModuleProvider> TypeFormatter<'a, 's, P> {
     /// Appends an id. What can't be read has a text of its own.
@@ -159,7 +159,7 @@ impl<'a, 's, P: ModuleProvider> TypeFormatter<'a, 's, P> {
             return Ok(());
         };
         self.emit_id_index(asker, w, scope, ids)?;
-        emit(w, "::")
+        emit_scope_end(w)
     }
 
     /// Appends a method in its class.

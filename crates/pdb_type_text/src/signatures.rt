@@ -4,7 +4,7 @@ ghost use Rattle.std.specs.Prelude.{◌≡◌, ◌≤◌, ◌==◌, ◌++◌, �
 ghost use Rattle.pdb_records.specs.Shapes.{shape};
 ghost use Rattle.pdb_text_pieces.specs.Printed.{Prints, say};
 ghost use Rattle.pdb_type_text.specs.Types.{Whole, visiting, returned_unless, method_arguments};
-ghost use Rattle.pdb_type_text.specs.Functions.{static_word, parent_text, method_text, arguments_unless, name_and_arguments, signature, function_printed};
+ghost use Rattle.pdb_type_text.specs.Functions.{parent_text, method_text, arguments_unless, name_and_arguments, signature, function_printed};
 ghost use Rattle.pdb_type_text.specs.Formatting.{env_of};
 
 use crate::asker::Asker;
@@ -13,10 +13,7 @@ use crate::words::leaves_out_arguments;
 use pdb_indices::TypeIndex;
 use pdb_records::{MemberFunctionType, ProcedureType, TypeData};
 use pdb_resolving::{ModuleProvider, Result};
-use pdb_text_pieces::{Seen, emit, emit_name};
-
-/// The flag that leaves out `static`.
-const NO_MEMBER_FUNCTION_STATIC: u32 = 2;
+use pdb_text_pieces::{Seen, emit, emit_name, emit_scope_end, emit_static};
 
 impl<'a, 's, P: ModuleProvider> TypeFormatter<'a, 's, P> {
     /// Appends a function of a name and a type; type 0 is none, and leaves the name alone.
@@ -84,21 +81,11 @@ impl<'a, 's, P: ModuleProvider> TypeFormatter<'a, 's, P> {
         ensures path { seen.new.path.now.items ≡ seen.old.path.now.items }
         ensures text { Prints result (string_bytes w.new) (method_text (env_of P.provided self.old asker.module_index) seen.old.path.now.items parent name.now t.now (string_bytes w.old)) }
     {
-        self.maybe_emit_static(w, t.this_pointer_type)?;
+        emit_static(w, self.flags, t.this_pointer_type)?;
         self.maybe_emit_return_type(asker, w, Some(t.return_type), t.attributes, seen)?;
         self.emit_parent(asker, w, parent, seen)?;
         emit_name(w, name)?;
         self.emit_method_arguments(asker, w, t, true, seen)
-    }
-
-    /// Appends `static ` for a method without an object, where no flag leaves it out.
-    fn maybe_emit_static(&self, w: &mut String, this: Option<TypeIndex>) -> Result<()>
-        ensures { Prints result (string_bytes w.new) (static_word self.now.flags this (string_bytes w.old)) }
-    {
-        if this.is_some() || self.flags & NO_MEMBER_FUNCTION_STATIC != 0 {
-            return Ok(());
-        }
-        emit(w, "static ")
     }
 
     /// Appends the class that holds a method, if it is to be named.
@@ -120,7 +107,7 @@ impl<'a, 's, P: ModuleProvider> TypeFormatter<'a, 's, P> {
             return Ok(());
         };
         self.emit_type_index(asker, w, parent, seen)?;
-        emit(w, "::")
+        emit_scope_end(w)
     }
 
     /// Appends the name of a function that is no method, and its arguments.

@@ -8,21 +8,19 @@ ghost use Rattle.pdb_resolving.specs.Fault.{CircularTypeDefinition};
 ghost use Rattle.pdb_text_pieces.specs.Printed.{Prints, Stopped, caught, read_or};
 ghost use Rattle.pdb_text_pieces.specs.Paths.{may_enter};
 ghost use Rattle.pdb_type_text.specs.Arrays.{elements_of};
-ghost use Rattle.pdb_type_text.specs.Types.{Whole, Modified, PointedTo, PointedModified, MethodArguments, visiting, inside_text, returned, returned_unless, arguments, more_arguments, with_extra, in_brackets, method_arguments, plain_text, array_text, record_text, modified_text, pointed_text};
+ghost use Rattle.pdb_type_text.specs.Types.{Whole, Modified, PointedTo, PointedModified, MethodArguments, visiting, inside_text, shown_text, returned, returned_unless, arguments, more_arguments, with_extra, in_brackets, method_arguments, plain_text, array_text, record_text, modified_text, pointed_text};
 ghost use Rattle.pdb_type_text.specs.Formatting.{env_of};
 
 use crate::asker::Asker;
 use crate::formatter::TypeFormatter;
-use crate::words::{
-    emit_bare_function, emit_bare_method, emit_comma, emit_constant, emit_constant_object,
-    leaves_out_arguments, leaves_out_return,
-};
+use crate::words::{emit_comma, leaves_out_arguments};
 use pdb_indices::TypeIndex;
 use pdb_records::{ArrayType, FunctionAttributes, MemberFunctionType, ProcedureType, TypeData};
 use pdb_resolving::{Error, ModuleProvider, Result};
 use pdb_text_pieces::{
-    PointerLevel, Seen, class_word, emit, emit_brackets, emit_missing, emit_named, emit_pointers,
-    emit_primitive, emit_unhandled, emit_unread, ends_in_sigil, leading_to, level_of,
+    PointerLevel, Seen, class_word, emit, emit_bare_function, emit_bare_method, emit_brackets,
+    emit_constant, emit_constant_object, emit_missing, emit_named, emit_pointers, emit_primitive,
+    emit_unhandled, emit_unread, ends_in_sigil, leading_to, level_of, shown_return,
 };
 
 impl<'a, 's, P: ModuleProvider> TypeFormatter<'a, 's, P> {
@@ -119,7 +117,6 @@ impl<'a, 's, P: ModuleProvider> TypeFormatter<'a, 's, P> {
 
     /// Appends an array of arrays: the innermost element, and the brackets.
     #[cycle(printing)]
-    #[tactic(auto, using(crate::proofs::Failing::fails_stops, crate::proofs::Failing::sure_stops))]
     fn emit_array(
         &mut self,
         asker: Asker,
@@ -267,13 +264,11 @@ impl<'a, 's, P: ModuleProvider> TypeFormatter<'a, 's, P> {
         ensures path { seen.new.path.now.items ≡ seen.old.path.now.items }
         ensures text { Prints result (string_bytes w.new) (returned_unless (env_of P.provided self.old asker.module_index) (visiting (env_of P.provided self.old asker.module_index) seen.old.path.now.items) seen.old.path.now.items index attributes (string_bytes w.old)) }
     {
-        if leaves_out_return(self.flags) {
-            return Ok(());
-        }
-        self.emit_return_type(asker, w, index, attributes, seen)
+        let shown = shown_return(self.flags, index, attributes, false);
+        self.emit_shown_return(asker, w, shown, seen)
     }
 
-    /// Appends the type that a function returns, and a space; nothing for a constructor.
+    /// Appends the type that a function behind pointers returns, and a space; nothing for a constructor.
     #[cycle(printing)]
     fn emit_return_type(
         &mut self,
@@ -290,12 +285,29 @@ impl<'a, 's, P: ModuleProvider> TypeFormatter<'a, 's, P> {
         ensures path { seen.new.path.now.items ≡ seen.old.path.now.items }
         ensures text { Prints result (string_bytes w.new) (returned (visiting (env_of P.provided self.old asker.module_index) seen.old.path.now.items) seen.old.path.now.items index attributes (string_bytes w.old)) }
     {
-        let Some(index) = index else {
+        let shown = shown_return(self.flags, index, attributes, true);
+        self.emit_shown_return(asker, w, shown, seen)
+    }
+
+    /// Appends the type with which a function's text begins, if there is one, and a space.
+    #[cycle(printing)]
+    fn emit_shown_return(
+        &mut self,
+        asker: Asker,
+        w: &mut String,
+        shown: Option<TypeIndex>,
+        seen: &mut Seen<'_>,
+    ) -> Result<()>
+        requires { length seen.old.path.now.items ≤ 1024 }
+        ensures same { self.new ≡ self.old }
+        ensures same_reference { seen.new.path.ghost_name ≡ seen.old.path.ghost_name }
+        ensures level { seen.new.level ≡ seen.old.level }
+        ensures path { seen.new.path.now.items ≡ seen.old.path.now.items }
+        ensures text { Prints result (string_bytes w.new) (shown_text (visiting (env_of P.provided self.old asker.module_index) seen.old.path.now.items) seen.old.path.now.items shown (string_bytes w.old)) }
+    {
+        let Some(index) = shown else {
             return Ok(());
         };
-        if attributes.is_constructor() {
-            return Ok(());
-        }
         self.emit_type_index(asker, w, index, seen)?;
         emit(w, " ")
     }
@@ -489,7 +501,6 @@ impl<'a, 's, P: ModuleProvider> TypeFormatter<'a, 's, P> {
 
     /// The same once its index is on the path.
     #[cycle(printing)]
-    #[tactic(auto, using(crate::proofs::Failing::fails_stops))]
     fn emit_modified_inside(
         &mut self,
         asker: Asker,
@@ -568,7 +579,6 @@ impl<'a, 's, P: ModuleProvider> TypeFormatter<'a, 's, P> {
 
     /// The same once its index is on the path.
     #[cycle(printing)]
-    #[tactic(auto, using(crate::proofs::Failing::fails_stops))]
     fn emit_pointee_inside(
         &mut self,
         asker: Asker,
@@ -637,7 +647,6 @@ impl<'a, 's, P: ModuleProvider> TypeFormatter<'a, 's, P> {
 
     /// The same once its index is on the path.
     #[cycle(printing)]
-    #[tactic(auto, using(crate::proofs::Failing::fails_stops))]
     fn emit_pointee_modified_inside(
         &mut self,
         asker: Asker,

@@ -1,10 +1,16 @@
-use Rattle.std.proofs.Common.{◌≡◌, [], ◌∷◌, ◌++◌, string_bytes, refl, sym, subst, ◌∙◌}
+use Rattle.std.proofs.Common.{◌≡◌, ℕ, false, [], ◌∷◌, ◌++◌, string_bytes, refl, sym, ap, subst, ◌∙◌}
+use Rattle.std.specs.Prelude.{Option}
 use Rattle.std.proofs.lemmas.Result.{err_from_is_err_and}
+use Rattle.pdb_indices.specs.declared.index.TypeIndex.{TypeIndex}
 use Rattle.pdb_records.specs.Shapes.{shape}
 use Rattle.pdb_text_pieces.specs.Printed.{Printed, Prints, Stops}
+use Rattle.pdb_text_pieces.specs.Returns.{shown_return}
+use Rattle.pdb_type_text.proofs.Failing.{fails_stops, sure_stops}
 use Rattle.pdb_type_text.proofs.Others.{no_array, no_function, stops_on, other_modified, other_pointee, other_modified_pointee}
-use Rattle.pdb_type_text.specs.Types.{visiting, Whole, PointedTo, PointedModified, Modified, MethodArguments}
-use Rattle.pdb_type_text.specs.Formatting.{env_of}
+use Rattle.pdb_type_text.specs.Types.{visiting, shown_text, Whole, PointedTo, PointedModified, Modified, MethodArguments}
+use Rattle.pdb_type_text.specs.Formatting.{Formatting, env_of}
+use Rattle.pdb_type_text.proofs.Returns.{shown_unless, shown_behind}
+use Rattle.pdb_type_text.proofs.Steps.{failed, goes_on, sure_step}
 use Rattle.pdb_type_text.proofs.Visits.{whole_read, whole_unread, level_ok, level_err, entered_err}
 use Rattle.pdb_type_text.proofs.formatter.TypeFormatter.+printing.Goals as goal
 
@@ -80,3 +86,97 @@ pub emit_pointee_modified_inside-returns-in_default-clause-text : goal.emit_poin
 emit_pointee_modified_inside-returns-in_default-clause-text g t c =
     let all : c.deref.result.now ≡ c.args.before.now.items ++ c.args.last ∷ [] = c.deref.ensures.value ∙ c.in_ok-push.ensures.items in
     other_modified_pointee (λ f. env_of g.P.ModuleProvider.provided f c.args.asker.module_index) c.args.self.now c.read.new.self c.args.before.now.items c.args.last c.args.seen.now.path.now.items c.args.index.0 (string_bytes c.args.w.now) c.in_ok-found.found c.in_ok-found.found c.deref.result.now _ (string_bytes c.emit_pointed.new.w) c.in_ok-found.ensures.same c.in_ok-found.ensures.value refl all (λ x e. c.in_default.not-Pointer x cc) c.emit_pointed.ensures.text
+
+pub emit_array-returns-in_err-elements-clause-text : goal.emit_array-returns-in_err-elements-clause-text
+emit_array-returns-in_err-elements-clause-text g t c =
+    failed _ _ _ _ c.from_residual.ensures.1 (fails_stops _ _ _ _ c.in_err-elements.ensures.value)
+
+pub emit_array-returns-in_err-size-clause-text : goal.emit_array-returns-in_err-size-clause-text
+emit_array-returns-in_err-size-clause-text g t c =
+    failed _ _ _ _ c.from_residual-in_err-size.ensures.1 (sure_stops _ _ _ _ c.in_err-size.ensures.value)
+
+pub emit_member_function-returns-in_err-maybe_emit_return_type-clause-text : goal.emit_member_function-returns-in_err-maybe_emit_return_type-clause-text
+emit_member_function-returns-in_err-maybe_emit_return_type-clause-text g t c =
+    failed _ _ _ _ c.from_residual.ensures.1 (stops_on _ _ _ _ c.in_err-maybe_emit_return_type.ensures.text)
+
+pub emit_member_function-returns-in_err-emit_bare_method-clause-text : goal.emit_member_function-returns-in_err-emit_bare_method-clause-text
+emit_member_function-returns-in_err-emit_bare_method-clause-text g t c =
+    failed _ _ _ _ c.from_residual-in_err-emit_bare_method.ensures.1 (sure_step _ _ _ _ c.in_err-emit_bare_method.ensures)
+
+pub emit_procedure-returns-in_err-maybe_emit_return_type-clause-text : goal.emit_procedure-returns-in_err-maybe_emit_return_type-clause-text
+emit_procedure-returns-in_err-maybe_emit_return_type-clause-text g t c =
+    failed _ _ _ _ c.from_residual.ensures.1 (stops_on _ _ _ _ c.in_err-maybe_emit_return_type.ensures.text)
+
+pub emit_procedure-returns-in_err-emit_bare_function-clause-text : goal.emit_procedure-returns-in_err-emit_bare_function-clause-text
+emit_procedure-returns-in_err-emit_bare_function-clause-text g t c =
+    failed _ _ _ _ c.from_residual-in_err-emit_bare_function.ensures.1 (sure_step _ _ _ _ c.in_err-emit_bare_function.ensures)
+
+pub maybe_emit_return_type-returns-clause-text : goal.maybe_emit_return_type-returns-clause-text
+maybe_emit_return_type-returns-clause-text g t c =
+    let flags : c.self.inside.flags ≡ c.args.self.now.flags = ap (λ (f : Formatting _). f.flags) c.self.view_is in
+    let shown : c.shown_return-shown.result ≡ shown_return c.args.self.now.flags c.args.index c.args.attributes false = c.shown_return-shown.ensures ∙ ap (λ (n : ℕ). shown_return n c.args.index c.args.attributes false) flags in
+    subst (λ (x : Printed). Prints c.emit_shown_return.result (string_bytes c.emit_shown_return.new.w) x) (sym (shown_unless (env_of g.P.ModuleProvider.provided c.args.self.now c.args.asker.module_index) (visiting (env_of g.P.ModuleProvider.provided c.args.self.now c.args.asker.module_index) c.args.seen.now.path.now.items) c.args.seen.now.path.now.items c.args.index c.args.attributes (string_bytes c.args.w.now)
+    ∙ ap (λ (o : Option TypeIndex). shown_text (visiting (env_of g.P.ModuleProvider.provided c.args.self.now c.args.asker.module_index) c.args.seen.now.path.now.items) c.args.seen.now.path.now.items o (string_bytes c.args.w.now)) (sym shown))) c.emit_shown_return.ensures.text
+
+pub emit_return_type-returns-clause-text : goal.emit_return_type-returns-clause-text
+emit_return_type-returns-clause-text g t c =
+    subst (λ (x : Printed). Prints c.emit_shown_return.result (string_bytes c.emit_shown_return.new.w) x) (sym (shown_behind c.self.inside.flags (visiting (env_of g.P.ModuleProvider.provided c.args.self.now c.args.asker.module_index) c.args.seen.now.path.now.items) c.args.seen.now.path.now.items c.args.index c.args.attributes (string_bytes c.args.w.now)
+    ∙ ap (λ (o : Option TypeIndex). shown_text (visiting (env_of g.P.ModuleProvider.provided c.args.self.now c.args.asker.module_index) c.args.seen.now.path.now.items) c.args.seen.now.path.now.items o (string_bytes c.args.w.now)) (sym c.shown_return-shown.ensures))) c.emit_shown_return.ensures.text
+
+pub emit_shown_return-returns-in_default-clause-text : goal.emit_shown_return-returns-in_default-clause-text
+emit_shown_return-returns-in_default-clause-text g t c = rw c.in_default.is
+
+pub emit_shown_return-returns-in_err-emit_type_index-clause-text : goal.emit_shown_return-returns-in_err-emit_type_index-clause-text
+emit_shown_return-returns-in_err-emit_type_index-clause-text g t c =
+    failed _ _ _ _ c.from_residual.ensures.1 (rw c.in-Some.is (stops_on _ _ _ _ c.in_err-emit_type_index.ensures.text))
+
+pub emit_shown_return-returns-clause-text : goal.emit_shown_return-returns-clause-text
+emit_shown_return-returns-clause-text g t c = rw c.in-Some.is (goes_on _ _ _ _ _ c.in_ok-emit_type_index.ensures.text c.emit.ensures)
+
+pub emit_argument_list_inside-returns-in_err-list-clause-text : goal.emit_argument_list_inside-returns-in_err-list-clause-text
+emit_argument_list_inside-returns-in_err-list-clause-text g t c =
+    failed _ _ _ _ c.from_residual.ensures.1 (fails_stops _ _ _ _ c.in_err-list.ensures.value)
+
+pub emit_modified_inside-returns-in_err-found-clause-text : goal.emit_modified_inside-returns-in_err-found-clause-text
+emit_modified_inside-returns-in_err-found-clause-text g t c =
+    failed _ _ _ _ c.from_residual.ensures.1 (fails_stops _ _ _ _ c.in_err-found.ensures.value)
+
+pub emit_pointee_inside-returns-in_err-found-clause-text : goal.emit_pointee_inside-returns-in_err-found-clause-text
+emit_pointee_inside-returns-in_err-found-clause-text g t c =
+    failed _ _ _ _ c.from_residual.ensures.1 (fails_stops _ _ _ _ c.in_err-found.ensures.value)
+
+pub emit_pointee_modified_inside-returns-in_err-found-clause-text : goal.emit_pointee_modified_inside-returns-in_err-found-clause-text
+emit_pointee_modified_inside-returns-in_err-found-clause-text g t c =
+    failed _ _ _ _ c.from_residual.ensures.1 (fails_stops _ _ _ _ c.in_err-found.ensures.value)
+
+pub emit_member_pointer-returns-in_err-emit-clause-text : goal.emit_member_pointer-returns-in_err-emit-clause-text
+emit_member_pointer-returns-in_err-emit-clause-text g t c =
+    failed _ _ _ _ c.from_residual-in_err-emit.ensures.1 (sure_step _ _ _ _ c.in_err-emit.ensures)
+
+pub emit_member_pointer-returns-in_err-emit_pointers-clause-text : goal.emit_member_pointer-returns-in_err-emit_pointers-clause-text
+emit_member_pointer-returns-in_err-emit_pointers-clause-text g t c =
+    failed _ _ _ _ c.from_residual-in_err-emit_pointers.ensures.1 (sure_step _ _ _ _ c.in_err-emit_pointers.ensures)
+
+pub emit_member_pointer-returns-in_err-emit-2-clause-text : goal.emit_member_pointer-returns-in_err-emit-2-clause-text
+emit_member_pointer-returns-in_err-emit-2-clause-text g t c =
+    failed _ _ _ _ c.from_residual-in_err-emit-2.ensures.1 (sure_step _ _ _ _ c.in_err-emit-2.ensures)
+
+pub emit_member_pointer-returns-in_err-emit_return_type-clause-text : goal.emit_member_pointer-returns-in_err-emit_return_type-clause-text
+emit_member_pointer-returns-in_err-emit_return_type-clause-text g t c =
+    failed _ _ _ _ c.from_residual.ensures.1 (stops_on _ _ _ _ c.in_err-emit_return_type.ensures.text)
+
+pub emit_procedure_pointer-returns-in_err-emit-clause-text : goal.emit_procedure_pointer-returns-in_err-emit-clause-text
+emit_procedure_pointer-returns-in_err-emit-clause-text g t c =
+    failed _ _ _ _ c.from_residual-in_err-emit.ensures.1 (sure_step _ _ _ _ c.in_err-emit.ensures)
+
+pub emit_procedure_pointer-returns-in_err-emit_pointers-clause-text : goal.emit_procedure_pointer-returns-in_err-emit_pointers-clause-text
+emit_procedure_pointer-returns-in_err-emit_pointers-clause-text g t c =
+    failed _ _ _ _ c.from_residual-in_err-emit_pointers.ensures.1 (sure_step _ _ _ _ c.in_err-emit_pointers.ensures)
+
+pub emit_procedure_pointer-returns-in_err-emit-2-clause-text : goal.emit_procedure_pointer-returns-in_err-emit-2-clause-text
+emit_procedure_pointer-returns-in_err-emit-2-clause-text g t c =
+    failed _ _ _ _ c.from_residual-in_err-emit-2.ensures.1 (sure_step _ _ _ _ c.in_err-emit-2.ensures)
+
+pub emit_procedure_pointer-returns-in_err-emit_return_type-clause-text : goal.emit_procedure_pointer-returns-in_err-emit_return_type-clause-text
+emit_procedure_pointer-returns-in_err-emit_return_type-clause-text g t c =
+    failed _ _ _ _ c.from_residual.ensures.1 (stops_on _ _ _ _ c.in_err-emit_return_type.ensures.text)

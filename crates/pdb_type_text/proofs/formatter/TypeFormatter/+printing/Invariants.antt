@@ -11,7 +11,10 @@ abbrev pub decreases-emit_type_index : goal.decreases-emit_type_index
 decreases-emit_type_index g l = 16 * room l.seen.now.path.now.items + 2
 
 abbrev pub decreases-emit_return_type : goal.decreases-emit_return_type
-decreases-emit_return_type g l = 16 * room l.seen.now.path.now.items + 3
+decreases-emit_return_type g l = 16 * room l.seen.now.path.now.items + 4
+
+abbrev pub decreases-emit_shown_return : goal.decreases-emit_shown_return
+decreases-emit_shown_return g l = 16 * room l.seen.now.path.now.items + 3
 
 abbrev pub decreases-maybe_emit_return_type : goal.decreases-maybe_emit_return_type
 decreases-maybe_emit_return_type g l = 16 * room l.seen.now.path.now.items + 4

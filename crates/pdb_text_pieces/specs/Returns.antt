@@ -1,0 +1,10 @@
+-- The type that a function returns.
+use Rattle.std.specs.Prelude.{ℕ, Bool, not, ◌&&◌, ◌||◌, Option, None, if◌then◌else◌}
+use Rattle.pdb_indices.specs.Bits.{has_bit}
+use Rattle.pdb_indices.specs.declared.index.TypeIndex.{TypeIndex}
+use Rattle.pdb_records.specs.declared.type_attributes.FunctionAttributes.{FunctionAttributes}
+use Rattle.pdb_records.specs.Attributes.{constructs}
+
+-- the type with which a function's text begins: none for a constructor, and none where flag 1 leaves it out, but for a function behind pointers
+abbrev pub shown_return : ℕ → Option TypeIndex → FunctionAttributes → (behind_pointers : Bool) → Option TypeIndex
+shown_return flags t attributes behind_pointers = if (has_bit flags 1 && not behind_pointers) || constructs attributes then None else t

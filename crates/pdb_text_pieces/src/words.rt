@@ -1,0 +1,61 @@
+//! Words that stand before, between and behind types, and the type that a function returns.
+
+ghost use Rattle.std.specs.Prelude.{◌≡◌, ◌++◌, codes, string_bytes, if◌then◌else◌};
+ghost use Rattle.pdb_text_pieces.specs.Printed.{Done, Prints, say};
+ghost use Rattle.pdb_text_pieces.specs.Returns.{shown_return};
+
+use crate::text::emit;
+use pdb_indices::TypeIndex;
+use pdb_records::FunctionAttributes;
+use pdb_resolving::Result;
+
+/// The flag that leaves out the return type of the function asked for.
+const NO_FUNCTION_RETURN: u32 = 1;
+
+/// Appends what stands for the name in a method's type on its own.
+pub fn emit_bare_method(w: &mut String) -> Result<()>
+    ensures { Prints result (string_bytes w.new) (say (codes "()") (string_bytes w.old)) }
+{
+    emit(w, "()")
+}
+
+/// Appends what stands for the name in a function's type on its own, and the bracket before its arguments.
+pub fn emit_bare_function(w: &mut String) -> Result<()>
+    ensures { Prints result (string_bytes w.new) (say (codes "()(") (string_bytes w.old)) }
+{
+    emit(w, "()(")
+}
+
+/// Appends what says that a type is constant, if it is.
+pub fn emit_constant(w: &mut String, is_constant: bool) -> Result<()>
+    ensures { Prints result (string_bytes w.new) (if is_constant then say (codes "const ") (string_bytes w.old) else Done (string_bytes w.old)) }
+{
+    if is_constant {
+        return emit(w, "const ");
+    }
+    Ok(())
+}
+
+/// Appends what stands behind a class or a scope, before the name of what it holds.
+pub fn emit_scope_end(w: &mut String) -> Result<()>
+    ensures { Prints result (string_bytes w.new) (say (codes "::") (string_bytes w.old)) }
+{
+    emit(w, "::")
+}
+
+/// The type with which a function's text begins: none for a constructor, and none where a flag leaves it out, which it doesn't
+/// behind pointers.
+pub fn shown_return(
+    flags: u32,
+    index: Option<TypeIndex>,
+    attributes: FunctionAttributes,
+    is_behind_pointers: bool,
+) -> Option<TypeIndex>
+    ensures { result ≡ shown_return flags index attributes is_behind_pointers }
+{
+    let is_left_out = flags & NO_FUNCTION_RETURN != 0 && !is_behind_pointers;
+    if is_left_out || attributes.is_constructor() {
+        return None;
+    }
+    index
+}
