@@ -22,7 +22,6 @@ type Database = PDB<'static, Vec<u8>>;
 
 /// A symbolizer: a program database that was loaded, with what contexts are made of. Its value in contracts is the file's
 /// bytes.
-#[derive(Drop)]
 pub struct Symbolizer {
     pdb: Database,
     held: ContextPdbData<'static, 'static, Vec<u8>>,
@@ -37,6 +36,14 @@ impl Model for Symbolizer {
     ghost view = { λ s. s.pdb.items };
 
     ghost invariant = { λ s. IsKept s.pdb.items s.held };
+}
+
+impl Drop for Symbolizer {
+    fn drop(self) {
+        let Symbolizer { pdb, held } = self;
+        drop(pdb);
+        drop(held);
+    }
 }
 
 /// Reads stream 3 and what stands behind it. The first fault of these; `AddressTableDecreases` where the sources of an OMAP
