@@ -19,7 +19,6 @@ use std::alloc::Global;
 use std::marker::Model;
 
 /// What stands behind stream 3: symbol records, types, ids, and the ways between addresses.
-#[derive(Drop)]
 pub struct Tables<'s> {
     /// The symbol records, of all modules.
     pub symbol_records: SymbolTable<'s>,
@@ -37,6 +36,21 @@ impl<'s> Model for Tables<'s> {
     ghost Value = { loading.Tables };
 
     ghost view = { λ t. record { symbol_records = t.symbol_records; types = t.types; ids = t.ids; map = t.address_map } };
+}
+
+impl<'s> Drop for Tables<'s> {
+    fn drop(self) {
+        let Tables {
+            symbol_records,
+            types,
+            ids,
+            address_map,
+        } = self;
+        drop(symbol_records);
+        drop(types);
+        drop(ids);
+        drop(address_map);
+    }
 }
 
 /// The tables of types and of ids.

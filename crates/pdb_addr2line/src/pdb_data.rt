@@ -29,7 +29,6 @@ use std::marker::{Model, PhantomData};
 
 /// What formatters and contexts are made of: everything of a program database that they go over, read once and owned. `'p` is
 /// how long the database itself may be borrowed elsewhere; nothing is read of it any more.
-#[derive(Drop)]
 pub struct ContextPdbData<'p, 's, S: Source> {
     debug_information: DebugInformation<'s>,
     tables: Tables<'s>,
@@ -48,6 +47,22 @@ impl<'p, 's, S: Source> Model for ContextPdbData<'p, 's, S> {
     ghost view = { λ d. record { debug_information = d.debug_information; tables = d.tables; names = d.names; infos = d.modules } };
 
     ghost invariant = { λ d. (modules_of d.debug_information.modules).fault ≡ None };
+}
+
+impl<'p, 's, S: Source> Drop for ContextPdbData<'p, 's, S> {
+    fn drop(self) {
+        let ContextPdbData {
+            debug_information,
+            tables,
+            names,
+            modules,
+            of: _,
+        } = self;
+        drop(debug_information);
+        drop(tables);
+        drop(names);
+        drop(modules);
+    }
 }
 
 /// Reads a database: stream 3, what stands behind it, and the module list, whose first fault is the answer; then the modules'

@@ -1,11 +1,13 @@
 -- What is said of a fault of answering an input is said of the run's.
-use Rattle.std.specs.Prelude.{Err}
+use Rattle.std.specs.Prelude.{Result, Ok, Err, IfErr}
 use Rattle.std.specs.declared.io.ErrorKind.{ErrorKind}
 use Rattle.pdb_engine.specs.declared.fault.InputFault.{InputFault}
 use Rattle.pdb_engine.specs.declared.fault.InputFault.TheVariants.{Read, Write, InputTooLong, OutOfMemory}
 use Rattle.pdb_report.specs.declared.fault.LoadFault.{LoadFault}
+use Rattle.pdb_report.specs.declared.fault.RunFault.{RunFault}
+use Rattle.pdb_report.specs.declared.fault.RunFault.TheVariants as runs
 use Rattle.pdb_engine.specs.InputFaults as inputs
-use Rattle.pdb_report.specs.RunFaults.{OnRead, OnWrite, OnTooLong, OnLoad, OnMemory, OnReversed, OnCounted, IsOfFrames, IsOfSizes, run_fault_of_input}
+use Rattle.pdb_report.specs.RunFaults.{OnRead, OnWrite, OnTooLong, OnLoad, OnMemory, OnReversed, OnCounted, UnlessLoad, IsOfFrames, IsOfSizes, run_fault_of_input}
 
 pub on_read : (fault : InputFault) (P : ErrorKind → Type 0) → inputs.OnRead fault P → OnRead (run_fault_of_input fault) P
 on_read (Read kind) P h = h
@@ -62,3 +64,42 @@ of_sizes (Read kind) h = h
 of_sizes (Write kind) h = h
 of_sizes InputTooLong h = h
 of_sizes OutOfMemory h = tt
+
+-- ---- a run over a file that was loaded
+
+-- a run that never ends with a fault of loading
+pub never_load : (fault : RunFault) (P : LoadFault → Type 0) → OnLoad fault (λ _. ⊥) → OnLoad fault P
+never_load (runs.Load cause) P h = absurd h
+never_load runs.ReversedRange P h = tt
+never_load (runs.Read kind) P h = tt
+never_load (runs.Write kind) P h = tt
+never_load runs.InputTooLong P h = tt
+never_load runs.OutOfMemory P h = tt
+
+-- what holds in any case holds where memory was short
+pub if_memory : (fault : RunFault) (P : Type 0) → P → OnMemory fault P
+if_memory runs.OutOfMemory P h = h
+if_memory (runs.Load cause) P h = tt
+if_memory runs.ReversedRange P h = tt
+if_memory (runs.Read kind) P h = tt
+if_memory (runs.Write kind) P h = tt
+if_memory runs.InputTooLong P h = tt
+
+-- what holds in any case holds at each end that is no fault of loading
+pub unless_load : {A : Type 0} (r : Result A RunFault) (P : Type 0) → P → UnlessLoad r P
+unless_load (Ok done) P h = h
+unless_load (Err (runs.Load cause)) P h = tt
+unless_load (Err runs.OutOfMemory) P h = tt
+unless_load (Err runs.ReversedRange) P h = h
+unless_load (Err (runs.Read kind)) P h = h
+unless_load (Err (runs.Write kind)) P h = h
+unless_load (Err runs.InputTooLong) P h = h
+
+-- the same of what a run returned
+pub all_never_load : {A : Type 0} (r : Result A RunFault) (P : LoadFault → Type 0) → IfErr r (λ fault. OnLoad fault (λ _. ⊥)) → IfErr r (λ fault. OnLoad fault P)
+all_never_load (Ok done) P h = tt
+all_never_load (Err fault) P h = never_load fault P h
+
+pub all_if_memory : {A : Type 0} (r : Result A RunFault) (P : Type 0) → P → IfErr r (λ fault. OnMemory fault P)
+all_if_memory (Ok done) P h = tt
+all_if_memory (Err fault) P h = if_memory fault P h

@@ -33,7 +33,7 @@ use Rattle.pdb_report.specs.declared.fault.LoadFault.TheVariants as faults
 use Rattle.pdb_frames.specs.Runs.{database_of}
 use Rattle.pdb_report.specs.Answer.{AnswersAs, Listing, address_map, answer, answer_by, database, database_by, function_at, function_by, given_in, listing, listing_by, map_by, scope}
 use Rattle.pdb_report.specs.Faults.{LoadingFault, AddressTableDecreases, lifted, in_loading, load_fault_of, load_fault_in_context, FailsLoading}
-use Rattle.pdb_report.specs.Kept.{IsKept, answered_in}
+use Rattle.pdb_report.specs.Kept.{IsKept, AreInOrder, answered_in}
 use Rattle.pdb_report.specs.Loading.{Loaded, parts_in, none_or, loaded_behind, loaded_open, loaded, load_fault, Refuses, IsFileFault}
 use Rattle.pdb_report.specs.RunFaults.{OnLoad, run_fault_of}
 use Rattle.pdb_report.proofs.Lifting.{fails_on, loads_on, opening_fails}
@@ -201,6 +201,20 @@ is_kept file dbi read h u is_open dbi_is tables_are ordered is_so loads own was_
 -- the address tables that are held are those that were read
 pub kept_ordered : (dbi : Dbi) (read : Tables) (h : Held) → IsOrdered read.map → kept.loaded_behind dbi read ≡ Ok (loaded_in h) → IsOrdered h.tables.map
 kept_ordered dbi read h is loads = let same = read_is dbi read h loads in rw (sym same.1) is
+
+-- ---- the same behind tables that are in order
+
+pub ordered_list_fails : (file : List ℕ) (e : Error) (dbi : Dbi) (read : Tables) → (streams file).open_fault ≡ None → AreInOrder (streams file) dbi read
+    → (IsOutside e (HasRisen 0 0) ⊎ (kept.loaded_behind dbi read ≡ Err (fault_of e))) → FailsLoading (load_fault_of e) (loaded (shared (streams file)))
+ordered_list_fails file e dbi read is_open are failed = list_fails (streams file) e dbi read is_open are.dbi_is are.tables_are are.in_order failed
+
+pub ordered_parts_fail : (file : List ℕ) (e : context.Error) (dbi : Dbi) (read : Tables) (h : Held) → (streams file).open_fault ≡ None → AreInOrder (streams file) dbi read
+    → kept.loaded_behind dbi read ≡ Ok (loaded_in h) → IsOwn (streams file) (HasRisen 0 0) h → answers.Fails e (held.checked_parts h) → FailsLoading (load_fault_in_context e) (loaded (shared (streams file)))
+ordered_parts_fail file e dbi read h is_open are loads own failed = parts_fail (streams file) e dbi read h is_open are.dbi_is are.tables_are are.in_order loads own failed
+
+pub held_is_kept : (file : List ℕ) (dbi : Dbi) (read : Tables) (h : Held) → (streams file).open_fault ≡ None → AreInOrder (streams file) dbi read
+    → kept.loaded_behind dbi read ≡ Ok (loaded_in h) → IsOwn (streams file) (HasRisen 0 0) h → held.checked_parts h ≡ Ok tt → IsKept file h
+held_is_kept file dbi read h is_open are loads own was_checked = is_kept file dbi read h tt is_open are.dbi_is are.tables_are are.in_order are.ordered loads own was_checked
 
 no_fault : (r : Result Loaded LoadingFault) (l : Loaded) → r ≡ Ok l → fault_in r ≡ None
 no_fault r l h = ap fault_in h

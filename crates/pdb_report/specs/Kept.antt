@@ -1,13 +1,16 @@
 -- What is kept of a file that was loaded.
-use Rattle.std.specs.Prelude.{◌≡◌, ℕ, List, Ok}
-use Rattle.pdb_addresses.specs.Addresses.{IsOrdered}
+use Rattle.std.specs.Prelude.{◌≡◌, ℕ, true, List, Ok}
+use Rattle.pdb_addresses.specs.Addresses.{IsOrdered, is_ordered}
+use Rattle.pdb_symbols_modules.specs.Dbi.{Dbi}
+use Rattle.pdb_symbols_modules.specs.DatabaseCalls.{debug_information}
 use Rattle.pdb_symbols_modules.specs.Shared.{shared}
-use Rattle.pdb_symbols_modules.specs.Streams.{streams}
+use Rattle.pdb_symbols_modules.specs.Streams.{Streams, streams}
 use Rattle.pdb_resolving.specs.Resolving.{Provided}
 use Rattle.pdb_frames.specs.Choice.{Parts}
 use Rattle.pdb_addr2line.specs.Formatters as kept
 use Rattle.pdb_addr2line.specs.Held.{Held, given, names_in}
 use Rattle.pdb_addr2line.specs.Kept.{KeptInfo, answered_at}
+use Rattle.pdb_addr2line.specs.Loading.{Tables, tables}
 use Rattle.pdb_report.specs.Loading.{loaded}
 
 -- what is kept gives of the module of a number, whatever its entry
@@ -22,3 +25,10 @@ pub record IsKept (file : List ℕ) (h : Held) : Type 0 where
   pub ordered : IsOrdered h.tables.map
   pub names_are : h.names ≡ names_in (streams file)
   pub modules_are : (number : ℕ) → answered_at h.infos number ≡ given (streams file) number
+
+-- Stream 3 and what stands behind it are the file's, and the OMAPs are in order.
+pub record AreInOrder (s : Streams) (dbi : Dbi) (read : Tables) : Type 0 where
+  pub dbi_is : debug_information (shared s) ≡ Ok dbi
+  pub tables_are : tables (shared s) dbi ≡ Ok read
+  pub in_order : is_ordered read.map ≡ true
+  pub ordered : IsOrdered read.map

@@ -49,13 +49,43 @@ fn answer_lines<R: Read, W: Write>(
     }
 }
 
+/// Writes the report on the lines of the reader by a file that was loaded.
+///
+/// # Errors
+/// `Read`, `Write`, `InputTooLong`, `OutOfMemory`, as those of [`run`].
+#[tactic(auto, using(crate::proofs::InputFaultSteps::on_read, crate::proofs::InputFaultSteps::on_write, crate::proofs::InputFaultSteps::on_too_long, crate::proofs::InputFaultSteps::of_frames))]
+fn frames_of<R: Read, W: Write>(
+    alloc: Global,
+    symbolizer: &Symbolizer,
+    reader: &mut Watched<R>,
+    writer: &mut Watched<W>,
+) -> Result<(), RunFault>
+    ensures load { IfErr result (λ fault. OnLoad fault (λ _. ⊥)) }
+    ensures kind { IfErr result IsOfFrames }
+    ensures ok { OnOk result (IfSome (R.remaining (inner_of reader.old)) (λ input. (length input ≤ 2 ^ 30)
+        × Writes W.contents writer.old writer.new (report (line_text (answer (streams symbolizer.now))) input))) }
+    ensures quiet { OnOk result (IsQuiet reader.old reader.new × IsQuiet writer.old writer.new) }
+    ensures read_fails { IfErr result (λ fault. OnRead fault (λ kind. CountsFailure reader.old reader.new kind)) }
+    ensures write_fails { IfErr result (λ fault. OnWrite fault (λ kind. CountsFailure writer.old writer.new kind)) }
+    ensures read_out { IfErr result (λ fault. OnRead fault (λ _. (taken : List ℕ) × Takes R.remaining reader.old reader.new taken
+        × Writes W.contents writer.old writer.new (report_of_ended (line_text (answer (streams symbolizer.now))) taken))) }
+    ensures too_long { IfErr result (λ fault. OnTooLong fault (IfSome (R.remaining (inner_of reader.old)) (λ input. (2 ^ 30 < length input)
+        × Writes W.contents writer.old writer.new (report_of_ended (line_text (answer (streams symbolizer.now))) (take (2 ^ 30) input))))) }
+    ensures part { OnErr result (IfSome (R.remaining (inner_of reader.old)) (λ input. WritesFront W.contents writer.old writer.new (report (line_text (answer (streams symbolizer.now))) input))) }
+{
+    match answer_lines(alloc, symbolizer, reader, writer) {
+        Ok(()) => Ok(()),
+        Err(fault) => Err(RunFault::from(fault)),
+    }
+}
+
 /// Writes the report on the lines of the reader: for each line the answer for its address in the program database of
 /// the bytes, and nothing else.
 ///
 /// # Errors
 /// `Load` where the file has a loading fault, and then nothing was read and nothing written; `Read` and `Write` where
 /// that end failed in this call; `InputTooLong` past 2^30 bytes of input; `OutOfMemory`.
-#[tactic(auto, using(crate::proofs::OpeningSteps::run_refused, crate::proofs::InputFaultSteps::on_read, crate::proofs::InputFaultSteps::on_write, crate::proofs::InputFaultSteps::on_too_long, crate::proofs::InputFaultSteps::of_frames, crate::proofs::InputFaultSteps::on_memory))]
+#[tactic(auto, using(crate::proofs::OpeningSteps::run_refused))]
 pub fn run_frames<R: Read, W: Write>(
     alloc: Global,
     bytes: Vec<u8>,
@@ -85,10 +115,7 @@ pub fn run_frames<R: Read, W: Write>(
     ensures part { OnErr result (IfSome (R.remaining (inner_of reader.old)) (λ input. WritesFront W.contents writer.old writer.new (report (line_text (answer (streams bytes.items))) input))) }
 {
     match Symbolizer::open(alloc, bytes) {
-        Ok(symbolizer) => match answer_lines(alloc, &symbolizer, reader, writer) {
-            Ok(()) => Ok(()),
-            Err(fault) => Err(RunFault::from(fault)),
-        },
+        Ok(symbolizer) => frames_of(alloc, &symbolizer, reader, writer),
         Err(fault) => Err(RunFault::from(fault)),
     }
 }

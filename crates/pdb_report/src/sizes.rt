@@ -115,6 +115,36 @@ fn sizes_of<W: Write>(
     }
 }
 
+/// Writes the report on a range by a file that was loaded, unless the range is reversed.
+///
+/// # Errors
+/// `ReversedRange`; `Write` where a write failed; `OutOfMemory`.
+fn sizes_in_order<W: Write>(
+    alloc: Global,
+    symbolizer: &Symbolizer,
+    start: u32,
+    end: u32,
+    writer: &mut Watched<W>,
+) -> Result<Tally, RunFault>
+    ensures load { IfErr result (λ fault. OnLoad fault (λ _. ⊥)) }
+    ensures reversed { IfErr result (λ fault. OnReversed fault ((end < start) × (writer.new ≡ writer.old))) }
+    ensures order { OnCounted result (start ≤ end) }
+    ensures kind { IfErr result IsOfSizes }
+    ensures ok { OnOk result ((text : List ℕ) × IsSizesReport (streams symbolizer.now) start end text × Writes W.contents writer.old writer.new text) }
+    ensures lookups { IfOk result (λ tally. IsWithinPieces (streams symbolizer.now) start end tally.lookups) }
+    ensures quiet { OnOk result (IsQuiet writer.old writer.new) }
+    ensures write_fails { IfErr result (λ fault. OnWrite fault (λ kind. CountsFailure writer.old writer.new kind)) }
+    ensures part { OnErr result ((writer.new ≡ writer.old) ⊎ ((text : List ℕ) × IsSizesReport (streams symbolizer.now) start end text × WritesFront W.contents writer.old writer.new text)) }
+{
+    if end < start {
+        return Err(RunFault::ReversedRange);
+    }
+    match sizes_of(alloc, symbolizer, start, end, writer) {
+        Ok(tally) => Ok(tally),
+        Err(fault) => Err(RunFault::from(fault)),
+    }
+}
+
 /// Writes how many of the addresses from `start` on and before `end` each function has in the program database of the bytes: a line
 /// for each function, in the order of start, end and name, and last `none` and how many addresses have none.
 ///
@@ -148,15 +178,7 @@ pub fn run_sizes<W: Write>(
     ensures part { OnErr result ((writer.new ≡ writer.old) ⊎ ((text : List ℕ) × IsSizesReport (streams bytes.items) start end text × WritesFront W.contents writer.old writer.new text)) }
 {
     match Symbolizer::open(alloc, bytes) {
-        Ok(symbolizer) => {
-            if end < start {
-                return Err(RunFault::ReversedRange);
-            }
-            match sizes_of(alloc, &symbolizer, start, end, writer) {
-                Ok(tally) => Ok(tally),
-                Err(fault) => Err(RunFault::from(fault)),
-            }
-        }
+        Ok(symbolizer) => sizes_in_order(alloc, &symbolizer, start, end, writer),
         Err(fault) => Err(RunFault::from(fault)),
     }
 }

@@ -5,15 +5,15 @@ ghost use Rattle.pdb_addresses.specs.Addresses.{IsOrdered};
 ghost use Rattle.pdb_report.specs.declared.fault.LoadFault.TheVariants as faults;
 ghost use Rattle.pdb_report.specs.Answer.{AnswersAs, address_map as address_map_of};
 ghost use Rattle.pdb_report.specs.Faults.{FailsLoading};
-ghost use Rattle.pdb_report.specs.Kept.{answered_in};
+ghost use Rattle.pdb_report.specs.Kept.{answered_in, AreInOrder, IsKept};
 ghost use Rattle.pdb_report.specs.Loading.{loaded, load_fault, Refuses};
 ghost use Rattle.pdb_symbols_modules.specs.Shared.{shared};
 ghost use Rattle.pdb_symbols_modules.specs.Streams.{streams};
 
 use crate::fault::LoadFault;
-use pdb_addr2line::{Context, ContextPdbData, KeptModules, read_tables};
+use pdb_addr2line::{Context, ContextPdbData, KeptModules, Tables, read_tables};
 use pdb_addresses::AddressMap;
-use pdb_symbols_modules::PDB;
+use pdb_symbols_modules::{DebugInformation, PDB};
 use std::alloc::Global;
 use std::marker::Model;
 
@@ -22,7 +22,6 @@ type Database = PDB<'static, Vec<u8>>;
 
 /// A symbolizer: a program database that was loaded, with what contexts are made of. Its value in contracts is the file's
 /// bytes.
-#[derive(Drop)]
 pub struct Symbolizer {
     pdb: Database,
     held: ContextPdbData<'static, 'static, Vec<u8>>,
@@ -39,21 +38,60 @@ impl Model for Symbolizer {
     ghost invariant = { λ s. IsKept s.pdb.items s.held };
 }
 
-/// Loads an open program database, and keeps what contexts are made of. That a context can be made is tried.
+impl Drop for Symbolizer {
+    fn drop(self) {
+        let Symbolizer { pdb, held } = self;
+        drop(pdb);
+        drop(held);
+    }
+}
+
+/// Reads stream 3 and what stands behind it. The first fault of these; `AddressTableDecreases` where the sources of an OMAP
+/// decrease; `OutOfMemory`.
+fn read_in_order(
+    alloc: Global,
+    pdb: &mut Database,
+) -> Result<(DebugInformation<'static>, Tables<'static>), LoadFault>
+    requires { (streams pdb.old.items).open_fault ≡ None }
+    ensures same { OnOk result (pdb.new.items ≡ pdb.old.items) }
+    ensures read { IfOk result (λ read. AreInOrder (streams pdb.old.items) read.0 read.1) }
+    ensures err { IfErr result (λ e. FailsLoading e (loaded (shared (streams pdb.old.items)))) }
+{
+    let debug_information = pdb.debug_information(alloc)?;
+    let tables = read_tables(pdb, alloc, &debug_information)?;
+    if !tables.address_map.is_ordered() {
+        return Err(LoadFault::AddressTableDecreases);
+    }
+    Ok((debug_information, tables))
+}
+
+/// Reads what contexts are made of. That a context can be made is tried.
+fn read_held(
+    alloc: Global,
+    pdb: &mut Database,
+) -> Result<ContextPdbData<'static, 'static, Vec<u8>>, LoadFault>
+    requires { (streams pdb.old.items).open_fault ≡ None }
+    ensures same { OnOk result (pdb.new.items ≡ pdb.old.items) }
+    ensures kept { IfOk result (λ held. IsKept pdb.old.items held) }
+    ensures err { IfErr result (λ e. FailsLoading e (loaded (shared (streams pdb.old.items)))) }
+{
+    let (debug_information, tables) = read_in_order(alloc, pdb)?;
+    let held = ContextPdbData::try_from_tables(alloc, pdb, debug_information, tables)?;
+    held.check_context(alloc)?;
+    Ok(held)
+}
+
+/// Loads an open program database, and keeps what contexts are made of.
 fn load(alloc: Global, mut pdb: Database) -> Result<Symbolizer, LoadFault>
     requires { (streams pdb.items).open_fault ≡ None }
     ensures ok { IfOk result (λ s. s ≡ pdb.entry.items) }
     ensures loaded { OnOk result (load_fault (streams pdb.entry.items) ≡ None) }
     ensures err { IfErr result (λ e. FailsLoading e (loaded (shared (streams pdb.entry.items)))) }
 {
-    let debug_information = pdb.debug_information(alloc)?;
-    let tables = read_tables(&mut pdb, alloc, &debug_information)?;
-    if !tables.address_map.is_ordered() {
-        return Err(LoadFault::AddressTableDecreases);
+    match read_held(alloc, &mut pdb) {
+        Ok(held) => Ok(Symbolizer { pdb, held }),
+        Err(fault) => Err(fault),
     }
-    let held = ContextPdbData::try_from_tables(alloc, &mut pdb, debug_information, tables)?;
-    held.check_context(alloc)?;
-    Ok(Symbolizer { pdb, held })
 }
 
 impl Symbolizer {

@@ -12,9 +12,12 @@
 //! - `run_from`: the function at this offset of section 1, over how many bytes up to 256 it stays the same, and how many
 //!   places were looked up then
 //! - `functions`: how many entries the public list has, and all functions
+//! - `all_again`: all four of these of a context that was asked them before, whether what gives modules was asked then, and
+//!   how often it is asked now
 //!
 //! A case that is answered otherwise is printed.
 
+mod calls;
 mod contexts;
 mod formatters;
 mod question;
@@ -62,6 +65,9 @@ fn told(alloc: Global, answer: Result<String, Error>) -> Result<String, AllocErr
 
 /// The answer to a question of a file's bytes.
 fn answer(alloc: Global, bytes: Vec<u8>, question: &Question<'_>) -> Result<String, Error> {
+    if question.asked == "all_again" {
+        return calls::ask(alloc, bytes, question);
+    }
     let data = ContextPdbData::try_from_pdb(alloc, PDB::open(alloc, bytes)?)?;
     if question.is_of_types() {
         return formatters::ask(alloc, &data, question);

@@ -21,7 +21,7 @@ pub fn ask(
 }
 
 /// A value as a text.
-fn shown<T: Debug>(alloc: Global, value: &T) -> Result<String, Error> {
+pub fn shown<T: Debug>(alloc: Global, value: &T) -> Result<String, Error> {
     Ok(format!(in alloc; "{value:?}")?)
 }
 
@@ -62,7 +62,7 @@ fn run_text<P: ModuleProvider>(
 }
 
 /// How many entries the public list has, and all functions.
-fn functions_text<P: ModuleProvider>(
+pub fn functions_text<P: ModuleProvider>(
     alloc: Global,
     context: &mut Context<'_, '_, P>,
 ) -> Result<String, Error> {

@@ -1,0 +1,63 @@
+use Rattle.std.proofs.Common.{◌≡◌, ◌∙◌, ℕ, List, Ok, refl, sym, ap, subst}
+use Rattle.std.proofs.lemmas.Result.{err_from_is_err_and}
+use Rattle.pdb_addresses.specs.Addresses.{is_ordered}
+use Rattle.pdb_addr2line.specs.Loading.{Tables}
+use Rattle.pdb_symbols_modules.specs.DatabaseCalls.{debug_information}
+use Rattle.pdb_symbols_modules.specs.Shared.{shared}
+use Rattle.pdb_symbols_modules.specs.Streams.{streams}
+use Rattle.pdb_report.proofs.OpeningSteps.{dbi_fails, tables_fail, order_fails}
+use Rattle.pdb_report.proofs.symbolizer.read_in_order.Goals as goal
+
+-- a step that fails is the file's fault
+pub returns-in_err-debug_information-clause-err : goal.returns-in_err-debug_information-clause-err
+returns-in_err-debug_information-clause-err c =
+    let p = err_from_is_err_and c.from_residual.result c.from_residual.ensures.1 in
+    rw (p.1, p.2) (dbi_fails (streams c.args.pdb.now.items) c.in_err-debug_information.field-0.0 c.requires c.in_err-debug_information.ensures.exact)
+
+pub returns-in_err-tables-clause-err : goal.returns-in_err-tables-clause-err
+returns-in_err-tables-clause-err c =
+    let p = err_from_is_err_and c.from_residual-in_err-tables.result c.from_residual-in_err-tables.ensures.1 in
+    let failed = rw c.debug_information.ensures.same at c.in_err-tables.ensures.exact in
+    rw (p.1, p.2) (tables_fail (streams c.args.pdb.now.items) c.in_err-tables.field-0.0 c.in_ok-debug_information.debug_information c.requires c.in_ok-debug_information.ensures.exact failed)
+
+pub returns-then-not-is_ordered-clause-err : goal.returns-then-not-is_ordered-clause-err
+returns-then-not-is_ordered-clause-err c =
+    let read = rw c.debug_information.ensures.same at c.in_ok-tables.ensures.exact in
+    order_fails (streams c.args.pdb.now.items) c.in_ok-debug_information.debug_information c.in_ok-tables.tables c.requires c.in_ok-debug_information.ensures.exact read
+    (sym (c.if-not-is_ordered.ensures.value ∙ ap (λ (t : Tables). is_ordered t.map) c.tables.view_is))
+
+-- nothing else is promised of a fault
+pub returns-in_err-debug_information-clause-same : goal.returns-in_err-debug_information-clause-same
+returns-in_err-debug_information-clause-same c =
+    let p = err_from_is_err_and c.from_residual.result c.from_residual.ensures.1 in rw p.1 tt
+
+pub returns-in_err-debug_information-clause-read : goal.returns-in_err-debug_information-clause-read
+returns-in_err-debug_information-clause-read c =
+    let p = err_from_is_err_and c.from_residual.result c.from_residual.ensures.1 in rw p.1 tt
+
+pub returns-in_err-tables-clause-same : goal.returns-in_err-tables-clause-same
+returns-in_err-tables-clause-same c =
+    let p = err_from_is_err_and c.from_residual-in_err-tables.result c.from_residual-in_err-tables.ensures.1 in rw p.1 tt
+
+pub returns-in_err-tables-clause-read : goal.returns-in_err-tables-clause-read
+returns-in_err-tables-clause-read c =
+    let p = err_from_is_err_and c.from_residual-in_err-tables.result c.from_residual-in_err-tables.ensures.1 in rw p.1 tt
+
+-- the container is as it was
+pub read_tables-requires : goal.read_tables-requires
+read_tables-requires c =
+    subst (λ (file : List ℕ). debug_information (shared (streams file)) ≡ Ok c.in_ok-debug_information.debug_information) (sym c.debug_information.ensures.same) c.in_ok-debug_information.ensures.exact
+
+pub returns-clause-same : goal.returns-clause-same
+returns-clause-same c = c.read_tables.ensures.same ∙ c.debug_information.ensures.same
+
+pub returns-clause-read : goal.returns-clause-read
+returns-clause-read c =
+    let read = rw c.debug_information.ensures.same at c.in_ok-tables.ensures.exact in
+    let map_is = ap (λ (t : Tables). t.map) c.tables.view_is in
+    record {
+      dbi_is = c.in_ok-debug_information.ensures.exact;
+      tables_are = read;
+      in_order = sym (c.if-not-is_ordered.ensures.value ∙ ap (λ (t : Tables). is_ordered t.map) c.tables.view_is);
+      ordered = rw map_is at (c.if-not-is_ordered.ensures.meaning.0 refl);
+    }
