@@ -23,7 +23,6 @@ use std::alloc::Global;
 use std::marker::Model;
 
 /// What every question goes over: the ways between addresses, what modules hold, the public list, and the string table.
-#[derive(Drop)]
 pub struct ContextParts<'a, 's> {
     /// The ways between RVAs and places in sections.
     pub address_map: &'a AddressMap<'s>,
@@ -49,6 +48,21 @@ impl<'a, 's> Model for ContextParts<'a, 's> {
 
     // The OMAPs are in order, and the bounds are those of the contributions.
     ghost invariant = { λ p. IsOrdered p.address_map.now × AreContributionBounds p.contributions p.bounds };
+}
+
+impl<'a, 's> Drop for ContextParts<'a, 's> {
+    fn drop(self) {
+        let ContextParts {
+            address_map: _,
+            contributions,
+            bounds,
+            publics,
+            string_table: _,
+        } = self;
+        drop(contributions);
+        drop(bounds);
+        drop(publics);
+    }
 }
 
 impl<'a, 's> ContextParts<'a, 's> {

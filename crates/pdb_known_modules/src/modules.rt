@@ -24,7 +24,6 @@ use std::alloc::{AllocError, Global};
 use std::marker::Model;
 
 /// A module's data: its stream, and its procedures.
-#[derive(Drop)]
 pub struct BasicModuleInfo<'a, I: ModuleTables> {
     /// The module's own stream.
     pub module_info: &'a I,
@@ -54,6 +53,24 @@ impl<'a, I: ModuleTables> Model for BasicModuleInfo<'a, I> {
     // The bounds are those of the procedures. What is kept of lines and inlinees is the stream's, and so is what is kept of procedures
     // and of public entries.
     ghost invariant = { λ m. AreProcedureBounds m.procedures m.bounds × AreExtended (I.held m.module_info.now) m.extended × AreOfStream (I.held m.module_info.now) m.kept_procedures.items × AreRowsOfStream (I.held m.module_info.now) m.public_rows };
+}
+
+impl<'a, I: ModuleTables> Drop for BasicModuleInfo<'a, I> {
+    fn drop(self) {
+        let BasicModuleInfo {
+            module_info: _,
+            procedures,
+            bounds,
+            extended,
+            kept_procedures,
+            public_rows,
+        } = self;
+        drop(procedures);
+        drop(bounds);
+        drop(extended);
+        drop(kept_procedures);
+        drop(public_rows);
+    }
 }
 
 impl<'a, I: ModuleTables> BasicModuleInfo<'a, I> {

@@ -18,7 +18,6 @@ use pdb_type_sizes::ItemReader;
 use std::marker::Model;
 
 /// Makes the texts of types, functions and ids.
-#[derive(Drop)]
 pub struct TypeFormatter<'a, 's, P: ModuleProvider> {
     pub(crate) reader: ItemReader<'a, 's, P>,
     pub(crate) flags: u32,
@@ -30,6 +29,13 @@ impl<'a, 's, P: ModuleProvider> Model for TypeFormatter<'a, 's, P> {
     ghost Value = { Formatting P };
 
     ghost view = { λ f. record { reading = f.reader; flags = f.flags } };
+}
+
+impl<'a, 's, P: ModuleProvider> Drop for TypeFormatter<'a, 's, P> {
+    fn drop(self) {
+        let TypeFormatter { reader, flags: _ } = self;
+        drop(reader);
+    }
 }
 
 impl<'a, 's, P: ModuleProvider> TypeFormatter<'a, 's, P> {
