@@ -10,12 +10,18 @@ use std::alloc::Global;
 use std::io::{self, ErrorKind};
 use std::test::Fail;
 
+/// Opens a file.
+fn open(alloc: Global) -> Result<(), Fail> {
+    Symbolizer::open(alloc, F.made(alloc)?)?;
+    Ok(())
+}
+
 /// Whether a file is opened and reported on.
 fn is_answered(alloc: Global) -> Result<bool, Fail> {
-    Symbolizer::open(alloc, F.made(alloc)?)?;
-    let run = run_over(alloc, F.made(alloc)?, b"1014\n".as_slice());
-    run.outcome?;
-    Ok(run.report.as_slice() == b"0x00001014\n  f at a.c:5\n".as_slice())
+    open(alloc)?;
+    let (report, outcome) = run_over(alloc, F.made(alloc)?, b"1014\n".as_slice());
+    outcome?;
+    Ok(report.as_slice() == b"0x00001014\n  f at a.c:5\n".as_slice())
 }
 
 /// Whether the addresses of a range are counted.

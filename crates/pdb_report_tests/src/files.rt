@@ -3,7 +3,7 @@
 use pdb_report::{RunFault, Watched, finish_run, run_frames};
 use pdb_samples::{Change, ProgramDatabase, Result, SampleError, file_f, file_with, push_u32};
 use std::alloc::Global;
-use std::io::Read;
+use std::io::{ErrorKind, Read};
 use std::test::Fail;
 
 /// A file.
@@ -72,22 +72,47 @@ fn push_stream(database: &mut ProgramDatabase, place: usize, stream: Vec<u8>) ->
     Ok(())
 }
 
-/// What a run wrote, and how it ended.
-#[derive(Drop)]
-pub struct Run {
-    /// The bytes that the run wrote.
-    pub report: Vec<u8>,
-    /// How it ended.
-    pub outcome: std::result::Result<(), RunFault>,
+/// Why a run ended early: what a read or a write failed with, and of any other cause only whether it is out of memory.
+#[derive(Clone, Copy, Debug, PartialEq)]
+pub enum Stop {
+    /// A read failed so.
+    Read(ErrorKind),
+    /// A write failed so.
+    Write(ErrorKind),
+    /// Out of memory.
+    OutOfMemory,
+    /// Another cause.
+    Other,
 }
 
-/// A run over these bytes.
-pub fn run_over<R: Read + Drop>(alloc: Global, bytes: Vec<u8>, input: R) -> Run {
+/// What of a fault is looked at.
+fn stop_of(fault: &RunFault) -> Stop {
+    match fault {
+        RunFault::Read(kind) => Stop::Read(*kind),
+        RunFault::Write(kind) => Stop::Write(*kind),
+        RunFault::OutOfMemory => Stop::OutOfMemory,
+        _ => Stop::Other,
+    }
+}
+
+/// How a run ended that has no value.
+pub type Outcome = std::result::Result<(), Stop>;
+
+/// How a run ended.
+pub fn ended<T>(outcome: std::result::Result<T, RunFault>) -> std::result::Result<T, Stop> {
+    match outcome {
+        Ok(value) => Ok(value),
+        Err(fault) => Err(stop_of(&fault)),
+    }
+}
+
+/// What a run over these bytes wrote, and how it ended.
+pub fn run_over<R: Read + Drop>(alloc: Global, bytes: Vec<u8>, input: R) -> (Vec<u8>, Outcome) {
     let mut report = Vec::new(alloc);
     let mut reader = Watched::new(input);
     let mut writer = Watched::new(&mut report);
     let outcome = run_frames(alloc, bytes, &mut reader, &mut writer);
-    Run { report, outcome }
+    (report, ended(outcome))
 }
 
 /// An empty list with room for the bytes of some lines.

@@ -1,29 +1,35 @@
 //! Reports on ranges of addresses, and what was looked up for them.
 
-use crate::files::{F, File, line_buffer};
-use pdb_report::{RunFault, Tally, Watched, run_sizes};
+use crate::files::{F, File, Stop, ended, line_buffer};
+use pdb_report::{Tally, Watched, run_sizes};
 use pdb_samples::{Change, PieceWriter};
 use std::alloc::Global;
 use std::io::ErrorKind;
 use std::test::Fail;
 
 /// How a run ends.
-type Outcome = Result<Tally, RunFault>;
+type Outcome = Result<Tally, Stop>;
 
 /// What a run over a range of these bytes writes, and how it ends.
 fn run_over(alloc: Global, bytes: Vec<u8>, range: (u32, u32)) -> (Vec<u8>, Outcome) {
     let mut report = Vec::new(alloc);
     let mut writer = Watched::new(&mut report);
     let outcome = run_sizes(alloc, bytes, range.0, range.1, &mut writer);
-    (report, outcome)
+    (report, ended(outcome))
 }
 
-/// The same of a file; the second run where the first finds no memory.
+/// The same of a file.
+fn run_once(alloc: Global, file: File, range: (u32, u32)) -> Result<(Vec<u8>, Outcome), Fail> {
+    let bytes = file.bytes(alloc)?;
+    Ok(run_over(alloc, bytes, range))
+}
+
+/// The same; the second run where the first finds no memory.
 fn run_on(alloc: Global, file: File, range: (u32, u32)) -> Result<(Vec<u8>, Outcome), Fail> {
-    let run = run_over(alloc, file.bytes(alloc)?, range);
-    match run.1 {
-        Err(RunFault::OutOfMemory) => Ok(run_over(alloc, file.bytes(alloc)?, range)),
-        _ => Ok(run),
+    let first = run_once(alloc, file, range)?;
+    match &first.1 {
+        Err(Stop::OutOfMemory) => run_once(alloc, file, range),
+        _ => Ok(first),
     }
 }
 
@@ -85,25 +91,33 @@ fn write_report(
     let mut writer = Watched::new(&mut inner);
     let outcome = run_sizes(alloc, file, 0x1018, 0x1030, &mut writer);
     let kind = writer.last_kind();
-    Ok((inner.written, kind, outcome))
+    Ok((inner.written, kind, ended(outcome)))
 }
 
-/// Whether a run ends with a failure of this kind, and the writer is full and has a front of the report. Where memory is
-/// refused it runs once more.
+/// The same; the second run where memory is refused and no write failed.
+fn write_again(
+    alloc: Global,
+    room: usize,
+    fault: Option<ErrorKind>,
+) -> Result<(Vec<u8>, Option<ErrorKind>, Outcome), Fail> {
+    let first = write_report(alloc, room, fault)?;
+    match (first.1, &first.2) {
+        (None, Err(Stop::OutOfMemory)) => write_report(alloc, room, fault),
+        _ => Ok(first),
+    }
+}
+
+/// Whether a run ends with a failure of this kind, and the writer is full and has a front of the report.
 fn is_failing(
     alloc: Global,
     room: usize,
     fault: Option<ErrorKind>,
     kind: ErrorKind,
 ) -> Result<bool, Fail> {
-    let mut last = write_report(alloc, room, fault)?;
-    if last.1.is_none() && last.2 == Err(RunFault::OutOfMemory) {
-        last = write_report(alloc, room, fault)?;
-    }
-    let (bytes, last_kind, outcome) = last;
+    let (bytes, last_kind, outcome) = write_again(alloc, room, fault)?;
     let is_front = bytes.len() == room
         && b"0x00001010 24 f\nnone 0\n".starts_with(bytes.as_slice());
-    Ok(is_front && last_kind == Some(kind) && outcome == Err(RunFault::Write(kind)))
+    Ok(is_front && last_kind == Some(kind) && outcome == Err(Stop::Write(kind)))
 }
 
 /// The room of writers, their failure once that is full, and the kind of it. One without a failure takes no byte.

@@ -1,6 +1,6 @@
 //! Readers and writers that misbehave.
 
-use crate::files::{F0, Run, line_buffer, run_over};
+use crate::files::{F0, Outcome, Stop, ended, line_buffer, run_over};
 use pdb_report::{RunFault, Watched, finish_run, run_frames};
 use pdb_samples::{PieceReader, PieceWriter};
 use std::alloc::Global;
@@ -17,39 +17,46 @@ const TWO_LINES: &[u8] = b"0x00001014\n  f at ??:??\n0x00001050\n  ??\n";
 /// How many bytes of the report are out at a fault.
 const FRONT: usize = 30;
 
-/// How a run ends.
-type Outcome = Result<(), RunFault>;
+/// A run over file F0 with a reader.
+fn read_by(alloc: Global, reader: PieceReader<'_>) -> Result<(Vec<u8>, Outcome), Fail> {
+    let file = F0.bytes(alloc)?;
+    Ok(run_over(alloc, file, reader))
+}
 
-/// A run over file F0 with a reader that gives pieces of these bytes; the second one where the first finds no memory.
+/// The same with a reader that gives pieces of these bytes; the second run where the first finds no memory.
 fn read_input(
     alloc: Global,
     bytes: &[u8],
     piece: usize,
     fault: Option<ErrorKind>,
-) -> Result<Run, Fail> {
-    let reader = PieceReader {
-        bytes,
-        piece,
-        fault,
-    };
-    let run = run_over(alloc, F0.bytes(alloc)?, reader);
-    if run.outcome != Err(RunFault::OutOfMemory) {
-        return Ok(run);
+) -> Result<(Vec<u8>, Outcome), Fail> {
+    let first = read_by(
+        alloc,
+        PieceReader {
+            bytes,
+            piece,
+            fault,
+        },
+    )?;
+    match first.1 {
+        Err(Stop::OutOfMemory) => read_by(
+            alloc,
+            PieceReader {
+                bytes,
+                piece,
+                fault,
+            },
+        ),
+        _ => Ok(first),
     }
-    let reader = PieceReader {
-        bytes,
-        piece,
-        fault,
-    };
-    Ok(run_over(alloc, F0.bytes(alloc)?, reader))
 }
 
 /// How a run ends where a read failed, if one did.
 fn end_of_read(fault: Option<ErrorKind>) -> Outcome {
     match fault {
         None => Ok(()),
-        Some(ErrorKind::OutOfMemory) => Err(RunFault::OutOfMemory),
-        Some(kind) => Err(RunFault::Read(kind)),
+        Some(ErrorKind::OutOfMemory) => Err(Stop::OutOfMemory),
+        Some(kind) => Err(Stop::Read(kind)),
     }
 }
 
@@ -62,13 +69,12 @@ fn is_read(
     fault: Option<ErrorKind>,
     report: &[u8],
 ) -> Result<bool, Fail> {
-    let run = read_input(alloc, bytes, piece, fault)?;
-    let found = run.report.as_slice();
+    let (found, outcome) = read_input(alloc, bytes, piece, fault)?;
     let is_right = match fault {
-        Some(ErrorKind::OutOfMemory) => REPORT.starts_with(found),
-        _ => found == report,
+        Some(ErrorKind::OutOfMemory) => REPORT.starts_with(found.as_slice()),
+        _ => found.as_slice() == report,
     };
-    Ok(is_right && run.outcome == end_of_read(fault))
+    Ok(is_right && outcome == end_of_read(fault))
 }
 
 /// The bytes that are read, how they end, and the report.
@@ -93,12 +99,7 @@ fn readers(rt: HostRuntime) -> Result<(), Fail> {
 }
 
 /// What a writer holds at the end of a run, the failures that were counted and their last kind, and how the run ended.
-#[derive(Drop)]
-struct Written {
-    bytes: Vec<u8>,
-    failures: (u64, Option<ErrorKind>),
-    outcome: Outcome,
-}
+type Written = (Vec<u8>, (u64, Option<ErrorKind>), Outcome);
 
 /// A run over file F0 with a writer that takes pieces, so many bytes in all.
 fn write_report(
@@ -117,24 +118,34 @@ fn write_report(
     let mut writer = Watched::new(&mut inner);
     let outcome = run_frames(alloc, file, &mut Watched::new(INPUT), &mut writer);
     let failures = (writer.failures(), writer.last_kind());
-    Ok(Written {
-        bytes: inner.written,
-        failures,
-        outcome,
-    })
+    Ok((inner.written, failures, ended(outcome)))
+}
+
+/// The same; the second run where memory is refused and no write failed.
+fn write_again(
+    alloc: Global,
+    piece: usize,
+    room: usize,
+    fault: Option<ErrorKind>,
+) -> Result<Written, Fail> {
+    let first = write_report(alloc, piece, room, fault)?;
+    match (first.1.0, first.2) {
+        (0, Err(Stop::OutOfMemory)) => write_report(alloc, piece, room, fault),
+        _ => Ok(first),
+    }
 }
 
 /// How a run ends where a write failed so, if one did.
 fn end_of_write(kind: Option<ErrorKind>) -> Outcome {
     match kind {
         None => Ok(()),
-        Some(ErrorKind::OutOfMemory) => Err(RunFault::OutOfMemory),
-        Some(kind) => Err(RunFault::Write(kind)),
+        Some(ErrorKind::OutOfMemory) => Err(Stop::OutOfMemory),
+        Some(kind) => Err(Stop::Write(kind)),
     }
 }
 
 /// Whether a run over file F0 ends as its writer does, whose last failure is of this kind, and the writer is full or
-/// has the whole report. Where memory is refused it runs once more.
+/// has the whole report.
 fn is_written(
     alloc: Global,
     piece: usize,
@@ -142,16 +153,12 @@ fn is_written(
     fault: Option<ErrorKind>,
     kind: Option<ErrorKind>,
 ) -> Result<bool, Fail> {
-    let mut last = write_report(alloc, piece, room, fault)?;
-    if last.failures.0 == 0 && last.outcome == Err(RunFault::OutOfMemory) {
-        last = write_report(alloc, piece, room, fault)?;
-    }
-    let bytes = last.bytes.as_slice();
+    let (bytes, failures, outcome) = write_again(alloc, piece, room, fault)?;
     Ok(
         bytes.len() == room.min(REPORT.len())
-            && REPORT.starts_with(bytes)
-            && last.failures == (u64::from(kind.is_some()), kind)
-            && last.outcome == end_of_write(kind),
+            && REPORT.starts_with(bytes.as_slice())
+            && failures == (u64::from(kind.is_some()), kind)
+            && outcome == end_of_write(kind),
     )
 }
 
@@ -230,13 +237,13 @@ fn count_writes(alloc: Global, lines: usize, most: usize) -> Result<(Outcome, us
     let mut inner = CallCounter { calls: 0 };
     let mut writer = Watched::new(&mut inner);
     let outcome = run_frames(alloc, file, &mut reader, &mut writer);
-    Ok((outcome, inner.calls))
+    Ok((ended(outcome), inner.calls))
 }
 
 /// Whether the run ends well and takes so many writes. Where memory is refused it runs once more.
 fn are_gathered(alloc: Global, lines: usize, most: usize, writes: usize) -> Result<bool, Fail> {
     let (mut outcome, mut calls) = count_writes(alloc, lines, most)?;
-    if outcome == Err(RunFault::OutOfMemory) {
+    if outcome == Err(Stop::OutOfMemory) {
         (outcome, calls) = count_writes(alloc, lines, most)?;
     }
     Ok(outcome == Ok(()) && calls == writes)

@@ -26,27 +26,80 @@ enum Kind {
     Texts,
 }
 
-fn main(rt: HostRuntime) -> Result<()> {
-    let mut kind = Kind::Reads;
-    let mut read_count = 0u64;
-    let mut report_count = 0u64;
-    let mut text_count = 0u64;
-    for word in env::args(&rt)?.skip(1) {
-        match (word.as_str(), kind) {
-            ("reads", _) => kind = Kind::Reads,
-            ("reports", _) => kind = Kind::Reports,
-            ("texts", _) => kind = Kind::Texts,
-            (file, Kind::Reads) => read_count = read_count.saturating_add(reads::run_file(
-                &rt, file,
-            )?),
-            (file, Kind::Reports) => report_count = report_count.saturating_add(reports::run_file(
-                &rt, file,
-            )?),
-            (file, Kind::Texts) => text_count = text_count.saturating_add(texts::run_file(
-                &rt, file,
-            )?),
+/// The kinds by their words.
+const KINDS: &[(&str, Kind)] = &[
+    ("reads", Kind::Reads),
+    ("reports", Kind::Reports),
+    ("texts", Kind::Texts),
+];
+
+/// The kind that a word names, if it names one.
+fn kind_of(word: &str) -> Option<Kind> {
+    for (name, kind) in KINDS {
+        if word == *name {
+            return Some(*kind);
         }
     }
-    println!(rt; "{read_count} reads, {report_count} reports, {text_count} texts")?;
+    None
+}
+
+/// What the cases of the next file are of, and how many cases there were of each kind.
+#[derive(Clone, Copy)]
+struct Progress {
+    kind: Kind,
+    reads: u64,
+    reports: u64,
+    texts: u64,
+}
+
+/// Goes through the cases of a file, and counts them.
+fn run_file(
+    rt: &(impl Files + Print + AllocGlobal),
+    progress: &mut Progress,
+    file: &str,
+) -> Result<()> {
+    match progress.kind {
+        Kind::Reads => {
+            progress.reads = progress.reads.saturating_add(reads::run_file(rt, file)?);
+        }
+        Kind::Reports => {
+            progress.reports = progress
+                .reports
+                .saturating_add(reports::run_file(rt, file)?);
+        }
+        Kind::Texts => {
+            progress.texts = progress.texts.saturating_add(texts::run_file(rt, file)?);
+        }
+    }
+    Ok(())
+}
+
+/// Takes a word: that of a kind, or a file.
+fn take_word(
+    rt: &(impl Files + Print + AllocGlobal),
+    progress: &mut Progress,
+    word: &str,
+) -> Result<()> {
+    match kind_of(word) {
+        None => run_file(rt, progress, word),
+        Some(kind) => {
+            progress.kind = kind;
+            Ok(())
+        }
+    }
+}
+
+fn main(rt: HostRuntime) -> Result<()> {
+    let mut progress = Progress {
+        kind: Kind::Reads,
+        reads: 0,
+        reports: 0,
+        texts: 0,
+    };
+    for word in env::args(&rt)?.skip(1) {
+        take_word(&rt, &mut progress, word.as_str())?;
+    }
+    let (reads, reports, texts) = (progress.reads, progress.reports, progress.texts);
+    println!(rt; "{reads} reads, {reports} reports, {texts} texts")?;
     Ok(())
 }

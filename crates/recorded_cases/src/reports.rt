@@ -60,8 +60,19 @@ fn run_case(rt: &(impl Files + Print + AllocGlobal), case: &Case<'_>) -> Result<
     let mut errors = Vec::new(rt.alloc());
     let outcome = report(rt.alloc(), case, bytes, &mut output);
     let status = finish_run(outcome, &mut errors);
-    print_difference(rt, case.name, "output", &output, &case.output)?;
-    print_difference(rt, case.name, "error output", &errors, &case.errors)?;
+    print_differences(rt, case, &output, &errors, status)
+}
+
+/// Prints where the output, the error output and the status of a case aren't as recorded.
+fn print_differences(
+    rt: &(impl Print + AllocGlobal),
+    case: &Case<'_>,
+    output: &[u8],
+    errors: &[u8],
+    status: u8,
+) -> Result<()> {
+    print_difference(rt, case.name, "output", output, &case.output)?;
+    print_difference(rt, case.name, "error output", errors, &case.errors)?;
     if status != case.status {
         println!(rt; "{}: status {status} and not {}", case.name, case.status)?;
     }

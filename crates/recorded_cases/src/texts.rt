@@ -26,10 +26,13 @@ use crate::reports::database::database_bytes;
 use anyhow::Result;
 use pdb_addr2line::pdb::PDB;
 use pdb_addr2line::{ContextPdbData, Error};
-use question::{Question, question_of};
+use question::{Asked, Question, question_of};
 use std::alloc::{AllocError, Global};
 use std::fs;
 use std::rt::Files;
+
+/// What was read of a database.
+type Data = ContextPdbData<'static, 'static, Vec<u8>>;
 
 /// Goes through the cases of a file, and returns how many there are.
 pub fn run_file(rt: &(impl Files + Print + AllocGlobal), file: &str) -> Result<u64> {
@@ -65,12 +68,28 @@ fn told(alloc: Global, answer: Result<String, Error>) -> Result<String, AllocErr
 
 /// The answer to a question of a file's bytes.
 fn answer(alloc: Global, bytes: Vec<u8>, question: &Question<'_>) -> Result<String, Error> {
-    if question.asked == "all_again" {
-        return calls::ask(alloc, bytes, question);
+    match question.asked {
+        Asked::AllAgain => calls::ask(alloc, bytes, question),
+        _ => ask(alloc, bytes, question),
     }
-    let data = ContextPdbData::try_from_pdb(alloc, PDB::open(alloc, bytes)?)?;
-    if question.is_of_types() {
-        return formatters::ask(alloc, &data, question);
+}
+
+/// The answer by what is read of a database.
+fn ask(alloc: Global, bytes: Vec<u8>, question: &Question<'_>) -> Result<String, Error> {
+    let data = data_of(alloc, bytes)?;
+    ask_over(alloc, &data, question)
+}
+
+/// The answer by what was read of a database.
+fn ask_over(alloc: Global, data: &Data, question: &Question<'_>) -> Result<String, Error> {
+    match question.asked {
+        Asked::Function | Asked::Id | Asked::Size => formatters::ask(alloc, data, question),
+        _ => contexts::ask(alloc, data, question),
     }
-    contexts::ask(alloc, &data, question)
+}
+
+/// What is read of a database.
+fn data_of(alloc: Global, bytes: Vec<u8>) -> Result<Data, Error> {
+    let database = PDB::open(alloc, bytes)?;
+    ContextPdbData::try_from_pdb(alloc, database)
 }

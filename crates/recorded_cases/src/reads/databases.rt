@@ -4,8 +4,12 @@ use crate::reads::question::{Question, Task};
 use crate::reads::shown::{listed, push, shown};
 use crate::reads::{addresses, modules};
 use pdb_container::{FallibleIterator, Result, Stream, StringRef};
-use pdb_container_types::{IdIndex, IdInformation, SymbolIndex, TypeIndex, TypeInformation};
-use pdb_symbols_modules::{DebugInformation, Module, PDB, StreamIndex};
+use pdb_container_types::{
+    IdFinder, IdIndex, IdInformation, SymbolIndex, TypeFinder, TypeIndex, TypeInformation,
+};
+use pdb_symbols_modules::{
+    DebugInformation, Module, PDB, PDBInformation, StreamIndex, StreamNames, SymbolTable,
+};
 use std::alloc::Global;
 
 /// An open database over a file's bytes.
@@ -14,23 +18,21 @@ type Database = PDB<'static, Vec<u8>>;
 /// The answer of the database that a file's bytes make.
 pub fn ask(alloc: Global, bytes: Vec<u8>, question: &Question<'_>) -> Result<String> {
     let mut database = PDB::open(alloc, bytes)?;
+    ask_database(alloc, &mut database, question)
+}
+
+/// The answer of an open database.
+fn ask_database(alloc: Global, database: &mut Database, question: &Question<'_>) -> Result<String> {
     match question.task {
-        Task::Raw | Task::Get | Task::Named => ask_streams(alloc, &mut database, question),
-        Task::Name => name_text(alloc, &mut database, question.numbers.0),
-        Task::Information => information_text(alloc, &mut database),
-        Task::Names => names_text(alloc, &mut database),
-        Task::Sections => shown(alloc, &database.sections(alloc)?),
-        Task::Globals => listed(alloc, &mut database.global_symbols(alloc)?.iter()),
-        Task::GlobalsAt => globals_at(alloc, &mut database, SymbolIndex(question.numbers.0)),
-        Task::Debug | Task::Modules | Task::Contributions => {
-            ask_debug(alloc, &database.debug_information(alloc)?, question.task)
-        }
-        Task::TypeTable | Task::Types | Task::FindType => {
-            ask_types(alloc, &database.type_information(alloc)?, question)
-        }
-        Task::IdTable | Task::Ids | Task::FindId => {
-            ask_ids(alloc, &database.id_information(alloc)?, question)
-        }
+        Task::Raw | Task::Get | Task::Named => ask_streams(alloc, database, question),
+        Task::Name => name_text(alloc, database, question.numbers.0),
+        Task::Information => information_text(alloc, database),
+        Task::Names => names_text(alloc, database),
+        Task::Sections => sections_text(alloc, database),
+        Task::Globals | Task::GlobalsAt => globals_text(alloc, database, question),
+        Task::Debug | Task::Modules | Task::Contributions => debug_text(alloc, database, question),
+        Task::TypeTable | Task::Types | Task::FindType => types_text(alloc, database, question),
+        Task::IdTable | Task::Ids | Task::FindId => ids_text(alloc, database, question),
         Task::ImageSections
         | Task::SectionNames
         | Task::ImageAddress
@@ -39,9 +41,57 @@ pub fn ask(alloc: Global, bytes: Vec<u8>, question: &Question<'_>) -> Result<Str
         | Task::InternalPlace
         | Task::ImageRange
         | Task::InternalRange
-        | Task::Run => addresses::ask(alloc, &database.address_map(alloc)?, question),
-        _ => ask_module(alloc, &mut database, question),
+        | Task::Run => addresses_text(alloc, database, question),
+        _ => ask_module(alloc, database, question),
     }
+}
+
+/// The section headers of the image.
+fn sections_text(alloc: Global, database: &mut Database) -> Result<String> {
+    let sections = database.sections(alloc)?;
+    shown(alloc, &sections)
+}
+
+/// The answer of the global symbols.
+fn globals_text(alloc: Global, database: &mut Database, question: &Question<'_>) -> Result<String> {
+    let table = database.global_symbols(alloc)?;
+    ask_globals(alloc, &table, question)
+}
+
+/// The global symbols, or those from a place on.
+fn ask_globals(alloc: Global, table: &SymbolTable<'_>, question: &Question<'_>) -> Result<String> {
+    match question.task {
+        Task::Globals => listed(alloc, &mut table.iter()),
+        _ => listed(alloc, &mut table.iter_at(SymbolIndex(question.numbers.0))),
+    }
+}
+
+/// The answer of stream 3.
+fn debug_text(alloc: Global, database: &mut Database, question: &Question<'_>) -> Result<String> {
+    let debug = database.debug_information(alloc)?;
+    ask_debug(alloc, &debug, question.task)
+}
+
+/// The answer of stream 2.
+fn types_text(alloc: Global, database: &mut Database, question: &Question<'_>) -> Result<String> {
+    let table = database.type_information(alloc)?;
+    ask_types(alloc, &table, question)
+}
+
+/// The answer of stream 4.
+fn ids_text(alloc: Global, database: &mut Database, question: &Question<'_>) -> Result<String> {
+    let table = database.id_information(alloc)?;
+    ask_ids(alloc, &table, question)
+}
+
+/// The answer of the address map.
+fn addresses_text(
+    alloc: Global,
+    database: &mut Database,
+    question: &Question<'_>,
+) -> Result<String> {
+    let map = database.address_map(alloc)?;
+    addresses::ask(alloc, &map, question)
 }
 
 /// The answer of a stream by number or name.
@@ -65,12 +115,6 @@ fn stream_text(alloc: Global, stream: &Option<Stream<'_>>) -> Result<String> {
     }
 }
 
-/// The global symbols from a place on.
-fn globals_at(alloc: Global, database: &mut Database, place: SymbolIndex) -> Result<String> {
-    let table = database.global_symbols(alloc)?;
-    listed(alloc, &mut table.iter_at(place))
-}
-
 /// The name of a file.
 fn name_text(alloc: Global, database: &mut Database, offset: u32) -> Result<String> {
     let names = database.string_table(alloc)?;
@@ -84,10 +128,20 @@ fn information_text(alloc: Global, database: &mut Database) -> Result<String> {
     shown(alloc, &(said.version, said.signature, said.age, guid))
 }
 
-/// The names of streams, in the order of their entries.
+/// The names of streams.
 fn names_text(alloc: Global, database: &mut Database) -> Result<String> {
     let information = database.pdb_information(alloc)?;
+    ask_names(alloc, &information)
+}
+
+/// The names of streams that stream 1 says.
+fn ask_names(alloc: Global, information: &PDBInformation<'_>) -> Result<String> {
     let names = information.stream_names(alloc)?;
+    listed_names(alloc, &names)
+}
+
+/// Names of streams, in the order of their entries.
+fn listed_names(alloc: Global, names: &StreamNames<'_>) -> Result<String> {
     let mut text = String::new(alloc);
     for entry in names.iter() {
         push(alloc, &mut text, &(entry.name, entry.stream_id))?;
@@ -123,7 +177,13 @@ fn ask_types(
 /// The record of a type of the first block, found by a fresh finder.
 fn type_text(alloc: Global, table: &TypeInformation<'_>, index: TypeIndex) -> Result<String> {
     let finder = table.finder(alloc)?;
-    shown(alloc, &finder.find(index)?.parse(alloc)?)
+    found_type(alloc, &finder, index)
+}
+
+/// The record of a type that a finder finds.
+fn found_type(alloc: Global, finder: &TypeFinder<'_>, index: TypeIndex) -> Result<String> {
+    let item = finder.find(index)?;
+    shown(alloc, &item.parse(alloc)?)
 }
 
 /// The answer of the table of ids.
@@ -141,18 +201,44 @@ fn ask_ids(alloc: Global, table: &IdInformation<'_>, question: &Question<'_>) ->
 /// The record of an id of the first block, found by a fresh finder.
 fn id_text(alloc: Global, table: &IdInformation<'_>, index: IdIndex) -> Result<String> {
     let finder = table.finder(alloc)?;
-    shown(alloc, &finder.find(index)?.parse(alloc)?)
+    found_id(alloc, &finder, index)
+}
+
+/// The record of an id that a finder finds.
+fn found_id(alloc: Global, finder: &IdFinder<'_>, index: IdIndex) -> Result<String> {
+    let item = finder.find(index)?;
+    shown(alloc, &item.parse(alloc)?)
 }
 
 /// The answer of the stream of the module of a number, counted from 0.
 fn ask_module(alloc: Global, database: &mut Database, question: &Question<'_>) -> Result<String> {
     let debug = database.debug_information(alloc)?;
-    match module_at(&debug, question.numbers.0)? {
+    ask_module_of(alloc, database, &debug, question)
+}
+
+/// The same of the list of modules that stream 3 says.
+fn ask_module_of(
+    alloc: Global,
+    database: &mut Database,
+    debug: &DebugInformation<'_>,
+    question: &Question<'_>,
+) -> Result<String> {
+    match module_at(debug, question.numbers.0)? {
         None => shown(alloc, &"no module"),
-        Some(module) => match database.module_info(alloc, &module)? {
-            None => shown(alloc, &"no stream"),
-            Some(info) => modules::ask_stream(alloc, &info, question),
-        },
+        Some(module) => ask_stream_of(alloc, database, &module, question),
+    }
+}
+
+/// The answer of a module's stream.
+fn ask_stream_of(
+    alloc: Global,
+    database: &mut Database,
+    module: &Module<'_>,
+    question: &Question<'_>,
+) -> Result<String> {
+    match database.module_info(alloc, module)? {
+        None => shown(alloc, &"no stream"),
+        Some(info) => modules::ask_stream(alloc, &info, question),
     }
 }
 

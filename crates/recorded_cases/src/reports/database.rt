@@ -21,10 +21,16 @@ fn bytes_of(alloc: Global, text: &str) -> Result<Vec<u8>> {
         .strip_prefix("length ")
         .context("a length is needed")?;
     let mut bytes = vec![in alloc; 0u8; length.parse::<usize>()?]?;
-    for line in lines.lines() {
-        write_line(alloc, &mut bytes, line)?;
-    }
+    write_lines(alloc, &mut bytes, lines)?;
     Ok(bytes)
+}
+
+/// Writes the bytes of lines where they stand.
+fn write_lines(alloc: Global, bytes: &mut [u8], lines: &str) -> Result<()> {
+    for line in lines.lines() {
+        write_line(alloc, bytes, line)?;
+    }
+    Ok(())
 }
 
 /// Writes the bytes of a line where they stand.
@@ -34,11 +40,16 @@ fn write_line(alloc: Global, bytes: &mut [u8], line: &str) -> Result<()> {
         .context("a place and bytes are needed")?;
     let place = usize::from_str_radix(place, 16)?;
     let piece = hex::decode(alloc, digits)?;
+    write_piece(bytes, place, &piece)
+}
+
+/// Writes a piece over the bytes from a place on.
+fn write_piece(bytes: &mut [u8], place: usize, piece: &[u8]) -> Result<()> {
     let (_, rest) = bytes
         .split_at_mut_checked(place)
         .context("the place lies past the end")?;
     ensure!(piece.len() <= rest.len(), "the bytes reach past the end");
-    for (old, new) in rest.iter_mut().zip(&piece) {
+    for (old, new) in rest.iter_mut().zip(piece) {
         *old = *new;
     }
     Ok(())

@@ -24,8 +24,16 @@ pub fn print_difference(
 
 /// How many lines two texts begin with alike.
 fn equal_lines(one: &[u8], other: &[u8]) -> usize {
-    let equal = one.iter().zip(other).take_while(|(a, b)| a == b);
-    equal.filter(|(byte, _)| **byte == b'\n').count()
+    let mut count = 0usize;
+    for (byte, other) in one.iter().zip(other) {
+        if byte != other {
+            break;
+        }
+        if *byte == b'\n' {
+            count = count.saturating_add(1);
+        }
+    }
+    count
 }
 
 /// The line of a text behind so many others, with its newline, or nothing past the end.

@@ -1,10 +1,11 @@
 //! How often a context asks for modules.
 
-use crate::texts::contexts::{functions_text, shown};
+use crate::texts::contexts::{functions_text, told};
 use crate::texts::question::Question;
 use pdb_addr2line::maybe_owned::MaybeOwned;
 use pdb_addr2line::pdb::{
-    self, DebugInformation, FallibleIterator, Module, PDB, PdbInternalSectionOffset, StringTable,
+    self, DebugInformation, FallibleIterator, Module, ModuleInfo, PDB, PdbInternalSectionOffset,
+    StringTable,
 };
 use pdb_addr2line::{
     Context, ContextPdbData, Error, ModuleProvider, Tables, TypeFormatter, read_tables,
@@ -12,66 +13,95 @@ use pdb_addr2line::{
 use std::alloc::Global;
 use std::cell::Cell;
 
-/// Gives the modules that another provider gives, and counts how often it is asked.
+/// Gives the modules of what was read of a database, and counts how often it is asked.
 #[derive(Drop)]
-struct CountingProvider<'d, P: ModuleProvider> {
-    inner: &'d P,
+struct CountingProvider {
+    inner: Data,
     calls: Cell<u32>,
 }
 
-impl<'d, P: ModuleProvider> ModuleProvider for CountingProvider<'d, P> {
-    type Info = P::Info;
+impl ModuleProvider for CountingProvider {
+    ghost use Rattle.pdb_addr2line.specs.Kept.{answered_at};
+    ghost use Rattle.pdb_addr2line.specs.Provided.{faults_kept};
 
-    ghost provided = { λ c number entry. P.provided c.inner.now number entry };
+    type Info = ModuleInfo<'static>;
+
+    ghost provided = { λ c number entry. answered_at c.inner.infos number };
 
     fn get_module_info(
         &self,
         module_index: usize,
         module: &Module<'_>,
-    ) -> pdb::Result<Option<&P::Info>> {
+    ) -> pdb::Result<Option<&ModuleInfo<'static>>> {
         self.calls.set(self.calls.get().saturating_add(1));
         self.inner.get_module_info(module_index, module)
     }
 
-    ghost faults_of_modules = { λ c number entry. P.faults_of_modules c.inner.now number entry };
+    ghost faults_of_modules = { λ c number entry. faults_kept c.inner.infos number };
 }
+
+/// An open database over a file's bytes.
+type Database<'s> = PDB<'s, Vec<u8>>;
+
+/// What was read of a database.
+type Data = ContextPdbData<'static, 'static, Vec<u8>>;
 
 /// The answers of a context that was asked the same before, whether it asked for modules then, and how often it asked for one
 /// now.
 pub fn ask(alloc: Global, bytes: Vec<u8>, question: &Question<'_>) -> Result<String, Error> {
     let mut database = PDB::open(alloc, bytes)?;
-    let data = ContextPdbData::try_from_pdb_ref(alloc, &mut database)?;
-    ask_by(alloc, &mut database, &data, question)
+    ask_database(alloc, &mut database, question)
 }
 
-/// The same, where modules come from another provider.
-fn ask_by<P: ModuleProvider>(
+/// The same of an open database.
+fn ask_database(
     alloc: Global,
-    database: &mut PDB<'static, Vec<u8>>,
-    inner: &P,
+    database: &mut Database<'static>,
+    question: &Question<'_>,
+) -> Result<String, Error> {
+    let inner: Data = ContextPdbData::try_from_pdb_ref(alloc, database)?;
+    let calls = Cell::new(0);
+    let provider = CountingProvider { inner, calls };
+    ask_counted(alloc, database, &provider, &provider.calls, question)
+}
+
+/// The same, where the provider counts how often it is asked.
+fn ask_counted<'s, P: ModuleProvider>(
+    alloc: Global,
+    database: &mut Database<'s>,
+    provider: &P,
+    calls: &Cell<u32>,
     question: &Question<'_>,
 ) -> Result<String, Error> {
     let names = database.string_table(alloc)?;
+    ask_named(alloc, database, provider, calls, &names, question)
+}
+
+/// The same with these names of files and modules.
+fn ask_named<'s, P: ModuleProvider>(
+    alloc: Global,
+    database: &mut Database<'s>,
+    provider: &P,
+    calls: &Cell<u32>,
+    names: &StringTable<'s>,
+    question: &Question<'_>,
+) -> Result<String, Error> {
     let debug_information = database.debug_information(alloc)?;
     let tables = read_tables(database, alloc, &debug_information)?;
-    let calls = Cell::new(0);
-    let provider = CountingProvider { inner, calls };
-    let modules = modules_of(alloc, &debug_information)?;
     let parts = Parts {
         debug_information: &debug_information,
         tables: &tables,
-        names: &names,
+        names,
     };
-    let context = context_of(alloc, &provider, modules, parts, question)?;
-    ask_twice(alloc, context, &provider.calls, question)
+    ask_over(alloc, provider, calls, parts, question)
 }
 
 /// What was read of a database, but for its modules.
 #[derive(Clone, Copy)]
-struct Parts<'d> {
-    debug_information: &'d DebugInformation<'static>,
-    tables: &'d Tables<'static>,
-    names: &'d StringTable<'static>,
+struct Parts<'d, 's> {
+    debug_information: &'d DebugInformation<'s>,
+    tables: &'d Tables<'s>,
+    names: &'d StringTable<'s>,
 }
 
 /// The first eight modules of the list.
@@ -89,50 +119,64 @@ fn modules_of<'d>(
     Ok(modules)
 }
 
-/// A context whose modules come from a provider; there is none over a map that isn't ordered.
-fn context_of<'d, P: ModuleProvider>(
+/// A formatter whose modules come from a provider.
+fn formatter_of<'d, 's, P: ModuleProvider>(
     alloc: Global,
     provider: &'d P,
-    modules: Vec<Module<'d>>,
-    parts: Parts<'d>,
+    parts: Parts<'d, 's>,
     question: &Question<'_>,
-) -> Result<Context<'d, 'static, P>, Error> {
-    let map = &parts.tables.address_map;
-    if !map.is_ordered() {
-        return Err(Error::CircularTypeDefinition(0));
-    }
-    let formatter = TypeFormatter::new_from_parts(
+) -> pdb::Result<TypeFormatter<'d, 's, P>> {
+    let tables = parts.tables;
+    let modules = modules_of(alloc, parts.debug_information)?;
+    TypeFormatter::new_from_parts(
         alloc,
         provider,
         modules,
         parts.debug_information,
-        &parts.tables.types,
-        &parts.tables.ids,
+        &tables.types,
+        &tables.ids,
         Some(parts.names),
         question.formatter_flags(),
-    )?;
-    Context::new_from_parts(
+    )
+}
+
+/// The answers of a context over what was read; there is none over a map that isn't ordered.
+fn ask_over<P: ModuleProvider>(
+    alloc: Global,
+    provider: &P,
+    calls: &Cell<u32>,
+    parts: Parts<'_, '_>,
+    question: &Question<'_>,
+) -> Result<String, Error> {
+    let tables = parts.tables;
+    let map = &tables.address_map;
+    if !map.is_ordered() {
+        return Err(Error::CircularTypeDefinition(0));
+    }
+    let formatter = formatter_of(alloc, provider, parts, question)?;
+    let mut context = Context::new_from_parts(
         alloc,
         provider,
         map.image_section_headers(),
         map,
-        &parts.tables.symbol_records,
+        &tables.symbol_records,
         Some(parts.names),
         parts.debug_information,
         MaybeOwned::Owned(formatter),
-    )
+    )?;
+    ask_twice(alloc, &mut context, calls, question.index)
 }
 
-/// The answers of a context to a question that it was asked before.
+/// The answers of a context about an RVA that it was asked about before.
 fn ask_twice<P: ModuleProvider>(
     alloc: Global,
-    mut context: Context<'_, '_, P>,
+    context: &mut Context<'_, '_, P>,
     calls: &Cell<u32>,
-    question: &Question<'_>,
+    rva: u32,
 ) -> Result<String, Error> {
-    answers(alloc, &mut context, question.index)?;
+    answers(alloc, context, rva)?;
     let first = calls.get();
-    let answers = answers(alloc, &mut context, question.index)?;
+    let answers = answers(alloc, context, rva)?;
     let again = calls.get().saturating_sub(first);
     let at_first = first > 0;
     Ok(format!(in alloc; "{answers}; asked at first: {at_first}, then {again}")?)
@@ -144,13 +188,13 @@ fn answers<P: ModuleProvider>(
     context: &mut Context<'_, '_, P>,
     rva: u32,
 ) -> Result<String, Error> {
-    let frames = shown(alloc, &context.find_frames(alloc, rva)?)?;
-    let function = shown(alloc, &context.find_function(alloc, rva)?)?;
     let place = PdbInternalSectionOffset {
         offset: rva.saturating_sub(0x1000),
         section: 1,
     };
-    let run = shown(alloc, &context.find_function_run(alloc, place, 0x100)?)?;
+    let frames = told(alloc, context.find_frames(alloc, rva))?;
+    let function = told(alloc, context.find_function(alloc, rva))?;
+    let run = told(alloc, context.find_function_run(alloc, place, 0x100))?;
     let functions = functions_text(alloc, context)?;
     Ok(format!(in alloc; "{frames}; {function}; {run}; {functions}")?)
 }

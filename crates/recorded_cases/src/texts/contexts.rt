@@ -1,8 +1,8 @@
 //! Answers of contexts about addresses.
 
-use crate::texts::question::Question;
+use crate::texts::question::{Asked, Question};
 use pdb_addr2line::pdb::PdbInternalSectionOffset;
-use pdb_addr2line::{Context, ContextPdbData, Error, ModuleProvider};
+use pdb_addr2line::{Context, ContextPdbData, Error, Function, ModuleProvider};
 use std::alloc::Global;
 use std::fmt::Debug;
 
@@ -16,17 +16,17 @@ pub fn ask(
         return shown(alloc, &"not ordered");
     }
     let flags = question.formatter_flags();
-    let context = data.make_context_with_formatter_flags(alloc, flags)?;
-    answer_by(alloc, context, question)
+    let mut context = data.make_context_with_formatter_flags(alloc, flags)?;
+    answer_by(alloc, &mut context, question)
 }
 
 /// A value as a text.
-pub fn shown<T: Debug>(alloc: Global, value: &T) -> Result<String, Error> {
+fn shown<T: Debug>(alloc: Global, value: &T) -> Result<String, Error> {
     Ok(format!(in alloc; "{value:?}")?)
 }
 
 /// An answer as a text, or its fault.
-fn told<T: Debug + Drop>(alloc: Global, answer: Result<T, Error>) -> Result<String, Error> {
+pub fn told<T: Debug + Drop>(alloc: Global, answer: Result<T, Error>) -> Result<String, Error> {
     match answer {
         Ok(value) => shown(alloc, &value),
         Err(fault) => Err(fault),
@@ -36,14 +36,14 @@ fn told<T: Debug + Drop>(alloc: Global, answer: Result<T, Error>) -> Result<Stri
 /// The answer of a context that wasn't asked before.
 fn answer_by<P: ModuleProvider>(
     alloc: Global,
-    mut context: Context<'_, '_, P>,
+    context: &mut Context<'_, '_, P>,
     question: &Question<'_>,
 ) -> Result<String, Error> {
     match question.asked {
-        "function_at" => told(alloc, context.find_function(alloc, question.index)),
-        "frames_at" => told(alloc, context.find_frames(alloc, question.index)),
-        "run_from" => run_text(alloc, &mut context, question.index),
-        _ => functions_text(alloc, &mut context),
+        Asked::FunctionAt => told(alloc, context.find_function(alloc, question.index)),
+        Asked::FramesAt => told(alloc, context.find_frames(alloc, question.index)),
+        Asked::RunFrom => run_text(alloc, context, question.index),
+        _ => functions_text(alloc, context),
     }
 }
 
@@ -67,10 +67,26 @@ pub fn functions_text<P: ModuleProvider>(
     context: &mut Context<'_, '_, P>,
 ) -> Result<String, Error> {
     let mut text = shown(alloc, &context.function_count())?;
-    let mut functions = context.functions(alloc)?;
-    while let Some(function) = functions.next() {
-        let line = told(alloc, function)?;
-        write!(text, "; {line}")?;
-    }
+    push_functions(alloc, context, &mut text)?;
     Ok(text)
+}
+
+/// Appends all functions.
+fn push_functions<P: ModuleProvider>(
+    alloc: Global,
+    context: &mut Context<'_, '_, P>,
+    text: &mut String,
+) -> Result<(), Error> {
+    for function in context.functions(alloc)? {
+        push_function(text, function)?;
+    }
+    Ok(())
+}
+
+/// Appends a function.
+fn push_function(text: &mut String, function: Result<Function, Error>) -> Result<(), Error> {
+    match function {
+        Ok(function) => Ok(write!(text, "; {function:?}")?),
+        Err(fault) => Err(fault),
+    }
 }

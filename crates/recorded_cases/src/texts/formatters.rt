@@ -1,6 +1,6 @@
 //! Answers of formatters of types.
 
-use crate::texts::question::Question;
+use crate::texts::question::{Asked, Question};
 use pdb_addr2line::pdb::{IdIndex, TypeIndex};
 use pdb_addr2line::{ContextPdbData, Error, ModuleProvider, TypeFormatter};
 use std::alloc::Global;
@@ -22,10 +22,19 @@ fn answer_by<P: ModuleProvider>(
     mut formatter: TypeFormatter<'_, '_, P>,
     question: &Question<'_>,
 ) -> Result<String, Error> {
+    text_by(alloc, &mut formatter, question)
+}
+
+/// The text that a formatter gives, or a size.
+fn text_by<P: ModuleProvider>(
+    alloc: Global,
+    formatter: &mut TypeFormatter<'_, '_, P>,
+    question: &Question<'_>,
+) -> Result<String, Error> {
     let (module, index) = (question.module, question.index);
     match question.asked {
-        "function" => formatter.format_function(alloc, "f", module, TypeIndex(index)),
-        "id" => formatter.format_id(alloc, module, IdIndex(index)),
+        Asked::Function => formatter.format_function(alloc, "f", module, TypeIndex(index)),
+        Asked::Id => formatter.format_id(alloc, module, IdIndex(index)),
         _ => size_text(
             alloc,
             formatter.get_type_size(alloc, module, TypeIndex(index)),

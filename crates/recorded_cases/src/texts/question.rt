@@ -2,11 +2,54 @@
 
 use pdb_addr2line::{Flags, TypeFormatterFlags};
 
+/// What is asked.
+#[derive(Clone, Copy)]
+pub enum Asked {
+    /// The signature of a function of a type.
+    Function,
+    /// The text of an id.
+    Id,
+    /// The size of a type.
+    Size,
+    /// The function at an RVA.
+    FunctionAt,
+    /// The frames at an RVA.
+    FramesAt,
+    /// How far the function at a place goes on.
+    RunFrom,
+    /// All functions.
+    Functions,
+    /// All of a context that was asked before.
+    AllAgain,
+}
+
+/// What is asked, by its words.
+const ASKED: &[(&str, Asked)] = &[
+    ("function", Asked::Function),
+    ("id", Asked::Id),
+    ("size", Asked::Size),
+    ("function_at", Asked::FunctionAt),
+    ("frames_at", Asked::FramesAt),
+    ("run_from", Asked::RunFrom),
+    ("functions", Asked::Functions),
+    ("all_again", Asked::AllAgain),
+];
+
+/// What a word asks. One that isn't known asks for all functions.
+fn asked_of(word: &str) -> Asked {
+    for (name, asked) in ASKED {
+        if word == *name {
+            return *asked;
+        }
+    }
+    Asked::Functions
+}
+
 /// What a case asks.
 #[derive(Clone, Copy)]
 pub struct Question<'q> {
     /// What is asked.
-    pub asked: &'q str,
+    pub asked: Asked,
     /// The database's file.
     pub file: &'q str,
     /// The number of a module, counted from 0.
@@ -21,7 +64,7 @@ pub struct Question<'q> {
 pub fn question_of(words: &str) -> Question<'_> {
     let mut words = words.split(' ');
     Question {
-        asked: words.next().unwrap_or(""),
+        asked: asked_of(words.next().unwrap_or("")),
         file: words.next().unwrap_or(""),
         module: words.next().unwrap_or("").parse::<usize>().unwrap_or(0),
         flags: words.next().unwrap_or("").parse::<u32>().unwrap_or(0),
@@ -30,11 +73,6 @@ pub fn question_of(words: &str) -> Question<'_> {
 }
 
 impl<'q> Question<'q> {
-    /// Whether a formatter of types is asked, and no context.
-    pub fn is_of_types(&self) -> bool {
-        matches!(self.asked, "function" | "id" | "size")
-    }
-
     /// The flags of the formatter.
     pub fn formatter_flags(&self) -> TypeFormatterFlags {
         TypeFormatterFlags::from_bits_retain(self.flags)
