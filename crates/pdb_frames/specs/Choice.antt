@@ -10,7 +10,7 @@ use Rattle.pdb_modules.specs.ModuleStream.{ModuleStream}
 use Rattle.pdb_contributions.specs.declared.contribution.ModuleSectionContribution.{ModuleSectionContribution}
 use Rattle.pdb_public_list.specs.Publics.{PublicFunction, public_exactly, public_over, next_public}
 use Rattle.pdb_module_data.specs.Procedures.{Procedure, over}
-use Rattle.pdb_type_text.specs.Env.{Env}
+use Rattle.pdb_type_printing.specs.Env.{Env}
 use Rattle.pdb_names.specs.Names.{is_decorated, typed_name}
 
 -- what every question goes over: the ways between addresses, what modules hold, the public list, and the string table, if

@@ -17,7 +17,7 @@ use Rattle.pdb_resolving.specs.declared.error.Error.TheVariants as contexts
 use Rattle.pdb_resolving.specs.Fault as answers
 use Rattle.pdb_resolving.specs.Resolving.{Provided, none_failed}
 use Rattle.pdb_type_sizes.specs.Reading.{pointer_bytes}
-use Rattle.pdb_type_text.specs.Formatting.{Formatting}
+use Rattle.pdb_type_printing.specs.Printing.{Formatting}
 use Rattle.pdb_frames.specs.Choice.{Parts, Scope}
 use Rattle.pdb_frames.specs.Parts.{scope_of}
 use Rattle.pdb_context.specs.Context.{Context, context_over}
@@ -319,6 +319,12 @@ pub context_unasked : (file : List ℕ) (h : Held) (c : Context (List KeptInfo))
 context_unasked file h c is made =
     let c_is : context_of h is.parts ≡ c = ap (made_or c) (ap (λ r. context_over h.infos (held.formatting_of h 23) r) (sym is.parts_are) ∙ made) in
     sym (ap (λ (k : Context (List KeptInfo)). k.lookups) c_is)
+
+-- nothing stands as failed in a context that was made
+pub context_unfailed : (file : List ℕ) (h : Held) (c : Context (List KeptInfo)) → IsKept file h → held.context_in h 23 ≡ Ok c → c.failed ≡ no_failures
+context_unfailed file h c is made =
+    let c_is : context_of h is.parts ≡ c = ap (made_or c) (ap (λ r. context_over h.infos (held.formatting_of h 23) r) (sym is.parts_are) ∙ made) in
+    sym (ap (λ (k : Context (List KeptInfo)). k.failed) c_is)
 
 -- the address map that is kept is the file's
 pub map_kept : (file : List ℕ) (h : Held) → IsKept file h → address_map (streams file) ≡ Some h.tables.map

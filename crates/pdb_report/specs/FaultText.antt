@@ -13,6 +13,7 @@ use Rattle.pdb_report.specs.declared.fault.RunFault.TheVariants.{Load, ReversedR
 abbrev pub with_number : List ℕ → ℕ → List ℕ
 with_number name n = name ++ decimal n ++ codes ")"
 
+-- the same with two numbers
 abbrev pub with_numbers : List ℕ → ℕ → ℕ → List ℕ
 with_numbers name n m = name ++ decimal n ++ codes ", " ++ decimal m ++ codes ")"
 

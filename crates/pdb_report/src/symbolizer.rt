@@ -2,6 +2,7 @@
 
 ghost use Rattle.std.specs.Prelude.{◌≡◌, IfOk, OnOk, IfErr, IsOkUnless, None, Some};
 ghost use Rattle.pdb_addresses.specs.Addresses.{IsOrdered};
+ghost use Rattle.pdb_frames.specs.Failed.{no_failures};
 ghost use Rattle.pdb_report.specs.declared.fault.LoadFault.TheVariants as faults;
 ghost use Rattle.pdb_report.specs.Answer.{AnswersAs, address_map as address_map_of};
 ghost use Rattle.pdb_report.specs.Faults.{FailsLoading};
@@ -119,17 +120,18 @@ impl Symbolizer {
         self.held.address_map()
     }
 
-    /// A context over the file, which answers as the file does.
+    /// A context over the file, which answers as the file does. It was asked nothing, and nothing stands as failed in it.
     ///
     /// # Errors
     /// `OutOfMemory` alone.
-    #[tactic(auto, using(crate::proofs::OpeningSteps::context_answers, crate::proofs::OpeningSteps::context_unasked, crate::proofs::OpeningSteps::context_made))]
+    #[tactic(auto, using(crate::proofs::OpeningSteps::context_answers, crate::proofs::OpeningSteps::context_unasked, crate::proofs::OpeningSteps::context_unfailed, crate::proofs::OpeningSteps::context_made))]
     pub fn context(
         &self,
         alloc: Global,
     ) -> Result<Context<'_, 'static, KeptModules<'static>>, LoadFault>
         ensures answers { IfOk result (λ c. AnswersAs answered_in (streams self.now) c) }
         ensures unasked { IfOk result (λ c. c.lookups ≡ 0) }
+        ensures unfailed { IfOk result (λ c. c.failed ≡ no_failures) }
         ensures memory { IsOkUnless result faults.OutOfMemory }
     {
         match self.held.make_context(alloc) {

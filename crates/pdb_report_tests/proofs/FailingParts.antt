@@ -11,7 +11,7 @@ use Rattle.pdb_module_data.specs.FunctionLine.{function_rows, row_at}
 use Rattle.pdb_module_data.specs.Forest.{sites_of}
 use Rattle.pdb_module_data.specs.InlinedCalls.{call_rows, calls_over}
 use Rattle.pdb_resolving.specs.Fault.{Fault, lifted}
-use Rattle.pdb_type_text.specs.Env.{Env}
+use Rattle.pdb_type_printing.specs.Env.{Env}
 use Rattle.pdb_frames.specs.declared.failures.Part.{Part}
 use Rattle.pdb_frames.specs.declared.failures.Part.TheVariants as parts
 use Rattle.pdb_frames.specs.Choice.{Parts, Scope, Chosen, Proc, Public, chosen, place_of, start_address, start_of}

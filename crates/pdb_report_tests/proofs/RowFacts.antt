@@ -42,7 +42,7 @@ use Rattle.pdb_symbols_modules.specs.Streams.{if_named, streams}
 use Rattle.pdb_resolving.specs.Fault.{PdbError}
 use Rattle.pdb_type_sizes.specs.Reading.{type_in, type_at, id_in, id_at}
 use Rattle.pdb_type_text.specs.Ids.{visit_id}
-use Rattle.pdb_type_text.specs.Types.{visit}
+use Rattle.pdb_type_printing.specs.Types.{visit}
 use Rattle.pdb_contributions.specs.Contributions.{held_by, held_of}
 use Rattle.pdb_module_data.specs.Forest.{body_within, body}
 use Rattle.pdb_frames.specs.Parts.{parts_of}

@@ -23,6 +23,7 @@ how_many test from (suc n) = (if test from then 1 else 0) + how_many test (from 
 abbrev pub function_at : Map → Database → ℕ → Option Function
 function_at m db a = option_and_then db.function (inner_place m a)
 
+-- an address that is 0xffffffff
 abbrev pub is_last : Option ℕ → Bool
 is_last None = false
 is_last (Some x) = x == 2 ^ 32 - 1
@@ -49,6 +50,7 @@ answer_at sections db x = option_and_then db.function (place sections x)
 abbrev pub is_section_bound : List ImageSectionHeader → ℕ → Bool
 is_section_bound sections x = list_any (λ b. x == b) (bounds sections)
 
+-- whether answers may change at a place
 abbrev pub is_bound_in : Database → Option Place → Bool
 is_bound_in db None = false
 is_bound_in db (Some p) = db.is_bound p
@@ -68,8 +70,10 @@ pieces m db s e = in_ranges (begins m.internal db) (internal_ranges m.to_interna
 
 -- ---- along the places from one on, or along no places
 
+-- the function at the place so many bytes behind
 abbrev pub answer_along : Database → Option Place → ℕ → Option Function
 answer_along db p k = option_and_then db.function (place_on k p)
 
+-- whether a piece begins at the place so many bytes behind
 abbrev pub begins_along : Database → Option Place → ℕ → Bool
 begins_along db p k = (k == 0) || is_bound_in db (place_on k p)

@@ -4,6 +4,7 @@ use Rattle.std.specs.Fmt.{decimal, digits, padded_integral, format_spec}
 use Rattle.std.specs.List.{flat_map}
 use Rattle.pdb_functions.specs.FunctionOrder.{Function}
 
+-- a name that may be missing
 abbrev pub text_or : Option (List ℕ) → List ℕ
 text_or None = codes "??"
 text_or (Some text) = text

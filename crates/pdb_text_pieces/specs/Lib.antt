@@ -1,3 +1,4 @@
+pub mod Arguments
 pub mod Brackets
 pub mod FormNames
 pub mod Names

@@ -1,6 +1,7 @@
-//! Pieces of the texts of types: names, pointers, brackets, and the indices on the way to a type.
+//! Pieces of the texts of types: names, pointers, brackets, what stands between arguments, and the indices on the way to a type.
 #![tactic(auto)]
 
+mod arguments;
 mod brackets;
 mod names;
 mod objects;
@@ -9,6 +10,7 @@ mod pointers;
 mod text;
 mod words;
 
+pub use arguments::{emit_comma, leaves_out_arguments};
 pub use brackets::{emit_brackets, first_or_zero};
 pub use names::{
     class_word, emit_name, emit_named, emit_primitive, emit_string, emit_unhandled,

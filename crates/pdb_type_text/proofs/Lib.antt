@@ -1,7 +1,3 @@
-pub mod Chains
 pub mod Failing
-pub mod Others
-pub mod Returns
 pub mod Scopes
-pub mod Steps
-pub mod Visits
+pub mod VisitsOfIds

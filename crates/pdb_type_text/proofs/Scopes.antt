@@ -1,16 +1,16 @@
 -- Functions in their scopes, where a scope stops the printing.
-use Rattle.std.proofs.Common.{◌≡◌, ℕ, List, [], ◌∷◌, ◌++◌, sym, ap, subst}
+use Rattle.std.proofs.Common.{◌≡◌, sym, subst}
 use Rattle.pdb_records.specs.declared.type_data.ProcedureType.{ProcedureType}
 use Rattle.pdb_records.specs.IdForms.{FunctionForm}
 use Rattle.pdb_resolving.specs.declared.error.Error.{Error}
 use Rattle.std.specs.Str.Lossy.{utf8_lossy}
 use Rattle.pdb_text_pieces.specs.Printed.{Text, Printed, Done, ◌>>=◌, Stops}
 use Rattle.pdb_text_pieces.specs.Paths.{Path}
-use Rattle.pdb_type_text.specs.Env.{Env}
-use Rattle.pdb_type_text.specs.Types.{visiting, returned_unless}
+use Rattle.pdb_type_printing.specs.Env.{Env}
+use Rattle.pdb_type_printing.specs.Types.{visiting, returned_unless}
 use Rattle.pdb_type_text.specs.Functions.{name_and_arguments}
 use Rattle.pdb_type_text.specs.Ids.{VisitId, visiting_id, scope_text, scoped_text}
-use Rattle.pdb_type_text.proofs.Others.{stops_on}
+use Rattle.pdb_type_printing.proofs.Others.{stops_on}
 
 -- where the return type was printed, what stops the scope stops the function
 scope_ends : (env : Env) (visit : VisitId) (ids path : Path) (id : FunctionForm) (t : ProcedureType) (w w1 new : Text) (e : Error)

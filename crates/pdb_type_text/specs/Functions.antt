@@ -1,5 +1,5 @@
 -- Signatures of functions.
-use Rattle.std.specs.Prelude.{ℕ, true, [], ◌∷◌, codes, Option, Some, None, Result, Ok, Err, if◌then◌else◌, ◌==◌}
+use Rattle.std.specs.Prelude.{ℕ, true, [], ◌∷◌, codes, Option, Some, None, Result, if◌then◌else◌, ◌==◌}
 use Rattle.pdb_indices.specs.Bits.{has_bit}
 use Rattle.pdb_indices.specs.declared.index.TypeIndex.{TypeIndex}
 use Rattle.pdb_records.specs.declared.type_data.MemberFunctionType.{MemberFunctionType}
@@ -8,11 +8,11 @@ use Rattle.pdb_records.specs.Forms as forms
 use Rattle.pdb_records.specs.Forms.{TypeForm, Plain}
 use Rattle.pdb_resolving.specs.Fault.{Fault}
 use Rattle.pdb_text_pieces.specs.Printed.{Text, Printed, Done, Stopped, ◌>>=◌, say, answered, read_or}
-use Rattle.pdb_type_text.specs.Env.{Env}
+use Rattle.pdb_type_printing.specs.Env.{Env}
 use Rattle.pdb_text_pieces.specs.Paths.{Path}
 use Rattle.pdb_text_pieces.specs.Names.{name_or_omitted}
 use Rattle.pdb_text_pieces.specs.Objects.{static_word}
-use Rattle.pdb_type_text.specs.Types.{Whole, visiting, returned_unless, method_arguments}
+use Rattle.pdb_type_printing.specs.Types.{Whole, visiting, returned_unless, method_arguments}
 
 -- the class that holds a method, before its name
 abbrev pub parent_text : Env → Path → Option TypeIndex → Text → Printed

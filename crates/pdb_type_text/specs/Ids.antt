@@ -1,5 +1,5 @@
 -- Texts of ids: functions with the scopes that hold them, and strings.
-use Rattle.std.specs.Prelude.{ℕ, zero, suc, Bool, true, false, not, List, [], ◌∷◌, ◌++◌, codes, Option, Some, None, Result, Ok, Err, if◌then◌else◌}
+use Rattle.std.specs.Prelude.{ℕ, zero, suc, Bool, false, not, List, [], ◌∷◌, ◌++◌, codes, Option, Some, None, Result, if◌then◌else◌}
 use Rattle.std.specs.Str.Lossy.{utf8_lossy}
 use Rattle.pdb_indices.specs.declared.index.TypeIndex.{TypeIndex}
 use Rattle.pdb_indices.specs.declared.index.IdIndex.{IdIndex}
@@ -10,11 +10,11 @@ use Rattle.pdb_records.specs.IdForms as id_forms
 use Rattle.pdb_records.specs.IdForms.{IdForm, FunctionForm, MemberFunctionForm}
 use Rattle.pdb_resolving.specs.Fault.{Fault, FunctionIdIsNotProcedureType, MemberFunctionIdIsNotMemberFunctionType, CircularTypeDefinition}
 use Rattle.pdb_text_pieces.specs.Printed.{Text, Printed, Done, Stopped, ◌>>=◌, say, answered, unread, read_or}
-use Rattle.pdb_type_text.specs.Env.{Env}
+use Rattle.pdb_type_printing.specs.Env.{Env}
 use Rattle.pdb_text_pieces.specs.Paths.{Path, is_on, room}
 use Rattle.pdb_text_pieces.specs.Names.{string_text}
 use Rattle.pdb_text_pieces.specs.FormNames.{unhandled_id}
-use Rattle.pdb_type_text.specs.Types.{Whole, visiting, returned_unless}
+use Rattle.pdb_type_printing.specs.Types.{Whole, visiting, returned_unless}
 use Rattle.pdb_type_text.specs.Functions.{method_text, name_and_arguments}
 
 -- how the id of a scope is printed: the ids so far, the id, the text so far

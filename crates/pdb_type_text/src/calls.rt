@@ -8,7 +8,8 @@ ghost use Rattle.pdb_resolving.specs.Fault.{Answers};
 ghost use Rattle.pdb_resolving.specs.Resolving.{none_failed};
 ghost use Rattle.pdb_type_sizes.specs.Reading.{parts_by, pointer_bytes};
 ghost use Rattle.pdb_type_sizes.specs.Sizes.{size_at};
-ghost use Rattle.pdb_type_text.specs.Formatting.{env_of, Leaves};
+ghost use Rattle.pdb_type_printing.specs.Printing.{env_of};
+ghost use Rattle.pdb_type_text.specs.Formatting.{Leaves};
 ghost use Rattle.pdb_type_text.specs.Functions.{function_text};
 ghost use Rattle.pdb_type_text.specs.Ids.{id_text};
 ghost use Rattle.pdb_type_text.specs.Written.{Emits};
@@ -22,6 +23,7 @@ use pdb_items::{IdInformation, TypeInformation};
 use pdb_resolving::{Error, ModuleProvider, Result};
 use pdb_symbols_modules::{DebugInformation, Module};
 use pdb_type_flags::TypeFormatterFlags;
+use pdb_type_printing::{Asker, TypePrinter};
 use pdb_type_sizes::ItemReader;
 use std::alloc::Global;
 use std::fmt::Write;
@@ -63,8 +65,7 @@ impl<'a, 's, P: ModuleProvider> TypeFormatter<'a, 's, P> {
             string_table,
         )?;
         Ok(TypeFormatter {
-            reader,
-            flags: flags.bits(),
+            printer: TypePrinter::new(reader, flags.bits()),
         })
     }
 
@@ -72,7 +73,7 @@ impl<'a, 's, P: ModuleProvider> TypeFormatter<'a, 's, P> {
     pub fn modules(&self) -> &[Module<'a>]
         ensures { result.now ≡ self.now.reading.modules.entries }
     {
-        self.reader.modules()
+        self.printer.modules()
     }
 
     /// The size in bytes of the type of an index as the module of a number, counted from 0, has it; 0 for a type that can't be
@@ -89,7 +90,11 @@ impl<'a, 's, P: ModuleProvider> TypeFormatter<'a, 's, P> {
         ensures same { self.new ≡ self.old }
         ensures value { Answers (λ n. n) result (Ok (size_at (parts_by P.provided self.old.reading) module_index index.0)) }
     {
-        self.reader.size(alloc, module_index, index)
+        let asker = Asker {
+            alloc,
+            module_index,
+        };
+        self.printer.size(asker, index)
     }
 
     /// The signature of a function of this name whose type has this index in the module of a number, counted from 0: its
@@ -110,7 +115,7 @@ impl<'a, 's, P: ModuleProvider> TypeFormatter<'a, 's, P> {
         ensures kept { Leaves P.provided self.old result self.new }
         ensures text { Answers string_bytes result (function_text (env_of P.provided self.old module_index) name.now function_type_index.0) }
     {
-        self.reader.forget_failing();
+        self.printer.forget_failing();
         let made = function_text_of(self, alloc, name, module_index, function_type_index);
         self.keep_failed(made)
     }
@@ -151,7 +156,7 @@ impl<'a, 's, P: ModuleProvider> TypeFormatter<'a, 's, P> {
         ensures kept { Leaves P.provided self.old result self.new }
         ensures text { Answers string_bytes result (id_text (env_of P.provided self.old module_index) id_index.0) }
     {
-        self.reader.forget_failing();
+        self.printer.forget_failing();
         let made = id_text_of(self, alloc, module_index, id_index);
         self.keep_failed(made)
     }
@@ -188,7 +193,7 @@ impl<'a, 's, P: ModuleProvider> TypeFormatter<'a, 's, P> {
             Ok(text) => Ok(text),
             Err(Error::OutOfMemory) => Err(Error::OutOfMemory),
             Err(Error::FormatError(cause)) => Err(Error::FormatError(cause)),
-            Err(fault) => match self.reader.keep_failed() {
+            Err(fault) => match self.printer.keep_failed() {
                 Ok(()) => Err(fault),
                 Err(_) => Err(Error::OutOfMemory),
             },

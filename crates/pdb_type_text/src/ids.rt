@@ -5,16 +5,16 @@ ghost use Rattle.pdb_records.specs.IdForms.{id_shape, function_form, member_func
 ghost use Rattle.pdb_resolving.specs.Fault.{CircularTypeDefinition};
 ghost use Rattle.pdb_text_pieces.specs.Printed.{Prints, Stopped, say};
 ghost use Rattle.pdb_text_pieces.specs.Paths.{may_enter};
-ghost use Rattle.pdb_type_text.specs.Types.{Whole, visiting};
+ghost use Rattle.pdb_type_printing.specs.Types.{Whole, visiting};
 ghost use Rattle.pdb_type_text.specs.Ids.{visiting_id, id_form_text, scoped_text, scope_text, method_id_printed, string_list_text, parts, more_parts};
-ghost use Rattle.pdb_type_text.specs.Formatting.{env_of};
+ghost use Rattle.pdb_type_printing.specs.Printing.{env_of};
 
-use crate::asker::Asker;
 use crate::formatter::TypeFormatter;
 use pdb_indices::{IdIndex, TypeIndex};
 use pdb_records::{FunctionId, IdData, MemberFunctionId, ProcedureType, TypeData};
 use pdb_resolving::{Error, ModuleProvider, Result};
 use pdb_text_pieces::{Seen, emit, emit_scope_end, emit_string, emit_unhandled_id, emit_unread};
+use pdb_type_printing::Asker;
 
 impl<'a, 's, P: ModuleProvider> TypeFormatter<'a, 's, P> {
     /// Appends an id. What can't be read has a text of its own.
@@ -33,7 +33,7 @@ impl<'a, 's, P: ModuleProvider> TypeFormatter<'a, 's, P> {
         ensures path { ids.new.path.now.items ≡ ids.old.path.now.items }
         ensures text { Prints result (string_bytes w.new) ((visiting_id (env_of P.provided self.old asker.module_index) ids.old.path.now.items) ids.old.path.now.items index.0 (string_bytes w.old)) }
     {
-        match self.read_id(asker, index) {
+        match self.printer.read_id(asker, index) {
             Ok(found) => self.emit_entered_id(asker, w, index, &found, ids),
             Err(error) => emit_unread(w, error),
         }
@@ -91,7 +91,7 @@ impl<'a, 's, P: ModuleProvider> TypeFormatter<'a, 's, P> {
 
     /// Appends a function in its scopes.
     #[cycle(scopes)]
-    #[tactic(auto, using(crate::proofs::Failing::fails_stops, crate::proofs::Others::stops_on))]
+    #[tactic(auto, using(pdb_type_printing::proofs::Failing::fails_stops, pdb_type_printing::proofs::Others::stops_on))]
     fn emit_function_id(
         &mut self,
         asker: Asker,
@@ -106,7 +106,7 @@ impl<'a, 's, P: ModuleProvider> TypeFormatter<'a, 's, P> {
         ensures path { ids.new.path.now.items ≡ ids.old.path.now.items }
         ensures text { Prints result (string_bytes w.new) (id_form_text (env_of P.provided self.old asker.module_index) (visiting_id (env_of P.provided self.old asker.module_index) ids.old.path.now.items) ids.old.path.now.items (Function (function_form id.now)) (string_bytes w.old)) }
     {
-        let TypeData::Procedure(t) = self.read(asker, id.function_type)? else {
+        let TypeData::Procedure(t) = self.printer.read(asker, id.function_type)? else {
             return Err(Error::FunctionIdIsNotProcedureType);
         };
         self.emit_scoped(asker, w, id, &t, ids)
@@ -114,7 +114,7 @@ impl<'a, 's, P: ModuleProvider> TypeFormatter<'a, 's, P> {
 
     /// Appends a function of this type in its scopes.
     #[cycle(scopes)]
-    #[tactic(auto, using(crate::proofs::Others::stops_on))]
+    #[tactic(auto, using(pdb_type_printing::proofs::Others::stops_on))]
     fn emit_scoped(
         &mut self,
         asker: Asker,
@@ -133,7 +133,7 @@ impl<'a, 's, P: ModuleProvider> TypeFormatter<'a, 's, P> {
         let mut path = Vec::new(asker.alloc);
         path.push(id.function_type.0)?;
         let mut seen = Seen::new(&mut path);
-        self.maybe_emit_return_type(asker, w, t.return_type, t.attributes, &mut seen)?;
+        self.printer.maybe_emit_return_type(asker, w, t.return_type, t.attributes, &mut seen)?;
         self.emit_scope(asker, w, id.scope, ids)?;
         let name = id.name.to_string(asker.alloc)?;
         self.emit_name_and_arguments(asker, w, name.as_str(), t, &mut seen)
@@ -163,7 +163,7 @@ impl<'a, 's, P: ModuleProvider> TypeFormatter<'a, 's, P> {
     }
 
     /// Appends a method in its class.
-    #[tactic(auto, using(crate::proofs::Failing::fails_stops))]
+    #[tactic(auto, using(pdb_type_printing::proofs::Failing::fails_stops))]
     fn emit_method_id(
         &mut self,
         asker: Asker,
@@ -173,7 +173,7 @@ impl<'a, 's, P: ModuleProvider> TypeFormatter<'a, 's, P> {
         ensures same { self.new ≡ self.old }
         ensures text { Prints result (string_bytes w.new) (method_id_printed (env_of P.provided self.old asker.module_index) (member_function_form id.now) (string_bytes w.old)) }
     {
-        let TypeData::MemberFunction(t) = self.read(asker, id.function_type)? else {
+        let TypeData::MemberFunction(t) = self.printer.read(asker, id.function_type)? else {
             return Err(Error::MemberFunctionIdIsNotMemberFunctionType);
         };
         let mut path = Vec::new(asker.alloc);
@@ -224,6 +224,6 @@ impl<'a, 's, P: ModuleProvider> TypeFormatter<'a, 's, P> {
     {
         let mut path = Vec::new(asker.alloc);
         let mut seen = Seen::new(&mut path);
-        self.emit_type_index(asker, w, index, &mut seen)
+        self.printer.emit_type_index(asker, w, index, &mut seen)
     }
 }

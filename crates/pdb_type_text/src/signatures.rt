@@ -3,21 +3,22 @@
 ghost use Rattle.std.specs.Prelude.{◌≡◌, ◌≤◌, ◌==◌, ◌++◌, ◌∷◌, [], None, length, string_bytes, if◌then◌else◌};
 ghost use Rattle.pdb_records.specs.Shapes.{shape};
 ghost use Rattle.pdb_text_pieces.specs.Printed.{Prints, say};
-ghost use Rattle.pdb_type_text.specs.Types.{Whole, visiting, returned_unless, method_arguments};
+ghost use Rattle.pdb_type_printing.specs.Types.{Whole, visiting, returned_unless, method_arguments};
 ghost use Rattle.pdb_type_text.specs.Functions.{parent_text, method_text, arguments_unless, name_and_arguments, signature, function_printed};
-ghost use Rattle.pdb_type_text.specs.Formatting.{env_of};
+ghost use Rattle.pdb_type_printing.specs.Printing.{env_of};
 
-use crate::asker::Asker;
 use crate::formatter::TypeFormatter;
-use crate::words::leaves_out_arguments;
 use pdb_indices::TypeIndex;
 use pdb_records::{MemberFunctionType, ProcedureType, TypeData};
 use pdb_resolving::{ModuleProvider, Result};
-use pdb_text_pieces::{Seen, emit, emit_name, emit_scope_end, emit_static};
+use pdb_text_pieces::{
+    Seen, emit, emit_name, emit_scope_end, emit_static, leaves_out_arguments,
+};
+use pdb_type_printing::Asker;
 
 impl<'a, 's, P: ModuleProvider> TypeFormatter<'a, 's, P> {
     /// Appends a function of a name and a type; type 0 is none, and leaves the name alone.
-    #[tactic(auto, using(crate::proofs::Failing::fails_stops))]
+    #[tactic(auto, using(pdb_type_printing::proofs::Failing::fails_stops))]
     pub(crate) fn emit_signature(
         &mut self,
         asker: Asker,
@@ -31,7 +32,7 @@ impl<'a, 's, P: ModuleProvider> TypeFormatter<'a, 's, P> {
         if index.0 == 0 {
             return emit_name(w, name);
         }
-        let found = self.read(asker, index)?;
+        let found = self.printer.read(asker, index)?;
         let mut path = Vec::new(asker.alloc);
         path.push(index.0)?;
         let mut seen = Seen::new(&mut path);
@@ -57,7 +58,7 @@ impl<'a, 's, P: ModuleProvider> TypeFormatter<'a, 's, P> {
         match found {
             TypeData::MemberFunction(t) => self.emit_method(asker, w, None, name, t, seen),
             TypeData::Procedure(t) => {
-                self.maybe_emit_return_type(asker, w, t.return_type, t.attributes, seen)?;
+                self.printer.maybe_emit_return_type(asker, w, t.return_type, t.attributes, seen)?;
                 self.emit_name_and_arguments(asker, w, name, t, seen)
             }
             _ => emit(w, name),
@@ -81,11 +82,11 @@ impl<'a, 's, P: ModuleProvider> TypeFormatter<'a, 's, P> {
         ensures path { seen.new.path.now.items ≡ seen.old.path.now.items }
         ensures text { Prints result (string_bytes w.new) (method_text (env_of P.provided self.old asker.module_index) seen.old.path.now.items parent name.now t.now (string_bytes w.old)) }
     {
-        emit_static(w, self.flags, t.this_pointer_type)?;
-        self.maybe_emit_return_type(asker, w, Some(t.return_type), t.attributes, seen)?;
+        emit_static(w, self.printer.flags(), t.this_pointer_type)?;
+        self.printer.maybe_emit_return_type(asker, w, Some(t.return_type), t.attributes, seen)?;
         self.emit_parent(asker, w, parent, seen)?;
         emit_name(w, name)?;
-        self.emit_method_arguments(asker, w, t, true, seen)
+        self.printer.emit_method_arguments(asker, w, t, true, seen)
     }
 
     /// Appends the class that holds a method, if it is to be named.
@@ -106,7 +107,7 @@ impl<'a, 's, P: ModuleProvider> TypeFormatter<'a, 's, P> {
         let Some(parent) = parent else {
             return Ok(());
         };
-        self.emit_type_index(asker, w, parent, seen)?;
+        self.printer.emit_type_index(asker, w, parent, seen)?;
         emit_scope_end(w)
     }
 
@@ -145,11 +146,11 @@ impl<'a, 's, P: ModuleProvider> TypeFormatter<'a, 's, P> {
         ensures path { seen.new.path.now.items ≡ seen.old.path.now.items }
         ensures text { Prints result (string_bytes w.new) (arguments_unless (env_of P.provided self.old asker.module_index) seen.old.path.now.items list (string_bytes w.old)) }
     {
-        if leaves_out_arguments(self.flags) {
+        if leaves_out_arguments(self.printer.flags()) {
             return Ok(());
         }
         emit(w, "(")?;
-        self.emit_type_index(asker, w, list, seen)?;
+        self.printer.emit_type_index(asker, w, list, seen)?;
         emit(w, ")")
     }
 }

@@ -2,15 +2,15 @@
 
 ghost use Rattle.std.specs.Prelude.{◌≡◌, string_bytes};
 ghost use Rattle.pdb_resolving.specs.Fault.{Answers};
-ghost use Rattle.pdb_type_text.specs.Formatting.{env_of};
+ghost use Rattle.pdb_type_printing.specs.Printing.{env_of};
 ghost use Rattle.pdb_type_text.specs.Functions.{function_text};
 ghost use Rattle.pdb_type_text.specs.Ids.{id_text};
 
-use crate::asker::Asker;
 use crate::formatter::TypeFormatter;
 use pdb_indices::{IdIndex, TypeIndex};
 use pdb_resolving::{ModuleProvider, Result};
 use pdb_text_pieces::Seen;
+use pdb_type_printing::Asker;
 use std::alloc::Global;
 
 /// As [`TypeFormatter::format_function`], but no table of a module is kept as failed.

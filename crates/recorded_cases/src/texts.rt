@@ -5,10 +5,11 @@
 //! answer that must come, or `fault: ` and the fault. What is asked:
 //!
 //! - `function`: the signature of a function `f` whose type has this index
+//! - `unnamed`: the same of a function whose name is empty
 //! - `id`: the text of the id of this index
 //! - `size`: the size in bytes of the type of this index
-//! - `function_at`: the function at this RVA
-//! - `frames_at`: the frames at this RVA
+//! - `function_at`: the function at this RVA, as its copy
+//! - `frames_at`: the frames at this RVA, as their copy
 //! - `run_from`: the function at this offset of section 1, over how many bytes up to 256 it stays the same, and how many
 //!   places were looked up then
 //! - `functions`: how many entries the public list has, and all functions
@@ -83,7 +84,9 @@ fn ask(alloc: Global, bytes: Vec<u8>, question: &Question<'_>) -> Result<String,
 /// The answer by what was read of a database.
 fn ask_over(alloc: Global, data: &Data, question: &Question<'_>) -> Result<String, Error> {
     match question.asked {
-        Asked::Function | Asked::Id | Asked::Size => formatters::ask(alloc, data, question),
+        Asked::Function | Asked::Unnamed | Asked::Id | Asked::Size => {
+            formatters::ask(alloc, data, question)
+        }
         _ => contexts::ask(alloc, data, question),
     }
 }

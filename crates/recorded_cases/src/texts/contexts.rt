@@ -2,7 +2,9 @@
 
 use crate::texts::question::{Asked, Question};
 use pdb_addr2line::pdb::PdbInternalSectionOffset;
-use pdb_addr2line::{Context, ContextPdbData, Error, Function, ModuleProvider};
+use pdb_addr2line::{
+    Context, ContextPdbData, Error, Function, FunctionFrames, ModuleProvider,
+};
 use std::alloc::Global;
 use std::fmt::Debug;
 
@@ -33,6 +35,48 @@ pub fn told<T: Debug + Drop>(alloc: Global, answer: Result<T, Error>) -> Result<
     }
 }
 
+/// The copy of a function that was found, if one was.
+fn copied_function(
+    alloc: Global,
+    found: Result<Option<Function>, Error>,
+) -> Result<Option<Function>, Error> {
+    match found? {
+        None => Ok(None),
+        Some(function) => Ok(Some(function.try_clone(alloc)?)),
+    }
+}
+
+/// The copy of frames that were found, if some were.
+fn copied_frames<'a>(
+    alloc: Global,
+    found: Result<Option<FunctionFrames<'a>>, Error>,
+) -> Result<Option<FunctionFrames<'a>>, Error> {
+    match found? {
+        None => Ok(None),
+        Some(frames) => Ok(Some(frames.try_clone(alloc)?)),
+    }
+}
+
+/// The function that a context finds at an address, as its copy.
+fn function_text<P: ModuleProvider>(
+    alloc: Global,
+    context: &mut Context<'_, '_, P>,
+    address: u32,
+) -> Result<String, Error> {
+    let found = context.find_function(alloc, address);
+    told(alloc, copied_function(alloc, found))
+}
+
+/// The frames that a context finds at an address, as their copy.
+fn frames_text<P: ModuleProvider>(
+    alloc: Global,
+    context: &mut Context<'_, '_, P>,
+    address: u32,
+) -> Result<String, Error> {
+    let found = context.find_frames(alloc, address);
+    told(alloc, copied_frames(alloc, found))
+}
+
 /// The answer of a context that wasn't asked before.
 fn answer_by<P: ModuleProvider>(
     alloc: Global,
@@ -40,8 +84,8 @@ fn answer_by<P: ModuleProvider>(
     question: &Question<'_>,
 ) -> Result<String, Error> {
     match question.asked {
-        Asked::FunctionAt => told(alloc, context.find_function(alloc, question.index)),
-        Asked::FramesAt => told(alloc, context.find_frames(alloc, question.index)),
+        Asked::FunctionAt => function_text(alloc, context, question.index),
+        Asked::FramesAt => frames_text(alloc, context, question.index),
         Asked::RunFrom => run_text(alloc, context, question.index),
         _ => functions_text(alloc, context),
     }

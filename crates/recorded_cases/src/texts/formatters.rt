@@ -34,6 +34,7 @@ fn text_by<P: ModuleProvider>(
     let (module, index) = (question.module, question.index);
     match question.asked {
         Asked::Function => formatter.format_function(alloc, "f", module, TypeIndex(index)),
+        Asked::Unnamed => formatter.format_function(alloc, "", module, TypeIndex(index)),
         Asked::Id => formatter.format_id(alloc, module, IdIndex(index)),
         _ => size_text(
             alloc,

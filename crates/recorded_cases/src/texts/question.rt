@@ -7,6 +7,8 @@ use pdb_addr2line::{Flags, TypeFormatterFlags};
 pub enum Asked {
     /// The signature of a function of a type.
     Function,
+    /// The signature of a function without a name of a type.
+    Unnamed,
     /// The text of an id.
     Id,
     /// The size of a type.
@@ -26,6 +28,7 @@ pub enum Asked {
 /// What is asked, by its words.
 const ASKED: &[(&str, Asked)] = &[
     ("function", Asked::Function),
+    ("unnamed", Asked::Unnamed),
     ("id", Asked::Id),
     ("size", Asked::Size),
     ("function_at", Asked::FunctionAt),

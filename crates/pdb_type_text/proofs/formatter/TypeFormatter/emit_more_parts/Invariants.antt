@@ -1,6 +1,6 @@
 use Rattle.std.proofs.Common.{◌≡◌, drop, string_bytes}
 use Rattle.pdb_type_text.specs.Ids.{more_parts}
-use Rattle.pdb_type_text.specs.Formatting.{env_of}
+use Rattle.pdb_type_printing.specs.Printing.{env_of}
 use Rattle.pdb_type_text.proofs.formatter.TypeFormatter.emit_more_parts.Given as goal
 
 abbrev pub invariant-loop-index : goal.invariant-loop-index

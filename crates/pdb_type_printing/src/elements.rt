@@ -1,0 +1,34 @@
+//! Arrays of arrays.
+
+ghost use Rattle.std.specs.Prelude.{◌≡◌};
+ghost use Rattle.pdb_records.specs.Shapes.{shape};
+ghost use Rattle.pdb_type_printing.specs.Arrays.{array_step};
+
+use pdb_indices::TypeIndex;
+use pdb_records::TypeData;
+use pdb_text_pieces::first_or_zero;
+
+/// How many elements a chain of arrays may have.
+pub const MAX_ELEMENTS: u32 = 1024;
+
+/// Arrays of arrays, down to what is no array.
+#[derive(Drop)]
+pub struct Elements<'t> {
+    /// The first dimension of each array in bytes, the outer first.
+    pub dimensions: Vec<u32>,
+    /// The index of the innermost element.
+    pub index: TypeIndex,
+    /// The innermost element.
+    pub found: TypeData<'t>,
+}
+
+/// Of an array its first dimension and its element.
+#[tactic(auto, unfolding(crate::specs::Arrays::array_step))]
+pub fn array_step(found: &TypeData<'_>) -> Option<(u32, TypeIndex)>
+    ensures { result ≡ array_step (shape found.now) }
+{
+    match found {
+        TypeData::Array(t) => Some((first_or_zero(&t.dimensions), t.element_type)),
+        _ => None,
+    }
+}

@@ -1,0 +1,10 @@
+//! What prints types: the texts of types on their own, with what stands before and behind them.
+#![tactic(auto)]
+
+mod asker;
+mod elements;
+mod printer;
+mod types;
+
+pub use asker::Asker;
+pub use printer::TypePrinter;

@@ -1,0 +1,178 @@
+//! What prints types, and what it reads.
+
+ghost use Rattle.std.specs.Prelude.{◌≡◌, ◌∷◌, [], Ok, OnErr, OnOk};
+ghost use Rattle.pdb_records.specs.Shapes.{shape, array_form};
+ghost use Rattle.pdb_records.specs.IdForms.{id_shape};
+ghost use Rattle.pdb_resolving.specs.Fault.{Answers};
+ghost use Rattle.pdb_type_printing.specs.Arrays.{elements_of};
+ghost use Rattle.pdb_type_printing.specs.Printing.{env_of, KeepsAsFailed};
+ghost use Rattle.pdb_type_printing.specs.This.{this_of, this_to};
+
+use crate::asker::Asker;
+use crate::elements::{Elements, MAX_ELEMENTS, array_step};
+use pdb_indices::{IdIndex, TypeIndex};
+use pdb_records::{ArrayType, IdData, TypeData};
+use pdb_resolving::{Error, ModuleProvider, Result};
+use pdb_text_pieces::{first_or_zero, is_on, this_behind};
+use pdb_symbols_modules::Module;
+use pdb_type_sizes::ItemReader;
+use std::alloc::AllocError;
+use std::marker::Model;
+
+/// Prints types by their indices, as the modules of a database have them.
+pub struct TypePrinter<'a, 's, P: ModuleProvider> {
+    pub(crate) reader: ItemReader<'a, 's, P>,
+    pub(crate) flags: u32,
+}
+
+impl<'a, 's, P: ModuleProvider> Model for TypePrinter<'a, 's, P> {
+    ghost use Rattle.pdb_type_printing.specs.Printing.{Formatting};
+
+    ghost Value = { Formatting P };
+
+    ghost view = { λ f. record { reading = f.reader; flags = f.flags } };
+}
+
+impl<'a, 's, P: ModuleProvider> Drop for TypePrinter<'a, 's, P> {
+    fn drop(self) {
+        let TypePrinter { reader, flags: _ } = self;
+        drop(reader);
+    }
+}
+
+impl<'a, 's, P: ModuleProvider> TypePrinter<'a, 's, P> {
+    /// Prints what a reader reads, by the bits of a formatter's flags.
+    pub fn new(reader: ItemReader<'a, 's, P>, flags: u32) -> TypePrinter<'a, 's, P>
+        ensures { result ≡ record { reading = reader.entry; flags = flags } }
+    {
+        TypePrinter { reader, flags }
+    }
+
+    /// The bits of a formatter's flags.
+    pub fn flags(&self) -> u32
+        ensures { result ≡ self.now.flags }
+    {
+        self.flags
+    }
+
+    /// The modules in order.
+    pub fn modules(&self) -> &[Module<'a>]
+        ensures { result.now ≡ self.now.reading.modules.entries }
+    {
+        self.reader.modules()
+    }
+
+    /// As [`ItemReader::keep_failed`].
+    pub fn keep_failed(&mut self) -> std::result::Result<(), AllocError>
+        ensures kept { OnOk result (KeepsAsFailed P.provided self.old self.new) }
+        ensures same { OnErr result (self.new ≡ self.old) }
+    {
+        self.reader.keep_failed()
+    }
+
+    /// As [`ItemReader::forget_failing`].
+    pub fn forget_failing(&mut self)
+        ensures { self.new ≡ self.old }
+    {
+        self.reader.forget_failing();
+    }
+
+    /// The type of an index.
+    pub fn read(&mut self, asker: Asker, index: TypeIndex) -> Result<TypeData<'a>>
+        ensures same { self.new ≡ self.old }
+        ensures value { Answers shape result ((env_of P.provided self.old asker.module_index).read index.0) }
+    {
+        self.reader
+            .read_type(asker.alloc, asker.module_index, index)
+    }
+
+    /// The id of an index.
+    pub fn read_id(&mut self, asker: Asker, index: IdIndex) -> Result<IdData<'a>>
+        ensures same { self.new ≡ self.old }
+        ensures value { Answers id_shape result ((env_of P.provided self.old asker.module_index).read_id index.0) }
+    {
+        self.reader.read_id(asker.alloc, asker.module_index, index)
+    }
+
+    /// The size of the type of an index, in bytes.
+    pub fn size(&mut self, asker: Asker, index: TypeIndex) -> Result<u64>
+        ensures same { self.new ≡ self.old }
+        ensures value { Answers (λ n. n) result (Ok ((env_of P.provided self.old asker.module_index).size index.0)) }
+    {
+        self.reader.size(asker.alloc, asker.module_index, index)
+    }
+
+    /// The arrays that begin with this one, down to what is no array.
+    ///
+    /// # Errors
+    /// `CircularTypeDefinition` where an element comes again, and behind 1,024 elements; the fault of an element that can't be
+    /// read.
+    pub(crate) fn elements_of(&mut self, asker: Asker, array: &ArrayType) -> Result<Elements<'a>>
+        ensures same { self.new ≡ self.old }
+        ensures value { Answers (λ e. record { dimensions = e.dimensions.items; index = e.index.0; form = shape e.found }) result (elements_of (env_of P.provided self.old asker.module_index) (array_form array.now)) }
+    {
+        let mut passed = Vec::new(asker.alloc);
+        let mut dimensions = Vec::new(asker.alloc);
+        dimensions.push(first_or_zero(&array.dimensions))?;
+        let mut index = array.element_type;
+        for _ in 0..MAX_ELEMENTS {
+            if is_on(&passed, index.0) {
+                return Err(Error::CircularTypeDefinition(index.0));
+            }
+            passed.push(index.0)?;
+            let found = self.read(asker, index)?;
+            match array_step(&found) {
+                None => {
+                    return Ok(Elements {
+                        dimensions,
+                        index,
+                        found,
+                    });
+                }
+                Some((dimension, element)) => {
+                    dimensions.push(dimension)?;
+                    index = element;
+                }
+            }
+        }
+        Err(Error::CircularTypeDefinition(index.0))
+    }
+
+    /// Whether a method's object is constant, and the pointer to it as an extra first argument, where that isn't plainly one
+    /// to the class: the class itself or a Modifier of it. A static method has no such pointer.
+    pub(crate) fn this_of(
+        &mut self,
+        asker: Asker,
+        class: TypeIndex,
+        this: Option<TypeIndex>,
+    ) -> Result<(bool, Option<TypeIndex>)>
+        ensures same { self.new ≡ self.old }
+        ensures value { Answers (λ x. x) result (this_of (env_of P.provided self.old asker.module_index) class this) }
+    {
+        let Some(this) = this else {
+            return Ok((false, None));
+        };
+        match self.read(asker, this)? {
+            TypeData::Pointer(t) => self.this_to(asker, class, this, t.underlying_type),
+            _ => Ok((false, Some(this))),
+        }
+    }
+
+    /// The same of a pointer, by the index to which it leads.
+    fn this_to(
+        &mut self,
+        asker: Asker,
+        class: TypeIndex,
+        this: TypeIndex,
+        target: TypeIndex,
+    ) -> Result<(bool, Option<TypeIndex>)>
+        ensures same { self.new ≡ self.old }
+        ensures value { Answers (λ x. x) result (this_to (env_of P.provided self.old asker.module_index) class this target) }
+    {
+        if target.0 == class.0 {
+            return Ok((false, None));
+        }
+        let found = self.read(asker, target)?;
+        Ok(this_behind(class, this, &found))
+    }
+}

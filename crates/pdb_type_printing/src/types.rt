@@ -1,0 +1,759 @@
+//! Types as text.
+
+ghost use Rattle.std.specs.Prelude.{◌≡◌, ◌≤◌, ◌==◌, ◌++◌, ◌∷◌, [], Some, length, string_bytes, if◌then◌else◌};
+ghost use Rattle.pdb_records.specs.Forms as forms;
+ghost use Rattle.pdb_records.specs.Forms.{Plain};
+ghost use Rattle.pdb_records.specs.Shapes.{shape, array_form};
+ghost use Rattle.pdb_resolving.specs.Fault.{CircularTypeDefinition};
+ghost use Rattle.pdb_text_pieces.specs.Printed.{Prints, Stopped, caught, read_or};
+ghost use Rattle.pdb_text_pieces.specs.Paths.{may_enter};
+ghost use Rattle.pdb_type_printing.specs.Arrays.{elements_of};
+ghost use Rattle.pdb_type_printing.specs.Types.{Whole, Modified, PointedTo, PointedModified, MethodArguments, visiting, inside_text, shown_text, returned, returned_unless, arguments, more_arguments, with_extra, in_brackets, method_arguments, plain_text, array_text, record_text, modified_text, pointed_text};
+ghost use Rattle.pdb_type_printing.specs.Printing.{env_of};
+
+use crate::asker::Asker;
+use crate::printer::TypePrinter;
+use pdb_indices::TypeIndex;
+use pdb_records::{ArrayType, FunctionAttributes, MemberFunctionType, ProcedureType, TypeData};
+use pdb_resolving::{Error, ModuleProvider, Result};
+use pdb_text_pieces::{
+    PointerLevel, Seen, class_word, emit, emit_bare_function, emit_bare_method, emit_brackets, emit_comma,
+    emit_constant, emit_constant_object, emit_missing, emit_named, emit_pointers, emit_primitive,
+    emit_unhandled, emit_unread, ends_in_sigil, leading_to, leaves_out_arguments, level_of, shown_return,
+};
+
+impl<'a, 's, P: ModuleProvider> TypePrinter<'a, 's, P> {
+    /// Appends a type on its own. What can't be read has a text of its own.
+    #[cycle(printing)]
+    pub fn emit_type_index(
+        &mut self,
+        asker: Asker,
+        w: &mut String,
+        index: TypeIndex,
+        seen: &mut Seen<'_>,
+    ) -> Result<()>
+        requires { length seen.old.path.now.items ≤ 1024 }
+        ensures same { self.new ≡ self.old }
+        ensures same_reference { seen.new.path.ghost_name ≡ seen.old.path.ghost_name }
+        ensures level { seen.new.level ≡ seen.old.level }
+        ensures path { seen.new.path.now.items ≡ seen.old.path.now.items }
+        ensures text { Prints result (string_bytes w.new) ((visiting (env_of P.provided self.old asker.module_index) seen.old.path.now.items) Whole seen.old.path.now.items index.0 (string_bytes w.old)) }
+    {
+        match self.read(asker, index) {
+            Ok(found) => self.emit_entered(asker, w, index, &found, seen),
+            Err(error) => emit_unread(w, error),
+        }
+    }
+
+    /// Appends a type that was read, and puts its index on the path.
+    #[cycle(printing)]
+    fn emit_entered(
+        &mut self,
+        asker: Asker,
+        w: &mut String,
+        index: TypeIndex,
+        found: &TypeData<'_>,
+        seen: &mut Seen<'_>,
+    ) -> Result<()>
+        requires { length seen.old.path.now.items ≤ 1024 }
+        ensures same { self.new ≡ self.old }
+        ensures same_reference { seen.new.path.ghost_name ≡ seen.old.path.ghost_name }
+        ensures level { seen.new.level ≡ seen.old.level }
+        ensures path { seen.new.path.now.items ≡ seen.old.path.now.items }
+        ensures text { Prints result (string_bytes w.new) (if may_enter seen.old.path.now.items index.0 then caught (record_text (env_of P.provided self.old asker.module_index) (visiting (env_of P.provided self.old asker.module_index) (seen.old.path.now.items ++ index.0 ∷ [])) (seen.old.path.now.items ++ index.0 ∷ []) (shape found.now) (string_bytes w.old)) else Stopped (CircularTypeDefinition index.0) (string_bytes w.old)) }
+    {
+        let mut level = Seen::new(&mut *seen.path);
+        level.insert(index.0)?;
+        self.emit_type(asker, w, found, &mut level)
+    }
+
+    /// Appends a type that was read; a type that is missing in it ends it, and is named.
+    #[cycle(printing)]
+    #[tactic(auto, using(crate::proofs::Failing::uncaught))]
+    fn emit_type(
+        &mut self,
+        asker: Asker,
+        w: &mut String,
+        found: &TypeData<'_>,
+        seen: &mut Seen<'_>,
+    ) -> Result<()>
+        requires { length seen.old.path.now.items ≤ 1024 }
+        ensures same { self.new ≡ self.old }
+        ensures same_reference { seen.new.path.ghost_name ≡ seen.old.path.ghost_name }
+        ensures level { seen.new.level ≡ seen.old.level }
+        ensures path { seen.new.path.now.items ≡ seen.old.path.now.items }
+        ensures text { Prints result (string_bytes w.new) (caught (record_text (env_of P.provided self.old asker.module_index) (visiting (env_of P.provided self.old asker.module_index) seen.old.path.now.items) seen.old.path.now.items (shape found.now) (string_bytes w.old))) }
+    {
+        match self.emit_type_inner(asker, w, found, seen) {
+            Err(Error::PdbError(pdb_container::Error::TypeNotFound(index))) => emit_missing(
+                w, index,
+            ),
+            other => other,
+        }
+    }
+
+    /// Appends a type that was read.
+    #[cycle(printing)]
+    fn emit_type_inner(
+        &mut self,
+        asker: Asker,
+        w: &mut String,
+        found: &TypeData<'_>,
+        seen: &mut Seen<'_>,
+    ) -> Result<()>
+        requires { length seen.old.path.now.items ≤ 1024 }
+        ensures same { self.new ≡ self.old }
+        ensures same_reference { seen.new.path.ghost_name ≡ seen.old.path.ghost_name }
+        ensures level { seen.new.level ≡ seen.old.level }
+        ensures path { seen.new.path.now.items ≡ seen.old.path.now.items }
+        ensures text { Prints result (string_bytes w.new) (record_text (env_of P.provided self.old asker.module_index) (visiting (env_of P.provided self.old asker.module_index) seen.old.path.now.items) seen.old.path.now.items (shape found.now) (string_bytes w.old)) }
+    {
+        match found {
+            TypeData::Array(t) => self.emit_array(asker, w, t, seen),
+            _ => self.emit_plain(asker, w, found, seen),
+        }
+    }
+
+    /// Appends an array of arrays: the innermost element, and the brackets.
+    #[cycle(printing)]
+    fn emit_array(
+        &mut self,
+        asker: Asker,
+        w: &mut String,
+        t: &ArrayType,
+        seen: &mut Seen<'_>,
+    ) -> Result<()>
+        requires { length seen.old.path.now.items ≤ 1024 }
+        ensures same { self.new ≡ self.old }
+        ensures same_reference { seen.new.path.ghost_name ≡ seen.old.path.ghost_name }
+        ensures level { seen.new.level ≡ seen.old.level }
+        ensures path { seen.new.path.now.items ≡ seen.old.path.now.items }
+        ensures text { Prints result (string_bytes w.new) (record_text (env_of P.provided self.old asker.module_index) (visiting (env_of P.provided self.old asker.module_index) seen.old.path.now.items) seen.old.path.now.items (Plain (forms.Array (array_form t.now))) (string_bytes w.old)) }
+    {
+        let elements = self.elements_of(asker, t)?;
+        self.emit_plain_caught(asker, w, &elements.found, seen)?;
+        let size = self.size(asker, elements.index)?;
+        emit_brackets(w, &elements.dimensions, size)
+    }
+
+    /// Appends a type that is no array; a type that is missing in it ends it, and is named.
+    #[cycle(printing)]
+    #[tactic(auto, using(crate::proofs::Failing::uncaught))]
+    fn emit_plain_caught(
+        &mut self,
+        asker: Asker,
+        w: &mut String,
+        found: &TypeData<'_>,
+        seen: &mut Seen<'_>,
+    ) -> Result<()>
+        requires { length seen.old.path.now.items ≤ 1024 }
+        ensures same { self.new ≡ self.old }
+        ensures same_reference { seen.new.path.ghost_name ≡ seen.old.path.ghost_name }
+        ensures level { seen.new.level ≡ seen.old.level }
+        ensures path { seen.new.path.now.items ≡ seen.old.path.now.items }
+        ensures text { Prints result (string_bytes w.new) (caught (plain_text (env_of P.provided self.old asker.module_index) (visiting (env_of P.provided self.old asker.module_index) seen.old.path.now.items) seen.old.path.now.items (shape found.now) (string_bytes w.old))) }
+    {
+        match self.emit_plain(asker, w, found, seen) {
+            Err(Error::PdbError(pdb_container::Error::TypeNotFound(index))) => emit_missing(
+                w, index,
+            ),
+            other => other,
+        }
+    }
+
+    /// Appends a type that is no array.
+    #[cycle(printing)]
+    fn emit_plain(
+        &mut self,
+        asker: Asker,
+        w: &mut String,
+        found: &TypeData<'_>,
+        seen: &mut Seen<'_>,
+    ) -> Result<()>
+        requires { length seen.old.path.now.items ≤ 1024 }
+        ensures same { self.new ≡ self.old }
+        ensures same_reference { seen.new.path.ghost_name ≡ seen.old.path.ghost_name }
+        ensures level { seen.new.level ≡ seen.old.level }
+        ensures path { seen.new.path.now.items ≡ seen.old.path.now.items }
+        ensures text { Prints result (string_bytes w.new) (plain_text (env_of P.provided self.old asker.module_index) (visiting (env_of P.provided self.old asker.module_index) seen.old.path.now.items) seen.old.path.now.items (shape found.now) (string_bytes w.old)) }
+    {
+        match found {
+            TypeData::Primitive(t) => emit_primitive(w, self.flags, *t, false),
+            TypeData::Class(t) => emit_named(w, self.flags, class_word(t.kind), t.name),
+            TypeData::Union(t) => emit_named(w, self.flags, "union ", t.name),
+            TypeData::Enumeration(t) => emit_named(w, self.flags, "enum ", t.name),
+            TypeData::Enumerate(t) => emit_named(w, self.flags, "enum class ", t.name),
+            TypeData::MemberFunction(t) => self.emit_member_function(asker, w, t, seen),
+            TypeData::Procedure(t) => self.emit_procedure(asker, w, t, seen),
+            TypeData::ArgumentList(t) => self.emit_arguments(asker, w, &t.arguments, seen),
+            TypeData::Modifier(t) => {
+                self.emit_modified(asker, w, t.underlying_type, t.constant, seen)
+            }
+            TypeData::Pointer(t) => {
+                let mut before = Vec::new(asker.alloc);
+                self.emit_pointee(
+                    asker,
+                    w,
+                    t.underlying_type,
+                    &mut before,
+                    level_of(false, t),
+                    seen,
+                )
+            }
+            _ => emit_unhandled(w, found),
+        }
+    }
+
+    /// Appends a method's type.
+    #[cycle(printing)]
+    fn emit_member_function(
+        &mut self,
+        asker: Asker,
+        w: &mut String,
+        t: &MemberFunctionType,
+        seen: &mut Seen<'_>,
+    ) -> Result<()>
+        requires { length seen.old.path.now.items ≤ 1024 }
+        ensures same { self.new ≡ self.old }
+        ensures same_reference { seen.new.path.ghost_name ≡ seen.old.path.ghost_name }
+        ensures level { seen.new.level ≡ seen.old.level }
+        ensures path { seen.new.path.now.items ≡ seen.old.path.now.items }
+        ensures text { Prints result (string_bytes w.new) (plain_text (env_of P.provided self.old asker.module_index) (visiting (env_of P.provided self.old asker.module_index) seen.old.path.now.items) seen.old.path.now.items (Plain (forms.MemberFunction t.now)) (string_bytes w.old)) }
+    {
+        self.maybe_emit_return_type(asker, w, Some(t.return_type), t.attributes, seen)?;
+        emit_bare_method(w)?;
+        self.emit_method_arguments(asker, w, t, false, seen)
+    }
+
+    /// Appends a function's type, without the bracket that would close it.
+    #[cycle(printing)]
+    fn emit_procedure(
+        &mut self,
+        asker: Asker,
+        w: &mut String,
+        t: &ProcedureType,
+        seen: &mut Seen<'_>,
+    ) -> Result<()>
+        requires { length seen.old.path.now.items ≤ 1024 }
+        ensures same { self.new ≡ self.old }
+        ensures same_reference { seen.new.path.ghost_name ≡ seen.old.path.ghost_name }
+        ensures level { seen.new.level ≡ seen.old.level }
+        ensures path { seen.new.path.now.items ≡ seen.old.path.now.items }
+        ensures text { Prints result (string_bytes w.new) (plain_text (env_of P.provided self.old asker.module_index) (visiting (env_of P.provided self.old asker.module_index) seen.old.path.now.items) seen.old.path.now.items (Plain (forms.Procedure t.now)) (string_bytes w.old)) }
+    {
+        self.maybe_emit_return_type(asker, w, t.return_type, t.attributes, seen)?;
+        emit_bare_function(w)?;
+        self.emit_type_index(asker, w, t.argument_list, seen)
+    }
+
+    /// Appends the type that a function returns, and a space, where no flag leaves it out.
+    #[cycle(printing)]
+    pub fn maybe_emit_return_type(
+        &mut self,
+        asker: Asker,
+        w: &mut String,
+        index: Option<TypeIndex>,
+        attributes: FunctionAttributes,
+        seen: &mut Seen<'_>,
+    ) -> Result<()>
+        requires { length seen.old.path.now.items ≤ 1024 }
+        ensures same { self.new ≡ self.old }
+        ensures same_reference { seen.new.path.ghost_name ≡ seen.old.path.ghost_name }
+        ensures level { seen.new.level ≡ seen.old.level }
+        ensures path { seen.new.path.now.items ≡ seen.old.path.now.items }
+        ensures text { Prints result (string_bytes w.new) (returned_unless (env_of P.provided self.old asker.module_index) (visiting (env_of P.provided self.old asker.module_index) seen.old.path.now.items) seen.old.path.now.items index attributes (string_bytes w.old)) }
+    {
+        let shown = shown_return(self.flags, index, attributes, false);
+        self.emit_shown_return(asker, w, shown, seen)
+    }
+
+    /// Appends the type that a function behind pointers returns, and a space; nothing for a constructor.
+    #[cycle(printing)]
+    fn emit_return_type(
+        &mut self,
+        asker: Asker,
+        w: &mut String,
+        index: Option<TypeIndex>,
+        attributes: FunctionAttributes,
+        seen: &mut Seen<'_>,
+    ) -> Result<()>
+        requires { length seen.old.path.now.items ≤ 1024 }
+        ensures same { self.new ≡ self.old }
+        ensures same_reference { seen.new.path.ghost_name ≡ seen.old.path.ghost_name }
+        ensures level { seen.new.level ≡ seen.old.level }
+        ensures path { seen.new.path.now.items ≡ seen.old.path.now.items }
+        ensures text { Prints result (string_bytes w.new) (returned (visiting (env_of P.provided self.old asker.module_index) seen.old.path.now.items) seen.old.path.now.items index attributes (string_bytes w.old)) }
+    {
+        let shown = shown_return(self.flags, index, attributes, true);
+        self.emit_shown_return(asker, w, shown, seen)
+    }
+
+    /// Appends the type with which a function's text begins, if there is one, and a space.
+    #[cycle(printing)]
+    fn emit_shown_return(
+        &mut self,
+        asker: Asker,
+        w: &mut String,
+        shown: Option<TypeIndex>,
+        seen: &mut Seen<'_>,
+    ) -> Result<()>
+        requires { length seen.old.path.now.items ≤ 1024 }
+        ensures same { self.new ≡ self.old }
+        ensures same_reference { seen.new.path.ghost_name ≡ seen.old.path.ghost_name }
+        ensures level { seen.new.level ≡ seen.old.level }
+        ensures path { seen.new.path.now.items ≡ seen.old.path.now.items }
+        ensures text { Prints result (string_bytes w.new) (shown_text (visiting (env_of P.provided self.old asker.module_index) seen.old.path.now.items) seen.old.path.now.items shown (string_bytes w.old)) }
+    {
+        let Some(index) = shown else {
+            return Ok(());
+        };
+        self.emit_type_index(asker, w, index, seen)?;
+        emit(w, " ")
+    }
+
+    /// Appends arguments with commas between them.
+    #[cycle(printing)]
+    fn emit_arguments(
+        &mut self,
+        asker: Asker,
+        w: &mut String,
+        list: &[TypeIndex],
+        seen: &mut Seen<'_>,
+    ) -> Result<()>
+        requires { length seen.old.path.now.items ≤ 1024 }
+        ensures same { self.new ≡ self.old }
+        ensures same_reference { seen.new.path.ghost_name ≡ seen.old.path.ghost_name }
+        ensures level { seen.new.level ≡ seen.old.level }
+        ensures path { seen.new.path.now.items ≡ seen.old.path.now.items }
+        ensures text { Prints result (string_bytes w.new) (arguments (env_of P.provided self.old asker.module_index) (visiting (env_of P.provided self.old asker.module_index) seen.old.path.now.items) seen.old.path.now.items list.now (string_bytes w.old)) }
+    {
+        let [first, more @ ..] = list else {
+            return Ok(());
+        };
+        self.emit_type_index(asker, w, *first, seen)?;
+        self.emit_more_arguments(asker, w, more, seen)
+    }
+
+    /// Appends arguments with a comma before each.
+    #[cycle(printing)]
+    fn emit_more_arguments(
+        &mut self,
+        asker: Asker,
+        w: &mut String,
+        list: &[TypeIndex],
+        seen: &mut Seen<'_>,
+    ) -> Result<()>
+        requires { length seen.old.path.now.items ≤ 1024 }
+        ensures same { self.new ≡ self.old }
+        ensures same_reference { seen.new.path.ghost_name ≡ seen.old.path.ghost_name }
+        ensures level { seen.new.level ≡ seen.old.level }
+        ensures path { seen.new.path.now.items ≡ seen.old.path.now.items }
+        ensures text { Prints result (string_bytes w.new) (more_arguments (env_of P.provided self.old asker.module_index) (visiting (env_of P.provided self.old asker.module_index) seen.old.path.now.items) seen.old.path.now.items list.now (string_bytes w.old)) }
+    {
+        for index in list {
+            emit_comma(w, self.flags)?;
+            self.emit_type_index(asker, w, *index, seen)?;
+        }
+        Ok(())
+    }
+
+    /// Appends an extra first argument, if there is one, and the other arguments.
+    #[cycle(printing)]
+    fn emit_extra_and_arguments(
+        &mut self,
+        asker: Asker,
+        w: &mut String,
+        extra: Option<TypeIndex>,
+        list: &[TypeIndex],
+        seen: &mut Seen<'_>,
+    ) -> Result<()>
+        requires { length seen.old.path.now.items ≤ 1024 }
+        ensures same { self.new ≡ self.old }
+        ensures same_reference { seen.new.path.ghost_name ≡ seen.old.path.ghost_name }
+        ensures level { seen.new.level ≡ seen.old.level }
+        ensures path { seen.new.path.now.items ≡ seen.old.path.now.items }
+        ensures text { Prints result (string_bytes w.new) (arguments (env_of P.provided self.old asker.module_index) (visiting (env_of P.provided self.old asker.module_index) seen.old.path.now.items) seen.old.path.now.items (with_extra extra list.now) (string_bytes w.old)) }
+    {
+        let Some(first) = extra else {
+            return self.emit_arguments(asker, w, list, seen);
+        };
+        self.emit_type_index(asker, w, first, seen)?;
+        self.emit_more_arguments(asker, w, list, seen)
+    }
+
+    /// Appends a method's arguments, in brackets, where no flag leaves them out.
+    #[cycle(printing)]
+    pub fn emit_method_arguments(
+        &mut self,
+        asker: Asker,
+        w: &mut String,
+        t: &MemberFunctionType,
+        says_constant: bool,
+        seen: &mut Seen<'_>,
+    ) -> Result<()>
+        requires { length seen.old.path.now.items ≤ 1024 }
+        ensures same { self.new ≡ self.old }
+        ensures same_reference { seen.new.path.ghost_name ≡ seen.old.path.ghost_name }
+        ensures level { seen.new.level ≡ seen.old.level }
+        ensures path { seen.new.path.now.items ≡ seen.old.path.now.items }
+        ensures text { Prints result (string_bytes w.new) (method_arguments (env_of P.provided self.old asker.module_index) (visiting (env_of P.provided self.old asker.module_index) seen.old.path.now.items) seen.old.path.now.items t.now says_constant (string_bytes w.old)) }
+    {
+        if leaves_out_arguments(self.flags) {
+            return Ok(());
+        }
+        self.emit_argument_list(asker, w, t, says_constant, seen)
+    }
+
+    /// Appends a method's arguments, in brackets.
+    #[cycle(printing)]
+    fn emit_argument_list(
+        &mut self,
+        asker: Asker,
+        w: &mut String,
+        t: &MemberFunctionType,
+        says_constant: bool,
+        seen: &mut Seen<'_>,
+    ) -> Result<()>
+        requires { length seen.old.path.now.items ≤ 1024 }
+        ensures same { self.new ≡ self.old }
+        ensures same_reference { seen.new.path.ghost_name ≡ seen.old.path.ghost_name }
+        ensures level { seen.new.level ≡ seen.old.level }
+        ensures path { seen.new.path.now.items ≡ seen.old.path.now.items }
+        ensures text { Prints result (string_bytes w.new) ((visiting (env_of P.provided self.old asker.module_index) seen.old.path.now.items) (MethodArguments t.now.class_type t.now.this_pointer_type says_constant) seen.old.path.now.items t.now.argument_list.0 (string_bytes w.old)) }
+    {
+        let mut level = Seen::new(&mut *seen.path);
+        level.insert(t.argument_list.0)?;
+        self.emit_argument_list_inside(asker, w, t, says_constant, &mut level)
+    }
+
+    /// The same once the argument list is on the path.
+    #[cycle(printing)]
+    #[tactic(auto, using(crate::proofs::Failing::fails_stops))]
+    fn emit_argument_list_inside(
+        &mut self,
+        asker: Asker,
+        w: &mut String,
+        t: &MemberFunctionType,
+        says_constant: bool,
+        seen: &mut Seen<'_>,
+    ) -> Result<()>
+        requires { length seen.old.path.now.items ≤ 1024 }
+        ensures same { self.new ≡ self.old }
+        ensures same_reference { seen.new.path.ghost_name ≡ seen.old.path.ghost_name }
+        ensures level { seen.new.level ≡ seen.old.level }
+        ensures path { seen.new.path.now.items ≡ seen.old.path.now.items }
+        ensures text { Prints result (string_bytes w.new) (inside_text (env_of P.provided self.old asker.module_index) (MethodArguments t.now.class_type t.now.this_pointer_type says_constant) seen.old.path.now.items t.now.argument_list.0 (string_bytes w.old)) }
+    {
+        let TypeData::ArgumentList(list) = self.read(asker, t.argument_list)? else {
+            return Err(Error::ArgumentTypeNotArgumentList);
+        };
+        let this = self.this_of(asker, t.class_type, t.this_pointer_type)?;
+        self.emit_in_brackets(asker, w, says_constant, &list.arguments, this, seen)
+    }
+
+    /// Appends arguments in brackets, the extra one first if there is one, and that the object is constant.
+    #[cycle(printing)]
+    fn emit_in_brackets(
+        &mut self,
+        asker: Asker,
+        w: &mut String,
+        says_constant: bool,
+        list: &[TypeIndex],
+        this: (bool, Option<TypeIndex>),
+        seen: &mut Seen<'_>,
+    ) -> Result<()>
+        requires { length seen.old.path.now.items ≤ 1024 }
+        ensures same { self.new ≡ self.old }
+        ensures same_reference { seen.new.path.ghost_name ≡ seen.old.path.ghost_name }
+        ensures level { seen.new.level ≡ seen.old.level }
+        ensures path { seen.new.path.now.items ≡ seen.old.path.now.items }
+        ensures text { Prints result (string_bytes w.new) (in_brackets (env_of P.provided self.old asker.module_index) (visiting (env_of P.provided self.old asker.module_index) seen.old.path.now.items) seen.old.path.now.items says_constant list.now this (string_bytes w.old)) }
+    {
+        let (is_constant, extra) = this;
+        emit(w, "(")?;
+        self.emit_extra_and_arguments(asker, w, extra, list, seen)?;
+        emit(w, ")")?;
+        emit_constant_object(w, is_constant && says_constant)
+    }
+
+    /// Appends what a Modifier is put on.
+    #[cycle(printing)]
+    fn emit_modified(
+        &mut self,
+        asker: Asker,
+        w: &mut String,
+        index: TypeIndex,
+        is_constant: bool,
+        seen: &mut Seen<'_>,
+    ) -> Result<()>
+        requires { length seen.old.path.now.items ≤ 1024 }
+        ensures same { self.new ≡ self.old }
+        ensures same_reference { seen.new.path.ghost_name ≡ seen.old.path.ghost_name }
+        ensures level { seen.new.level ≡ seen.old.level }
+        ensures path { seen.new.path.now.items ≡ seen.old.path.now.items }
+        ensures text { Prints result (string_bytes w.new) ((visiting (env_of P.provided self.old asker.module_index) seen.old.path.now.items) (Modified is_constant) seen.old.path.now.items index.0 (string_bytes w.old)) }
+    {
+        let mut level = Seen::new(&mut *seen.path);
+        level.insert(index.0)?;
+        self.emit_modified_inside(asker, w, index, is_constant, &mut level)
+    }
+
+    /// The same once its index is on the path.
+    #[cycle(printing)]
+    fn emit_modified_inside(
+        &mut self,
+        asker: Asker,
+        w: &mut String,
+        index: TypeIndex,
+        is_constant: bool,
+        seen: &mut Seen<'_>,
+    ) -> Result<()>
+        requires { length seen.old.path.now.items ≤ 1024 }
+        ensures same { self.new ≡ self.old }
+        ensures same_reference { seen.new.path.ghost_name ≡ seen.old.path.ghost_name }
+        ensures level { seen.new.level ≡ seen.old.level }
+        ensures path { seen.new.path.now.items ≡ seen.old.path.now.items }
+        ensures text { Prints result (string_bytes w.new) (inside_text (env_of P.provided self.old asker.module_index) (Modified is_constant) seen.old.path.now.items index.0 (string_bytes w.old)) }
+    {
+        match self.read(asker, index)? {
+            TypeData::Pointer(t) => {
+                let mut before = Vec::new(asker.alloc);
+                self.emit_pointee(
+                    asker,
+                    w,
+                    t.underlying_type,
+                    &mut before,
+                    level_of(is_constant, &t),
+                    seen,
+                )
+            }
+            TypeData::Primitive(t) => emit_primitive(w, self.flags, t, is_constant),
+            found => self.emit_modified_other(asker, w, is_constant, &found, seen),
+        }
+    }
+
+    /// Appends a type behind `const `, where it is constant.
+    #[cycle(printing)]
+    fn emit_modified_other(
+        &mut self,
+        asker: Asker,
+        w: &mut String,
+        is_constant: bool,
+        found: &TypeData<'_>,
+        seen: &mut Seen<'_>,
+    ) -> Result<()>
+        requires { length seen.old.path.now.items ≤ 1024 }
+        ensures same { self.new ≡ self.old }
+        ensures same_reference { seen.new.path.ghost_name ≡ seen.old.path.ghost_name }
+        ensures level { seen.new.level ≡ seen.old.level }
+        ensures path { seen.new.path.now.items ≡ seen.old.path.now.items }
+        ensures text { Prints result (string_bytes w.new) (modified_text (env_of P.provided self.old asker.module_index) (visiting (env_of P.provided self.old asker.module_index) seen.old.path.now.items) seen.old.path.now.items is_constant (shape found.now) (string_bytes w.old)) }
+    {
+        emit_constant(w, is_constant)?;
+        self.emit_type(asker, w, found, seen)
+    }
+
+    /// Appends what the last of some pointers leads to, with all of them.
+    #[cycle(printing)]
+    fn emit_pointee(
+        &mut self,
+        asker: Asker,
+        w: &mut String,
+        index: TypeIndex,
+        before: &mut Vec<PointerLevel>,
+        last: PointerLevel,
+        seen: &mut Seen<'_>,
+    ) -> Result<()>
+        requires { length seen.old.path.now.items ≤ 1024 }
+        ensures same { self.new ≡ self.old }
+        ensures same_reference { seen.new.path.ghost_name ≡ seen.old.path.ghost_name }
+        ensures level { seen.new.level ≡ seen.old.level }
+        ensures path { seen.new.path.now.items ≡ seen.old.path.now.items }
+        ensures text { Prints result (string_bytes w.new) ((visiting (env_of P.provided self.old asker.module_index) seen.old.path.now.items) (PointedTo before.old.items last) seen.old.path.now.items index.0 (string_bytes w.old)) }
+    {
+        let mut level = Seen::new(&mut *seen.path);
+        level.insert(index.0)?;
+        self.emit_pointee_inside(asker, w, index, before, last, &mut level)
+    }
+
+    /// The same once its index is on the path.
+    #[cycle(printing)]
+    fn emit_pointee_inside(
+        &mut self,
+        asker: Asker,
+        w: &mut String,
+        index: TypeIndex,
+        before: &mut Vec<PointerLevel>,
+        last: PointerLevel,
+        seen: &mut Seen<'_>,
+    ) -> Result<()>
+        requires { length seen.old.path.now.items ≤ 1024 }
+        ensures same { self.new ≡ self.old }
+        ensures same_reference { seen.new.path.ghost_name ≡ seen.old.path.ghost_name }
+        ensures level { seen.new.level ≡ seen.old.level }
+        ensures path { seen.new.path.now.items ≡ seen.old.path.now.items }
+        ensures text { Prints result (string_bytes w.new) (inside_text (env_of P.provided self.old asker.module_index) (PointedTo before.old.items last) seen.old.path.now.items index.0 (string_bytes w.old)) }
+    {
+        match self.read(asker, index)? {
+            TypeData::Pointer(t) => {
+                before.push(last)?;
+                self.emit_pointee(
+                    asker,
+                    w,
+                    t.underlying_type,
+                    before,
+                    level_of(false, &t),
+                    seen,
+                )
+            }
+            TypeData::Modifier(t) => self.emit_pointee_modified(
+                asker,
+                w,
+                t.underlying_type,
+                before,
+                leading_to(t.constant, last),
+                seen,
+            ),
+            found => {
+                before.push(last)?;
+                self.emit_pointed(asker, w, before, &found, seen)
+            }
+        }
+    }
+
+    /// Appends what a Modifier is put on to which the last of some pointers leads, with all of them.
+    #[cycle(printing)]
+    fn emit_pointee_modified(
+        &mut self,
+        asker: Asker,
+        w: &mut String,
+        index: TypeIndex,
+        before: &mut Vec<PointerLevel>,
+        last: PointerLevel,
+        seen: &mut Seen<'_>,
+    ) -> Result<()>
+        requires { length seen.old.path.now.items ≤ 1024 }
+        ensures same { self.new ≡ self.old }
+        ensures same_reference { seen.new.path.ghost_name ≡ seen.old.path.ghost_name }
+        ensures level { seen.new.level ≡ seen.old.level }
+        ensures path { seen.new.path.now.items ≡ seen.old.path.now.items }
+        ensures text { Prints result (string_bytes w.new) ((visiting (env_of P.provided self.old asker.module_index) seen.old.path.now.items) (PointedModified before.old.items last) seen.old.path.now.items index.0 (string_bytes w.old)) }
+    {
+        let mut level = Seen::new(&mut *seen.path);
+        level.insert(index.0)?;
+        self.emit_pointee_modified_inside(asker, w, index, before, last, &mut level)
+    }
+
+    /// The same once its index is on the path.
+    #[cycle(printing)]
+    fn emit_pointee_modified_inside(
+        &mut self,
+        asker: Asker,
+        w: &mut String,
+        index: TypeIndex,
+        before: &mut Vec<PointerLevel>,
+        last: PointerLevel,
+        seen: &mut Seen<'_>,
+    ) -> Result<()>
+        requires { length seen.old.path.now.items ≤ 1024 }
+        ensures same { self.new ≡ self.old }
+        ensures same_reference { seen.new.path.ghost_name ≡ seen.old.path.ghost_name }
+        ensures level { seen.new.level ≡ seen.old.level }
+        ensures path { seen.new.path.now.items ≡ seen.old.path.now.items }
+        ensures text { Prints result (string_bytes w.new) (inside_text (env_of P.provided self.old asker.module_index) (PointedModified before.old.items last) seen.old.path.now.items index.0 (string_bytes w.old)) }
+    {
+        let found = self.read(asker, index)?;
+        before.push(last)?;
+        match found {
+            TypeData::Pointer(t) => {
+                self.emit_pointee(
+                    asker,
+                    w,
+                    t.underlying_type,
+                    before,
+                    level_of(false, &t),
+                    seen,
+                )
+            }
+            found => self.emit_pointed(asker, w, before, &found, seen),
+        }
+    }
+
+    /// Appends what pointers lead to, with the pointers.
+    #[cycle(printing)]
+    fn emit_pointed(
+        &mut self,
+        asker: Asker,
+        w: &mut String,
+        pointers: &[PointerLevel],
+        found: &TypeData<'_>,
+        seen: &mut Seen<'_>,
+    ) -> Result<()>
+        requires { length seen.old.path.now.items ≤ 1024 }
+        ensures same { self.new ≡ self.old }
+        ensures same_reference { seen.new.path.ghost_name ≡ seen.old.path.ghost_name }
+        ensures level { seen.new.level ≡ seen.old.level }
+        ensures path { seen.new.path.now.items ≡ seen.old.path.now.items }
+        ensures text { Prints result (string_bytes w.new) (pointed_text (env_of P.provided self.old asker.module_index) (visiting (env_of P.provided self.old asker.module_index) seen.old.path.now.items) seen.old.path.now.items pointers.now (shape found.now) (string_bytes w.old)) }
+    {
+        match found {
+            TypeData::MemberFunction(t) => self.emit_member_pointer(asker, w, pointers, t, seen),
+            TypeData::Procedure(t) => self.emit_procedure_pointer(asker, w, pointers, t, seen),
+            _ => {
+                self.emit_type(asker, w, found, seen)?;
+                let is_behind_sigil = ends_in_sigil(w.as_bytes());
+                emit_pointers(w, self.flags, pointers, true, is_behind_sigil)
+            }
+        }
+    }
+
+    /// Appends pointers to a method.
+    #[cycle(printing)]
+    fn emit_member_pointer(
+        &mut self,
+        asker: Asker,
+        w: &mut String,
+        pointers: &[PointerLevel],
+        t: &MemberFunctionType,
+        seen: &mut Seen<'_>,
+    ) -> Result<()>
+        requires { length seen.old.path.now.items ≤ 1024 }
+        ensures same { self.new ≡ self.old }
+        ensures same_reference { seen.new.path.ghost_name ≡ seen.old.path.ghost_name }
+        ensures level { seen.new.level ≡ seen.old.level }
+        ensures path { seen.new.path.now.items ≡ seen.old.path.now.items }
+        ensures text { Prints result (string_bytes w.new) (pointed_text (env_of P.provided self.old asker.module_index) (visiting (env_of P.provided self.old asker.module_index) seen.old.path.now.items) seen.old.path.now.items pointers.now (Plain (forms.MemberFunction t.now)) (string_bytes w.old)) }
+    {
+        self.emit_return_type(asker, w, Some(t.return_type), t.attributes, seen)?;
+        emit(w, "(")?;
+        self.emit_type_index(asker, w, t.class_type, seen)?;
+        emit_pointers(w, self.flags, pointers, false, false)?;
+        emit(w, ")")?;
+        self.emit_method_arguments(asker, w, t, false, seen)
+    }
+
+    /// Appends pointers to a function.
+    #[cycle(printing)]
+    fn emit_procedure_pointer(
+        &mut self,
+        asker: Asker,
+        w: &mut String,
+        pointers: &[PointerLevel],
+        t: &ProcedureType,
+        seen: &mut Seen<'_>,
+    ) -> Result<()>
+        requires { length seen.old.path.now.items ≤ 1024 }
+        ensures same { self.new ≡ self.old }
+        ensures same_reference { seen.new.path.ghost_name ≡ seen.old.path.ghost_name }
+        ensures level { seen.new.level ≡ seen.old.level }
+        ensures path { seen.new.path.now.items ≡ seen.old.path.now.items }
+        ensures text { Prints result (string_bytes w.new) (pointed_text (env_of P.provided self.old asker.module_index) (visiting (env_of P.provided self.old asker.module_index) seen.old.path.now.items) seen.old.path.now.items pointers.now (Plain (forms.Procedure t.now)) (string_bytes w.old)) }
+    {
+        self.emit_return_type(asker, w, t.return_type, t.attributes, seen)?;
+        emit(w, "(")?;
+        emit_pointers(w, self.flags, pointers, false, false)?;
+        emit(w, ")(")?;
+        self.emit_type_index(asker, w, t.argument_list, seen)?;
+        emit(w, ")")
+    }
+}
