@@ -1,3 +1,4 @@
+pub mod ComparedPlaces
 pub mod LaidLemmas
 pub mod OmapLemmas
 pub mod OrderSteps

@@ -1,3 +1,4 @@
+pub mod Faults
 pub mod LineLemmas
 pub mod Pumped
 pub mod Puts

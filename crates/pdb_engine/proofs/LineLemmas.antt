@@ -1,6 +1,6 @@
 -- The lines that the engine keeps are those of the definition.
-use Rattle.std.proofs.Common.{◌≡◌, ℕ, zero, suc, ◌+◌, ◌<◌, ◌≤◌, true, false, cond, List, [], ◌∷◌, ◌++◌, refl, sym, ap, ◌∙◌, append_assoc, append-nil, length, take, drop, get_or, take-append-drop}
-use Rattle.std.specs.Prelude.{◌==◌, Option, Result, Ok, Err, OnErr}
+use Rattle.std.proofs.Common.{◌≡◌, ℕ, zero, suc, ◌+◌, ◌<◌, ◌≤◌, true, false, cond, List, [], ◌∷◌, ◌++◌, refl, sym, ap, subst, ◌∙◌, append_assoc, append-nil, length, take, drop, get_or, take-append-drop}
+use Rattle.std.specs.Prelude.{◌==◌, Option, Result, Ok, Err, OnOk, OnErr}
 use Rattle.std.specs.Io.KnownBytes.{Appends}
 use Rattle.std.proofs.KnownBytes.{Appends-trans}
 use Rattle.std.specs.List.{flat_map}
@@ -217,6 +217,19 @@ part_last (Err x) text a b c kept pending bytes i past (out, p, e) (out', q, (mo
     ap (λ l. flat_map text (kept_lines kept l)) (sym (take_all i bytes past)) ∙ e ∙ ap (λ l. out ++ l) begins ∙ sym (append_assoc out out' more),
   ),
 )
+
+-- all of what is pending behind all the bytes
+pub out_last : {T E : Type 0} (r : Result T E) (text : List ℕ → List ℕ) (a b c : Option (List ℕ)) (kept pending bytes : List ℕ) (i : ℕ) → length bytes ≤ i
+    → AllBut a b pending (flat_map text (kept_lines kept (take i bytes)))
+    → OnOk r (Appends b c pending) → OnOk r (Appends a c (flat_map text (kept_lines kept bytes)))
+out_last (Err x) text a b c kept pending bytes i past so_far h = tt
+out_last (Ok x) text a b c kept pending bytes i past (out, p, e) q =
+    subst (λ (l : List ℕ). Appends a c l) (sym e ∙ ap (λ l. flat_map text (kept_lines kept l)) (take_all i bytes past)) (Appends-trans a b c out pending p q)
+
+-- what is kept behind all the bytes
+pub rest_last : {T E : Type 0} (r : Result T E) (kept kept' bytes : List ℕ) (i : ℕ) → length bytes ≤ i → kept' ≡ kept_rest kept (take i bytes) → OnOk r (kept' ≡ kept_rest kept bytes)
+rest_last (Err x) kept kept' bytes i past e = tt
+rest_last (Ok x) kept kept' bytes i past e = e ∙ ap (kept_rest kept) (take_all i bytes past)
 
 -- a front of a text is one of the text with more behind it
 pub front_of_more : (a b : Option (List ℕ)) (text more : List ℕ) → ((out : List ℕ) × Appends a b out × Begins out text) → (out : List ℕ) × Appends a b out × Begins out (text ++ more)

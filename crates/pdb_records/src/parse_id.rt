@@ -2,9 +2,10 @@
 
 ghost use Rattle.pdb_container.specs.Buffer.{rest, ParsesFront};
 ghost use Rattle.pdb_container.specs.Fault.{Gives};
-ghost use Rattle.pdb_records.specs.IdForms.{id_shape, function_form, member_function_form, string_form};
+ghost use Rattle.pdb_records.specs.IdForms as forms;
+ghost use Rattle.pdb_records.specs.IdForms.{id_shape};
 ghost use Rattle.pdb_records.specs.IdRecords.{function_id_at, member_function_id_at, build_info_at, string_list_at, string_at, source_at, module_source_at, id_form_behind, id_form_of};
-ghost use Rattle.pdb_indices.specs.RecordFields.{GivesFront};
+ghost use Rattle.pdb_indices.specs.RecordFields.{GivesFront, as_value};
 
 use crate::id_data::{
     BuildInfoId, FunctionId, IdData, MemberFunctionId, StringId, StringListId,
@@ -16,90 +17,87 @@ use pdb_indices::{IdIndex, TypeIndex, parse_many, parse_name, parse_optional_id_
 use std::alloc::Global;
 
 #[tactic(auto, unfolding(crate::specs::IdRecords::function_id_at))]
-fn parse_function<'t>(buffer: &mut ParseBuffer<'t>, leaf: u16) -> Result<FunctionId<'t>>
-    ensures { ParsesFront function_form result (rest buffer.new) (function_id_at leaf (rest buffer.old)) }
+fn parse_function<'t>(buffer: &mut ParseBuffer<'t>, leaf: u16) -> Result<IdData<'t>>
+    ensures { ParsesFront id_shape result (rest buffer.new) (as_value forms.Function (function_id_at leaf (rest buffer.old))) }
 {
     let scope = parse_optional_id_index(buffer)?;
     let function_type = buffer.parse()?;
     let name = parse_name(buffer, leaf)?;
-    Ok(FunctionId {
+    Ok(IdData::Function(FunctionId {
         scope,
         function_type,
         name,
-    })
+    }))
 }
 
 #[tactic(auto, unfolding(crate::specs::IdRecords::member_function_id_at))]
-fn parse_member_function<'t>(
-    buffer: &mut ParseBuffer<'t>,
-    leaf: u16,
-) -> Result<MemberFunctionId<'t>>
-    ensures { ParsesFront member_function_form result (rest buffer.new) (member_function_id_at leaf (rest buffer.old)) }
+fn parse_member_function<'t>(buffer: &mut ParseBuffer<'t>, leaf: u16) -> Result<IdData<'t>>
+    ensures { ParsesFront id_shape result (rest buffer.new) (as_value forms.MemberFunction (member_function_id_at leaf (rest buffer.old))) }
 {
     let parent = buffer.parse()?;
     let function_type = buffer.parse()?;
     let name = parse_name(buffer, leaf)?;
-    Ok(MemberFunctionId {
+    Ok(IdData::MemberFunction(MemberFunctionId {
         parent,
         function_type,
         name,
-    })
+    }))
 }
 
 #[tactic(auto, unfolding(crate::specs::IdRecords::build_info_at))]
-fn parse_build_info(alloc: Global, buffer: &mut ParseBuffer<'_>) -> Result<BuildInfoId>
-    ensures { GivesFront (λ t. t.arguments.items) result (rest buffer.new) (build_info_at (rest buffer.old)) }
+fn parse_build_info<'t>(alloc: Global, buffer: &mut ParseBuffer<'t>) -> Result<IdData<'t>>
+    ensures { GivesFront id_shape result (rest buffer.new) (as_value forms.BuildInfo (build_info_at (rest buffer.old))) }
 {
     let count = buffer.parse_u16()?;
     let arguments = parse_many::<IdIndex>(alloc, buffer, u32::from(count))?;
-    Ok(BuildInfoId { arguments })
+    Ok(IdData::BuildInfo(BuildInfoId { arguments }))
 }
 
 #[tactic(auto, unfolding(crate::specs::IdRecords::string_list_at))]
-fn parse_string_list(alloc: Global, buffer: &mut ParseBuffer<'_>) -> Result<StringListId>
-    ensures { GivesFront (λ t. t.substrings.items) result (rest buffer.new) (string_list_at (rest buffer.old)) }
+fn parse_string_list<'t>(alloc: Global, buffer: &mut ParseBuffer<'t>) -> Result<IdData<'t>>
+    ensures { GivesFront id_shape result (rest buffer.new) (as_value forms.StringList (string_list_at (rest buffer.old))) }
 {
     let count = buffer.parse_u32()?;
     let substrings = parse_many::<TypeIndex>(alloc, buffer, count)?;
-    Ok(StringListId { substrings })
+    Ok(IdData::StringList(StringListId { substrings }))
 }
 
 #[tactic(auto, unfolding(crate::specs::IdRecords::string_at))]
-fn parse_string<'t>(buffer: &mut ParseBuffer<'t>, leaf: u16) -> Result<StringId<'t>>
-    ensures { ParsesFront string_form result (rest buffer.new) (string_at leaf (rest buffer.old)) }
+fn parse_string<'t>(buffer: &mut ParseBuffer<'t>, leaf: u16) -> Result<IdData<'t>>
+    ensures { ParsesFront id_shape result (rest buffer.new) (as_value forms.String (string_at leaf (rest buffer.old))) }
 {
     let substrings = parse_optional_id_index(buffer)?;
     let name = parse_name(buffer, leaf)?;
-    Ok(StringId { substrings, name })
+    Ok(IdData::String(StringId { substrings, name }))
 }
 
 #[tactic(auto, unfolding(crate::specs::IdRecords::source_at))]
-fn parse_source(buffer: &mut ParseBuffer<'_>) -> Result<UserDefinedTypeSourceId>
-    ensures { ParsesFront (λ x. x) result (rest buffer.new) (source_at (rest buffer.old)) }
+fn parse_source<'t>(buffer: &mut ParseBuffer<'t>) -> Result<IdData<'t>>
+    ensures { ParsesFront id_shape result (rest buffer.new) (as_value forms.UserDefinedTypeSource (source_at (rest buffer.old))) }
 {
     let udt = buffer.parse()?;
     let source_file = UserDefinedTypeSourceFileRef::Local(buffer.parse()?);
     let line = buffer.parse_u32()?;
-    Ok(UserDefinedTypeSourceId {
+    Ok(IdData::UserDefinedTypeSource(UserDefinedTypeSourceId {
         udt,
         source_file,
         line,
-    })
+    }))
 }
 
 #[tactic(auto, unfolding(crate::specs::IdRecords::module_source_at))]
-fn parse_module_source(buffer: &mut ParseBuffer<'_>) -> Result<UserDefinedTypeSourceId>
-    ensures { ParsesFront (λ x. x) result (rest buffer.new) (module_source_at (rest buffer.old)) }
+fn parse_module_source<'t>(buffer: &mut ParseBuffer<'t>) -> Result<IdData<'t>>
+    ensures { ParsesFront id_shape result (rest buffer.new) (as_value forms.UserDefinedTypeSource (module_source_at (rest buffer.old))) }
 {
     let udt = buffer.parse()?;
     let file = StringRef(buffer.parse_u32()?);
     let line = buffer.parse_u32()?;
     let owner = buffer.parse_u16()?;
-    Ok(UserDefinedTypeSourceId {
+    Ok(IdData::UserDefinedTypeSource(UserDefinedTypeSourceId {
         udt,
         source_file: UserDefinedTypeSourceFileRef::Remote(owner, file),
         line,
-    })
+    }))
 }
 
 /// What stands behind a leaf at a record's beginning.
@@ -108,13 +106,13 @@ fn parse_behind<'t>(alloc: Global, buffer: &mut ParseBuffer<'t>, leaf: u16) -> R
     ensures { Gives id_shape ⊥ result (id_form_behind leaf (rest buffer.old)) }
 {
     match leaf {
-        LF_FUNC_ID => Ok(IdData::Function(parse_function(buffer, leaf)?)),
-        LF_MFUNC_ID => Ok(IdData::MemberFunction(parse_member_function(buffer, leaf)?)),
-        LF_BUILDINFO => Ok(IdData::BuildInfo(parse_build_info(alloc, buffer)?)),
-        LF_SUBSTR_LIST => Ok(IdData::StringList(parse_string_list(alloc, buffer)?)),
-        LF_STRING_ID => Ok(IdData::String(parse_string(buffer, leaf)?)),
-        LF_UDT_SRC_LINE => Ok(IdData::UserDefinedTypeSource(parse_source(buffer)?)),
-        LF_UDT_MOD_SRC_LINE => Ok(IdData::UserDefinedTypeSource(parse_module_source(buffer)?)),
+        LF_FUNC_ID => parse_function(buffer, leaf),
+        LF_MFUNC_ID => parse_member_function(buffer, leaf),
+        LF_BUILDINFO => parse_build_info(alloc, buffer),
+        LF_SUBSTR_LIST => parse_string_list(alloc, buffer),
+        LF_STRING_ID => parse_string(buffer, leaf),
+        LF_UDT_SRC_LINE => parse_source(buffer),
+        LF_UDT_MOD_SRC_LINE => parse_module_source(buffer),
         _ => Err(Error::UnimplementedTypeKind(leaf)),
     }
 }

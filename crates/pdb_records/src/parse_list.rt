@@ -4,25 +4,28 @@ ghost use Rattle.std.specs.Prelude.{◌≡◌, ◌<◌, length, IfOk};
 ghost use Rattle.pdb_container.specs.Buffer.{rest, ParsesFront};
 ghost use Rattle.pdb_container.specs.Fault.{Gives};
 ghost use Rattle.pdb_container.specs.Fields.{entries};
-ghost use Rattle.pdb_indices.specs.RecordFields.{GivesFront};
-ghost use Rattle.pdb_records.specs.Shapes.{array_form};
+ghost use Rattle.pdb_indices.specs.RecordFields.{GivesFront, as_value};
+ghost use Rattle.pdb_records.specs.Forms as forms;
+ghost use Rattle.pdb_records.specs.Forms.{Plain};
+ghost use Rattle.pdb_records.specs.Shapes.{shape, plain_shape};
 ghost use Rattle.pdb_records.specs.TypeRecords.{argument_list_at, method_list_entry_at, method_list_at, dimension_at, dimensions_at, stride_at, array_at};
 
 use crate::parse_member::parse_vtable_offset;
 use crate::type_attributes::FieldAttributes;
-use crate::type_data::{ArgumentList, ArrayType, MethodList, MethodListEntry};
+use crate::type_data::{ArgumentList, ArrayType, MethodList, MethodListEntry, TypeData};
 use pdb_container::{Error, ParseBuffer, Result};
 use pdb_indices::{TypeIndex, parse_many, parse_numeric};
 use std::alloc::Global;
 
 /// `LF_ARGLIST`, behind its leaf. `UnexpectedEof`, `OutOfMemory`.
 #[tactic(auto, unfolding(crate::specs::TypeRecords::argument_list_at))]
-pub fn parse_argument_list(alloc: Global, buffer: &mut ParseBuffer<'_>) -> Result<ArgumentList>
-    ensures { GivesFront (λ list. list.arguments.items) result (rest buffer.new) (argument_list_at (rest buffer.old)) }
+pub fn parse_argument_list<'t>(alloc: Global, buffer: &mut ParseBuffer<'t>) -> Result<TypeData<'t>>
+    ensures form { GivesFront plain_shape result (rest buffer.new) (as_value forms.ArgumentList (argument_list_at (rest buffer.old))) }
+    ensures plain { IfOk result (λ t. shape t ≡ Plain (plain_shape t)) }
 {
     let count = buffer.parse_u32()?;
     let arguments = parse_many::<TypeIndex>(alloc, buffer, count)?;
-    Ok(ArgumentList { arguments })
+    Ok(TypeData::ArgumentList(ArgumentList { arguments }))
 }
 
 #[tactic(auto, unfolding(crate::specs::TypeRecords::method_list_entry_at))]
@@ -57,12 +60,13 @@ fn parse_methods(alloc: Global, bytes: &[u8]) -> Result<Vec<MethodListEntry>>
 
 /// `LF_METHODLIST`, behind its leaf. `UnexpectedEof`, `OutOfMemory`.
 #[tactic(auto, unfolding(crate::specs::TypeRecords::method_list_at))]
-pub fn parse_method_list(alloc: Global, buffer: &mut ParseBuffer<'_>) -> Result<MethodList>
-    ensures { GivesFront (λ list. list.methods.items) result (rest buffer.new) (method_list_at (rest buffer.old)) }
+pub fn parse_method_list<'t>(alloc: Global, buffer: &mut ParseBuffer<'t>) -> Result<TypeData<'t>>
+    ensures form { GivesFront plain_shape result (rest buffer.new) (as_value forms.MethodList (method_list_at (rest buffer.old))) }
+    ensures plain { IfOk result (λ t. shape t ≡ Plain (plain_shape t)) }
 {
     let bytes = buffer.take(buffer.len())?;
     let methods = parse_methods(alloc, bytes)?;
-    Ok(MethodList { methods })
+    Ok(TypeData::MethodList(MethodList { methods }))
 }
 
 /// A size in bytes. `UnimplementedFeature` past 32 bits.
@@ -108,21 +112,22 @@ fn parse_stride(buffer: &mut ParseBuffer<'_>, is_strided: bool) -> Result<Option
 /// `LF_ARRAY` or `LF_STRIDED_ARRAY`, behind its leaf. `UnexpectedEof`, `UnexpectedNumericPrefix`,
 /// `UnimplementedFeature` past 32 bits, `OutOfMemory`.
 #[tactic(auto, unfolding(crate::specs::TypeRecords::array_at))]
-pub fn parse_array(
+pub fn parse_array<'t>(
     alloc: Global,
-    buffer: &mut ParseBuffer<'_>,
+    buffer: &mut ParseBuffer<'t>,
     is_strided: bool,
-) -> Result<ArrayType>
-    ensures { GivesFront array_form result (rest buffer.new) (array_at is_strided (rest buffer.old)) }
+) -> Result<TypeData<'t>>
+    ensures form { GivesFront plain_shape result (rest buffer.new) (as_value forms.Array (array_at is_strided (rest buffer.old))) }
+    ensures plain { IfOk result (λ t. shape t ≡ Plain (plain_shape t)) }
 {
     let element_type = buffer.parse()?;
     let indexing_type = buffer.parse()?;
     let stride = parse_stride(buffer, is_strided)?;
     let dimensions = parse_dimensions(alloc, buffer)?;
-    Ok(ArrayType {
+    Ok(TypeData::Array(ArrayType {
         element_type,
         indexing_type,
         stride,
         dimensions,
-    })
+    }))
 }

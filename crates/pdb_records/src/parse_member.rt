@@ -1,84 +1,87 @@
 //! Records of members, behind their leaves. Each is refused with `UnexpectedEof` where bytes are missing, and with
 //! `UnexpectedNumericPrefix` where a numeric leaf begins no number.
 
+ghost use Rattle.std.specs.Prelude.{◌≡◌, IfOk};
 ghost use Rattle.pdb_container.specs.Buffer.{rest, ParsesFront};
-ghost use Rattle.pdb_records.specs.Shapes.{enumerate_form, member_form, static_member_form, overloaded_method_form, method_form, nested_form};
+ghost use Rattle.pdb_indices.specs.RecordFields.{as_value};
+ghost use Rattle.pdb_records.specs.Forms as forms;
+ghost use Rattle.pdb_records.specs.Forms.{Plain};
+ghost use Rattle.pdb_records.specs.Shapes.{shape, plain_shape};
 ghost use Rattle.pdb_records.specs.TypeRecords.{enumerate_at, member_at, static_member_at, overloaded_method_at, vtable_offset_at, method_at, nested_at, base_class_at, virtual_base_class_at, virtual_function_table_pointer_at};
 
 use crate::type_attributes::FieldAttributes;
 use crate::type_data::{
     BaseClassType, ClassKind, EnumerateType, MemberType, MethodType, NestedType,
-    OverloadedMethodType, StaticMemberType, VirtualBaseClassType, VirtualFunctionTablePointerType,
+    OverloadedMethodType, StaticMemberType, TypeData, VirtualBaseClassType,
+    VirtualFunctionTablePointerType,
 };
 use pdb_container::{ParseBuffer, Result};
 use pdb_indices::{parse_name, parse_numeric, parse_variant};
 
 /// `LF_ENUMERATE`: a value of an enumeration.
 #[tactic(auto, unfolding(crate::specs::TypeRecords::enumerate_at))]
-pub fn parse_enumerate<'t>(buffer: &mut ParseBuffer<'t>, leaf: u16) -> Result<EnumerateType<'t>>
-    ensures { ParsesFront enumerate_form result (rest buffer.new) (enumerate_at leaf (rest buffer.old)) }
+pub fn parse_enumerate<'t>(buffer: &mut ParseBuffer<'t>, leaf: u16) -> Result<TypeData<'t>>
+    ensures form { ParsesFront plain_shape result (rest buffer.new) (as_value forms.Enumerate (enumerate_at leaf (rest buffer.old))) }
+    ensures plain { IfOk result (λ t. shape t ≡ Plain (plain_shape t)) }
 {
     let attributes = FieldAttributes::new(buffer.parse_u16()?);
     let value = parse_variant(buffer)?;
     let name = parse_name(buffer, leaf)?;
-    Ok(EnumerateType {
+    Ok(TypeData::Enumerate(EnumerateType {
         attributes,
         value,
         name,
-    })
+    }))
 }
 
 /// `LF_MEMBER`: a data member.
 #[tactic(auto, unfolding(crate::specs::TypeRecords::member_at))]
-pub fn parse_data_member<'t>(buffer: &mut ParseBuffer<'t>, leaf: u16) -> Result<MemberType<'t>>
-    ensures { ParsesFront member_form result (rest buffer.new) (member_at leaf (rest buffer.old)) }
+pub fn parse_data_member<'t>(buffer: &mut ParseBuffer<'t>, leaf: u16) -> Result<TypeData<'t>>
+    ensures form { ParsesFront plain_shape result (rest buffer.new) (as_value forms.Member (member_at leaf (rest buffer.old))) }
+    ensures plain { IfOk result (λ t. shape t ≡ Plain (plain_shape t)) }
 {
     let attributes = FieldAttributes::new(buffer.parse_u16()?);
     let field_type = buffer.parse()?;
     let offset = parse_numeric(buffer)?;
     let name = parse_name(buffer, leaf)?;
-    Ok(MemberType {
+    Ok(TypeData::Member(MemberType {
         attributes,
         field_type,
         offset,
         name,
-    })
+    }))
 }
 
 /// `LF_STMEMBER`: a static data member.
 #[tactic(auto, unfolding(crate::specs::TypeRecords::static_member_at))]
-pub fn parse_static_member<'t>(
-    buffer: &mut ParseBuffer<'t>,
-    leaf: u16,
-) -> Result<StaticMemberType<'t>>
-    ensures { ParsesFront static_member_form result (rest buffer.new) (static_member_at leaf (rest buffer.old)) }
+pub fn parse_static_member<'t>(buffer: &mut ParseBuffer<'t>, leaf: u16) -> Result<TypeData<'t>>
+    ensures form { ParsesFront plain_shape result (rest buffer.new) (as_value forms.StaticMember (static_member_at leaf (rest buffer.old))) }
+    ensures plain { IfOk result (λ t. shape t ≡ Plain (plain_shape t)) }
 {
     let attributes = FieldAttributes::new(buffer.parse_u16()?);
     let field_type = buffer.parse()?;
     let name = parse_name(buffer, leaf)?;
-    Ok(StaticMemberType {
+    Ok(TypeData::StaticMember(StaticMemberType {
         attributes,
         field_type,
         name,
-    })
+    }))
 }
 
 /// `LF_METHOD`: methods of one name.
 #[tactic(auto, unfolding(crate::specs::TypeRecords::overloaded_method_at))]
-pub fn parse_overloaded_method<'t>(
-    buffer: &mut ParseBuffer<'t>,
-    leaf: u16,
-) -> Result<OverloadedMethodType<'t>>
-    ensures { ParsesFront overloaded_method_form result (rest buffer.new) (overloaded_method_at leaf (rest buffer.old)) }
+pub fn parse_overloaded_method<'t>(buffer: &mut ParseBuffer<'t>, leaf: u16) -> Result<TypeData<'t>>
+    ensures form { ParsesFront plain_shape result (rest buffer.new) (as_value forms.OverloadedMethod (overloaded_method_at leaf (rest buffer.old))) }
+    ensures plain { IfOk result (λ t. shape t ≡ Plain (plain_shape t)) }
 {
     let count = buffer.parse_u16()?;
     let method_list = buffer.parse()?;
     let name = parse_name(buffer, leaf)?;
-    Ok(OverloadedMethodType {
+    Ok(TypeData::OverloadedMethod(OverloadedMethodType {
         count,
         method_list,
         name,
-    })
+    }))
 }
 
 /// The offset in the virtual function table, in bytes, of a method that introduces one.
@@ -97,83 +100,88 @@ pub fn parse_vtable_offset(
 
 /// `LF_ONEMETHOD`: a method that is alone of its name.
 #[tactic(auto, unfolding(crate::specs::TypeRecords::method_at))]
-pub fn parse_method<'t>(buffer: &mut ParseBuffer<'t>, leaf: u16) -> Result<MethodType<'t>>
-    ensures { ParsesFront method_form result (rest buffer.new) (method_at leaf (rest buffer.old)) }
+pub fn parse_method<'t>(buffer: &mut ParseBuffer<'t>, leaf: u16) -> Result<TypeData<'t>>
+    ensures form { ParsesFront plain_shape result (rest buffer.new) (as_value forms.Method (method_at leaf (rest buffer.old))) }
+    ensures plain { IfOk result (λ t. shape t ≡ Plain (plain_shape t)) }
 {
     let attributes = FieldAttributes::new(buffer.parse_u16()?);
     let method_type = buffer.parse()?;
     let vtable_offset = parse_vtable_offset(buffer, attributes)?;
     let name = parse_name(buffer, leaf)?;
-    Ok(MethodType {
+    Ok(TypeData::Method(MethodType {
         attributes,
         method_type,
         vtable_offset,
         name,
-    })
+    }))
 }
 
 /// `LF_NESTTYPE`, `LF_NESTTYPEEX`: a nested type.
 #[tactic(auto, unfolding(crate::specs::TypeRecords::nested_at))]
-pub fn parse_nested<'t>(buffer: &mut ParseBuffer<'t>, leaf: u16) -> Result<NestedType<'t>>
-    ensures { ParsesFront nested_form result (rest buffer.new) (nested_at leaf (rest buffer.old)) }
+pub fn parse_nested<'t>(buffer: &mut ParseBuffer<'t>, leaf: u16) -> Result<TypeData<'t>>
+    ensures form { ParsesFront plain_shape result (rest buffer.new) (as_value forms.Nested (nested_at leaf (rest buffer.old))) }
+    ensures plain { IfOk result (λ t. shape t ≡ Plain (plain_shape t)) }
 {
     let attributes = FieldAttributes::new(buffer.parse_u16()?);
     let nested_type = buffer.parse()?;
     let name = parse_name(buffer, leaf)?;
-    Ok(NestedType {
+    Ok(TypeData::Nested(NestedType {
         attributes,
         nested_type,
         name,
-    })
+    }))
 }
 
 /// `LF_BCLASS`, `LF_BINTERFACE`: a base class.
 #[tactic(auto, unfolding(crate::specs::TypeRecords::base_class_at))]
-pub fn parse_base_class(buffer: &mut ParseBuffer<'_>, kind: ClassKind) -> Result<BaseClassType>
-    ensures { ParsesFront (λ x. x) result (rest buffer.new) (base_class_at kind (rest buffer.old)) }
+pub fn parse_base_class<'t>(buffer: &mut ParseBuffer<'t>, kind: ClassKind) -> Result<TypeData<'t>>
+    ensures form { ParsesFront plain_shape result (rest buffer.new) (as_value forms.BaseClass (base_class_at kind (rest buffer.old))) }
+    ensures plain { IfOk result (λ t. shape t ≡ Plain (plain_shape t)) }
 {
     let attributes = FieldAttributes::new(buffer.parse_u16()?);
     let base_class = buffer.parse()?;
     let offset = parse_numeric(buffer)?;
-    Ok(BaseClassType {
+    Ok(TypeData::BaseClass(BaseClassType {
         kind,
         attributes,
         base_class,
         offset,
-    })
+    }))
 }
 
 /// `LF_VBCLASS` (direct), `LF_IVBCLASS`: a virtual base class.
 #[tactic(auto, unfolding(crate::specs::TypeRecords::virtual_base_class_at))]
-pub fn parse_virtual_base_class(
-    buffer: &mut ParseBuffer<'_>,
+pub fn parse_virtual_base_class<'t>(
+    buffer: &mut ParseBuffer<'t>,
     direct: bool,
-) -> Result<VirtualBaseClassType>
-    ensures { ParsesFront (λ x. x) result (rest buffer.new) (virtual_base_class_at direct (rest buffer.old)) }
+) -> Result<TypeData<'t>>
+    ensures form { ParsesFront plain_shape result (rest buffer.new) (as_value forms.VirtualBaseClass (virtual_base_class_at direct (rest buffer.old))) }
+    ensures plain { IfOk result (λ t. shape t ≡ Plain (plain_shape t)) }
 {
     let attributes = FieldAttributes::new(buffer.parse_u16()?);
     let base_class = buffer.parse()?;
     let base_pointer = buffer.parse()?;
     let base_pointer_offset = parse_numeric(buffer)?;
     let virtual_base_offset = parse_numeric(buffer)?;
-    Ok(VirtualBaseClassType {
+    Ok(TypeData::VirtualBaseClass(VirtualBaseClassType {
         direct,
         attributes,
         base_class,
         base_pointer,
         base_pointer_offset,
         virtual_base_offset,
-    })
+    }))
 }
 
 /// `LF_VFUNCTAB`: the pointer to a virtual function table.
 #[tactic(auto, unfolding(crate::specs::TypeRecords::virtual_function_table_pointer_at))]
-pub fn parse_virtual_function_table_pointer(
-    buffer: &mut ParseBuffer<'_>,
-) -> Result<VirtualFunctionTablePointerType>
-    ensures { ParsesFront (λ x. x) result (rest buffer.new) (virtual_function_table_pointer_at (rest buffer.old)) }
+pub fn parse_virtual_function_table_pointer<'t>(
+    buffer: &mut ParseBuffer<'t>,
+) -> Result<TypeData<'t>>
+    ensures form { ParsesFront plain_shape result (rest buffer.new) (as_value forms.VirtualFunctionTablePointer (virtual_function_table_pointer_at (rest buffer.old))) }
+    ensures plain { IfOk result (λ t. shape t ≡ Plain (plain_shape t)) }
 {
     buffer.parse_u16()?;
     let table = buffer.parse()?;
-    Ok(VirtualFunctionTablePointerType { table })
+    Ok(TypeData::VirtualFunctionTablePointer(VirtualFunctionTablePointerType { table }))
 }

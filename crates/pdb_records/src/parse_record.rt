@@ -31,16 +31,12 @@ fn parse_aggregate<'t>(buffer: &mut ParseBuffer<'t>, leaf: u16) -> Result<TypeDa
     ensures plain { IfOk result (λ t. shape t ≡ Plain (plain_shape t)) }
 {
     match leaf {
-        LF_CLASS | LF_CLASS_ST => Ok(TypeData::Class(parse_class(buffer, leaf, ClassKind::Class)?)),
-        LF_STRUCTURE | LF_STRUCTURE_ST => Ok(TypeData::Class(parse_class(
-            buffer,
-            leaf,
-            ClassKind::Struct,
-        )?)),
-        LF_INTERFACE => Ok(TypeData::Class(parse_class(buffer, leaf, ClassKind::Interface)?)),
-        LF_STRUCTURE19 => Ok(TypeData::Class(parse_newer_struct(buffer, leaf)?)),
-        LF_UNION | LF_UNION_ST => Ok(TypeData::Union(parse_union(buffer, leaf)?)),
-        LF_ENUM | LF_ENUM_ST => Ok(TypeData::Enumeration(parse_enumeration(buffer, leaf)?)),
+        LF_CLASS | LF_CLASS_ST => parse_class(buffer, leaf, ClassKind::Class),
+        LF_STRUCTURE | LF_STRUCTURE_ST => parse_class(buffer, leaf, ClassKind::Struct),
+        LF_INTERFACE => parse_class(buffer, leaf, ClassKind::Interface),
+        LF_STRUCTURE19 => parse_newer_struct(buffer, leaf),
+        LF_UNION | LF_UNION_ST => parse_union(buffer, leaf),
+        LF_ENUM | LF_ENUM_ST => parse_enumeration(buffer, leaf),
         _ => Err(Error::UnimplementedTypeKind(leaf)),
     }
 }
@@ -52,15 +48,15 @@ fn parse_type<'t>(alloc: Global, buffer: &mut ParseBuffer<'t>, leaf: u16) -> Res
     ensures plain { IfOk result (λ t. shape t ≡ Plain (plain_shape t)) }
 {
     match leaf {
-        LF_MODIFIER => Ok(TypeData::Modifier(parse_modifier(buffer)?)),
-        LF_POINTER => Ok(TypeData::Pointer(parse_pointer(buffer)?)),
-        LF_PROCEDURE => Ok(TypeData::Procedure(parse_procedure(buffer)?)),
-        LF_MFUNCTION => Ok(TypeData::MemberFunction(parse_member_function(buffer)?)),
-        LF_BITFIELD => Ok(TypeData::Bitfield(parse_bitfield(buffer)?)),
-        LF_ARGLIST => Ok(TypeData::ArgumentList(parse_argument_list(alloc, buffer)?)),
-        LF_METHODLIST => Ok(TypeData::MethodList(parse_method_list(alloc, buffer)?)),
-        LF_ARRAY | LF_ARRAY_ST => Ok(TypeData::Array(parse_array(alloc, buffer, false)?)),
-        LF_STRIDED_ARRAY => Ok(TypeData::Array(parse_array(alloc, buffer, true)?)),
+        LF_MODIFIER => parse_modifier(buffer),
+        LF_POINTER => parse_pointer(buffer),
+        LF_PROCEDURE => parse_procedure(buffer),
+        LF_MFUNCTION => parse_member_function(buffer),
+        LF_BITFIELD => parse_bitfield(buffer),
+        LF_ARGLIST => parse_argument_list(alloc, buffer),
+        LF_METHODLIST => parse_method_list(alloc, buffer),
+        LF_ARRAY | LF_ARRAY_ST => parse_array(alloc, buffer, false),
+        LF_STRIDED_ARRAY => parse_array(alloc, buffer, true),
         _ => parse_aggregate(buffer, leaf),
     }
 }
@@ -72,13 +68,11 @@ fn parse_base<'t>(alloc: Global, buffer: &mut ParseBuffer<'t>, leaf: u16) -> Res
     ensures plain { IfOk result (λ t. shape t ≡ Plain (plain_shape t)) }
 {
     match leaf {
-        LF_BCLASS => Ok(TypeData::BaseClass(parse_base_class(buffer, ClassKind::Class)?)),
-        LF_BINTERFACE => Ok(TypeData::BaseClass(parse_base_class(buffer, ClassKind::Interface)?)),
-        LF_VBCLASS => Ok(TypeData::VirtualBaseClass(parse_virtual_base_class(buffer, true)?)),
-        LF_IVBCLASS => Ok(TypeData::VirtualBaseClass(parse_virtual_base_class(buffer, false)?)),
-        LF_VFUNCTAB => Ok(TypeData::VirtualFunctionTablePointer(
-            parse_virtual_function_table_pointer(buffer)?,
-        )),
+        LF_BCLASS => parse_base_class(buffer, ClassKind::Class),
+        LF_BINTERFACE => parse_base_class(buffer, ClassKind::Interface),
+        LF_VBCLASS => parse_virtual_base_class(buffer, true),
+        LF_IVBCLASS => parse_virtual_base_class(buffer, false),
+        LF_VFUNCTAB => parse_virtual_function_table_pointer(buffer),
         _ => parse_type(alloc, buffer, leaf),
     }
 }
@@ -90,18 +84,14 @@ fn parse_plain<'t>(alloc: Global, buffer: &mut ParseBuffer<'t>, leaf: u16) -> Re
     ensures plain { IfOk result (λ t. shape t ≡ Plain (plain_shape t)) }
 {
     match leaf {
-        LF_ENUMERATE | LF_ENUMERATE_ST => Ok(TypeData::Enumerate(parse_enumerate(buffer, leaf)?)),
-        LF_MEMBER | LF_MEMBER_ST => Ok(TypeData::Member(parse_data_member(buffer, leaf)?)),
-        LF_STMEMBER | LF_STMEMBER_ST => Ok(TypeData::StaticMember(parse_static_member(
+        LF_ENUMERATE | LF_ENUMERATE_ST => parse_enumerate(buffer, leaf),
+        LF_MEMBER | LF_MEMBER_ST => parse_data_member(buffer, leaf),
+        LF_STMEMBER | LF_STMEMBER_ST => parse_static_member(buffer, leaf),
+        LF_METHOD | LF_METHOD_ST => parse_overloaded_method(buffer, leaf),
+        LF_ONEMETHOD | LF_ONEMETHOD_ST => parse_method(buffer, leaf),
+        LF_NESTTYPE | LF_NESTTYPEEX | LF_NESTTYPE_ST | LF_NESTTYPEEX_ST => parse_nested(
             buffer, leaf,
-        )?)),
-        LF_METHOD | LF_METHOD_ST => Ok(TypeData::OverloadedMethod(parse_overloaded_method(
-            buffer, leaf,
-        )?)),
-        LF_ONEMETHOD | LF_ONEMETHOD_ST => Ok(TypeData::Method(parse_method(buffer, leaf)?)),
-        LF_NESTTYPE | LF_NESTTYPEEX | LF_NESTTYPE_ST | LF_NESTTYPEEX_ST => Ok(TypeData::Nested(
-            parse_nested(buffer, leaf)?,
-        )),
+        ),
         _ => parse_base(alloc, buffer, leaf),
     }
 }

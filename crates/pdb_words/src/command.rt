@@ -1,7 +1,7 @@
 //! The command that the program's words are read by, with its help.
 
 ghost use Rattle.std.specs.Prelude.{◌≡◌, IfOk, false};
-ghost use Rattle.clap.specs.Words.{app_of, new_app, rule_of};
+ghost use Rattle.clap.specs.Words.{app_of, new_app, rule_of, with_subcommand};
 ghost use Rattle.clap.specs.declared.builder.command.Command.TheViews.{out-Command as fields_of};
 ghost use Rattle.pdb_words.specs.Task.{program_app, frames_app, sizes_app, bare_app, needed};
 
@@ -79,12 +79,10 @@ fn sizes_command<'a>(alloc: Global) -> Result<Command<'a>, AllocError>
     ensures app { IfOk result (λ c. app_of c ≡ sizes_app) }
     ensures local { IfOk result (λ c. (fields_of c).has_globals ≡ false) }
 {
-    let file = needed_word(alloc, "FILE", FILE_HELP);
-    let start = needed_word(alloc, "START", START_HELP);
-    let end = needed_word(alloc, "END", END_HELP);
-    let with_file = described(alloc, "sizes", SIZES_ABOUT, SIZES_EXAMPLE).arg(file)?;
-    let with_start = with_file.arg(start)?;
-    let with_end = with_start.arg(end)?;
+    let bare = described(alloc, "sizes", SIZES_ABOUT, SIZES_EXAMPLE);
+    let with_file = bare.arg(needed_word(alloc, "FILE", FILE_HELP))?;
+    let with_start = with_file.arg(needed_word(alloc, "START", START_HELP))?;
+    let with_end = with_start.arg(needed_word(alloc, "END", END_HELP))?;
     Ok(with_end)
 }
 
@@ -100,13 +98,18 @@ fn bare_command<'a>(alloc: Global) -> Result<Command<'a>, AllocError>
         .bin_name("pdb_symbolizer")
 }
 
+/// The program's command with `frames`.
+fn command_with_frames<'a>(alloc: Global) -> Result<Command<'a>, AllocError>
+    ensures app { IfOk result (λ c. app_of c ≡ with_subcommand bare_app frames_app.top) }
+{
+    let frames = frames_command(alloc)?;
+    bare_command(alloc)?.subcommand(frames)
+}
+
 /// The program's command, with `frames` and `sizes`.
 pub(crate) fn program<'a>(alloc: Global) -> Result<Command<'a>, AllocError>
     ensures app { IfOk result (λ c. app_of c ≡ program_app) }
 {
-    let frames = frames_command(alloc)?;
     let sizes = sizes_command(alloc)?;
-    let with_frames = bare_command(alloc)?.subcommand(frames)?;
-    let with_sizes = with_frames.subcommand(sizes)?;
-    Ok(with_sizes)
+    command_with_frames(alloc)?.subcommand(sizes)
 }

@@ -1,4 +1,7 @@
-use Rattle.std.proofs.Common.{rules, arith, ◌∙◌, take, [], append-nil, sym, refl}
+use Rattle.std.proofs.Common.{rules, arith, ◌∙◌, take, [], append-nil, sym, subst, refl}
+use Rattle.std.specs.declared.io.ErrorKind.{ErrorKind}
+use Rattle.pdb_engine.specs.Watched.{CountsFailure}
+use Rattle.pdb_engine.proofs.Faults.{of_running, no_read, no_length, no_write, read_failed, counted_behind, write_behind}
 use Rattle.pdb_engine.proofs.Pumped.{taken_more, taken_too_long, taken_part}
 use Rattle.pdb_engine.proofs.engine.pump.Goals as goal
 
@@ -25,3 +28,43 @@ chunks-preserved g c = record {
   quiet_reader = search rules;
   quiet_writer = search rules;
 }
+
+pub returns-in-Err-clause-kind : goal.returns-in-Err-clause-kind
+returns-in-Err-clause-kind g c = c.read_fault.ensures.kind
+
+pub returns-in-Err-clause-read_fails : goal.returns-in-Err-clause-read_fails
+returns-in-Err-clause-read_fails g c =
+    read_failed _ _ _ c.read_fault.ensures.value (subst (λ (kind : ErrorKind). CountsFailure c.args.reader.now c.read.new.self kind) (sym c.kind.ensures) (counted_behind _ _ _ _ c.chunks.invariant.quiet_reader c.in-Err.ensures.watch))
+
+pub returns-in-Err-clause-write_fails : goal.returns-in-Err-clause-write_fails
+returns-in-Err-clause-write_fails g c = no_write _ _ _ c.read_fault.ensures.value
+
+pub returns-in-Err-feed-clause-kind : goal.returns-in-Err-feed-clause-kind
+returns-in-Err-feed-clause-kind g c = of_running _ c.in-Err-feed.ensures.kind
+
+pub returns-in-Err-feed-clause-read_fails : goal.returns-in-Err-feed-clause-read_fails
+returns-in-Err-feed-clause-read_fails g c = no_read _ _ c.in-Err-feed.ensures.kind
+
+pub returns-in-Err-feed-clause-write_fails : goal.returns-in-Err-feed-clause-write_fails
+returns-in-Err-feed-clause-write_fails g c = write_behind _ _ _ _ c.chunks.invariant.quiet_writer c.in-Err-feed.ensures.fails
+
+pub returns-in-Err-feed-clause-read_out : goal.returns-in-Err-feed-clause-read_out
+returns-in-Err-feed-clause-read_out g c = no_read _ _ c.in-Err-feed.ensures.kind
+
+pub returns-in-Err-feed-clause-too_long : goal.returns-in-Err-feed-clause-too_long
+returns-in-Err-feed-clause-too_long g c = no_length _ _ c.in-Err-feed.ensures.kind
+
+pub returns-in-Err-feed-2-clause-kind : goal.returns-in-Err-feed-2-clause-kind
+returns-in-Err-feed-2-clause-kind g c = of_running _ c.in-Err-feed-2.ensures.kind
+
+pub returns-in-Err-feed-2-clause-read_fails : goal.returns-in-Err-feed-2-clause-read_fails
+returns-in-Err-feed-2-clause-read_fails g c = no_read _ _ c.in-Err-feed-2.ensures.kind
+
+pub returns-in-Err-feed-2-clause-write_fails : goal.returns-in-Err-feed-2-clause-write_fails
+returns-in-Err-feed-2-clause-write_fails g c = write_behind _ _ _ _ c.chunks.invariant.quiet_writer c.in-Err-feed-2.ensures.fails
+
+pub returns-in-Err-feed-2-clause-read_out : goal.returns-in-Err-feed-2-clause-read_out
+returns-in-Err-feed-2-clause-read_out g c = no_read _ _ c.in-Err-feed-2.ensures.kind
+
+pub returns-in-Err-feed-2-clause-too_long : goal.returns-in-Err-feed-2-clause-too_long
+returns-in-Err-feed-2-clause-too_long g c = no_length _ _ c.in-Err-feed-2.ensures.kind
