@@ -5,7 +5,7 @@ use Rattle.std.proofs.lemmas.List.{take_more}
 use Rattle.pdb_container.specs.declared.error.Error.{Error}
 use Rattle.pdb_container.specs.declared.error.Error.TheVariants as errors
 use Rattle.pdb_container.specs.Fault.{Fault, fault_of, kept_of, IsOutside, HasRisen}
-use Rattle.pdb_modules.specs.ModuleStream.{ModuleStream}
+use Rattle.pdb_symbols_modules.specs.ModuleStream.{ModuleStream}
 use Rattle.pdb_addr2line.specs.Kept.{KeptInfo, kept_info, kept_as, if_read, Keeps, IsStreamFault, FailsAsStream}
 use Rattle.pdb_addr2line.specs.Held.{kept_infos}
 use Rattle.pdb_symbols_modules.specs.Modules.{Module}

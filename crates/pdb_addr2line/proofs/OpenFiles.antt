@@ -7,7 +7,7 @@ use Rattle.pdb_container.specs.Container.{Layout, layout_of, words, pages_in, di
 use Rattle.pdb_container.specs.Fault.{Fault, ◌>>=◌, guard, refuse, StreamNotFound, PageReferenceOutOfRange, IoError, UnexpectedEof}
 use Rattle.pdb_container.specs.Places.{bytes_at}
 use Rattle.pdb_addr2line.specs.Kept.{IsStreamFault, FailsAsStream}
-use Rattle.pdb_modules.specs.ModuleStream.{ModuleStream}
+use Rattle.pdb_symbols_modules.specs.ModuleStream.{ModuleStream}
 use Rattle.pdb_symbols_modules.specs.Dbi.{Dbi}
 use Rattle.pdb_symbols_modules.specs.Modules.{Module}
 use Rattle.pdb_symbols_modules.specs.DatabaseCalls.{debug_information, module_info}

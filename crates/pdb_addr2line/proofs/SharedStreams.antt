@@ -8,7 +8,7 @@ use Rattle.std.specs.Ordering.{nat_cmp}
 use Rattle.std.proofs.lemmas.Option.{same_Some}
 use Rattle.std.proofs.lemmas.Map.Lookups.{CmpEqualImpliesEq}
 use Rattle.pdb_container.specs.Fault.{Fault, ◌>>=◌, HasRisen}
-use Rattle.pdb_modules.specs.ModuleStream.{ModuleStream}
+use Rattle.pdb_symbols_modules.specs.ModuleStream.{ModuleStream}
 use Rattle.pdb_addr2line.specs.Kept.{KeptInfo, kept_info}
 use Rattle.pdb_addr2line.specs.Sharing.{in_parts_of, IsOfStream, AreOfStreams, IsShared}
 use Rattle.pdb_symbols_modules.specs.DatabaseCalls.{module_info}

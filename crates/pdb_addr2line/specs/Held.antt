@@ -3,7 +3,7 @@ use Rattle.std.specs.Prelude.{◌≡◌, ℕ, ◌⊎◌, List, Option, map, Resu
 use Rattle.pdb_addr2line.specs.Kept.{KeptInfo, kept_info, answered, answered_at, if_read}
 use Rattle.pdb_addr2line.specs.Loading.{Tables, Loaded}
 use Rattle.pdb_container.specs.Fault.{Fault}
-use Rattle.pdb_modules.specs.ModuleStream.{ModuleStream}
+use Rattle.pdb_symbols_modules.specs.ModuleStream.{ModuleStream}
 use Rattle.pdb_symbols_modules.specs.Dbi.{Dbi}
 use Rattle.pdb_symbols_modules.specs.Modules.{Module}
 use Rattle.pdb_symbols_modules.specs.DatabaseCalls.{names, module_info}

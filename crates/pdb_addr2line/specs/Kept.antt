@@ -5,7 +5,7 @@ use Rattle.pdb_container.specs.declared.error.Error.TheVariants as errors
 use Rattle.pdb_container.specs.declared.error.ModuleFault.{ModuleFault}
 use Rattle.pdb_container.specs.declared.error.ModuleFault.TheVariants as kept
 use Rattle.pdb_container.specs.Fault.{Fault, StreamNotFound, PageReferenceOutOfRange, IoError, UnexpectedEof, Kept, HasRisen}
-use Rattle.pdb_modules.specs.ModuleStream.{ModuleStream}
+use Rattle.pdb_symbols_modules.specs.ModuleStream.{ModuleStream}
 
 -- what is kept of a module: its own stream, where it has one, or why that can't be read
 abbrev pub KeptInfo : Type 0

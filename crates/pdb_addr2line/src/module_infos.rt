@@ -13,9 +13,8 @@ ghost use Rattle.pdb_symbols_modules.specs.Shared.{shared};
 ghost use Rattle.pdb_symbols_modules.specs.Streams.{streams};
 
 use pdb_container::{Error, FallibleIterator, ModuleFault, Result, Source};
-use pdb_modules::ModuleInfo;
 use pdb_resolving::ModuleProvider;
-use pdb_symbols_modules::{DebugInformation, Module, ModuleIter, PDB};
+use pdb_symbols_modules::{DebugInformation, Module, ModuleInfo, ModuleIter, PDB};
 use std::alloc::Global;
 use std::collections::BTreeMap;
 use std::marker::Model;

@@ -15,7 +15,7 @@ ghost use Rattle.pdb_known_modules.specs.Modules.{module_data, own_of, procedure
 ghost use Rattle.pdb_frames.specs.Runs.{bounds_near, database_of, function_here as function_at_place, procedures_of};
 ghost use Rattle.pdb_frames.specs.Seen.{chosen_seen};
 ghost use Rattle.pdb_functions.specs.Databases.{IsOneRun, place_of as as_place};
-ghost use Rattle.pdb_type_printing.specs.Printing.{env_of};
+ghost use Rattle.pdb_type_text.specs.Printing.{env_of};
 
 use pdb_addresses::{AddressMap, ImageSectionHeader, PdbInternalSectionOffset, Rva};
 use pdb_container::StringTable;

@@ -4,7 +4,7 @@ use Rattle.std.specs.Prelude.{Option}
 use Rattle.pdb_container.specs.Fault as container
 use Rattle.pdb_container.specs.Fault.{◌>>=◌}
 use Rattle.pdb_addresses.specs.declared.internal_section_offset.PdbInternalSectionOffset.{PdbInternalSectionOffset}
-use Rattle.pdb_modules.specs.ModuleStream.{ModuleStream, iteration_in}
+use Rattle.pdb_symbols_modules.specs.ModuleStream.{ModuleStream, iteration_in}
 use Rattle.pdb_module_data.specs.declared.function_rows.LineRow.{LineRow}
 use Rattle.pdb_module_data.specs.Forest.{Site, sites_of}
 use Rattle.pdb_module_data.specs.FunctionLine.{function_rows, row_at}

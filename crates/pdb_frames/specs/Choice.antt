@@ -6,11 +6,11 @@ use Rattle.pdb_addresses.specs.declared.internal_section_offset.PdbInternalSecti
 use Rattle.pdb_addresses.specs.Addresses.{Map, inner_place, outer_of_place}
 use Rattle.pdb_addresses.specs.Numbers.{in_32_bits}
 use Rattle.pdb_addresses.specs.Places.{internal_place}
-use Rattle.pdb_modules.specs.ModuleStream.{ModuleStream}
+use Rattle.pdb_symbols_modules.specs.ModuleStream.{ModuleStream}
 use Rattle.pdb_contributions.specs.declared.contribution.ModuleSectionContribution.{ModuleSectionContribution}
 use Rattle.pdb_public_list.specs.Publics.{PublicFunction, public_exactly, public_over, next_public}
 use Rattle.pdb_module_data.specs.Procedures.{Procedure, over}
-use Rattle.pdb_type_printing.specs.Env.{Env}
+use Rattle.pdb_type_text.specs.Env.{Env}
 use Rattle.pdb_names.specs.Names.{is_decorated, typed_name}
 
 -- what every question goes over: the ways between addresses, what modules hold, the public list, and the string table, if

@@ -5,7 +5,7 @@ use Rattle.pdb_addresses.specs.declared.internal_section_offset.PdbInternalSecti
 use Rattle.pdb_addresses.specs.Addresses.{outer_of_place}
 use Rattle.pdb_addresses.specs.Numbers.{in_32_bits}
 use Rattle.pdb_lines.specs.LinesSubsections.{Program}
-use Rattle.pdb_modules.specs.ModuleStream.{ModuleStream}
+use Rattle.pdb_symbols_modules.specs.ModuleStream.{ModuleStream}
 use Rattle.pdb_inlinees.specs.Inlinees.{InlinedFunction}
 use Rattle.pdb_contributions.specs.declared.contribution.ModuleSectionContribution.{ModuleSectionContribution}
 use Rattle.pdb_contributions.specs.Contributions.{holder}
@@ -14,7 +14,7 @@ use Rattle.pdb_module_data.specs.declared.function_rows.LineRow.{LineRow}
 use Rattle.pdb_module_data.specs.declared.inlined_calls.InlinedCall.{InlinedCall}
 use Rattle.pdb_module_data.specs.FunctionLine.{file_text, function_row}
 use Rattle.pdb_resolving.specs.Fault.{Fault, lifted}
-use Rattle.pdb_type_printing.specs.Env.{Env}
+use Rattle.pdb_type_text.specs.Env.{Env}
 use Rattle.pdb_type_text.specs.Ids.{id_text}
 use Rattle.pdb_names.specs.Names.{if_made}
 use Rattle.pdb_functions.specs.Frames.{Frame, FunctionFrames}

@@ -4,7 +4,7 @@ ghost use Rattle.std.specs.Prelude.{◌≡◌, IfOk, option_map, string_bytes};
 ghost use Rattle.pdb_container.specs.RawString.{raw_bytes};
 ghost use Rattle.pdb_frames.specs.Choice.{name_of as name_of_chosen, procedure_name as name_of_procedure, public_name as public_name_of};
 ghost use Rattle.pdb_frames.specs.Seen.{chosen_seen};
-ghost use Rattle.pdb_type_printing.specs.Printing.{env_of};
+ghost use Rattle.pdb_type_text.specs.Printing.{env_of};
 
 use crate::choice::Chosen;
 use crate::parts::ContextParts;

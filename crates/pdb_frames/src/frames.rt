@@ -7,7 +7,7 @@ ghost use Rattle.pdb_module_data.specs.FunctionLine.{file_text, function_row, ro
 ghost use Rattle.pdb_module_data.specs.InlinedCalls.{call_rows, calls_over};
 ghost use Rattle.pdb_module_data.specs.InlinePieces.{StandForSites};
 ghost use Rattle.pdb_resolving.specs.Fault.{Answers};
-ghost use Rattle.pdb_type_printing.specs.Printing.{env_of};
+ghost use Rattle.pdb_type_text.specs.Printing.{env_of};
 ghost use Rattle.pdb_frames.specs.Choice as choice;
 ghost use Rattle.pdb_frames.specs.Frames.{frames_in as frames_of_module, frames_in_data as frames_of_data, row_and_calls, call_frame as frame_of_call, function_frame as frame_of_function};
 ghost use Rattle.pdb_known_modules.specs.Modules.{extended_of};

@@ -6,7 +6,7 @@ use Rattle.pdb_addresses.specs.declared.internal_section_offset.PdbInternalSecti
 use Rattle.pdb_symbols.specs.Iteration.{symbols_left}
 use Rattle.pdb_lines.specs.LinesSubsections.{Program}
 use Rattle.pdb_inlinees.specs.Inlinees.{InlinedFunction}
-use Rattle.pdb_modules.specs.ModuleStream.{ModuleStream, iteration_in, line_program_in, inlinees_in}
+use Rattle.pdb_symbols_modules.specs.ModuleStream.{ModuleStream, iteration_in, line_program_in, inlinees_in}
 use Rattle.pdb_module_data.specs.declared.function_rows.LineRow.{LineRow}
 use Rattle.pdb_module_data.specs.declared.inlined_calls.InlinedCall.{InlinedCall}
 use Rattle.pdb_module_data.specs.Procedures.{Procedure, procedures_of}

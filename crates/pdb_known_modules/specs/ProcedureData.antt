@@ -1,7 +1,7 @@
 -- What is kept of procedures that were asked for.
 use Rattle.std.specs.Prelude.{◌≡◌, ℕ, List, slice_get, Option, None, Some, Ok}
 use Rattle.std.specs.Borrow.{Bor}
-use Rattle.pdb_modules.specs.ModuleStream.{ModuleStream}
+use Rattle.pdb_symbols_modules.specs.ModuleStream.{ModuleStream}
 use Rattle.pdb_module_data.specs.Procedures.{Procedure}
 use Rattle.pdb_module_data.specs.InlinedCalls.{call_rows}
 use Rattle.pdb_module_data.specs.InlinePieces.{StandForSites}

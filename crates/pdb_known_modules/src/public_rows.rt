@@ -3,7 +3,7 @@
 ghost use Rattle.std.specs.Prelude.{◌≡◌, option_map};
 ghost use Rattle.std.specs.BTreeMap.{get};
 ghost use Rattle.std.specs.Ordering.{nat_cmp};
-ghost use Rattle.pdb_modules.specs.ModuleStream.{ModuleStream};
+ghost use Rattle.pdb_symbols_modules.specs.ModuleStream.{ModuleStream};
 ghost use Rattle.pdb_pieces.specs.Spans.{place_number as number_of_place};
 ghost use Rattle.pdb_known_modules.specs.PublicRows.{AreRowsAt, AreRowsOfStream};
 

@@ -2,7 +2,7 @@
 use Rattle.std.specs.Prelude.{◌≡◌, ℕ, List, Option, Some, option_map, String, string_bytes}
 use Rattle.std.specs.declared.alloc.Global.{Global}
 use Rattle.pdb_resolving.specs.Resolving.{Provided}
-use Rattle.pdb_type_printing.specs.Printing.{Formatting, env_of}
+use Rattle.pdb_type_text.specs.Printing.{Formatting, env_of}
 use Rattle.pdb_type_text.specs.Ids.{id_text}
 use Rattle.pdb_names.specs.ByModule.{kept_at}
 use Rattle.pdb_names.specs.Names.{if_made}

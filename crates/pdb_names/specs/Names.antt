@@ -5,7 +5,7 @@ use Rattle.pdb_module_data.specs.Procedures.{Procedure}
 use Rattle.pdb_resolving.specs.declared.error.Error.{Error}
 use Rattle.pdb_resolving.specs.declared.error.Error.TheVariants as errors
 use Rattle.pdb_resolving.specs.Fault.{Fault}
-use Rattle.pdb_type_printing.specs.Env.{Env}
+use Rattle.pdb_type_text.specs.Env.{Env}
 use Rattle.pdb_type_text.specs.Functions.{function_text}
 
 -- whether a name is decorated: it begins with a question mark

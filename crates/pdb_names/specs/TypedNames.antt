@@ -3,7 +3,7 @@ use Rattle.std.specs.Prelude.{◌≡◌, ℕ, List, Option, Some, option_map, st
 use Rattle.std.specs.Str.Lossy.{utf8_lossy}
 use Rattle.pdb_module_data.specs.Procedures.{Procedure}
 use Rattle.pdb_resolving.specs.Resolving.{Provided}
-use Rattle.pdb_type_printing.specs.Printing.{Formatting, env_of}
+use Rattle.pdb_type_text.specs.Printing.{Formatting, env_of}
 use Rattle.pdb_type_text.specs.Functions.{function_text}
 use Rattle.pdb_names.specs.ByModule.{kept_at}
 use Rattle.pdb_names.specs.Names.{if_made}

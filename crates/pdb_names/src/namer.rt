@@ -4,7 +4,7 @@ ghost use Rattle.std.specs.Prelude.{◌≡◌, IfOk, option_map, string_bytes};
 ghost use Rattle.pdb_names.specs.InlineNames.{inline_text};
 ghost use Rattle.pdb_names.specs.MaybeOwned.{value_of};
 ghost use Rattle.pdb_names.specs.Names.{typed_name};
-ghost use Rattle.pdb_type_printing.specs.Printing.{env_of};
+ghost use Rattle.pdb_type_text.specs.Printing.{env_of};
 
 use crate::inline_names::InlineNames;
 use crate::maybe_owned::MaybeOwned;
@@ -31,7 +31,7 @@ impl<'a, 's, P: ModuleProvider> Model for Namer<'a, 's, P> {
     ghost use Rattle.pdb_names.specs.InlineNames.{AreNames, inline_text};
     ghost use Rattle.pdb_names.specs.MaybeOwned.{value_of};
     ghost use Rattle.pdb_names.specs.TypedNames.{AreTyped, typed_text};
-    ghost use Rattle.pdb_type_printing.specs.Printing.{Formatting};
+    ghost use Rattle.pdb_type_text.specs.Printing.{Formatting};
 
     ghost Value = { Formatting P };
 

@@ -4,7 +4,7 @@ ghost use Rattle.std.specs.Prelude.{◌≡◌, ◌↔◌, ℕ, true, IfOk, List,
 ghost use Rattle.pdb_container.specs.RawString.{raw_bytes};
 ghost use Rattle.pdb_names.specs.Names.{typed_name as name_by_type};
 ghost use Rattle.pdb_names.specs.TypedNames.{AreTyped, IsNamedBy, typed_text};
-ghost use Rattle.pdb_type_printing.specs.Printing.{env_of};
+ghost use Rattle.pdb_type_text.specs.Printing.{env_of};
 
 use crate::by_module::ByModule;
 use crate::names::{clone_name, typed_name};

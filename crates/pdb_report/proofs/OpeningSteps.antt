@@ -17,7 +17,7 @@ use Rattle.pdb_resolving.specs.declared.error.Error.TheVariants as contexts
 use Rattle.pdb_resolving.specs.Fault as answers
 use Rattle.pdb_resolving.specs.Resolving.{Provided, none_failed}
 use Rattle.pdb_type_sizes.specs.Reading.{pointer_bytes}
-use Rattle.pdb_type_printing.specs.Printing.{Formatting}
+use Rattle.pdb_type_text.specs.Printing.{Formatting}
 use Rattle.pdb_frames.specs.Choice.{Parts, Scope}
 use Rattle.pdb_frames.specs.Parts.{scope_of}
 use Rattle.pdb_context.specs.Context.{Context, context_over}

@@ -8,7 +8,7 @@ use Rattle.pdb_symbols_modules.specs.Streams.{Streams}
 use Rattle.pdb_resolving.specs.Fault.{Fault}
 use Rattle.pdb_resolving.specs.Resolving.{Provided, none_failed}
 use Rattle.pdb_type_sizes.specs.Reading.{pointer_bytes}
-use Rattle.pdb_type_printing.specs.Printing.{Formatting}
+use Rattle.pdb_type_text.specs.Printing.{Formatting}
 use Rattle.pdb_frames.specs.Choice.{Parts, Scope}
 use Rattle.pdb_frames.specs.Parts.{scope_of, entries_of}
 use Rattle.pdb_context.specs.Context.{Context, scope_in}

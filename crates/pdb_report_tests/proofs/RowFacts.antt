@@ -29,7 +29,7 @@ use Rattle.pdb_lines.specs.LineMarks.{block_in, block_at}
 use Rattle.pdb_lines.specs.LinesSubsections.{lines_subsection_of, program_of}
 use Rattle.pdb_inlinees.specs.InlinedRows.{place_behind, line_behind, last_line_behind, last_column_behind, row_behind, length_by, length_behind, row_of, rows_behind, all_rows}
 use Rattle.pdb_inlinees.specs.Inlinees.{inlinee_at, inlinees_of}
-use Rattle.pdb_modules.specs.ModuleStream.{signed, symbol_list_bytes, line_data_in, line_program_in, subsection_in, inlinees_in}
+use Rattle.pdb_symbols_modules.specs.ModuleStream.{signed, symbol_list_bytes, line_data_in, line_program_in, subsection_in, inlinees_in}
 use Rattle.pdb_symbols_modules.specs.AddressTables.{map_behind, sections_by, original_sections_by, address_map_by}
 use Rattle.pdb_symbols_modules.specs.Contributions.{contribution_at, contributions_of}
 use Rattle.pdb_symbols_modules.specs.DatabaseCalls.{debug_information, types, ids, global_symbols_by, names}
@@ -42,7 +42,7 @@ use Rattle.pdb_symbols_modules.specs.Streams.{if_named, streams}
 use Rattle.pdb_resolving.specs.Fault.{PdbError}
 use Rattle.pdb_type_sizes.specs.Reading.{type_in, type_at, id_in, id_at}
 use Rattle.pdb_type_text.specs.Ids.{visit_id}
-use Rattle.pdb_type_printing.specs.Types.{visit}
+use Rattle.pdb_type_text.specs.Types.{visit}
 use Rattle.pdb_contributions.specs.Contributions.{held_by, held_of}
 use Rattle.pdb_module_data.specs.Forest.{body_within, body}
 use Rattle.pdb_frames.specs.Parts.{parts_of}

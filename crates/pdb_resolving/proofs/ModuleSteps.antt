@@ -2,7 +2,7 @@
 use Rattle.std.proofs.Common.{◌≡◌, ℕ, List, Ok, Err, refl}
 use Rattle.std.specs.Prelude.{Some, None, slice_get}
 use Rattle.pdb_resolving.specs.declared.error.Error.{Error}
-use Rattle.pdb_modules.specs.ModuleStream.{ModuleStream}
+use Rattle.pdb_symbols_modules.specs.ModuleStream.{ModuleStream}
 use Rattle.pdb_symbols_modules.specs.Modules.{Module}
 use Rattle.pdb_resolving.specs.Fault.{OutOfRangeModuleIndex, ModuleInfoNotFound, lifted, Fails}
 use Rattle.pdb_resolving.specs.Resolving.{Provided, module_numbered}

@@ -10,7 +10,7 @@ use Rattle.pdb_indices.specs.Index.{is_cross_module}
 use Rattle.pdb_cross_modules.specs.Exports.{Entry, first_export}
 use Rattle.pdb_cross_modules.specs.Imports.{Import, imported}
 use Rattle.pdb_failed_parts.specs.Failed.{stands, with_part}
-use Rattle.pdb_modules.specs.ModuleStream.{ModuleStream, imports_in, exports_in}
+use Rattle.pdb_symbols_modules.specs.ModuleStream.{ModuleStream, imports_in, exports_in}
 use Rattle.pdb_symbols_modules.specs.Modules.{Module}
 use Rattle.pdb_resolving.specs.declared.table.Table.{Table}
 use Rattle.pdb_resolving.specs.declared.table.Table.TheVariants as tables

@@ -2,7 +2,7 @@
 
 ghost use Rattle.std.specs.Prelude.{ℕ, Option, Result, option_map, IfErr};
 ghost use Rattle.pdb_container.specs.Fault.{Fault, Gives, Parses};
-ghost use Rattle.pdb_modules.specs.ModuleStream.{ModuleStream, iteration_in, line_program_in, inlinees_in, imports_in, exports_in};
+ghost use Rattle.pdb_symbols_modules.specs.ModuleStream.{ModuleStream, iteration_in, line_program_in, inlinees_in, imports_in, exports_in};
 ghost use Rattle.pdb_symbols_modules.specs.Modules as entries;
 ghost use Rattle.pdb_resolving.specs.Fault.{IsOfModules};
 
