@@ -35,9 +35,9 @@ pub fn parse_numeric(buffer: &mut ParseBuffer<'_>) -> Result<u64>
     let prefix = buffer.parse_u16()?;
     match prefix {
         0..0x8000 => Ok(u64::from(prefix)),
-        0x8000 => Ok(u64::from(buffer.parse_u8()?)),
-        0x8002 => Ok(u64::from(buffer.parse_u16()?)),
-        0x8004 => Ok(u64::from(buffer.parse_u32()?)),
+        0x8000 => buffer.parse_u8().map(u64::from),
+        0x8002 => buffer.parse_u16().map(u64::from),
+        0x8004 => buffer.parse_u32().map(u64::from),
         0x800a => buffer.parse_u64(),
         _ => Err(Error::UnexpectedNumericPrefix(prefix)),
     }
@@ -51,13 +51,13 @@ pub fn parse_variant(buffer: &mut ParseBuffer<'_>) -> Result<Variant>
     let prefix = buffer.parse_u16()?;
     match prefix {
         0..0x8000 => Ok(Variant::U16(prefix)),
-        0x8000 => Ok(Variant::U8(buffer.parse_u8()?)),
-        0x8001 => Ok(Variant::I16(buffer.parse_i16()?)),
-        0x8002 => Ok(Variant::U16(buffer.parse_u16()?)),
-        0x8003 => Ok(Variant::I32(buffer.parse_i32()?)),
-        0x8004 => Ok(Variant::U32(buffer.parse_u32()?)),
-        0x8009 => Ok(Variant::I64(buffer.parse_i64()?)),
-        0x800a => Ok(Variant::U64(buffer.parse_u64()?)),
+        0x8000 => buffer.parse_u8().map(Variant::U8),
+        0x8001 => buffer.parse_i16().map(Variant::I16),
+        0x8002 => buffer.parse_u16().map(Variant::U16),
+        0x8003 => buffer.parse_i32().map(Variant::I32),
+        0x8004 => buffer.parse_u32().map(Variant::U32),
+        0x8009 => buffer.parse_i64().map(Variant::I64),
+        0x800a => buffer.parse_u64().map(Variant::U64),
         _ => Err(Error::UnexpectedNumericPrefix(prefix)),
     }
 }

@@ -1,6 +1,6 @@
 -- Attributes of types, members and pointers: bits of a number, the lowest counted as bit 0.
 -- The bits are those of CV_prop_t, CV_fldattr_t, CV_funcattr_t and lfPointer in microsoft-pdb's cvinfo.h.
-use Rattle.std.specs.Prelude.{ℕ, ◌/◌, ◌%◌, ◌^◌, Bool, ◌||◌, ◌&&◌, not, ◌==◌, bit_and, nat_le, if◌then◌else◌}
+use Rattle.std.specs.Prelude.{ℕ, ◌/◌, ◌%◌, ◌^◌, Bool, ◌||◌, ◌&&◌, ◌==◌, nat_le, if◌then◌else◌}
 use Rattle.pdb_records.specs.declared.type_attributes.TypeProperties.{TypeProperties}
 use Rattle.pdb_records.specs.declared.type_attributes.FieldAttributes.{FieldAttributes}
 use Rattle.pdb_records.specs.declared.type_attributes.FunctionAttributes.{FunctionAttributes}
