@@ -17,9 +17,10 @@ use pdb_indices::TypeIndex;
 use pdb_records::{ArrayType, FunctionAttributes, MemberFunctionType, ProcedureType, TypeData};
 use pdb_resolving::{Error, ModuleProvider, Result};
 use pdb_text_pieces::{
-    PointerLevel, Seen, class_word, emit, emit_bare_function, emit_bare_method, emit_brackets, emit_comma,
-    emit_constant, emit_constant_object, emit_missing, emit_named, emit_pointers, emit_primitive,
-    emit_unhandled, emit_unread, ends_in_sigil, leading_to, leaves_out_arguments, level_of, shown_return,
+    PointerLevel, Seen, class_word, emit, emit_bare_function, emit_bare_method, emit_brackets,
+    emit_comma, emit_constant, emit_constant_object, emit_missing, emit_named, emit_pointers,
+    emit_primitive, emit_unhandled, emit_unread, ends_in_sigil, leading_to, leaves_out_arguments,
+    level_of, shown_return,
 };
 
 impl<'a, 's, P: ModuleProvider> TypePrinter<'a, 's, P> {

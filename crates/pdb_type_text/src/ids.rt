@@ -133,7 +133,8 @@ impl<'a, 's, P: ModuleProvider> TypeFormatter<'a, 's, P> {
         let mut path = Vec::new(asker.alloc);
         path.push(id.function_type.0)?;
         let mut seen = Seen::new(&mut path);
-        self.printer.maybe_emit_return_type(asker, w, t.return_type, t.attributes, &mut seen)?;
+        self.printer
+            .maybe_emit_return_type(asker, w, t.return_type, t.attributes, &mut seen)?;
         self.emit_scope(asker, w, id.scope, ids)?;
         let name = id.name.to_string(asker.alloc)?;
         self.emit_name_and_arguments(asker, w, name.as_str(), t, &mut seen)

@@ -11,9 +11,7 @@ use crate::formatter::TypeFormatter;
 use pdb_indices::TypeIndex;
 use pdb_records::{MemberFunctionType, ProcedureType, TypeData};
 use pdb_resolving::{ModuleProvider, Result};
-use pdb_text_pieces::{
-    Seen, emit, emit_name, emit_scope_end, emit_static, leaves_out_arguments,
-};
+use pdb_text_pieces::{Seen, emit, emit_name, emit_scope_end, emit_static, leaves_out_arguments};
 use pdb_type_printing::Asker;
 
 impl<'a, 's, P: ModuleProvider> TypeFormatter<'a, 's, P> {
@@ -58,7 +56,8 @@ impl<'a, 's, P: ModuleProvider> TypeFormatter<'a, 's, P> {
         match found {
             TypeData::MemberFunction(t) => self.emit_method(asker, w, None, name, t, seen),
             TypeData::Procedure(t) => {
-                self.printer.maybe_emit_return_type(asker, w, t.return_type, t.attributes, seen)?;
+                self.printer
+                    .maybe_emit_return_type(asker, w, t.return_type, t.attributes, seen)?;
                 self.emit_name_and_arguments(asker, w, name, t, seen)
             }
             _ => emit(w, name),
@@ -83,7 +82,8 @@ impl<'a, 's, P: ModuleProvider> TypeFormatter<'a, 's, P> {
         ensures text { Prints result (string_bytes w.new) (method_text (env_of P.provided self.old asker.module_index) seen.old.path.now.items parent name.now t.now (string_bytes w.old)) }
     {
         emit_static(w, self.printer.flags(), t.this_pointer_type)?;
-        self.printer.maybe_emit_return_type(asker, w, Some(t.return_type), t.attributes, seen)?;
+        self.printer
+            .maybe_emit_return_type(asker, w, Some(t.return_type), t.attributes, seen)?;
         self.emit_parent(asker, w, parent, seen)?;
         emit_name(w, name)?;
         self.printer.emit_method_arguments(asker, w, t, true, seen)

@@ -2,9 +2,7 @@
 
 use crate::texts::question::{Asked, Question};
 use pdb_addr2line::pdb::PdbInternalSectionOffset;
-use pdb_addr2line::{
-    Context, ContextPdbData, Error, Function, FunctionFrames, ModuleProvider,
-};
+use pdb_addr2line::{Context, ContextPdbData, Error, Function, FunctionFrames, ModuleProvider};
 use std::alloc::Global;
 use std::fmt::Debug;
 
