@@ -9,8 +9,8 @@ use Rattle.pdb_type_sizes.specs.Reading.{Reading, pointer_bytes}
 use Rattle.pdb_type_text.specs.Printing.{Formatting}
 use Rattle.pdb_resolving.specs.Fault.{Fault}
 use Rattle.pdb_resolving.specs.Resolving.{none_failed}
-use Rattle.pdb_frames.specs.Choice.{Parts}
-use Rattle.pdb_frames.specs.Parts.{parts_of}
+use Rattle.pdb_context.specs.Choice.{Parts}
+use Rattle.pdb_context.specs.Parts.{parts_of}
 use Rattle.pdb_context.specs.Context.{Context, context_over}
 
 -- what types and ids are read from: what is held gives the modules, by the entries in stream 3

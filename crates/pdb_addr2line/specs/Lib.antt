@@ -5,3 +5,10 @@ pub mod Loading
 pub mod Provided
 pub mod Refused
 pub mod Sharing
+pub use Rattle.pdb_context.specs.Choice
+pub use Rattle.pdb_context.specs.Context
+pub use Rattle.pdb_context.specs.Failed
+pub use Rattle.pdb_context.specs.Frames
+pub use Rattle.pdb_context.specs.Parts
+pub use Rattle.pdb_context.specs.Printing
+pub use Rattle.pdb_context.specs.Runs

@@ -1,2 +1,3 @@
 pub mod FailedSteps
 pub mod FunctionSteps
+mod KeptSteps

@@ -1,17 +1,17 @@
 //! A context: answers about addresses of an image.
 
-ghost use Rattle.std.specs.Prelude.{◌≡◌, ◌≤◌, true, IfOk, Ok, Some, is_some, length, option_and_then, option_copied, option_map};
+ghost use Rattle.std.specs.Prelude.{◌≡◌, ◌≤◌, true, IfOk, Ok, Some, is_some, length, option_copied, option_map};
 ghost use Rattle.pdb_addresses.specs.Addresses.{IsOrdered};
 ghost use Rattle.pdb_addresses.specs.SectionRun.{up_to_next};
 ghost use Rattle.pdb_resolving.specs.Fault.{Answers};
-ghost use Rattle.pdb_frames.specs.Choice.{Parts, chosen as chosen_at, place_of, public_start as public_start_of};
-ghost use Rattle.pdb_known_modules.specs.Kept.{AreKept, known_in};
+ghost use Rattle.pdb_frames.specs.Choice.{Parts, place_of};
+ghost use Rattle.pdb_known_modules.specs.Kept.{AreKept};
 ghost use Rattle.pdb_frames.specs.Parts.{entries_of, parts_of, scope_of};
 ghost use Rattle.pdb_context.specs.Context.{context_over, lasting, scope_in, uncounted, lookups_after};
 ghost use Rattle.pdb_frames.specs.Failed.{failed_after, failing, failing_at, failing_if_held, failing_in as failing_in_module, told};
 ghost use Rattle.pdb_frames.specs.Frames.{frames, frames_at as frames_at_place, frames_if_held, frames_of_chosen, function, function_at as function_at_contribution, function_of as function_of_chosen, held_at};
 ghost use Rattle.pdb_names.specs.MaybeOwned.{value_of};
-ghost use Rattle.pdb_known_modules.specs.Modules.{module_data, own_of, procedures_in as procedures_of_module};
+ghost use Rattle.pdb_known_modules.specs.Modules.{module_data, own_of};
 ghost use Rattle.pdb_frames.specs.Runs.{bounds_near, database_of, function_here as function_at_place, procedures_of};
 ghost use Rattle.pdb_frames.specs.Seen.{chosen_seen};
 ghost use Rattle.pdb_functions.specs.Databases.{IsOneRun, place_of as as_place};
@@ -27,7 +27,7 @@ use pdb_frames::{
 use pdb_functions::{Function, FunctionFrames};
 use pdb_known_modules::{
     BasicModuleInfo, KeptModule, empty_places, keep_lines, keep_module, keep_procedure,
-    keep_public_rows, known_at,
+    keep_public_rows, known_at, number_over,
 };
 use pdb_names::Namer;
 use pdb_names::maybe_owned::MaybeOwned;
@@ -106,10 +106,10 @@ fn empty_modules<'a, P: ModuleProvider>(
 fn frames_of<'a, P: ModuleProvider>(
     alloc: Global,
     parts: &ContextParts<'a, '_>,
-    namer: &mut Namer<'_, '_, P>,
+    namer: &mut Namer<'a, '_, P>,
     module_index: u16,
     known: Option<&BasicModuleInfo<'_, P::Info>>,
-    chosen: Chosen<'_, '_>,
+    chosen: Chosen<'_, 'a>,
     place: PdbInternalSectionOffset,
 ) -> Result<Option<FunctionFrames<'a>>>
     ensures same { namer.new ≡ namer.old }
@@ -131,11 +131,11 @@ fn frames_of<'a, P: ModuleProvider>(
 fn frames_told<'a, P: ModuleProvider>(
     alloc: Global,
     parts: &ContextParts<'a, '_>,
-    namer: &mut Namer<'_, '_, P>,
+    namer: &mut Namer<'a, '_, P>,
     failed: &mut Failures,
     module_index: u16,
     known: Option<&BasicModuleInfo<'_, P::Info>>,
-    chosen: Chosen<'_, '_>,
+    chosen: Chosen<'_, 'a>,
     place: PdbInternalSectionOffset,
 ) -> Result<Option<FunctionFrames<'a>>>
     ensures same { namer.new ≡ namer.old }
@@ -160,21 +160,8 @@ fn frames_told<'a, P: ModuleProvider>(
     }
 }
 
-/// Where the public entry begins that is chosen at a place that a contribution holds, if one is, by what is kept of its module.
-fn public_start_at<'a, I: ModuleTables>(
-    kept: &[KeptModule<'a, I>],
-    parts: &ContextParts<'a, '_>,
-    contribution: ModuleSectionContribution,
-    place: PdbInternalSectionOffset,
-) -> Option<PdbInternalSectionOffset>
-    ensures { result ≡ option_and_then public_start_of (chosen_at parts.now (procedures_of_module (known_in kept.now contribution.module_index)) contribution place) }
-{
-    let known = known_at(kept, usize::from(contribution.module_index));
-    choose(parts, known, contribution, place)?.public_start()
-}
-
-/// Reads the rows of the public entry that is chosen at a place that a contribution holds, if one is, and keeps them. Where they
-/// stand as failed nothing is read.
+/// Reads the rows of the public entry that is chosen at a place that a contribution holds, where no procedure is, if one is, and
+/// keeps them. Where they stand as failed nothing is read.
 fn keep_public_entry<'a, I: ModuleTables>(
     alloc: Global,
     kept: &mut [KeptModule<'a, I>],
@@ -186,21 +173,23 @@ fn keep_public_entry<'a, I: ModuleTables>(
     ensures { kept.new ≡ kept.old }
 {
     let module_index = contribution.module_index;
-    match public_start_at(kept, parts, contribution, place) {
-        Some(start) if !failed.has(Part::ProcedureLines(module_index, start)) => {
-            keep_public_rows(alloc, kept, usize::from(module_index), start)
+    match parts.publics.over(contribution.start_offset, place) {
+        Some(public) if !failed.has(Part::ProcedureLines(module_index, public.start_offset)) => {
+            keep_public_rows(alloc, kept, usize::from(module_index), public.start_offset)
         }
         _ => Ok(()),
     }
 }
 
-/// Reads what frames at a place that a contribution holds are made of, and keeps it. Where its module's line program and inlinees
-/// stand as failed nothing is read.
+/// Reads what frames at a place that a contribution holds are made of, and keeps it: line program and inlinees of its module, and
+/// the data of the procedure of a number, or, where there is none, the rows of the public entry. Where the module's line program
+/// and inlinees stand as failed nothing is read.
 fn keep_parts<'a, I: ModuleTables>(
     alloc: Global,
     kept: &mut [KeptModule<'a, I>],
     parts: &ContextParts<'a, '_>,
     failed: &Failures,
+    number: Option<usize>,
     contribution: ModuleSectionContribution,
     place: PdbInternalSectionOffset,
 ) -> std::result::Result<(), AllocError>
@@ -211,8 +200,10 @@ fn keep_parts<'a, I: ModuleTables>(
     }
     let module_index = usize::from(contribution.module_index);
     keep_lines(alloc, kept, module_index)?;
-    keep_procedure(alloc, kept, module_index, place)?;
-    keep_public_entry(alloc, kept, parts, failed, contribution, place)
+    match number {
+        Some(number) => keep_procedure(alloc, kept, module_index, number),
+        None => keep_public_entry(alloc, kept, parts, failed, contribution, place),
+    }
 }
 
 /// The frames at a place that a contribution holds.
@@ -222,7 +213,7 @@ fn frames_at<'a, P: ModuleProvider>(
     provider: &'a P,
     kept: &mut [KeptModule<'a, P::Info>],
     parts: &ContextParts<'a, '_>,
-    namer: &mut Namer<'_, '_, P>,
+    namer: &mut Namer<'a, '_, P>,
     failed: &mut Failures,
     contribution: ModuleSectionContribution,
     place: PdbInternalSectionOffset,
@@ -235,9 +226,10 @@ fn frames_at<'a, P: ModuleProvider>(
 {
     let module_index = usize::from(contribution.module_index);
     keep_module(alloc, kept, provider, namer.modules(), module_index)?;
-    keep_parts(alloc, kept, parts, failed, contribution, place)?;
+    let number = number_over(known_at(kept, module_index), place);
+    keep_parts(alloc, kept, parts, failed, number, contribution, place)?;
     let known = known_at(kept, module_index);
-    match choose(parts, known, contribution, place) {
+    match choose(parts, known, number, contribution, place) {
         None => Ok(None),
         Some(chosen) => {
             frames_told(
@@ -255,12 +247,12 @@ fn frames_at<'a, P: ModuleProvider>(
 }
 
 /// A chosen function, where it has an RVA, and where the public entry behind it has one.
-fn function_of<P: ModuleProvider>(
+fn function_of<'a, P: ModuleProvider>(
     alloc: Global,
     parts: &ContextParts<'_, '_>,
-    namer: &mut Namer<'_, '_, P>,
+    namer: &mut Namer<'a, '_, P>,
     module_index: u16,
-    chosen: Chosen<'_, '_>,
+    chosen: Chosen<'_, 'a>,
 ) -> Result<Option<Function>>
     ensures same { namer.new ≡ namer.old }
     ensures function { Answers (λ f. f) result (Ok (function_of_chosen parts.now (env_of P.provided namer.old module_index) (chosen_seen chosen.entry))) }
@@ -286,7 +278,7 @@ fn function_at<'a, P: ModuleProvider>(
     provider: &'a P,
     kept: &mut [KeptModule<'a, P::Info>],
     parts: &ContextParts<'a, '_>,
-    namer: &mut Namer<'_, '_, P>,
+    namer: &mut Namer<'a, '_, P>,
     contribution: ModuleSectionContribution,
     place: PdbInternalSectionOffset,
 ) -> Result<Option<Function>>
@@ -298,7 +290,8 @@ fn function_at<'a, P: ModuleProvider>(
     let module_index = usize::from(contribution.module_index);
     keep_module(alloc, kept, provider, namer.modules(), module_index)?;
     let known = known_at(kept, module_index);
-    match choose(parts, known, contribution, place) {
+    let number = number_over(known, place);
+    match choose(parts, known, number, contribution, place) {
         None => Ok(None),
         Some(chosen) => function_of(alloc, parts, namer, contribution.module_index, chosen),
     }
@@ -310,7 +303,7 @@ fn frames_here<'a, P: ModuleProvider>(
     provider: &'a P,
     kept: &mut [KeptModule<'a, P::Info>],
     parts: &ContextParts<'a, '_>,
-    namer: &mut Namer<'_, '_, P>,
+    namer: &mut Namer<'a, '_, P>,
     failed: &mut Failures,
     place: PdbInternalSectionOffset,
 ) -> Result<Option<FunctionFrames<'a>>>
@@ -341,7 +334,7 @@ fn function_here<'a, P: ModuleProvider>(
     provider: &'a P,
     kept: &mut [KeptModule<'a, P::Info>],
     parts: &ContextParts<'a, '_>,
-    namer: &mut Namer<'_, '_, P>,
+    namer: &mut Namer<'a, '_, P>,
     place: PdbInternalSectionOffset,
 ) -> Result<Option<Function>>
     requires kept { AreKept (λ n. module_data (own_of (P.provided provider.now) (entries_of namer.old) n)) kept.old }
@@ -362,7 +355,7 @@ fn run_at<'a, P: ModuleProvider>(
     provider: &'a P,
     kept: &mut [KeptModule<'a, P::Info>],
     parts: &ContextParts<'a, '_>,
-    namer: &mut Namer<'_, '_, P>,
+    namer: &mut Namer<'a, '_, P>,
     contribution: ModuleSectionContribution,
     place: PdbInternalSectionOffset,
     limit: u32,
@@ -377,7 +370,8 @@ fn run_at<'a, P: ModuleProvider>(
     keep_module(alloc, kept, provider, namer.modules(), module_index)?;
     let known = known_at(kept, module_index);
     let count = to_next_bound(parts, known, place, limit);
-    match choose(parts, known, contribution, place) {
+    let number = number_over(known, place);
+    match choose(parts, known, number, contribution, place) {
         None => Ok((None, count)),
         Some(chosen) => {
             let function = function_of(alloc, parts, namer, contribution.module_index, chosen)?;
@@ -392,7 +386,7 @@ fn run_here<'a, P: ModuleProvider>(
     provider: &'a P,
     kept: &mut [KeptModule<'a, P::Info>],
     parts: &ContextParts<'a, '_>,
-    namer: &mut Namer<'_, '_, P>,
+    namer: &mut Namer<'a, '_, P>,
     place: PdbInternalSectionOffset,
     limit: u32,
 ) -> Result<(Option<Function>, u32)>

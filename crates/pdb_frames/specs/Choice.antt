@@ -10,7 +10,7 @@ use Rattle.pdb_symbols_modules.specs.ModuleStream.{ModuleStream}
 use Rattle.pdb_contributions.specs.declared.contribution.ModuleSectionContribution.{ModuleSectionContribution}
 use Rattle.pdb_public_list.specs.Publics.{PublicFunction, public_exactly, public_over, next_public}
 use Rattle.pdb_module_data.specs.Procedures.{Procedure, over}
-use Rattle.pdb_type_text.specs.Env.{Env}
+use Rattle.pdb_names.specs.Env.{Env}
 use Rattle.pdb_names.specs.Names.{is_decorated, typed_name}
 
 -- what every question goes over: the ways between addresses, what modules hold, the public list, and the string table, if
@@ -45,11 +45,6 @@ chosen p procedures c place = chosen_of (over procedures place) (public_over p.p
 abbrev pub start_of : Chosen → PdbInternalSectionOffset
 start_of (Proc q) = q.offset
 start_of (Public f) = f.start_offset
-
--- where it begins, if it is a public entry
-abbrev pub public_start : Chosen → Option PdbInternalSectionOffset
-public_start (Proc q) = None
-public_start (Public f) = Some f.start_offset
 
 -- the image address at which it begins, if it has one
 abbrev pub start_address : Parts → Chosen → Option ℕ

@@ -14,8 +14,8 @@ use Rattle.pdb_module_data.specs.declared.function_rows.LineRow.{LineRow}
 use Rattle.pdb_module_data.specs.declared.inlined_calls.InlinedCall.{InlinedCall}
 use Rattle.pdb_module_data.specs.FunctionLine.{file_text, function_row}
 use Rattle.pdb_resolving.specs.Fault.{Fault, lifted}
-use Rattle.pdb_type_text.specs.Env.{Env}
-use Rattle.pdb_type_text.specs.Ids.{id_text}
+use Rattle.pdb_names.specs.Env.{Env}
+use Rattle.pdb_names.specs.Ids.{id_text}
 use Rattle.pdb_names.specs.Names.{if_made}
 use Rattle.pdb_functions.specs.Frames.{Frame, FunctionFrames}
 use Rattle.pdb_functions.specs.FunctionOrder.{Function}

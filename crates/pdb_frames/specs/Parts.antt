@@ -9,7 +9,7 @@ use Rattle.pdb_contributions.specs.Contributions.{held_of}
 use Rattle.pdb_public_list.specs.Publics.{publics_among, entries_read, placeholders, section_ends}
 use Rattle.pdb_resolving.specs.Fault.{Fault, lifted}
 use Rattle.pdb_resolving.specs.Resolving.{Provided}
-use Rattle.pdb_type_text.specs.Printing.{Formatting, env_of}
+use Rattle.pdb_names.specs.Printing.{Formatting, env_of}
 use Rattle.pdb_known_modules.specs.Modules.{own_of}
 use Rattle.pdb_frames.specs.Choice.{Parts, Scope}
 

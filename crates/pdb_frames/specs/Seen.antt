@@ -5,5 +5,5 @@ use Rattle.pdb_frames.specs.declared.choice.Chosen.TheVariants as chosen
 
 -- what was chosen
 abbrev pub chosen_seen : Chosen → choice.Chosen
-chosen_seen (chosen.Procedure q) = choice.Proc q.now
+chosen_seen (chosen.Procedure number q) = choice.Proc q.now
 chosen_seen (chosen.Public f) = choice.Public f.now

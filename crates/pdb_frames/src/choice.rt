@@ -1,15 +1,16 @@
 //! What is chosen at a place.
 
 ghost use Rattle.std.specs.Prelude.{◌≡◌, option_copied, option_map};
-ghost use Rattle.pdb_frames.specs.Choice.{chosen as chosen_at, public_start as public_start_of, start_of, start_address, length_of, end_behind};
+ghost use Rattle.pdb_frames.specs.Choice.{chosen as chosen_at, start_of, start_address, length_of, end_behind};
 ghost use Rattle.pdb_frames.specs.Frames.{function_end};
-ghost use Rattle.pdb_known_modules.specs.Modules.{procedures_in};
+ghost use Rattle.pdb_known_modules.specs.Modules.{procedure_numbered, procedures_in};
+ghost use Rattle.pdb_module_data.specs.Procedures.{over};
 ghost use Rattle.pdb_frames.specs.Seen.{chosen_seen};
 
 use crate::parts::ContextParts;
 use pdb_addresses::PdbInternalSectionOffset;
 use pdb_contributions::ModuleSectionContribution;
-use pdb_known_modules::{BasicModuleInfo, procedure_over};
+use pdb_known_modules::{BasicModuleInfo, procedure_at};
 use pdb_module_data::Procedure;
 use pdb_public_list::PublicFunction;
 use pdb_resolving::ModuleTables;
@@ -17,24 +18,26 @@ use pdb_resolving::ModuleTables;
 /// A function that is chosen: a procedure, or an entry of the public list.
 #[derive(Clone, Copy)]
 pub enum Chosen<'c, 'a> {
-    /// A procedure of the module that holds the place.
-    Procedure(&'c Procedure<'a>),
+    /// A procedure of the module that holds the place, by its number among those, counted from 0.
+    Procedure(usize, &'c Procedure<'a>),
     /// An entry of the public list.
     Public(&'c PublicFunction<'a>),
 }
 
-/// What is chosen at a place that a contribution holds, by the data of its module: the procedure over the place; else the entry
-/// of the public list, unless that one lies before the contribution.
+/// What is chosen at a place that a contribution holds, by the data of its module and the number of its procedure over the place, if
+/// there is one: that procedure; else the entry of the public list, unless that one lies before the contribution.
 pub fn choose<'c, 'a, I: ModuleTables>(
     parts: &'c ContextParts<'a, '_>,
     known: Option<&'c BasicModuleInfo<'a, I>>,
+    number: Option<usize>,
     contribution: ModuleSectionContribution,
     place: PdbInternalSectionOffset,
 ) -> Option<Chosen<'c, 'a>>
+    requires { procedure_numbered (procedures_in (option_copied known)) number ≡ over (procedures_in (option_copied known)) place }
     ensures { option_map chosen_seen result ≡ chosen_at parts.now (procedures_in (option_copied known.entry)) contribution place }
 {
-    if let Some(procedure) = procedure_over(known, place) {
-        return Some(Chosen::Procedure(procedure));
+    if let Some((number, procedure)) = procedure_at(known, number) {
+        return Some(Chosen::Procedure(number, procedure));
     }
     match parts.publics.over(contribution.start_offset, place) {
         None => None,
@@ -48,18 +51,8 @@ impl<'c, 'a> Chosen<'c, 'a> {
         ensures { result ≡ start_of (chosen_seen self.entry) }
     {
         match self {
-            Chosen::Procedure(procedure) => procedure.offset,
+            Chosen::Procedure(_, procedure) => procedure.offset,
             Chosen::Public(public) => public.start_offset,
-        }
-    }
-
-    /// Where it begins, if it is an entry of the public list.
-    pub fn public_start(self) -> Option<PdbInternalSectionOffset>
-        ensures { result ≡ public_start_of (chosen_seen self.entry) }
-    {
-        match self {
-            Chosen::Procedure(_) => None,
-            Chosen::Public(public) => Some(public.start_offset),
         }
     }
 
@@ -78,7 +71,7 @@ impl<'c, 'a> Chosen<'c, 'a> {
         ensures { result ≡ length_of parts.now (chosen_seen self.entry) }
     {
         match self {
-            Chosen::Procedure(procedure) => Some(procedure.len),
+            Chosen::Procedure(_, procedure) => Some(procedure.len),
             Chosen::Public(public) => {
                 let next = parts.publics.next_behind(public.start_offset)?;
                 Some(
@@ -107,7 +100,7 @@ impl<'c, 'a> Chosen<'c, 'a> {
         ensures { result ≡ function_end parts.now (chosen_seen self.entry) start_rva }
     {
         match self {
-            Chosen::Procedure(procedure) => Some(start_rva.checked_add(procedure.len)),
+            Chosen::Procedure(_, procedure) => Some(start_rva.checked_add(procedure.len)),
             Chosen::Public(public) => match parts.publics.next_behind(public.start_offset) {
                 None => Some(None),
                 Some(next) => {

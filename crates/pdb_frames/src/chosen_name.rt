@@ -4,7 +4,7 @@ ghost use Rattle.std.specs.Prelude.{◌≡◌, IfOk, option_map, string_bytes};
 ghost use Rattle.pdb_container.specs.RawString.{raw_bytes};
 ghost use Rattle.pdb_frames.specs.Choice.{name_of as name_of_chosen, procedure_name as name_of_procedure, public_name as public_name_of};
 ghost use Rattle.pdb_frames.specs.Seen.{chosen_seen};
-ghost use Rattle.pdb_type_text.specs.Printing.{env_of};
+ghost use Rattle.pdb_names.specs.Printing.{env_of};
 
 use crate::choice::Chosen;
 use crate::parts::ContextParts;
@@ -30,12 +30,13 @@ fn public_name<'p, 'a>(
 }
 
 /// A procedure's name in the module of a number: the decorated public name in place of its own, or that by its type.
-fn procedure_name<P: ModuleProvider>(
+fn procedure_name<'a, P: ModuleProvider>(
     alloc: Global,
     parts: &ContextParts<'_, '_>,
-    namer: &mut Namer<'_, '_, P>,
+    namer: &mut Namer<'a, '_, P>,
     module_index: u16,
-    procedure: &Procedure<'_>,
+    number: usize,
+    procedure: &Procedure<'a>,
 ) -> Result<Option<String>, AllocError>
     ensures same { namer.new ≡ namer.old }
     ensures name { IfOk result (λ n. option_map string_bytes n ≡ name_of_procedure parts.now (env_of P.provided namer.old module_index) procedure.now) }
@@ -45,27 +46,28 @@ fn procedure_name<P: ModuleProvider>(
             let name = raw_name(alloc, name)?;
             Ok(Some(name))
         }
-        None => namer.typed_name(alloc, module_index, procedure),
+        None => namer.typed_name(alloc, module_index, number, procedure),
     }
 }
 
 /// The name of a chosen function in the module of a number.
-pub fn name_of<P: ModuleProvider>(
+pub fn name_of<'a, P: ModuleProvider>(
     alloc: Global,
     parts: &ContextParts<'_, '_>,
-    namer: &mut Namer<'_, '_, P>,
+    namer: &mut Namer<'a, '_, P>,
     module_index: u16,
-    chosen: Chosen<'_, '_>,
+    chosen: Chosen<'_, 'a>,
 ) -> Result<Option<String>, AllocError>
     ensures same { namer.new ≡ namer.old }
     ensures name { IfOk result (λ n. option_map string_bytes n ≡ name_of_chosen parts.now (env_of P.provided namer.old module_index) (chosen_seen chosen.entry)) }
 {
     match chosen {
-        Chosen::Procedure(procedure) => procedure_name(
+        Chosen::Procedure(number, procedure) => procedure_name(
             alloc,
             parts,
             namer,
             module_index,
+            number,
             procedure,
         ),
         Chosen::Public(public) => if_named(alloc, &public.name),

@@ -129,7 +129,7 @@ fn failing_sites<I: ModuleTables>(
 ) -> std::result::Result<Option<Part>, AllocError>
     ensures { IfOk result (λ p. p ≡ failing_of_sites module_index (I.held module_info.now) (chosen_seen chosen.entry)) }
 {
-    let Chosen::Procedure(procedure) = chosen else {
+    let Chosen::Procedure(_, procedure) = chosen else {
         return Ok(None);
     };
     match read_sites(alloc, module_info, procedure) {

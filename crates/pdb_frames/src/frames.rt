@@ -7,7 +7,7 @@ ghost use Rattle.pdb_module_data.specs.FunctionLine.{file_text, function_row, ro
 ghost use Rattle.pdb_module_data.specs.InlinedCalls.{call_rows, calls_over};
 ghost use Rattle.pdb_module_data.specs.InlinePieces.{StandForSites};
 ghost use Rattle.pdb_resolving.specs.Fault.{Answers};
-ghost use Rattle.pdb_type_text.specs.Printing.{env_of};
+ghost use Rattle.pdb_names.specs.Printing.{env_of};
 ghost use Rattle.pdb_frames.specs.Choice as choice;
 ghost use Rattle.pdb_frames.specs.Frames.{frames_in as frames_of_module, frames_in_data as frames_of_data, row_and_calls, call_frame as frame_of_call, function_frame as frame_of_function};
 ghost use Rattle.pdb_known_modules.specs.Modules.{extended_of};
@@ -55,13 +55,14 @@ fn procedure_row_and_calls<'m, I: ModuleTables>(
     alloc: Global,
     known: &BasicModuleInfo<'m, I>,
     extended: &ExtendedModuleInfo<'m>,
+    number: usize,
     procedure: &Procedure<'_>,
     place: PdbInternalSectionOffset,
 ) -> Result<(Option<LineRow>, Vec<InlinedCall>)>
     requires { extended_of (known.now).stream ≡ Ok (extended_seen extended.now) }
     ensures { Answers (λ r. (r.0, r.1.items)) result (row_and_calls (known.now).stream (extended_seen extended.now) (choice.Proc procedure.now) place) }
 {
-    if let Some(read) = known.extended_procedure(procedure, place) {
+    if let Some(read) = known.extended_procedure(number, procedure) {
         let found = row_and_calls_by(alloc, extended, procedure, read, place)?;
         return Ok(found);
     }
@@ -102,8 +103,8 @@ fn row_and_calls_in<'m, I: ModuleTables>(
     ensures { Answers (λ r. (r.0, r.1.items)) result (row_and_calls (known.now).stream (extended_seen extended.now) (chosen_seen chosen.entry) place) }
 {
     match chosen {
-        Chosen::Procedure(procedure) => {
-            procedure_row_and_calls(alloc, known, extended, procedure, place)
+        Chosen::Procedure(number, procedure) => {
+            procedure_row_and_calls(alloc, known, extended, number, procedure, place)
         }
         Chosen::Public(public) => {
             let row = public_row(alloc, known, extended, public.start_offset, place)?;
@@ -160,7 +161,7 @@ fn call_frames<'a, P: ModuleProvider>(
     ensures same { namer.new ≡ namer.old }
     ensures frames { IfOk result (λ v. v.items ≡ map (frame_of_call parts.now (env_of P.provided namer.old module_index) (extended_seen extended.now).program) calls.now) }
 {
-    let mut frames = Vec::new(alloc);
+    let mut frames = Vec::with_capacity(alloc, calls.len() + 1)?;
     for call in calls {
         let frame = call_frame(alloc, parts, namer, module_index, extended, *call)?;
         frames.push(frame)?;
@@ -201,11 +202,11 @@ fn function_frame<'a>(
 fn frames_by<'a, 'm, P: ModuleProvider>(
     alloc: Global,
     parts: &ContextParts<'a, '_>,
-    namer: &mut Namer<'_, '_, P>,
+    namer: &mut Namer<'a, '_, P>,
     module_index: u16,
     known: &BasicModuleInfo<'m, P::Info>,
     extended: &ExtendedModuleInfo<'m>,
-    chosen: Chosen<'_, '_>,
+    chosen: Chosen<'_, 'a>,
     place: PdbInternalSectionOffset,
 ) -> Result<Vec<Frame<'a>>>
     requires extended { extended_of (known.now).stream ≡ Ok (extended_seen extended.now) }
@@ -233,10 +234,10 @@ fn frames_by<'a, 'm, P: ModuleProvider>(
 fn frames_in_data<'a, P: ModuleProvider>(
     alloc: Global,
     parts: &ContextParts<'a, '_>,
-    namer: &mut Namer<'_, '_, P>,
+    namer: &mut Namer<'a, '_, P>,
     module_index: u16,
     known: &BasicModuleInfo<'_, P::Info>,
-    chosen: Chosen<'_, '_>,
+    chosen: Chosen<'_, 'a>,
     place: PdbInternalSectionOffset,
 ) -> Result<Vec<Frame<'a>>>
     ensures same { namer.new ≡ namer.old }
@@ -271,10 +272,10 @@ fn frames_in_data<'a, P: ModuleProvider>(
 pub fn frames_in<'a, P: ModuleProvider>(
     alloc: Global,
     parts: &ContextParts<'a, '_>,
-    namer: &mut Namer<'_, '_, P>,
+    namer: &mut Namer<'a, '_, P>,
     module_index: u16,
     known: Option<&BasicModuleInfo<'_, P::Info>>,
-    chosen: Chosen<'_, '_>,
+    chosen: Chosen<'_, 'a>,
     place: PdbInternalSectionOffset,
 ) -> Result<Vec<Frame<'a>>>
     ensures same { namer.new ≡ namer.old }

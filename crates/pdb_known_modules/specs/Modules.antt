@@ -1,5 +1,5 @@
 -- What a module's own stream says of a place in it.
-use Rattle.std.specs.Prelude.{ℕ, List, [], slice_get, Option, None, Some, Result, Ok, Err}
+use Rattle.std.specs.Prelude.{ℕ, List, [], slice_get, Option, None, Some, option_and_then, Result, Ok, Err}
 use Rattle.pdb_container.specs.Fault as container
 use Rattle.pdb_container.specs.Fault.{◌>>=◌}
 use Rattle.pdb_addresses.specs.declared.internal_section_offset.PdbInternalSectionOffset.{PdbInternalSectionOffset}
@@ -54,6 +54,10 @@ module_data (Err e) = None
 abbrev pub procedures_in : Option ModuleData → List Procedure
 procedures_in None = []
 procedures_in (Some known) = known.procedures
+
+-- the procedure of a number that may be known
+abbrev pub procedure_numbered : List Procedure → Option ℕ → Option Procedure
+procedure_numbered procedures number = option_and_then (λ k. slice_get procedures k) number
 
 -- ---- lines and inlined calls
 

@@ -83,31 +83,31 @@ pub fn keep_lines<'a, I: ModuleTables>(
     Ok(())
 }
 
-/// Reads the data of the procedure over a place in the module of a number, if the module's data are kept, and keeps them too.
+/// Reads the data of the procedure of a number, if its module's data are kept there, and keeps them too.
 fn keep_procedure_at<'a, I: ModuleTables>(
     alloc: Global,
     kept_module: &mut KeptModule<'a, I>,
-    place: PdbInternalSectionOffset,
+    number: usize,
 ) -> Result<(), AllocError>
     ensures { kept_module.new ≡ kept_module.old }
 {
     match kept_module {
-        Some(Some(known)) => known.keep_procedure(alloc, place),
+        Some(Some(known)) => known.keep_procedure(alloc, number),
         _ => Ok(()),
     }
 }
 
-/// Reads the data of the procedure over a place in the module of a number, if the module's data are kept, and keeps them too.
+/// Reads the data of the procedure of a number in the module of a number, if the module's data are kept, and keeps them too.
 pub fn keep_procedure<'a, I: ModuleTables>(
     alloc: Global,
     kept: &mut [KeptModule<'a, I>],
     module_index: usize,
-    place: PdbInternalSectionOffset,
+    number: usize,
 ) -> Result<(), AllocError>
     ensures { kept.new ≡ kept.old }
 {
     if module_index < kept.len() {
-        keep_procedure_at(alloc, &mut kept[module_index], place)?;
+        keep_procedure_at(alloc, &mut kept[module_index], number)?;
     }
     Ok(())
 }

@@ -9,7 +9,7 @@ ghost use Rattle.pdb_module_data.specs.Procedures.{over};
 ghost use Rattle.pdb_known_modules.specs.ProcedureData.{IsLentOf, IsOfStream};
 ghost use Rattle.pdb_known_modules.specs.PublicRows.{AreLentAt, AreRowsAt};
 ghost use Rattle.pdb_known_modules.specs.Seen.{extended_seen, AreExtendedHere};
-ghost use Rattle.pdb_known_modules.specs.Modules.{data_of_stream, data_if_there, extended_of, module_data, own_of, procedures_in as procedures_of_module};
+ghost use Rattle.pdb_known_modules.specs.Modules.{data_of_stream, data_if_there, extended_of, module_data, own_of, procedure_numbered, procedures_in as procedures_of_module};
 
 use crate::procedure_data::{ExtendedProcedureInfo, empty_procedures, read_extended_procedure};
 use crate::public_rows::PublicRows;
@@ -128,19 +128,16 @@ impl<'a, I: ModuleTables> BasicModuleInfo<'a, I> {
         self.extended.as_ref()
     }
 
-    /// Reads the data of the procedure over a place, if line program and inlinees are kept, and keeps them, unless they were
-    /// kept before. Where they have a fault nothing is kept, and so where memory is short.
+    /// Reads the data of the procedure of a number, if line program and inlinees are kept, and keeps them, unless they were kept
+    /// before. Where they have a fault nothing is kept, and so where memory is short.
     #[tactic(auto, using(crate::proofs::KeptProcedures::kept_now))]
     pub fn keep_procedure(
         &mut self,
         alloc: Global,
-        place: PdbInternalSectionOffset,
+        number: usize,
     ) -> std::result::Result<(), AllocError>
         ensures { self.new ≡ self.old }
     {
-        let Some(number) = self.procedures.number_over(place) else {
-            return Ok(());
-        };
         if !is_empty_at(&self.kept_procedures, number) {
             return Ok(());
         }
@@ -174,16 +171,15 @@ impl<'a, I: ModuleTables> BasicModuleInfo<'a, I> {
         }
     }
 
-    /// The data of a procedure that is over a place, if they are kept.
+    /// The data that are kept at a procedure's number, if they are its own.
     #[tactic(auto, using(crate::proofs::KeptProcedures::lent_of))]
     pub fn extended_procedure(
         &self,
+        number: usize,
         procedure: &Procedure<'_>,
-        place: PdbInternalSectionOffset,
     ) -> Option<&ExtendedProcedureInfo<'a>>
         ensures { IsLentOf (self.now).stream procedure.now result }
     {
-        let number = self.procedures.number_over(place)?;
         match place_at(&self.kept_procedures, number) {
             Some(Some(data)) if data.is_of(procedure) => Some(data),
             _ => None,
@@ -324,15 +320,28 @@ pub fn procedures_in<'m, 'a, I: ModuleTables>(
     }
 }
 
-/// The procedure of a module over a place; none without data.
-pub fn procedure_over<'m, 'a, I: ModuleTables>(
-    known: Option<&'m BasicModuleInfo<'a, I>>,
+/// The number of the procedure of a module over a place, counted from 0 in their order; none without data.
+pub fn number_over<'a, I: ModuleTables>(
+    known: Option<&BasicModuleInfo<'a, I>>,
     place: PdbInternalSectionOffset,
-) -> Option<&'m Procedure<'a>>
-    ensures { option_map (λ q. q.now) result ≡ over (procedures_of_module (option_copied known.entry)) place }
+) -> Option<usize>
+    ensures { procedure_numbered (procedures_of_module (option_copied known.entry)) result ≡ over (procedures_of_module (option_copied known.entry)) place }
 {
     match known {
         None => None,
-        Some(known) => known.procedures.over(place),
+        Some(known) => known.procedures.number_over(place),
     }
+}
+
+/// The procedure of a module of a number that may be known; none without data.
+pub fn procedure_at<'m, 'a, I: ModuleTables>(
+    known: Option<&'m BasicModuleInfo<'a, I>>,
+    number: Option<usize>,
+) -> Option<(usize, &'m Procedure<'a>)>
+    ensures { option_map (λ q. (q.1).now) result ≡ procedure_numbered (procedures_of_module (option_copied known.entry)) number }
+{
+    let known = known?;
+    let number = number?;
+    let procedure = known.procedures.as_slice().get(number)?;
+    Some((number, procedure))
 }

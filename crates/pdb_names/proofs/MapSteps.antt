@@ -3,9 +3,11 @@ use Rattle.std.proofs.Common.{◌≡◌, ℕ, zero, suc, ◌<◌, List, [], ◌�
 use Rattle.std.specs.Prelude.{◌&&◌, ◌==◌, cond, slice_get, slice_set}
 use Rattle.std.specs.Ordering.{nat_cmp}
 use Rattle.std.specs.BTreeMap.{BTreeMap, Updates, get, is_at}
+use Rattle.std.specs.Vec.{with_item}
 use Rattle.std.proofs.lemmas.Bool.Decides.{nat_tests}
 use Rattle.pdb_names.specs.declared.by_module.ByModule.{ByModule}
-use Rattle.pdb_names.specs.ByModule.{IsKept, IsSameKept, kept_among}
+use Rattle.pdb_names.specs.ByModule.{kept_among, kept_at}
+use Rattle.pdb_names.specs.Kept.{IsKept, IsSameKept}
 
 here : {V : Type 0} (k n : ℕ) (value : V) (old map : BTreeMap ℕ V) → get nat_cmp map n ≡ cond (is_at (nat_cmp k) n) (Some value) (get nat_cmp old n)
     → get nat_cmp map n ≡ cond (n == k) (Some value) (get nat_cmp old n)
@@ -29,10 +31,10 @@ set_keeps (one ∷ maps) (suc i) k value old map lt is updates zero n = rw (befo
 set_keeps (one ∷ maps) (suc i) k value old map lt is updates (suc m) n = rw (both_suc m i) (set_keeps maps i k value old map (omega arith) is updates m n)
 
 -- where the map of a module that is reached gets a value under a number, that is kept there, and all else as before
-pub map_keeps : {V : Type 0} (before reached after : ByModule V) (module_index i k : ℕ) (value : V) (old map : BTreeMap ℕ V) → IsSameKept before reached → i ≡ module_index → module_index < length reached.modules.items
-    → old ≡ get_or reached.modules.items i old → Updates nat_cmp old map k (Some value) → after.modules.items ≡ slice_set reached.modules.items i map
-    → IsKept before after module_index k value
-map_keeps before reached after module_index i k value old map same at lt is updates now = record {
+pub map_keeps : {V : Type 0} (before reached : ByModule V) (module_index i k : ℕ) (value : V) (old map : BTreeMap ℕ V) → IsSameKept (kept_at before) (kept_at reached) → i ≡ module_index → module_index < length reached.modules.items
+    → old ≡ get_or reached.modules.items i old → Updates nat_cmp old map k (Some value)
+    → IsKept (kept_at before) (kept_at record { modules = with_item reached.modules i map }) module_index k value
+map_keeps before reached module_index i k value old map same at lt is updates = record {
   each = λ m n.
-      rw (now, ← same.each m n, ← at) (set_keeps reached.modules.items i k value old map (omega arith) is updates m n);
+      rw (← same.each m n, ← at) (set_keeps reached.modules.items i k value old map (omega arith) is updates m n);
 }

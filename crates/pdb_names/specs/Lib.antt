@@ -1,5 +1,10 @@
 pub mod ByModule
+pub mod ByNumber
 pub mod InlineNames
+pub mod Kept
 pub mod MaybeOwned
 pub mod Names
 pub mod TypedNames
+pub use Rattle.pdb_type_text.specs.Env
+pub use Rattle.pdb_type_text.specs.Ids
+pub use Rattle.pdb_type_text.specs.Printing

@@ -1,7 +1,8 @@
 //! What is kept by the number of a module and a number in it.
 
 ghost use Rattle.std.specs.Prelude.{◌≡◌, ◌<◌, ℕ, None, OnErr, OnOk, length, option_copied};
-ghost use Rattle.pdb_names.specs.ByModule.{IsKept, IsSameKept, kept_at};
+ghost use Rattle.pdb_names.specs.ByModule.{kept_at};
+ghost use Rattle.pdb_names.specs.Kept.{IsKept, IsSameKept};
 
 use std::alloc::{AllocError, Global};
 use std::collections::BTreeMap;
@@ -37,7 +38,7 @@ impl<V: Drop> ByModule<V> {
     /// Makes a place for the values of the module of a number, and for those of each module before it. What is kept stays.
     fn reach(&mut self, alloc: Global, module_index: u16) -> Result<(), AllocError>
         ensures reached { OnOk result (module_index < length self.new.modules.items) }
-        ensures same { IsSameKept self.old self.new }
+        ensures same { IsSameKept (kept_at self.old) (kept_at self.new) }
     {
         for _ in self.modules.len()..usize::from(module_index) + 1 {
             self.modules.push(BTreeMap::new(alloc))?;
@@ -54,8 +55,8 @@ impl<V: Drop> ByModule<V> {
         number: u32,
         value: V,
     ) -> Result<(), AllocError>
-        ensures kept { OnOk result (IsKept self.old self.new module_index number value) }
-        ensures failed { OnErr result (IsSameKept self.old self.new) }
+        ensures kept { OnOk result (IsKept (kept_at self.old) (kept_at self.new) module_index number value) }
+        ensures failed { OnErr result (IsSameKept (kept_at self.old) (kept_at self.new)) }
     {
         self.reach(alloc, module_index)?;
         self.modules[usize::from(module_index)].insert(number, value)?;

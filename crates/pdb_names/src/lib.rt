@@ -2,6 +2,7 @@
 #![tactic(auto)]
 
 mod by_module;
+mod by_number;
 mod inline_names;
 pub mod maybe_owned;
 mod namer;

@@ -24,7 +24,7 @@ pub struct Namer<'a, 's, P: ModuleProvider> {
     /// Those of inlined functions.
     inlined: InlineNames,
     /// Those of procedures by their types.
-    typed: TypedNames,
+    typed: TypedNames<'a>,
 }
 
 impl<'a, 's, P: ModuleProvider> Model for Namer<'a, 's, P> {
@@ -91,17 +91,23 @@ impl<'a, 's, P: ModuleProvider> Namer<'a, 's, P> {
             .name(alloc, self.formatter.get_mut(), module_index, inlinee)
     }
 
-    /// The name of a procedure by its type in the module of a number; `None` where no text can be made of it.
+    /// The name of a procedure by its type, at its number in the module of a number; `None` where no text can be made of it.
     pub fn typed_name(
         &mut self,
         alloc: Global,
         module_index: u16,
-        procedure: &Procedure<'_>,
+        number: usize,
+        procedure: &Procedure<'a>,
     ) -> Result<Option<String>, AllocError>
         ensures same { self.new ≡ self.old }
         ensures name { IfOk result (λ n. option_map string_bytes n ≡ typed_name (env_of P.provided self.old module_index) procedure.now) }
     {
-        self.typed
-            .name(alloc, self.formatter.get_mut(), module_index, procedure)
+        self.typed.name(
+            alloc,
+            self.formatter.get_mut(),
+            module_index,
+            number,
+            procedure,
+        )
     }
 }

@@ -6,8 +6,9 @@ ghost use Rattle.pdb_names.specs.Names.{typed_name as name_by_type};
 ghost use Rattle.pdb_names.specs.TypedNames.{AreTyped, IsNamedBy, typed_text};
 ghost use Rattle.pdb_type_text.specs.Printing.{env_of};
 
-use crate::by_module::ByModule;
+use crate::by_number::ByNumber;
 use crate::names::{clone_name, typed_name};
+use pdb_container::RawString;
 use pdb_indices::TypeIndex;
 use pdb_module_data::Procedure;
 use pdb_resolving::ModuleProvider;
@@ -16,38 +17,38 @@ use std::alloc::{AllocError, Global};
 
 /// A procedure's name by its type, with what it was made of.
 #[derive(Drop)]
-pub struct TypedName {
+pub struct TypedName<'a> {
     /// The procedure's name as it is stored.
-    raw: Vec<u8>,
+    raw: RawString<'a>,
     /// The index of its type.
     type_index: TypeIndex,
     /// The text; `None` where none can be made.
     text: Option<String>,
 }
 
-impl TypedName {
+impl<'a> TypedName<'a> {
     /// Whether it was made of the name and the type of a procedure.
     fn is_of(&self, procedure: &Procedure<'_>) -> bool
         ensures { (result ≡ true) ↔ IsNamedBy procedure.now self.now }
     {
-        self.type_index == procedure.type_index && self.raw.as_slice() == procedure.name.as_bytes()
+        self.type_index == procedure.type_index && self.raw.as_bytes() == procedure.name.as_bytes()
     }
 }
 
-/// The names of procedures by their types that were asked for, by module and symbol.
+/// The names of procedures by their types that were asked for, by module and number.
 #[derive(Drop)]
-pub struct TypedNames {
-    /// The names, each under the place of its procedure's symbol in its module.
-    by_symbol: ByModule<TypedName>,
+pub struct TypedNames<'a> {
+    /// The names, each at its procedure's number in its module.
+    by_number: ByNumber<TypedName<'a>>,
 }
 
-impl TypedNames {
+impl<'a> TypedNames<'a> {
     /// No names yet.
-    pub fn new(alloc: Global) -> TypedNames
+    pub fn new(alloc: Global) -> TypedNames<'a>
         ensures { (text : ℕ → List ℕ → ℕ → Option (List ℕ)) → AreTyped text result }
     {
         TypedNames {
-            by_symbol: ByModule::new(alloc),
+            by_number: ByNumber::new(alloc),
         }
     }
 
@@ -58,26 +59,26 @@ impl TypedNames {
         alloc: Global,
         formatter: &mut TypeFormatter<'_, '_, P>,
         module_index: u16,
-        procedure: &Procedure<'_>,
+        number: usize,
+        procedure: &Procedure<'a>,
     ) -> Result<Option<String>, AllocError>
         requires { AreTyped (typed_text P.provided formatter.old) self.old }
         ensures kept { AreTyped (typed_text P.provided formatter.old) self.new }
         ensures same { formatter.new ≡ formatter.old }
         ensures name { IfOk result (λ n. option_map string_bytes n ≡ name_by_type (env_of P.provided formatter.old module_index) procedure.now) }
     {
-        let symbol = procedure.symbol_index.0;
-        if let Some(name) = self.by_symbol.get(module_index, symbol) {
+        if let Some(name) = self.by_number.get(module_index, number) {
             if name.is_of(procedure) {
                 return clone_name(alloc, &name.text);
             }
         }
         let text = typed_name(alloc, formatter, usize::from(module_index), procedure)?;
         let name = TypedName {
-            raw: Vec::from_slice(alloc, procedure.name.as_bytes())?,
+            raw: procedure.name,
             type_index: procedure.type_index,
             text: clone_name(alloc, &text)?,
         };
-        self.by_symbol.insert(alloc, module_index, symbol, name)?;
+        self.by_number.insert(alloc, module_index, number, name)?;
         Ok(text)
     }
 }

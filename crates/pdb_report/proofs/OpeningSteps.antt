@@ -17,12 +17,12 @@ use Rattle.pdb_resolving.specs.declared.error.Error.TheVariants as contexts
 use Rattle.pdb_resolving.specs.Fault as answers
 use Rattle.pdb_resolving.specs.Resolving.{Provided, none_failed}
 use Rattle.pdb_type_sizes.specs.Reading.{pointer_bytes}
-use Rattle.pdb_type_text.specs.Printing.{Formatting}
-use Rattle.pdb_frames.specs.Choice.{Parts, Scope}
-use Rattle.pdb_frames.specs.Parts.{scope_of}
-use Rattle.pdb_context.specs.Context.{Context, context_over}
-use Rattle.pdb_frames.specs.Failed.{no_failures}
-use Rattle.pdb_frames.specs.Frames.{frames, function}
+use Rattle.pdb_addr2line.specs.Printing.{Formatting}
+use Rattle.pdb_addr2line.specs.Choice.{Parts, Scope}
+use Rattle.pdb_addr2line.specs.Parts.{scope_of}
+use Rattle.pdb_addr2line.specs.Context.{Context, context_over}
+use Rattle.pdb_addr2line.specs.Failed.{no_failures}
+use Rattle.pdb_addr2line.specs.Frames.{frames, function}
 use Rattle.pdb_addr2line.specs.Formatters as held
 use Rattle.pdb_addr2line.specs.Held.{Held, IsOwn, loaded_in, given, names_in}
 use Rattle.pdb_addr2line.specs.Kept.{KeptInfo, answered_at}
@@ -30,7 +30,7 @@ use Rattle.pdb_addr2line.specs.Loading as kept
 use Rattle.pdb_addr2line.specs.Loading.{Tables, tables, listed}
 use Rattle.pdb_report.specs.declared.fault.LoadFault.{LoadFault}
 use Rattle.pdb_report.specs.declared.fault.LoadFault.TheVariants as faults
-use Rattle.pdb_frames.specs.Runs.{database_of}
+use Rattle.pdb_addr2line.specs.Runs.{database_of}
 use Rattle.pdb_report.specs.Answer.{AnswersAs, Listing, address_map, answer, answer_by, database, database_by, function_at, function_by, given_in, listing, listing_by, map_by, scope}
 use Rattle.pdb_report.specs.Faults.{LoadingFault, AddressTableDecreases, lifted, in_loading, load_fault_of, load_fault_in_context, FailsLoading}
 use Rattle.pdb_report.specs.Kept.{IsKept, AreInOrder, answered_in}

@@ -2,8 +2,7 @@
 use Rattle.std.proofs.Common.{◌≡◌, Result, Ok, Err, refl, sym, ap, ◌∙◌}
 use Rattle.std.specs.Prelude.{Option}
 use Rattle.pdb_resolving.specs.Fault.{Fault}
-use Rattle.pdb_frames.specs.declared.failures.Part.{Part}
-use Rattle.pdb_frames.specs.Failed.{Failures, told}
+use Rattle.pdb_addr2line.specs.Failed.{Failures, Part, told}
 use Rattle.pdb_functions.specs.Frames.{FunctionFrames}
 use Rattle.pdb_report.specs.AddressText.{answer_text}
 

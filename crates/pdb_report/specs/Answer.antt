@@ -8,13 +8,13 @@ use Rattle.pdb_symbols_modules.specs.Streams.{Streams}
 use Rattle.pdb_resolving.specs.Fault.{Fault}
 use Rattle.pdb_resolving.specs.Resolving.{Provided, none_failed}
 use Rattle.pdb_type_sizes.specs.Reading.{pointer_bytes}
-use Rattle.pdb_type_text.specs.Printing.{Formatting}
-use Rattle.pdb_frames.specs.Choice.{Parts, Scope}
-use Rattle.pdb_frames.specs.Parts.{scope_of, entries_of}
-use Rattle.pdb_context.specs.Context.{Context, scope_in}
+use Rattle.pdb_addr2line.specs.Printing.{Formatting}
+use Rattle.pdb_addr2line.specs.Choice.{Parts, Scope}
+use Rattle.pdb_addr2line.specs.Parts.{scope_of, entries_of}
+use Rattle.pdb_addr2line.specs.Context.{Context, scope_in}
 use Rattle.pdb_functions.specs.Frames.{FunctionFrames}
-use Rattle.pdb_frames.specs.Frames.{frames, function}
-use Rattle.pdb_frames.specs.Runs.{database_of}
+use Rattle.pdb_addr2line.specs.Frames.{frames, function}
+use Rattle.pdb_addr2line.specs.Runs.{database_of}
 use Rattle.pdb_functions.specs.Databases.{Database}
 use Rattle.pdb_functions.specs.FunctionOrder.{Function}
 use Rattle.pdb_addr2line.specs.Held.{given, names_in}

@@ -6,7 +6,7 @@ use Rattle.pdb_symbols_modules.specs.DatabaseCalls.{debug_information}
 use Rattle.pdb_symbols_modules.specs.Shared.{shared}
 use Rattle.pdb_symbols_modules.specs.Streams.{Streams, streams}
 use Rattle.pdb_resolving.specs.Resolving.{Provided}
-use Rattle.pdb_frames.specs.Choice.{Parts}
+use Rattle.pdb_addr2line.specs.Choice.{Parts}
 use Rattle.pdb_addr2line.specs.Formatters as kept
 use Rattle.pdb_addr2line.specs.Held.{Held, given, names_in}
 use Rattle.pdb_addr2line.specs.Kept.{KeptInfo, answered_at}

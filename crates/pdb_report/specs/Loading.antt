@@ -8,8 +8,8 @@ use Rattle.pdb_symbols_modules.specs.DatabaseCalls.{debug_information, names}
 use Rattle.pdb_symbols_modules.specs.Shared.{Shared, shared}
 use Rattle.pdb_symbols_modules.specs.Streams.{Streams, fault_in}
 use Rattle.pdb_resolving.specs.declared.error.Error.TheVariants as contexts
-use Rattle.pdb_frames.specs.Choice.{Parts}
-use Rattle.pdb_frames.specs.Parts.{parts_of}
+use Rattle.pdb_addr2line.specs.Choice.{Parts}
+use Rattle.pdb_addr2line.specs.Parts.{parts_of}
 use Rattle.pdb_addr2line.specs.Kept.{if_read}
 use Rattle.pdb_addr2line.specs.Loading.{Tables, tables, listed}
 use Rattle.pdb_report.specs.declared.fault.LoadFault.{LoadFault}

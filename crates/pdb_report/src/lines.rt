@@ -1,7 +1,7 @@
 //! What is written for a line of the input, by a context.
 
 ghost use Rattle.std.specs.Prelude.{◌≡◌, IfOk, Some, string_bytes};
-ghost use Rattle.pdb_context.specs.Context.{lasting};
+ghost use Rattle.pdb_addr2line.specs.Context.{lasting};
 ghost use Rattle.pdb_report.specs.Answer.{answer_of};
 ghost use Rattle.pdb_report.specs.AddressText.{line_text as text_of_line, text_at};
 

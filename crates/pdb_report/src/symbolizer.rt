@@ -2,7 +2,7 @@
 
 ghost use Rattle.std.specs.Prelude.{◌≡◌, IfOk, OnOk, IfErr, IsOkUnless, None, Some};
 ghost use Rattle.pdb_addresses.specs.Addresses.{IsOrdered};
-ghost use Rattle.pdb_frames.specs.Failed.{no_failures};
+ghost use Rattle.pdb_addr2line.specs.Failed.{no_failures};
 ghost use Rattle.pdb_report.specs.declared.fault.LoadFault.TheVariants as faults;
 ghost use Rattle.pdb_report.specs.Answer.{AnswersAs, address_map as address_map_of};
 ghost use Rattle.pdb_report.specs.Faults.{FailsLoading};

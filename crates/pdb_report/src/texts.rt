@@ -3,9 +3,10 @@
 ghost use Rattle.std.specs.Prelude.{◌≡◌, ◌++◌, ◌∷◌, IfOk, OnOk, Ok, Err, string_bytes, option_map, codes};
 ghost use Rattle.std.specs.List.{flat_map};
 ghost use Rattle.pdb_resolving.specs.Fault.{Fault};
-ghost use Rattle.pdb_report.specs.AddressText.{eight_digits, frame_text, answer_text, text_or};
+ghost use Rattle.pdb_report.specs.AddressText.{eight_digits, frame_text, answer_text, number_text, text_or};
 ghost use Rattle.std.specs.Cow.{cow_str_bytes};
 
+use itoa::Buffer;
 use pdb_addr2line::{Frame, FunctionFrames};
 use std::alloc::{AllocError, Global};
 use std::borrow::CowStr;
@@ -17,11 +18,25 @@ const USUAL_LENGTH: usize = 256;
 fn append_frame(text: &mut String, frame: &Frame<'_>) -> Result<(), AllocError>
     ensures { OnOk result (string_bytes text.new ≡ string_bytes text.old ++ frame_text frame.now) }
 {
-    let function = text_or_unknown(&frame.function);
-    let file = file_or_unknown(&frame.file);
-    match frame.line {
-        None => write!(text, "  {function} at {file}:??\n"),
-        Some(line) => write!(text, "  {function} at {file}:{line}\n"),
+    text.push_str("  ")?;
+    text.push_str(text_or_unknown(&frame.function))?;
+    text.push_str(" at ")?;
+    text.push_str(file_or_unknown(&frame.file))?;
+    text.push_str(":")?;
+    append_line_number(text, frame.line)?;
+    text.push_str("\n")
+}
+
+/// Appends the number of a line, or two question marks.
+fn append_line_number(text: &mut String, line: Option<u32>) -> Result<(), AllocError>
+    ensures { OnOk result (string_bytes text.new ≡ string_bytes text.old ++ number_text line) }
+{
+    match line {
+        None => text.push_str("??"),
+        Some(line) => {
+            let mut buffer = Buffer::new();
+            text.push_str(buffer.format(line))
+        }
     }
 }
 

@@ -1,5 +1,5 @@
 use Rattle.std.specs.Prelude.{◌≡◌, take, map}
-use Rattle.pdb_type_text.specs.Printing.{env_of}
+use Rattle.pdb_names.specs.Printing.{env_of}
 use Rattle.pdb_frames.specs.Frames.{call_frame}
 use Rattle.pdb_known_modules.specs.Seen.{extended_seen}
 use Rattle.pdb_frames.proofs.frames.call_frames.Given as goal

@@ -7,6 +7,6 @@ use Rattle.pdb_known_modules.proofs.modules.BasicModuleInfo.extended_procedure.G
 pub returns-in-Some-Some : goal.returns-in-Some-Some
 returns-in-Some-Some g c =
     let kept = c.self.inside.kept_procedures.items in
-    let at : slice_get kept c.in_ok-number.number ≡ Some (Some c.in-Some-Some.data) = sym c.place_at.ensures ∙ ap (option_map (λ p. p.now)) c.in-Some-Some.is ∙ ap Some c.in-Some-Some.field-0-is in
+    let at : slice_get kept c.args.number ≡ Some (Some c.in-Some-Some.data) = sym c.place_at.ensures ∙ ap (option_map (λ p. p.now)) c.in-Some-Some.is ∙ ap Some c.in-Some-Some.field-0-is in
     let has = c.is_of.ensures.0 c.if-is_of.true in
-    lent_of_held _ c.args.self.now.stream kept c.in_ok-number.number c.in-Some-Some.data c.args.procedure.now (ap (λ (m : ModuleData). m.stream) c.self.view_is) (c.self.invariant.2) at has
+    lent_of_held _ c.args.self.now.stream kept c.args.number c.in-Some-Some.data c.args.procedure.now (ap (λ (m : ModuleData). m.stream) c.self.view_is) (c.self.invariant.2) at has
