@@ -9,7 +9,7 @@ use Rattle.pdb_failed_parts.specs.Failed.{stands, with_part}
 use Rattle.pdb_resolving.specs.declared.error.Error.{Error}
 use Rattle.pdb_resolving.specs.declared.error.Error.TheVariants as errors
 use Rattle.pdb_resolving.specs.Fault.{Fault, ExtendedModuleInfoUnsuccessful, ProcedureLinesUnsuccessful, ProcedureInlineRangesUnsuccessful}
-pub use Rattle.pdb_frames.specs.declared.failures.Part.{Part}
+use Rattle.pdb_frames.specs.declared.failures.Part.{Part}
 use Rattle.pdb_frames.specs.declared.failures.Part.TheVariants as parts
 use Rattle.pdb_frames.specs.Choice.{Parts, Scope, Chosen, Proc, Public, chosen, start_of, place_of}
 use Rattle.pdb_frames.specs.Frames.{held_at}

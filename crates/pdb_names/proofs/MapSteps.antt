@@ -13,13 +13,14 @@ here : {V : Type 0} (k n : ℕ) (value : V) (old map : BTreeMap ℕ V) → get n
     → get nat_cmp map n ≡ cond (n == k) (Some value) (get nat_cmp old n)
 here k n value old map is = grind (arith, nat_tests)
 
-past_zero : (m : ℕ) → (suc m == 0) ≡ false
+-- how a number and 0, and two numbers that aren't 0, are equal
+pub past_zero : (m : ℕ) → (suc m == 0) ≡ false
 past_zero m = grind (arith, nat_tests)
 
-before_suc : (i : ℕ) → (0 == suc i) ≡ false
+pub before_suc : (i : ℕ) → (0 == suc i) ≡ false
 before_suc i = grind (arith, nat_tests)
 
-both_suc : (m i : ℕ) → (suc m == suc i) ≡ (m == i)
+pub both_suc : (m i : ℕ) → (suc m == suc i) ≡ (m == i)
 both_suc m i = grind (arith, nat_tests)
 
 set_keeps : {V : Type 0} (maps : List (BTreeMap ℕ V)) (i k : ℕ) (value : V) (old map : BTreeMap ℕ V) → i < length maps → old ≡ get_or maps i old → Updates nat_cmp old map k (Some value) → (m n : ℕ)

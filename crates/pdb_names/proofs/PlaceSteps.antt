@@ -1,12 +1,12 @@
 -- What is kept in lists of places when one of the places changes.
-use Rattle.std.proofs.Common.{◌≡◌, ℕ, zero, suc, ◌<◌, List, [], ◌∷◌, ◌++◌, length, get_or, None, Some, false, refl, arith}
+use Rattle.std.proofs.Common.{◌≡◌, ℕ, zero, suc, ◌<◌, List, [], ◌∷◌, ◌++◌, length, get_or, None, Some, refl, arith}
 use Rattle.std.specs.Prelude.{◌&&◌, ◌==◌, Option, cond, slice_get, slice_set}
 use Rattle.std.specs.Global.{Vec}
 use Rattle.std.specs.Vec.{with_item}
-use Rattle.std.proofs.lemmas.Bool.Decides.{nat_tests}
 use Rattle.pdb_names.specs.declared.by_number.ByNumber.{ByNumber}
 use Rattle.pdb_names.specs.ByNumber.{IsPut, IsSamePlaces, kept_among, kept_at, kept_in}
 use Rattle.pdb_names.specs.Kept.{IsKept, IsSameKept}
+use Rattle.pdb_names.proofs.MapSteps.{past_zero, before_suc, both_suc}
 
 empty_behind : {V : Type 0} (places : List (Option V)) (n : ℕ) → kept_in (places ++ None ∷ []) n ≡ kept_in places n
 empty_behind [] zero = refl
@@ -17,15 +17,6 @@ empty_behind (place ∷ places) (suc n) = empty_behind places n
 -- an empty place behind the others changes nothing of what is kept
 pub one_more : {V : Type 0} (before places after : List (Option V)) → IsSamePlaces before places → after ≡ places ++ None ∷ [] → IsSamePlaces before after
 one_more before places after same is = record { each = λ n. rw (is, ← same.each n) (empty_behind places n) }
-
-past_zero : (m : ℕ) → (suc m == 0) ≡ false
-past_zero m = grind (arith, nat_tests)
-
-before_suc : (i : ℕ) → (0 == suc i) ≡ false
-before_suc i = grind (arith, nat_tests)
-
-both_suc : (m i : ℕ) → (suc m == suc i) ≡ (m == i)
-both_suc m i = grind (arith, nat_tests)
 
 set_puts : {V : Type 0} (places : List (Option V)) (k : ℕ) (value : V) → k < length places → (n : ℕ)
     → kept_in (slice_set places k (Some value)) n ≡ cond (n == k) (Some value) (kept_in places n)
