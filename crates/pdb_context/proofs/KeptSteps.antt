@@ -4,7 +4,7 @@ use Rattle.pdb_symbols_modules.specs.Modules.{Module}
 use Rattle.pdb_known_modules.specs.Kept.{AreKept}
 use Rattle.pdb_known_modules.specs.Modules.{ModuleData}
 
--- what was kept by a list of modules is kept by the same list, where what is kept is the same
+-- what is kept is the modules' own also after a call that leaves it as it was
 pub still_kept : (own : List Module → ℕ → Option ModuleData) (entries listed : List Module) (before after : List (Option (Option ModuleData))) → AreKept (own listed) before → listed ≡ entries → after ≡ before
     → AreKept (own entries) after
 still_kept own entries listed before after kept same now =

@@ -160,8 +160,8 @@ fn frames_told<'a, P: ModuleProvider>(
     }
 }
 
-/// Reads the rows of the public entry that is chosen at a place that a contribution holds, where no procedure is, if one is, and
-/// keeps them. Where they stand as failed nothing is read.
+/// Reads the rows of the public entry at a place that a contribution holds and no procedure is over, if there is one, and keeps
+/// them. Where they stand as failed nothing is read.
 fn keep_public_entry<'a, I: ModuleTables>(
     alloc: Global,
     kept: &mut [KeptModule<'a, I>],

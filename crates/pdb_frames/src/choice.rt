@@ -3,14 +3,14 @@
 ghost use Rattle.std.specs.Prelude.{◌≡◌, option_copied, option_map};
 ghost use Rattle.pdb_frames.specs.Choice.{chosen as chosen_at, start_of, start_address, length_of, end_behind};
 ghost use Rattle.pdb_frames.specs.Frames.{function_end};
-ghost use Rattle.pdb_known_modules.specs.Modules.{procedure_numbered, procedures_in};
+ghost use Rattle.pdb_known_modules.specs.Modules.{procedure_if_numbered, procedures_in};
 ghost use Rattle.pdb_module_data.specs.Procedures.{over};
 ghost use Rattle.pdb_frames.specs.Seen.{chosen_seen};
 
 use crate::parts::ContextParts;
 use pdb_addresses::PdbInternalSectionOffset;
 use pdb_contributions::ModuleSectionContribution;
-use pdb_known_modules::{BasicModuleInfo, procedure_at};
+use pdb_known_modules::{BasicModuleInfo, procedure_numbered};
 use pdb_module_data::Procedure;
 use pdb_public_list::PublicFunction;
 use pdb_resolving::ModuleTables;
@@ -18,7 +18,7 @@ use pdb_resolving::ModuleTables;
 /// A function that is chosen: a procedure, or an entry of the public list.
 #[derive(Clone, Copy)]
 pub enum Chosen<'c, 'a> {
-    /// A procedure of the module that holds the place, by its number among those, counted from 0.
+    /// A procedure of the module that holds the place, behind its number among that module's procedures, counted from 0.
     Procedure(usize, &'c Procedure<'a>),
     /// An entry of the public list.
     Public(&'c PublicFunction<'a>),
@@ -33,11 +33,13 @@ pub fn choose<'c, 'a, I: ModuleTables>(
     contribution: ModuleSectionContribution,
     place: PdbInternalSectionOffset,
 ) -> Option<Chosen<'c, 'a>>
-    requires { procedure_numbered (procedures_in (option_copied known)) number ≡ over (procedures_in (option_copied known)) place }
+    requires { procedure_if_numbered (procedures_in (option_copied known)) number ≡ over (procedures_in (option_copied known)) place }
     ensures { option_map chosen_seen result ≡ chosen_at parts.now (procedures_in (option_copied known.entry)) contribution place }
 {
-    if let Some((number, procedure)) = procedure_at(known, number) {
-        return Some(Chosen::Procedure(number, procedure));
+    if let Some(number) = number {
+        if let Some(procedure) = procedure_numbered(known, number) {
+            return Some(Chosen::Procedure(number, procedure));
+        }
     }
     match parts.publics.over(contribution.start_offset, place) {
         None => None,

@@ -55,9 +55,9 @@ abbrev pub procedures_in : Option ModuleData → List Procedure
 procedures_in None = []
 procedures_in (Some known) = known.procedures
 
--- the procedure of a number that may be known
-abbrev pub procedure_numbered : List Procedure → Option ℕ → Option Procedure
-procedure_numbered procedures number = option_and_then (λ k. slice_get procedures k) number
+-- the procedure of a number, if a number is given
+abbrev pub procedure_if_numbered : List Procedure → Option ℕ → Option Procedure
+procedure_if_numbered procedures number = option_and_then (λ k. slice_get procedures k) number
 
 -- ---- lines and inlined calls
 

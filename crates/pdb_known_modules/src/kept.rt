@@ -1,6 +1,6 @@
 //! What is kept of modules that were asked for.
 
-ghost use Rattle.std.specs.Prelude.{◌≡◌, IfOk, length, option_copied, replicate, None, slice_get};
+ghost use Rattle.std.specs.Prelude.{◌≡◌, IfOk, option_copied, replicate, None, slice_get};
 ghost use Rattle.pdb_known_modules.specs.Kept.{AreKept, known_in, is_empty as is_empty_place};
 ghost use Rattle.pdb_known_modules.specs.Modules.{module_data, own_of};
 

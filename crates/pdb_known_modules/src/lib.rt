@@ -11,7 +11,7 @@ pub use kept::{
     KeptModule, empty_places, keep_lines, keep_module, keep_procedure, keep_public_rows, known_at,
 };
 pub use modules::{
-    BasicModuleInfo, ExtendedModuleInfo, get_basic_module_info, number_over, procedure_at,
+    BasicModuleInfo, ExtendedModuleInfo, get_basic_module_info, number_over, procedure_numbered,
     procedures_in, read_extended,
 };
 pub use procedure_data::{ExtendedProcedureInfo, read_extended_procedure};

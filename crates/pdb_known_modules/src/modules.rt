@@ -9,7 +9,7 @@ ghost use Rattle.pdb_module_data.specs.Procedures.{over};
 ghost use Rattle.pdb_known_modules.specs.ProcedureData.{IsLentOf, IsOfStream};
 ghost use Rattle.pdb_known_modules.specs.PublicRows.{AreLentAt, AreRowsAt};
 ghost use Rattle.pdb_known_modules.specs.Seen.{extended_seen, AreExtendedHere};
-ghost use Rattle.pdb_known_modules.specs.Modules.{data_of_stream, data_if_there, extended_of, module_data, own_of, procedure_numbered, procedures_in as procedures_of_module};
+ghost use Rattle.pdb_known_modules.specs.Modules.{data_of_stream, data_if_there, extended_of, module_data, own_of, procedure_if_numbered, procedures_in as procedures_of_module};
 
 use crate::procedure_data::{ExtendedProcedureInfo, empty_procedures, read_extended_procedure};
 use crate::public_rows::PublicRows;
@@ -171,7 +171,7 @@ impl<'a, I: ModuleTables> BasicModuleInfo<'a, I> {
         }
     }
 
-    /// The data that are kept at a procedure's number, if they are its own.
+    /// The data that are kept at a procedure's number, if they are the procedure's own.
     #[tactic(auto, using(crate::proofs::KeptProcedures::lent_of))]
     pub fn extended_procedure(
         &self,
@@ -320,12 +320,12 @@ pub fn procedures_in<'m, 'a, I: ModuleTables>(
     }
 }
 
-/// The number of the procedure of a module over a place, counted from 0 in their order; none without data.
+/// The number of the procedure of a module over a place, counted from 0 in the order of the module's procedures; none without data.
 pub fn number_over<'a, I: ModuleTables>(
     known: Option<&BasicModuleInfo<'a, I>>,
     place: PdbInternalSectionOffset,
 ) -> Option<usize>
-    ensures { procedure_numbered (procedures_of_module (option_copied known.entry)) result ≡ over (procedures_of_module (option_copied known.entry)) place }
+    ensures { procedure_if_numbered (procedures_of_module (option_copied known.entry)) result ≡ over (procedures_of_module (option_copied known.entry)) place }
 {
     match known {
         None => None,
@@ -333,15 +333,15 @@ pub fn number_over<'a, I: ModuleTables>(
     }
 }
 
-/// The procedure of a module of a number that may be known; none without data.
-pub fn procedure_at<'m, 'a, I: ModuleTables>(
+/// The procedure of a number in a module; none without data.
+pub fn procedure_numbered<'m, 'a, I: ModuleTables>(
     known: Option<&'m BasicModuleInfo<'a, I>>,
-    number: Option<usize>,
-) -> Option<(usize, &'m Procedure<'a>)>
-    ensures { option_map (λ q. (q.1).now) result ≡ procedure_numbered (procedures_of_module (option_copied known.entry)) number }
+    number: usize,
+) -> Option<&'m Procedure<'a>>
+    ensures { option_map (λ q. q.now) result ≡ slice_get (procedures_of_module (option_copied known.entry)) number }
 {
-    let known = known?;
-    let number = number?;
-    let procedure = known.procedures.as_slice().get(number)?;
-    Some((number, procedure))
+    match known {
+        None => None,
+        Some(known) => known.procedures.as_slice().get(number),
+    }
 }

@@ -51,7 +51,8 @@ pub fn calls_from(
         → v.items ≡ flat_map (λ k. calls_of lines place (slice_get sites.now k)) (chain_of sites.now number)) }
     ensures deep { IfOk result (λ v. IfSome (slice_get sites.now number) (λ s. vec_len v ≡ s.depth)) }
 {
-    let mut calls = Vec::new(alloc);
+    let deepest = &sites[number];
+    let mut calls = Vec::with_capacity(alloc, deepest.depth)?;
     let mut next = Some(number);
     while let Some(k) = next {
         let site = &sites[k];

@@ -13,7 +13,7 @@ here : {V : Type 0} (k n : ℕ) (value : V) (old map : BTreeMap ℕ V) → get n
     → get nat_cmp map n ≡ cond (n == k) (Some value) (get nat_cmp old n)
 here k n value old map is = grind (arith, nat_tests)
 
--- how a number and 0, and two numbers that aren't 0, are equal
+-- when numbers are equal, by whether they are 0
 pub past_zero : (m : ℕ) → (suc m == 0) ≡ false
 past_zero m = grind (arith, nat_tests)
 

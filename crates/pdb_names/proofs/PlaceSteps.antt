@@ -1,34 +1,12 @@
 -- What is kept in lists of places when one of the places changes.
-use Rattle.std.proofs.Common.{◌≡◌, ℕ, zero, suc, ◌<◌, List, [], ◌∷◌, ◌++◌, length, get_or, None, Some, refl, arith}
+use Rattle.std.proofs.Common.{◌≡◌, ℕ, zero, suc, ◌<◌, List, [], ◌∷◌, length, get_or, Some, refl, arith}
 use Rattle.std.specs.Prelude.{◌&&◌, ◌==◌, Option, cond, slice_get, slice_set}
 use Rattle.std.specs.Global.{Vec}
 use Rattle.std.specs.Vec.{with_item}
 use Rattle.pdb_names.specs.declared.by_number.ByNumber.{ByNumber}
-use Rattle.pdb_names.specs.ByNumber.{IsPut, IsSamePlaces, kept_among, kept_at, kept_in}
+use Rattle.pdb_names.specs.ByNumber.{IsPut, IsSamePlaces, kept_among, kept_at}
 use Rattle.pdb_names.specs.Kept.{IsKept, IsSameKept}
 use Rattle.pdb_names.proofs.MapSteps.{past_zero, before_suc, both_suc}
-
-empty_behind : {V : Type 0} (places : List (Option V)) (n : ℕ) → kept_in (places ++ None ∷ []) n ≡ kept_in places n
-empty_behind [] zero = refl
-empty_behind [] (suc n) = refl
-empty_behind (place ∷ places) zero = refl
-empty_behind (place ∷ places) (suc n) = empty_behind places n
-
--- an empty place behind the others changes nothing of what is kept
-pub one_more : {V : Type 0} (before places after : List (Option V)) → IsSamePlaces before places → after ≡ places ++ None ∷ [] → IsSamePlaces before after
-one_more before places after same is = record { each = λ n. rw (is, ← same.each n) (empty_behind places n) }
-
-set_puts : {V : Type 0} (places : List (Option V)) (k : ℕ) (value : V) → k < length places → (n : ℕ)
-    → kept_in (slice_set places k (Some value)) n ≡ cond (n == k) (Some value) (kept_in places n)
-set_puts [] k value lt n = absurd (omega arith)
-set_puts (place ∷ places) zero value lt zero = refl
-set_puts (place ∷ places) zero value lt (suc n) = rw (past_zero n) refl
-set_puts (place ∷ places) (suc k) value lt zero = rw (before_suc k) refl
-set_puts (place ∷ places) (suc k) value lt (suc n) = rw (both_suc n k) (set_puts places k value (omega arith) n)
-
--- where there is a place, a value that is set there is put there
-pub is_put : {V : Type 0} (before places after : List (Option V)) (k : ℕ) (value : V) → IsSamePlaces before places → k < length places → after ≡ slice_set places k (Some value) → IsPut before after k value
-is_put before places after k value same lt is = record { each = λ n. rw (is, ← same.each n) (set_puts places k value lt n) }
 
 set_same : {V : Type 0} (modules : List (Vec (Option V))) (i : ℕ) (old places : Vec (Option V)) → old ≡ get_or modules i old → IsSamePlaces old.items places.items → (m n : ℕ)
     → kept_among (slice_get (slice_set modules i places) m) n ≡ kept_among (slice_get modules m) n

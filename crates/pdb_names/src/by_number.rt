@@ -1,4 +1,4 @@
-//! What is kept by the number of a module and a number in it that needs no search.
+//! What is kept at a number in the module of a number, found without a search.
 
 ghost use Rattle.std.specs.Prelude.{◌≡◌, ◌<◌, ℕ, None, OnErr, OnOk, length, option_copied};
 ghost use Rattle.pdb_names.specs.ByNumber.{kept_at, IsPut, IsSamePlaces};
@@ -14,7 +14,7 @@ pub struct ByNumber<V> {
 }
 
 /// Makes places up to a number, where there are none yet. What is kept stays.
-fn make_place<V: Drop>(places: &mut Vec<Option<V>>, number: usize) -> Result<(), AllocError>
+fn make_places<V: Drop>(places: &mut Vec<Option<V>>, number: usize) -> Result<(), AllocError>
     ensures made { OnOk result (number < length places.new.items) }
     ensures same { IsSamePlaces places.old.items places.new.items }
 {
@@ -29,7 +29,7 @@ fn put<V: Drop>(places: &mut Vec<Option<V>>, number: usize, value: V) -> Result<
     ensures kept { OnOk result (IsPut places.old.items places.new.items number value) }
     ensures failed { OnErr result (IsSamePlaces places.old.items places.new.items) }
 {
-    make_place(places, number)?;
+    make_places(places, number)?;
     places[number] = Some(value);
     Ok(())
 }

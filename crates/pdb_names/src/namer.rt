@@ -91,7 +91,8 @@ impl<'a, 's, P: ModuleProvider> Namer<'a, 's, P> {
             .name(alloc, self.formatter.get_mut(), module_index, inlinee)
     }
 
-    /// The name of a procedure by its type, at its number in the module of a number; `None` where no text can be made of it.
+    /// The name of a procedure by its type in the module of a number, kept at the procedure's own number; `None` where no text can
+    /// be made of it.
     pub fn typed_name(
         &mut self,
         alloc: Global,

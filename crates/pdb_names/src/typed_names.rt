@@ -1,7 +1,6 @@
 //! The names of procedures that were asked for.
 
 ghost use Rattle.std.specs.Prelude.{◌≡◌, ◌↔◌, ℕ, true, IfOk, List, Option, option_map, string_bytes};
-ghost use Rattle.pdb_container.specs.RawString.{raw_bytes};
 ghost use Rattle.pdb_names.specs.Names.{typed_name as name_by_type};
 ghost use Rattle.pdb_names.specs.TypedNames.{AreTyped, IsNamedBy, typed_text};
 ghost use Rattle.pdb_type_text.specs.Printing.{env_of};
@@ -53,7 +52,7 @@ impl<'a> TypedNames<'a> {
     }
 
     /// The name of a procedure by its type in the module of a number; `None` where no text can be made of it. It is made and
-    /// kept, unless it was kept before. Nothing is kept where memory is short.
+    /// kept at the procedure's number, unless it was kept before. Nothing is kept where memory is short.
     pub fn name<P: ModuleProvider>(
         &mut self,
         alloc: Global,

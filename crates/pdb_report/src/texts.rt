@@ -12,7 +12,7 @@ use std::alloc::{AllocError, Global};
 use std::borrow::CowStr;
 
 /// How many bytes most answers fit into, so that their text isn't moved as it grows.
-const USUAL_LENGTH: usize = 256;
+const USUAL_LENGTH: usize = 512;
 
 /// Appends the line of a frame.
 fn append_frame(text: &mut String, frame: &Frame<'_>) -> Result<(), AllocError>
