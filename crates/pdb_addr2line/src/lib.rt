@@ -8,9 +8,10 @@ mod pdb_data;
 
 pub use loading::{Tables, read_tables};
 pub use module_infos::KeptModules;
-pub use pdb_context::{Context, Frame, Function, FunctionFrames, FunctionIter, maybe_owned};
-pub use pdb_contributions::ModuleSectionContribution;
+pub use pdb_context::{
+    Context, Frame, Function, FunctionFrames, FunctionIter, ModuleSectionContribution,
+    TypeFormatter, maybe_owned,
+};
 pub use pdb_data::ContextPdbData;
 pub use pdb_resolving::{Error, ModuleProvider, Result};
 pub use pdb_type_flags::{Flags, TypeFormatterFlags};
-pub use pdb_type_text::TypeFormatter;

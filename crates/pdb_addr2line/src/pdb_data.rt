@@ -18,11 +18,10 @@ use crate::module_infos::{KeptModules, collect_modules, read_module_infos};
 use pdb_addresses::AddressMap;
 use pdb_container::{Result, Source, StringTable};
 use pdb_context::maybe_owned::MaybeOwned;
-use pdb_context::{Context, ContextParts};
+use pdb_context::{Context, ContextParts, TypeFormatter};
 use pdb_resolving::{Error, ModuleProvider};
 use pdb_symbols_modules::{DebugInformation, Module, ModuleInfo, PDB};
 use pdb_type_flags::TypeFormatterFlags;
-use pdb_type_text::TypeFormatter;
 use std::alloc::Global;
 use std::marker::{Model, PhantomData};
 

@@ -5,7 +5,7 @@ use Rattle.pdb_resolving.specs.declared.error.Error.{Error}
 use Rattle.pdb_resolving.specs.declared.error.Error.TheVariants as errors
 use Rattle.pdb_resolving.specs.Fault.{Fault}
 use Rattle.pdb_resolving.specs.Resolving.{Provided}
-use Rattle.pdb_type_text.specs.Printing.{Formatting}
+use Rattle.pdb_frames.specs.Printing.{Formatting}
 use Rattle.pdb_frames.specs.Choice.{Parts, Scope}
 use Rattle.pdb_frames.specs.Failed.{Failures, no_failures}
 use Rattle.pdb_frames.specs.Parts.{scope_of}

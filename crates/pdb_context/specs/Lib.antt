@@ -4,5 +4,5 @@ pub use Rattle.pdb_frames.specs.Choice
 pub use Rattle.pdb_frames.specs.Failed
 pub use Rattle.pdb_frames.specs.Frames
 pub use Rattle.pdb_frames.specs.Parts
+pub use Rattle.pdb_frames.specs.Printing
 pub use Rattle.pdb_frames.specs.Runs
-pub use Rattle.pdb_names.specs.Printing

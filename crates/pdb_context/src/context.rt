@@ -10,31 +10,29 @@ ghost use Rattle.pdb_frames.specs.Parts.{entries_of, parts_of, scope_of};
 ghost use Rattle.pdb_context.specs.Context.{context_over, lasting, scope_in, uncounted, lookups_after};
 ghost use Rattle.pdb_frames.specs.Failed.{failed_after, failing, failing_at, failing_if_held, failing_in as failing_in_module, told};
 ghost use Rattle.pdb_frames.specs.Frames.{frames, frames_at as frames_at_place, frames_if_held, frames_of_chosen, function, function_at as function_at_contribution, function_of as function_of_chosen, held_at};
-ghost use Rattle.pdb_names.specs.MaybeOwned.{value_of};
+ghost use Rattle.pdb_frames.specs.MaybeOwned.{value_of};
 ghost use Rattle.pdb_known_modules.specs.Modules.{module_data, own_of};
 ghost use Rattle.pdb_frames.specs.Runs.{bounds_near, database_of, function_here as function_at_place, procedures_of};
 ghost use Rattle.pdb_frames.specs.Seen.{chosen_seen};
 ghost use Rattle.pdb_functions.specs.Databases.{IsOneRun, place_of as as_place};
-ghost use Rattle.pdb_type_text.specs.Printing.{env_of};
+ghost use Rattle.pdb_frames.specs.Printing.{env_of};
 
 use pdb_addresses::{AddressMap, ImageSectionHeader, PdbInternalSectionOffset, Rva};
 use pdb_container::StringTable;
 use pdb_contributions::ModuleSectionContribution;
+use pdb_frames::maybe_owned::MaybeOwned;
 use pdb_frames::{
-    Chosen, ContextParts, Failures, Part, choose, failing_in, frames_in, name_of, to_next_bound,
-    to_next_shared_bound, unsuccessful,
+    Chosen, ContextParts, Failures, Namer, Part, TypeFormatter, choose, failing_in, frames_in,
+    name_of, to_next_bound, to_next_shared_bound, unsuccessful,
 };
 use pdb_functions::{Function, FunctionFrames};
 use pdb_known_modules::{
     BasicModuleInfo, KeptModule, empty_places, keep_lines, keep_module, keep_procedure,
     keep_public_rows, known_at, number_over,
 };
-use pdb_names::Namer;
-use pdb_names::maybe_owned::MaybeOwned;
 use pdb_resolving::{Error, ModuleProvider, ModuleTables, Result};
 use pdb_symbols::SymbolTable;
 use pdb_symbols_modules::DebugInformation;
-use pdb_type_text::TypeFormatter;
 use std::alloc::{AllocError, Global};
 use std::marker::Model;
 

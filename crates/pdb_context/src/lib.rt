@@ -7,6 +7,6 @@ mod functions;
 
 pub use context::Context;
 pub use functions::FunctionIter;
-pub use pdb_frames::ContextParts;
+pub use pdb_contributions::ModuleSectionContribution;
+pub use pdb_frames::{ContextParts, TypeFormatter, maybe_owned};
 pub use pdb_functions::{Frame, Function, FunctionFrames};
-pub use pdb_names::maybe_owned;

@@ -5,3 +5,5 @@ pub mod Parts
 pub mod Runs
 pub mod Seen
 pub mod Starts
+pub use Rattle.pdb_names.specs.MaybeOwned
+pub use Rattle.pdb_names.specs.Printing

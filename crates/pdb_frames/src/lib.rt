@@ -16,4 +16,5 @@ pub use failures::{Failures, Part, failing_in, unsuccessful};
 pub use frames::frames_in;
 pub use function_starts::kept_starts;
 pub use parts::ContextParts;
+pub use pdb_names::{Namer, TypeFormatter, maybe_owned};
 pub use runs::{to_next_bound, to_next_shared_bound};

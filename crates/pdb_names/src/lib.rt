@@ -11,3 +11,4 @@ mod typed_names;
 
 pub use namer::Namer;
 pub use names::{clone_name, if_named, is_decorated, raw_name};
+pub use pdb_type_text::TypeFormatter;

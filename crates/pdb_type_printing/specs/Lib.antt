@@ -3,3 +3,5 @@ pub mod Env
 pub mod Printing
 pub mod This
 pub mod Types
+pub use Rattle.pdb_type_sizes.specs.Reading
+pub use Rattle.pdb_type_sizes.specs.Sizes

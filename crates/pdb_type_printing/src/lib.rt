@@ -7,4 +7,5 @@ mod printer;
 mod types;
 
 pub use asker::Asker;
+pub use pdb_type_sizes::ItemReader;
 pub use printer::TypePrinter;

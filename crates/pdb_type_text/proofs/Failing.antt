@@ -1,18 +1,10 @@
 -- What a call that failed says of what is handed over.
-use Rattle.std.proofs.Common.{◌≡◌, Result, Err, ap}
-use Rattle.pdb_container.specs.declared.error.Error.TheVariants as causes
+use Rattle.std.proofs.Common.{◌≡◌, Result, Err}
 use Rattle.pdb_resolving.specs.declared.error.Error.{Error}
 use Rattle.pdb_resolving.specs.declared.error.Error.TheVariants as errors
 use Rattle.pdb_resolving.specs.Fault.{Fault, Fails}
 use Rattle.pdb_type_text.specs.Written.{Emits}
-use Rattle.pdb_text_pieces.specs.Printed.{Text, Printed, Stops, answered}
-
--- a printing that stopped is answered by its fault
-pub stops_fails : (e : Error) (w : Text) (p : Printed) → Stops e w p → Fails e (answered p)
-stops_fails errors.OutOfMemory w p h = tt
-stops_fails (errors.PdbError causes.OutOfMemory) w p h = h
-stops_fails (errors.FormatError cause) w p h = h
-stops_fails e w p h = ap answered h
+use Rattle.pdb_text_pieces.specs.Printed.{Text}
 
 -- a text that wasn't made isn't handed over
 pub fails_emits : {W : Type 0} (takes : W → Text → W → Type 0) (old new : W) (e : Error) (made : Result Text Fault) → new ≡ old → Fails e made → Emits {A = Unit {0}} takes old (Err e) new made

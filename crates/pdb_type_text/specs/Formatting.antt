@@ -3,7 +3,7 @@ use Rattle.std.specs.Prelude.{◌≡◌, Result, Ok, Err}
 use Rattle.pdb_resolving.specs.declared.error.Error.{Error}
 use Rattle.pdb_resolving.specs.declared.error.Error.TheVariants as errors
 use Rattle.pdb_resolving.specs.Resolving.{Provided}
-use Rattle.pdb_type_printing.specs.Printing.{Formatting, KeepsAsFailed}
+use Rattle.pdb_function_text.specs.Printing.{Formatting, KeepsAsFailed}
 
 -- What a call leaves that failed with an error: all as it was, where memory was short or a writer refused the text.
 abbrev pub LeavesAt : {P : Type 0} → (P → Provided) → Formatting P → Error → Formatting P → Type 0

@@ -6,25 +6,24 @@ ghost use Rattle.pdb_symbols_modules.specs.Machine.{machine_of};
 ghost use Rattle.pdb_resolving.specs.declared.error.Error.TheVariants as errors;
 ghost use Rattle.pdb_resolving.specs.Fault.{Answers};
 ghost use Rattle.pdb_resolving.specs.Resolving.{none_failed};
-ghost use Rattle.pdb_type_sizes.specs.Reading.{parts_by, pointer_bytes};
-ghost use Rattle.pdb_type_sizes.specs.Sizes.{size_at};
-ghost use Rattle.pdb_type_printing.specs.Printing.{env_of};
+ghost use Rattle.pdb_function_text.specs.Reading.{parts_by, pointer_bytes};
+ghost use Rattle.pdb_function_text.specs.Sizes.{size_at};
+ghost use Rattle.pdb_function_text.specs.Printing.{env_of};
 ghost use Rattle.pdb_type_text.specs.Formatting.{Leaves};
-ghost use Rattle.pdb_type_text.specs.Functions.{function_text};
-ghost use Rattle.pdb_type_text.specs.Ids.{id_text};
+ghost use Rattle.pdb_function_text.specs.Functions.{function_text};
+ghost use Rattle.pdb_function_text.specs.Ids.{id_text};
 ghost use Rattle.pdb_type_text.specs.Written.{Emits};
 
 use crate::formatter::TypeFormatter;
 use crate::texts::{function_text_of, id_text_of};
 use bitflags::Flags;
 use pdb_container::StringTable;
+use pdb_function_text::{Asker, FunctionPrinter, ItemReader, TypePrinter};
 use pdb_indices::{IdIndex, TypeIndex};
 use pdb_items::{IdInformation, TypeInformation};
 use pdb_resolving::{Error, ModuleProvider, Result};
 use pdb_symbols_modules::{DebugInformation, Module};
 use pdb_type_flags::TypeFormatterFlags;
-use pdb_type_printing::{Asker, TypePrinter};
-use pdb_type_sizes::ItemReader;
 use std::alloc::Global;
 use std::fmt::Write;
 
@@ -65,7 +64,7 @@ impl<'a, 's, P: ModuleProvider> TypeFormatter<'a, 's, P> {
             string_table,
         )?;
         Ok(TypeFormatter {
-            printer: TypePrinter::new(reader, flags.bits()),
+            printer: FunctionPrinter::new(TypePrinter::new(reader, flags.bits())),
         })
     }
 

@@ -1,16 +1,16 @@
 //! A formatter.
 
+use pdb_function_text::FunctionPrinter;
 use pdb_resolving::ModuleProvider;
-use pdb_type_printing::TypePrinter;
 use std::marker::Model;
 
 /// Makes the texts of types, functions and ids.
 pub struct TypeFormatter<'a, 's, P: ModuleProvider> {
-    pub(crate) printer: TypePrinter<'a, 's, P>,
+    pub(crate) printer: FunctionPrinter<'a, 's, P>,
 }
 
 impl<'a, 's, P: ModuleProvider> Model for TypeFormatter<'a, 's, P> {
-    ghost use Rattle.pdb_type_printing.specs.Printing.{Formatting};
+    ghost use Rattle.pdb_function_text.specs.Printing.{Formatting};
 
     ghost Value = { Formatting P };
 

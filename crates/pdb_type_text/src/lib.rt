@@ -1,10 +1,8 @@
-//! Texts of types, functions and ids.
+//! Formatters: texts of functions and ids, and sizes of types.
 #![tactic(auto)]
 
 mod calls;
 mod formatter;
-mod ids;
-mod signatures;
 mod texts;
 
 pub use formatter::TypeFormatter;

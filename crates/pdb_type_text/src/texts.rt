@@ -2,19 +2,17 @@
 
 ghost use Rattle.std.specs.Prelude.{◌≡◌, string_bytes};
 ghost use Rattle.pdb_resolving.specs.Fault.{Answers};
-ghost use Rattle.pdb_type_printing.specs.Printing.{env_of};
-ghost use Rattle.pdb_type_text.specs.Functions.{function_text};
-ghost use Rattle.pdb_type_text.specs.Ids.{id_text};
+ghost use Rattle.pdb_function_text.specs.Printing.{env_of};
+ghost use Rattle.pdb_function_text.specs.Functions.{function_text};
+ghost use Rattle.pdb_function_text.specs.Ids.{id_text};
 
 use crate::formatter::TypeFormatter;
+use pdb_function_text::Asker;
 use pdb_indices::{IdIndex, TypeIndex};
 use pdb_resolving::{ModuleProvider, Result};
-use pdb_text_pieces::Seen;
-use pdb_type_printing::Asker;
 use std::alloc::Global;
 
 /// As [`TypeFormatter::format_function`], but no table of a module is kept as failed.
-#[tactic(auto, using(crate::proofs::Failing::stops_fails))]
 pub fn function_text_of<P: ModuleProvider>(
     formatter: &mut TypeFormatter<'_, '_, P>,
     alloc: Global,
@@ -29,13 +27,12 @@ pub fn function_text_of<P: ModuleProvider>(
         alloc,
         module_index,
     };
-    let mut text = String::new(alloc);
-    formatter.emit_signature(asker, &mut text, name, function_type_index)?;
-    Ok(text)
+    formatter
+        .printer
+        .function_text(asker, name, function_type_index)
 }
 
 /// As [`TypeFormatter::format_id`], but no table of a module is kept as failed.
-#[tactic(auto, using(crate::proofs::Failing::stops_fails))]
 pub fn id_text_of<P: ModuleProvider>(
     formatter: &mut TypeFormatter<'_, '_, P>,
     alloc: Global,
@@ -49,9 +46,5 @@ pub fn id_text_of<P: ModuleProvider>(
         alloc,
         module_index,
     };
-    let mut text = String::new(alloc);
-    let mut path = Vec::new(alloc);
-    let mut ids = Seen::new(&mut path);
-    formatter.emit_id_index(asker, &mut text, id_index, &mut ids)?;
-    Ok(text)
+    formatter.printer.id_text(asker, id_index)
 }

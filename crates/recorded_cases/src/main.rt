@@ -1,13 +1,11 @@
-//! Goes through recorded cases: `recorded_cases reads FILE.. reports FILE.. texts FILE..`.
+//! Goes through recorded cases: `recorded_cases reports FILE.. texts FILE..`.
 //!
-//! The cases of a FILE behind the word `reads` are of reading, and `reads.rt` says what they look like; those of one behind
-//! `reports` are of reports, as `reports.rt` says, and those behind `texts` of formatters and contexts, as `texts.rt` says. A
-//! FILE in front of these words holds cases of reading.
+//! The cases of a FILE behind the word `reports` are of reports, and `reports.rt` says what they look like; those of one behind
+//! `texts` are of formatters and contexts, as `texts.rt` says. A FILE in front of these words holds cases of reports.
 //!
 //! Each case that is answered otherwise than recorded is printed, and at last how many cases there are of each kind.
 #![tactic(auto)]
 
-mod reads;
 mod reports;
 mod texts;
 
@@ -18,8 +16,6 @@ use std::rt::{Env, Files};
 /// What a file's cases are of.
 #[derive(Clone, Copy)]
 enum Kind {
-    /// Of reading.
-    Reads,
     /// Of reports.
     Reports,
     /// Of formatters and contexts.
@@ -27,11 +23,7 @@ enum Kind {
 }
 
 /// The kinds by their words.
-const KINDS: &[(&str, Kind)] = &[
-    ("reads", Kind::Reads),
-    ("reports", Kind::Reports),
-    ("texts", Kind::Texts),
-];
+const KINDS: &[(&str, Kind)] = &[("reports", Kind::Reports), ("texts", Kind::Texts)];
 
 /// The kind that a word names, if it names one.
 fn kind_of(word: &str) -> Option<Kind> {
@@ -47,7 +39,6 @@ fn kind_of(word: &str) -> Option<Kind> {
 #[derive(Clone, Copy)]
 struct Progress {
     kind: Kind,
-    reads: u64,
     reports: u64,
     texts: u64,
 }
@@ -59,9 +50,6 @@ fn run_file(
     file: &str,
 ) -> Result<()> {
     match progress.kind {
-        Kind::Reads => {
-            progress.reads = progress.reads.saturating_add(reads::run_file(rt, file)?);
-        }
         Kind::Reports => {
             progress.reports = progress
                 .reports
@@ -91,15 +79,14 @@ fn take_word(
 
 fn main(rt: HostRuntime) -> Result<()> {
     let mut progress = Progress {
-        kind: Kind::Reads,
-        reads: 0,
+        kind: Kind::Reports,
         reports: 0,
         texts: 0,
     };
     for word in env::args(&rt)?.skip(1) {
         take_word(&rt, &mut progress, word.as_str())?;
     }
-    let (reads, reports, texts) = (progress.reads, progress.reports, progress.texts);
-    println!(rt; "{reads} reads, {reports} reports, {texts} texts")?;
+    let (reports, texts) = (progress.reports, progress.texts);
+    println!(rt; "{reports} reports, {texts} texts")?;
     Ok(())
 }

@@ -1,0 +1,71 @@
+//! What prints functions and ids, over what prints types.
+
+ghost use Rattle.std.specs.Prelude.{◌≡◌, Ok, OnErr, OnOk};
+ghost use Rattle.pdb_resolving.specs.Fault.{Answers};
+ghost use Rattle.pdb_type_printing.specs.Printing.{env_of, KeepsAsFailed};
+
+use pdb_indices::TypeIndex;
+use pdb_resolving::{ModuleProvider, Result};
+use pdb_symbols_modules::Module;
+use pdb_type_printing::{Asker, TypePrinter};
+use std::alloc::AllocError;
+use std::marker::Model;
+
+/// Prints functions and ids by their indices, as the modules of a database have them.
+pub struct FunctionPrinter<'a, 's, P: ModuleProvider> {
+    pub(crate) printer: TypePrinter<'a, 's, P>,
+}
+
+impl<'a, 's, P: ModuleProvider> Model for FunctionPrinter<'a, 's, P> {
+    ghost use Rattle.pdb_type_printing.specs.Printing.{Formatting};
+
+    ghost Value = { Formatting P };
+
+    ghost view = { λ f. f.printer };
+}
+
+impl<'a, 's, P: ModuleProvider> Drop for FunctionPrinter<'a, 's, P> {
+    fn drop(self) {
+        let FunctionPrinter { printer } = self;
+        drop(printer);
+    }
+}
+
+impl<'a, 's, P: ModuleProvider> FunctionPrinter<'a, 's, P> {
+    /// Prints types by a printer of these.
+    pub fn new(printer: TypePrinter<'a, 's, P>) -> FunctionPrinter<'a, 's, P>
+        ensures { result ≡ printer.entry }
+    {
+        FunctionPrinter { printer }
+    }
+
+    /// The modules in order.
+    pub fn modules(&self) -> &[Module<'a>]
+        ensures { result.now ≡ self.now.reading.modules.entries }
+    {
+        self.printer.modules()
+    }
+
+    /// As [`TypePrinter::keep_failed`].
+    pub fn keep_failed(&mut self) -> std::result::Result<(), AllocError>
+        ensures kept { OnOk result (KeepsAsFailed P.provided self.old self.new) }
+        ensures same { OnErr result (self.new ≡ self.old) }
+    {
+        self.printer.keep_failed()
+    }
+
+    /// As [`TypePrinter::forget_failing`].
+    pub fn forget_failing(&mut self)
+        ensures { self.new ≡ self.old }
+    {
+        self.printer.forget_failing();
+    }
+
+    /// The size of the type of an index, in bytes.
+    pub fn size(&mut self, asker: Asker, index: TypeIndex) -> Result<u64>
+        ensures same { self.new ≡ self.old }
+        ensures value { Answers (λ n. n) result (Ok ((env_of P.provided self.old asker.module_index).size index.0)) }
+    {
+        self.printer.size(asker, index)
+    }
+}

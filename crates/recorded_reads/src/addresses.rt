@@ -1,0 +1,123 @@
+//! Addresses and places by an address map.
+
+ghost use Rattle.pdb_addresses.specs.Addresses.{IsOrdered};
+
+use crate::question::{Question, Task};
+use crate::shown::{push, shown};
+use crate::words::not_a_case;
+use pdb_container::Result;
+use pdb_container_types::{
+    AddressMap, ImageSectionHeader, PdbInternalRva, PdbInternalSectionOffset, Rva, SectionOffset,
+};
+use std::alloc::Global;
+use std::ops::Range;
+
+/// The answer of a conversion; those of a map that isn't ordered are none.
+pub fn ask(alloc: Global, map: &AddressMap<'_>, question: &Question<'_>) -> Result<String> {
+    if !map.is_ordered() {
+        return shown(alloc, &"not ordered");
+    }
+    let (number, end, _) = question.numbers;
+    let section = u16::try_from(number).unwrap_or(0xffff);
+    match question.task {
+        Task::ImageSections => shown(alloc, &map.image_section_headers()),
+        Task::SectionNames => section_names(alloc, map.image_section_headers()),
+        Task::ImageAddress => image_address(alloc, map, Rva(number)),
+        Task::InternalAddress => internal_address(alloc, map, PdbInternalRva(number)),
+        Task::ImagePlace => image_place(alloc, map, section, end),
+        Task::InternalPlace => internal_place(alloc, map, section, end),
+        Task::ImageRange => image_range(alloc, map, number..end),
+        Task::InternalRange => internal_range(alloc, map, number..end),
+        Task::Run => run(alloc, map, number, end),
+        _ => Err(not_a_case()),
+    }
+}
+
+/// The names of sections, and whether code may run in them.
+fn section_names(alloc: Global, sections: &[ImageSectionHeader]) -> Result<String> {
+    let mut text = String::new(alloc);
+    for section in sections {
+        push(
+            alloc,
+            &mut text,
+            &(section.name(), section.characteristics.execute()),
+        )?;
+    }
+    Ok(text)
+}
+
+/// What an address of the image becomes: internal address, place, internal place.
+fn image_address(alloc: Global, map: &AddressMap<'_>, address: Rva) -> Result<String>
+    requires { IsOrdered map.now }
+{
+    let inner = address.to_internal_rva(map);
+    let place = address.to_section_offset(map);
+    shown(alloc, &(inner, place, address.to_internal_offset(map)))
+}
+
+/// What an internal address becomes: address of the image, place, internal place.
+fn internal_address(alloc: Global, map: &AddressMap<'_>, address: PdbInternalRva) -> Result<String>
+    requires { IsOrdered map.now }
+{
+    let outer = address.to_rva(map);
+    let place = address.to_section_offset(map);
+    shown(alloc, &(outer, place, address.to_internal_offset(map)))
+}
+
+/// What a place of the image becomes: address of the image, internal address, internal place.
+fn image_place(alloc: Global, map: &AddressMap<'_>, section: u16, offset: u32) -> Result<String>
+    requires { IsOrdered map.now }
+{
+    let place = SectionOffset { offset, section };
+    let outer = place.to_rva(map);
+    let inner = place.to_internal_rva(map);
+    shown(alloc, &(outer, inner, place.to_internal_offset(map)))
+}
+
+/// What an internal place becomes: address of the image, internal address, place.
+fn internal_place(alloc: Global, map: &AddressMap<'_>, section: u16, offset: u32) -> Result<String>
+    requires { IsOrdered map.now }
+{
+    let place = PdbInternalSectionOffset { offset, section };
+    let outer = place.to_rva(map);
+    let inner = place.to_internal_rva(map);
+    shown(alloc, &(outer, inner, place.to_section_offset(map)))
+}
+
+/// What a range of the image becomes, address by address.
+fn image_range(alloc: Global, map: &AddressMap<'_>, range: Range<u32>) -> Result<String>
+    requires { IsOrdered map.now }
+{
+    let mut text = String::new(alloc);
+    for run in map.internal_rva_ranges(Rva(range.start)..Rva(range.end)) {
+        push_addresses(alloc, &mut text, run.start.0..run.end.0)?;
+    }
+    Ok(text)
+}
+
+/// What an internal range becomes, address by address.
+fn internal_range(alloc: Global, map: &AddressMap<'_>, range: Range<u32>) -> Result<String>
+    requires { IsOrdered map.now }
+{
+    let mut text = String::new(alloc);
+    for run in map.rva_ranges(PdbInternalRva(range.start)..PdbInternalRva(range.end)) {
+        push_addresses(alloc, &mut text, run.start.0..run.end.0)?;
+    }
+    Ok(text)
+}
+
+/// Appends the addresses of a range.
+fn push_addresses(alloc: Global, text: &mut String, range: Range<u32>) -> Result<()> {
+    for address in range {
+        push(alloc, text, &address)?;
+    }
+    Ok(())
+}
+
+/// Where an internal address lies, and over how many addresses places go on.
+fn run(alloc: Global, map: &AddressMap<'_>, address: u32, limit: u32) -> Result<String> {
+    if limit == 0 || u64::from(address) + u64::from(limit) > 0x1_0000_0000 {
+        return Err(not_a_case());
+    }
+    shown(alloc, &map.section_run(PdbInternalRva(address), limit))
+}

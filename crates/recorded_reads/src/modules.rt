@@ -1,0 +1,201 @@
+//! Records, and what modules' own streams hold.
+
+use crate::question::{Question, Task};
+use crate::records;
+use crate::shown::{listed, push, shown};
+use crate::words::{bytes_of, not_a_case};
+use pdb_container::{FallibleIterator, Result};
+use pdb_container_types::{
+    FileIndex, IdIndex, Local, PdbInternalSectionOffset, SymbolIndex, TypeIndex,
+};
+use pdb_symbols_modules::{
+    BinaryAnnotations, CrossModuleExports, CrossModuleImports, InlineSiteSymbol, Inlinee,
+    InlineeIterator, LineProgram, ModuleInfo, Symbol, SymbolIter,
+};
+use std::alloc::Global;
+
+/// The answer of what bytes spell.
+pub fn ask(alloc: Global, bytes: &[u8], question: &Question<'_>) -> Result<String> {
+    match question.task {
+        Task::Type => records::type_text(alloc, bytes),
+        Task::Id => records::id_text(alloc, bytes),
+        Task::Attributes => records::attributes_text(alloc, bytes),
+        Task::Annotations => listed(alloc, &mut BinaryAnnotations::new(bytes).iter()),
+        Task::Call => call_text(alloc, bytes, question),
+        Task::Inlinees => inlinees_text(alloc, InlineeIterator::parse(bytes)?),
+        Task::Symbols | Task::Symbol | Task::SymbolKind | Task::SkipTo => {
+            ask_symbols(alloc, bytes, question)
+        }
+        Task::Lines | Task::LinesAt | Task::Files | Task::File => {
+            ask_lines(alloc, &LineProgram::parse(alloc, bytes)?, question)
+        }
+        Task::TypeImport | Task::IdImport => {
+            ask_imports(alloc, &CrossModuleImports::parse(alloc, bytes)?, question)
+        }
+        _ => ask_exports(alloc, &CrossModuleExports::parse(bytes)?, question),
+    }
+}
+
+/// The answer of a module's stream.
+pub fn ask_stream(
+    alloc: Global,
+    module: &ModuleInfo<'_>,
+    question: &Question<'_>,
+) -> Result<String> {
+    match question.task {
+        Task::Symbols => listed(alloc, &mut module.symbols()?),
+        Task::SkipTo => listed(
+            alloc,
+            &mut module.symbols_at(SymbolIndex(question.numbers.1))?,
+        ),
+        Task::Inlinees => inlinees_text(alloc, module.inlinees()?),
+        Task::Lines | Task::LinesAt | Task::Files | Task::File => {
+            ask_lines(alloc, &module.line_program(alloc)?, question)
+        }
+        Task::TypeImport | Task::IdImport => ask_imports(alloc, &module.imports(alloc)?, question),
+        _ => ask_exports(alloc, &module.exports()?, question),
+    }
+}
+
+/// The answer of a list of symbols of less than 65536 bytes.
+fn ask_symbols(alloc: Global, bytes: &[u8], question: &Question<'_>) -> Result<String> {
+    if bytes.len() > 0xffff {
+        return Err(not_a_case());
+    }
+    let place = SymbolIndex(question.numbers.0);
+    match question.task {
+        Task::Symbols => listed(alloc, &mut SymbolIter::over(bytes, place)),
+        Task::SkipTo => skip_text(alloc, &mut SymbolIter::over(bytes, SymbolIndex(0)), place),
+        task => match SymbolIter::over(bytes, place).next()? {
+            None => Err(not_a_case()),
+            Some(symbol) if matches!(task, Task::Symbol) => shown(alloc, &symbol.parse()?),
+            Some(symbol) => kind_text(alloc, &symbol),
+        },
+    }
+}
+
+/// The symbol that a jump to a place finds, and all behind it; a second jump finds the same.
+fn skip_text(alloc: Global, symbols: &mut SymbolIter<'_>, place: SymbolIndex) -> Result<String> {
+    let mut text = String::new(alloc);
+    let found = symbols.skip_to(place)?;
+    push(alloc, &mut text, &found)?;
+    text.push_str(listed(alloc, symbols)?.as_str())?;
+    symbols.seek(place);
+    let again = symbols.next()?;
+    push(alloc, &mut text, &again)?;
+    Ok(text)
+}
+
+/// Kind, index and bytes of a symbol, and whether it starts or ends a scope.
+fn kind_text(alloc: Global, symbol: &Symbol<'_>) -> Result<String> {
+    let scope = (symbol.starts_scope(), symbol.ends_scope());
+    let (index, kind) = (symbol.index(), symbol.raw_kind());
+    shown(alloc, &(index, kind, symbol.raw_bytes(), scope))
+}
+
+/// The answer of a module's line data. Its last two numbers are a place, or the second is a file's index.
+fn ask_lines(alloc: Global, lines: &LineProgram<'_>, question: &Question<'_>) -> Result<String> {
+    let (_, section, number) = question.numbers;
+    match question.task {
+        Task::Lines => listed(alloc, &mut lines.lines()),
+        Task::LinesAt => listed(
+            alloc,
+            &mut lines.lines_for_symbol(place_of(section, number)),
+        ),
+        Task::Files => listed(alloc, &mut lines.files()),
+        _ => shown(alloc, &lines.get_file_info(FileIndex(number))?),
+    }
+}
+
+/// A place in a section; past 65535 sections there is none.
+fn place_of(section: u32, offset: u32) -> PdbInternalSectionOffset {
+    PdbInternalSectionOffset {
+        offset,
+        section: u16::try_from(section).unwrap_or(0xffff),
+    }
+}
+
+/// The ids of inlined functions, and how their list ends.
+fn inlinees_text(alloc: Global, mut inlinees: InlineeIterator<'_>) -> Result<String> {
+    let mut text = String::new(alloc);
+    for _ in 0..1000u32 {
+        match inlinees.next() {
+            Ok(None) => break,
+            inlinee => push(alloc, &mut text, &id_of(inlinee))?,
+        }
+    }
+    Ok(text)
+}
+
+/// An inlined function's id.
+fn id_of(inlinee: Result<Option<Inlinee<'_>>>) -> Result<IdIndex> {
+    match inlinee? {
+        None => Err(not_a_case()),
+        Some(inlinee) => Ok(inlinee.index()),
+    }
+}
+
+/// The rows of a call of the first inlined function with these annotations.
+fn call_text(alloc: Global, bytes: &[u8], question: &Question<'_>) -> Result<String> {
+    let annotations = bytes_of(alloc, question.further)?;
+    let (_, section, offset) = question.numbers;
+    call_rows(alloc, bytes, &annotations, place_of(section, offset))
+}
+
+/// The rows of a call with these annotations.
+fn call_rows<'a>(
+    alloc: Global,
+    bytes: &'a [u8],
+    annotations: &'a [u8],
+    place: PdbInternalSectionOffset,
+) -> Result<String> {
+    let site = InlineSiteSymbol {
+        parent: None,
+        end: SymbolIndex(0),
+        inlinee: IdIndex(0),
+        invocations: None,
+        annotations: BinaryAnnotations::new(annotations),
+    };
+    match InlineeIterator::parse(bytes)?.next()? {
+        None => Err(not_a_case()),
+        Some(inlinee) => listed(alloc, &mut inlinee.lines(place, &site)),
+    }
+}
+
+/// What an index stands for in another module.
+fn ask_imports(
+    alloc: Global,
+    imports: &CrossModuleImports<'_>,
+    question: &Question<'_>,
+) -> Result<String> {
+    let (_, index, _) = question.numbers;
+    match question.task {
+        Task::TypeImport => shown(alloc, &imports.resolve_import(TypeIndex(index))?),
+        _ => shown(alloc, &imports.resolve_import(IdIndex(index))?),
+    }
+}
+
+/// The exports, or what a type's or an id's index stands for.
+fn ask_exports(
+    alloc: Global,
+    exports: &CrossModuleExports<'_>,
+    question: &Question<'_>,
+) -> Result<String> {
+    let (_, index, _) = question.numbers;
+    match question.task {
+        Task::Exports => exports_text(alloc, exports),
+        Task::TypeExport => shown(alloc, &exports.resolve_import(Local(TypeIndex(index)))?),
+        Task::IdExport => shown(alloc, &exports.resolve_import(Local(IdIndex(index)))?),
+        _ => Err(not_a_case()),
+    }
+}
+
+/// The exports in their order, and how many they are.
+fn exports_text(alloc: Global, exports: &CrossModuleExports<'_>) -> Result<String> {
+    let mut text = String::new(alloc);
+    for export in exports.exports() {
+        push(alloc, &mut text, &export)?;
+    }
+    push(alloc, &mut text, &(exports.len(), exports.is_empty()))?;
+    Ok(text)
+}
