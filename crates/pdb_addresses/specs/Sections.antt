@@ -1,42 +1,34 @@
 -- Section headers, the places of addresses, and the addresses of places.
 -- A header's layout is IMAGE_SECTION_HEADER of the PE format, as the pdb crate reads it.
 use Rattle.std.specs.Prelude.{ℕ, ◌+◌, ◌-◌, Bool, not, List, [], ◌∷◌, nat_lt, nat_le, ◌==◌, Option, None, Some, if◌then◌else◌, slice_get, position, take, Result, Ok, bit_and}
-use Rattle.std.specs.Int.{w16, w32}
+use Rattle.pdb_container.specs.Container.{half_at, word_at}
 use Rattle.pdb_container.specs.Fault.{Fault, ◌>>=◌}
-use Rattle.pdb_container.specs.Fields.{Reader, number_at, bytes_of, entries}
+use Rattle.pdb_container.specs.Fields.{Reader, bytes_of, entries}
 use Rattle.pdb_addresses.specs.declared.sections.ImageSectionHeader.{ImageSectionHeader}
 use Rattle.pdb_addresses.specs.declared.sections.SectionCharacteristics.{SectionCharacteristics}
 use Rattle.pdb_addresses.specs.Numbers.{in_32_bits}
 use Rattle.pdb_addresses.specs.Places.{Place}
 
+-- what a section header says, by the places of its numbers
+abbrev pub header_in : List ℕ → ImageSectionHeader
+header_in bytes = record {
+  name = take 8 bytes;
+  virtual_size = word_at bytes 8;
+  virtual_address = word_at bytes 12;
+  size_of_raw_data = word_at bytes 16;
+  pointer_to_raw_data = word_at bytes 20;
+  pointer_to_relocations = word_at bytes 24;
+  pointer_to_line_numbers = word_at bytes 28;
+  number_of_relocations = half_at bytes 32;
+  number_of_line_numbers = half_at bytes 34;
+  characteristics = record { 0 = word_at bytes 36 };
+}
+
 -- a section header, 40 bytes
 unfoldable pub section_header_at : Reader ImageSectionHeader
 section_header_at bytes = do
-  name ← bytes_of 8 bytes
-  virtual_size ← number_at w32 name.1
-  virtual_address ← number_at w32 virtual_size.1
-  size_of_raw_data ← number_at w32 virtual_address.1
-  pointer_to_raw_data ← number_at w32 size_of_raw_data.1
-  pointer_to_relocations ← number_at w32 pointer_to_raw_data.1
-  pointer_to_line_numbers ← number_at w32 pointer_to_relocations.1
-  number_of_relocations ← number_at w16 pointer_to_line_numbers.1
-  number_of_line_numbers ← number_at w16 number_of_relocations.1
-  characteristics ← number_at w32 number_of_line_numbers.1
-  Ok (
-    record {
-      name = name.0;
-      virtual_size = virtual_size.0;
-      virtual_address = virtual_address.0;
-      size_of_raw_data = size_of_raw_data.0;
-      pointer_to_raw_data = pointer_to_raw_data.0;
-      pointer_to_relocations = pointer_to_relocations.0;
-      pointer_to_line_numbers = pointer_to_line_numbers.0;
-      number_of_relocations = number_of_relocations.0;
-      number_of_line_numbers = number_of_line_numbers.0;
-      characteristics = record { 0 = characteristics.0 };
-    },
-    characteristics.1,
-  )
+  header ← bytes_of 40 bytes
+  Ok (header_in header.0, header.1)
 
 -- the section headers of a stream, to its end
 abbrev pub section_headers_of : List ℕ → Result (List ImageSectionHeader) Fault

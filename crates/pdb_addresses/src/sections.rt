@@ -1,13 +1,11 @@
 //! Section headers of an image (IMAGE_SECTION_HEADER of the PE format).
 
-ghost use Rattle.std.specs.Prelude.{◌≡◌, []};
+ghost use Rattle.std.specs.Prelude.{◌≡◌, ◌≤◌, [], length};
 ghost use Rattle.std.specs.Str.{IsUtf8};
-ghost use Rattle.pdb_container.specs.Buffer.{Reads};
 ghost use Rattle.pdb_container.specs.Fault.{Gives};
-ghost use Rattle.pdb_container.specs.Fields.{bytes_of};
-ghost use Rattle.pdb_addresses.specs.Sections.{section_headers_of, text_before_nul, may_execute};
+ghost use Rattle.pdb_addresses.specs.Sections.{header_in as header_of, section_headers_of, text_before_nul, may_execute};
 
-use pdb_container::{FromBuffer, ParseBuffer, Result, nul_in, parse_entries};
+use pdb_container::{FromBuffer, ParseBuffer, Result, half_at, nul_in, parse_entries, word_at};
 use std::alloc::Global;
 
 /// Section characteristics: what may be done in a section.
@@ -56,29 +54,29 @@ impl FromBuffer for ImageSectionHeader {
 
     #[tactic(auto, unfolding(crate::specs::Sections::section_header_at))]
     fn from_buffer(buffer: &mut ParseBuffer<'_>) -> Result<ImageSectionHeader> {
-        Ok(ImageSectionHeader {
-            name: parse_name(buffer)?,
-            virtual_size: buffer.parse_u32()?,
-            virtual_address: buffer.parse_u32()?,
-            size_of_raw_data: buffer.parse_u32()?,
-            pointer_to_raw_data: buffer.parse_u32()?,
-            pointer_to_relocations: buffer.parse_u32()?,
-            pointer_to_line_numbers: buffer.parse_u32()?,
-            number_of_relocations: buffer.parse_u16()?,
-            number_of_line_numbers: buffer.parse_u16()?,
-            characteristics: SectionCharacteristics(buffer.parse_u32()?),
-        })
+        Ok(header_in(buffer.take(40)?))
     }
 }
 
-/// The next eight bytes; `UnexpectedEof` where fewer are left.
-fn parse_name(buffer: &mut ParseBuffer<'_>) -> Result<[u8; 8]>
-    ensures { Reads (λ name. name) result buffer.old buffer.new (bytes_of 8) }
+/// What the 40 bytes of a section header say.
+fn header_in(bytes: &[u8]) -> ImageSectionHeader
+    requires { 40 ≤ length bytes.now }
+    ensures { result ≡ header_of bytes.now }
 {
-    let bytes = buffer.take(8)?;
     let mut name = [0; 8];
-    name.copy_from_slice(bytes);
-    Ok(name)
+    name.copy_from_slice(&bytes[..8]);
+    ImageSectionHeader {
+        name,
+        virtual_size: word_at(bytes, 8),
+        virtual_address: word_at(bytes, 12),
+        size_of_raw_data: word_at(bytes, 16),
+        pointer_to_raw_data: word_at(bytes, 20),
+        pointer_to_relocations: word_at(bytes, 24),
+        pointer_to_line_numbers: word_at(bytes, 28),
+        number_of_relocations: half_at(bytes, 32),
+        number_of_line_numbers: half_at(bytes, 34),
+        characteristics: SectionCharacteristics(word_at(bytes, 36)),
+    }
 }
 
 impl ImageSectionHeader {

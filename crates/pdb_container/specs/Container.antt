@@ -2,7 +2,7 @@
 -- The layout is that of MSF in microsoft-pdb's msf.h, which LLVM's The MSF File Format describes.
 use Rattle.std.specs.Prelude.{ℕ, ◌+◌, ◌-◌, ◌*◌, ◌/◌, ◌^◌, ◌&&◌, Bool, zero, suc, List, [], ◌∷◌, ◌++◌, codes, length, take, drop, map, min, slice_index, nat_lt, nat_le, nat_eq, ◌==◌, if◌then◌else◌, Option, Some, None, Result, Ok, Err}
 use Rattle.std.specs.List.{range_with_len, sum_by, starts_with}
-use Rattle.std.specs.Int.{w32, from_le_bytes, is_power_of_two, div_ceil}
+use Rattle.std.specs.Int.{w16, w32, from_le_bytes, is_power_of_two, div_ceil}
 use Rattle.pdb_container.specs.Fault.{Fault}
 use Rattle.pdb_container.specs.Fault.{UnrecognizedFileFormat, InvalidPageSize, PageReferenceOutOfRange, StreamNotFound, UnexpectedEof}
 use Rattle.pdb_container.specs.Fault.{◌>>=◌, guard, refuse}
@@ -18,6 +18,10 @@ pub record Layout : Type 0 where
 -- the number in the four bytes from a place on
 abbrev pub word_at : List ℕ → ℕ → ℕ
 word_at bytes at = from_le_bytes w32 (take 4 (drop at bytes))
+
+-- the number in the two bytes from a place on
+abbrev pub half_at : List ℕ → ℕ → ℕ
+half_at bytes at = from_le_bytes w16 (take 2 (drop at bytes))
 
 -- the first numbers that the bytes spell, by four bytes each
 unfoldable pub first_words : List ℕ → ℕ → List ℕ

@@ -119,6 +119,7 @@ impl<'b> ParseBuffer<'b> {
     pub fn take(&mut self, size: usize) -> Result<&'b [u8]>
         ensures value { Reads (λ part. part.now) result self.old self.new (bytes_of size) }
         ensures taken { IfOk result (λ _. length (rest self.new) + size ≡ length (rest self.old)) }
+        ensures size { IfOk result (λ part. length part.now ≡ size) }
     {
         if self.len() < size {
             return Err(Error::UnexpectedEof);

@@ -1,8 +1,8 @@
 //! Errors of reading a program database.
 
-ghost use Rattle.std.specs.Prelude.{◌≡◌};
+ghost use Rattle.std.specs.Prelude.{◌≡◌, ◌++◌};
 ghost use Rattle.pdb_container.specs.declared.error.Error.TheVariants.{OutOfMemory};
-ghost use Rattle.pdb_container.specs.ErrorText.{kind_text};
+ghost use Rattle.pdb_container.specs.ErrorText.{error_text, kind_text, values_text};
 ghost use Rattle.pdb_container.specs.declared.error.Error.TheVariants as errors;
 ghost use Rattle.pdb_container.specs.Fault.{error_of, kept_of};
 
@@ -91,43 +91,83 @@ impl fmt::Display for Error {
     ghost output = { λ e. Some (error_text e) };
 
     fn fmt<W: fmt::Write>(&self, f: &mut fmt::Formatter<W>) -> fmt::Result {
-        match self {
-            Error::UnrecognizedFileFormat => f.write_str("UnrecognizedFileFormat"),
-            Error::InvalidPageSize(value) => write!(f, "InvalidPageSize({value})"),
-            Error::PageReferenceOutOfRange(value) => write!(f, "PageReferenceOutOfRange({value})"),
-            Error::StreamNotFound(value) => write!(f, "StreamNotFound({value})"),
-            Error::StreamNameNotFound => f.write_str("StreamNameNotFound"),
-            Error::InvalidStreamLength(text) => write!(f, "InvalidStreamLength({text})"),
-            Error::IoError(kind) => write!(f, "IoError({})", kind_name(*kind)),
-            Error::UnexpectedEof => f.write_str("UnexpectedEof"),
-            Error::UnimplementedFeature(text) => write!(f, "UnimplementedFeature({text})"),
-            Error::GlobalSymbolsNotFound => f.write_str("GlobalSymbolsNotFound"),
-            Error::SymbolTooShort => f.write_str("SymbolTooShort"),
-            Error::UnimplementedSymbolKind(value) => write!(f, "UnimplementedSymbolKind({value})"),
-            Error::InvalidTypeInformationHeader(text) => write!(
-                f,
-                "InvalidTypeInformationHeader({text})"
-            ),
-            Error::TypeTooShort => f.write_str("TypeTooShort"),
-            Error::TypeNotFound(value) => write!(f, "TypeNotFound({value})"),
-            Error::TypeNotIndexed(index, first) => write!(f, "TypeNotIndexed({index}, {first})"),
-            Error::UnexpectedNumericPrefix(value) => write!(f, "UnexpectedNumericPrefix({value})"),
-            Error::UnimplementedTypeKind(value) => write!(f, "UnimplementedTypeKind({value})"),
-            Error::UnimplementedFileChecksumKind(value) => write!(
-                f,
-                "UnimplementedFileChecksumKind({value})"
-            ),
-            Error::InvalidFileChecksumOffset(value) => write!(
-                f,
-                "InvalidFileChecksumOffset({value})"
-            ),
-            Error::InvalidCompressedAnnotation => f.write_str("InvalidCompressedAnnotation"),
-            Error::UnknownBinaryAnnotation(value) => write!(f, "UnknownBinaryAnnotation({value})"),
-            Error::NotACrossModuleRef(value) => write!(f, "NotACrossModuleRef({value})"),
-            Error::CrossModuleRefNotFound(value) => write!(f, "CrossModuleRefNotFound({value})"),
-            Error::Kept(fault) => write!(f, "Kept({fault})"),
-            Error::OutOfMemory => f.write_str("OutOfMemory"),
+        let (name, values) = printed(self);
+        f.write_str(name)?;
+        match values {
+            Values::None => Ok(()),
+            Values::Number(value) => write!(f, "({value})"),
+            Values::Numbers(first, second) => write!(f, "({first}, {second})"),
+            Values::Text(text) => write!(f, "({text})"),
+            Values::Fault(fault) => write!(f, "({fault})"),
         }
+    }
+}
+
+/// The values of a fault, which it prints in parentheses.
+#[derive(Clone, Copy)]
+enum Values {
+    /// No value, and no parentheses.
+    None,
+    /// A number.
+    Number(u32),
+    /// Two numbers.
+    Numbers(u32, u32),
+    /// A text.
+    Text(&'static str),
+    /// A fault that is kept.
+    Fault(ModuleFault),
+}
+
+/// The name of a fault's variant, and its values.
+fn printed(error: &Error) -> (&'static str, Values)
+    ensures { error_text error.now ≡ result.0.now ++ values_text result.1 }
+{
+    match error {
+        Error::UnrecognizedFileFormat => ("UnrecognizedFileFormat", Values::None),
+        Error::InvalidPageSize(value) => ("InvalidPageSize", Values::Number(*value)),
+        Error::PageReferenceOutOfRange(value) => {
+            ("PageReferenceOutOfRange", Values::Number(*value))
+        }
+        Error::StreamNotFound(value) => ("StreamNotFound", Values::Number(*value)),
+        Error::StreamNameNotFound => ("StreamNameNotFound", Values::None),
+        Error::InvalidStreamLength(text) => ("InvalidStreamLength", Values::Text(text)),
+        Error::IoError(kind) => ("IoError", Values::Text(kind_name(*kind))),
+        Error::UnexpectedEof => ("UnexpectedEof", Values::None),
+        Error::UnimplementedFeature(text) => ("UnimplementedFeature", Values::Text(text)),
+        Error::GlobalSymbolsNotFound => ("GlobalSymbolsNotFound", Values::None),
+        Error::SymbolTooShort => ("SymbolTooShort", Values::None),
+        Error::UnimplementedSymbolKind(value) => {
+            ("UnimplementedSymbolKind", Values::Number(u32::from(*value)))
+        }
+        Error::InvalidTypeInformationHeader(text) => {
+            ("InvalidTypeInformationHeader", Values::Text(text))
+        }
+        Error::TypeTooShort => ("TypeTooShort", Values::None),
+        Error::TypeNotFound(value) => ("TypeNotFound", Values::Number(*value)),
+        Error::TypeNotIndexed(index, first) => ("TypeNotIndexed", Values::Numbers(*index, *first)),
+        Error::UnexpectedNumericPrefix(value) => {
+            ("UnexpectedNumericPrefix", Values::Number(u32::from(*value)))
+        }
+        Error::UnimplementedTypeKind(value) => {
+            ("UnimplementedTypeKind", Values::Number(u32::from(*value)))
+        }
+        Error::UnimplementedFileChecksumKind(value) => {
+            (
+                "UnimplementedFileChecksumKind",
+                Values::Number(u32::from(*value)),
+            )
+        }
+        Error::InvalidFileChecksumOffset(value) => {
+            ("InvalidFileChecksumOffset", Values::Number(*value))
+        }
+        Error::InvalidCompressedAnnotation => ("InvalidCompressedAnnotation", Values::None),
+        Error::UnknownBinaryAnnotation(value) => {
+            ("UnknownBinaryAnnotation", Values::Number(*value))
+        }
+        Error::NotACrossModuleRef(value) => ("NotACrossModuleRef", Values::Number(*value)),
+        Error::CrossModuleRefNotFound(value) => ("CrossModuleRefNotFound", Values::Number(*value)),
+        Error::Kept(fault) => ("Kept", Values::Fault(*fault)),
+        Error::OutOfMemory => ("OutOfMemory", Values::None),
     }
 }
 

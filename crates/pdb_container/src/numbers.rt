@@ -2,7 +2,7 @@
 
 ghost use Rattle.std.specs.Int.{w8, w16, w32, w64};
 ghost use Rattle.std.specs.Prelude.{◌≡◌, ◌+◌, ◌<◌, ◌≤◌, ◌==◌, length, position, IfSome};
-ghost use Rattle.pdb_container.specs.Container.{word_at as word_in};
+ghost use Rattle.pdb_container.specs.Container.{half_at as half_in, word_at as word_in};
 ghost use Rattle.pdb_container.specs.Fields.{number_at, signed_at, padding};
 
 use crate::buffer::{FromBuffer, ParseBuffer};
@@ -14,6 +14,14 @@ pub fn word_at(bytes: &[u8], at: usize) -> u32
     ensures { result ≡ word_in bytes.now at }
 {
     u32::from_le_bytes([bytes[at], bytes[at + 1], bytes[at + 2], bytes[at + 3]])
+}
+
+/// The number in the two bytes from a place on, its lowest byte first.
+pub fn half_at(bytes: &[u8], at: usize) -> u16
+    requires { at + 2 ≤ length bytes.now }
+    ensures { result ≡ half_in bytes.now at }
+{
+    u16::from_le_bytes([bytes[at], bytes[at + 1]])
 }
 
 /// Where the first NUL is.

@@ -1,9 +1,9 @@
 -- Line marks: places where entries of lines begin, and places where subsections end.
 -- The layout is that of CV_DebugSLinesFileBlockHeader_t, CV_Line_t and CV_Column_t in microsoft-pdb's cvinfo.h.
-use Rattle.std.specs.Prelude.{◌≡◌, ℕ, ◌+◌, ◌*◌, ◌-◌, ◌^◌, ◌%◌, ◌&&◌, ◌||◌, not, Bool, true, false, List, [], ◌∷◌, ◌++◌, take, drop, map, nat_lt, ◌==◌, if◌then◌else◌, Option, Some, None, Result, Ok}
-use Rattle.std.specs.Int.{w16, w32, from_le_bytes}
+use Rattle.std.specs.Prelude.{◌≡◌, ℕ, ◌+◌, ◌*◌, ◌-◌, ◌^◌, ◌%◌, ◌&&◌, ◌||◌, not, Bool, true, false, List, [], ◌∷◌, ◌++◌, map, nat_lt, ◌==◌, if◌then◌else◌, Option, Some, None, Result, Ok}
+use Rattle.std.specs.Int.{w32}
 use Rattle.std.specs.List.{range_with_len, flat_map}
-use Rattle.pdb_container.specs.Container.{word_at}
+use Rattle.pdb_container.specs.Container.{half_at, word_at}
 use Rattle.pdb_container.specs.Fault.{Fault, UnexpectedEof, ◌>>=◌, refuse}
 use Rattle.pdb_container.specs.Fields.{Reader, number_at, bytes_of}
 use Rattle.pdb_container.specs.Listing.{Listing, ending, before, listing}
@@ -51,10 +51,6 @@ block_at subsection bytes = do
   Ok (block, content.1)
 
 -- ---- entries
-
--- the number in two bytes from a place on
-abbrev pub half_at : List ℕ → ℕ → ℕ
-half_at bytes at = from_le_bytes w16 (take 2 (drop at bytes))
 
 -- the column at a place, where columns are told
 abbrev pub column_at : Option (List ℕ) → ℕ → Option ℕ

@@ -3,12 +3,12 @@
 ghost use Rattle.std.specs.Prelude.{◌≡◌, ◌+◌, ◌*◌, ◌<◌, ◌≤◌, ◌^◌, length, IfOk, IfSome, option_map};
 ghost use Rattle.pdb_container.specs.Buffer.{rest, ReadsInSteps};
 ghost use Rattle.pdb_container.specs.Fault.{Parses};
-ghost use Rattle.pdb_lines.specs.LineMarks.{block_at, block_in, columns_of, half_at as half_in, column_at as column_in, is_line as is_line_number, line_kind, entry_place, entry_row, entry_mark};
+ghost use Rattle.pdb_lines.specs.LineMarks.{block_at, block_in, columns_of, column_at as column_in, is_line as is_line_number, line_kind, entry_place, entry_row, entry_mark};
 
 use crate::line_mark::{ALSO_HIDDEN, HIDDEN, LineMark};
 use crate::lines_subsection::LinesSubsection;
 use pdb_addresses::PdbInternalSectionOffset;
-use pdb_container::{Error, ParseBuffer, Result, word_at};
+use pdb_container::{Error, ParseBuffer, Result, half_at, word_at};
 use pdb_indices::FileIndex;
 use pdb_subsections::{LineInfo, LineInfoKind};
 use std::marker::Model;
@@ -36,14 +36,6 @@ impl<'a> Model for LinesBlock<'a> {
     ghost view = { λ b. record { section = b.section; offset = b.offset; file = b.file; count = b.count; lines = b.lines.now; columns = option_map (λ c. c.now) b.columns } };
 
     ghost invariant = { λ b. (length b.lines.now ≡ 8 * b.count) × IfSome b.columns (λ c. length c.now ≡ 4 * b.count) };
-}
-
-/// The number in the two bytes from a place on.
-fn half_at(bytes: &[u8], at: usize) -> u16
-    requires { at + 2 ≤ length bytes.now }
-    ensures { result ≡ half_in bytes.now at }
-{
-    u16::from_le_bytes([bytes[at], bytes[at + 1]])
 }
 
 /// The bytes of the columns of so many entries, where columns are told.

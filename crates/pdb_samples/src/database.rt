@@ -23,7 +23,6 @@ type Streams = Vec<Option<Vec<u8>>>;
 
 /// A program database. Behind the first seven streams lie those of the modules that have one, the
 /// names table, and the further streams.
-#[derive(Drop)]
 pub struct ProgramDatabase {
     /// The size of a page, in bytes.
     pub page_size: u32,
@@ -45,6 +44,25 @@ pub struct ProgramDatabase {
     pub names: Vec<u8>,
     /// The streams behind these, and `None` for an absent one.
     pub further_streams: Vec<Option<Vec<u8>>>,
+}
+
+impl Drop for ProgramDatabase {
+    fn drop(self) {
+        let ProgramDatabase {
+            page_size: _,
+            order: _,
+            debug,
+            types,
+            ids,
+            sections,
+            modules,
+            symbol_records,
+            names,
+            further_streams,
+        } = self;
+        drop((debug, types, ids, sections, modules));
+        drop((symbol_records, names, further_streams));
+    }
 }
 
 impl ProgramDatabase {

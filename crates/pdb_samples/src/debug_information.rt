@@ -18,7 +18,6 @@ pub(crate) const NO_STREAM: u16 = 0xffff;
 const SIZES: [usize; 3] = [24, 28, 48];
 
 /// A module and its stream.
-#[derive(Drop)]
 pub struct Module {
     /// Its name.
     pub name: Vec<u8>,
@@ -45,6 +44,20 @@ pub struct DebugInformation {
     pub contributions: Vec<u8>,
     /// The streams that the optional header names, by their places.
     pub optional_header: Vec<u16>,
+}
+
+impl Drop for Module {
+    fn drop(self) {
+        let Module {
+            name,
+            object_name,
+            symbols,
+            c11,
+            c13,
+            has_stream: _,
+        } = self;
+        drop((name, object_name, symbols, c11, c13));
+    }
 }
 
 impl Module {

@@ -1,37 +1,31 @@
 -- The section contributions of the DBI stream (3): which module put which part into a section.
 -- The layout is that of the Section Contribution Substream of LLVM's The PDB DBI Stream.
 use Rattle.std.specs.Prelude.{ℕ, ◌+◌, List, [], ◌∷◌, ◌==◌, None, if◌then◌else◌, Result, Ok, Err, codes}
-use Rattle.std.specs.Int.{w16, w32}
+use Rattle.std.specs.Int.{w32}
+use Rattle.pdb_container.specs.Container.{half_at, word_at}
 use Rattle.pdb_container.specs.Fault.{Fault, UnimplementedFeature, ◌>>=◌}
-use Rattle.pdb_container.specs.Fields.{Reader, number_at}
+use Rattle.pdb_container.specs.Fields.{Reader, bytes_of, number_at}
 use Rattle.pdb_container.specs.Listing.{Listing, ending, listing}
 use Rattle.pdb_symbols_modules.specs.declared.contributions.DBISectionContribution.{DBISectionContribution}
 use Rattle.pdb_symbols_modules.specs.declared.contributions.Version.{Version}
 use Rattle.pdb_symbols_modules.specs.declared.contributions.Version.TheVariants as versions
 
+-- what an entry says, by the places of its numbers
+abbrev pub contribution_in : List ℕ → DBISectionContribution
+contribution_in bytes = record {
+  offset = record { section = half_at bytes 0; offset = word_at bytes 4 };
+  size = word_at bytes 8;
+  characteristics = record { 0 = word_at bytes 12 };
+  «module» = half_at bytes 16;
+  data_crc = word_at bytes 20;
+  reloc_crc = word_at bytes 24;
+}
+
 -- an entry, 28 bytes
 unfoldable pub contribution_at : Reader DBISectionContribution
 contribution_at bytes = do
-  section ← number_at w16 bytes
-  gap ← number_at w16 section.1
-  offset ← number_at w32 gap.1
-  size ← number_at w32 offset.1
-  characteristics ← number_at w32 size.1
-  m ← number_at w16 characteristics.1
-  second_gap ← number_at w16 m.1
-  data_crc ← number_at w32 second_gap.1
-  reloc_crc ← number_at w32 data_crc.1
-  Ok (
-    record {
-      offset = record { section = section.0; offset = offset.0 };
-      size = size.0;
-      characteristics = record { 0 = characteristics.0 };
-      «module» = m.0;
-      data_crc = data_crc.0;
-      reloc_crc = reloc_crc.0;
-    },
-    reloc_crc.1,
-  )
+  entry ← bytes_of 28 bytes
+  Ok (contribution_in entry.0, entry.1)
 
 -- an entry of the second version, 4 bytes more
 unfoldable pub long_contribution_at : Reader DBISectionContribution

@@ -1,45 +1,32 @@
 -- The DBI stream (3): its header, and the substreams behind it.
 -- The layout is NewDBIHdr of microsoft-pdb's dbi.h, which LLVM's The PDB DBI Stream describes.
 use Rattle.std.specs.Prelude.{ℕ, ◌+◌, List, length, take, drop, nat_lt, ◌==◌, not, Result, Ok, codes}
-use Rattle.std.specs.Int.{w16, w32}
 use Rattle.pdb_container.specs.Fault.{Fault, UnexpectedEof, UnimplementedFeature, ◌>>=◌, refuse}
-use Rattle.pdb_container.specs.Fields.{number_at, bytes_of}
+use Rattle.pdb_container.specs.Container.{half_at, word_at}
 use Rattle.pdb_symbols_modules.specs.declared.dbi.DBIHeader.{DBIHeader}
 
--- The header: 64 bytes, which are all there, with a signature. Between the numbers that are kept lie version, two
--- numbers of streams and three of versions, the number of a compiler's own index, and flags.
+-- What the header says, by the places of its numbers. Between these lie versions, numbers of streams, the number of a
+-- compiler's own index, and flags.
+abbrev pub header_in : List ℕ → DBIHeader
+header_in bytes = record {
+  age = word_at bytes 8;
+  symbol_records_stream = half_at bytes 20;
+  module_list_size = word_at bytes 24;
+  section_contribution_size = word_at bytes 28;
+  section_map_size = word_at bytes 32;
+  file_info_size = word_at bytes 36;
+  type_server_map_size = word_at bytes 40;
+  debug_header_size = word_at bytes 48;
+  ec_substream_size = word_at bytes 52;
+  machine = half_at bytes 58;
+}
+
+-- the header: 64 bytes, which are all there, with a signature
 unfoldable pub header_of : List ℕ → Result DBIHeader Fault
 header_of bytes = do
-  whole ← bytes_of 64 bytes
-  signature ← number_at w32 whole.0
-  known ← refuse (not (signature.0 == 0xffffffff)) (UnimplementedFeature (codes "ancient DBI header"))
-  version ← number_at w32 signature.1
-  age ← number_at w32 version.1
-  others ← bytes_of 8 age.1
-  symbol_records_stream ← number_at w16 others.1
-  rebuild ← number_at w16 symbol_records_stream.1
-  module_list_size ← number_at w32 rebuild.1
-  section_contribution_size ← number_at w32 module_list_size.1
-  section_map_size ← number_at w32 section_contribution_size.1
-  file_info_size ← number_at w32 section_map_size.1
-  type_server_map_size ← number_at w32 file_info_size.1
-  index ← number_at w32 type_server_map_size.1
-  debug_header_size ← number_at w32 index.1
-  ec_substream_size ← number_at w32 debug_header_size.1
-  flags ← number_at w16 ec_substream_size.1
-  machine ← number_at w16 flags.1
-  Ok record {
-    age = age.0;
-    symbol_records_stream = symbol_records_stream.0;
-    module_list_size = module_list_size.0;
-    section_contribution_size = section_contribution_size.0;
-    section_map_size = section_map_size.0;
-    file_info_size = file_info_size.0;
-    type_server_map_size = type_server_map_size.0;
-    debug_header_size = debug_header_size.0;
-    ec_substream_size = ec_substream_size.0;
-    machine = machine.0;
-  }
+  whole ← refuse (nat_lt (length bytes) 64) UnexpectedEof
+  known ← refuse (not (word_at bytes 0 == 0xffffffff)) (UnimplementedFeature (codes "ancient DBI header"))
+  Ok (header_in bytes)
 
 -- The substreams lie in this order behind the header: module list, contributions, section map, file info, type
 -- server map, edit and continue, optional header. Here are the places of those that are read.

@@ -1,13 +1,13 @@
 //! Section contributions of the DBI stream: which module put which part into a section.
 
-ghost use Rattle.std.specs.Prelude.{◌≡◌, ◌<◌, length, IfOk, None};
+ghost use Rattle.std.specs.Prelude.{◌≡◌, ◌<◌, ◌≤◌, length, IfOk, None};
 ghost use Rattle.pdb_container.specs.Buffer.{rest, ParsesFront};
 ghost use Rattle.pdb_container.specs.Fault.{Parses};
 ghost use Rattle.pdb_container.specs.Listing.{ending, Advances};
-ghost use Rattle.pdb_symbols_modules.specs.Contributions.{contribution_at, long_contribution_at, contribution_for, version_of, contributions_of};
+ghost use Rattle.pdb_symbols_modules.specs.Contributions.{contribution_at, contribution_in as contribution_of, long_contribution_at, contribution_for, version_of, contributions_of};
 
 use pdb_addresses::{PdbInternalSectionOffset, SectionCharacteristics};
-use pdb_container::{Error, FallibleIterator, ParseBuffer, Result};
+use pdb_container::{Error, FallibleIterator, ParseBuffer, Result, half_at, word_at};
 use std::marker::Model;
 
 /// The version of entries of 28 bytes.
@@ -132,23 +132,25 @@ fn parse_contribution(buffer: &mut ParseBuffer<'_>) -> Result<DBISectionContribu
     ensures value { ParsesFront (λ c. c) result (rest buffer.new) (contribution_at (rest buffer.old)) }
     ensures shorter { IfOk result (λ _. length (rest buffer.new) < length (rest buffer.old)) }
 {
-    let section = buffer.parse_u16()?;
-    let _gap = buffer.parse_u16()?;
-    let offset = buffer.parse_u32()?;
-    let size = buffer.parse_u32()?;
-    let characteristics = SectionCharacteristics(buffer.parse_u32()?);
-    let module = buffer.parse_u16()?;
-    let _second_gap = buffer.parse_u16()?;
-    let data_crc = buffer.parse_u32()?;
-    let reloc_crc = buffer.parse_u32()?;
-    Ok(DBISectionContribution {
-        offset: PdbInternalSectionOffset { offset, section },
-        size,
-        characteristics,
-        module,
-        data_crc,
-        reloc_crc,
-    })
+    Ok(contribution_in(buffer.take(28)?))
+}
+
+/// What the 28 bytes of an entry say.
+fn contribution_in(bytes: &[u8]) -> DBISectionContribution
+    requires { 28 ≤ length bytes.now }
+    ensures { result ≡ contribution_of bytes.now }
+{
+    DBISectionContribution {
+        offset: PdbInternalSectionOffset {
+            section: half_at(bytes, 0),
+            offset: word_at(bytes, 4),
+        },
+        size: word_at(bytes, 8),
+        characteristics: SectionCharacteristics(word_at(bytes, 12)),
+        module: half_at(bytes, 16),
+        data_crc: word_at(bytes, 20),
+        reloc_crc: word_at(bytes, 24),
+    }
 }
 
 /// An entry of the newer version. `UnexpectedEof`.

@@ -14,7 +14,7 @@ use crate::machine::MachineType;
 use crate::modules::ModuleIter;
 use crate::optional_header::number_at_place;
 use crate::stream_index::StreamIndex;
-use pdb_container::{Error, ParseBuffer, Result, Stream};
+use pdb_container::{Error, Result, Stream, half_at, word_at};
 use std::marker::Model;
 
 /// How many bytes the header has.
@@ -157,36 +157,23 @@ impl DBIHeader {
 fn parse_header(bytes: &[u8]) -> Result<DBIHeader>
     ensures { Parses (λ h. h) result (header_of bytes.now) }
 {
-    let mut buffer = ParseBuffer::from(ParseBuffer::from(bytes).take(HEADER_SIZE)?);
-    if buffer.parse_u32()? != 0xffff_ffff {
+    if bytes.len() < HEADER_SIZE {
+        return Err(Error::UnexpectedEof);
+    }
+    if word_at(bytes, 0) != 0xffff_ffff {
         return Err(Error::UnimplementedFeature("ancient DBI header"));
     }
-    let _version = buffer.parse_u32()?;
-    let age = buffer.parse_u32()?;
-    buffer.take(8)?;
-    let symbol_records_stream = buffer.parse_u16()?;
-    let _rebuild = buffer.parse_u16()?;
-    let module_list_size = buffer.parse_u32()?;
-    let section_contribution_size = buffer.parse_u32()?;
-    let section_map_size = buffer.parse_u32()?;
-    let file_info_size = buffer.parse_u32()?;
-    let type_server_map_size = buffer.parse_u32()?;
-    let _compiler_index = buffer.parse_u32()?;
-    let debug_header_size = buffer.parse_u32()?;
-    let ec_substream_size = buffer.parse_u32()?;
-    let _flags = buffer.parse_u16()?;
-    let machine = buffer.parse_u16()?;
     Ok(DBIHeader {
-        age,
-        symbol_records_stream,
-        module_list_size,
-        section_contribution_size,
-        section_map_size,
-        file_info_size,
-        type_server_map_size,
-        debug_header_size,
-        ec_substream_size,
-        machine,
+        age: word_at(bytes, 8),
+        symbol_records_stream: half_at(bytes, 20),
+        module_list_size: word_at(bytes, 24),
+        section_contribution_size: word_at(bytes, 28),
+        section_map_size: word_at(bytes, 32),
+        file_info_size: word_at(bytes, 36),
+        type_server_map_size: word_at(bytes, 40),
+        debug_header_size: word_at(bytes, 48),
+        ec_substream_size: word_at(bytes, 52),
+        machine: half_at(bytes, 58),
     })
 }
 
