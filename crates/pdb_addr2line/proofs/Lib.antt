@@ -1,5 +1,1 @@
-pub mod HeldSteps
-pub mod KeptSteps
-pub mod OpenFiles
 pub mod Refusals
-pub mod SharedStreams

@@ -6,7 +6,7 @@ use Rattle.pdb_container.specs.Fault.{Fault, fault_of, IsOutside, HasRisen}
 use Rattle.pdb_resolving.specs.declared.error.Error as upper
 use Rattle.pdb_resolving.specs.declared.error.Error.TheVariants as uppers
 use Rattle.pdb_resolving.specs.Fault.{error_of}
-use Rattle.pdb_addr2line.specs.Held.{Held, IsOwn}
+use Rattle.pdb_loading.specs.Held.{Held, IsOwn}
 use Rattle.pdb_addr2line.specs.Refused.{CanFail, Refuses}
 use Rattle.pdb_symbols_modules.specs.Streams.{Streams}
 

@@ -1,8 +1,8 @@
 -- A formatter and a context over what is held of a database.
 use Rattle.std.specs.Prelude.{ℕ, List, Result, Ok}
 use Rattle.pdb_container.specs.Fault.{◌>>=◌}
-use Rattle.pdb_addr2line.specs.Held.{Held}
-use Rattle.pdb_addr2line.specs.Kept.{KeptInfo}
+use Rattle.pdb_loading.specs.Held.{Held}
+use Rattle.pdb_loading.specs.Kept.{KeptInfo}
 use Rattle.pdb_symbols_modules.specs.Machine.{machine_of}
 use Rattle.pdb_symbols_modules.specs.Modules.{modules_of}
 use Rattle.pdb_type_sizes.specs.Reading.{Reading, pointer_bytes}

@@ -1,10 +1,5 @@
 pub mod Formatters
-pub mod Held
-pub mod Kept
-pub mod Loading
-pub mod Provided
 pub mod Refused
-pub mod Sharing
 pub use Rattle.pdb_context.specs.Choice
 pub use Rattle.pdb_context.specs.Context
 pub use Rattle.pdb_context.specs.Failed
@@ -12,3 +7,8 @@ pub use Rattle.pdb_context.specs.Frames
 pub use Rattle.pdb_context.specs.Parts
 pub use Rattle.pdb_context.specs.Printing
 pub use Rattle.pdb_context.specs.Runs
+pub use Rattle.pdb_context.specs.Scopes
+pub use Rattle.pdb_loading.specs.Held
+pub use Rattle.pdb_loading.specs.Kept
+pub use Rattle.pdb_loading.specs.Loading
+pub use Rattle.pdb_loading.specs.Provided

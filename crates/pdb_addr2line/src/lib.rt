@@ -1,17 +1,14 @@
-//! What is read of a program database once, for formatters of types and for answers about addresses.
+//! What is held of a program database, and the formatters of types and contexts that are made of it.
 #![tactic(auto)]
 
-mod loading;
-mod module_infos;
 pub mod pdb;
 mod pdb_data;
 
-pub use loading::{Tables, read_tables};
-pub use module_infos::KeptModules;
 pub use pdb_context::{
     Context, Frame, Function, FunctionFrames, FunctionIter, ModuleSectionContribution,
     TypeFormatter, maybe_owned,
 };
 pub use pdb_data::ContextPdbData;
+pub use pdb_loading::{KeptModules, Tables, read_tables};
 pub use pdb_resolving::{Error, ModuleProvider, Result};
 pub use pdb_type_flags::{Flags, TypeFormatterFlags};

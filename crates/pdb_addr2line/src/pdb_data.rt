@@ -5,20 +5,21 @@ ghost use Rattle.pdb_addresses.specs.Addresses.{IsOrdered};
 ghost use Rattle.pdb_container.specs.SourceAnswers.{AnswersFrom};
 ghost use Rattle.pdb_container.specs.Fault.{HasRisen};
 ghost use Rattle.pdb_addr2line.specs.Formatters.{formatting_of, checked_parts, context_in};
-ghost use Rattle.pdb_addr2line.specs.Held.{loaded_in, IsOwn};
-ghost use Rattle.pdb_addr2line.specs.Loading.{loaded, loaded_behind};
+ghost use Rattle.pdb_loading.specs.Held.{loaded_in, IsOwn};
+ghost use Rattle.pdb_loading.specs.Loading.{loaded, loaded_behind};
 ghost use Rattle.pdb_resolving.specs.Fault.{Answers};
 ghost use Rattle.pdb_symbols_modules.specs.DatabaseCalls.{debug_information as read_dbi};
 ghost use Rattle.pdb_addr2line.specs.Refused.{CanFail, Loads};
 ghost use Rattle.pdb_symbols_modules.specs.Shared.{shared};
 ghost use Rattle.pdb_symbols_modules.specs.Streams.{streams};
 
-use crate::loading::{Tables, read_names, read_tables};
-use crate::module_infos::{KeptModules, collect_modules, read_module_infos};
 use pdb_addresses::AddressMap;
 use pdb_container::{Result, Source, StringTable};
 use pdb_context::maybe_owned::MaybeOwned;
 use pdb_context::{Context, ContextParts, TypeFormatter};
+use pdb_loading::{
+    KeptModules, Tables, collect_modules, read_module_infos, read_names, read_tables,
+};
 use pdb_resolving::{Error, ModuleProvider};
 use pdb_symbols_modules::{DebugInformation, Module, ModuleInfo, PDB};
 use pdb_type_flags::TypeFormatterFlags;
@@ -38,7 +39,7 @@ pub struct ContextPdbData<'p, 's, S: Source> {
 impl<'p, 's, S: Source> Model for ContextPdbData<'p, 's, S> {
     ghost use Rattle.std.specs.Prelude.{◌≡◌, None};
     ghost use Rattle.pdb_symbols_modules.specs.Modules.{modules_of};
-    ghost use Rattle.pdb_addr2line.specs.Held as held;
+    ghost use Rattle.pdb_loading.specs.Held as held;
 
     ghost Value = { held.Held };
 
@@ -65,7 +66,7 @@ impl<'p, 's, S: Source> Drop for ContextPdbData<'p, 's, S> {
 
 /// Reads a database: stream 3, what stands behind it, and the module list, whose first fault is the answer; then the modules'
 /// own streams and the names.
-#[tactic(auto, using(pdb_container::proofs::Outside::outside_alone, pdb_container::proofs::Outside::outside_earlier, pdb_container::proofs::Outside::outside_later), unfolding(crate::specs::Loading::loaded))]
+#[tactic(auto, using(pdb_container::proofs::Outside::outside_alone, pdb_container::proofs::Outside::outside_earlier, pdb_container::proofs::Outside::outside_later), unfolding(pdb_loading::specs::Loading::loaded))]
 fn load<'p, 's, S: Source + Drop>(
     alloc: Global,
     pdb: &mut PDB<'s, S>,
@@ -85,7 +86,7 @@ impl<'p, 's, S: Source + Drop> ContextPdbData<'p, 's, S> {
     /// # Errors
     /// `UnexpectedEof` of the module list; `OutOfMemory`. The names table and the modules' own streams are missing where they
     /// can't be read.
-    #[tactic(auto, using(pdb_container::proofs::Outside::outside_alone, pdb_container::proofs::Outside::outside_earlier, pdb_container::proofs::Outside::outside_later, crate::proofs::HeldSteps::list_ends, crate::proofs::HeldSteps::own_held))]
+    #[tactic(auto, using(pdb_container::proofs::Outside::outside_alone, pdb_container::proofs::Outside::outside_earlier, pdb_container::proofs::Outside::outside_later, pdb_loading::proofs::HeldSteps::list_ends, pdb_loading::proofs::HeldSteps::own_held))]
     pub fn try_from_tables(
         alloc: Global,
         pdb: &mut PDB<'s, S>,
@@ -172,7 +173,7 @@ impl<'p, 's, S: Source> ContextPdbData<'p, 's, S> {
     ///
     /// # Errors
     /// `OutOfMemory` alone.
-    #[tactic(auto, using(crate::proofs::HeldSteps::same_modules, crate::proofs::HeldSteps::memory_alone))]
+    #[tactic(auto, using(pdb_loading::proofs::HeldSteps::same_modules, pdb_loading::proofs::HeldSteps::memory_alone))]
     pub fn make_type_formatter_with_flags(
         &self,
         alloc: Global,
@@ -257,8 +258,8 @@ impl<'p, 's, S: Source> ContextPdbData<'p, 's, S> {
 
 /// A module goes by its number alone. A fault of its stream was kept.
 impl<'p, 's, S: Source> ModuleProvider for ContextPdbData<'p, 's, S> {
-    ghost use Rattle.pdb_addr2line.specs.Kept.{answered_at};
-    ghost use Rattle.pdb_addr2line.specs.Provided.{faults_kept};
+    ghost use Rattle.pdb_loading.specs.Kept.{answered_at};
+    ghost use Rattle.pdb_loading.specs.Provided.{faults_kept};
 
     type Info = ModuleInfo<'s>;
 

@@ -13,3 +13,5 @@ mod flags;
 mod formatters;
 #[cfg(test)]
 mod seen;
+#[cfg(test)]
+mod views;

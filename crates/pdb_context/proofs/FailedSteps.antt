@@ -5,12 +5,12 @@ use Rattle.pdb_addresses.specs.declared.internal_section_offset.PdbInternalSecti
 use Rattle.pdb_resolving.specs.declared.error.Error.{Error}
 use Rattle.pdb_resolving.specs.Fault.{Fault, Answers, Fails}
 use Rattle.pdb_resolving.specs.Resolving.{Provided}
-use Rattle.pdb_frames.specs.declared.failures.Part.{Part}
-use Rattle.pdb_frames.specs.Choice.{place_of}
+use Rattle.pdb_frames.specs.Choice.{place_of, held_at}
 use Rattle.pdb_context.specs.Context.{Context, scope_in}
-use Rattle.pdb_frames.specs.Failed.{Failures, failing, failing_if_held, has_failed, told, unsuccessful}
+use Rattle.pdb_frames.specs.Failed.{Failures, has_failed, told, unsuccessful}
+use Rattle.pdb_frames.specs.Failing.{Part, failing, failing_if_held}
 use Rattle.pdb_functions.specs.Frames.{FunctionFrames}
-use Rattle.pdb_frames.specs.Frames.{frames, frames_if_held, held_at}
+use Rattle.pdb_frames.specs.Frames.{frames, frames_if_held}
 
 -- without a part that fails, an answer is told as it is
 told_as_it_is : {A : Type 0} (f : Failures) (r : Result A Fault) → told f None r ≡ r

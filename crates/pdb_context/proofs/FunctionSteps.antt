@@ -7,7 +7,8 @@ use Rattle.pdb_resolving.specs.declared.error.Error.TheVariants as errors
 use Rattle.pdb_resolving.specs.Fault.{Fault, Fails}
 use Rattle.pdb_resolving.specs.Resolving.{Provided}
 use Rattle.pdb_functions.specs.FunctionOrder.{Function}
-use Rattle.pdb_frames.specs.Choice.{Parts, Scope}
+use Rattle.pdb_frames.specs.Choice.{Parts}
+use Rattle.pdb_frames.specs.Scopes.{Scope}
 use Rattle.pdb_frames.specs.Frames.{function}
 use Rattle.pdb_frames.specs.Starts.{if_any}
 use Rattle.pdb_context.specs.Context.{Context, scope_in, uncounted}

@@ -6,3 +6,4 @@ pub use Rattle.pdb_frames.specs.Frames
 pub use Rattle.pdb_frames.specs.Parts
 pub use Rattle.pdb_frames.specs.Printing
 pub use Rattle.pdb_frames.specs.Runs
+pub use Rattle.pdb_frames.specs.Scopes

@@ -4,15 +4,18 @@ ghost use Rattle.std.specs.Prelude.{◌≡◌, ◌≤◌, true, IfOk, Ok, Some, 
 ghost use Rattle.pdb_addresses.specs.Addresses.{IsOrdered};
 ghost use Rattle.pdb_addresses.specs.SectionRun.{up_to_next};
 ghost use Rattle.pdb_resolving.specs.Fault.{Answers};
-ghost use Rattle.pdb_frames.specs.Choice.{Parts, place_of};
+ghost use Rattle.pdb_frames.specs.Choice.{Parts, place_of, held_at};
 ghost use Rattle.pdb_known_modules.specs.Kept.{AreKept};
-ghost use Rattle.pdb_frames.specs.Parts.{entries_of, parts_of, scope_of};
+ghost use Rattle.pdb_frames.specs.Scopes.{entries_of, scope_of};
+ghost use Rattle.pdb_frames.specs.Parts.{parts_of};
 ghost use Rattle.pdb_context.specs.Context.{context_over, lasting, scope_in, uncounted, lookups_after};
-ghost use Rattle.pdb_frames.specs.Failed.{failed_after, failing, failing_at, failing_if_held, failing_in as failing_in_module, told};
-ghost use Rattle.pdb_frames.specs.Frames.{frames, frames_at as frames_at_place, frames_if_held, frames_of_chosen, function, function_at as function_at_contribution, function_of as function_of_chosen, held_at};
+ghost use Rattle.pdb_frames.specs.Failed.{failed_after, failing_in as failing_in_module, told};
+ghost use Rattle.pdb_frames.specs.Failing.{failing, failing_at, failing_if_held};
+ghost use Rattle.pdb_frames.specs.Frames.{frames, frames_at as frames_at_place, frames_if_held, frames_of_chosen, function, function_at as function_at_contribution, function_of as function_of_chosen};
 ghost use Rattle.pdb_frames.specs.MaybeOwned.{value_of};
 ghost use Rattle.pdb_known_modules.specs.Modules.{module_data, own_of};
-ghost use Rattle.pdb_frames.specs.Runs.{bounds_near, database_of, function_here as function_at_place, procedures_of};
+ghost use Rattle.pdb_frames.specs.NearBounds.{bounds_near};
+ghost use Rattle.pdb_frames.specs.Runs.{database_of, function_here as function_at_place, procedures_of};
 ghost use Rattle.pdb_frames.specs.Seen.{chosen_seen};
 ghost use Rattle.pdb_functions.specs.Databases.{IsOneRun, place_of as as_place};
 ghost use Rattle.pdb_frames.specs.Printing.{env_of};
@@ -50,7 +53,7 @@ pub struct Context<'a, 's, P: ModuleProvider> {
 impl<'a, 's, P: ModuleProvider> Model for Context<'a, 's, P> {
     ghost use Rattle.std.specs.Prelude.{option_map};
     ghost use Rattle.pdb_context.specs.Context as contexts;
-    ghost use Rattle.pdb_frames.specs.Parts.{entries_of, scope_of};
+    ghost use Rattle.pdb_frames.specs.Scopes.{entries_of, scope_of};
     ghost use Rattle.pdb_frames.specs.Starts.{start_addresses, AreStarts};
     ghost use Rattle.pdb_known_modules.specs.Kept.{AreKept};
     ghost use Rattle.pdb_known_modules.specs.Modules.{module_data, own_of};

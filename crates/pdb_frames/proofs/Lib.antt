@@ -1,4 +1,3 @@
-pub mod NextPublic
 pub mod ProcedureSteps
 pub mod RunLaw
 pub mod StartSteps

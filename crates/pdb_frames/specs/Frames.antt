@@ -1,15 +1,11 @@
 -- The answers for an address of the image: its function, and the frames at it.
-use Rattle.std.specs.Prelude.{ℕ, ◌+◌, List, [], ◌∷◌, ◌++◌, map, Option, None, Some, option_map, option_and_then, Result, Ok}
+use Rattle.std.specs.Prelude.{ℕ, List, [], ◌∷◌, ◌++◌, map, Option, None, Some, option_map, option_and_then, Result, Ok}
 use Rattle.pdb_container.specs.Fault.{◌>>=◌}
 use Rattle.pdb_addresses.specs.declared.internal_section_offset.PdbInternalSectionOffset.{PdbInternalSectionOffset}
-use Rattle.pdb_addresses.specs.Addresses.{outer_of_place}
-use Rattle.pdb_addresses.specs.Numbers.{in_32_bits}
 use Rattle.pdb_lines.specs.LinesSubsections.{Program}
 use Rattle.pdb_symbols_modules.specs.ModuleStream.{ModuleStream}
 use Rattle.pdb_inlinees.specs.Inlinees.{InlinedFunction}
 use Rattle.pdb_contributions.specs.declared.contribution.ModuleSectionContribution.{ModuleSectionContribution}
-use Rattle.pdb_contributions.specs.Contributions.{holder}
-use Rattle.pdb_public_list.specs.Publics.{PublicFunction, next_public}
 use Rattle.pdb_module_data.specs.declared.function_rows.LineRow.{LineRow}
 use Rattle.pdb_module_data.specs.declared.inlined_calls.InlinedCall.{InlinedCall}
 use Rattle.pdb_module_data.specs.FunctionLine.{file_text, function_row}
@@ -20,7 +16,9 @@ use Rattle.pdb_names.specs.Names.{if_made}
 use Rattle.pdb_functions.specs.Frames.{Frame, FunctionFrames}
 use Rattle.pdb_functions.specs.FunctionOrder.{Function}
 use Rattle.pdb_known_modules.specs.Modules.{ModuleData, ExtendedModule, module_data, procedures_in, extended_of, procedure_calls}
-use Rattle.pdb_frames.specs.Choice.{Parts, Scope, Chosen, Proc, Public, chosen, start_of, start_address, name_of, length_of, end_behind, place_of}
+use Rattle.pdb_choice.specs.Choice.{Parts, Chosen, Proc, Public, chosen, start_of, start_address, length_of, end_behind, function_end, place_of, held_at}
+use Rattle.pdb_frames.specs.ChosenNames.{name_of}
+use Rattle.pdb_frames.specs.Scopes.{Scope}
 
 -- ---- frames
 
@@ -76,17 +74,6 @@ frames_at p s c place = frames_of_chosen p s.env (module_data s.own) place (chos
 
 -- ---- functions
 
--- the end of a public entry's function: none without a next entry in its section; where that one has no image address, there
--- is no function
-abbrev pub public_end : Parts → Option PublicFunction → Option (Option ℕ)
-public_end p None = Some None
-public_end p (Some next) = option_map Some (outer_of_place p.map (next.start_offset).section (next.start_offset).offset)
-
--- the end of a chosen function that begins at an image address, if it is one
-abbrev pub function_end : Parts → Chosen → ℕ → Option (Option ℕ)
-function_end p (Proc q) start = Some (in_32_bits (start + q.len))
-function_end p (Public f) start = public_end p (next_public p.publics f.start_offset)
-
 -- a chosen function
 abbrev pub function_of : Parts → Env → Chosen → Option Function
 function_of p env c = option_and_then (λ start. option_map (λ end. record { start_rva = start; end_rva = end; name = name_of p env c }) (function_end p c start)) (start_address p c)
@@ -96,11 +83,6 @@ unfoldable pub function_at : Parts → Scope → ModuleSectionContribution → P
 function_at p s c place = option_and_then (function_of p s.env) (chosen p (procedures_in (module_data s.own)) c place)
 
 -- ---- addresses
-
--- the contribution that holds an address, with its place
-abbrev pub held_at : Parts → Option PdbInternalSectionOffset → Option (ModuleSectionContribution × PdbInternalSectionOffset)
-held_at p None = None
-held_at p (Some place) = option_map (λ c. (c, place)) (holder p.contributions place)
 
 -- what is answered in the module that holds a place, where one does
 abbrev pub frames_if_held : Parts → (ℕ → Scope) → Option (ModuleSectionContribution × PdbInternalSectionOffset) → Result (Option FunctionFrames) Fault

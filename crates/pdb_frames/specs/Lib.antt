@@ -1,9 +1,13 @@
-pub mod Choice
-pub mod Failed
+pub mod ChosenNames
+pub mod Failing
 pub mod Frames
-pub mod Parts
 pub mod Runs
-pub mod Seen
+pub mod Scopes
 pub mod Starts
+pub use Rattle.pdb_choice.specs.Choice
+pub use Rattle.pdb_choice.specs.Failed
+pub use Rattle.pdb_choice.specs.NearBounds
+pub use Rattle.pdb_choice.specs.Parts
+pub use Rattle.pdb_choice.specs.Seen
 pub use Rattle.pdb_names.specs.MaybeOwned
 pub use Rattle.pdb_names.specs.Printing

@@ -1,28 +1,20 @@
 -- Runs: how far along a section the function stays.
-use Rattle.std.specs.Prelude.{ℕ, Bool, ◌==◌, List, [], ◌∷◌, ◌++◌, Option, None, Some, option_and_then, if◌then◌else◌}
-use Rattle.std.specs.List.{flat_map, list_any}
+use Rattle.std.specs.Prelude.{ℕ, Bool, ◌==◌, List, [], Option, None, Some, option_and_then}
+use Rattle.std.specs.List.{list_any}
 use Rattle.pdb_addresses.specs.declared.internal_section_offset.PdbInternalSectionOffset.{PdbInternalSectionOffset}
 use Rattle.pdb_addresses.specs.Places.{internal_place}
 use Rattle.pdb_contributions.specs.declared.contribution.ModuleSectionContribution.{ModuleSectionContribution}
 use Rattle.pdb_contributions.specs.Contributions.{holder}
-use Rattle.pdb_public_list.specs.Publics.{PublicFunction}
 use Rattle.pdb_module_data.specs.Procedures.{Procedure}
-use Rattle.pdb_bounds.specs.SectionBounds.{contribution_bounds, procedure_bounds}
 use Rattle.pdb_functions.specs.Databases.{Database}
 use Rattle.pdb_functions.specs.FunctionOrder.{Function}
-use Rattle.pdb_frames.specs.Choice.{Parts, Scope}
-use Rattle.pdb_frames.specs.Frames.{held_at, function_at}
+use Rattle.pdb_choice.specs.Choice.{Parts, held_at}
+use Rattle.pdb_choice.specs.NearBounds.{bounds_near}
+use Rattle.pdb_frames.specs.Frames.{function_at}
+use Rattle.pdb_frames.specs.Scopes.{Scope}
 use Rattle.pdb_known_modules.specs.Modules.{module_data, procedures_in}
 
 -- ---- where answers may change
-
--- where a public entry begins, if it lies in the section of a place
-abbrev pub public_bounds : PdbInternalSectionOffset → PublicFunction → List ℕ
-public_bounds p f = if (f.start_offset).section == p.section then (f.start_offset).offset ∷ [] else []
-
--- where contributions, public entries and these procedures begin and end in the section of a place
-abbrev pub bounds_near : Parts → List Procedure → PdbInternalSectionOffset → List ℕ
-bounds_near p procedures place = flat_map (contribution_bounds place) p.contributions ++ (flat_map (public_bounds place) p.publics ++ flat_map (procedure_bounds place) procedures)
 
 -- the procedures of the module that a contribution belongs to; none without one
 abbrev pub procedures_of : (ℕ → Scope) → Option ModuleSectionContribution → List Procedure

@@ -7,7 +7,8 @@ use Rattle.pdb_addresses.specs.declared.internal_section_offset.PdbInternalSecti
 use Rattle.pdb_addresses.specs.Addresses.{Map, outer_of_place}
 use Rattle.pdb_symbols_modules.specs.Modules.{Module}
 use Rattle.pdb_known_modules.specs.Modules.{module_data, procedures_in}
-use Rattle.pdb_frames.specs.Choice.{Parts, Scope}
+use Rattle.pdb_choice.specs.Choice.{Parts}
+use Rattle.pdb_frames.specs.Scopes.{Scope}
 
 -- a value that may be there, as a list
 abbrev pub if_any : {A : Type 0} → Option A → List A

@@ -2,15 +2,14 @@
 
 ghost use Rattle.std.specs.Prelude.{◌≡◌, IfOk, option_map, string_bytes};
 ghost use Rattle.pdb_container.specs.RawString.{raw_bytes};
-ghost use Rattle.pdb_frames.specs.Choice.{name_of as name_of_chosen, procedure_name as name_of_procedure, public_name as public_name_of};
-ghost use Rattle.pdb_frames.specs.Seen.{chosen_seen};
+ghost use Rattle.pdb_frames.specs.ChosenNames.{name_of as name_of_chosen, procedure_name as name_of_procedure, public_name as public_name_of};
+ghost use Rattle.pdb_choice.specs.Seen.{chosen_seen};
 ghost use Rattle.pdb_names.specs.Printing.{env_of};
 
-use crate::choice::Chosen;
-use crate::parts::ContextParts;
+use pdb_choice::{Chosen, ContextParts, is_decorated};
 use pdb_container::RawString;
 use pdb_module_data::Procedure;
-use pdb_names::{Namer, if_named, is_decorated, raw_name};
+use pdb_names::{Namer, if_named, raw_name};
 use pdb_resolving::ModuleProvider;
 use std::alloc::{AllocError, Global};
 

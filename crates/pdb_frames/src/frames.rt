@@ -8,16 +8,15 @@ ghost use Rattle.pdb_module_data.specs.InlinedCalls.{call_rows, calls_over};
 ghost use Rattle.pdb_module_data.specs.InlinePieces.{StandForSites};
 ghost use Rattle.pdb_resolving.specs.Fault.{Answers};
 ghost use Rattle.pdb_names.specs.Printing.{env_of};
-ghost use Rattle.pdb_frames.specs.Choice as choice;
+ghost use Rattle.pdb_choice.specs.Choice as choice;
 ghost use Rattle.pdb_frames.specs.Frames.{frames_in as frames_of_module, frames_in_data as frames_of_data, row_and_calls, call_frame as frame_of_call, function_frame as frame_of_function};
 ghost use Rattle.pdb_known_modules.specs.Modules.{extended_of};
-ghost use Rattle.pdb_frames.specs.Seen.{chosen_seen};
+ghost use Rattle.pdb_choice.specs.Seen.{chosen_seen};
 ghost use Rattle.pdb_known_modules.specs.Seen.{extended_seen};
 
-use crate::choice::Chosen;
 use crate::chosen_name::name_of;
-use crate::parts::ContextParts;
 use pdb_addresses::PdbInternalSectionOffset;
+use pdb_choice::{Chosen, ContextParts};
 use pdb_functions::Frame;
 use pdb_indices::FileIndex;
 use pdb_known_modules::{

@@ -2,12 +2,12 @@
 
 ghost use Rattle.std.specs.Prelude.{◌≡◌, ◌++◌, IfOk, OnOk, map, option_map};
 ghost use Rattle.pdb_addresses.specs.Addresses.{IsOrdered, outer_of_place};
-ghost use Rattle.pdb_frames.specs.Parts.{scope_of, entries_of};
+ghost use Rattle.pdb_frames.specs.Scopes.{scope_of, entries_of};
 ghost use Rattle.pdb_frames.specs.Starts.{if_any, addresses_of, procedure_starts_from, start_addresses, AreStarts, IsAscending};
 ghost use Rattle.pdb_known_modules.specs.Modules.{module_data, procedures_in as procedures_of_module};
 
-use crate::parts::ContextParts;
 use pdb_addresses::{AddressMap, PdbInternalSectionOffset};
+use pdb_choice::ContextParts;
 use pdb_known_modules::{get_basic_module_info, procedures_in};
 use pdb_module_data::Procedure;
 use pdb_names::Namer;

@@ -1,5 +1,5 @@
 -- Names as they are stored, and texts that may be made of them.
-use Rattle.std.specs.Prelude.{◌≡◌, ℕ, Bool, false, List, [], ◌∷◌, ◌==◌, Option, None, Some, Result, Ok, Err}
+use Rattle.std.specs.Prelude.{◌≡◌, ℕ, List, Option, None, Some, Result, Ok, Err}
 use Rattle.std.specs.Str.Lossy.{utf8_lossy}
 use Rattle.pdb_module_data.specs.Procedures.{Procedure}
 use Rattle.pdb_resolving.specs.declared.error.Error.{Error}
@@ -7,11 +7,6 @@ use Rattle.pdb_resolving.specs.declared.error.Error.TheVariants as errors
 use Rattle.pdb_resolving.specs.Fault.{Fault}
 use Rattle.pdb_type_text.specs.Env.{Env}
 use Rattle.pdb_type_text.specs.Functions.{function_text}
-
--- whether a name is decorated: it begins with a question mark
-abbrev pub is_decorated : List ℕ → Bool
-is_decorated [] = false
-is_decorated (byte ∷ name) = byte == 0x3f
 
 -- a text, if a call that makes one returned it; want of memory is no missing text
 abbrev pub IsText : {T : Type 0} → Option T → Result T Error → Type 0

@@ -3,7 +3,7 @@
 ghost use Rattle.std.specs.Prelude.{◌≡◌, IfOk, option_map, string_bytes};
 ghost use Rattle.std.specs.Str.Lossy.{utf8_lossy};
 ghost use Rattle.pdb_container.specs.RawString.{raw_bytes};
-ghost use Rattle.pdb_names.specs.Names.{is_decorated as is_decorated_name, typed_name as name_by_type, if_made, IsText};
+ghost use Rattle.pdb_names.specs.Names.{typed_name as name_by_type, if_made, IsText};
 ghost use Rattle.pdb_type_text.specs.Printing.{env_of};
 ghost use Rattle.pdb_type_text.specs.Ids.{id_text};
 
@@ -13,16 +13,6 @@ use pdb_module_data::Procedure;
 use pdb_resolving::{Error, ModuleProvider, Result};
 use pdb_type_text::{TypeFormatter, function_text_of, id_text_of};
 use std::alloc::{AllocError, Global};
-
-/// Whether a name is decorated: it begins with a question mark.
-pub fn is_decorated(name: &[u8]) -> bool
-    ensures { result ≡ is_decorated_name name.now }
-{
-    match name.first() {
-        None => false,
-        Some(byte) => *byte == b'?',
-    }
-}
 
 /// A text, if it could be made. Want of memory is no missing text.
 fn if_text(made: Result<String>) -> std::result::Result<Option<String>, AllocError>

@@ -1,9 +1,5 @@
-pub mod FrameSteps
-pub mod InputFaultSteps
 pub mod Lifting
 pub mod OtherFiles
 pub mod OpeningSteps
-pub mod Pieces
-pub mod ShortLines
 pub mod SizesSteps
 pub mod ToldSteps

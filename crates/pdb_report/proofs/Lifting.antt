@@ -4,12 +4,12 @@ use Rattle.std.specs.Prelude.{◌⊎◌, Option, Some}
 use Rattle.pdb_container.specs.declared.error.Error.{Error}
 use Rattle.pdb_container.specs.declared.error.Error.TheVariants as errors
 use Rattle.pdb_container.specs.Fault.{Fault, fault_of, IsOutside, HasRisen, Gives, ◌>>=◌}
-use Rattle.pdb_report.specs.declared.fault.LoadFault.{LoadFault}
-use Rattle.pdb_report.specs.declared.fault.LoadFault.TheVariants as faults
+use Rattle.pdb_report_texts.specs.declared.fault.LoadFault.{LoadFault}
+use Rattle.pdb_report_texts.specs.declared.fault.LoadFault.TheVariants as faults
 use Rattle.pdb_resolving.specs.declared.error.Error.TheVariants as contexts
 use Rattle.pdb_report.specs.Loading.{none_or}
 use Rattle.pdb_resolving.specs.declared.error.Error as context
-use Rattle.pdb_report.specs.Faults.{load_fault_of, load_fault_in_context, lifted, in_loading, FailsLoading, LoadingFault}
+use Rattle.pdb_report_texts.specs.Faults.{load_fault_of, load_fault_in_context, lifted, in_loading, FailsLoading, LoadingFault}
 use Rattle.pdb_resolving.specs.Fault as answers
 
 -- an error of a reading is the fault of the loading step that makes it

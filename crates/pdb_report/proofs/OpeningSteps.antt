@@ -18,8 +18,8 @@ use Rattle.pdb_resolving.specs.Fault as answers
 use Rattle.pdb_resolving.specs.Resolving.{Provided, none_failed}
 use Rattle.pdb_type_sizes.specs.Reading.{pointer_bytes}
 use Rattle.pdb_addr2line.specs.Printing.{Formatting}
-use Rattle.pdb_addr2line.specs.Choice.{Parts, Scope}
-use Rattle.pdb_addr2line.specs.Parts.{scope_of}
+use Rattle.pdb_addr2line.specs.Choice.{Parts}
+use Rattle.pdb_addr2line.specs.Scopes.{Scope, scope_of}
 use Rattle.pdb_addr2line.specs.Context.{Context, context_over}
 use Rattle.pdb_addr2line.specs.Failed.{no_failures}
 use Rattle.pdb_addr2line.specs.Frames.{frames, function}
@@ -28,14 +28,14 @@ use Rattle.pdb_addr2line.specs.Held.{Held, IsOwn, loaded_in, given, names_in}
 use Rattle.pdb_addr2line.specs.Kept.{KeptInfo, answered_at}
 use Rattle.pdb_addr2line.specs.Loading as kept
 use Rattle.pdb_addr2line.specs.Loading.{Tables, tables, listed}
-use Rattle.pdb_report.specs.declared.fault.LoadFault.{LoadFault}
-use Rattle.pdb_report.specs.declared.fault.LoadFault.TheVariants as faults
+use Rattle.pdb_report_texts.specs.declared.fault.LoadFault.{LoadFault}
+use Rattle.pdb_report_texts.specs.declared.fault.LoadFault.TheVariants as faults
 use Rattle.pdb_addr2line.specs.Runs.{database_of}
 use Rattle.pdb_report.specs.Answer.{AnswersAs, Listing, address_map, answer, answer_by, database, database_by, function_at, function_by, given_in, listing, listing_by, map_by, scope}
-use Rattle.pdb_report.specs.Faults.{LoadingFault, AddressTableDecreases, lifted, in_loading, load_fault_of, load_fault_in_context, FailsLoading}
+use Rattle.pdb_report_texts.specs.Faults.{LoadingFault, AddressTableDecreases, lifted, in_loading, load_fault_of, load_fault_in_context, FailsLoading}
 use Rattle.pdb_report.specs.Kept.{IsKept, AreInOrder, answered_in}
 use Rattle.pdb_report.specs.Loading.{Loaded, parts_in, none_or, loaded_behind, loaded_open, loaded, load_fault, Refuses, IsFileFault}
-use Rattle.pdb_report.specs.RunFaults.{OnLoad, run_fault_of}
+use Rattle.pdb_report_texts.specs.RunFaults.{OnLoad, run_fault_of}
 use Rattle.pdb_report.proofs.Lifting.{fails_on, loads_on, opening_fails}
 
 -- ---- what is left of a load

@@ -7,7 +7,7 @@ use Rattle.pdb_container.specs.Container.{magic}
 use Rattle.pdb_files.specs.FileRead.{IsRead}
 use Rattle.pdb_files.specs.FileRead.IsRead.{all, front}
 use Rattle.pdb_files.proofs.OtherFronts.{other_front, front_tells}
-use Rattle.pdb_report.specs.Faults.{Pdb}
+use Rattle.pdb_report_texts.specs.Faults.{Pdb}
 use Rattle.pdb_report.specs.Loading.{loaded, load_fault}
 use Rattle.pdb_resolving.specs.Fault as answers
 use Rattle.pdb_symbols_modules.specs.Shared.{shared}

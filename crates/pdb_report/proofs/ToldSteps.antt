@@ -4,7 +4,7 @@ use Rattle.std.specs.Prelude.{Option}
 use Rattle.pdb_resolving.specs.Fault.{Fault}
 use Rattle.pdb_addr2line.specs.Failed.{Failures, told}
 use Rattle.pdb_functions.specs.Frames.{FunctionFrames}
-use Rattle.pdb_report.specs.AddressText.{answer_text}
+use Rattle.pdb_report_texts.specs.AddressText.{answer_text}
 
 told_text : (f : Failures) (part : Option _) (r : Result (Option FunctionFrames) Fault) → answer_text (told f part r) ≡ answer_text r
 unfolding answer_text

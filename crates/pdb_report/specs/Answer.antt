@@ -9,8 +9,8 @@ use Rattle.pdb_resolving.specs.Fault.{Fault}
 use Rattle.pdb_resolving.specs.Resolving.{Provided, none_failed}
 use Rattle.pdb_type_sizes.specs.Reading.{pointer_bytes}
 use Rattle.pdb_addr2line.specs.Printing.{Formatting}
-use Rattle.pdb_addr2line.specs.Choice.{Parts, Scope}
-use Rattle.pdb_addr2line.specs.Parts.{scope_of, entries_of}
+use Rattle.pdb_addr2line.specs.Choice.{Parts}
+use Rattle.pdb_addr2line.specs.Scopes.{Scope, scope_of, entries_of}
 use Rattle.pdb_addr2line.specs.Context.{Context, scope_in}
 use Rattle.pdb_functions.specs.Frames.{FunctionFrames}
 use Rattle.pdb_addr2line.specs.Frames.{frames, function}
@@ -18,7 +18,7 @@ use Rattle.pdb_addr2line.specs.Runs.{database_of}
 use Rattle.pdb_functions.specs.Databases.{Database}
 use Rattle.pdb_functions.specs.FunctionOrder.{Function}
 use Rattle.pdb_addr2line.specs.Held.{given, names_in}
-use Rattle.pdb_report.specs.Faults.{LoadingFault}
+use Rattle.pdb_report_texts.specs.Faults.{LoadingFault}
 use Rattle.pdb_report.specs.Loading.{Loaded, loaded}
 
 -- what a file gives of the module of a number, whatever its entry; a fault says that it was kept

@@ -1,9 +1,9 @@
-pub mod AddressText
 pub mod Answer
-pub mod Faults
-pub mod FaultText
 pub mod Kept
 pub mod Loading
-pub mod RunFaults
 pub mod SizesReport
-pub mod ToldFault
+pub use Rattle.pdb_report_texts.specs.AddressText
+pub use Rattle.pdb_report_texts.specs.Faults
+pub use Rattle.pdb_report_texts.specs.FaultText
+pub use Rattle.pdb_report_texts.specs.RunFaults
+pub use Rattle.pdb_report_texts.specs.ToldFault

@@ -12,9 +12,9 @@ use Rattle.pdb_addr2line.specs.Choice.{Parts}
 use Rattle.pdb_addr2line.specs.Parts.{parts_of}
 use Rattle.pdb_addr2line.specs.Kept.{if_read}
 use Rattle.pdb_addr2line.specs.Loading.{Tables, tables, listed}
-use Rattle.pdb_report.specs.declared.fault.LoadFault.{LoadFault}
-use Rattle.pdb_report.specs.declared.fault.LoadFault.TheVariants as faults
-use Rattle.pdb_report.specs.Faults.{LoadingFault, AddressTableDecreases, lifted, in_loading, loading_fault_of}
+use Rattle.pdb_report_texts.specs.declared.fault.LoadFault.{LoadFault}
+use Rattle.pdb_report_texts.specs.declared.fault.LoadFault.TheVariants as faults
+use Rattle.pdb_report_texts.specs.Faults.{LoadingFault, AddressTableDecreases, lifted, in_loading, loading_fault_of}
 
 -- what was loaded: stream 3, what stands behind it, and what every question goes over
 pub record Loaded : Type 0 where

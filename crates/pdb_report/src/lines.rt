@@ -3,12 +3,12 @@
 ghost use Rattle.std.specs.Prelude.{◌≡◌, IfOk, Some, string_bytes};
 ghost use Rattle.pdb_addr2line.specs.Context.{lasting};
 ghost use Rattle.pdb_report.specs.Answer.{answer_of};
-ghost use Rattle.pdb_report.specs.AddressText.{line_text as text_of_line, text_at};
+ghost use Rattle.pdb_report_texts.specs.AddressText.{line_text as text_of_line, text_at};
 
-use crate::texts::{address_text, unreadable_text};
 use pdb_addr2line::{Context, Error, ModuleProvider};
 use pdb_address_lines::parse_address;
 use pdb_engine::Answers;
+use pdb_report_texts::{address_text, unreadable_text};
 use std::alloc::{AllocError, Global};
 
 /// What is written for an address.
@@ -29,7 +29,7 @@ fn address_lines<P: ModuleProvider>(
 }
 
 /// What is written for a line of the input.
-#[tactic(auto, unfolding(crate::specs::AddressText::line_text))]
+#[tactic(auto, unfolding(pdb_report_texts::specs::AddressText::line_text))]
 fn line_text<P: ModuleProvider>(
     alloc: Global,
     context: &mut Context<'_, '_, P>,
@@ -51,7 +51,7 @@ pub struct LineAnswers<'a, 's, P: ModuleProvider> {
 }
 
 impl<'a, 's, P: ModuleProvider> Answers for LineAnswers<'a, 's, P> {
-    ghost use Rattle.pdb_report.specs.AddressText.{line_text};
+    ghost use Rattle.pdb_report_texts.specs.AddressText.{line_text};
     ghost use Rattle.pdb_report.specs.Answer.{answer_of};
 
     ghost text = { λ answers line. line_text (answer_of P.provided answers.context) line };

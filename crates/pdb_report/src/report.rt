@@ -4,16 +4,16 @@ ghost use Rattle.std.specs.Prelude.{◌≡◌, ℕ, ◌^◌, List, OnOk, OnErr, 
 ghost use Rattle.pdb_engine.specs.InputFaults.{IsOfRunning, OnRead as OnInputRead, OnWrite as OnInputWrite, OnTooLong as OnInputTooLong};
 ghost use Rattle.pdb_engine.specs.InputLines.{report, report_of_ended};
 ghost use Rattle.pdb_engine.specs.Watched.{inner_of, CountsFailure, IsQuiet, Writes, WritesFront, Takes};
-ghost use Rattle.pdb_report.specs.AddressText.{line_text};
+ghost use Rattle.pdb_report_texts.specs.AddressText.{line_text};
 ghost use Rattle.pdb_report.specs.Answer.{answer};
 ghost use Rattle.pdb_report.specs.Loading.{load_fault, IsFileFault};
-ghost use Rattle.pdb_report.specs.RunFaults.{OnLoad, OnRead, OnWrite, OnTooLong, OnMemory, UnlessLoad, IsOfFrames};
+ghost use Rattle.pdb_report_texts.specs.RunFaults.{OnLoad, OnRead, OnWrite, OnTooLong, OnMemory, UnlessLoad, IsOfFrames};
 ghost use Rattle.pdb_symbols_modules.specs.Streams.{streams};
 
-use crate::fault::RunFault;
 use crate::lines::LineAnswers;
 use crate::symbolizer::Symbolizer;
 use pdb_engine::{InputFault, Watched, run};
+use pdb_report_texts::RunFault;
 use std::alloc::Global;
 use std::io::{Read, Write};
 
@@ -24,7 +24,7 @@ const INPUT_LIMIT: u64 = 1 << 30;
 ///
 /// # Errors
 /// Those of [`run`].
-#[tactic(auto, using(crate::proofs::ShortLines::line_short))]
+#[tactic(auto, using(pdb_report_texts::proofs::ShortLines::line_short))]
 fn answer_lines<R: Read, W: Write>(
     alloc: Global,
     symbolizer: &Symbolizer,
@@ -53,7 +53,7 @@ fn answer_lines<R: Read, W: Write>(
 ///
 /// # Errors
 /// `Read`, `Write`, `InputTooLong`, `OutOfMemory`, as those of [`run`].
-#[tactic(auto, using(crate::proofs::InputFaultSteps::on_read, crate::proofs::InputFaultSteps::on_write, crate::proofs::InputFaultSteps::on_too_long, crate::proofs::InputFaultSteps::of_frames))]
+#[tactic(auto, using(pdb_report_texts::proofs::InputFaultSteps::on_read, pdb_report_texts::proofs::InputFaultSteps::on_write, pdb_report_texts::proofs::InputFaultSteps::on_too_long, pdb_report_texts::proofs::InputFaultSteps::of_frames))]
 fn frames_of<R: Read, W: Write>(
     alloc: Global,
     symbolizer: &Symbolizer,

@@ -3,17 +3,17 @@
 ghost use Rattle.std.specs.Prelude.{◌≡◌, IfOk, OnOk, IfErr, IsOkUnless, None, Some};
 ghost use Rattle.pdb_addresses.specs.Addresses.{IsOrdered};
 ghost use Rattle.pdb_addr2line.specs.Failed.{no_failures};
-ghost use Rattle.pdb_report.specs.declared.fault.LoadFault.TheVariants as faults;
+ghost use Rattle.pdb_report_texts.specs.declared.fault.LoadFault.TheVariants as faults;
 ghost use Rattle.pdb_report.specs.Answer.{AnswersAs, address_map as address_map_of};
-ghost use Rattle.pdb_report.specs.Faults.{FailsLoading};
+ghost use Rattle.pdb_report_texts.specs.Faults.{FailsLoading};
 ghost use Rattle.pdb_report.specs.Kept.{answered_in, AreInOrder, IsKept};
 ghost use Rattle.pdb_report.specs.Loading.{loaded, load_fault, Refuses};
 ghost use Rattle.pdb_symbols_modules.specs.Shared.{shared};
 ghost use Rattle.pdb_symbols_modules.specs.Streams.{streams};
 
-use crate::fault::LoadFault;
 use pdb_addr2line::{Context, ContextPdbData, KeptModules, Tables, read_tables};
 use pdb_addresses::AddressMap;
+use pdb_report_texts::LoadFault;
 use pdb_symbols_modules::{DebugInformation, PDB};
 use std::alloc::Global;
 use std::marker::Model;

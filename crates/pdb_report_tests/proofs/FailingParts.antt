@@ -12,11 +12,12 @@ use Rattle.pdb_module_data.specs.Forest.{sites_of}
 use Rattle.pdb_module_data.specs.InlinedCalls.{call_rows, calls_over}
 use Rattle.pdb_resolving.specs.Fault.{Fault, lifted}
 use Rattle.pdb_type_text.specs.Env.{Env}
-use Rattle.pdb_frames.specs.declared.failures.Part.{Part}
-use Rattle.pdb_frames.specs.declared.failures.Part.TheVariants as parts
-use Rattle.pdb_frames.specs.Choice.{Parts, Scope, Chosen, Proc, Public, chosen, place_of, start_address, start_of}
-use Rattle.pdb_frames.specs.Failed.{failing, failing_by, failing_first, failing_if_held, failing_in, failing_of_chosen, failing_procedure, failing_sites}
-use Rattle.pdb_frames.specs.Frames.{calls_in, found_frames, frames, frames_at, frames_if_held, frames_in, frames_in_data, frames_of_chosen, held_at, row_and_calls}
+use Rattle.pdb_frames.specs.Failing as parts
+use Rattle.pdb_frames.specs.Choice.{Parts, Chosen, Proc, Public, chosen, place_of, start_address, start_of, held_at}
+use Rattle.pdb_frames.specs.Scopes.{Scope}
+use Rattle.pdb_frames.specs.Failing.{Part, failing, failing_if_held}
+use Rattle.pdb_frames.specs.Failed.{failing_by, failing_first, failing_in, failing_of_chosen, failing_procedure, failing_sites}
+use Rattle.pdb_frames.specs.Frames.{calls_in, found_frames, frames, frames_at, frames_if_held, frames_in, frames_in_data, frames_of_chosen, row_and_calls}
 use Rattle.pdb_known_modules.specs.Modules.{ModuleData, ExtendedModule, extended_of, module_data, procedure_calls, procedures_in, sites_lifted}
 
 ok_is_not_err : {A : Type 0} {x : A} {e : Fault} → Ok x ≡ Err e → ⊥

@@ -1,8 +1,9 @@
 //! What the definitions say of each other.
 
 ghost use Rattle.std.specs.Prelude.{◌≡◌, ℕ, Err, is_some, true};
-ghost use Rattle.pdb_frames.specs.Choice.{Parts, Scope};
-ghost use Rattle.pdb_frames.specs.Failed.{failing};
+ghost use Rattle.pdb_frames.specs.Choice.{Parts};
+ghost use Rattle.pdb_frames.specs.Scopes.{Scope};
+ghost use Rattle.pdb_frames.specs.Failing.{failing};
 ghost use Rattle.pdb_frames.specs.Frames.{frames};
 ghost use Rattle.pdb_resolving.specs.Fault.{Fault};
 

@@ -1,6 +1,6 @@
 use Rattle.std.proofs.Common.{◌∙◌, ap, arith}
 use Rattle.pdb_symbols_modules.specs.Streams.{streams}
-use Rattle.pdb_addr2line.proofs.HeldSteps.{own_if}
+use Rattle.pdb_loading.proofs.HeldSteps.{own_if}
 use Rattle.pdb_addr2line.proofs.pdb_data.load.Goals as goal
 
 pub returns-clause-own : goal.returns-clause-own

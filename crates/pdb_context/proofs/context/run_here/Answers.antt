@@ -1,5 +1,5 @@
 use Rattle.std.proofs.Common.{sym, ◌∙◌, Some, None}
-use Rattle.pdb_frames.specs.Parts.{scope_of}
+use Rattle.pdb_frames.specs.Scopes.{scope_of}
 use Rattle.pdb_frames.proofs.RunLaw.{run_by_holder, run_if_ok}
 use Rattle.pdb_context.proofs.context.run_here.Goals as goal
 

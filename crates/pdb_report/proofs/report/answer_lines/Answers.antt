@@ -3,7 +3,7 @@ use Rattle.std.specs.Prelude.{IfErr, IfSome, OnErr, OnOk}
 use Rattle.pdb_engine.specs.InputFaults as inputs
 use Rattle.pdb_engine.specs.InputLines.{report, report_of_ended}
 use Rattle.pdb_engine.specs.Watched.{inner_of, Writes, WritesFront, Takes}
-use Rattle.pdb_report.specs.AddressText.{Answers, line_text}
+use Rattle.pdb_report_texts.specs.AddressText.{Answers, line_text}
 use Rattle.pdb_report.proofs.report.answer_lines.Goals as goal
 
 -- the context answers as the file does

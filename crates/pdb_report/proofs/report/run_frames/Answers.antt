@@ -3,10 +3,10 @@ use Rattle.std.specs.Prelude.{OnOk, OnErr, IfErr, IfSome}
 use Rattle.pdb_engine.specs.InputLines.{report, report_of_ended}
 use Rattle.pdb_engine.specs.Watched.{inner_of, Writes, WritesFront, Takes}
 use Rattle.pdb_symbols_modules.specs.Streams.{streams}
-use Rattle.pdb_report.specs.AddressText.{line_text}
+use Rattle.pdb_report_texts.specs.AddressText.{line_text}
 use Rattle.pdb_report.specs.Answer.{answer}
-use Rattle.pdb_report.specs.RunFaults.{OnRead, OnTooLong}
-use Rattle.pdb_report.proofs.InputFaultSteps.{all_never_load, all_if_memory, unless_load}
+use Rattle.pdb_report_texts.specs.RunFaults.{OnRead, OnTooLong}
+use Rattle.pdb_report_texts.proofs.InputFaultSteps.{all_never_load, all_if_memory, unless_load}
 use Rattle.pdb_report.proofs.report.run_frames.Goals as goal
 
 -- a file that was loaded has no fault

@@ -3,7 +3,7 @@ use Rattle.std.specs.Prelude.{OnOk, OnErr, IfOk}
 use Rattle.pdb_engine.specs.Watched.{Writes, WritesFront}
 use Rattle.pdb_symbols_modules.specs.Streams.{streams}
 use Rattle.pdb_report.specs.SizesReport.{IsSizesReport, IsWithinPieces}
-use Rattle.pdb_report.proofs.InputFaultSteps.{all_never_load, all_if_memory, unless_load}
+use Rattle.pdb_report_texts.proofs.InputFaultSteps.{all_never_load, all_if_memory, unless_load}
 use Rattle.pdb_report.proofs.sizes.run_sizes.Goals as goal
 
 -- a file that was loaded has no fault

@@ -1,6 +1,6 @@
 use Rattle.std.proofs.Common.{arith}
 use Rattle.pdb_symbols_modules.specs.Streams.{streams}
-use Rattle.pdb_addr2line.proofs.HeldSteps.{list_ends, own_held}
+use Rattle.pdb_loading.proofs.HeldSteps.{list_ends, own_held}
 use Rattle.pdb_addr2line.proofs.pdb_data.ContextPdbData.try_from_tables.Goals as goal
 
 pub invariant_of-result : goal.invariant_of-result

@@ -1,0 +1,109 @@
+-- The parts of modules that can't be read, and those that stand as failed since they were asked for.
+use Rattle.std.specs.Prelude.{ℕ, ◌+◌, ◌*◌, ◌^◌, Bool, List, [], Option, None, Some, Result, Ok, Err, if◌then◌else◌}
+use Rattle.pdb_container.specs.Fault as container
+use Rattle.pdb_addresses.specs.declared.internal_section_offset.PdbInternalSectionOffset.{PdbInternalSectionOffset}
+use Rattle.pdb_symbols_modules.specs.ModuleStream.{ModuleStream}
+use Rattle.pdb_module_data.specs.FunctionLine.{function_rows}
+use Rattle.pdb_failed_parts.specs.Failed.{stands, with_part}
+use Rattle.pdb_resolving.specs.declared.error.Error.{Error}
+use Rattle.pdb_resolving.specs.declared.error.Error.TheVariants as errors
+use Rattle.pdb_resolving.specs.Fault.{Fault, ExtendedModuleInfoUnsuccessful, ProcedureLinesUnsuccessful, ProcedureInlineRangesUnsuccessful}
+use Rattle.pdb_choice.specs.declared.failures.Part.{Part}
+use Rattle.pdb_choice.specs.declared.failures.Part.TheVariants as parts
+use Rattle.pdb_choice.specs.Choice.{Chosen, Proc, Public, start_of}
+use Rattle.pdb_known_modules.specs.Modules.{ModuleData, ExtendedModule, extended_of, procedure_sites}
+
+-- ---- what stands as failed
+
+-- the parts that stand as failed: line programs with inlinees by the numbers of their modules, rows of functions and inline sites
+-- of procedures by the numbers of their starts
+pub record Failures : Type 0 where
+  pub modules : List ℕ
+  pub lines : List ℕ
+  pub inline_ranges : List ℕ
+
+-- nothing stands as failed
+abbrev pub no_failures : Failures
+no_failures = record { modules = []; lines = []; inline_ranges = [] }
+
+-- the number of a place in a module, which no other place and no place in another module has
+abbrev pub number_of : ℕ → PdbInternalSectionOffset → ℕ
+number_of m place = (m * 2 ^ 16 + place.section) * 2 ^ 32 + place.offset
+
+-- whether a part stands as failed
+abbrev pub has_failed : Failures → Part → Bool
+has_failed f (parts.ExtendedModule m) = stands f.modules m
+has_failed f (parts.ProcedureLines m start) = stands f.lines (number_of m start)
+has_failed f (parts.ProcedureInlineRanges m start) = stands f.inline_ranges (number_of m start)
+
+-- what stands as failed with one more part
+abbrev pub with_failed : Failures → Part → Failures
+with_failed f (parts.ExtendedModule m) = record { modules = with_part f.modules m; lines = f.lines; inline_ranges = f.inline_ranges }
+with_failed f (parts.ProcedureLines m start) = record { modules = f.modules; lines = with_part f.lines (number_of m start); inline_ranges = f.inline_ranges }
+with_failed f (parts.ProcedureInlineRanges m start) = record { modules = f.modules; lines = f.lines; inline_ranges = with_part f.inline_ranges (number_of m start) }
+
+-- ---- what is told of a part that fails
+
+-- what says that a part stands as failed
+abbrev pub unsuccessful : Part → Fault
+unsuccessful (parts.ExtendedModule m) = ExtendedModuleInfoUnsuccessful
+unsuccessful (parts.ProcedureLines m start) = ProcedureLinesUnsuccessful
+unsuccessful (parts.ProcedureInlineRanges m start) = ProcedureInlineRangesUnsuccessful
+
+-- the error that says so
+abbrev pub unsuccessful_error : Part → Error
+unsuccessful_error (parts.ExtendedModule m) = errors.ExtendedModuleInfoUnsuccessful
+unsuccessful_error (parts.ProcedureLines m start) = errors.ProcedureLinesUnsuccessful
+unsuccessful_error (parts.ProcedureInlineRanges m start) = errors.ProcedureInlineRangesUnsuccessful
+
+-- the fault that is told of a part that fails: its own, unless it stands as failed
+abbrev pub fault_told : Failures → Option Part → Fault → Fault
+fault_told f None e = e
+fault_told f (Some part) e = if has_failed f part then unsuccessful part else e
+
+-- an answer, with the fault that is told of the part that it fails in, if it does
+abbrev pub told : {A : Type 0} → Failures → Option Part → Result A Fault → Result A Fault
+told f part (Ok x) = Ok x
+told f part (Err e) = Err (fault_told f part e)
+
+-- what stands as failed once a part failed
+abbrev pub with_failing : Failures → Option Part → Failures
+with_failing f None = f
+with_failing f (Some part) = with_failed f part
+
+-- what stands as failed behind a question: the part that it failed in as well, unless memory ran short
+abbrev pub failed_after : {A : Type 0} → Option Part → Result A Error → Failures → Failures
+failed_after part (Ok x) f = f
+failed_after part (Err errors.OutOfMemory) f = f
+failed_after part (Err e) f = with_failing f part
+
+-- ---- which part fails
+
+-- a part, if it can't be read, before others
+abbrev pub failing_first : {A E : Type 0} → Result A E → Part → Option Part → Option Part
+failing_first (Ok x) part others = others
+failing_first (Err e) part others = Some part
+
+-- the sites of a chosen procedure, if they can't be read
+abbrev pub failing_sites : ℕ → ModuleStream → Chosen → Option Part
+failing_sites m stream (Proc q) = failing_first (procedure_sites stream q) (parts.ProcedureInlineRanges m q.offset) None
+failing_sites m stream (Public f) = None
+
+-- the rows of a chosen function and then its sites, the first of these that can't be read
+abbrev pub failing_procedure : ℕ → ModuleStream → ExtendedModule → Chosen → Option Part
+failing_procedure m stream extended c = failing_first (function_rows extended.program (start_of c)) (parts.ProcedureLines m (start_of c)) (failing_sites m stream c)
+
+-- the same behind line program and inlinees, which come first
+abbrev pub failing_by : ℕ → ModuleStream → Chosen → Result ExtendedModule container.Fault → Option Part
+failing_by m stream c (Ok extended) = failing_procedure m stream extended c
+failing_by m stream c (Err e) = Some (parts.ExtendedModule m)
+
+-- the first part that can't be read of those that the frames in a chosen function are made of; none without data
+abbrev pub failing_in : ℕ → Option ModuleData → Chosen → Option Part
+failing_in m None c = None
+failing_in m (Some known) c = failing_by m known.stream c (extended_of known.stream)
+
+-- the same of what may be chosen
+abbrev pub failing_of_chosen : ℕ → Option ModuleData → Option Chosen → Option Part
+failing_of_chosen m known None = None
+failing_of_chosen m known (Some c) = failing_in m known c

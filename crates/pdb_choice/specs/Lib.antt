@@ -1,0 +1,5 @@
+pub mod Choice
+pub mod Failed
+pub mod NearBounds
+pub mod Parts
+pub mod Seen

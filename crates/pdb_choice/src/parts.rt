@@ -1,0 +1,135 @@
+//! What every question goes over.
+
+ghost use Rattle.std.specs.Prelude.{◌≡◌, option_map};
+ghost use Rattle.pdb_addresses.specs.Addresses.{IsOrdered};
+ghost use Rattle.pdb_container.specs.RawString.{raw_bytes};
+ghost use Rattle.pdb_contributions.specs.Contributions.{holder as holder_of};
+ghost use Rattle.pdb_resolving.specs.Fault.{Answers};
+ghost use Rattle.pdb_choice.specs.Choice.{decorated_at as decorated_name_at, is_decorated as is_decorated_name};
+ghost use Rattle.pdb_choice.specs.Parts.{parts_of};
+
+use pdb_addresses::{AddressMap, ImageSectionHeader, PdbInternalSectionOffset};
+use pdb_bounds::{SortedBounds, contribution_bounds};
+use pdb_container::{RawString, StringTable};
+use pdb_contributions::{
+    HeldPlaces, ModuleSectionContribution, SectionContributions, compute_section_contributions,
+};
+use pdb_public_list::{PublicList, read_public_symbols};
+use pdb_resolving::Result;
+use pdb_symbols::SymbolTable;
+use pdb_symbols_modules::DebugInformation;
+use std::alloc::Global;
+use std::marker::Model;
+
+/// Whether a name is decorated: it begins with a question mark.
+pub fn is_decorated(name: &[u8]) -> bool
+    ensures { result ≡ is_decorated_name name.now }
+{
+    match name.first() {
+        None => false,
+        Some(byte) => *byte == b'?',
+    }
+}
+
+/// What every question goes over: the ways between addresses, what modules hold, the public list, and the string table.
+pub struct ContextParts<'a, 's> {
+    /// The ways between RVAs and places in sections.
+    pub address_map: &'a AddressMap<'s>,
+    /// What modules hold of sections, in order, apart.
+    pub contributions: HeldPlaces,
+    /// Where they begin and end.
+    pub bounds: SortedBounds,
+    /// The public list.
+    pub publics: PublicList<'a>,
+    /// The string table (`/names`), if there is one.
+    pub string_table: Option<&'a StringTable<'s>>,
+}
+
+impl<'a, 's> Model for ContextParts<'a, 's> {
+    ghost use Rattle.std.specs.Prelude.{option_map};
+    ghost use Rattle.pdb_addresses.specs.Addresses.{IsOrdered};
+    ghost use Rattle.pdb_bounds.specs.Bounds.{AreContributionBounds};
+    ghost use Rattle.pdb_choice.specs.Choice as choice;
+
+    ghost Value = { choice.Parts };
+
+    ghost view = { λ p. record { map = p.address_map.now; contributions = p.contributions; publics = p.publics; names = option_map (λ t. t.now) p.string_table } };
+
+    // The OMAPs are in order, and the bounds are those of the contributions.
+    ghost invariant = { λ p. IsOrdered p.address_map.now × AreContributionBounds p.contributions p.bounds };
+}
+
+impl<'a, 's> Drop for ContextParts<'a, 's> {
+    fn drop(self) {
+        let ContextParts {
+            address_map: _,
+            contributions,
+            bounds,
+            publics,
+            string_table: _,
+        } = self;
+        drop(contributions);
+        drop(bounds);
+        drop(publics);
+    }
+}
+
+impl<'a, 's> ContextParts<'a, 's> {
+    /// Reads the symbol records to their end, and then the section contributions of the DBI stream.
+    ///
+    /// # Errors
+    /// `SymbolTooShort` and `UnexpectedEof` of the symbol records, as `PdbError`; those of
+    /// [`compute_section_contributions`]; `OutOfMemory`.
+    #[tactic(auto, using(pdb_resolving::proofs::Lifting::given_fails_on, pdb_resolving::proofs::Lifting::fails_on), unfolding(crate::specs::Parts::parts_of))]
+    pub fn new(
+        alloc: Global,
+        sections: &[ImageSectionHeader],
+        address_map: &'a AddressMap<'s>,
+        global_symbols: &'a SymbolTable<'s>,
+        string_table: Option<&'a StringTable<'s>>,
+        debug_info: &DebugInformation<'_>,
+    ) -> Result<ContextParts<'a, 's>>
+        requires { IsOrdered address_map.now }
+        ensures { Answers (λ p. p) result (parts_of sections.now address_map.now global_symbols.now debug_info.now.contributions (option_map (λ t. t.now) string_table.entry)) }
+    {
+        let functions = read_public_symbols(alloc, global_symbols.iter(), sections)?;
+        let SectionContributions {
+            contributions,
+            later_starts,
+        } = compute_section_contributions(alloc, debug_info, sections)?;
+        let publics = PublicList::new(functions, later_starts.as_slice(), sections)?;
+        let bounds = contribution_bounds(alloc, contributions.as_slice())?;
+        let contributions = HeldPlaces::new(alloc, contributions)?;
+        Ok(ContextParts {
+            address_map,
+            contributions,
+            bounds,
+            publics,
+            string_table,
+        })
+    }
+
+    /// The contribution that holds a place.
+    pub fn holder(&self, place: PdbInternalSectionOffset) -> Option<ModuleSectionContribution>
+        ensures { result ≡ holder_of self.now.contributions place }
+    {
+        self.contributions.holder(place)
+    }
+
+    /// The decorated public name at exactly a place.
+    pub fn decorated_at(&self, place: PdbInternalSectionOffset) -> Option<&RawString<'a>>
+        ensures { option_map (λ n. raw_bytes n.now) result ≡ decorated_name_at self.now place }
+    {
+        let public = self.publics.exactly(place)?;
+        match &public.name {
+            None => None,
+            Some(name) => {
+                if is_decorated(name.as_bytes()) {
+                    Some(name)
+                } else {
+                    None
+                }
+            }
+        }
+    }
+}

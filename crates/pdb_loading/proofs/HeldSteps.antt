@@ -1,0 +1,93 @@
+-- What is held of a database is the file's.
+use Rattle.std.proofs.Common.{◌≡◌, ℕ, zero, suc, ◌≤◌, ◌⊎◌, List, [], ◌∷◌, Result, Ok, Err, inl, inr, refl, sym, ap, ◌∙◌, arith}
+use Rattle.std.specs.Prelude.{Option, None, Some, map, option_map, slice_get, IfOk}
+use Rattle.pdb_container.specs.declared.error.Error.{Error}
+use Rattle.pdb_container.specs.declared.error.Error.TheVariants as errors
+use Rattle.pdb_container.specs.Fault.{Fault, HasRisen, IsOutside, fault_of, ◌>>=◌}
+use Rattle.pdb_container.specs.Listing.{Listing, whole}
+use Rattle.pdb_loading.specs.Kept.{KeptInfo, kept_info, answered, answered_at, answered_if_listed}
+use Rattle.pdb_loading.specs.Held.{Held, IsOwn, kept_infos, names_in, given}
+use Rattle.pdb_loading.specs.Loading.{listed}
+use Rattle.pdb_symbols_modules.specs.Dbi.{Dbi}
+use Rattle.pdb_symbols_modules.specs.Modules.{Module, modules_of}
+use Rattle.pdb_symbols_modules.specs.DatabaseCalls.{debug_information, module_info}
+use Rattle.pdb_symbols_modules.specs.Shared.{shared, module_of_number}
+use Rattle.pdb_symbols_modules.specs.Streams.{Streams}
+use Rattle.pdb_symbols_modules.proofs.Provided.{module_listed, provided, past_the_list}
+
+get_kept : (f : Module → KeptInfo) (modules : List Module) (k : ℕ) → slice_get (map f modules) k ≡ option_map f (slice_get modules k)
+get_kept f [] k = refl
+get_kept f (m ∷ modules) zero = refl
+get_kept f (m ∷ modules) (suc k) = get_kept f modules k
+
+-- the list that was read to its end
+whole_is : (l : Listing Module) → l.fault ≡ None → whole l ≡ Ok l.items
+whole_is l h = rw h refl
+
+ended_well : (fault : Option Fault) (items : List Module) (u : Unit {0}) → (whole (record { items = items; fault = fault }) >>= λ (modules : List Module). Ok tt) ≡ Ok u → fault ≡ None
+ended_well None items u h = refl
+ended_well (Some e) items u h = absurd cc
+
+-- a module list that was read has no fault
+pub list_ends : (d : Dbi) (u : Unit {0}) → listed d ≡ Ok u → (modules_of d.modules).fault ≡ None
+unfolding listed
+list_ends d u h = ended_well (modules_of d.modules).fault (modules_of d.modules).items u h
+
+-- whether the list was read, by its modules
+pub list_there : (d : Dbi) (modules : List Module) → whole (modules_of d.modules) ≡ Ok modules → listed d ≡ Ok tt
+unfolding listed
+list_there d modules h = rw h refl
+
+-- the module list's fault is that of the list
+pub list_missing : (d : Dbi) (e : Fault) → whole (modules_of d.modules) ≡ Err e → listed d ≡ Err e
+unfolding listed
+list_missing d e h = rw h refl
+
+-- what a file gives of a module, by its entry
+by_entry : (s : Streams) (k : ℕ) (found : Option Module) → module_of_number (s.at 3) k ≡ Ok found → answered_if_listed (option_map (λ m. kept_info (module_info s m)) found) ≡ given s k
+by_entry s k None h = sym (ap (λ r. answered (kept_info r)) (past_the_list s k h))
+by_entry s k (Some m) h = sym (ap (λ r. answered (kept_info r)) (provided s k m h))
+
+pub modules_given : (s : Streams) (d : Dbi) (k : ℕ) → debug_information (shared s) ≡ Ok d → (modules_of d.modules).fault ≡ None → answered_at (kept_infos s (modules_of d.modules).items) k ≡ given s k
+modules_given s d k read ends =
+    ap answered_if_listed (get_kept (λ m. kept_info (module_info s m)) (modules_of d.modules).items k)
+    ∙ by_entry s k (slice_get (modules_of d.modules).items k) (module_listed s d (modules_of d.modules).items k read (whole_is (modules_of d.modules) ends))
+
+-- names and modules that were kept while the source failed no more often, or failed
+pub own_held : (s : Streams) (d : Dbi) (u : Unit {0}) (h : Held) (a b c e : ℕ) → debug_information (shared s) ≡ Ok d → listed d ≡ Ok u → a ≤ b → b ≤ c → c ≤ e
+    → (HasRisen b c ⊎ (h.infos ≡ kept_infos s (modules_of d.modules).items)) → (HasRisen c e ⊎ (h.names ≡ names_in s)) → IsOwn s (HasRisen a e) h
+own_held s d u h a b c e read whole_list ab bc ce infos names = record {
+  names_are = elim names [ inl risen ↦ inl (omega (arith, risen)) | inr is ↦ inr is ];
+  modules_are = elim infos [
+    | inl risen ↦ inl (omega (arith, risen))
+    | inr is ↦ inr (λ number. ap (λ (l : List KeptInfo). answered_at l number) is ∙ modules_given s d number read (list_ends d u whole_list))
+  ];
+}
+
+-- ---- a list that was read before
+
+-- its modules are those of the list
+pub same_modules : (l : Listing Module) (modules : List Module) → l.fault ≡ None → whole l ≡ Ok modules → modules ≡ l.items
+same_modules l modules ends h = let is = whole_is l ends in cc
+
+not_missing : {A : Type 0} (l : Listing Module) (e : Fault) → l.fault ≡ None → whole l ≡ Err e → A
+not_missing l e ends h = let is = whole_is l ends in absurd cc
+
+-- nothing but memory keeps it from being read again
+pub memory_alone : (l : Listing Module) (e : Error) → l.fault ≡ None → (IsOutside e ⊥ ⊎ (whole l ≡ Err (fault_of e))) → e ≡ errors.OutOfMemory
+memory_alone l errors.OutOfMemory ends h = refl
+memory_alone l (errors.IoError kind) ends (inl h) = absurd h.1
+memory_alone l e ends (inl h) = absurd h
+memory_alone l e ends (inr h) = not_missing l (fault_of e) ends h
+
+-- what is the file's unless the source failed since a later moment, is so since an earlier one
+pub own_earlier : (s : Streams) (h : Held) (a b c : ℕ) → a ≤ b → IsOwn s (HasRisen b c) h → IsOwn s (HasRisen a c) h
+own_earlier s h a b c ab own = record {
+  names_are = elim own.names_are [ inl risen ↦ inl (omega (arith, risen)) | inr is ↦ inr is ];
+  modules_are = elim own.modules_are [ inl risen ↦ inl (omega (arith, risen)) | inr is ↦ inr is ];
+}
+
+-- the same of what a call returned
+pub own_if : {E : Type 0} (r : Result Held E) (s t : Streams) (a b c : ℕ) → s ≡ t → a ≤ b → IfOk r (λ d. IsOwn s (HasRisen b c) d) → IfOk r (λ d. IsOwn t (HasRisen a c) d)
+own_if (Ok d) s t a b c same ab own = own_earlier t d a b c ab (rw same at own)
+own_if (Err e) s t a b c same ab own = tt

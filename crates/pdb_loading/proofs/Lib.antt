@@ -1,0 +1,4 @@
+pub mod HeldSteps
+pub mod KeptSteps
+pub mod OpenFiles
+pub mod SharedStreams

@@ -1,0 +1,40 @@
+-- What is held of a database, and that it is the file's.
+use Rattle.std.specs.Prelude.{◌≡◌, ℕ, ◌⊎◌, List, Option, map, Result}
+use Rattle.pdb_loading.specs.Kept.{KeptInfo, kept_info, answered, answered_at, if_read}
+use Rattle.pdb_loading.specs.Loading.{Tables, Loaded}
+use Rattle.pdb_container.specs.Fault.{Fault}
+use Rattle.pdb_symbols_modules.specs.ModuleStream.{ModuleStream}
+use Rattle.pdb_symbols_modules.specs.Dbi.{Dbi}
+use Rattle.pdb_symbols_modules.specs.Modules.{Module}
+use Rattle.pdb_symbols_modules.specs.DatabaseCalls.{names, module_info}
+use Rattle.pdb_symbols_modules.specs.Shared.{shared, provider}
+use Rattle.pdb_symbols_modules.specs.Streams.{Streams}
+
+-- what all steps read, the names of files and modules where there are any, and what is kept of each module in the order of
+-- the list
+pub record Held : Type 0 where
+  pub debug_information : Dbi
+  pub tables : Tables
+  pub names : Option (List ℕ)
+  pub infos : List KeptInfo
+
+-- what the steps read
+abbrev pub loaded_in : Held → Loaded
+loaded_in h = record { debug_information = h.debug_information; tables = h.tables }
+
+-- what is kept of the modules of a list
+abbrev pub kept_infos : Streams → List Module → List KeptInfo
+kept_infos s modules = map (λ m. kept_info (module_info s m)) modules
+
+-- the names in a file
+abbrev pub names_in : Streams → Option (List ℕ)
+names_in s = if_read (names (shared s))
+
+-- what a file gives of the module of a number, with a fault as it is kept
+abbrev pub given : Streams → ℕ → Result (Option ModuleStream) Fault
+given s number = answered (kept_info (provider s number))
+
+-- Names and modules are the file's, unless its source failed: each module is what the file gives of its number.
+pub record IsOwn (s : Streams) (failed : Type 0) (h : Held) : Type 0 where
+  pub names_are : failed ⊎ (h.names ≡ names_in s)
+  pub modules_are : failed ⊎ ((number : ℕ) → answered_at h.infos number ≡ given s number)

@@ -1,0 +1,5 @@
+pub mod Held
+pub mod Kept
+pub mod Loading
+pub mod Provided
+pub mod Sharing

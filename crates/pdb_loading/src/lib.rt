@@ -1,0 +1,8 @@
+//! What is read of a program database once: the tables that everything goes over, and the modules' own streams.
+#![tactic(auto)]
+
+mod loading;
+mod module_infos;
+
+pub use loading::{Tables, read_names, read_tables};
+pub use module_infos::{KeptModules, collect_modules, read_module_infos};

@@ -1,0 +1,191 @@
+//! What is kept of the modules' own streams.
+
+ghost use Rattle.std.specs.Prelude.{ℕ, ◌≡◌, ◌≤◌, ◌⊎◌, IfOk, IsOkUnless, Ok, None};
+ghost use Rattle.pdb_loading.specs.Held.{kept_infos};
+ghost use Rattle.pdb_loading.specs.Kept.{kept_info, kept_as, KeepsFrom};
+ghost use Rattle.pdb_loading.specs.Loading.{listed};
+ghost use Rattle.pdb_loading.specs.Sharing.{in_parts_of, AreOfStreams, IsShared};
+ghost use Rattle.pdb_container.specs.Fault.{Gives, HasRisen, kept_of};
+ghost use Rattle.pdb_container.specs.Listing.{whole};
+ghost use Rattle.pdb_symbols_modules.specs.Modules.{modules_of};
+ghost use Rattle.pdb_symbols_modules.specs.DatabaseCalls.{debug_information as read_dbi, module_info};
+ghost use Rattle.pdb_symbols_modules.specs.Shared.{shared};
+ghost use Rattle.pdb_symbols_modules.specs.Streams.{streams};
+
+use pdb_container::{Error, FallibleIterator, ModuleFault, Result, Source};
+use pdb_resolving::ModuleProvider;
+use pdb_symbols_modules::{DebugInformation, Module, ModuleInfo, ModuleIter, PDB};
+use std::alloc::Global;
+use std::collections::BTreeMap;
+use std::marker::Model;
+
+/// What is kept of a module: its own stream, where it has one, or why that can't be read.
+pub type KeptInfo<'s> = std::result::Result<Option<ModuleInfo<'s>>, ModuleFault>;
+
+/// What is kept of the modules, in the order of their list.
+#[derive(Drop)]
+pub struct KeptModules<'s> {
+    infos: Vec<KeptInfo<'s>>,
+}
+
+impl<'s> Model for KeptModules<'s> {
+    ghost use Rattle.std.specs.Prelude.{List};
+    ghost use Rattle.pdb_loading.specs.Kept as kept;
+
+    ghost Value = { List kept.KeptInfo };
+
+    ghost view = { λ m. m.infos.items };
+}
+
+impl<'s> KeptModules<'s> {
+    /// What is kept of each module.
+    pub fn new(infos: Vec<KeptInfo<'s>>) -> KeptModules<'s>
+        ensures { result ≡ infos.entry.items }
+    {
+        KeptModules { infos }
+    }
+}
+
+/// A module goes by its number alone. A fault of its stream was kept.
+impl<'s> ModuleProvider for KeptModules<'s> {
+    ghost use Rattle.pdb_loading.specs.Kept.{answered_at};
+    ghost use Rattle.pdb_loading.specs.Provided.{faults_kept};
+
+    type Info = ModuleInfo<'s>;
+
+    ghost provided = { λ m number entry. answered_at m number };
+
+    fn get_module_info(
+        &self,
+        module_index: usize,
+        _module: &Module<'_>,
+    ) -> Result<Option<&ModuleInfo<'s>>> {
+        match self.infos.get(module_index) {
+            None => Ok(None),
+            Some(Ok(None)) => Ok(None),
+            Some(Ok(Some(info))) => Ok(Some(info)),
+            Some(Err(fault)) => Err(Error::Kept(*fault)),
+        }
+    }
+
+    ghost faults_of_modules = { λ m number entry. faults_kept m number };
+}
+
+/// The modules of a list, to its end. `UnexpectedEof`.
+#[tactic(auto, using(pdb_container::proofs::Listings::gather_start, pdb_container::proofs::Listings::gather_more, pdb_container::proofs::Listings::gather_end, pdb_container::proofs::Listings::gather_fault))]
+pub fn collect_modules<'m>(alloc: Global, mut remaining: ModuleIter<'m>) -> Result<Vec<Module<'m>>>
+    ensures { Gives (λ v. v.items) ⊥ result (whole remaining.entry) }
+{
+    let mut modules = Vec::new(alloc);
+    while let Some(module) = remaining.next()? {
+        modules.push(module)?;
+    }
+    Ok(modules)
+}
+
+/// The fault of a module's stream, as it is kept; any other error stays one.
+fn keep<'s>(error: Error) -> Result<KeptInfo<'s>>
+    ensures { result ≡ kept_as (kept_of error) }
+{
+    match ModuleFault::try_from(error) {
+        Ok(fault) => Ok(Err(fault)),
+        Err(error) => Err(error),
+    }
+}
+
+/// A module's own stream, or why it can't be read. `OutOfMemory` alone.
+#[tactic(auto, using(crate::proofs::KeptSteps::info_kept, crate::proofs::KeptSteps::info_there, crate::proofs::OpenFiles::module_fails))]
+fn read_info<'s, S: Source + Drop>(
+    pdb: &mut PDB<'s, S>,
+    alloc: Global,
+    entry: &Module<'_>,
+) -> Result<KeptInfo<'s>>
+    requires { (streams (S.bytes pdb.old)).open_fault ≡ None }
+    ensures { KeepsFrom S.bytes S.failures pdb.old pdb.new (λ k. k) result (kept_info (module_info (streams (S.bytes pdb.old)) entry.now)) }
+{
+    match pdb.module_info(alloc, entry) {
+        Ok(info) => Ok(Ok(info)),
+        Err(error) => keep(error),
+    }
+}
+
+/// Streams of modules that were read, by their numbers, as they were kept of the first module that names each.
+type ReadStreams<'s> = BTreeMap<u16, KeptInfo<'s>>;
+
+/// What is kept of a module, by what is kept of another one that names the same stream. The bytes are held in common.
+/// `OutOfMemory` alone.
+fn share_info<'s>(kept: &KeptInfo<'s>, entry: &Module<'_>) -> Result<KeptInfo<'s>>
+    ensures { Gives (λ k. k) ⊥ result (Ok (in_parts_of entry.now kept.now)) }
+{
+    match kept {
+        Ok(None) => Ok(Ok(None)),
+        Ok(Some(info)) => {
+            let info = info.with_sizes(
+                entry.symbols_size(),
+                entry.c11_lines_size(),
+                entry.c13_lines_size(),
+            )?;
+            Ok(Ok(Some(info)))
+        }
+        Err(fault) => Ok(Err(*fault)),
+    }
+}
+
+/// A module's own stream, or why it can't be read; a stream that another module named before isn't read again. `OutOfMemory`
+/// alone.
+fn keep_info<'s, S: Source + Drop>(
+    pdb: &mut PDB<'s, S>,
+    alloc: Global,
+    read: &mut ReadStreams<'s>,
+    entry: &Module<'_>,
+) -> Result<KeptInfo<'s>>
+    requires { (streams (S.bytes pdb.old)).open_fault ≡ None }
+    ensures same { S.bytes pdb.new ≡ S.bytes pdb.old }
+    ensures counts { S.failures pdb.old ≤ S.failures pdb.new }
+    ensures memory { IsOkUnless result Error.OutOfMemory }
+    ensures shared { IfOk result (λ k. (before : ℕ) → before ≤ S.failures pdb.old → AreOfStreams (streams (S.bytes pdb.old)) (HasRisen before (S.failures pdb.old)) read.old
+        → IsShared (streams (S.bytes pdb.old)) entry.now (HasRisen before (S.failures pdb.new)) k read.new) }
+{
+    let number = entry.stream().0;
+    if let Some(kept) = read.get(&number) {
+        return share_info(kept, entry);
+    }
+    let first = read_info(pdb, alloc, entry)?;
+    let info = share_info(&first, entry)?;
+    read.insert(number, first)?;
+    Ok(info)
+}
+
+/// The own streams of these modules, each or why it can't be read. `OutOfMemory` alone.
+fn read_infos<'s, S: Source + Drop>(
+    pdb: &mut PDB<'s, S>,
+    alloc: Global,
+    entries: &[Module<'_>],
+) -> Result<Vec<KeptInfo<'s>>>
+    requires { (streams (S.bytes pdb.old)).open_fault ≡ None }
+    ensures { KeepsFrom S.bytes S.failures pdb.old pdb.new (λ v. v.items) result (kept_infos (streams (S.bytes pdb.old)) entries.now) }
+{
+    let mut infos = Vec::new(alloc);
+    let mut read = BTreeMap::new(alloc);
+    for entry in entries {
+        infos.push(keep_info(pdb, alloc, &mut read, entry)?)?;
+    }
+    Ok(infos)
+}
+
+/// The same of all modules of the list in stream 3, which was read. `UnexpectedEof` where that list isn't whole, `OutOfMemory`.
+#[tactic(auto, using(crate::proofs::OpenFiles::open_where_read, crate::proofs::HeldSteps::list_there, crate::proofs::HeldSteps::list_missing))]
+pub fn read_module_infos<'s, S: Source + Drop>(
+    pdb: &mut PDB<'s, S>,
+    alloc: Global,
+    debug_information: &DebugInformation<'_>,
+) -> Result<Vec<KeptInfo<'s>>>
+    requires { read_dbi (shared (streams (S.bytes pdb.old))) ≡ Ok debug_information.now }
+    ensures same { S.bytes pdb.new ≡ S.bytes pdb.old }
+    ensures counts { S.failures pdb.old ≤ S.failures pdb.new }
+    ensures whole_list { Gives (λ _. tt) ⊥ result (listed debug_information.now) }
+    ensures kept { IfOk result (λ v. HasRisen (S.failures pdb.old) (S.failures pdb.new) ⊎ (v.items ≡ kept_infos (streams (S.bytes pdb.old)) (modules_of debug_information.now.modules).items)) }
+{
+    let modules = collect_modules(alloc, debug_information.modules())?;
+    read_infos(pdb, alloc, modules.as_slice())
+}

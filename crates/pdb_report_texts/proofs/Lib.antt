@@ -1,0 +1,4 @@
+pub mod FrameSteps
+pub mod InputFaultSteps
+pub mod Pieces
+pub mod ShortLines

@@ -1,0 +1,5 @@
+pub mod AddressText
+pub mod Faults
+pub mod FaultText
+pub mod RunFaults
+pub mod ToldFault

@@ -1,0 +1,114 @@
+-- The faults of a run.
+use Rattle.std.specs.Prelude.{◌≢◌, Result, Ok, Err}
+use Rattle.std.specs.declared.io.ErrorKind.{ErrorKind}
+use Rattle.std.specs.declared.io.ErrorKind.TheVariants as kinds
+use Rattle.pdb_report_texts.specs.declared.fault.LoadFault.{LoadFault}
+use Rattle.pdb_report_texts.specs.declared.fault.LoadFault.TheVariants as faults
+use Rattle.pdb_engine.specs.declared.fault.InputFault.{InputFault}
+use Rattle.pdb_engine.specs.declared.fault.InputFault.TheVariants as inputs
+use Rattle.pdb_report_texts.specs.declared.fault.RunFault.{RunFault}
+use Rattle.pdb_report_texts.specs.declared.fault.RunFault.TheVariants.{Load, ReversedRange, Read, Write, InputTooLong, OutOfMemory}
+
+-- how a run ends where loading has the fault
+abbrev pub run_fault_of : LoadFault → RunFault
+run_fault_of faults.OutOfMemory = OutOfMemory
+run_fault_of fault = Load fault
+
+-- how a run ends where answering its input does
+abbrev pub run_fault_of_input : InputFault → RunFault
+run_fault_of_input (inputs.Read kind) = Read kind
+run_fault_of_input (inputs.Write kind) = Write kind
+run_fault_of_input inputs.InputTooLong = InputTooLong
+run_fault_of_input inputs.OutOfMemory = OutOfMemory
+
+-- where the fault is a failed read, this is said of its kind
+abbrev pub OnRead : RunFault → (ErrorKind → Type 0) → Type 0
+OnRead (Read kind) P = P kind
+OnRead (Load fault) P = Unit {0}
+OnRead ReversedRange P = Unit {0}
+OnRead (Write kind) P = Unit {0}
+OnRead InputTooLong P = Unit {0}
+OnRead OutOfMemory P = Unit {0}
+
+-- where the fault is a failed write, this is said of its kind
+abbrev pub OnWrite : RunFault → (ErrorKind → Type 0) → Type 0
+OnWrite (Write kind) P = P kind
+OnWrite (Load fault) P = Unit {0}
+OnWrite ReversedRange P = Unit {0}
+OnWrite (Read kind) P = Unit {0}
+OnWrite InputTooLong P = Unit {0}
+OnWrite OutOfMemory P = Unit {0}
+
+-- where the fault is that the input is too long, this is said
+abbrev pub OnTooLong : RunFault → Type 0 → Type 0
+OnTooLong InputTooLong P = P
+OnTooLong (Load fault) P = Unit {0}
+OnTooLong ReversedRange P = Unit {0}
+OnTooLong (Read kind) P = Unit {0}
+OnTooLong (Write kind) P = Unit {0}
+OnTooLong OutOfMemory P = Unit {0}
+
+-- where the fault is one of loading, this is said of it
+abbrev pub OnLoad : RunFault → (LoadFault → Type 0) → Type 0
+OnLoad (Load fault) P = P fault
+OnLoad ReversedRange P = Unit {0}
+OnLoad (Read kind) P = Unit {0}
+OnLoad (Write kind) P = Unit {0}
+OnLoad InputTooLong P = Unit {0}
+OnLoad OutOfMemory P = Unit {0}
+
+-- this is said of every end of a run that is neither a loading fault nor out of memory
+abbrev pub UnlessLoad : {A : Type 0} → Result A RunFault → Type 0 → Type 0
+UnlessLoad (Ok done) P = P
+UnlessLoad (Err (Load fault)) P = Unit {0}
+UnlessLoad (Err OutOfMemory) P = Unit {0}
+UnlessLoad (Err ReversedRange) P = P
+UnlessLoad (Err (Read kind)) P = P
+UnlessLoad (Err (Write kind)) P = P
+UnlessLoad (Err InputTooLong) P = P
+
+-- a fault that a report on lines may have
+abbrev pub IsOfFrames : RunFault → Type 0
+IsOfFrames ReversedRange = ⊥
+IsOfFrames (Load fault) = Unit {0}
+IsOfFrames (Read kind) = kind ≢ kinds.OutOfMemory
+IsOfFrames (Write kind) = kind ≢ kinds.OutOfMemory
+IsOfFrames InputTooLong = Unit {0}
+IsOfFrames OutOfMemory = Unit {0}
+
+-- where the fault is that memory was short, this is said
+abbrev pub OnMemory : RunFault → Type 0 → Type 0
+OnMemory OutOfMemory P = P
+OnMemory (Load fault) P = Unit {0}
+OnMemory ReversedRange P = Unit {0}
+OnMemory (Read kind) P = Unit {0}
+OnMemory (Write kind) P = Unit {0}
+OnMemory InputTooLong P = Unit {0}
+
+-- where the fault is that the range is reversed, this is said
+abbrev pub OnReversed : RunFault → Type 0 → Type 0
+OnReversed ReversedRange P = P
+OnReversed (Load fault) P = Unit {0}
+OnReversed (Read kind) P = Unit {0}
+OnReversed (Write kind) P = Unit {0}
+OnReversed InputTooLong P = Unit {0}
+OnReversed OutOfMemory P = Unit {0}
+
+-- this is said of every end of a run on a range behind its checks: all is counted, or a write has failed
+abbrev pub OnCounted : {A : Type 0} → Result A RunFault → Type 0 → Type 0
+OnCounted (Ok done) P = P
+OnCounted (Err (Write kind)) P = P
+OnCounted (Err (Load fault)) P = Unit {0}
+OnCounted (Err ReversedRange) P = Unit {0}
+OnCounted (Err (Read kind)) P = Unit {0}
+OnCounted (Err InputTooLong) P = Unit {0}
+OnCounted (Err OutOfMemory) P = Unit {0}
+
+-- a fault that a report on a range may have
+abbrev pub IsOfSizes : RunFault → Type 0
+IsOfSizes (Load fault) = Unit {0}
+IsOfSizes ReversedRange = Unit {0}
+IsOfSizes (Write kind) = kind ≢ kinds.OutOfMemory
+IsOfSizes OutOfMemory = Unit {0}
+IsOfSizes (Read kind) = ⊥
+IsOfSizes InputTooLong = ⊥

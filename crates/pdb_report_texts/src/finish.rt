@@ -1,0 +1,25 @@
+//! The end of a run.
+
+ghost use Rattle.std.specs.Prelude.{◌≡◌, IsOk, IfErr};
+ghost use Rattle.pdb_report_texts.specs.ToldFault.{Tells, fault_line};
+
+use crate::fault::RunFault;
+use crate::told::tell;
+use pdb_engine::ErrorOutput;
+
+/// The exit status of a run: 0 if it succeeded, and else 1, once its fault was told to `errors` in one
+/// line, `fault: ` and what the fault prints. A write to `errors` that fails is ignored, and ends the line. It takes no
+/// memory.
+#[tactic(auto, using(crate::proofs::Pieces::told_either))]
+pub fn finish_run<W: ErrorOutput>(outcome: Result<(), RunFault>, errors: &mut W) -> u8
+    ensures ok { IsOk outcome → (result ≡ 0) × (errors.new ≡ errors.old) }
+    ensures fault { IfErr outcome (λ fault. (result ≡ 1) × Tells W.contents W.failures errors.old errors.new (fault_line fault)) }
+{
+    match outcome {
+        Ok(()) => 0,
+        Err(fault) => {
+            let _ = tell(&fault, errors);
+            1
+        }
+    }
+}
