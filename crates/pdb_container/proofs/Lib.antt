@@ -11,4 +11,5 @@ pub mod Paging
 pub mod Slices
 pub mod Starts
 pub mod Taking
+pub mod Variants
 pub mod Words

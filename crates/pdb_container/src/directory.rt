@@ -13,7 +13,7 @@ use std::alloc::Global;
 const ABSENT: u32 = 0xffff_ffff;
 
 /// An MSF directory: its numbers, and for each stream that has a size how many page numbers stand before its own.
-#[derive(Debug, Drop)]
+#[derive(Drop)]
 pub struct Directory {
     numbers: Vec<u32>,
     starts: Vec<usize>,
@@ -122,7 +122,7 @@ fn pages_for(page_size: u32, size: u32) -> u32
 }
 
 /// The first `count` numbers, which have to be page numbers.
-#[tactic(auto, using(crate::proofs::Words::pages_start, crate::proofs::Words::pages_more, crate::proofs::Words::pages_missing, crate::proofs::Words::pages_wrong, crate::proofs::Words::pages_done))]
+#[tactic(auto, using(crate::proofs::Words::pages_start))]
 pub fn pages_of(alloc: Global, used: u32, count: usize, numbers: &[u32]) -> Result<Vec<u32>>
     ensures exact { Gives (λ v. v.items) ⊥ result (pages_in used count numbers.now) }
     ensures len { IfOk result (λ v. vec_len v ≡ count) }

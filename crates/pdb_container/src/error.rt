@@ -13,9 +13,9 @@ use std::{fmt, io};
 /// What a call on a program database returns.
 pub type Result<T> = std::result::Result<T, Error>;
 
-/// Why a call on a program database failed. It prints as its variant's name and, in parentheses, its
+/// Why a call on a program database failed. It prints, by `Debug` too, as its variant's name and, in parentheses, its
 /// values.
-#[derive(Clone, Copy, Debug, PartialEq, Eq)]
+#[derive(Clone, Copy, PartialEq, Eq)]
 pub enum Error {
     /// The file's first 4096 bytes are not there, or don't begin with the magic of a big MSF container.
     UnrecognizedFileFormat,
@@ -72,7 +72,7 @@ pub enum Error {
 }
 
 /// Why a module's stream can't be read, as it is kept for later calls.
-#[derive(Clone, Copy, Debug, PartialEq, Eq)]
+#[derive(Clone, Copy, PartialEq, Eq)]
 pub enum ModuleFault {
     /// The number of a stream that the MSF directory doesn't have.
     StreamNotFound(u32),
@@ -92,14 +92,13 @@ impl fmt::Display for Error {
 
     fn fmt<W: fmt::Write>(&self, f: &mut fmt::Formatter<W>) -> fmt::Result {
         let (name, values) = printed(self);
-        f.write_str(name)?;
-        match values {
-            Values::None => Ok(()),
-            Values::Number(value) => write!(f, "({value})"),
-            Values::Numbers(first, second) => write!(f, "({first}, {second})"),
-            Values::Text(text) => write!(f, "({text})"),
-            Values::Fault(fault) => write!(f, "({fault})"),
-        }
+        write!(f, "{name}{values}")
+    }
+}
+
+impl fmt::Debug for Error {
+    fn fmt<W: fmt::Write>(&self, f: &mut fmt::Formatter<W>) -> fmt::Result {
+        fmt::Display::fmt(self, f)
     }
 }
 
@@ -116,6 +115,23 @@ enum Values {
     Text(&'static str),
     /// A fault that is kept.
     Fault(ModuleFault),
+}
+
+impl fmt::Display for Values {
+    ghost use Rattle.std.specs.Prelude.{Some};
+    ghost use Rattle.pdb_container.specs.ErrorText.{values_text};
+
+    ghost output = { λ values. Some (values_text values) };
+
+    fn fmt<W: fmt::Write>(&self, f: &mut fmt::Formatter<W>) -> fmt::Result {
+        match self {
+            Values::None => Ok(()),
+            Values::Number(value) => write!(f, "({value})"),
+            Values::Numbers(first, second) => write!(f, "({first}, {second})"),
+            Values::Text(text) => write!(f, "({text})"),
+            Values::Fault(fault) => write!(f, "({fault})"),
+        }
+    }
 }
 
 /// The name of a fault's variant, and its values.
@@ -187,6 +203,12 @@ impl fmt::Display for ModuleFault {
             ModuleFault::IoError(kind) => write!(f, "IoError({})", kind_name(*kind)),
             ModuleFault::UnexpectedEof => f.write_str("UnexpectedEof"),
         }
+    }
+}
+
+impl fmt::Debug for ModuleFault {
+    fn fmt<W: fmt::Write>(&self, f: &mut fmt::Formatter<W>) -> fmt::Result {
+        fmt::Display::fmt(self, f)
     }
 }
 

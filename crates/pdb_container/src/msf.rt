@@ -28,7 +28,7 @@ const HEADER_SIZE: usize = 52;
 const HEADER_VIEW: usize = 4096;
 
 /// The MSF header, as far as it is used: page size in bytes, pages used, directory size in bytes, and its list pages.
-#[derive(Debug, Drop)]
+#[derive(Drop)]
 pub struct Header {
     page_size: u32,
     pages_used: u32,

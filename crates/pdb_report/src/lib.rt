@@ -2,17 +2,19 @@
 //! range each function has.
 #![tactic(auto)]
 
+mod finish;
 pub mod laws;
 mod lines;
 mod report;
 mod sizes;
 mod symbolizer;
 
+pub use finish::finish_run;
 pub use pdb_addr2line::{Context, Error};
 pub use pdb_address_lines::parse_address;
 pub use pdb_engine::{ErrorOutput, Watched};
 pub use pdb_files::read_file;
-pub use pdb_report_texts::{LoadFault, RunFault, finish_run};
+pub use pdb_report_texts::{LoadFault, RunFault};
 pub use report::run_frames;
 pub use sizes::{Tally, run_sizes};
 pub use symbolizer::Symbolizer;

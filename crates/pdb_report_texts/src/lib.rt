@@ -2,10 +2,9 @@
 #![tactic(auto)]
 
 mod fault;
-mod finish;
 mod texts;
 mod told;
 
 pub use fault::{LoadFault, RunFault};
-pub use finish::finish_run;
 pub use texts::{address_text, unreadable_text};
+pub use told::tell;

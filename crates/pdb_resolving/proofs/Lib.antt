@@ -1,3 +1,4 @@
+pub mod FirstExports
 pub mod LastPlaces
 pub mod Lifting
 pub mod ModuleSteps

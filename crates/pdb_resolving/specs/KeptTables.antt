@@ -7,7 +7,9 @@ use Rattle.std.specs.Ordering.{nat_cmp}
 use Rattle.std.specs.Str.{str_to_ascii_lowercase}
 use Rattle.pdb_container.specs.Fault.{◌>>=◌}
 use Rattle.pdb_container.specs.StringTable.{text_in}
-use Rattle.pdb_cross_modules.specs.Exports.{first_export}
+use Rattle.pdb_cross_modules.specs.declared.exports.CrossModuleExport.{CrossModuleExport}
+use Rattle.pdb_cross_modules.specs.declared.exports.CrossModuleExport.TheVariants as forms
+use Rattle.pdb_cross_modules.specs.Exports.{Entry, first_export}
 use Rattle.pdb_cross_modules.specs.Imports.{Imported, imported}
 use Rattle.pdb_symbols_modules.specs.Modules.{Module}
 use Rattle.pdb_resolving.specs.declared.module_names.ModuleNames.{ModuleNames}
@@ -17,6 +19,15 @@ use Rattle.pdb_resolving.specs.Resolving.{Modules, last_named, imports_of, expor
 -- Each table that is kept is what reading gives of its module.
 pub record AreRead {T : Type 0} (read : ℕ → Result T Fault) (tables : BTreeMap ℕ T) : Type 0 where
   pub each : (number : ℕ) (table : T) → get nat_cmp tables number ≡ Some table → read number ≡ Ok table
+
+-- the entry of an export: its index as the module names it, and its index in the table of types or of ids
+abbrev pub entry_of : CrossModuleExport → Entry
+entry_of (forms.OfType local global) = record { local = local.0.0; global = global.0 }
+entry_of (forms.Id local global) = record { local = local.0.0; global = global.0 }
+
+-- Under each index as the module names it stands what the first of these exports of it gives.
+pub record AreFirst (exports : List Entry) (firsts : BTreeMap ℕ ℕ) : Type 0 where
+  pub each : (local : ℕ) → get nat_cmp firsts local ≡ first_export exports local
 
 -- Each name in ASCII lower case has the number of the last module of that name.
 pub record AreLast (entries : List Module) (numbers : BTreeMap (String Global) ℕ) : Type 0 where

@@ -8,8 +8,9 @@ ghost use Rattle.pdb_resolving.specs.KeptTables.{AreRead};
 ghost use Rattle.pdb_resolving.specs.Resolving.{exports_read, imports_read, module_numbered};
 
 use crate::error::{Error, Result};
+use crate::module_exports::ModuleExports;
 use crate::provider::{ModuleProvider, ModuleTables};
-use pdb_symbols_modules::{CrossModuleExports, CrossModuleImports, Module};
+use pdb_symbols_modules::{CrossModuleImports, Module};
 use std::alloc::Global;
 use std::collections::BTreeMap;
 
@@ -17,7 +18,7 @@ use std::collections::BTreeMap;
 pub(crate) type KeptImports<'a> = BTreeMap<usize, CrossModuleImports<'a>>;
 
 /// The exports of modules that were read, each under its module's number.
-pub(crate) type KeptExports<'a> = BTreeMap<usize, CrossModuleExports<'a>>;
+pub(crate) type KeptExports<'a> = BTreeMap<usize, ModuleExports<'a>>;
 
 /// Reads and keeps what the module of a number imports, unless it is kept. The module's fault, or that of its imports; nothing
 /// changes then, nor where memory is short.
@@ -44,6 +45,7 @@ pub(crate) fn keep_imports<'a, P: ModuleProvider>(
 /// Reads and keeps what the module of a number exports, as [`keep_imports`].
 pub(crate) fn keep_exports<'a, P: ModuleProvider>(
     kept: &mut KeptExports<'a>,
+    alloc: Global,
     provider: &'a P,
     modules: &[Module<'_>],
     number: usize,
@@ -56,7 +58,7 @@ pub(crate) fn keep_exports<'a, P: ModuleProvider>(
     if kept.contains_key(&number) {
         return Ok(());
     }
-    let exports = read_exports(provider, modules, number)?;
+    let exports = read_exports(alloc, provider, modules, number)?;
     kept.insert(number, exports)?;
     Ok(())
 }
@@ -78,14 +80,16 @@ fn read_imports<'p, P: ModuleProvider>(
 /// What the module of a number exports. The module's fault, or that of its exports.
 #[tactic(auto, using(crate::proofs::Lifting::fails_on, crate::proofs::Lifting::parsed_fails), unfolding(crate::specs::Resolving::exports_read))]
 fn read_exports<'p, P: ModuleProvider>(
+    alloc: Global,
     provider: &'p P,
     modules: &[Module<'_>],
     number: usize,
-) -> Result<CrossModuleExports<'p>>
+) -> Result<ModuleExports<'p>>
     ensures { Answers (λ e. e) result (exports_read (P.provided provider.now) modules.now number) }
 {
     let own = module_info(provider, modules, number)?;
-    Ok(own.exports()?)
+    let exports = own.exports()?;
+    Ok(ModuleExports::read(alloc, exports)?)
 }
 
 /// What the module of a number holds. `OutOfRangeModuleIndex`, the provider's fault, `ModuleInfoNotFound`.

@@ -4,6 +4,7 @@
 
 mod error;
 mod kept_tables;
+mod module_exports;
 mod module_names;
 mod provider;
 mod resolver;

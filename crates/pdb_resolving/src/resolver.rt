@@ -10,15 +10,14 @@ ghost use Rattle.pdb_resolving.specs.Resolving.{resolve, none_failed, modules_by
 
 use crate::error::{Error, Result};
 use crate::kept_tables::{KeptExports, KeptImports, keep_exports, keep_imports};
+use crate::module_exports::ModuleExports;
 use crate::module_names::ModuleNames;
 use crate::provider::ModuleProvider;
 use crate::table::Table;
 use pdb_container::StringTable;
 use pdb_failed_parts::FailedParts;
 use pdb_indices::{ItemIndex, Local, TypeIndex};
-use pdb_symbols_modules::{
-    CrossModuleExports, CrossModuleImports, CrossModuleRef, Module, ModuleRef,
-};
+use pdb_symbols_modules::{CrossModuleImports, CrossModuleRef, Module, ModuleRef};
 use std::alloc::{AllocError, Global};
 use std::collections::BTreeMap;
 use std::marker::Model;
@@ -145,7 +144,7 @@ impl<'a, 's, P: ModuleProvider> Resolver<'a, 's, P> {
         let CrossModuleRef(ModuleRef(name), local) = self.import_of(alloc, module_index, index)?;
         let name = name.to_string_lossy(alloc, names)?;
         let number = self.number_of(alloc, name.as_str())?;
-        self.export_of(number, local)
+        self.export_of(alloc, number, local)
     }
 
     /// What an index stands for as the module of a number imports it. `ModuleImportsUnsuccessful` where the module's imports stand
@@ -183,19 +182,15 @@ impl<'a, 's, P: ModuleProvider> Resolver<'a, 's, P> {
 
     /// What the module of a number exports first under an index as it names it, as [`Resolver::import_of`].
     /// `LocalIndexNotInExports`.
-    fn export_of(&mut self, number: usize, local: Local<TypeIndex>) -> Result<u32>
+    fn export_of(&mut self, alloc: Global, number: usize, local: Local<TypeIndex>) -> Result<u32>
         ensures same { self.new ≡ self.old }
         ensures value { Answers (λ n. n) result (module_export (modules_by P.provided self.old) number local.0.0) }
     {
         if self.failed_exports.stands(number as u64) {
             return Err(Error::ModuleExportsUnsuccessful);
         }
-        match keep_exports(
-            &mut self.exports,
-            self.provider,
-            self.modules.as_slice(),
-            number,
-        ) {
+        let modules = self.modules.as_slice();
+        match keep_exports(&mut self.exports, alloc, self.provider, modules, number) {
             Ok(()) => exported(&self.exports[&number], local),
             Err(Error::OutOfMemory) => Err(Error::OutOfMemory),
             Err(fault) => {
@@ -215,11 +210,11 @@ fn imported(imports: &CrossModuleImports<'_>, index: TypeIndex) -> Result<CrossM
 }
 
 /// The index in the database's table by a module's first export of an index as it names it. `LocalIndexNotInExports`.
-fn exported(exports: &CrossModuleExports<'_>, local: Local<TypeIndex>) -> Result<u32>
+fn exported(exports: &ModuleExports<'_>, local: Local<TypeIndex>) -> Result<u32>
     ensures { Answers (λ n. n) result (ok_or (first_export exports.now local.0.0) (LocalIndexNotInExports local.0.0)) }
 {
-    match exports.resolve_import(local)? {
-        Some(index) => Ok(index.0),
+    match exports.first(local.0.0) {
+        Some(index) => Ok(index),
         None => Err(Error::LocalIndexNotInExports(local.0.0)),
     }
 }
