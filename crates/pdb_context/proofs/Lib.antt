@@ -1,3 +1,5 @@
 pub mod FailedSteps
 pub mod FunctionSteps
+mod FaultSteps
 mod KeptSteps
+mod KnownSteps

@@ -1,5 +1,6 @@
 pub mod Context
 pub mod FunctionList
+pub mod KnownFailures
 pub use Rattle.pdb_frames.specs.Choice
 pub use Rattle.pdb_frames.specs.Failed
 pub use Rattle.pdb_frames.specs.Frames

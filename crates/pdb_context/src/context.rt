@@ -1,6 +1,6 @@
 //! A context: answers about addresses of an image.
 
-ghost use Rattle.std.specs.Prelude.{◌≡◌, ◌≤◌, true, IfOk, Ok, Some, is_some, length, option_copied, option_map};
+ghost use Rattle.std.specs.Prelude.{◌≡◌, ◌≤◌, ℕ, true, IfOk, IfSome, Ok, Option, Some, is_some, length, option_copied, option_map, slice_get, ◌||◌};
 ghost use Rattle.pdb_addresses.specs.Addresses.{IsOrdered};
 ghost use Rattle.pdb_addresses.specs.SectionRun.{up_to_next};
 ghost use Rattle.pdb_resolving.specs.Fault.{Answers};
@@ -9,17 +9,19 @@ ghost use Rattle.pdb_known_modules.specs.Kept.{AreKept};
 ghost use Rattle.pdb_frames.specs.Scopes.{entries_of, scope_of};
 ghost use Rattle.pdb_frames.specs.Parts.{parts_of};
 ghost use Rattle.pdb_context.specs.Context.{context_over, lasting, scope_in, uncounted, lookups_after};
-ghost use Rattle.pdb_frames.specs.Failed.{failed_after, failing_in as failing_in_module, told};
-ghost use Rattle.pdb_frames.specs.Failing.{failing, failing_at, failing_if_held};
+ghost use Rattle.pdb_context.specs.KnownFailures.{AreFailuresOf, data_of_modules};
+ghost use Rattle.pdb_frames.specs.Failed.{failed_after, failing_in as failing_in_module, has_failed, told};
+ghost use Rattle.pdb_frames.specs.Failing.{failing, failing_at, failing_if_held, ProcedureLines, ProcedureInlineRanges};
 ghost use Rattle.pdb_frames.specs.Frames.{frames, frames_at as frames_at_place, frames_if_held, frames_of_chosen, function, function_at as function_at_contribution, function_of as function_of_chosen};
 ghost use Rattle.pdb_frames.specs.MaybeOwned.{value_of};
-ghost use Rattle.pdb_known_modules.specs.Modules.{module_data, own_of};
+ghost use Rattle.pdb_known_modules.specs.Modules.{ModuleData, module_data, own_of, procedures_in};
 ghost use Rattle.pdb_frames.specs.NearBounds.{bounds_near};
 ghost use Rattle.pdb_frames.specs.Runs.{database_of, function_here as function_at_place, procedures_of};
 ghost use Rattle.pdb_frames.specs.Seen.{chosen_seen};
 ghost use Rattle.pdb_functions.specs.Databases.{IsOneRun, place_of as as_place};
 ghost use Rattle.pdb_frames.specs.Printing.{env_of};
 
+use crate::known_failures::KnownFailures;
 use pdb_addresses::{AddressMap, ImageSectionHeader, PdbInternalSectionOffset, Rva};
 use pdb_container::StringTable;
 use pdb_contributions::ModuleSectionContribution;
@@ -31,7 +33,7 @@ use pdb_frames::{
 use pdb_functions::{Function, FunctionFrames};
 use pdb_known_modules::{
     BasicModuleInfo, KeptModule, empty_places, keep_lines, keep_module, keep_procedure,
-    keep_public_rows, known_at, number_over,
+    keep_public_rows, known_at, number_over, procedure_numbered,
 };
 use pdb_resolving::{Error, ModuleProvider, ModuleTables, Result};
 use pdb_symbols::SymbolTable;
@@ -48,6 +50,7 @@ pub struct Context<'a, 's, P: ModuleProvider> {
     pub(crate) starts: Option<Vec<u32>>,
     lookups: u64,
     failed: Failures,
+    known_failures: KnownFailures,
 }
 
 impl<'a, 's, P: ModuleProvider> Model for Context<'a, 's, P> {
@@ -57,13 +60,14 @@ impl<'a, 's, P: ModuleProvider> Model for Context<'a, 's, P> {
     ghost use Rattle.pdb_frames.specs.Starts.{start_addresses, AreStarts};
     ghost use Rattle.pdb_known_modules.specs.Kept.{AreKept};
     ghost use Rattle.pdb_known_modules.specs.Modules.{module_data, own_of};
+    ghost use Rattle.pdb_context.specs.KnownFailures.{AreFailuresOf, data_of_modules};
 
     ghost Value = { contexts.Context P };
 
     ghost view = { λ c. record { provider = c.provider.now; parts = c.parts; formatting = c.namer; lookups = c.lookups; failed = c.failed } };
 
-    // What is kept of each module is its own, and the starts that are kept are those of the file's functions.
-    ghost invariant = { λ c. AreKept (λ n. module_data (own_of (P.provided c.provider.now) (entries_of c.namer) n)) c.kept.items × AreStarts (start_addresses c.parts (scope_of P.provided c.provider.now c.namer) (entries_of c.namer)) (option_map (λ v. v.items) c.starts) };
+    // What is kept of each module is its own, the starts that are kept are those of the file's functions, and what is known to fail does.
+    ghost invariant = { λ c. AreKept (λ n. module_data (own_of (P.provided c.provider.now) (entries_of c.namer) n)) c.kept.items × AreStarts (start_addresses c.parts (scope_of P.provided c.provider.now c.namer) (entries_of c.namer)) (option_map (λ v. v.items) c.starts) × AreFailuresOf (data_of_modules P.provided c.provider.now c.namer) c.known_failures };
 }
 
 impl<'a, 's, P: ModuleProvider> Drop for Context<'a, 's, P> {
@@ -76,12 +80,14 @@ impl<'a, 's, P: ModuleProvider> Drop for Context<'a, 's, P> {
             starts,
             lookups: _,
             failed,
+            known_failures,
         } = self;
         drop(parts);
         drop(namer);
         drop(kept);
         drop(starts);
         drop(failed);
+        drop(known_failures);
     }
 }
 
@@ -127,13 +133,15 @@ fn frames_of<'a, P: ModuleProvider>(
     }
 }
 
-/// The same, and the part that can't be read, if one can't, stands as failed from then on: where it did before, that is told.
+/// The same, and the part that can't be read, if one can't, stands as failed from then on: where it did before, that is told. It is
+/// known from then on for the functions like the chosen one.
 #[tactic(auto, using(crate::proofs::FailedSteps::told_own, crate::proofs::FailedSteps::told_alone))]
 fn frames_told<'a, P: ModuleProvider>(
     alloc: Global,
     parts: &ContextParts<'a, '_>,
     namer: &mut Namer<'a, '_, P>,
     failed: &mut Failures,
+    known_failures: &mut KnownFailures,
     module_index: u16,
     known: Option<&BasicModuleInfo<'_, P::Info>>,
     chosen: Chosen<'_, 'a>,
@@ -141,6 +149,7 @@ fn frames_told<'a, P: ModuleProvider>(
 ) -> Result<Option<FunctionFrames<'a>>>
     ensures same { namer.new ≡ namer.old }
     ensures failed { failed.new ≡ failed_after (failing_in_module module_index (option_copied known.entry) (chosen_seen chosen.entry)) result failed.old }
+    ensures known { (own : ℕ → Option ModuleData) → own module_index ≡ option_copied known.entry → AreFailuresOf own known_failures.old → AreFailuresOf own known_failures.new }
     ensures frames { Answers (λ f. f) result (told failed.old (failing_in_module module_index (option_copied known.entry) (chosen_seen chosen.entry)) (frames_of_chosen parts.now (env_of P.provided namer.old module_index) (option_copied known.entry) place (Some (chosen_seen chosen.entry)))) }
 {
     let frames = frames_of(alloc, parts, namer, module_index, known, chosen, place);
@@ -151,6 +160,7 @@ fn frames_told<'a, P: ModuleProvider>(
             None => Err(fault),
             Some(part) => {
                 let stood = failed.has(part);
+                known_failures.keep(module_index, chosen, part)?;
                 failed.keep(part)?;
                 if stood {
                     return Err(unsuccessful(part));
@@ -158,6 +168,47 @@ fn frames_told<'a, P: ModuleProvider>(
                 Err(fault)
             }
         },
+    }
+}
+
+/// The same; where a part is known as the first that can't be read, and stands as failed, nothing is read.
+#[tactic(auto, using(crate::proofs::FaultSteps::told_standing, crate::proofs::FaultSteps::after_standing))]
+fn frames_unless_known<'a, P: ModuleProvider>(
+    alloc: Global,
+    parts: &ContextParts<'a, '_>,
+    namer: &mut Namer<'a, '_, P>,
+    failed: &mut Failures,
+    known_failures: &mut KnownFailures,
+    module_index: u16,
+    known: Option<&BasicModuleInfo<'_, P::Info>>,
+    chosen: Chosen<'_, 'a>,
+    failing: Option<Part>,
+    place: PdbInternalSectionOffset,
+) -> Result<Option<FunctionFrames<'a>>>
+    requires failing { IfSome failing (λ part. failing_in_module module_index (option_copied known) (chosen_seen chosen) ≡ Some part) }
+    ensures same { namer.new ≡ namer.old }
+    ensures failed { failed.new ≡ failed_after (failing_in_module module_index (option_copied known.entry) (chosen_seen chosen.entry)) result failed.old }
+    ensures known { (own : ℕ → Option ModuleData) → own module_index ≡ option_copied known.entry → AreFailuresOf own known_failures.old → AreFailuresOf own known_failures.new }
+    ensures frames { Answers (λ f. f) result (told failed.old (failing_in_module module_index (option_copied known.entry) (chosen_seen chosen.entry)) (frames_of_chosen parts.now (env_of P.provided namer.old module_index) (option_copied known.entry) place (Some (chosen_seen chosen.entry)))) }
+{
+    match failing {
+        Some(part) if failed.has(part) => {
+            failed.keep(part)?;
+            Err(unsuccessful(part))
+        }
+        _ => {
+            frames_told(
+                alloc,
+                parts,
+                namer,
+                failed,
+                known_failures,
+                module_index,
+                known,
+                chosen,
+                place,
+            )
+        }
     }
 }
 
@@ -182,9 +233,26 @@ fn keep_public_entry<'a, I: ModuleTables>(
     }
 }
 
+/// Whether the line rows or the inline sites of the procedure of a number stand as failed.
+fn stands_in_part<I: ModuleTables>(
+    failed: &Failures,
+    known: Option<&BasicModuleInfo<'_, I>>,
+    number: usize,
+    module_index: u16,
+) -> bool
+    ensures { IfSome (slice_get (procedures_in (option_copied known.entry)) number) (λ q. result ≡ (has_failed failed.now (ProcedureLines module_index q.offset) || has_failed failed.now (ProcedureInlineRanges module_index q.offset))) }
+{
+    match procedure_numbered(known, number) {
+        None => false,
+        Some(procedure) => {
+            failed.has(Part::ProcedureLines(module_index, procedure.offset))
+                || failed.has(Part::ProcedureInlineRanges(module_index, procedure.offset))
+        }
+    }
+}
+
 /// Reads what frames at a place that a contribution holds are made of, and keeps it: line program and inlinees of its module, and
-/// the data of the procedure of a number, or, where there is none, the rows of the public entry. Where the module's line program
-/// and inlinees stand as failed nothing is read.
+/// the data of the procedure of a number, or, where there is none, the rows of the public entry. What stands as failed isn't read.
 fn keep_parts<'a, I: ModuleTables>(
     alloc: Global,
     kept: &mut [KeptModule<'a, I>],
@@ -201,14 +269,18 @@ fn keep_parts<'a, I: ModuleTables>(
     }
     let module_index = usize::from(contribution.module_index);
     keep_lines(alloc, kept, module_index)?;
-    match number {
-        Some(number) => keep_procedure(alloc, kept, module_index, number),
-        None => keep_public_entry(alloc, kept, parts, failed, contribution, place),
+    let Some(number) = number else {
+        return keep_public_entry(alloc, kept, parts, failed, contribution, place);
+    };
+    let known = known_at(kept, module_index);
+    if stands_in_part(failed, known, number, contribution.module_index) {
+        return Ok(());
     }
+    keep_procedure(alloc, kept, module_index, number)
 }
 
 /// The frames at a place that a contribution holds.
-#[tactic(auto, unfolding(pdb_frames::specs::Frames::frames_at))]
+#[tactic(auto, unfolding(pdb_frames::specs::Frames::frames_at, crate::specs::KnownFailures::data_of_modules))]
 fn frames_at<'a, P: ModuleProvider>(
     alloc: Global,
     provider: &'a P,
@@ -216,11 +288,14 @@ fn frames_at<'a, P: ModuleProvider>(
     parts: &ContextParts<'a, '_>,
     namer: &mut Namer<'a, '_, P>,
     failed: &mut Failures,
+    known_failures: &mut KnownFailures,
     contribution: ModuleSectionContribution,
     place: PdbInternalSectionOffset,
 ) -> Result<Option<FunctionFrames<'a>>>
     requires kept { AreKept (λ n. module_data (own_of (P.provided provider.now) (entries_of namer.old) n)) kept.old }
+    requires known { AreFailuresOf (data_of_modules P.provided provider.now namer.old) known_failures.old }
     ensures kept { AreKept (λ n. module_data (own_of (P.provided provider.now) (entries_of namer.old) n)) kept.new }
+    ensures known { AreFailuresOf (data_of_modules P.provided provider.now namer.old) known_failures.new }
     ensures same { namer.new ≡ namer.old }
     ensures failed { failed.new ≡ failed_after (failing_at parts.now (scope_of P.provided provider.now namer.old contribution.module_index) contribution place) result failed.old }
     ensures frames { Answers (λ f. f) result (told failed.old (failing_at parts.now (scope_of P.provided provider.now namer.old contribution.module_index) contribution place) (frames_at_place parts.now (scope_of P.provided provider.now namer.old contribution.module_index) contribution place)) }
@@ -233,14 +308,17 @@ fn frames_at<'a, P: ModuleProvider>(
     match choose(parts, known, number, contribution, place) {
         None => Ok(None),
         Some(chosen) => {
-            frames_told(
+            let failing = known_failures.part(contribution.module_index, chosen);
+            frames_unless_known(
                 alloc,
                 parts,
                 namer,
                 failed,
+                known_failures,
                 contribution.module_index,
                 known,
                 chosen,
+                failing,
                 place,
             )
         }
@@ -306,10 +384,13 @@ fn frames_here<'a, P: ModuleProvider>(
     parts: &ContextParts<'a, '_>,
     namer: &mut Namer<'a, '_, P>,
     failed: &mut Failures,
+    known_failures: &mut KnownFailures,
     place: PdbInternalSectionOffset,
 ) -> Result<Option<FunctionFrames<'a>>>
     requires kept { AreKept (λ n. module_data (own_of (P.provided provider.now) (entries_of namer.old) n)) kept.old }
+    requires known { AreFailuresOf (data_of_modules P.provided provider.now namer.old) known_failures.old }
     ensures kept { AreKept (λ n. module_data (own_of (P.provided provider.now) (entries_of namer.old) n)) kept.new }
+    ensures known { AreFailuresOf (data_of_modules P.provided provider.now namer.old) known_failures.new }
     ensures same { namer.new ≡ namer.old }
     ensures failed { failed.new ≡ failed_after (failing_if_held parts.now (scope_of P.provided provider.now namer.old) (held_at parts.now (Some place))) result failed.old }
     ensures frames { Answers (λ f. f) result (told failed.old (failing_if_held parts.now (scope_of P.provided provider.now namer.old) (held_at parts.now (Some place))) (frames_if_held parts.now (scope_of P.provided provider.now namer.old) (held_at parts.now (Some place)))) }
@@ -323,6 +404,7 @@ fn frames_here<'a, P: ModuleProvider>(
             parts,
             namer,
             failed,
+            known_failures,
             contribution,
             place,
         ),
@@ -453,6 +535,7 @@ impl<'a, 's, P: ModuleProvider> Context<'a, 's, P> {
             starts: None,
             lookups: 0,
             failed: Failures::new(alloc),
+            known_failures: KnownFailures::new(alloc),
         })
     }
 
@@ -511,6 +594,7 @@ impl<'a, 's, P: ModuleProvider> Context<'a, 's, P> {
             &self.parts,
             &mut self.namer,
             &mut self.failed,
+            &mut self.known_failures,
             place,
         );
         self.counted(frames)

@@ -4,6 +4,7 @@
 
 mod context;
 mod functions;
+mod known_failures;
 
 pub use context::Context;
 pub use functions::FunctionIter;
