@@ -34,10 +34,15 @@ fn names_stream(alloc: Global) -> Result<Stream<'static>, Fail> {
 }
 
 /// Whether the name of a table is as written.
+fn is_named(table: &StringTable<'_>, alloc: Global) -> Result<bool, Error> {
+    let name = StringRef(1).to_string_lossy(alloc, table)?;
+    Ok(name.as_str() == "a\u{fffd}c")
+}
+
+/// Whether that of the sample's table is.
 fn has_name(alloc: Global) -> Result<bool, Fail> {
     let table = StringTable::parse(names_stream(alloc)?)?;
-    let name = StringRef(1).to_string_lossy(alloc, &table)?;
-    Ok(name.as_str() == "a\u{fffd}c")
+    Ok(is_named(&table, alloc)?)
 }
 
 /// Whether a text that is no UTF-8 is as written.

@@ -1,7 +1,7 @@
 //! Files whose streams lie in pages of several sizes and orders.
 
 use crate::files::{container, file, get, open, room};
-use pdb_container::Error;
+use pdb_container::{BigMSF, Error};
 use pdb_samples::{Container, PageOrder, SampleError};
 use std::alloc::Global;
 use std::test::Fail;
@@ -14,14 +14,16 @@ fn stream_of(description: &Container, number: u32, limit: usize) -> Result<&[u8]
     }
 }
 
-/// The first number and limit, of some, at which the file of the description answers another stream.
-fn first_wrong(alloc: Global, description: &Container) -> Result<Option<(u32, usize)>, Fail> {
-    let bytes = file(alloc, description)?;
-    let mut opened = open(alloc, bytes.as_slice())?;
+/// The first number and limit, of some, at which a container answers another stream than its description.
+fn first_wrong_in(
+    opened: &mut BigMSF<'static, Vec<u8>>,
+    alloc: Global,
+    description: &Container,
+) -> Result<Option<(u32, usize)>, Fail> {
     let count = u32::try_from(description.streams.len())?;
     for number in [0, 5, 9, 199, 999, count.saturating_sub(1), count, u32::MAX] {
         for limit in [0, 1, 0x100, 0x101, usize::MAX] {
-            let answer = get(&mut opened, alloc, number, Some(limit));
+            let answer = get(opened, alloc, number, Some(limit));
             let is_right = match (&answer, stream_of(description, number, limit)) {
                 (Ok(found), Ok(stream)) => found.as_slice() == stream,
                 (Err(found), Err(error)) => *found == error,
@@ -33,6 +35,13 @@ fn first_wrong(alloc: Global, description: &Container) -> Result<Option<(u32, us
         }
     }
     Ok(None)
+}
+
+/// The same of the file of the description.
+fn first_wrong(alloc: Global, description: &Container) -> Result<Option<(u32, usize)>, Fail> {
+    let bytes = file(alloc, description)?;
+    let mut opened = open(alloc, bytes.as_slice())?;
+    first_wrong_in(&mut opened, alloc, description)
 }
 
 /// Streams of 9 to 999 bytes, absent and empty ones.

@@ -83,20 +83,29 @@ fn opened(
     }
 }
 
-/// Why stream 1 is refused where views fail, if it is, and whether its bytes are as usual at the next call.
+/// Why stream 1 of a container is refused, if it is, and whether its bytes are as usual at the next call.
+fn asked_of(
+    container: &mut BigMSF<'static, Failing>,
+    alloc: Global,
+    refusal: Refusal,
+) -> Result<(Option<Error>, bool), Fail> {
+    let error = match refusal {
+        Refusal::Memory => container.get(alloc, 1, None).err(),
+        Refusal::Other => get(container, alloc, 1, None).err(),
+    };
+    let usual = counted(alloc, 1, 300)?;
+    let stream = get(container, alloc, 1, None)?;
+    Ok((error, stream.as_slice() == usual.as_slice()))
+}
+
+/// The same where views fail.
 fn asked_twice(
     alloc: Global,
     fails: (u64, u64),
     refusal: Refusal,
 ) -> Result<(Option<Error>, bool), Fail> {
     let mut container = opened(alloc, fails, refusal)??;
-    let error = match refusal {
-        Refusal::Memory => container.get(alloc, 1, None).err(),
-        Refusal::Other => get(&mut container, alloc, 1, None).err(),
-    };
-    let stream = get(&mut container, alloc, 1, None)?;
-    let usual = counted(alloc, 1, 300)?;
-    Ok((error, stream.as_slice() == usual.as_slice()))
+    asked_of(&mut container, alloc, refusal)
 }
 
 /// Why the failures of these views keep the container from being opened.
@@ -106,12 +115,19 @@ fn refused(alloc: Global, fails: (u64, u64), refusal: Refusal) -> Result<Option<
 
 #[test]
 fn views_fail_at_the_opening(rt: HostRuntime) -> Result<(), Fail> {
-    let other = Some(Error::IoError(ErrorKind::Other));
-    assert_eq!(rt; refused(rt.alloc(), (0, 1), Refusal::Other)?, other);
-    for number in 0..3 {
-        let fails = (number, number + 1);
-        let error = refused(rt.alloc(), fails, Refusal::Memory)?;
-        assert_eq!(rt; error, Some(Error::OutOfMemory), "at {number}");
+    let memory = Error::OutOfMemory;
+    let rows = [
+        ((0, 1), Refusal::Other, Error::IoError(ErrorKind::Other)),
+        ((0, 1), Refusal::Memory, memory),
+        ((1, 2), Refusal::Memory, memory),
+        ((2, 3), Refusal::Memory, memory),
+    ];
+    for (fails, refusal, error) in rows {
+        assert_eq!(rt;
+            refused(rt.alloc(), fails, refusal)?,
+            Some(error),
+            "{fails:?}"
+        );
     }
     Ok(())
 }
@@ -120,17 +136,19 @@ fn views_fail_at_the_opening(rt: HostRuntime) -> Result<(), Fail> {
 fn the_directory_is_read_anew_where_the_source_failed(rt: HostRuntime) -> Result<(), Fail> {
     let other = Some(Error::IoError(ErrorKind::Other));
     let rows = [
-        ((1, 2), None),
-        ((2, 3), None),
-        ((1, 3), other),
-        ((3, 4), other),
+        ((1, 2), Refusal::Other, None),
+        ((2, 3), Refusal::Other, None),
+        ((1, 3), Refusal::Other, other),
+        ((3, 4), Refusal::Other, other),
+        ((3, 4), Refusal::Memory, Some(Error::OutOfMemory)),
     ];
-    for (fails, error) in rows {
-        let answers = asked_twice(rt.alloc(), fails, Refusal::Other)?;
-        assert_eq!(rt; answers, (error, true), "{fails:?}");
+    for (fails, refusal, error) in rows {
+        assert_eq!(rt;
+            asked_twice(rt.alloc(), fails, refusal)?,
+            (error, true),
+            "{fails:?}"
+        );
     }
-    let answers = asked_twice(rt.alloc(), (3, 4), Refusal::Memory)?;
-    assert_eq!(rt; answers, (Some(Error::OutOfMemory), true));
     Ok(())
 }
 
@@ -191,8 +209,18 @@ fn counted_views<'c>(
     open_msf(alloc, source)
 }
 
-/// The length of stream 1 and how many views there were then, and why stream 0 is refused, where only these slices can be
-/// viewed.
+/// The length of stream 1 of a container and how many views there were then, and why stream 0 is refused.
+fn lengths_of(
+    container: &mut BigMSF<'static, OwnPages<'_>>,
+    alloc: Global,
+    views: &Cell<u64>,
+) -> Result<(usize, u64, Option<Error>), Fail> {
+    let length = get(container, alloc, 1, None)?.as_slice().len();
+    let count = views.get();
+    Ok((length, count, get(container, alloc, 0, None).err()))
+}
+
+/// The same where only these slices can be viewed.
 fn by_own_pages(
     alloc: Global,
     order: PageOrder,
@@ -200,9 +228,7 @@ fn by_own_pages(
 ) -> Result<(usize, u64, Option<Error>), Fail> {
     let views = Cell::new(0);
     let mut container = counted_views(alloc, two_streams(alloc, order)?, slices, &views)?;
-    let length = get(&mut container, alloc, 1, None)?.as_slice().len();
-    let count = views.get();
-    Ok((length, count, get(&mut container, alloc, 0, None).err()))
+    lengths_of(&mut container, alloc, &views)
 }
 
 #[test]
