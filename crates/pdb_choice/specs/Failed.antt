@@ -1,46 +1,16 @@
--- The parts of modules that can't be read, and those that stand as failed since they were asked for.
-use Rattle.std.specs.Prelude.{ℕ, ◌+◌, ◌*◌, ◌^◌, Bool, List, [], Option, None, Some, Result, Ok, Err, if◌then◌else◌}
+-- The parts of modules that can't be read, and what is told of those that stand as failed since they were asked for.
+use Rattle.std.specs.Prelude.{ℕ, Option, None, Some, Result, Ok, Err, if◌then◌else◌}
 use Rattle.pdb_container.specs.Fault as container
-use Rattle.pdb_addresses.specs.declared.internal_section_offset.PdbInternalSectionOffset.{PdbInternalSectionOffset}
 use Rattle.pdb_symbols_modules.specs.ModuleStream.{ModuleStream}
 use Rattle.pdb_module_data.specs.FunctionLine.{function_rows}
-use Rattle.pdb_failed_parts.specs.Failed.{stands, with_part}
+pub use Rattle.pdb_failed_parts.specs.Failures.{Failures, has_failed, no_failures, number_of, with_failed}
+use Rattle.pdb_failed_parts.specs.declared.failures.Part.{Part}
+use Rattle.pdb_failed_parts.specs.declared.failures.Part.TheVariants as parts
 use Rattle.pdb_resolving.specs.declared.error.Error.{Error}
 use Rattle.pdb_resolving.specs.declared.error.Error.TheVariants as errors
 use Rattle.pdb_resolving.specs.Fault.{Fault, ExtendedModuleInfoUnsuccessful, ProcedureLinesUnsuccessful, ProcedureInlineRangesUnsuccessful}
-use Rattle.pdb_choice.specs.declared.failures.Part.{Part}
-use Rattle.pdb_choice.specs.declared.failures.Part.TheVariants as parts
 use Rattle.pdb_choice.specs.Choice.{Chosen, Proc, Public, start_of}
 use Rattle.pdb_known_modules.specs.Modules.{ModuleData, ExtendedModule, extended_of, procedure_sites}
-
--- ---- what stands as failed
-
--- the parts that stand as failed: line programs with inlinees by the numbers of their modules, rows of functions and inline sites
--- of procedures by the numbers of their starts
-pub record Failures : Type 0 where
-  pub modules : List ℕ
-  pub lines : List ℕ
-  pub inline_ranges : List ℕ
-
--- nothing stands as failed
-abbrev pub no_failures : Failures
-no_failures = record { modules = []; lines = []; inline_ranges = [] }
-
--- the number of a place in a module, which no other place and no place in another module has
-abbrev pub number_of : ℕ → PdbInternalSectionOffset → ℕ
-number_of m place = (m * 2 ^ 16 + place.section) * 2 ^ 32 + place.offset
-
--- whether a part stands as failed
-abbrev pub has_failed : Failures → Part → Bool
-has_failed f (parts.ExtendedModule m) = stands f.modules m
-has_failed f (parts.ProcedureLines m start) = stands f.lines (number_of m start)
-has_failed f (parts.ProcedureInlineRanges m start) = stands f.inline_ranges (number_of m start)
-
--- what stands as failed with one more part
-abbrev pub with_failed : Failures → Part → Failures
-with_failed f (parts.ExtendedModule m) = record { modules = with_part f.modules m; lines = f.lines; inline_ranges = f.inline_ranges }
-with_failed f (parts.ProcedureLines m start) = record { modules = f.modules; lines = with_part f.lines (number_of m start); inline_ranges = f.inline_ranges }
-with_failed f (parts.ProcedureInlineRanges m start) = record { modules = f.modules; lines = f.lines; inline_ranges = with_part f.inline_ranges (number_of m start) }
 
 -- ---- what is told of a part that fails
 

@@ -1,95 +1,18 @@
-//! The parts of modules that can't be read, and those that stand as failed since they were asked for.
+//! The parts of modules that can't be read.
 
-ghost use Rattle.std.specs.Prelude.{◌≡◌, IfOk, OnErr, OnOk, option_copied};
-ghost use Rattle.pdb_choice.specs.Failed.{failing_by, failing_in as failing_in_module, failing_procedure as failing_of_procedure, failing_sites as failing_of_sites, has_failed, no_failures, number_of as number_at, unsuccessful_error, with_failed};
+ghost use Rattle.std.specs.Prelude.{◌≡◌, IfOk, option_copied};
+ghost use Rattle.pdb_choice.specs.Failed.{failing_by, failing_in as failing_in_module, failing_procedure as failing_of_procedure, failing_sites as failing_of_sites, unsuccessful_error};
 ghost use Rattle.pdb_known_modules.specs.Modules.{extended_of, procedure_sites};
 ghost use Rattle.pdb_choice.specs.Seen.{chosen_seen};
 ghost use Rattle.pdb_known_modules.specs.Seen.{extended_seen};
 ghost use Rattle.pdb_resolving.specs.Fault.{Answers};
 
 use crate::choice::Chosen;
-use pdb_addresses::PdbInternalSectionOffset;
-use pdb_failed_parts::FailedParts;
+use pdb_failed_parts::Part;
 use pdb_known_modules::{BasicModuleInfo, ExtendedModuleInfo, read_extended};
 use pdb_module_data::{FunctionRows, InlineSites, Procedure, SitesError};
 use pdb_resolving::{Error, ModuleTables, Result};
 use std::alloc::{AllocError, Global};
-use std::marker::Model;
-
-/// A part of the module of a number that frames are made of.
-#[derive(Clone, Copy)]
-pub enum Part {
-    /// Its line program and inlinees.
-    ExtendedModule(u16),
-    /// The line rows of the function that begins at a place.
-    ProcedureLines(u16, PdbInternalSectionOffset),
-    /// The inline sites of the procedure that begins at a place.
-    ProcedureInlineRanges(u16, PdbInternalSectionOffset),
-}
-
-/// The parts of modules that stand as failed.
-#[derive(Drop)]
-pub struct Failures {
-    modules: FailedParts,
-    lines: FailedParts,
-    inline_ranges: FailedParts,
-}
-
-impl Model for Failures {
-    ghost use Rattle.pdb_choice.specs.Failed as failed;
-
-    ghost Value = { failed.Failures };
-
-    ghost view = { λ f. record { modules = f.modules; lines = f.lines; inline_ranges = f.inline_ranges } };
-}
-
-/// The number of a place in a module, which no other place and no place in another module has.
-fn number_of(module_index: u16, place: PdbInternalSectionOffset) -> u64
-    ensures { result ≡ number_at module_index place }
-{
-    let section = u64::from(module_index) * 0x1_0000 + u64::from(place.section);
-    section * 0x1_0000_0000 + u64::from(place.offset)
-}
-
-impl Failures {
-    /// Nothing stands as failed.
-    pub fn new(alloc: Global) -> Failures
-        ensures { result ≡ no_failures }
-    {
-        Failures {
-            modules: FailedParts::new(alloc),
-            lines: FailedParts::new(alloc),
-            inline_ranges: FailedParts::new(alloc),
-        }
-    }
-
-    /// Whether a part stands as failed.
-    pub fn has(&self, part: Part) -> bool
-        ensures { result ≡ has_failed self.now part }
-    {
-        match part {
-            Part::ExtendedModule(number) => self.modules.stands(u64::from(number)),
-            Part::ProcedureLines(number, start) => self.lines.stands(number_of(number, start)),
-            Part::ProcedureInlineRanges(number, start) => {
-                self.inline_ranges.stands(number_of(number, start))
-            }
-        }
-    }
-
-    /// Keeps a part as failed. Nothing changes where memory is short.
-    pub fn keep(&mut self, part: Part) -> std::result::Result<(), AllocError>
-        ensures kept { OnOk result (self.new ≡ with_failed self.old part) }
-        ensures same { OnErr result (self.new ≡ self.old) }
-    {
-        match part {
-            Part::ExtendedModule(number) => self.modules.keep(u64::from(number)),
-            Part::ProcedureLines(number, start) => self.lines.keep(number_of(number, start)),
-            Part::ProcedureInlineRanges(number, start) => {
-                self.inline_ranges.keep(number_of(number, start))
-            }
-        }
-    }
-}
 
 /// What says of a part that it stands as failed.
 pub fn unsuccessful(part: Part) -> Error

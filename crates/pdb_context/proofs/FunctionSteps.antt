@@ -7,10 +7,10 @@ use Rattle.pdb_resolving.specs.declared.error.Error.TheVariants as errors
 use Rattle.pdb_resolving.specs.Fault.{Fault, Fails}
 use Rattle.pdb_resolving.specs.Resolving.{Provided}
 use Rattle.pdb_functions.specs.FunctionOrder.{Function}
-use Rattle.pdb_frames.specs.Choice.{Parts}
-use Rattle.pdb_frames.specs.Scopes.{Scope}
-use Rattle.pdb_frames.specs.Frames.{function}
-use Rattle.pdb_frames.specs.Starts.{if_any}
+use Rattle.pdb_answers.specs.Choice.{Parts}
+use Rattle.pdb_answers.specs.Scopes.{Scope}
+use Rattle.pdb_answers.specs.Frames.{function}
+use Rattle.pdb_context.specs.Starts.{if_any}
 use Rattle.pdb_context.specs.Context.{Context, scope_in, uncounted}
 use Rattle.pdb_context.specs.FunctionList.{functions_at, FunctionsLeft, functions_left, none_left, GivesFunction}
 

@@ -1,5 +1,3 @@
 pub mod FailedSteps
 pub mod FunctionSteps
-mod FaultSteps
-mod KeptSteps
-mod KnownSteps
+pub mod StartSteps

@@ -5,10 +5,10 @@ use Rattle.pdb_symbols_modules.specs.Modules.{Module}
 use Rattle.pdb_resolving.specs.declared.error.Error.{Error}
 use Rattle.pdb_resolving.specs.declared.error.Error.TheVariants as errors
 use Rattle.pdb_functions.specs.FunctionOrder.{Function}
-use Rattle.pdb_frames.specs.Choice.{Parts}
-use Rattle.pdb_frames.specs.Scopes.{Scope}
-use Rattle.pdb_frames.specs.Frames.{function}
-use Rattle.pdb_frames.specs.Starts.{if_any, start_addresses, IsAscending}
+use Rattle.pdb_answers.specs.Choice.{Parts}
+use Rattle.pdb_answers.specs.Scopes.{Scope}
+use Rattle.pdb_answers.specs.Frames.{function}
+use Rattle.pdb_context.specs.Starts.{if_any, start_addresses, IsAscending}
 
 -- the functions at addresses, of those that have one
 abbrev pub functions_at : Parts → (ℕ → Scope) → List ℕ → List Function

@@ -1,44 +1,30 @@
 //! A context: answers about addresses of an image.
 
-ghost use Rattle.std.specs.Prelude.{◌≡◌, ◌≤◌, ℕ, true, IfOk, IfSome, Ok, Option, Some, is_some, length, option_copied, option_map, slice_get, ◌||◌};
+ghost use Rattle.std.specs.Prelude.{◌≡◌, ◌≤◌, true, IfOk, Ok, is_some, length, option_map};
 ghost use Rattle.pdb_addresses.specs.Addresses.{IsOrdered};
-ghost use Rattle.pdb_addresses.specs.SectionRun.{up_to_next};
 ghost use Rattle.pdb_resolving.specs.Fault.{Answers};
-ghost use Rattle.pdb_frames.specs.Choice.{Parts, place_of, held_at};
-ghost use Rattle.pdb_known_modules.specs.Kept.{AreKept};
-ghost use Rattle.pdb_frames.specs.Scopes.{entries_of, scope_of};
-ghost use Rattle.pdb_frames.specs.Parts.{parts_of};
+ghost use Rattle.pdb_answers.specs.Choice.{place_of};
+ghost use Rattle.pdb_answers.specs.Parts.{parts_of};
 ghost use Rattle.pdb_context.specs.Context.{context_over, lasting, scope_in, uncounted, lookups_after};
-ghost use Rattle.pdb_context.specs.KnownFailures.{AreFailuresOf, data_of_modules};
-ghost use Rattle.pdb_frames.specs.Failed.{failed_after, failing_in as failing_in_module, has_failed, told};
-ghost use Rattle.pdb_frames.specs.Failing.{failing, failing_at, failing_if_held, ProcedureLines, ProcedureInlineRanges};
-ghost use Rattle.pdb_frames.specs.Frames.{frames, frames_at as frames_at_place, frames_if_held, frames_of_chosen, function, function_at as function_at_contribution, function_of as function_of_chosen};
-ghost use Rattle.pdb_frames.specs.MaybeOwned.{value_of};
-ghost use Rattle.pdb_known_modules.specs.Modules.{ModuleData, module_data, own_of, procedures_in};
-ghost use Rattle.pdb_frames.specs.NearBounds.{bounds_near};
-ghost use Rattle.pdb_frames.specs.Runs.{database_of, function_here as function_at_place, procedures_of};
-ghost use Rattle.pdb_frames.specs.Seen.{chosen_seen};
+ghost use Rattle.pdb_answers.specs.Failed.{failed_after, told};
+ghost use Rattle.pdb_answers.specs.Failing.{failing};
+ghost use Rattle.pdb_answers.specs.Frames.{frames, function};
+ghost use Rattle.pdb_answers.specs.MaybeOwned.{value_of};
+ghost use Rattle.pdb_answers.specs.Runs.{database_of, function_here as function_at_place};
 ghost use Rattle.pdb_functions.specs.Databases.{IsOneRun, place_of as as_place};
-ghost use Rattle.pdb_frames.specs.Printing.{env_of};
 
-use crate::known_failures::KnownFailures;
 use pdb_addresses::{AddressMap, ImageSectionHeader, PdbInternalSectionOffset, Rva};
+use pdb_answers::maybe_owned::MaybeOwned;
+use pdb_answers::{
+    ContextParts, Failures, KeptModule, KnownFailures, Namer, TypeFormatter, empty_modules,
+    frames_here, function_here, run_here,
+};
 use pdb_container::StringTable;
-use pdb_contributions::ModuleSectionContribution;
-use pdb_frames::maybe_owned::MaybeOwned;
-use pdb_frames::{
-    Chosen, ContextParts, Failures, Namer, Part, TypeFormatter, choose, failing_in, frames_in,
-    name_of, to_next_bound, to_next_shared_bound, unsuccessful,
-};
 use pdb_functions::{Function, FunctionFrames};
-use pdb_known_modules::{
-    BasicModuleInfo, KeptModule, empty_places, keep_lines, keep_module, keep_procedure,
-    keep_public_rows, known_at, number_over, procedure_numbered,
-};
-use pdb_resolving::{Error, ModuleProvider, ModuleTables, Result};
+use pdb_resolving::{Error, ModuleProvider, Result};
 use pdb_symbols::SymbolTable;
 use pdb_symbols_modules::DebugInformation;
-use std::alloc::{AllocError, Global};
+use std::alloc::Global;
 use std::marker::Model;
 
 /// A context: it answers what function and which frames an address of the image has. What was asked before shows in no answer.
@@ -56,11 +42,11 @@ pub struct Context<'a, 's, P: ModuleProvider> {
 impl<'a, 's, P: ModuleProvider> Model for Context<'a, 's, P> {
     ghost use Rattle.std.specs.Prelude.{option_map};
     ghost use Rattle.pdb_context.specs.Context as contexts;
-    ghost use Rattle.pdb_frames.specs.Scopes.{entries_of, scope_of};
-    ghost use Rattle.pdb_frames.specs.Starts.{start_addresses, AreStarts};
-    ghost use Rattle.pdb_known_modules.specs.Kept.{AreKept};
-    ghost use Rattle.pdb_known_modules.specs.Modules.{module_data, own_of};
-    ghost use Rattle.pdb_context.specs.KnownFailures.{AreFailuresOf, data_of_modules};
+    ghost use Rattle.pdb_answers.specs.Scopes.{entries_of, scope_of};
+    ghost use Rattle.pdb_context.specs.Starts.{start_addresses, AreStarts};
+    ghost use Rattle.pdb_answers.specs.Kept.{AreKept};
+    ghost use Rattle.pdb_answers.specs.Modules.{module_data, own_of};
+    ghost use Rattle.pdb_answers.specs.KnownFailures.{AreFailuresOf, data_of_modules};
 
     ghost Value = { contexts.Context P };
 
@@ -96,403 +82,6 @@ fn place_at(parts: &ContextParts<'_, '_>, probe: u32) -> Option<PdbInternalSecti
     ensures { result ≡ place_of parts.now probe }
 {
     Rva(probe).to_internal_offset(parts.address_map)
-}
-
-/// Places for the modules of a namer, in which nothing is kept yet.
-fn empty_modules<'a, P: ModuleProvider>(
-    alloc: Global,
-    _provider: &'a P,
-    namer: &Namer<'_, '_, P>,
-) -> std::result::Result<Vec<KeptModule<'a, P::Info>>, AllocError>
-    ensures { IfOk result (λ v. AreKept (λ n. module_data (own_of (P.provided _provider.now) (entries_of namer.now) n)) v.items) }
-{
-    empty_places(alloc, namer.modules().len())
-}
-
-/// The frames at a place in a chosen function, if it has an RVA. Its module's data are read before that is asked.
-fn frames_of<'a, P: ModuleProvider>(
-    alloc: Global,
-    parts: &ContextParts<'a, '_>,
-    namer: &mut Namer<'a, '_, P>,
-    module_index: u16,
-    known: Option<&BasicModuleInfo<'_, P::Info>>,
-    chosen: Chosen<'_, 'a>,
-    place: PdbInternalSectionOffset,
-) -> Result<Option<FunctionFrames<'a>>>
-    ensures same { namer.new ≡ namer.old }
-    ensures frames { Answers (λ f. f) result (frames_of_chosen parts.now (env_of P.provided namer.old module_index) (option_copied known.entry) place (Some (chosen_seen chosen.entry))) }
-{
-    let frames = frames_in(alloc, parts, namer, module_index, known, chosen, place)?;
-    match chosen.start_rva(parts) {
-        None => Ok(None),
-        Some(start_rva) => Ok(Some(FunctionFrames {
-            start_rva,
-            end_rva: chosen.end_of_frames(parts, start_rva),
-            frames,
-        })),
-    }
-}
-
-/// The same, and the part that can't be read, if one can't, stands as failed from then on: where it did before, that is told. It is
-/// known from then on for the functions like the chosen one.
-#[tactic(auto, using(crate::proofs::FailedSteps::told_own, crate::proofs::FailedSteps::told_alone))]
-fn frames_told<'a, P: ModuleProvider>(
-    alloc: Global,
-    parts: &ContextParts<'a, '_>,
-    namer: &mut Namer<'a, '_, P>,
-    failed: &mut Failures,
-    known_failures: &mut KnownFailures,
-    module_index: u16,
-    known: Option<&BasicModuleInfo<'_, P::Info>>,
-    chosen: Chosen<'_, 'a>,
-    place: PdbInternalSectionOffset,
-) -> Result<Option<FunctionFrames<'a>>>
-    ensures same { namer.new ≡ namer.old }
-    ensures failed { failed.new ≡ failed_after (failing_in_module module_index (option_copied known.entry) (chosen_seen chosen.entry)) result failed.old }
-    ensures known { (own : ℕ → Option ModuleData) → own module_index ≡ option_copied known.entry → AreFailuresOf own known_failures.old → AreFailuresOf own known_failures.new }
-    ensures frames { Answers (λ f. f) result (told failed.old (failing_in_module module_index (option_copied known.entry) (chosen_seen chosen.entry)) (frames_of_chosen parts.now (env_of P.provided namer.old module_index) (option_copied known.entry) place (Some (chosen_seen chosen.entry)))) }
-{
-    let frames = frames_of(alloc, parts, namer, module_index, known, chosen, place);
-    match frames {
-        Ok(frames) => Ok(frames),
-        Err(Error::OutOfMemory) => Err(Error::OutOfMemory),
-        Err(fault) => match failing_in(alloc, module_index, known, chosen)? {
-            None => Err(fault),
-            Some(part) => {
-                let stood = failed.has(part);
-                known_failures.keep(module_index, chosen, part)?;
-                failed.keep(part)?;
-                if stood {
-                    return Err(unsuccessful(part));
-                }
-                Err(fault)
-            }
-        },
-    }
-}
-
-/// The same; where a part is known as the first that can't be read, and stands as failed, nothing is read.
-#[tactic(auto, using(crate::proofs::FaultSteps::told_standing, crate::proofs::FaultSteps::after_standing))]
-fn frames_unless_known<'a, P: ModuleProvider>(
-    alloc: Global,
-    parts: &ContextParts<'a, '_>,
-    namer: &mut Namer<'a, '_, P>,
-    failed: &mut Failures,
-    known_failures: &mut KnownFailures,
-    module_index: u16,
-    known: Option<&BasicModuleInfo<'_, P::Info>>,
-    chosen: Chosen<'_, 'a>,
-    failing: Option<Part>,
-    place: PdbInternalSectionOffset,
-) -> Result<Option<FunctionFrames<'a>>>
-    requires failing { IfSome failing (λ part. failing_in_module module_index (option_copied known) (chosen_seen chosen) ≡ Some part) }
-    ensures same { namer.new ≡ namer.old }
-    ensures failed { failed.new ≡ failed_after (failing_in_module module_index (option_copied known.entry) (chosen_seen chosen.entry)) result failed.old }
-    ensures known { (own : ℕ → Option ModuleData) → own module_index ≡ option_copied known.entry → AreFailuresOf own known_failures.old → AreFailuresOf own known_failures.new }
-    ensures frames { Answers (λ f. f) result (told failed.old (failing_in_module module_index (option_copied known.entry) (chosen_seen chosen.entry)) (frames_of_chosen parts.now (env_of P.provided namer.old module_index) (option_copied known.entry) place (Some (chosen_seen chosen.entry)))) }
-{
-    match failing {
-        Some(part) if failed.has(part) => {
-            failed.keep(part)?;
-            Err(unsuccessful(part))
-        }
-        _ => {
-            frames_told(
-                alloc,
-                parts,
-                namer,
-                failed,
-                known_failures,
-                module_index,
-                known,
-                chosen,
-                place,
-            )
-        }
-    }
-}
-
-/// Reads the rows of the public entry at a place that a contribution holds and no procedure is over, if there is one, and keeps
-/// them. Where they stand as failed nothing is read.
-fn keep_public_entry<'a, I: ModuleTables>(
-    alloc: Global,
-    kept: &mut [KeptModule<'a, I>],
-    parts: &ContextParts<'a, '_>,
-    failed: &Failures,
-    contribution: ModuleSectionContribution,
-    place: PdbInternalSectionOffset,
-) -> std::result::Result<(), AllocError>
-    ensures { kept.new ≡ kept.old }
-{
-    let module_index = contribution.module_index;
-    match parts.publics.over(contribution.start_offset, place) {
-        Some(public) if !failed.has(Part::ProcedureLines(module_index, public.start_offset)) => {
-            keep_public_rows(alloc, kept, usize::from(module_index), public.start_offset)
-        }
-        _ => Ok(()),
-    }
-}
-
-/// Whether the line rows or the inline sites of the procedure of a number stand as failed.
-fn stands_in_part<I: ModuleTables>(
-    failed: &Failures,
-    known: Option<&BasicModuleInfo<'_, I>>,
-    number: usize,
-    module_index: u16,
-) -> bool
-    ensures { IfSome (slice_get (procedures_in (option_copied known.entry)) number) (λ q. result ≡ (has_failed failed.now (ProcedureLines module_index q.offset) || has_failed failed.now (ProcedureInlineRanges module_index q.offset))) }
-{
-    match procedure_numbered(known, number) {
-        None => false,
-        Some(procedure) => {
-            failed.has(Part::ProcedureLines(module_index, procedure.offset))
-                || failed.has(Part::ProcedureInlineRanges(module_index, procedure.offset))
-        }
-    }
-}
-
-/// Reads what frames at a place that a contribution holds are made of, and keeps it: line program and inlinees of its module, and
-/// the data of the procedure of a number, or, where there is none, the rows of the public entry. What stands as failed isn't read.
-fn keep_parts<'a, I: ModuleTables>(
-    alloc: Global,
-    kept: &mut [KeptModule<'a, I>],
-    parts: &ContextParts<'a, '_>,
-    failed: &Failures,
-    number: Option<usize>,
-    contribution: ModuleSectionContribution,
-    place: PdbInternalSectionOffset,
-) -> std::result::Result<(), AllocError>
-    ensures { kept.new ≡ kept.old }
-{
-    if failed.has(Part::ExtendedModule(contribution.module_index)) {
-        return Ok(());
-    }
-    let module_index = usize::from(contribution.module_index);
-    keep_lines(alloc, kept, module_index)?;
-    let Some(number) = number else {
-        return keep_public_entry(alloc, kept, parts, failed, contribution, place);
-    };
-    let known = known_at(kept, module_index);
-    if stands_in_part(failed, known, number, contribution.module_index) {
-        return Ok(());
-    }
-    keep_procedure(alloc, kept, module_index, number)
-}
-
-/// The frames at a place that a contribution holds.
-#[tactic(auto, unfolding(pdb_frames::specs::Frames::frames_at, crate::specs::KnownFailures::data_of_modules))]
-fn frames_at<'a, P: ModuleProvider>(
-    alloc: Global,
-    provider: &'a P,
-    kept: &mut [KeptModule<'a, P::Info>],
-    parts: &ContextParts<'a, '_>,
-    namer: &mut Namer<'a, '_, P>,
-    failed: &mut Failures,
-    known_failures: &mut KnownFailures,
-    contribution: ModuleSectionContribution,
-    place: PdbInternalSectionOffset,
-) -> Result<Option<FunctionFrames<'a>>>
-    requires kept { AreKept (λ n. module_data (own_of (P.provided provider.now) (entries_of namer.old) n)) kept.old }
-    requires known { AreFailuresOf (data_of_modules P.provided provider.now namer.old) known_failures.old }
-    ensures kept { AreKept (λ n. module_data (own_of (P.provided provider.now) (entries_of namer.old) n)) kept.new }
-    ensures known { AreFailuresOf (data_of_modules P.provided provider.now namer.old) known_failures.new }
-    ensures same { namer.new ≡ namer.old }
-    ensures failed { failed.new ≡ failed_after (failing_at parts.now (scope_of P.provided provider.now namer.old contribution.module_index) contribution place) result failed.old }
-    ensures frames { Answers (λ f. f) result (told failed.old (failing_at parts.now (scope_of P.provided provider.now namer.old contribution.module_index) contribution place) (frames_at_place parts.now (scope_of P.provided provider.now namer.old contribution.module_index) contribution place)) }
-{
-    let module_index = usize::from(contribution.module_index);
-    keep_module(alloc, kept, provider, namer.modules(), module_index)?;
-    let number = number_over(known_at(kept, module_index), place);
-    keep_parts(alloc, kept, parts, failed, number, contribution, place)?;
-    let known = known_at(kept, module_index);
-    match choose(parts, known, number, contribution, place) {
-        None => Ok(None),
-        Some(chosen) => {
-            let failing = known_failures.part(contribution.module_index, chosen);
-            frames_unless_known(
-                alloc,
-                parts,
-                namer,
-                failed,
-                known_failures,
-                contribution.module_index,
-                known,
-                chosen,
-                failing,
-                place,
-            )
-        }
-    }
-}
-
-/// A chosen function, where it has an RVA, and where the public entry behind it has one.
-fn function_of<'a, P: ModuleProvider>(
-    alloc: Global,
-    parts: &ContextParts<'_, '_>,
-    namer: &mut Namer<'a, '_, P>,
-    module_index: u16,
-    chosen: Chosen<'_, 'a>,
-) -> Result<Option<Function>>
-    ensures same { namer.new ≡ namer.old }
-    ensures function { Answers (λ f. f) result (Ok (function_of_chosen parts.now (env_of P.provided namer.old module_index) (chosen_seen chosen.entry))) }
-{
-    let Some(start_rva) = chosen.start_rva(parts) else {
-        return Ok(None);
-    };
-    let Some(end_rva) = chosen.end_of_function(parts, start_rva) else {
-        return Ok(None);
-    };
-    let name = name_of(alloc, parts, namer, module_index, chosen)?;
-    Ok(Some(Function {
-        start_rva,
-        end_rva,
-        name,
-    }))
-}
-
-/// The function at a place that a contribution holds.
-#[tactic(auto, unfolding(pdb_frames::specs::Frames::function_at))]
-fn function_at<'a, P: ModuleProvider>(
-    alloc: Global,
-    provider: &'a P,
-    kept: &mut [KeptModule<'a, P::Info>],
-    parts: &ContextParts<'a, '_>,
-    namer: &mut Namer<'a, '_, P>,
-    contribution: ModuleSectionContribution,
-    place: PdbInternalSectionOffset,
-) -> Result<Option<Function>>
-    requires kept { AreKept (λ n. module_data (own_of (P.provided provider.now) (entries_of namer.old) n)) kept.old }
-    ensures kept { AreKept (λ n. module_data (own_of (P.provided provider.now) (entries_of namer.old) n)) kept.new }
-    ensures same { namer.new ≡ namer.old }
-    ensures function { Answers (λ f. f) result (Ok (function_at_contribution parts.now (scope_of P.provided provider.now namer.old contribution.module_index) contribution place)) }
-{
-    let module_index = usize::from(contribution.module_index);
-    keep_module(alloc, kept, provider, namer.modules(), module_index)?;
-    let known = known_at(kept, module_index);
-    let number = number_over(known, place);
-    match choose(parts, known, number, contribution, place) {
-        None => Ok(None),
-        Some(chosen) => function_of(alloc, parts, namer, contribution.module_index, chosen),
-    }
-}
-
-/// The frames at a place.
-fn frames_here<'a, P: ModuleProvider>(
-    alloc: Global,
-    provider: &'a P,
-    kept: &mut [KeptModule<'a, P::Info>],
-    parts: &ContextParts<'a, '_>,
-    namer: &mut Namer<'a, '_, P>,
-    failed: &mut Failures,
-    known_failures: &mut KnownFailures,
-    place: PdbInternalSectionOffset,
-) -> Result<Option<FunctionFrames<'a>>>
-    requires kept { AreKept (λ n. module_data (own_of (P.provided provider.now) (entries_of namer.old) n)) kept.old }
-    requires known { AreFailuresOf (data_of_modules P.provided provider.now namer.old) known_failures.old }
-    ensures kept { AreKept (λ n. module_data (own_of (P.provided provider.now) (entries_of namer.old) n)) kept.new }
-    ensures known { AreFailuresOf (data_of_modules P.provided provider.now namer.old) known_failures.new }
-    ensures same { namer.new ≡ namer.old }
-    ensures failed { failed.new ≡ failed_after (failing_if_held parts.now (scope_of P.provided provider.now namer.old) (held_at parts.now (Some place))) result failed.old }
-    ensures frames { Answers (λ f. f) result (told failed.old (failing_if_held parts.now (scope_of P.provided provider.now namer.old) (held_at parts.now (Some place))) (frames_if_held parts.now (scope_of P.provided provider.now namer.old) (held_at parts.now (Some place)))) }
-{
-    match parts.holder(place) {
-        None => Ok(None),
-        Some(contribution) => frames_at(
-            alloc,
-            provider,
-            kept,
-            parts,
-            namer,
-            failed,
-            known_failures,
-            contribution,
-            place,
-        ),
-    }
-}
-
-/// The function at a place.
-fn function_here<'a, P: ModuleProvider>(
-    alloc: Global,
-    provider: &'a P,
-    kept: &mut [KeptModule<'a, P::Info>],
-    parts: &ContextParts<'a, '_>,
-    namer: &mut Namer<'a, '_, P>,
-    place: PdbInternalSectionOffset,
-) -> Result<Option<Function>>
-    requires kept { AreKept (λ n. module_data (own_of (P.provided provider.now) (entries_of namer.old) n)) kept.old }
-    ensures kept { AreKept (λ n. module_data (own_of (P.provided provider.now) (entries_of namer.old) n)) kept.new }
-    ensures same { namer.new ≡ namer.old }
-    ensures function { Answers (λ f. f) result (Ok (function_at_place parts.now (scope_of P.provided provider.now namer.old) place)) }
-{
-    match parts.holder(place) {
-        None => Ok(None),
-        Some(contribution) => function_at(alloc, provider, kept, parts, namer, contribution, place),
-    }
-}
-
-/// The function at a place that a contribution holds, and how far it goes on.
-#[tactic(auto, unfolding(pdb_frames::specs::Frames::function_at))]
-fn run_at<'a, P: ModuleProvider>(
-    alloc: Global,
-    provider: &'a P,
-    kept: &mut [KeptModule<'a, P::Info>],
-    parts: &ContextParts<'a, '_>,
-    namer: &mut Namer<'a, '_, P>,
-    contribution: ModuleSectionContribution,
-    place: PdbInternalSectionOffset,
-    limit: u32,
-) -> Result<(Option<Function>, u32)>
-    requires kept { AreKept (λ n. module_data (own_of (P.provided provider.now) (entries_of namer.old) n)) kept.old }
-    ensures kept { AreKept (λ n. module_data (own_of (P.provided provider.now) (entries_of namer.old) n)) kept.new }
-    ensures same { namer.new ≡ namer.old }
-    ensures function { Answers (λ run. run.0) result (Ok (function_at_contribution parts.now (scope_of P.provided provider.now namer.old contribution.module_index) contribution place)) }
-    ensures count { IfOk result (λ run. run.1 ≡ up_to_next (bounds_near parts.now (procedures_of (scope_of P.provided provider.now namer.old) (Some contribution)) place) place.offset limit) }
-{
-    let module_index = usize::from(contribution.module_index);
-    keep_module(alloc, kept, provider, namer.modules(), module_index)?;
-    let known = known_at(kept, module_index);
-    let count = to_next_bound(parts, known, place, limit);
-    let number = number_over(known, place);
-    match choose(parts, known, number, contribution, place) {
-        None => Ok((None, count)),
-        Some(chosen) => {
-            let function = function_of(alloc, parts, namer, contribution.module_index, chosen)?;
-            Ok((function, count))
-        }
-    }
-}
-
-/// The function at a place, and how far it goes on.
-fn run_here<'a, P: ModuleProvider>(
-    alloc: Global,
-    provider: &'a P,
-    kept: &mut [KeptModule<'a, P::Info>],
-    parts: &ContextParts<'a, '_>,
-    namer: &mut Namer<'a, '_, P>,
-    place: PdbInternalSectionOffset,
-    limit: u32,
-) -> Result<(Option<Function>, u32)>
-    requires limit { 1 ≤ limit }
-    requires kept { AreKept (λ n. module_data (own_of (P.provided provider.now) (entries_of namer.old) n)) kept.old }
-    ensures kept { AreKept (λ n. module_data (own_of (P.provided provider.now) (entries_of namer.old) n)) kept.new }
-    ensures same { namer.new ≡ namer.old }
-    ensures function { Answers (λ run. run.0) result (Ok (function_at_place parts.now (scope_of P.provided provider.now namer.old) place)) }
-    ensures count { IfOk result (λ run. IsOneRun (database_of parts.now (scope_of P.provided provider.now namer.old)) (as_place place) limit run.1) }
-{
-    match parts.holder(place) {
-        None => Ok((None, to_next_shared_bound(parts, place, limit))),
-        Some(contribution) => run_at(
-            alloc,
-            provider,
-            kept,
-            parts,
-            namer,
-            contribution,
-            place,
-            limit,
-        ),
-    }
 }
 
 impl<'a, 's, P: ModuleProvider> Context<'a, 's, P> {
@@ -577,7 +166,7 @@ impl<'a, 's, P: ModuleProvider> Context<'a, 's, P> {
     /// inlinees, rows of the function's `DEBUG_S_LINES`, inline sites: `PdbError`, `ProcedureInlineRangesUnsuccessful`. From then
     /// on the part stands as failed, and its fault is `ExtendedModuleInfoUnsuccessful`, `ProcedureLinesUnsuccessful` or
     /// `ProcedureInlineRangesUnsuccessful`. `OutOfMemory`, and then nothing stands as failed that did not before.
-    #[tactic(auto, unfolding(pdb_frames::specs::Frames::frames))]
+    #[tactic(auto, unfolding(pdb_answers::specs::Frames::frames))]
     pub fn find_frames(&mut self, alloc: Global, probe: u32) -> Result<Option<FunctionFrames<'a>>>
         ensures same { lasting self.new ≡ lasting self.old }
         ensures failed { self.new.failed ≡ failed_after (failing self.old.parts (scope_in P.provided self.old) probe) result self.old.failed }
@@ -604,7 +193,7 @@ impl<'a, 's, P: ModuleProvider> Context<'a, 's, P> {
     ///
     /// # Errors
     /// `OutOfMemory` alone.
-    #[tactic(auto, unfolding(pdb_frames::specs::Frames::function))]
+    #[tactic(auto, unfolding(pdb_answers::specs::Frames::function))]
     pub fn find_function(&mut self, alloc: Global, probe: u32) -> Result<Option<Function>>
         ensures same { uncounted self.new ≡ uncounted self.old }
         ensures lookups { self.new.lookups ≡ lookups_after (is_some (place_of self.old.parts probe)) result self.old.lookups }

@@ -2,13 +2,13 @@
 
 ghost use Rattle.std.specs.Prelude.{◌≡◌, ◌<◌, IfOk, IsOkUnless, OnSome, length, drop};
 ghost use Rattle.std.specs.Iterator.{at_most};
-ghost use Rattle.pdb_frames.specs.Scopes.{entries_of};
+ghost use Rattle.pdb_answers.specs.Scopes.{entries_of};
 ghost use Rattle.pdb_context.specs.Context.{scope_in, uncounted};
 ghost use Rattle.pdb_context.specs.FunctionList.{AreFunctions, GivesFunction, functions_left};
 ghost use Rattle.pdb_resolving.specs.declared.error.Error.TheVariants as errors;
 
 use crate::context::Context;
-use pdb_frames::kept_starts;
+use crate::function_starts::kept_starts;
 use pdb_functions::Function;
 use pdb_resolving::{ModuleProvider, Result};
 use std::alloc::Global;

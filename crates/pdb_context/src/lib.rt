@@ -3,11 +3,10 @@
 #![tactic(auto)]
 
 mod context;
+mod function_starts;
 mod functions;
-mod known_failures;
 
 pub use context::Context;
 pub use functions::FunctionIter;
-pub use pdb_contributions::ModuleSectionContribution;
-pub use pdb_frames::{ContextParts, TypeFormatter, maybe_owned};
+pub use pdb_answers::{ContextParts, ModuleSectionContribution, TypeFormatter, maybe_owned};
 pub use pdb_functions::{Frame, Function, FunctionFrames};

@@ -1,3 +1,2 @@
 pub mod ProcedureSteps
 pub mod RunLaw
-pub mod StartSteps

@@ -3,7 +3,6 @@ pub mod Failing
 pub mod Frames
 pub mod Runs
 pub mod Scopes
-pub mod Starts
 pub use Rattle.pdb_choice.specs.Choice
 pub use Rattle.pdb_choice.specs.Failed
 pub use Rattle.pdb_choice.specs.NearBounds

@@ -13,7 +13,9 @@ use crate::printer::FunctionPrinter;
 use pdb_indices::{IdIndex, TypeIndex};
 use pdb_records::{FunctionId, IdData, MemberFunctionId, ProcedureType, TypeData};
 use pdb_resolving::{Error, ModuleProvider, Result};
-use pdb_text_pieces::{Seen, emit, emit_scope_end, emit_string, emit_unhandled_id, emit_unread};
+use pdb_text_pieces::{
+    Seen, emit, emit_between_strings, emit_scope_end, emit_string, emit_unhandled_id, emit_unread,
+};
 use pdb_type_printing::Asker;
 
 impl<'a, 's, P: ModuleProvider> FunctionPrinter<'a, 's, P> {
@@ -212,7 +214,7 @@ impl<'a, 's, P: ModuleProvider> FunctionPrinter<'a, 's, P> {
         ensures text { Prints result (string_bytes w.new) (more_parts (env_of P.provided self.old asker.module_index) list.now (string_bytes w.old)) }
     {
         for index in list {
-            emit(w, "\" \"")?;
+            emit_between_strings(w)?;
             self.emit_alone(asker, w, *index)?;
         }
         Ok(())

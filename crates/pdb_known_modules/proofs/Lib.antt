@@ -1,4 +1,3 @@
 pub mod KeptProcedures
 pub mod KeptRows
-pub mod KeptSteps
 pub mod SitesSteps

@@ -1,4 +1,3 @@
-pub mod Kept
 pub mod Modules
 pub mod ProcedureData
 pub mod PublicRows

@@ -2,14 +2,10 @@
 //! procedures, each read once and kept. It knows no names and no addresses of an image.
 #![tactic(auto)]
 
-mod kept;
 mod modules;
 mod procedure_data;
 mod public_rows;
 
-pub use kept::{
-    KeptModule, empty_places, keep_lines, keep_module, keep_procedure, keep_public_rows, known_at,
-};
 pub use modules::{
     BasicModuleInfo, ExtendedModuleInfo, get_basic_module_info, number_over, procedure_numbered,
     procedures_in, read_extended,

@@ -15,14 +15,14 @@ use std::alloc::Global;
 use std::collections::BTreeMap;
 
 /// The imports of modules that were read, each under its module's number.
-pub(crate) type KeptImports<'a> = BTreeMap<usize, CrossModuleImports<'a>>;
+pub type KeptImports<'a> = BTreeMap<usize, CrossModuleImports<'a>>;
 
 /// The exports of modules that were read, each under its module's number.
-pub(crate) type KeptExports<'a> = BTreeMap<usize, ModuleExports<'a>>;
+pub type KeptExports<'a> = BTreeMap<usize, ModuleExports<'a>>;
 
 /// Reads and keeps what the module of a number imports, unless it is kept. The module's fault, or that of its imports; nothing
 /// changes then, nor where memory is short.
-pub(crate) fn keep_imports<'a, P: ModuleProvider>(
+pub fn keep_imports<'a, P: ModuleProvider>(
     kept: &mut KeptImports<'a>,
     alloc: Global,
     provider: &'a P,
@@ -43,7 +43,7 @@ pub(crate) fn keep_imports<'a, P: ModuleProvider>(
 }
 
 /// Reads and keeps what the module of a number exports, as [`keep_imports`].
-pub(crate) fn keep_exports<'a, P: ModuleProvider>(
+pub fn keep_exports<'a, P: ModuleProvider>(
     kept: &mut KeptExports<'a>,
     alloc: Global,
     provider: &'a P,

@@ -12,7 +12,7 @@ use std::marker::Model;
 
 /// The exports of a module, and the first of each index as the module names it.
 #[derive(Drop)]
-pub(crate) struct ModuleExports<'a> {
+pub struct ModuleExports<'a> {
     exports: CrossModuleExports<'a>,
     /// Under each index as the module names it, the index in the database's table by the first export of it.
     firsts: BTreeMap<u32, u32>,
@@ -32,7 +32,7 @@ impl<'a> Model for ModuleExports<'a> {
 
 impl<'a> ModuleExports<'a> {
     /// These exports, which are gone over once.
-    pub(crate) fn read(
+    pub fn read(
         alloc: Global,
         exports: CrossModuleExports<'a>,
     ) -> Result<ModuleExports<'a>, AllocError>
@@ -43,7 +43,7 @@ impl<'a> ModuleExports<'a> {
     }
 
     /// The index in the database's table by the first export of an index as the module names it.
-    pub(crate) fn first(&self, local: u32) -> Option<u32>
+    pub fn first(&self, local: u32) -> Option<u32>
         ensures { result ≡ first_export self.now local }
     {
         self.firsts.get(&local).copied()

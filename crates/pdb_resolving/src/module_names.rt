@@ -15,14 +15,14 @@ use std::collections::BTreeMap;
 
 /// The numbers of modules by their names.
 #[derive(Drop)]
-pub(crate) struct ModuleNames {
+pub struct ModuleNames {
     /// Under each name, in ASCII lower case, the number of the last module of that name. `None` until a module was looked for.
     numbers: Option<BTreeMap<String, usize>>,
 }
 
 impl ModuleNames {
     /// No name was read yet.
-    pub(crate) fn new() -> ModuleNames
+    pub fn new() -> ModuleNames
         ensures { (modules : List entries.Module) → AreNames modules result }
     {
         ModuleNames { numbers: None }
@@ -31,12 +31,7 @@ impl ModuleNames {
     /// The number of the last module of a name, upper and lower case of ASCII letters apart. The names of the modules are read
     /// once and kept. `ModuleNameNotFound`, `OutOfMemory`.
     #[tactic(auto, using(crate::proofs::Steps::number_kept, crate::proofs::Steps::number_missing))]
-    pub(crate) fn number(
-        &mut self,
-        alloc: Global,
-        modules: &[Module<'_>],
-        name: &str,
-    ) -> Result<usize>
+    pub fn number(&mut self, alloc: Global, modules: &[Module<'_>], name: &str) -> Result<usize>
         requires { AreNames modules.now self.old }
         ensures kept { AreNames modules.now self.new }
         ensures value { Answers (λ n. n) result (numbered name.now modules.now) }

@@ -2,7 +2,7 @@
 
 /// A table of the module of a number, counted from 0.
 #[derive(Clone, Copy)]
-pub(crate) enum Table {
+pub enum Table {
     /// What the module imports.
     Imports(usize),
     /// What the module exports.

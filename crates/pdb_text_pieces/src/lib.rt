@@ -21,5 +21,6 @@ pub use path::{Seen, is_on};
 pub use pointers::{PointerLevel, emit_pointers, ends_in_sigil, leading_to, level_of};
 pub use text::{emit, emit_missing, emit_unread};
 pub use words::{
-    emit_bare_function, emit_bare_method, emit_constant, emit_scope_end, shown_return,
+    emit_bare_function, emit_bare_method, emit_between_strings, emit_constant, emit_scope_end,
+    shown_return,
 };

@@ -43,6 +43,13 @@ pub fn emit_scope_end(w: &mut String) -> Result<()>
     emit(w, "::")
 }
 
+/// Appends what stands between two strings of a list: it ends the one and begins the other.
+pub fn emit_between_strings(w: &mut String) -> Result<()>
+    ensures { Prints result (string_bytes w.new) (say (codes "\" \"") (string_bytes w.old)) }
+{
+    emit(w, "\" \"")
+}
+
 /// The type with which a function's text begins: none for a constructor, and none where a flag leaves it out, which it doesn't
 /// behind pointers.
 pub fn shown_return(

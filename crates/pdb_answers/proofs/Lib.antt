@@ -1,0 +1,4 @@
+pub mod FailedSteps
+pub mod FaultSteps
+pub mod KeptSteps
+pub mod KnownSteps

@@ -1,0 +1,12 @@
+pub mod KnownFailures
+pub use Rattle.pdb_frames.specs.Choice
+pub use Rattle.pdb_frames.specs.Failed
+pub use Rattle.pdb_frames.specs.Failing
+pub use Rattle.pdb_frames.specs.Frames
+pub use Rattle.pdb_frames.specs.MaybeOwned
+pub use Rattle.pdb_frames.specs.Parts
+pub use Rattle.pdb_frames.specs.Printing
+pub use Rattle.pdb_frames.specs.Runs
+pub use Rattle.pdb_frames.specs.Scopes
+pub use Rattle.pdb_kept_modules.specs.Kept
+pub use Rattle.pdb_kept_modules.specs.Modules

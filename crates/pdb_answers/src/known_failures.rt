@@ -1,0 +1,150 @@
+//! Which part fails in functions that were asked for, so that what can't be read isn't read again.
+
+ghost use Rattle.std.specs.Prelude.{◌≡◌, ◌↔◌, ℕ, true, Option, Some, IfSome};
+ghost use Rattle.pdb_frames.specs.Failed.{failing_in};
+ghost use Rattle.pdb_frames.specs.Choice.{start_of};
+ghost use Rattle.pdb_frames.specs.Seen.{chosen_seen};
+ghost use Rattle.pdb_kept_modules.specs.Modules.{ModuleData};
+ghost use Rattle.pdb_answers.specs.KnownFailures.{AreFailuresOf, IsAbout, those_failing, those_like};
+
+use pdb_addresses::PdbInternalSectionOffset;
+use pdb_frames::{Chosen, Part, number_of};
+use pdb_indices::SymbolIndex;
+use std::alloc::{AllocError, Global};
+use std::collections::BTreeMap;
+
+/// The functions of a module that something is known of.
+#[derive(Clone, Copy)]
+pub(crate) enum Asked {
+    /// All of them.
+    Module,
+    /// The procedure that begins at a place, with the place of its symbol and of the symbol that ends it.
+    Procedure(PdbInternalSectionOffset, SymbolIndex, SymbolIndex),
+    /// The public entry of a place.
+    Public(PdbInternalSectionOffset),
+}
+
+impl Asked {
+    /// Those like a chosen one.
+    fn like(chosen: Chosen<'_, '_>) -> Asked
+        ensures { result ≡ those_like (chosen_seen chosen.entry) }
+    {
+        match chosen {
+            Chosen::Procedure(_, procedure) => Asked::Procedure(
+                procedure.offset,
+                procedure.symbol_index,
+                procedure.end_symbol_index,
+            ),
+            Chosen::Public(public) => Asked::Public(public.start_offset),
+        }
+    }
+
+    /// Those in which a part fails that fails in a chosen one.
+    fn failing(chosen: Chosen<'_, '_>, part: Part) -> Asked
+        ensures { result ≡ those_failing (chosen_seen chosen.entry) part }
+    {
+        match part {
+            Part::ExtendedModule(_) => Asked::Module,
+            _ => Asked::like(chosen),
+        }
+    }
+
+    /// Whether a chosen function is one of them.
+    fn is_about(self, chosen: Chosen<'_, '_>) -> bool
+        ensures { (result ≡ true) ↔ IsAbout self (chosen_seen chosen.entry) }
+    {
+        match (self, chosen) {
+            (Asked::Module, _) => true,
+            (Asked::Procedure(start, symbol, end), Chosen::Procedure(_, procedure)) => {
+                procedure.offset == start
+                    && procedure.symbol_index == symbol
+                    && procedure.end_symbol_index == end
+            }
+            (Asked::Public(start), Chosen::Public(public)) => public.start_offset == start,
+            _ => false,
+        }
+    }
+}
+
+/// A part of the module of a number that can't be read, and the functions in whose frames it is the first such part.
+#[derive(Clone, Copy)]
+pub(crate) struct KnownFailure {
+    module_index: u16,
+    asked: Asked,
+    part: Part,
+}
+
+/// What is known of functions that were asked for and whose frames can't be read.
+#[derive(Drop)]
+pub struct KnownFailures {
+    /// Each under the number of a place in its module, or under that of the module.
+    by_number: BTreeMap<u64, KnownFailure>,
+}
+
+/// The number under which something is known of functions of a module. No clause says which it is: what is kept says itself what it
+/// is about.
+fn number_for(module_index: u16, asked: Asked) -> u64 {
+    match asked {
+        Asked::Module => u64::from(module_index),
+        Asked::Procedure(start, _, _) => number_of(module_index, start),
+        Asked::Public(start) => number_of(module_index, start),
+    }
+}
+
+impl KnownFailures {
+    /// Nothing is known yet.
+    pub fn new(alloc: Global) -> KnownFailures
+        ensures { (own : ℕ → Option ModuleData) → AreFailuresOf own result }
+    {
+        KnownFailures {
+            by_number: BTreeMap::new(alloc),
+        }
+    }
+
+    /// What is known under a number of a chosen function of a module.
+    #[tactic(auto, using(crate::proofs::KnownSteps::known_part))]
+    fn under(&self, number: u64, module_index: u16, chosen: Chosen<'_, '_>) -> Option<Part>
+        ensures { (own : ℕ → Option ModuleData) → AreFailuresOf own self.now → IfSome result (λ part. failing_in module_index (own module_index) (chosen_seen chosen.entry) ≡ Some part) }
+    {
+        match self.by_number.get(&number) {
+            Some(known) if known.module_index == module_index && known.asked.is_about(chosen) => {
+                Some(known.part)
+            }
+            _ => None,
+        }
+    }
+
+    /// The first part that can't be read of those that the frames in a chosen function of a module are made of, if that is known.
+    pub(crate) fn part(&self, module_index: u16, chosen: Chosen<'_, '_>) -> Option<Part>
+        ensures { (own : ℕ → Option ModuleData) → AreFailuresOf own self.now → IfSome result (λ part. failing_in module_index (own module_index) (chosen_seen chosen.entry) ≡ Some part) }
+    {
+        let of_module = number_for(module_index, Asked::Module);
+        if let Some(part) = self.under(of_module, module_index, chosen) {
+            return Some(part);
+        }
+        let of_function = number_for(module_index, Asked::like(chosen));
+        self.under(of_function, module_index, chosen)
+    }
+
+    /// Keeps the first part that can't be read of those that the frames in a chosen function of a module are made of. Nothing changes
+    /// of what is known where memory is short.
+    #[tactic(auto, using(crate::proofs::KnownSteps::known_now, crate::proofs::KnownSteps::known_before))]
+    pub(crate) fn keep(
+        &mut self,
+        module_index: u16,
+        chosen: Chosen<'_, '_>,
+        part: Part,
+    ) -> Result<(), AllocError>
+        ensures { (own : ℕ → Option ModuleData) → failing_in module_index (own module_index) (chosen_seen chosen.entry) ≡ Some part → AreFailuresOf own self.old → AreFailuresOf own self.new }
+    {
+        let asked = Asked::failing(chosen, part);
+        let known = KnownFailure {
+            module_index,
+            asked,
+            part,
+        };
+        self.by_number
+            .insert(number_for(module_index, asked), known)?;
+        Ok(())
+    }
+}

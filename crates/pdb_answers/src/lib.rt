@@ -1,0 +1,11 @@
+//! Answers at a place: the frames, the function, and how far it goes on, over what is kept of modules.
+#![tactic(auto)]
+
+mod answers;
+mod known_failures;
+
+pub use answers::{empty_modules, frames_here, function_here, run_here};
+pub use known_failures::KnownFailures;
+pub use pdb_contributions::ModuleSectionContribution;
+pub use pdb_frames::{ContextParts, Failures, Namer, TypeFormatter, maybe_owned};
+pub use pdb_kept_modules::{KeptModule, get_basic_module_info, procedures_in};

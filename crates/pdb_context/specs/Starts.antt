@@ -1,0 +1,43 @@
+-- Where functions begin: the image addresses of public entries and of all modules' procedures.
+use Rattle.std.specs.Prelude.{◌≡◌, ℕ, ◌+◌, ◌==◌, Bool, List, [], ◌∷◌, ◌++◌, map, Option, None, Some}
+use Rattle.std.specs.List.{flat_map, list_any}
+use Rattle.std.specs.List.Sorted.{IsStrictlySortedBy}
+use Rattle.std.specs.Ordering.{nat_cmp}
+use Rattle.pdb_addresses.specs.declared.internal_section_offset.PdbInternalSectionOffset.{PdbInternalSectionOffset}
+use Rattle.pdb_addresses.specs.Addresses.{Map, outer_of_place}
+use Rattle.pdb_symbols_modules.specs.Modules.{Module}
+use Rattle.pdb_answers.specs.Modules.{module_data, procedures_in}
+use Rattle.pdb_answers.specs.Choice.{Parts}
+use Rattle.pdb_answers.specs.Scopes.{Scope}
+
+-- a value that may be there, as a list
+abbrev pub if_any : {A : Type 0} → Option A → List A
+if_any None = []
+if_any (Some x) = x ∷ []
+
+-- the image addresses of places, of those that have one
+abbrev pub addresses_of : Map → List PdbInternalSectionOffset → List ℕ
+addresses_of map places = flat_map (λ p. if_any (outer_of_place map p.section p.offset)) places
+
+-- where the procedures of modules begin, from the module of a number on
+abbrev pub procedure_starts_from : (ℕ → Scope) → ℕ → List Module → List PdbInternalSectionOffset
+procedure_starts_from scope number [] = []
+procedure_starts_from scope number (entry ∷ entries) = map (λ q. q.offset) (procedures_in (module_data (scope number).own)) ++ procedure_starts_from scope (number + 1) entries
+
+-- where public entries and procedures begin, as image addresses
+abbrev pub start_addresses : Parts → (ℕ → Scope) → List Module → List ℕ
+start_addresses p scope entries = addresses_of p.map (map (λ f. f.start_offset) p.publics) ++ addresses_of p.map (procedure_starts_from scope 0 entries)
+
+-- a number is among others
+abbrev pub is_among : List ℕ → ℕ → Bool
+is_among numbers n = list_any (λ m. m == n) numbers
+
+-- the same numbers in ascending order, each once
+pub record IsAscending (numbers ascending : List ℕ) : Type 0 where
+  pub rising : IsStrictlySortedBy nat_cmp ascending
+  pub same : (n : ℕ) → is_among ascending n ≡ is_among numbers n
+
+-- the numbers that are kept, if they are, are the same in ascending order, each once
+abbrev pub AreStarts : List ℕ → Option (List ℕ) → Type 0
+AreStarts numbers None = Unit {0}
+AreStarts numbers (Some starts) = IsAscending numbers starts

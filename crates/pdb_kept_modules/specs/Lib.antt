@@ -1,0 +1,2 @@
+pub mod Kept
+pub use Rattle.pdb_known_modules.specs.Modules
