@@ -3,7 +3,7 @@
 use Rattle.std.specs.Prelude.{ℕ, List, Option, Some, None, Result, Ok, Err, length, drop, slice_index, nat_lt, ◌==◌, if◌then◌else◌}
 use Rattle.pdb_container.specs.Fault.{Fault, UnexpectedEof, UnimplementedSymbolKind, ◌>>=◌, refuse}
 use Rattle.pdb_container.specs.Container.{half_at, word_at}
-use Rattle.pdb_container.specs.Fields.{Reader, bytes_of, c_string_at, pascal_string_at}
+use Rattle.pdb_container.specs.Fields.{Reader, c_string_at, pascal_string_at}
 use Rattle.pdb_indices.specs.Bits.{has_bit}
 use Rattle.pdb_indices.specs.declared.numbers.SymbolIndex.{SymbolIndex}
 use Rattle.pdb_symbols.specs.declared.symbol_data.SeparatedCodeSymbol.{SeparatedCodeSymbol}
@@ -22,6 +22,13 @@ index_of n = if n == 0 then None else Some record { 0 = n }
 unfoldable pub symbol_name_at : ℕ → Reader (List ℕ)
 symbol_name_at kind bytes = if nat_lt kind 0x1100 then pascal_string_at bytes else c_string_at bytes
 
+-- the name behind so many bytes, which are all there
+unfoldable pub name_behind : ℕ → ℕ → List ℕ → Result (List ℕ) Fault
+name_behind kind front bytes = do
+  whole ← refuse (nat_lt (length bytes) front) UnexpectedEof
+  name ← symbol_name_at kind (drop front bytes)
+  Ok name.0
+
 -- ---- forms
 
 -- what the bytes before a public symbol's name say, by the places of their numbers: flags, and a place
@@ -38,9 +45,8 @@ public_in bytes name = record {
 -- S_PUB32: 10 bytes, and a name
 unfoldable pub public_of : ℕ → List ℕ → Result PublicForm Fault
 public_of kind bytes = do
-  front ← bytes_of 10 bytes
-  name ← symbol_name_at kind front.1
-  Ok (public_in front.0 name.0)
+  name ← name_behind kind 10 bytes
+  Ok (public_in bytes name)
 
 -- What a procedure's kind and the bytes before its name say, by the places of their numbers: indices, length, debug
 -- offsets, type, place, and flags.
@@ -63,9 +69,8 @@ procedure_in kind bytes name = record {
 -- S_GPROC32, S_LPROC32 and their like: 35 bytes, and a name
 unfoldable pub procedure_symbol_at : ℕ → List ℕ → Result ProcedureForm Fault
 procedure_symbol_at kind bytes = do
-  front ← bytes_of 35 bytes
-  name ← symbol_name_at kind front.1
-  Ok (procedure_in kind front.0 name.0)
+  name ← name_behind kind 35 bytes
+  Ok (procedure_in kind bytes name)
 
 -- What the bytes before a thunk's name say, by the places of their numbers: indices, a place, the length in bytes, and
 -- the kind of thunk.
@@ -83,9 +88,8 @@ thunk_in bytes name = record {
 -- S_THUNK32: 21 bytes, and a name
 unfoldable pub thunk_of : ℕ → List ℕ → Result ThunkForm Fault
 thunk_of kind bytes = do
-  front ← bytes_of 21 bytes
-  name ← symbol_name_at kind front.1
-  Ok (thunk_in front.0 name.0)
+  name ← name_behind kind 21 bytes
+  Ok (thunk_in bytes name)
 
 -- What separated code says, by the places of its numbers: indices, the length, flags, and two places, of which both
 -- offsets stand before both sections.

@@ -1,12 +1,12 @@
 //! What a symbol's bytes say.
 
-ghost use Rattle.std.specs.Prelude.{◌≡◌, ◌≤◌, length};
+ghost use Rattle.std.specs.Prelude.{◌≡◌, ◌≤◌, length, IfOk};
 ghost use Rattle.pdb_container.specs.Buffer.{rest, ParsesFront};
 ghost use Rattle.pdb_container.specs.Fault.{Parses};
 ghost use Rattle.pdb_container.specs.RawString.{raw_bytes};
 ghost use Rattle.pdb_symbols.specs.Forms as forms;
 ghost use Rattle.pdb_symbols.specs.Forms.{symbol_form, public_form, procedure_form, thunk_form, inline_site_form};
-ghost use Rattle.pdb_symbols.specs.Records.{index_of, symbol_name_at, inline_site_front, invocations_in as invocations_of, inline_site_in as inline_site_of_front, public_in as public_of_front, procedure_in as procedure_of_front, thunk_in as thunk_of_front, separated_code_in as separated_code_of_front, public_of, procedure_symbol_at, thunk_of, separated_code_of, inline_site_of, as_form, end_form, form_of, symbol_form_of};
+ghost use Rattle.pdb_symbols.specs.Records.{index_of, symbol_name_at, name_behind as name_behind_front, inline_site_front, invocations_in as invocations_of, inline_site_in as inline_site_of_front, public_in as public_of_front, procedure_in as procedure_of_front, thunk_in as thunk_of_front, separated_code_in as separated_code_of_front, public_of, procedure_symbol_at, thunk_of, separated_code_of, inline_site_of, as_form, end_form, form_of, symbol_form_of};
 
 use crate::kinds::{
     S_END, S_INLINESITE_END, S_INLINESITE2, S_PROC_ID_END, has_form, is_dpc, is_global,
@@ -92,14 +92,24 @@ fn parse_name<'t>(kind: u16, buffer: &mut ParseBuffer<'t>) -> Result<RawString<'
     }
 }
 
+/// The name behind so many bytes. `UnexpectedEof` where these aren't all there.
+#[tactic(auto, unfolding(crate::specs::Records::name_behind))]
+fn name_behind(kind: u16, front: usize, payload: &[u8]) -> Result<RawString<'_>>
+    ensures name { Parses raw_bytes result (name_behind_front kind front payload.now) }
+    ensures whole { IfOk result (λ _. front ≤ length payload.now) }
+{
+    if payload.len() < front {
+        return Err(Error::UnexpectedEof);
+    }
+    parse_name(kind, &mut ParseBuffer::from(&payload[front..]))
+}
+
 #[tactic(auto, unfolding(crate::specs::Records::public_of))]
 fn parse_public(kind: u16, payload: &[u8]) -> Result<SymbolData<'_>>
     ensures { Parses symbol_form result (as_form forms.Public (public_of kind payload.now)) }
 {
-    let mut buffer = ParseBuffer::from(payload);
-    let front = buffer.take(10)?;
-    let name = parse_name(kind, &mut buffer)?;
-    Ok(SymbolData::Public(public_in(front, name)))
+    let name = name_behind(kind, 10, payload)?;
+    Ok(SymbolData::Public(public_in(payload, name)))
 }
 
 /// What the 10 bytes before a public symbol's name say.
@@ -125,10 +135,8 @@ fn public_in<'t>(bytes: &[u8], name: RawString<'t>) -> PublicSymbol<'t>
 fn parse_procedure(kind: u16, payload: &[u8]) -> Result<SymbolData<'_>>
     ensures { Parses symbol_form result (as_form forms.Procedure (procedure_symbol_at kind payload.now)) }
 {
-    let mut buffer = ParseBuffer::from(payload);
-    let front = buffer.take(35)?;
-    let name = parse_name(kind, &mut buffer)?;
-    Ok(SymbolData::Procedure(procedure_in(kind, front, name)))
+    let name = name_behind(kind, 35, payload)?;
+    Ok(SymbolData::Procedure(procedure_in(kind, payload, name)))
 }
 
 /// What the 35 bytes before a procedure's name say.
@@ -159,10 +167,8 @@ fn procedure_in<'t>(kind: u16, bytes: &[u8], name: RawString<'t>) -> ProcedureSy
 fn parse_thunk(kind: u16, payload: &[u8]) -> Result<SymbolData<'_>>
     ensures { Parses symbol_form result (as_form forms.Thunk (thunk_of kind payload.now)) }
 {
-    let mut buffer = ParseBuffer::from(payload);
-    let front = buffer.take(21)?;
-    let name = parse_name(kind, &mut buffer)?;
-    Ok(SymbolData::Thunk(thunk_in(front, name)))
+    let name = name_behind(kind, 21, payload)?;
+    Ok(SymbolData::Thunk(thunk_in(payload, name)))
 }
 
 /// What the 21 bytes before a thunk's name say.
