@@ -125,13 +125,25 @@ bitfield_at bytes = do
 unfoldable pub unique_name_at : ℕ → TypeProperties → Reader (Option (List ℕ))
 unique_name_at leaf properties bytes = if names_unique properties then as_value Some (name_at leaf bytes) else Ok (None, bytes)
 
+-- the name, and the unique name where the properties say so
+unfoldable pub names_at : ℕ → TypeProperties → Reader (List ℕ × Option (List ℕ))
+names_at leaf properties bytes = do
+  name ← name_at leaf bytes
+  unique ← unique_name_at leaf properties name.1
+  Ok ((name.0, unique.0), unique.1)
+
+-- the size in bytes, the name, and the unique name where the properties say so
+unfoldable pub size_and_names_at : ℕ → TypeProperties → Reader (ℕ × (List ℕ × Option (List ℕ)))
+size_and_names_at leaf properties bytes = do
+  size ← numeric_at bytes
+  names ← names_at leaf properties size.1
+  Ok ((size.0, names.0), names.1)
+
 -- LF_CLASS, LF_STRUCTURE, LF_INTERFACE: counts and indices, the size in bytes, the name, and the unique name
 unfoldable pub class_at : ℕ → ClassKind → Reader ClassForm
 class_at leaf kind bytes = do
   front ← bytes_of 16 bytes
-  size ← numeric_at front.1
-  name ← name_at leaf size.1
-  unique ← unique_name_at leaf record { 0 = half_at front.0 2 } name.1
+  behind ← size_and_names_at leaf record { 0 = half_at front.0 2 } front.1
   Ok (
     record {
       kind = kind;
@@ -140,11 +152,11 @@ class_at leaf kind bytes = do
       fields = optional_type (word_at front.0 4);
       derived_from = optional_type (word_at front.0 8);
       vtable_shape = optional_type (word_at front.0 12);
-      size = size.0;
-      name = name.0;
-      unique_name = unique.0;
+      size = behind.0.0;
+      name = behind.0.1.0;
+      unique_name = behind.0.1.1;
     },
-    unique.1,
+    behind.1,
   )
 
 -- how many members, below 65536
@@ -159,9 +171,7 @@ unfoldable pub newer_struct_at : ℕ → Reader ClassForm
 newer_struct_at leaf bytes = do
   front ← bytes_of 16 bytes
   count ← field_count_at front.1
-  size ← numeric_at count.1
-  name ← name_at leaf size.1
-  unique ← unique_name_at leaf record { 0 = half_at front.0 0 } name.1
+  behind ← size_and_names_at leaf record { 0 = half_at front.0 0 } count.1
   Ok (
     record {
       kind = kinds.Struct;
@@ -170,48 +180,45 @@ newer_struct_at leaf bytes = do
       fields = optional_type (word_at front.0 4);
       derived_from = optional_type (word_at front.0 8);
       vtable_shape = optional_type (word_at front.0 12);
-      size = size.0;
-      name = name.0;
-      unique_name = unique.0;
+      size = behind.0.0;
+      name = behind.0.1.0;
+      unique_name = behind.0.1.1;
     },
-    unique.1,
+    behind.1,
   )
 
 -- LF_UNION: the count, properties, the members, the size in bytes, the name, and the unique name
 unfoldable pub union_at : ℕ → Reader UnionForm
 union_at leaf bytes = do
   front ← bytes_of 8 bytes
-  size ← numeric_at front.1
-  name ← name_at leaf size.1
-  unique ← unique_name_at leaf record { 0 = half_at front.0 2 } name.1
+  behind ← size_and_names_at leaf record { 0 = half_at front.0 2 } front.1
   Ok (
     record {
       count = half_at front.0 0;
       properties = record { 0 = half_at front.0 2 };
       fields = record { 0 = word_at front.0 4 };
-      size = size.0;
-      name = name.0;
-      unique_name = unique.0;
+      size = behind.0.0;
+      name = behind.0.1.0;
+      unique_name = behind.0.1.1;
     },
-    unique.1,
+    behind.1,
   )
 
 -- LF_ENUM: the count, properties, the type that holds a value, the values, the name, and the unique name
 unfoldable pub enumeration_at : ℕ → Reader EnumerationForm
 enumeration_at leaf bytes = do
   front ← bytes_of 12 bytes
-  name ← name_at leaf front.1
-  unique ← unique_name_at leaf record { 0 = half_at front.0 2 } name.1
+  names ← names_at leaf record { 0 = half_at front.0 2 } front.1
   Ok (
     record {
       count = half_at front.0 0;
       properties = record { 0 = half_at front.0 2 };
       underlying_type = record { 0 = word_at front.0 4 };
       fields = record { 0 = word_at front.0 8 };
-      name = name.0;
-      unique_name = unique.0;
+      name = names.0.0;
+      unique_name = names.0.1;
     },
-    unique.1,
+    names.1,
   )
 
 -- ---- members

@@ -7,8 +7,8 @@ ghost use Rattle.pdb_container.specs.RawString.{raw_bytes};
 ghost use Rattle.pdb_indices.specs.RecordFields.{as_value};
 ghost use Rattle.pdb_records.specs.Forms as forms;
 ghost use Rattle.pdb_records.specs.Forms.{Plain};
-ghost use Rattle.pdb_records.specs.Shapes.{shape, plain_shape};
-ghost use Rattle.pdb_records.specs.TypeRecords.{optional_type as type_or_none, half_and_type_at, two_types_at, modifier_in as modifier_of, procedure_in as procedure_of, member_function_in as member_function_of, modifier_at, pointer_front_at, containing_class_at, pointer_at, procedure_at, member_function_at, bitfield_at, unique_name_at, class_at, field_count_at, newer_struct_at, union_at, enumeration_at};
+ghost use Rattle.pdb_records.specs.Shapes.{shape, plain_shape, names_shape};
+ghost use Rattle.pdb_records.specs.TypeRecords.{optional_type as type_or_none, half_and_type_at, two_types_at, modifier_in as modifier_of, procedure_in as procedure_of, member_function_in as member_function_of, modifier_at, pointer_front_at, containing_class_at, pointer_at, procedure_at, member_function_at, bitfield_at, unique_name_at, names_at, size_and_names_at, class_at, field_count_at, newer_struct_at, union_at, enumeration_at};
 
 use crate::type_attributes::{FunctionAttributes, PointerAttributes, TypeProperties};
 use crate::type_data::{
@@ -184,6 +184,34 @@ fn parse_unique_name<'t>(
     Ok(Some(parse_name(buffer, leaf)?))
 }
 
+/// The name, and the unique name where the properties say that it has one.
+#[tactic(auto, unfolding(crate::specs::TypeRecords::names_at))]
+fn parse_names<'t>(
+    buffer: &mut ParseBuffer<'t>,
+    leaf: u16,
+    properties: TypeProperties,
+) -> Result<(RawString<'t>, Option<RawString<'t>>)>
+    ensures { ParsesFront names_shape result (rest buffer.new) (names_at leaf properties (rest buffer.old)) }
+{
+    let name = parse_name(buffer, leaf)?;
+    let unique_name = parse_unique_name(buffer, leaf, properties)?;
+    Ok((name, unique_name))
+}
+
+/// The size in bytes, and the names.
+#[tactic(auto, unfolding(crate::specs::TypeRecords::size_and_names_at))]
+fn parse_size_and_names<'t>(
+    buffer: &mut ParseBuffer<'t>,
+    leaf: u16,
+    properties: TypeProperties,
+) -> Result<(u64, (RawString<'t>, Option<RawString<'t>>))>
+    ensures { ParsesFront (λ x. (x.0, names_shape x.1)) result (rest buffer.new) (size_and_names_at leaf properties (rest buffer.old)) }
+{
+    let size = parse_numeric(buffer)?;
+    let names = parse_names(buffer, leaf, properties)?;
+    Ok((size, names))
+}
+
 /// `LF_CLASS`, `LF_STRUCTURE`, `LF_INTERFACE`, by its leaf.
 #[tactic(auto, unfolding(crate::specs::TypeRecords::class_at))]
 pub fn parse_class<'t>(
@@ -196,9 +224,7 @@ pub fn parse_class<'t>(
 {
     let front = buffer.take(16)?;
     let properties = TypeProperties::new(half_at(front, 2));
-    let size = parse_numeric(buffer)?;
-    let name = parse_name(buffer, leaf)?;
-    let unique_name = parse_unique_name(buffer, leaf, properties)?;
+    let (size, (name, unique_name)) = parse_size_and_names(buffer, leaf, properties)?;
     Ok(TypeData::Class(ClassType {
         kind,
         count: half_at(front, 0),
@@ -233,9 +259,7 @@ pub fn parse_newer_struct<'t>(buffer: &mut ParseBuffer<'t>, leaf: u16) -> Result
     let front = buffer.take(16)?;
     let properties = TypeProperties::new(half_at(front, 0));
     let count = parse_field_count(buffer)?;
-    let size = parse_numeric(buffer)?;
-    let name = parse_name(buffer, leaf)?;
-    let unique_name = parse_unique_name(buffer, leaf, properties)?;
+    let (size, (name, unique_name)) = parse_size_and_names(buffer, leaf, properties)?;
     Ok(TypeData::Class(ClassType {
         kind: ClassKind::Struct,
         count,
@@ -257,9 +281,7 @@ pub fn parse_union<'t>(buffer: &mut ParseBuffer<'t>, leaf: u16) -> Result<TypeDa
 {
     let front = buffer.take(8)?;
     let properties = TypeProperties::new(half_at(front, 2));
-    let size = parse_numeric(buffer)?;
-    let name = parse_name(buffer, leaf)?;
-    let unique_name = parse_unique_name(buffer, leaf, properties)?;
+    let (size, (name, unique_name)) = parse_size_and_names(buffer, leaf, properties)?;
     Ok(TypeData::Union(UnionType {
         count: half_at(front, 0),
         properties,
@@ -278,8 +300,7 @@ pub fn parse_enumeration<'t>(buffer: &mut ParseBuffer<'t>, leaf: u16) -> Result<
 {
     let front = buffer.take(12)?;
     let properties = TypeProperties::new(half_at(front, 2));
-    let name = parse_name(buffer, leaf)?;
-    let unique_name = parse_unique_name(buffer, leaf, properties)?;
+    let (name, unique_name) = parse_names(buffer, leaf, properties)?;
     Ok(TypeData::Enumeration(EnumerationType {
         count: half_at(front, 0),
         properties,
