@@ -1,32 +1,41 @@
 -- Records of ids, by their leaves (LF_*): fields in order, and the fault of the first that can't be read.
 -- The layouts are those of microsoft-pdb's cvinfo.h (LF_FUNC_ID to LF_UDT_MOD_SRC_LINE), as the pdb crate reads them.
-use Rattle.std.specs.Prelude.{ℕ, List, Result, Ok, Err, ◌==◌, if◌then◌else◌}
+use Rattle.std.specs.Prelude.{ℕ, ◌||◌, List, Option, None, Some, Result, Ok, Err, ◌==◌, if◌then◌else◌}
 use Rattle.std.specs.Int.{w16, w32}
 use Rattle.pdb_container.specs.Fault.{Fault, UnimplementedTypeKind, ◌>>=◌}
-use Rattle.pdb_container.specs.Fields.{Reader, number_at}
+use Rattle.pdb_container.specs.Container.{half_at, word_at}
+use Rattle.pdb_container.specs.Fields.{Reader, bytes_of, number_at}
 use Rattle.pdb_indices.specs.declared.index.TypeIndex.{TypeIndex}
 use Rattle.pdb_indices.specs.declared.index.IdIndex.{IdIndex}
 use Rattle.pdb_records.specs.declared.id_data.UserDefinedTypeSourceFileRef.TheVariants as files
 use Rattle.pdb_records.specs.declared.id_data.UserDefinedTypeSourceId.{UserDefinedTypeSourceId}
 use Rattle.pdb_records.specs.IdForms as forms
 use Rattle.pdb_records.specs.IdForms.{IdForm, FunctionForm, MemberFunctionForm, StringForm}
-use Rattle.pdb_indices.specs.RecordFields.{type_index_at, id_index_at, optional_id_index_at, name_at, many_at, as_value}
+use Rattle.pdb_indices.specs.RecordFields.{type_index_at, id_index_at, name_at, many_at, as_value}
+
+-- the id that a number names: none for 0 and for 0xffff
+abbrev pub optional_id : ℕ → Option IdIndex
+optional_id n = if n == 0 || n == 0xffff then None else Some record { 0 = n }
+
+-- two numbers in four bytes each
+abbrev pub two_words_at : Reader (ℕ × ℕ)
+two_words_at bytes = do
+  front ← bytes_of 8 bytes
+  Ok ((word_at front.0 0, word_at front.0 4), front.1)
 
 -- LF_FUNC_ID: the scope if there is one, the function's type, and the name
 unfoldable pub function_id_at : ℕ → Reader FunctionForm
 function_id_at leaf bytes = do
-  scope ← optional_id_index_at bytes
-  type ← type_index_at scope.1
-  name ← name_at leaf type.1
-  Ok (record { scope = scope.0; function_type = type.0; name = name.0 }, name.1)
+  front ← two_words_at bytes
+  name ← name_at leaf front.1
+  Ok (record { scope = optional_id front.0.0; function_type = record { 0 = front.0.1 }; name = name.0 }, name.1)
 
 -- LF_MFUNC_ID: the class, the method's type, and the name
 unfoldable pub member_function_id_at : ℕ → Reader MemberFunctionForm
 member_function_id_at leaf bytes = do
-  parent ← type_index_at bytes
-  type ← type_index_at parent.1
-  name ← name_at leaf type.1
-  Ok (record { parent = parent.0; function_type = type.0; name = name.0 }, name.1)
+  front ← two_words_at bytes
+  name ← name_at leaf front.1
+  Ok (record { parent = record { 0 = front.0.0 }; function_type = record { 0 = front.0.1 }; name = name.0 }, name.1)
 
 -- LF_BUILDINFO: ids of texts, behind their count in two bytes
 unfoldable pub build_info_at : Reader (List IdIndex)
@@ -43,26 +52,38 @@ string_list_at bytes = do
 -- LF_STRING_ID: the list of its parts if there is one, and the text
 unfoldable pub string_at : ℕ → Reader StringForm
 string_at leaf bytes = do
-  substrings ← optional_id_index_at bytes
+  substrings ← number_at w32 bytes
   name ← name_at leaf substrings.1
-  Ok (record { substrings = substrings.0; name = name.0 }, name.1)
+  Ok (record { substrings = optional_id substrings.0; name = name.0 }, name.1)
 
--- LF_UDT_SRC_LINE: a type, the id of a file's name, and the line at which the type begins
+-- what a type's place says, by the places of its numbers: a type, the id of a file's name, and the line
+abbrev pub source_in : List ℕ → UserDefinedTypeSourceId
+source_in bytes = record {
+  udt = record { 0 = word_at bytes 0 };
+  source_file = files.Local record { 0 = word_at bytes 4 };
+  line = word_at bytes 8;
+}
+
+-- LF_UDT_SRC_LINE, where a type begins: 12 bytes
 unfoldable pub source_at : Reader UserDefinedTypeSourceId
 source_at bytes = do
-  type ← type_index_at bytes
-  file ← id_index_at type.1
-  line ← number_at w32 file.1
-  Ok (record { udt = type.0; source_file = files.Local file.0; line = line.0 }, line.1)
+  front ← bytes_of 12 bytes
+  Ok (source_in front.0, front.1)
 
--- LF_UDT_MOD_SRC_LINE: a type, its file's offset in the string table, the line, and the module's number
+-- What a type's place in a module says, by the places of its numbers: a type, its file's offset in the string table, the
+-- line, and the module's number.
+abbrev pub module_source_in : List ℕ → UserDefinedTypeSourceId
+module_source_in bytes = record {
+  udt = record { 0 = word_at bytes 0 };
+  source_file = files.Remote (half_at bytes 12) record { 0 = word_at bytes 4 };
+  line = word_at bytes 8;
+}
+
+-- LF_UDT_MOD_SRC_LINE, where a type begins in a module: 14 bytes
 unfoldable pub module_source_at : Reader UserDefinedTypeSourceId
 module_source_at bytes = do
-  type ← type_index_at bytes
-  file ← number_at w32 type.1
-  line ← number_at w32 file.1
-  owner ← number_at w16 line.1
-  Ok (record { udt = type.0; source_file = files.Remote owner.0 record { 0 = file.0 }; line = line.0 }, owner.1)
+  front ← bytes_of 14 bytes
+  Ok (module_source_in front.0, front.1)
 
 -- the record behind its leaf (LF_FUNC_ID to LF_UDT_MOD_SRC_LINE), and the bytes behind it
 abbrev pub id_at : ℕ → Reader IdForm

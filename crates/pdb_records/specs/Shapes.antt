@@ -1,6 +1,7 @@
 -- What a type's value says, as a form.
-use Rattle.std.specs.Prelude.{map, option_map}
+use Rattle.std.specs.Prelude.{ℕ, List, Option, map, option_map}
 use Rattle.pdb_container.specs.RawString.{raw_bytes}
+use Rattle.pdb_container.specs.declared.raw_string.RawString.{RawString}
 use Rattle.pdb_records.specs.declared.type_data.ClassType.{ClassType}
 use Rattle.pdb_records.specs.declared.type_data.MemberType.{MemberType}
 use Rattle.pdb_records.specs.declared.type_data.OverloadedMethodType.{OverloadedMethodType}
@@ -19,6 +20,10 @@ use Rattle.pdb_records.specs.declared.parse_record.FieldEntry.TheVariants as ent
 use Rattle.pdb_records.specs.TypeLeaves.{FieldForm, Field, Continuation, Padding}
 use Rattle.pdb_records.specs.Forms as forms
 use Rattle.pdb_records.specs.Forms.{PlainForm, TypeForm}
+
+-- what a name and a unique name say
+abbrev pub names_shape : RawString × Option RawString → List ℕ × Option (List ℕ)
+names_shape names = (raw_bytes names.0, option_map raw_bytes names.1)
 
 -- what the value of a class, struct or interface says
 abbrev pub class_form : ClassType → forms.ClassForm

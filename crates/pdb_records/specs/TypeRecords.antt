@@ -1,8 +1,9 @@
 -- Records of types, by their leaves (LF_*): fields in order, and the fault of the first that can't be read.
 -- The layouts are those of microsoft-pdb's cvinfo.h and of LLVM's CodeView Type Records, as the pdb crate reads them.
-use Rattle.std.specs.Prelude.{ℕ, zero, suc, ◌-◌, ◌^◌, Bool, not, List, [], ◌∷◌, length, Option, Some, None, Ok, Err, nat_lt, ◌==◌, if◌then◌else◌, codes}
+use Rattle.std.specs.Prelude.{ℕ, zero, suc, ◌-◌, ◌^◌, ◌||◌, Bool, not, List, [], ◌∷◌, length, slice_index, Option, Some, None, Ok, Err, nat_lt, ◌==◌, if◌then◌else◌, codes}
 use Rattle.std.specs.Int.{w8, w16, w32}
 use Rattle.pdb_container.specs.Fault.{UnexpectedEof, UnimplementedFeature, ◌>>=◌, refuse}
+use Rattle.pdb_container.specs.Container.{half_at, word_at}
 use Rattle.pdb_container.specs.Fields.{Reader, number_at, bytes_of, entries}
 use Rattle.pdb_indices.specs.declared.index.TypeIndex.{TypeIndex}
 use Rattle.pdb_records.specs.declared.type_attributes.FieldAttributes.{FieldAttributes}
@@ -22,25 +23,49 @@ use Rattle.pdb_indices.specs.Bits.{has_bit}
 use Rattle.pdb_records.specs.declared.type_attributes.TypeProperties.{TypeProperties}
 use Rattle.pdb_records.specs.Attributes.{introduces, is_known_pointer, is_to_member, names_unique}
 use Rattle.pdb_records.specs.Forms.{ClassForm, MemberForm, OverloadedMethodForm, MethodForm, StaticMemberForm, NestedForm, EnumerationForm, EnumerateForm, ArrayForm, UnionForm}
-use Rattle.pdb_indices.specs.RecordFields.{type_index_at, optional_type_index_at, numeric_at, variant_at, name_at, as_value, many_at}
+use Rattle.pdb_indices.specs.RecordFields.{type_index_at, numeric_at, variant_at, name_at, as_value, many_at}
 
--- ---- attributes
+-- ---- numbers that stand first
 
--- attributes of a pointer, whose kind and mode are known
-unfoldable pub pointer_attributes_at : Reader PointerAttributes
-pointer_attributes_at bytes = do
-  n ← number_at w32 bytes
-  unknown ← refuse (not (is_known_pointer record { 0 = n.0 })) (UnimplementedFeature (codes "pointer kind or mode"))
-  Ok (record { 0 = n.0 }, n.1)
+-- the type that a number names: none for 0 and for 0xffff
+abbrev pub optional_type : ℕ → Option TypeIndex
+optional_type n = if n == 0 || n == 0xffff then None else Some record { 0 = n }
+
+-- a number in two bytes, and a type
+abbrev pub half_and_type_at : Reader (ℕ × TypeIndex)
+half_and_type_at bytes = do
+  front ← bytes_of 6 bytes
+  Ok ((half_at front.0 0, record { 0 = word_at front.0 2 }), front.1)
+
+-- two types
+abbrev pub two_types_at : Reader (TypeIndex × TypeIndex)
+two_types_at bytes = do
+  front ← bytes_of 8 bytes
+  Ok ((record { 0 = word_at front.0 0 }, record { 0 = word_at front.0 4 }), front.1)
+
+-- a pointer's type, and its attributes, whose kind and mode are known
+unfoldable pub pointer_front_at : Reader (TypeIndex × PointerAttributes)
+pointer_front_at bytes = do
+  front ← bytes_of 8 bytes
+  unknown ← refuse (not (is_known_pointer record { 0 = word_at front.0 4 })) (UnimplementedFeature (codes "pointer kind or mode"))
+  Ok ((record { 0 = word_at front.0 0 }, record { 0 = word_at front.0 4 }), front.1)
 
 -- ---- types of values
 
--- LF_MODIFIER: a type, and whether it is constant, volatile or unaligned
+-- what a modifier says, by the places of its numbers: a type, and whether it is constant, volatile or unaligned
+abbrev pub modifier_in : List ℕ → ModifierType
+modifier_in bytes = record {
+  underlying_type = record { 0 = word_at bytes 0 };
+  constant = has_bit (half_at bytes 4) 1;
+  volatile = has_bit (half_at bytes 4) 2;
+  unaligned = has_bit (half_at bytes 4) 4;
+}
+
+-- LF_MODIFIER, 6 bytes
 unfoldable pub modifier_at : Reader ModifierType
 modifier_at bytes = do
-  underlying ← type_index_at bytes
-  words ← number_at w16 underlying.1
-  Ok (record { underlying_type = underlying.0; constant = has_bit words.0 1; volatile = has_bit words.0 2; unaligned = has_bit words.0 4 }, words.1)
+  front ← bytes_of 6 bytes
+  Ok (modifier_in front.0, front.1)
 
 -- the class of a pointer to a member or a method
 unfoldable pub containing_class_at : PointerAttributes → Reader (Option TypeIndex)
@@ -49,58 +74,50 @@ containing_class_at attributes bytes = if is_to_member attributes then as_value 
 -- LF_POINTER: a type, attributes, and the class of a pointer to a member or a method
 unfoldable pub pointer_at : Reader PointerType
 pointer_at bytes = do
-  underlying ← type_index_at bytes
-  attributes ← pointer_attributes_at underlying.1
-  class ← containing_class_at attributes.0 attributes.1
-  Ok (record { underlying_type = underlying.0; attributes = attributes.0; containing_class = class.0 }, class.1)
+  front ← pointer_front_at bytes
+  class ← containing_class_at front.0.1 front.1
+  Ok (record { underlying_type = front.0.0; attributes = front.0.1; containing_class = class.0 }, class.1)
 
--- LF_PROCEDURE: the returned type if there is one, attributes, the number of parameters, and their list
+-- What a function's type says, by the places of its numbers: the returned type if there is one, attributes, the number
+-- of parameters, and their list.
+abbrev pub procedure_in : List ℕ → ProcedureType
+procedure_in bytes = record {
+  return_type = optional_type (word_at bytes 0);
+  attributes = record { 0 = half_at bytes 4 };
+  parameter_count = half_at bytes 6;
+  argument_list = record { 0 = word_at bytes 8 };
+}
+
+-- LF_PROCEDURE, 12 bytes
 unfoldable pub procedure_at : Reader ProcedureType
 procedure_at bytes = do
-  returned ← optional_type_index_at bytes
-  attributes ← number_at w16 returned.1
-  count ← number_at w16 attributes.1
-  list ← type_index_at count.1
-  Ok (
-    record {
-      return_type = returned.0;
-      attributes = record { 0 = attributes.0 };
-      parameter_count = count.0;
-      argument_list = list.0;
-    },
-    list.1,
-  )
+  front ← bytes_of 12 bytes
+  Ok (procedure_in front.0, front.1)
 
--- LF_MFUNCTION: the returned type, the class, the type of `this`, what LF_PROCEDURE has, an adjustment
+-- What a method's type says, by the places of its numbers: the returned type, the class, the type of `this` if there is
+-- one, attributes, the number of parameters, their list, and an adjustment.
+abbrev pub member_function_in : List ℕ → MemberFunctionType
+member_function_in bytes = record {
+  return_type = record { 0 = word_at bytes 0 };
+  class_type = record { 0 = word_at bytes 4 };
+  this_pointer_type = optional_type (word_at bytes 8);
+  attributes = record { 0 = half_at bytes 12 };
+  parameter_count = half_at bytes 14;
+  argument_list = record { 0 = word_at bytes 16 };
+  this_adjustment = word_at bytes 20;
+}
+
+-- LF_MFUNCTION, 24 bytes
 unfoldable pub member_function_at : Reader MemberFunctionType
 member_function_at bytes = do
-  returned ← type_index_at bytes
-  class ← type_index_at returned.1
-  this ← optional_type_index_at class.1
-  attributes ← number_at w16 this.1
-  count ← number_at w16 attributes.1
-  list ← type_index_at count.1
-  adjustment ← number_at w32 list.1
-  Ok (
-    record {
-      return_type = returned.0;
-      class_type = class.0;
-      this_pointer_type = this.0;
-      attributes = record { 0 = attributes.0 };
-      parameter_count = count.0;
-      argument_list = list.0;
-      this_adjustment = adjustment.0;
-    },
-    adjustment.1,
-  )
+  front ← bytes_of 24 bytes
+  Ok (member_function_in front.0, front.1)
 
 -- LF_BITFIELD: a type, the number of bits, and the place of the lowest
 unfoldable pub bitfield_at : Reader BitfieldType
 bitfield_at bytes = do
-  underlying ← type_index_at bytes
-  size ← number_at w8 underlying.1
-  position ← number_at w8 size.1
-  Ok (record { underlying_type = underlying.0; length = size.0; position = position.0 }, position.1)
+  front ← bytes_of 6 bytes
+  Ok (record { underlying_type = record { 0 = word_at front.0 0 }; length = slice_index front.0 4; position = slice_index front.0 5 }, front.1)
 
 -- ---- types with members
 
@@ -108,30 +125,38 @@ bitfield_at bytes = do
 unfoldable pub unique_name_at : ℕ → TypeProperties → Reader (Option (List ℕ))
 unique_name_at leaf properties bytes = if names_unique properties then as_value Some (name_at leaf bytes) else Ok (None, bytes)
 
+-- the name, and the unique name where the properties say so
+unfoldable pub names_at : ℕ → TypeProperties → Reader (List ℕ × Option (List ℕ))
+names_at leaf properties bytes = do
+  name ← name_at leaf bytes
+  unique ← unique_name_at leaf properties name.1
+  Ok ((name.0, unique.0), unique.1)
+
+-- the size in bytes, the name, and the unique name where the properties say so
+unfoldable pub size_and_names_at : ℕ → TypeProperties → Reader (ℕ × (List ℕ × Option (List ℕ)))
+size_and_names_at leaf properties bytes = do
+  size ← numeric_at bytes
+  names ← names_at leaf properties size.1
+  Ok ((size.0, names.0), names.1)
+
 -- LF_CLASS, LF_STRUCTURE, LF_INTERFACE: counts and indices, the size in bytes, the name, and the unique name
 unfoldable pub class_at : ℕ → ClassKind → Reader ClassForm
 class_at leaf kind bytes = do
-  count ← number_at w16 bytes
-  properties ← number_at w16 count.1
-  fields ← optional_type_index_at properties.1
-  derived ← optional_type_index_at fields.1
-  vtable ← optional_type_index_at derived.1
-  size ← numeric_at vtable.1
-  name ← name_at leaf size.1
-  unique ← unique_name_at leaf record { 0 = properties.0 } name.1
+  front ← bytes_of 16 bytes
+  behind ← size_and_names_at leaf record { 0 = half_at front.0 2 } front.1
   Ok (
     record {
       kind = kind;
-      count = count.0;
-      properties = record { 0 = properties.0 };
-      fields = fields.0;
-      derived_from = derived.0;
-      vtable_shape = vtable.0;
-      size = size.0;
-      name = name.0;
-      unique_name = unique.0;
+      count = half_at front.0 0;
+      properties = record { 0 = half_at front.0 2 };
+      fields = optional_type (word_at front.0 4);
+      derived_from = optional_type (word_at front.0 8);
+      vtable_shape = optional_type (word_at front.0 12);
+      size = behind.0.0;
+      name = behind.0.1.0;
+      unique_name = behind.0.1.1;
     },
-    unique.1,
+    behind.1,
   )
 
 -- how many members, below 65536
@@ -144,70 +169,56 @@ field_count_at bytes = do
 -- LF_STRUCTURE19, a struct as newer compilers write it: the count stands behind the indices
 unfoldable pub newer_struct_at : ℕ → Reader ClassForm
 newer_struct_at leaf bytes = do
-  properties ← number_at w16 bytes
-  unused ← number_at w16 properties.1
-  fields ← optional_type_index_at unused.1
-  derived ← optional_type_index_at fields.1
-  vtable ← optional_type_index_at derived.1
-  count ← field_count_at vtable.1
-  size ← numeric_at count.1
-  name ← name_at leaf size.1
-  unique ← unique_name_at leaf record { 0 = properties.0 } name.1
+  front ← bytes_of 16 bytes
+  count ← field_count_at front.1
+  behind ← size_and_names_at leaf record { 0 = half_at front.0 0 } count.1
   Ok (
     record {
       kind = kinds.Struct;
       count = count.0;
-      properties = record { 0 = properties.0 };
-      fields = fields.0;
-      derived_from = derived.0;
-      vtable_shape = vtable.0;
-      size = size.0;
-      name = name.0;
-      unique_name = unique.0;
+      properties = record { 0 = half_at front.0 0 };
+      fields = optional_type (word_at front.0 4);
+      derived_from = optional_type (word_at front.0 8);
+      vtable_shape = optional_type (word_at front.0 12);
+      size = behind.0.0;
+      name = behind.0.1.0;
+      unique_name = behind.0.1.1;
     },
-    unique.1,
+    behind.1,
   )
 
 -- LF_UNION: the count, properties, the members, the size in bytes, the name, and the unique name
 unfoldable pub union_at : ℕ → Reader UnionForm
 union_at leaf bytes = do
-  count ← number_at w16 bytes
-  properties ← number_at w16 count.1
-  fields ← type_index_at properties.1
-  size ← numeric_at fields.1
-  name ← name_at leaf size.1
-  unique ← unique_name_at leaf record { 0 = properties.0 } name.1
+  front ← bytes_of 8 bytes
+  behind ← size_and_names_at leaf record { 0 = half_at front.0 2 } front.1
   Ok (
     record {
-      count = count.0;
-      properties = record { 0 = properties.0 };
-      fields = fields.0;
-      size = size.0;
-      name = name.0;
-      unique_name = unique.0;
+      count = half_at front.0 0;
+      properties = record { 0 = half_at front.0 2 };
+      fields = record { 0 = word_at front.0 4 };
+      size = behind.0.0;
+      name = behind.0.1.0;
+      unique_name = behind.0.1.1;
     },
-    unique.1,
+    behind.1,
   )
 
 -- LF_ENUM: the count, properties, the type that holds a value, the values, the name, and the unique name
 unfoldable pub enumeration_at : ℕ → Reader EnumerationForm
 enumeration_at leaf bytes = do
-  count ← number_at w16 bytes
-  properties ← number_at w16 count.1
-  underlying ← type_index_at properties.1
-  fields ← type_index_at underlying.1
-  name ← name_at leaf fields.1
-  unique ← unique_name_at leaf record { 0 = properties.0 } name.1
+  front ← bytes_of 12 bytes
+  names ← names_at leaf record { 0 = half_at front.0 2 } front.1
   Ok (
     record {
-      count = count.0;
-      properties = record { 0 = properties.0 };
-      underlying_type = underlying.0;
-      fields = fields.0;
-      name = name.0;
-      unique_name = unique.0;
+      count = half_at front.0 0;
+      properties = record { 0 = half_at front.0 2 };
+      underlying_type = record { 0 = word_at front.0 4 };
+      fields = record { 0 = word_at front.0 8 };
+      name = names.0.0;
+      unique_name = names.0.1;
     },
-    unique.1,
+    names.1,
   )
 
 -- ---- members
@@ -223,27 +234,24 @@ enumerate_at leaf bytes = do
 -- LF_MEMBER: attributes, the type, the offset in bytes, and the name
 unfoldable pub member_at : ℕ → Reader MemberForm
 member_at leaf bytes = do
-  attributes ← number_at w16 bytes
-  type ← type_index_at attributes.1
-  offset ← numeric_at type.1
+  front ← half_and_type_at bytes
+  offset ← numeric_at front.1
   name ← name_at leaf offset.1
-  Ok (record { attributes = record { 0 = attributes.0 }; field_type = type.0; offset = offset.0; name = name.0 }, name.1)
+  Ok (record { attributes = record { 0 = front.0.0 }; field_type = front.0.1; offset = offset.0; name = name.0 }, name.1)
 
 -- LF_STMEMBER: attributes, the type, and the name
 unfoldable pub static_member_at : ℕ → Reader StaticMemberForm
 static_member_at leaf bytes = do
-  attributes ← number_at w16 bytes
-  type ← type_index_at attributes.1
-  name ← name_at leaf type.1
-  Ok (record { attributes = record { 0 = attributes.0 }; field_type = type.0; name = name.0 }, name.1)
+  front ← half_and_type_at bytes
+  name ← name_at leaf front.1
+  Ok (record { attributes = record { 0 = front.0.0 }; field_type = front.0.1; name = name.0 }, name.1)
 
 -- LF_METHOD: how many methods have the name, their list, and the name
 unfoldable pub overloaded_method_at : ℕ → Reader OverloadedMethodForm
 overloaded_method_at leaf bytes = do
-  count ← number_at w16 bytes
-  list ← type_index_at count.1
-  name ← name_at leaf list.1
-  Ok (record { count = count.0; method_list = list.0; name = name.0 }, name.1)
+  front ← half_and_type_at bytes
+  name ← name_at leaf front.1
+  Ok (record { count = front.0.0; method_list = front.0.1; name = name.0 }, name.1)
 
 -- the place in the table of methods, of a method that introduces one
 unfoldable pub vtable_offset_at : FieldAttributes → Reader (Option ℕ)
@@ -252,42 +260,37 @@ vtable_offset_at attributes bytes = if introduces attributes then as_value Some 
 -- LF_ONEMETHOD: attributes, the type, the offset in the virtual table if it introduces a method, and the name
 unfoldable pub method_at : ℕ → Reader MethodForm
 method_at leaf bytes = do
-  attributes ← number_at w16 bytes
-  type ← type_index_at attributes.1
-  offset ← vtable_offset_at record { 0 = attributes.0 } type.1
+  front ← half_and_type_at bytes
+  offset ← vtable_offset_at record { 0 = front.0.0 } front.1
   name ← name_at leaf offset.1
-  Ok (record { attributes = record { 0 = attributes.0 }; method_type = type.0; vtable_offset = offset.0; name = name.0 }, name.1)
+  Ok (record { attributes = record { 0 = front.0.0 }; method_type = front.0.1; vtable_offset = offset.0; name = name.0 }, name.1)
 
 -- LF_NESTTYPE, LF_NESTTYPEEX: attributes, the type, and the name
 unfoldable pub nested_at : ℕ → Reader NestedForm
 nested_at leaf bytes = do
-  attributes ← number_at w16 bytes
-  type ← type_index_at attributes.1
-  name ← name_at leaf type.1
-  Ok (record { attributes = record { 0 = attributes.0 }; nested_type = type.0; name = name.0 }, name.1)
+  front ← half_and_type_at bytes
+  name ← name_at leaf front.1
+  Ok (record { attributes = record { 0 = front.0.0 }; nested_type = front.0.1; name = name.0 }, name.1)
 
 -- LF_BCLASS, LF_BINTERFACE: attributes, the class, and its offset in bytes
 unfoldable pub base_class_at : ClassKind → Reader BaseClassType
 base_class_at kind bytes = do
-  attributes ← number_at w16 bytes
-  class ← type_index_at attributes.1
-  offset ← numeric_at class.1
-  Ok (record { kind = kind; attributes = record { 0 = attributes.0 }; base_class = class.0; offset = offset.0 }, offset.1)
+  front ← half_and_type_at bytes
+  offset ← numeric_at front.1
+  Ok (record { kind = kind; attributes = record { 0 = front.0.0 }; base_class = front.0.1; offset = offset.0 }, offset.1)
 
 -- LF_VBCLASS (direct) and LF_IVBCLASS: attributes, the class, the pointer to bases, and two offsets
 unfoldable pub virtual_base_class_at : Bool → Reader VirtualBaseClassType
 virtual_base_class_at direct bytes = do
-  attributes ← number_at w16 bytes
-  class ← type_index_at attributes.1
-  pointer ← type_index_at class.1
-  pointer_offset ← numeric_at pointer.1
+  front ← bytes_of 10 bytes
+  pointer_offset ← numeric_at front.1
   base_offset ← numeric_at pointer_offset.1
   Ok (
     record {
       direct = direct;
-      attributes = record { 0 = attributes.0 };
-      base_class = class.0;
-      base_pointer = pointer.0;
+      attributes = record { 0 = half_at front.0 0 };
+      base_class = record { 0 = word_at front.0 2 };
+      base_pointer = record { 0 = word_at front.0 6 };
       base_pointer_offset = pointer_offset.0;
       virtual_base_offset = base_offset.0;
     },
@@ -297,9 +300,8 @@ virtual_base_class_at direct bytes = do
 -- LF_VFUNCTAB: two unused bytes, and the type of the table of methods
 unfoldable pub virtual_function_table_pointer_at : Reader VirtualFunctionTablePointerType
 virtual_function_table_pointer_at bytes = do
-  unused ← number_at w16 bytes
-  table ← type_index_at unused.1
-  Ok (record { table = table.0 }, table.1)
+  front ← half_and_type_at bytes
+  Ok (record { table = front.0.1 }, front.1)
 
 -- ---- lists
 
@@ -312,11 +314,9 @@ argument_list_at bytes = do
 -- one of the methods of one name: attributes, two unused bytes, the type, and the offset as in LF_ONEMETHOD
 unfoldable pub method_list_entry_at : Reader MethodListEntry
 method_list_entry_at bytes = do
-  attributes ← number_at w16 bytes
-  unused ← number_at w16 attributes.1
-  type ← type_index_at unused.1
-  offset ← vtable_offset_at record { 0 = attributes.0 } type.1
-  Ok (record { attributes = record { 0 = attributes.0 }; method_type = type.0; vtable_offset = offset.0 }, offset.1)
+  front ← bytes_of 8 bytes
+  offset ← vtable_offset_at record { 0 = half_at front.0 0 } front.1
+  Ok (record { attributes = record { 0 = half_at front.0 0 }; method_type = record { 0 = word_at front.0 4 }; vtable_offset = offset.0 }, offset.1)
 
 -- LF_METHODLIST: methods of one name one behind the other, to the end
 unfoldable pub method_list_at : Reader (List MethodListEntry)
@@ -352,8 +352,7 @@ stride_at strided bytes = if strided then as_value Some (number_at w32 bytes) el
 -- LF_ARRAY, LF_STRIDED_ARRAY: the types of an element and of an index, the stride, and the dimensions
 unfoldable pub array_at : Bool → Reader ArrayForm
 array_at strided bytes = do
-  element ← type_index_at bytes
-  indexing ← type_index_at element.1
-  stride ← stride_at strided indexing.1
+  front ← two_types_at bytes
+  stride ← stride_at strided front.1
   dimensions ← dimensions_at stride.1
-  Ok (record { element_type = element.0; indexing_type = indexing.0; stride = stride.0; dimensions = dimensions.0 }, dimensions.1)
+  Ok (record { element_type = front.0.0; indexing_type = front.0.1; stride = stride.0; dimensions = dimensions.0 }, dimensions.1)

@@ -1,10 +1,11 @@
 //! Records of ids.
 
+ghost use Rattle.std.specs.Prelude.{◌≡◌, ◌≤◌, length};
 ghost use Rattle.pdb_container.specs.Buffer.{rest, ParsesFront};
 ghost use Rattle.pdb_container.specs.Fault.{Gives};
 ghost use Rattle.pdb_records.specs.IdForms as forms;
 ghost use Rattle.pdb_records.specs.IdForms.{id_shape};
-ghost use Rattle.pdb_records.specs.IdRecords.{function_id_at, member_function_id_at, build_info_at, string_list_at, string_at, source_at, module_source_at, id_form_behind, id_form_of};
+ghost use Rattle.pdb_records.specs.IdRecords.{optional_id as id_or_none, two_words_at, source_in as source_of, module_source_in as module_source_of, function_id_at, member_function_id_at, build_info_at, string_list_at, string_at, source_at, module_source_at, id_form_behind, id_form_of};
 ghost use Rattle.pdb_indices.specs.RecordFields.{GivesFront, as_value};
 
 use crate::id_data::{
@@ -12,20 +13,37 @@ use crate::id_data::{
     UserDefinedTypeSourceFileRef, UserDefinedTypeSourceId,
 };
 use crate::leaves::*;
-use pdb_container::{Error, ParseBuffer, Result, StringRef};
-use pdb_indices::{IdIndex, TypeIndex, parse_many, parse_name, parse_optional_id_index};
+use pdb_container::{Error, ParseBuffer, Result, StringRef, half_at, word_at};
+use pdb_indices::{IdIndex, TypeIndex, parse_many, parse_name};
 use std::alloc::Global;
+
+/// The id that a number names: none for 0 and for 0xffff.
+fn optional_id(number: u32) -> Option<IdIndex>
+    ensures { result ≡ id_or_none number }
+{
+    if number == 0 || number == 0xffff {
+        return None;
+    }
+    Some(IdIndex(number))
+}
+
+/// Two numbers in four bytes each.
+fn parse_two_words(buffer: &mut ParseBuffer<'_>) -> Result<(u32, u32)>
+    ensures { ParsesFront (λ x. x) result (rest buffer.new) (two_words_at (rest buffer.old)) }
+{
+    let front = buffer.take(8)?;
+    Ok((word_at(front, 0), word_at(front, 4)))
+}
 
 #[tactic(auto, unfolding(crate::specs::IdRecords::function_id_at))]
 fn parse_function<'t>(buffer: &mut ParseBuffer<'t>, leaf: u16) -> Result<IdData<'t>>
     ensures { ParsesFront id_shape result (rest buffer.new) (as_value forms.Function (function_id_at leaf (rest buffer.old))) }
 {
-    let scope = parse_optional_id_index(buffer)?;
-    let function_type = buffer.parse()?;
+    let (scope, function_type) = parse_two_words(buffer)?;
     let name = parse_name(buffer, leaf)?;
     Ok(IdData::Function(FunctionId {
-        scope,
-        function_type,
+        scope: optional_id(scope),
+        function_type: TypeIndex(function_type),
         name,
     }))
 }
@@ -34,12 +52,11 @@ fn parse_function<'t>(buffer: &mut ParseBuffer<'t>, leaf: u16) -> Result<IdData<
 fn parse_member_function<'t>(buffer: &mut ParseBuffer<'t>, leaf: u16) -> Result<IdData<'t>>
     ensures { ParsesFront id_shape result (rest buffer.new) (as_value forms.MemberFunction (member_function_id_at leaf (rest buffer.old))) }
 {
-    let parent = buffer.parse()?;
-    let function_type = buffer.parse()?;
+    let (parent, function_type) = parse_two_words(buffer)?;
     let name = parse_name(buffer, leaf)?;
     Ok(IdData::MemberFunction(MemberFunctionId {
-        parent,
-        function_type,
+        parent: TypeIndex(parent),
+        function_type: TypeIndex(function_type),
         name,
     }))
 }
@@ -66,38 +83,52 @@ fn parse_string_list<'t>(alloc: Global, buffer: &mut ParseBuffer<'t>) -> Result<
 fn parse_string<'t>(buffer: &mut ParseBuffer<'t>, leaf: u16) -> Result<IdData<'t>>
     ensures { ParsesFront id_shape result (rest buffer.new) (as_value forms.String (string_at leaf (rest buffer.old))) }
 {
-    let substrings = parse_optional_id_index(buffer)?;
+    let substrings = buffer.parse_u32()?;
     let name = parse_name(buffer, leaf)?;
-    Ok(IdData::String(StringId { substrings, name }))
+    Ok(IdData::String(StringId {
+        substrings: optional_id(substrings),
+        name,
+    }))
 }
 
 #[tactic(auto, unfolding(crate::specs::IdRecords::source_at))]
 fn parse_source<'t>(buffer: &mut ParseBuffer<'t>) -> Result<IdData<'t>>
     ensures { ParsesFront id_shape result (rest buffer.new) (as_value forms.UserDefinedTypeSource (source_at (rest buffer.old))) }
 {
-    let udt = buffer.parse()?;
-    let source_file = UserDefinedTypeSourceFileRef::Local(buffer.parse()?);
-    let line = buffer.parse_u32()?;
-    Ok(IdData::UserDefinedTypeSource(UserDefinedTypeSourceId {
-        udt,
-        source_file,
-        line,
-    }))
+    Ok(IdData::UserDefinedTypeSource(source_in(buffer.take(12)?)))
+}
+
+/// What the 12 bytes of a type's place say.
+fn source_in(bytes: &[u8]) -> UserDefinedTypeSourceId
+    requires { 12 ≤ length bytes.now }
+    ensures { result ≡ source_of bytes.now }
+{
+    UserDefinedTypeSourceId {
+        udt: TypeIndex(word_at(bytes, 0)),
+        source_file: UserDefinedTypeSourceFileRef::Local(IdIndex(word_at(bytes, 4))),
+        line: word_at(bytes, 8),
+    }
 }
 
 #[tactic(auto, unfolding(crate::specs::IdRecords::module_source_at))]
 fn parse_module_source<'t>(buffer: &mut ParseBuffer<'t>) -> Result<IdData<'t>>
     ensures { ParsesFront id_shape result (rest buffer.new) (as_value forms.UserDefinedTypeSource (module_source_at (rest buffer.old))) }
 {
-    let udt = buffer.parse()?;
-    let file = StringRef(buffer.parse_u32()?);
-    let line = buffer.parse_u32()?;
-    let owner = buffer.parse_u16()?;
-    Ok(IdData::UserDefinedTypeSource(UserDefinedTypeSourceId {
-        udt,
-        source_file: UserDefinedTypeSourceFileRef::Remote(owner, file),
-        line,
-    }))
+    let front = buffer.take(14)?;
+    Ok(IdData::UserDefinedTypeSource(module_source_in(front)))
+}
+
+/// What the 14 bytes of a type's place in a module say.
+fn module_source_in(bytes: &[u8]) -> UserDefinedTypeSourceId
+    requires { 14 ≤ length bytes.now }
+    ensures { result ≡ module_source_of bytes.now }
+{
+    let file = StringRef(word_at(bytes, 4));
+    UserDefinedTypeSourceId {
+        udt: TypeIndex(word_at(bytes, 0)),
+        source_file: UserDefinedTypeSourceFileRef::Remote(half_at(bytes, 12), file),
+        line: word_at(bytes, 8),
+    }
 }
 
 /// What stands behind a leaf at a record's beginning.

@@ -11,9 +11,10 @@ ghost use Rattle.pdb_records.specs.Shapes.{shape, plain_shape};
 ghost use Rattle.pdb_records.specs.TypeRecords.{argument_list_at, method_list_entry_at, method_list_at, dimension_at, dimensions_at, stride_at, array_at};
 
 use crate::parse_member::parse_vtable_offset;
+use crate::parse_type::parse_two_types;
 use crate::type_attributes::FieldAttributes;
 use crate::type_data::{ArgumentList, ArrayType, MethodList, MethodListEntry, TypeData};
-use pdb_container::{Error, ParseBuffer, Result};
+use pdb_container::{Error, ParseBuffer, Result, half_at, word_at};
 use pdb_indices::{TypeIndex, parse_many, parse_numeric};
 use std::alloc::Global;
 
@@ -32,13 +33,12 @@ pub fn parse_argument_list<'t>(alloc: Global, buffer: &mut ParseBuffer<'t>) -> R
 fn parse_method_list_entry(buffer: &mut ParseBuffer<'_>) -> Result<MethodListEntry>
     ensures { ParsesFront (λ x. x) result (rest buffer.new) (method_list_entry_at (rest buffer.old)) }
 {
-    let attributes = FieldAttributes::new(buffer.parse_u16()?);
-    buffer.parse_u16()?;
-    let method_type = buffer.parse()?;
+    let front = buffer.take(8)?;
+    let attributes = FieldAttributes::new(half_at(front, 0));
     let vtable_offset = parse_vtable_offset(buffer, attributes)?;
     Ok(MethodListEntry {
         attributes,
-        method_type,
+        method_type: TypeIndex(word_at(front, 4)),
         vtable_offset,
     })
 }
@@ -120,8 +120,7 @@ pub fn parse_array<'t>(
     ensures form { GivesFront plain_shape result (rest buffer.new) (as_value forms.Array (array_at is_strided (rest buffer.old))) }
     ensures plain { IfOk result (λ t. shape t ≡ Plain (plain_shape t)) }
 {
-    let element_type = buffer.parse()?;
-    let indexing_type = buffer.parse()?;
+    let (element_type, indexing_type) = parse_two_types(buffer)?;
     let stride = parse_stride(buffer, is_strided)?;
     let dimensions = parse_dimensions(alloc, buffer)?;
     Ok(TypeData::Array(ArrayType {

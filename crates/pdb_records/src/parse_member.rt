@@ -9,14 +9,15 @@ ghost use Rattle.pdb_records.specs.Forms.{Plain};
 ghost use Rattle.pdb_records.specs.Shapes.{shape, plain_shape};
 ghost use Rattle.pdb_records.specs.TypeRecords.{enumerate_at, member_at, static_member_at, overloaded_method_at, vtable_offset_at, method_at, nested_at, base_class_at, virtual_base_class_at, virtual_function_table_pointer_at};
 
+use crate::parse_type::parse_half_and_type;
 use crate::type_attributes::FieldAttributes;
 use crate::type_data::{
     BaseClassType, ClassKind, EnumerateType, MemberType, MethodType, NestedType,
     OverloadedMethodType, StaticMemberType, TypeData, VirtualBaseClassType,
     VirtualFunctionTablePointerType,
 };
-use pdb_container::{ParseBuffer, Result};
-use pdb_indices::{parse_name, parse_numeric, parse_variant};
+use pdb_container::{ParseBuffer, Result, half_at, word_at};
+use pdb_indices::{TypeIndex, parse_name, parse_numeric, parse_variant};
 
 /// `LF_ENUMERATE`: a value of an enumeration.
 #[tactic(auto, unfolding(crate::specs::TypeRecords::enumerate_at))]
@@ -40,8 +41,8 @@ pub fn parse_data_member<'t>(buffer: &mut ParseBuffer<'t>, leaf: u16) -> Result<
     ensures form { ParsesFront plain_shape result (rest buffer.new) (as_value forms.Member (member_at leaf (rest buffer.old))) }
     ensures plain { IfOk result (λ t. shape t ≡ Plain (plain_shape t)) }
 {
-    let attributes = FieldAttributes::new(buffer.parse_u16()?);
-    let field_type = buffer.parse()?;
+    let (bits, field_type) = parse_half_and_type(buffer)?;
+    let attributes = FieldAttributes::new(bits);
     let offset = parse_numeric(buffer)?;
     let name = parse_name(buffer, leaf)?;
     Ok(TypeData::Member(MemberType {
@@ -58,8 +59,8 @@ pub fn parse_static_member<'t>(buffer: &mut ParseBuffer<'t>, leaf: u16) -> Resul
     ensures form { ParsesFront plain_shape result (rest buffer.new) (as_value forms.StaticMember (static_member_at leaf (rest buffer.old))) }
     ensures plain { IfOk result (λ t. shape t ≡ Plain (plain_shape t)) }
 {
-    let attributes = FieldAttributes::new(buffer.parse_u16()?);
-    let field_type = buffer.parse()?;
+    let (bits, field_type) = parse_half_and_type(buffer)?;
+    let attributes = FieldAttributes::new(bits);
     let name = parse_name(buffer, leaf)?;
     Ok(TypeData::StaticMember(StaticMemberType {
         attributes,
@@ -74,8 +75,7 @@ pub fn parse_overloaded_method<'t>(buffer: &mut ParseBuffer<'t>, leaf: u16) -> R
     ensures form { ParsesFront plain_shape result (rest buffer.new) (as_value forms.OverloadedMethod (overloaded_method_at leaf (rest buffer.old))) }
     ensures plain { IfOk result (λ t. shape t ≡ Plain (plain_shape t)) }
 {
-    let count = buffer.parse_u16()?;
-    let method_list = buffer.parse()?;
+    let (count, method_list) = parse_half_and_type(buffer)?;
     let name = parse_name(buffer, leaf)?;
     Ok(TypeData::OverloadedMethod(OverloadedMethodType {
         count,
@@ -104,8 +104,8 @@ pub fn parse_method<'t>(buffer: &mut ParseBuffer<'t>, leaf: u16) -> Result<TypeD
     ensures form { ParsesFront plain_shape result (rest buffer.new) (as_value forms.Method (method_at leaf (rest buffer.old))) }
     ensures plain { IfOk result (λ t. shape t ≡ Plain (plain_shape t)) }
 {
-    let attributes = FieldAttributes::new(buffer.parse_u16()?);
-    let method_type = buffer.parse()?;
+    let (bits, method_type) = parse_half_and_type(buffer)?;
+    let attributes = FieldAttributes::new(bits);
     let vtable_offset = parse_vtable_offset(buffer, attributes)?;
     let name = parse_name(buffer, leaf)?;
     Ok(TypeData::Method(MethodType {
@@ -122,8 +122,8 @@ pub fn parse_nested<'t>(buffer: &mut ParseBuffer<'t>, leaf: u16) -> Result<TypeD
     ensures form { ParsesFront plain_shape result (rest buffer.new) (as_value forms.Nested (nested_at leaf (rest buffer.old))) }
     ensures plain { IfOk result (λ t. shape t ≡ Plain (plain_shape t)) }
 {
-    let attributes = FieldAttributes::new(buffer.parse_u16()?);
-    let nested_type = buffer.parse()?;
+    let (bits, nested_type) = parse_half_and_type(buffer)?;
+    let attributes = FieldAttributes::new(bits);
     let name = parse_name(buffer, leaf)?;
     Ok(TypeData::Nested(NestedType {
         attributes,
@@ -138,8 +138,8 @@ pub fn parse_base_class<'t>(buffer: &mut ParseBuffer<'t>, kind: ClassKind) -> Re
     ensures form { ParsesFront plain_shape result (rest buffer.new) (as_value forms.BaseClass (base_class_at kind (rest buffer.old))) }
     ensures plain { IfOk result (λ t. shape t ≡ Plain (plain_shape t)) }
 {
-    let attributes = FieldAttributes::new(buffer.parse_u16()?);
-    let base_class = buffer.parse()?;
+    let (bits, base_class) = parse_half_and_type(buffer)?;
+    let attributes = FieldAttributes::new(bits);
     let offset = parse_numeric(buffer)?;
     Ok(TypeData::BaseClass(BaseClassType {
         kind,
@@ -158,16 +158,14 @@ pub fn parse_virtual_base_class<'t>(
     ensures form { ParsesFront plain_shape result (rest buffer.new) (as_value forms.VirtualBaseClass (virtual_base_class_at direct (rest buffer.old))) }
     ensures plain { IfOk result (λ t. shape t ≡ Plain (plain_shape t)) }
 {
-    let attributes = FieldAttributes::new(buffer.parse_u16()?);
-    let base_class = buffer.parse()?;
-    let base_pointer = buffer.parse()?;
+    let front = buffer.take(10)?;
     let base_pointer_offset = parse_numeric(buffer)?;
     let virtual_base_offset = parse_numeric(buffer)?;
     Ok(TypeData::VirtualBaseClass(VirtualBaseClassType {
         direct,
-        attributes,
-        base_class,
-        base_pointer,
+        attributes: FieldAttributes::new(half_at(front, 0)),
+        base_class: TypeIndex(word_at(front, 2)),
+        base_pointer: TypeIndex(word_at(front, 6)),
         base_pointer_offset,
         virtual_base_offset,
     }))
@@ -181,7 +179,6 @@ pub fn parse_virtual_function_table_pointer<'t>(
     ensures form { ParsesFront plain_shape result (rest buffer.new) (as_value forms.VirtualFunctionTablePointer (virtual_function_table_pointer_at (rest buffer.old))) }
     ensures plain { IfOk result (λ t. shape t ≡ Plain (plain_shape t)) }
 {
-    buffer.parse_u16()?;
-    let table = buffer.parse()?;
+    let (_, table) = parse_half_and_type(buffer)?;
     Ok(TypeData::VirtualFunctionTablePointer(VirtualFunctionTablePointerType { table }))
 }

@@ -1,22 +1,48 @@
 //! Records of types that are no members, behind their leaves. Each is refused with `UnexpectedEof` where bytes are
 //! missing, and with `UnexpectedNumericPrefix` where a numeric leaf begins no number.
 
-ghost use Rattle.std.specs.Prelude.{◌≡◌, IfOk, option_map};
+ghost use Rattle.std.specs.Prelude.{◌≡◌, ◌≤◌, length, IfOk, option_map};
 ghost use Rattle.pdb_container.specs.Buffer.{rest, ParsesFront};
 ghost use Rattle.pdb_container.specs.RawString.{raw_bytes};
 ghost use Rattle.pdb_indices.specs.RecordFields.{as_value};
 ghost use Rattle.pdb_records.specs.Forms as forms;
 ghost use Rattle.pdb_records.specs.Forms.{Plain};
-ghost use Rattle.pdb_records.specs.Shapes.{shape, plain_shape};
-ghost use Rattle.pdb_records.specs.TypeRecords.{modifier_at, pointer_attributes_at, containing_class_at, pointer_at, procedure_at, member_function_at, bitfield_at, unique_name_at, class_at, field_count_at, newer_struct_at, union_at, enumeration_at};
+ghost use Rattle.pdb_records.specs.Shapes.{shape, plain_shape, names_shape};
+ghost use Rattle.pdb_records.specs.TypeRecords.{optional_type as type_or_none, half_and_type_at, two_types_at, modifier_in as modifier_of, procedure_in as procedure_of, member_function_in as member_function_of, modifier_at, pointer_front_at, containing_class_at, pointer_at, procedure_at, member_function_at, bitfield_at, unique_name_at, names_at, size_and_names_at, class_at, field_count_at, newer_struct_at, union_at, enumeration_at};
 
 use crate::type_attributes::{FunctionAttributes, PointerAttributes, TypeProperties};
 use crate::type_data::{
     BitfieldType, ClassKind, ClassType, EnumerationType, MemberFunctionType, ModifierType,
     PointerType, ProcedureType, TypeData, UnionType,
 };
-use pdb_container::{Error, ParseBuffer, RawString, Result};
-use pdb_indices::{TypeIndex, parse_name, parse_numeric, parse_optional_type_index};
+use pdb_container::{Error, ParseBuffer, RawString, Result, half_at, word_at};
+use pdb_indices::{TypeIndex, parse_name, parse_numeric};
+
+/// The type that a number names: none for 0 and for 0xffff.
+fn optional_type(number: u32) -> Option<TypeIndex>
+    ensures { result ≡ type_or_none number }
+{
+    if number == 0 || number == 0xffff {
+        return None;
+    }
+    Some(TypeIndex(number))
+}
+
+/// A number in two bytes, and a type.
+pub fn parse_half_and_type(buffer: &mut ParseBuffer<'_>) -> Result<(u16, TypeIndex)>
+    ensures { ParsesFront (λ x. x) result (rest buffer.new) (half_and_type_at (rest buffer.old)) }
+{
+    let front = buffer.take(6)?;
+    Ok((half_at(front, 0), TypeIndex(word_at(front, 2))))
+}
+
+/// Two types.
+pub fn parse_two_types(buffer: &mut ParseBuffer<'_>) -> Result<(TypeIndex, TypeIndex)>
+    ensures { ParsesFront (λ x. x) result (rest buffer.new) (two_types_at (rest buffer.old)) }
+{
+    let front = buffer.take(8)?;
+    Ok((TypeIndex(word_at(front, 0)), TypeIndex(word_at(front, 4))))
+}
 
 /// `LF_MODIFIER`: a constant, volatile or unaligned type.
 #[tactic(auto, unfolding(crate::specs::TypeRecords::modifier_at))]
@@ -24,25 +50,34 @@ pub fn parse_modifier<'t>(buffer: &mut ParseBuffer<'t>) -> Result<TypeData<'t>>
     ensures form { ParsesFront plain_shape result (rest buffer.new) (as_value forms.Modifier (modifier_at (rest buffer.old))) }
     ensures plain { IfOk result (λ t. shape t ≡ Plain (plain_shape t)) }
 {
-    let underlying_type = buffer.parse()?;
-    let words = buffer.parse_u16()?;
-    Ok(TypeData::Modifier(ModifierType {
-        underlying_type,
-        constant: words & 1 != 0,
-        volatile: words & 2 != 0,
-        unaligned: words & 4 != 0,
-    }))
+    Ok(TypeData::Modifier(modifier_in(buffer.take(6)?)))
 }
 
-#[tactic(auto, unfolding(crate::specs::TypeRecords::pointer_attributes_at))]
-fn parse_pointer_attributes(buffer: &mut ParseBuffer<'_>) -> Result<PointerAttributes>
-    ensures { ParsesFront (λ x. x) result (rest buffer.new) (pointer_attributes_at (rest buffer.old)) }
+/// What the 6 bytes of a modifier say.
+fn modifier_in(bytes: &[u8]) -> ModifierType
+    requires { 6 ≤ length bytes.now }
+    ensures { result ≡ modifier_of bytes.now }
 {
-    let attributes = PointerAttributes::new(buffer.parse_u32()?);
+    let flags = half_at(bytes, 4);
+    ModifierType {
+        underlying_type: TypeIndex(word_at(bytes, 0)),
+        constant: flags & 1 != 0,
+        volatile: flags & 2 != 0,
+        unaligned: flags & 4 != 0,
+    }
+}
+
+/// A pointer's type, and its attributes. `UnimplementedFeature` where its kind or mode is unknown.
+#[tactic(auto, unfolding(crate::specs::TypeRecords::pointer_front_at))]
+fn parse_pointer_front(buffer: &mut ParseBuffer<'_>) -> Result<(TypeIndex, PointerAttributes)>
+    ensures { ParsesFront (λ x. x) result (rest buffer.new) (pointer_front_at (rest buffer.old)) }
+{
+    let front = buffer.take(8)?;
+    let attributes = PointerAttributes::new(word_at(front, 4));
     if !attributes.is_known() {
         return Err(Error::UnimplementedFeature("pointer kind or mode"));
     }
-    Ok(attributes)
+    Ok((TypeIndex(word_at(front, 0)), attributes))
 }
 
 #[tactic(auto, unfolding(crate::specs::TypeRecords::containing_class_at))]
@@ -64,8 +99,7 @@ pub fn parse_pointer<'t>(buffer: &mut ParseBuffer<'t>) -> Result<TypeData<'t>>
     ensures form { ParsesFront plain_shape result (rest buffer.new) (as_value forms.Pointer (pointer_at (rest buffer.old))) }
     ensures plain { IfOk result (λ t. shape t ≡ Plain (plain_shape t)) }
 {
-    let underlying_type = buffer.parse()?;
-    let attributes = parse_pointer_attributes(buffer)?;
+    let (underlying_type, attributes) = parse_pointer_front(buffer)?;
     let containing_class = parse_containing_class(buffer, attributes)?;
     Ok(TypeData::Pointer(PointerType {
         underlying_type,
@@ -80,16 +114,20 @@ pub fn parse_procedure<'t>(buffer: &mut ParseBuffer<'t>) -> Result<TypeData<'t>>
     ensures form { ParsesFront plain_shape result (rest buffer.new) (as_value forms.Procedure (procedure_at (rest buffer.old))) }
     ensures plain { IfOk result (λ t. shape t ≡ Plain (plain_shape t)) }
 {
-    let return_type = parse_optional_type_index(buffer)?;
-    let attributes = FunctionAttributes::new(buffer.parse_u16()?);
-    let parameter_count = buffer.parse_u16()?;
-    let argument_list = buffer.parse()?;
-    Ok(TypeData::Procedure(ProcedureType {
-        return_type,
-        attributes,
-        parameter_count,
-        argument_list,
-    }))
+    Ok(TypeData::Procedure(procedure_in(buffer.take(12)?)))
+}
+
+/// What the 12 bytes of a function's type say.
+fn procedure_in(bytes: &[u8]) -> ProcedureType
+    requires { 12 ≤ length bytes.now }
+    ensures { result ≡ procedure_of bytes.now }
+{
+    ProcedureType {
+        return_type: optional_type(word_at(bytes, 0)),
+        attributes: FunctionAttributes::new(half_at(bytes, 4)),
+        parameter_count: half_at(bytes, 6),
+        argument_list: TypeIndex(word_at(bytes, 8)),
+    }
 }
 
 /// `LF_MFUNCTION`: the type of a method.
@@ -98,22 +136,23 @@ pub fn parse_member_function<'t>(buffer: &mut ParseBuffer<'t>) -> Result<TypeDat
     ensures form { ParsesFront plain_shape result (rest buffer.new) (as_value forms.MemberFunction (member_function_at (rest buffer.old))) }
     ensures plain { IfOk result (λ t. shape t ≡ Plain (plain_shape t)) }
 {
-    let return_type = buffer.parse()?;
-    let class_type = buffer.parse()?;
-    let this_pointer_type = parse_optional_type_index(buffer)?;
-    let attributes = FunctionAttributes::new(buffer.parse_u16()?);
-    let parameter_count = buffer.parse_u16()?;
-    let argument_list = buffer.parse()?;
-    let this_adjustment = buffer.parse_u32()?;
-    Ok(TypeData::MemberFunction(MemberFunctionType {
-        return_type,
-        class_type,
-        this_pointer_type,
-        attributes,
-        parameter_count,
-        argument_list,
-        this_adjustment,
-    }))
+    Ok(TypeData::MemberFunction(member_function_in(buffer.take(24)?)))
+}
+
+/// What the 24 bytes of a method's type say.
+fn member_function_in(bytes: &[u8]) -> MemberFunctionType
+    requires { 24 ≤ length bytes.now }
+    ensures { result ≡ member_function_of bytes.now }
+{
+    MemberFunctionType {
+        return_type: TypeIndex(word_at(bytes, 0)),
+        class_type: TypeIndex(word_at(bytes, 4)),
+        this_pointer_type: optional_type(word_at(bytes, 8)),
+        attributes: FunctionAttributes::new(half_at(bytes, 12)),
+        parameter_count: half_at(bytes, 14),
+        argument_list: TypeIndex(word_at(bytes, 16)),
+        this_adjustment: word_at(bytes, 20),
+    }
 }
 
 /// `LF_BITFIELD`: some bits of a number.
@@ -122,13 +161,11 @@ pub fn parse_bitfield<'t>(buffer: &mut ParseBuffer<'t>) -> Result<TypeData<'t>>
     ensures form { ParsesFront plain_shape result (rest buffer.new) (as_value forms.Bitfield (bitfield_at (rest buffer.old))) }
     ensures plain { IfOk result (λ t. shape t ≡ Plain (plain_shape t)) }
 {
-    let underlying_type = buffer.parse()?;
-    let length = buffer.parse_u8()?;
-    let position = buffer.parse_u8()?;
+    let front = buffer.take(6)?;
     Ok(TypeData::Bitfield(BitfieldType {
-        underlying_type,
-        length,
-        position,
+        underlying_type: TypeIndex(word_at(front, 0)),
+        length: front[4],
+        position: front[5],
     }))
 }
 
@@ -147,6 +184,34 @@ fn parse_unique_name<'t>(
     Ok(Some(parse_name(buffer, leaf)?))
 }
 
+/// The name, and the unique name where the properties say that it has one.
+#[tactic(auto, unfolding(crate::specs::TypeRecords::names_at))]
+fn parse_names<'t>(
+    buffer: &mut ParseBuffer<'t>,
+    leaf: u16,
+    properties: TypeProperties,
+) -> Result<(RawString<'t>, Option<RawString<'t>>)>
+    ensures { ParsesFront names_shape result (rest buffer.new) (names_at leaf properties (rest buffer.old)) }
+{
+    let name = parse_name(buffer, leaf)?;
+    let unique_name = parse_unique_name(buffer, leaf, properties)?;
+    Ok((name, unique_name))
+}
+
+/// The size in bytes, and the names.
+#[tactic(auto, unfolding(crate::specs::TypeRecords::size_and_names_at))]
+fn parse_size_and_names<'t>(
+    buffer: &mut ParseBuffer<'t>,
+    leaf: u16,
+    properties: TypeProperties,
+) -> Result<(u64, (RawString<'t>, Option<RawString<'t>>))>
+    ensures { ParsesFront (λ x. (x.0, names_shape x.1)) result (rest buffer.new) (size_and_names_at leaf properties (rest buffer.old)) }
+{
+    let size = parse_numeric(buffer)?;
+    let names = parse_names(buffer, leaf, properties)?;
+    Ok((size, names))
+}
+
 /// `LF_CLASS`, `LF_STRUCTURE`, `LF_INTERFACE`, by its leaf.
 #[tactic(auto, unfolding(crate::specs::TypeRecords::class_at))]
 pub fn parse_class<'t>(
@@ -157,21 +222,16 @@ pub fn parse_class<'t>(
     ensures form { ParsesFront plain_shape result (rest buffer.new) (as_value forms.Class (class_at leaf kind (rest buffer.old))) }
     ensures plain { IfOk result (λ t. shape t ≡ Plain (plain_shape t)) }
 {
-    let count = buffer.parse_u16()?;
-    let properties = TypeProperties::new(buffer.parse_u16()?);
-    let fields = parse_optional_type_index(buffer)?;
-    let derived_from = parse_optional_type_index(buffer)?;
-    let vtable_shape = parse_optional_type_index(buffer)?;
-    let size = parse_numeric(buffer)?;
-    let name = parse_name(buffer, leaf)?;
-    let unique_name = parse_unique_name(buffer, leaf, properties)?;
+    let front = buffer.take(16)?;
+    let properties = TypeProperties::new(half_at(front, 2));
+    let (size, (name, unique_name)) = parse_size_and_names(buffer, leaf, properties)?;
     Ok(TypeData::Class(ClassType {
         kind,
-        count,
+        count: half_at(front, 0),
         properties,
-        fields,
-        derived_from,
-        vtable_shape,
+        fields: optional_type(word_at(front, 4)),
+        derived_from: optional_type(word_at(front, 8)),
+        vtable_shape: optional_type(word_at(front, 12)),
         size,
         name,
         unique_name,
@@ -196,22 +256,17 @@ pub fn parse_newer_struct<'t>(buffer: &mut ParseBuffer<'t>, leaf: u16) -> Result
     ensures form { ParsesFront plain_shape result (rest buffer.new) (as_value forms.Class (newer_struct_at leaf (rest buffer.old))) }
     ensures plain { IfOk result (λ t. shape t ≡ Plain (plain_shape t)) }
 {
-    let properties = TypeProperties::new(buffer.parse_u16()?);
-    buffer.parse_u16()?;
-    let fields = parse_optional_type_index(buffer)?;
-    let derived_from = parse_optional_type_index(buffer)?;
-    let vtable_shape = parse_optional_type_index(buffer)?;
+    let front = buffer.take(16)?;
+    let properties = TypeProperties::new(half_at(front, 0));
     let count = parse_field_count(buffer)?;
-    let size = parse_numeric(buffer)?;
-    let name = parse_name(buffer, leaf)?;
-    let unique_name = parse_unique_name(buffer, leaf, properties)?;
+    let (size, (name, unique_name)) = parse_size_and_names(buffer, leaf, properties)?;
     Ok(TypeData::Class(ClassType {
         kind: ClassKind::Struct,
         count,
         properties,
-        fields,
-        derived_from,
-        vtable_shape,
+        fields: optional_type(word_at(front, 4)),
+        derived_from: optional_type(word_at(front, 8)),
+        vtable_shape: optional_type(word_at(front, 12)),
         size,
         name,
         unique_name,
@@ -224,16 +279,13 @@ pub fn parse_union<'t>(buffer: &mut ParseBuffer<'t>, leaf: u16) -> Result<TypeDa
     ensures form { ParsesFront plain_shape result (rest buffer.new) (as_value forms.Union (union_at leaf (rest buffer.old))) }
     ensures plain { IfOk result (λ t. shape t ≡ Plain (plain_shape t)) }
 {
-    let count = buffer.parse_u16()?;
-    let properties = TypeProperties::new(buffer.parse_u16()?);
-    let fields = buffer.parse()?;
-    let size = parse_numeric(buffer)?;
-    let name = parse_name(buffer, leaf)?;
-    let unique_name = parse_unique_name(buffer, leaf, properties)?;
+    let front = buffer.take(8)?;
+    let properties = TypeProperties::new(half_at(front, 2));
+    let (size, (name, unique_name)) = parse_size_and_names(buffer, leaf, properties)?;
     Ok(TypeData::Union(UnionType {
-        count,
+        count: half_at(front, 0),
         properties,
-        fields,
+        fields: TypeIndex(word_at(front, 4)),
         size,
         name,
         unique_name,
@@ -246,17 +298,14 @@ pub fn parse_enumeration<'t>(buffer: &mut ParseBuffer<'t>, leaf: u16) -> Result<
     ensures form { ParsesFront plain_shape result (rest buffer.new) (as_value forms.Enumeration (enumeration_at leaf (rest buffer.old))) }
     ensures plain { IfOk result (λ t. shape t ≡ Plain (plain_shape t)) }
 {
-    let count = buffer.parse_u16()?;
-    let properties = TypeProperties::new(buffer.parse_u16()?);
-    let underlying_type = buffer.parse()?;
-    let fields = buffer.parse()?;
-    let name = parse_name(buffer, leaf)?;
-    let unique_name = parse_unique_name(buffer, leaf, properties)?;
+    let front = buffer.take(12)?;
+    let properties = TypeProperties::new(half_at(front, 2));
+    let (name, unique_name) = parse_names(buffer, leaf, properties)?;
     Ok(TypeData::Enumeration(EnumerationType {
-        count,
+        count: half_at(front, 0),
         properties,
-        underlying_type,
-        fields,
+        underlying_type: TypeIndex(word_at(front, 4)),
+        fields: TypeIndex(word_at(front, 8)),
         name,
         unique_name,
     }))

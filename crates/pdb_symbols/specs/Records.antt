@@ -1,12 +1,10 @@
 -- CodeView symbols by their kinds (S_*): fields in order, and the fault of the first that can't be read.
 -- The layouts are those of microsoft-pdb's cvinfo.h and of LLVM's CodeView Symbol Records.
-use Rattle.std.specs.Prelude.{ℕ, List, Option, Some, None, Result, Ok, Err, nat_lt, ◌==◌, if◌then◌else◌}
-use Rattle.std.specs.Int.{w8, w16, w32}
-use Rattle.pdb_container.specs.Fault.{Fault, UnimplementedSymbolKind, ◌>>=◌}
-use Rattle.pdb_container.specs.Fields.{Reader, number_at, c_string_at, pascal_string_at}
+use Rattle.std.specs.Prelude.{ℕ, List, Option, Some, None, Result, Ok, Err, length, drop, slice_index, nat_lt, ◌==◌, if◌then◌else◌}
+use Rattle.pdb_container.specs.Fault.{Fault, UnexpectedEof, UnimplementedSymbolKind, ◌>>=◌, refuse}
+use Rattle.pdb_container.specs.Container.{half_at, word_at}
+use Rattle.pdb_container.specs.Fields.{Reader, c_string_at, pascal_string_at}
 use Rattle.pdb_indices.specs.Bits.{has_bit}
-use Rattle.pdb_indices.specs.RecordFields.{type_index_at, id_index_at}
-use Rattle.pdb_addresses.specs.declared.internal_section_offset.PdbInternalSectionOffset.{PdbInternalSectionOffset}
 use Rattle.pdb_indices.specs.declared.numbers.SymbolIndex.{SymbolIndex}
 use Rattle.pdb_symbols.specs.declared.symbol_data.SeparatedCodeSymbol.{SeparatedCodeSymbol}
 use Rattle.pdb_symbols.specs.Forms as forms
@@ -16,137 +14,125 @@ use Rattle.pdb_symbols.specs.Symbols.{Symbol, kind_of, payload_of}
 
 -- ---- fields
 
--- a symbol's index
-unfoldable pub index_at : Reader SymbolIndex
-index_at bytes = do
-  n ← number_at w32 bytes
-  Ok (record { 0 = n.0 }, n.1)
-
--- a symbol's index, none at 0
-unfoldable pub optional_index_at : Reader (Option SymbolIndex)
-optional_index_at bytes = do
-  n ← number_at w32 bytes
-  Ok (if n.0 == 0 then None else Some record { 0 = n.0 }, n.1)
-
--- an offset, and a section's number
-unfoldable pub place_at : Reader PdbInternalSectionOffset
-place_at bytes = do
-  offset ← number_at w32 bytes
-  section ← number_at w16 offset.1
-  Ok (record { offset = offset.0; section = section.0 }, section.1)
+-- the index that a number names, none for 0
+abbrev pub index_of : ℕ → Option SymbolIndex
+index_of n = if n == 0 then None else Some record { 0 = n }
 
 -- a name: a C string, but for the older kinds a Pascal string
 unfoldable pub symbol_name_at : ℕ → Reader (List ℕ)
 symbol_name_at kind bytes = if nat_lt kind 0x1100 then pascal_string_at bytes else c_string_at bytes
 
+-- the name behind so many bytes, which are all there
+unfoldable pub name_behind : ℕ → ℕ → List ℕ → Result (List ℕ) Fault
+name_behind kind front bytes = do
+  whole ← refuse (nat_lt (length bytes) front) UnexpectedEof
+  name ← symbol_name_at kind (drop front bytes)
+  Ok name.0
+
 -- ---- forms
 
--- S_PUB32: flags, a place, and a name
+-- what the bytes before a public symbol's name say, by the places of their numbers: flags, and a place
+abbrev pub public_in : List ℕ → List ℕ → PublicForm
+public_in bytes name = record {
+  code = has_bit (word_at bytes 0) 1;
+  function = has_bit (word_at bytes 0) 2;
+  managed = has_bit (word_at bytes 0) 4;
+  msil = has_bit (word_at bytes 0) 8;
+  offset = record { offset = word_at bytes 4; section = half_at bytes 8 };
+  name = name;
+}
+
+-- S_PUB32: 10 bytes, and a name
 unfoldable pub public_of : ℕ → List ℕ → Result PublicForm Fault
 public_of kind bytes = do
-  flags ← number_at w32 bytes
-  place ← place_at flags.1
-  name ← symbol_name_at kind place.1
-  Ok
-      record {
-        code = has_bit flags.0 1;
-        function = has_bit flags.0 2;
-        managed = has_bit flags.0 4;
-        msil = has_bit flags.0 8;
-        offset = place.0;
-        name = name.0;
-      }
+  name ← name_behind kind 10 bytes
+  Ok (public_in bytes name)
 
--- S_GPROC32, S_LPROC32 and their like: indices, length, debug offsets, type, place, flags, and name
+-- What a procedure's kind and the bytes before its name say, by the places of their numbers: indices, length, debug
+-- offsets, type, place, and flags.
+abbrev pub procedure_in : ℕ → List ℕ → List ℕ → ProcedureForm
+procedure_in kind bytes name = record {
+  global = is_global kind;
+  dpc = is_dpc kind;
+  parent = index_of (word_at bytes 0);
+  end = record { 0 = word_at bytes 4 };
+  next = index_of (word_at bytes 8);
+  len = word_at bytes 12;
+  dbg_start_offset = word_at bytes 16;
+  dbg_end_offset = word_at bytes 20;
+  type_index = record { 0 = word_at bytes 24 };
+  offset = record { offset = word_at bytes 28; section = half_at bytes 32 };
+  flags = slice_index bytes 34;
+  name = name;
+}
+
+-- S_GPROC32, S_LPROC32 and their like: 35 bytes, and a name
 unfoldable pub procedure_symbol_at : ℕ → List ℕ → Result ProcedureForm Fault
 procedure_symbol_at kind bytes = do
-  parent ← optional_index_at bytes
-  end ← index_at parent.1
-  next ← optional_index_at end.1
-  len ← number_at w32 next.1
-  debug_start ← number_at w32 len.1
-  debug_end ← number_at w32 debug_start.1
-  type ← type_index_at debug_end.1
-  place ← place_at type.1
-  flags ← number_at w8 place.1
-  name ← symbol_name_at kind flags.1
-  Ok
-      record {
-        global = is_global kind;
-        dpc = is_dpc kind;
-        parent = parent.0;
-        end = end.0;
-        next = next.0;
-        len = len.0;
-        dbg_start_offset = debug_start.0;
-        dbg_end_offset = debug_end.0;
-        type_index = type.0;
-        offset = place.0;
-        flags = flags.0;
-        name = name.0;
-      }
+  name ← name_behind kind 35 bytes
+  Ok (procedure_in kind bytes name)
 
--- S_THUNK32: indices, a place, the length in bytes, the kind of thunk, and a name
+-- What the bytes before a thunk's name say, by the places of their numbers: indices, a place, the length in bytes, and
+-- the kind of thunk.
+abbrev pub thunk_in : List ℕ → List ℕ → ThunkForm
+thunk_in bytes name = record {
+  parent = index_of (word_at bytes 0);
+  end = record { 0 = word_at bytes 4 };
+  next = index_of (word_at bytes 8);
+  offset = record { offset = word_at bytes 12; section = half_at bytes 16 };
+  len = half_at bytes 18;
+  kind = slice_index bytes 20;
+  name = name;
+}
+
+-- S_THUNK32: 21 bytes, and a name
 unfoldable pub thunk_of : ℕ → List ℕ → Result ThunkForm Fault
 thunk_of kind bytes = do
-  parent ← optional_index_at bytes
-  end ← index_at parent.1
-  next ← optional_index_at end.1
-  place ← place_at next.1
-  len ← number_at w16 place.1
-  leads_to ← number_at w8 len.1
-  name ← symbol_name_at kind leads_to.1
-  Ok
-      record {
-        parent = parent.0;
-        end = end.0;
-        next = next.0;
-        offset = place.0;
-        len = len.0;
-        kind = leads_to.0;
-        name = name.0;
-      }
+  name ← name_behind kind 21 bytes
+  Ok (thunk_in bytes name)
 
--- S_SEPCODE: indices, the length, flags, and two places, of which both offsets stand before both sections
+-- What separated code says, by the places of its numbers: indices, the length, flags, and two places, of which both
+-- offsets stand before both sections.
+abbrev pub separated_code_in : List ℕ → SeparatedCodeSymbol
+separated_code_in bytes = record {
+  parent = index_of (word_at bytes 0);
+  end = record { 0 = word_at bytes 4 };
+  len = word_at bytes 8;
+  flags = word_at bytes 12;
+  offset = record { offset = word_at bytes 16; section = half_at bytes 24 };
+  parent_offset = record { offset = word_at bytes 20; section = half_at bytes 26 };
+}
+
+-- S_SEPCODE: 28 bytes, which are all there
 unfoldable pub separated_code_of : List ℕ → Result SeparatedCodeSymbol Fault
 separated_code_of bytes = do
-  parent ← optional_index_at bytes
-  end ← index_at parent.1
-  len ← number_at w32 end.1
-  flags ← number_at w32 len.1
-  offset ← number_at w32 flags.1
-  parent_offset ← number_at w32 offset.1
-  section ← number_at w16 parent_offset.1
-  parent_section ← number_at w16 section.1
-  Ok
-      record {
-        parent = parent.0;
-        end = end.0;
-        len = len.0;
-        flags = flags.0;
-        offset = record { offset = offset.0; section = section.0 };
-        parent_offset = record { offset = parent_offset.0; section = parent_section.0 };
-      }
+  whole ← refuse (nat_lt (length bytes) 28) UnexpectedEof
+  Ok (separated_code_in bytes)
+
+-- how many bytes of an inlined call stand before its annotations: S_INLINESITE2 has 4 more
+abbrev pub inline_site_front : ℕ → ℕ
+inline_site_front kind = if kind == 0x115d then 16 else 12
 
 -- how often an inlined call is called, which S_INLINESITE2 alone says
-unfoldable pub invocations_at : ℕ → Reader (Option ℕ)
-invocations_at kind bytes = if kind == 0x115d then (number_at w32 bytes >>= λ n. Ok (Some n.0, n.1)) else Ok (None, bytes)
+abbrev pub invocations_in : ℕ → List ℕ → Option ℕ
+invocations_in kind bytes = if kind == 0x115d then Some (word_at bytes 12) else None
 
--- S_INLINESITE, S_INLINESITE2: indices, the inlinee, and the annotations, which go to the record's end
+-- What an inlined call says, by the places of its numbers: indices, the inlinee, how often it is called, and the
+-- annotations, which go to the record's end.
+abbrev pub inline_site_in : ℕ → List ℕ → InlineSiteForm
+inline_site_in kind bytes = record {
+  parent = index_of (word_at bytes 0);
+  end = record { 0 = word_at bytes 4 };
+  inlinee = record { 0 = word_at bytes 8 };
+  invocations = invocations_in kind bytes;
+  annotations = drop (inline_site_front kind) bytes;
+}
+
+-- S_INLINESITE, S_INLINESITE2: what stands before the annotations is all there
 unfoldable pub inline_site_of : ℕ → List ℕ → Result InlineSiteForm Fault
 inline_site_of kind bytes = do
-  parent ← optional_index_at bytes
-  end ← index_at parent.1
-  inlinee ← id_index_at end.1
-  invocations ← invocations_at kind inlinee.1
-  Ok
-      record {
-        parent = parent.0;
-        end = end.0;
-        inlinee = inlinee.0;
-        invocations = invocations.0;
-        annotations = invocations.1;
-      }
+  whole ← refuse (nat_lt (length bytes) (inline_site_front kind)) UnexpectedEof
+  Ok (inline_site_in kind bytes)
 
 -- ---- the form of a kind
 

@@ -1,12 +1,12 @@
 //! What a symbol's bytes say.
 
-ghost use Rattle.std.specs.Prelude.{◌≡◌};
+ghost use Rattle.std.specs.Prelude.{◌≡◌, ◌≤◌, length, IfOk};
 ghost use Rattle.pdb_container.specs.Buffer.{rest, ParsesFront};
 ghost use Rattle.pdb_container.specs.Fault.{Parses};
 ghost use Rattle.pdb_container.specs.RawString.{raw_bytes};
 ghost use Rattle.pdb_symbols.specs.Forms as forms;
-ghost use Rattle.pdb_symbols.specs.Forms.{symbol_form};
-ghost use Rattle.pdb_symbols.specs.Records.{index_at, optional_index_at, place_at, symbol_name_at, invocations_at, public_of, procedure_symbol_at, thunk_of, separated_code_of, inline_site_of, as_form, end_form, form_of, symbol_form_of};
+ghost use Rattle.pdb_symbols.specs.Forms.{symbol_form, public_form, procedure_form, thunk_form, inline_site_form};
+ghost use Rattle.pdb_symbols.specs.Records.{index_of, symbol_name_at, name_behind as name_behind_front, inline_site_front, invocations_in as invocations_of, inline_site_in as inline_site_of_front, public_in as public_of_front, procedure_in as procedure_of_front, thunk_in as thunk_of_front, separated_code_in as separated_code_of_front, public_of, procedure_symbol_at, thunk_of, separated_code_of, inline_site_of, as_form, end_form, form_of, symbol_form_of};
 
 use crate::kinds::{
     S_END, S_INLINESITE_END, S_INLINESITE2, S_PROC_ID_END, has_form, is_dpc, is_global,
@@ -18,8 +18,8 @@ use crate::symbol_data::{
 };
 use pdb_addresses::PdbInternalSectionOffset;
 use pdb_annotations::{BinaryAnnotations, InlineSiteSymbol};
-use pdb_container::{Error, ParseBuffer, RawString, Result};
-use pdb_indices::SymbolIndex;
+use pdb_container::{Error, ParseBuffer, RawString, Result, half_at, word_at};
+use pdb_indices::{IdIndex, SymbolIndex, TypeIndex};
 
 impl<'t> Symbol<'t> {
     /// What the symbol says, by its kind (`S_*`).
@@ -70,33 +70,14 @@ fn parse_end<'t>(kind: u16) -> Result<SymbolData<'t>>
     }
 }
 
-#[tactic(auto, unfolding(crate::specs::Records::index_at))]
-fn parse_index(buffer: &mut ParseBuffer<'_>) -> Result<SymbolIndex>
-    ensures { ParsesFront (λ x. x) result (rest buffer.new) (index_at (rest buffer.old)) }
+/// The index that a number names, none for 0.
+fn optional_index(number: u32) -> Option<SymbolIndex>
+    ensures { result ≡ index_of number }
 {
-    Ok(SymbolIndex(buffer.parse_u32()?))
-}
-
-/// A symbol's index, none at 0.
-#[tactic(auto, unfolding(crate::specs::Records::optional_index_at))]
-fn parse_optional_index(buffer: &mut ParseBuffer<'_>) -> Result<Option<SymbolIndex>>
-    ensures { ParsesFront (λ x. x) result (rest buffer.new) (optional_index_at (rest buffer.old)) }
-{
-    let number = buffer.parse_u32()?;
     if number == 0 {
-        return Ok(None);
+        return None;
     }
-    Ok(Some(SymbolIndex(number)))
-}
-
-/// An offset, and a section's number.
-#[tactic(auto, unfolding(crate::specs::Records::place_at))]
-fn parse_place(buffer: &mut ParseBuffer<'_>) -> Result<PdbInternalSectionOffset>
-    ensures { ParsesFront (λ x. x) result (rest buffer.new) (place_at (rest buffer.old)) }
-{
-    let offset = buffer.parse_u32()?;
-    let section = buffer.parse_u16()?;
-    Ok(PdbInternalSectionOffset { offset, section })
+    Some(SymbolIndex(number))
 }
 
 /// A name: for kinds below 0x1100 a Pascal string, else a C string.
@@ -111,130 +92,175 @@ fn parse_name<'t>(kind: u16, buffer: &mut ParseBuffer<'t>) -> Result<RawString<'
     }
 }
 
+/// The name behind so many bytes. `UnexpectedEof` where these aren't all there.
+#[tactic(auto, unfolding(crate::specs::Records::name_behind))]
+fn name_behind(kind: u16, front: usize, payload: &[u8]) -> Result<RawString<'_>>
+    ensures name { Parses raw_bytes result (name_behind_front kind front payload.now) }
+    ensures whole { IfOk result (λ _. front ≤ length payload.now) }
+{
+    if payload.len() < front {
+        return Err(Error::UnexpectedEof);
+    }
+    parse_name(kind, &mut ParseBuffer::from(&payload[front..]))
+}
+
 #[tactic(auto, unfolding(crate::specs::Records::public_of))]
 fn parse_public(kind: u16, payload: &[u8]) -> Result<SymbolData<'_>>
     ensures { Parses symbol_form result (as_form forms.Public (public_of kind payload.now)) }
 {
-    let mut buffer = ParseBuffer::from(payload);
-    let flags = buffer.parse_u32()?;
-    let offset = parse_place(&mut buffer)?;
-    let name = parse_name(kind, &mut buffer)?;
-    Ok(SymbolData::Public(PublicSymbol {
+    let name = name_behind(kind, 10, payload)?;
+    Ok(SymbolData::Public(public_in(payload, name)))
+}
+
+/// What the 10 bytes before a public symbol's name say.
+fn public_in<'t>(bytes: &[u8], name: RawString<'t>) -> PublicSymbol<'t>
+    requires { 10 ≤ length bytes.now }
+    ensures { public_form result ≡ public_of_front bytes.now (raw_bytes name.entry) }
+{
+    let flags = word_at(bytes, 0);
+    PublicSymbol {
         code: flags & 1 != 0,
         function: flags & 2 != 0,
         managed: flags & 4 != 0,
         msil: flags & 8 != 0,
-        offset,
+        offset: PdbInternalSectionOffset {
+            offset: word_at(bytes, 4),
+            section: half_at(bytes, 8),
+        },
         name,
-    }))
+    }
 }
 
 #[tactic(auto, unfolding(crate::specs::Records::procedure_symbol_at))]
 fn parse_procedure(kind: u16, payload: &[u8]) -> Result<SymbolData<'_>>
     ensures { Parses symbol_form result (as_form forms.Procedure (procedure_symbol_at kind payload.now)) }
 {
-    let mut buffer = ParseBuffer::from(payload);
-    let parent = parse_optional_index(&mut buffer)?;
-    let end = parse_index(&mut buffer)?;
-    let next = parse_optional_index(&mut buffer)?;
-    let len = buffer.parse_u32()?;
-    let dbg_start_offset = buffer.parse_u32()?;
-    let dbg_end_offset = buffer.parse_u32()?;
-    let type_index = buffer.parse()?;
-    let offset = parse_place(&mut buffer)?;
-    let flags = buffer.parse_u8()?;
-    let name = parse_name(kind, &mut buffer)?;
-    Ok(SymbolData::Procedure(ProcedureSymbol {
+    let name = name_behind(kind, 35, payload)?;
+    Ok(SymbolData::Procedure(procedure_in(kind, payload, name)))
+}
+
+/// What the 35 bytes before a procedure's name say.
+fn procedure_in<'t>(kind: u16, bytes: &[u8], name: RawString<'t>) -> ProcedureSymbol<'t>
+    requires { 35 ≤ length bytes.now }
+    ensures { procedure_form result ≡ procedure_of_front kind bytes.now (raw_bytes name.entry) }
+{
+    ProcedureSymbol {
         global: is_global(kind),
         dpc: is_dpc(kind),
-        parent,
-        end,
-        next,
-        len,
-        dbg_start_offset,
-        dbg_end_offset,
-        type_index,
-        offset,
-        flags,
+        parent: optional_index(word_at(bytes, 0)),
+        end: SymbolIndex(word_at(bytes, 4)),
+        next: optional_index(word_at(bytes, 8)),
+        len: word_at(bytes, 12),
+        dbg_start_offset: word_at(bytes, 16),
+        dbg_end_offset: word_at(bytes, 20),
+        type_index: TypeIndex(word_at(bytes, 24)),
+        offset: PdbInternalSectionOffset {
+            offset: word_at(bytes, 28),
+            section: half_at(bytes, 32),
+        },
+        flags: bytes[34],
         name,
-    }))
+    }
 }
 
 #[tactic(auto, unfolding(crate::specs::Records::thunk_of))]
 fn parse_thunk(kind: u16, payload: &[u8]) -> Result<SymbolData<'_>>
     ensures { Parses symbol_form result (as_form forms.Thunk (thunk_of kind payload.now)) }
 {
-    let mut buffer = ParseBuffer::from(payload);
-    let parent = parse_optional_index(&mut buffer)?;
-    let end = parse_index(&mut buffer)?;
-    let next = parse_optional_index(&mut buffer)?;
-    let offset = parse_place(&mut buffer)?;
-    let len = buffer.parse_u16()?;
-    let leads_to = buffer.parse_u8()?;
-    let name = parse_name(kind, &mut buffer)?;
-    Ok(SymbolData::Thunk(ThunkSymbol {
-        parent,
-        end,
-        next,
-        offset,
-        len,
-        kind: leads_to,
+    let name = name_behind(kind, 21, payload)?;
+    Ok(SymbolData::Thunk(thunk_in(payload, name)))
+}
+
+/// What the 21 bytes before a thunk's name say.
+fn thunk_in<'t>(bytes: &[u8], name: RawString<'t>) -> ThunkSymbol<'t>
+    requires { 21 ≤ length bytes.now }
+    ensures { thunk_form result ≡ thunk_of_front bytes.now (raw_bytes name.entry) }
+{
+    ThunkSymbol {
+        parent: optional_index(word_at(bytes, 0)),
+        end: SymbolIndex(word_at(bytes, 4)),
+        next: optional_index(word_at(bytes, 8)),
+        offset: PdbInternalSectionOffset {
+            offset: word_at(bytes, 12),
+            section: half_at(bytes, 16),
+        },
+        len: half_at(bytes, 18),
+        kind: bytes[20],
         name,
-    }))
+    }
 }
 
 #[tactic(auto, unfolding(crate::specs::Records::separated_code_of))]
 fn parse_separated_code(payload: &[u8]) -> Result<SymbolData<'_>>
     ensures { Parses symbol_form result (as_form forms.SeparatedCode (separated_code_of payload.now)) }
 {
-    let mut buffer = ParseBuffer::from(payload);
-    let parent = parse_optional_index(&mut buffer)?;
-    let end = parse_index(&mut buffer)?;
-    let len = buffer.parse_u32()?;
-    let flags = buffer.parse_u32()?;
-    let offset = buffer.parse_u32()?;
-    let parent_offset = buffer.parse_u32()?;
-    let section = buffer.parse_u16()?;
-    let parent_section = buffer.parse_u16()?;
-    Ok(SymbolData::SeparatedCode(SeparatedCodeSymbol {
-        parent,
-        end,
-        len,
-        flags,
-        offset: PdbInternalSectionOffset { offset, section },
-        parent_offset: PdbInternalSectionOffset {
-            offset: parent_offset,
-            section: parent_section,
+    if payload.len() < 28 {
+        return Err(Error::UnexpectedEof);
+    }
+    Ok(SymbolData::SeparatedCode(separated_code_in(payload)))
+}
+
+/// What the 28 bytes of separated code say.
+fn separated_code_in(bytes: &[u8]) -> SeparatedCodeSymbol
+    requires { 28 ≤ length bytes.now }
+    ensures { result ≡ separated_code_of_front bytes.now }
+{
+    SeparatedCodeSymbol {
+        parent: optional_index(word_at(bytes, 0)),
+        end: SymbolIndex(word_at(bytes, 4)),
+        len: word_at(bytes, 8),
+        flags: word_at(bytes, 12),
+        offset: PdbInternalSectionOffset {
+            offset: word_at(bytes, 16),
+            section: half_at(bytes, 24),
         },
-    }))
+        parent_offset: PdbInternalSectionOffset {
+            offset: word_at(bytes, 20),
+            section: half_at(bytes, 26),
+        },
+    }
+}
+
+/// How many bytes of an inline site stand before its annotations.
+fn inline_site_size(kind: u16) -> usize
+    ensures size { result ≡ inline_site_front kind }
+    ensures bound { 12 ≤ result }
+{
+    if kind == S_INLINESITE2 { 16 } else { 12 }
 }
 
 /// How often an inlined call is called, which the newer kind says.
-#[tactic(auto, unfolding(crate::specs::Records::invocations_at))]
-fn parse_invocations(kind: u16, buffer: &mut ParseBuffer<'_>) -> Result<Option<u32>>
-    ensures { ParsesFront (λ x. x) result (rest buffer.new) (invocations_at kind (rest buffer.old)) }
+fn invocations_in(kind: u16, bytes: &[u8]) -> Option<u32>
+    requires { inline_site_front kind ≤ length bytes.now }
+    ensures { result ≡ invocations_of kind bytes.now }
 {
     if kind != S_INLINESITE2 {
-        return Ok(None);
+        return None;
     }
-    Ok(Some(buffer.parse_u32()?))
+    Some(word_at(bytes, 12))
 }
 
 #[tactic(auto, unfolding(crate::specs::Records::inline_site_of))]
 fn parse_inline_site(kind: u16, payload: &[u8]) -> Result<SymbolData<'_>>
     ensures { Parses symbol_form result (as_form forms.InlineSite (inline_site_of kind payload.now)) }
 {
-    let mut buffer = ParseBuffer::from(payload);
-    let parent = parse_optional_index(&mut buffer)?;
-    let end = parse_index(&mut buffer)?;
-    let inlinee = buffer.parse()?;
-    let invocations = parse_invocations(kind, &mut buffer)?;
-    let annotations = BinaryAnnotations::new(buffer.take(buffer.len())?);
-    Ok(SymbolData::InlineSite(InlineSiteSymbol {
-        parent,
-        end,
-        inlinee,
-        invocations,
-        annotations,
-    }))
+    if payload.len() < inline_site_size(kind) {
+        return Err(Error::UnexpectedEof);
+    }
+    Ok(SymbolData::InlineSite(inline_site_in(kind, payload)))
+}
+
+/// What an inline site says, whose bytes before the annotations are all there.
+fn inline_site_in(kind: u16, bytes: &[u8]) -> InlineSiteSymbol<'_>
+    requires { inline_site_front kind ≤ length bytes.now }
+    ensures { inline_site_form result ≡ inline_site_of_front kind bytes.now }
+{
+    let size = inline_site_size(kind);
+    InlineSiteSymbol {
+        parent: optional_index(word_at(bytes, 0)),
+        end: SymbolIndex(word_at(bytes, 4)),
+        inlinee: IdIndex(word_at(bytes, 8)),
+        invocations: invocations_in(kind, bytes),
+        annotations: BinaryAnnotations::new(&bytes[size..]),
+    }
 }
