@@ -25,8 +25,10 @@ impl Directory {
         requires { 0 < page_size }
         ensures { Gives directory_seen ⊥ result (Ok (with_starts page_size numbers.items)) }
     {
-        let starts = starts_of(alloc, page_size, numbers.as_slice())?;
-        Ok(Directory { numbers, starts })
+        match starts_of(alloc, page_size, numbers.as_slice()) {
+            Ok(starts) => Ok(Directory { numbers, starts }),
+            Err(fault) => Err(fault),
+        }
     }
 
     /// The size in bytes and the pages of a stream. `StreamNotFound`, `UnexpectedEof`, `PageReferenceOutOfRange`.
@@ -58,8 +60,10 @@ impl Directory {
             return Err(Error::StreamNotFound(number));
         }
         let own = numbers_from(numbers, *count, self.starts[number as usize]);
-        let pages = pages_of(alloc, used, pages_for(page_size, size) as usize, own)?;
-        Ok((size, pages))
+        match pages_of(alloc, used, pages_for(page_size, size) as usize, own) {
+            Ok(pages) => Ok((size, pages)),
+            Err(fault) => Err(fault),
+        }
     }
 }
 
