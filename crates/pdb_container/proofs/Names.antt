@@ -1,5 +1,5 @@
 -- What a string table's header says of its names.
-use Rattle.std.proofs.Common.{◌≡◌, ℕ, List, length, take, drop, true, false, not, ◌&&◌, ◌||◌, ◌==◌, Result, Ok, Err, ◌≤◌, ◌<◌, ◌-◌, inl, inr, refl, ap, ◌∙◌, arith}
+use Rattle.std.proofs.Common.{◌≡◌, ℕ, List, length, take, drop, true, false, not, ◌&&◌, ◌||◌, ◌==◌, Result, Ok, Err, ◌≤◌, ◌<◌, ◌-◌, inl, inr, refl, ◌∙◌, arith}
 use Rattle.std.specs.Prelude.{codes}
 use Rattle.std.proofs.lemmas.List.{drop-drop, length-drop}
 use Rattle.std.proofs.lemmas.Bool.{cases_lt, lt-ltb, le-ltb}

@@ -1,8 +1,9 @@
 -- Places in bytes, and what strings are of the bytes from a place on.
-use Rattle.std.proofs.Common.{◌≡◌, ℕ, suc, ◌+◌, ◌≤◌, inl, inr, min, List, ◌∷◌, length, take, drop, position, Some, Ok, sym, ◌∙◌, ap, refl, arith}
+use Rattle.std.proofs.Common.{◌≡◌, ℕ, suc, ◌+◌, ◌-◌, ◌≤◌, inl, inr, min, List, ◌∷◌, length, take, drop, position, Some, Ok, sym, ◌∙◌, ap, refl, arith}
 use Rattle.std.specs.Prelude.{◌==◌}
 use Rattle.std.proofs.lemmas.Bool.{cases_lt, le-ltb}
-use Rattle.std.proofs.lemmas.List.{drop-drop, drop_all}
+use Rattle.std.proofs.lemmas.List.{drop-drop, drop_all, length-drop}
+use Rattle.pdb_container.specs.Buffer.{Buffer, rest, behind}
 use Rattle.pdb_container.specs.Fields.{c_string_at, pascal_string_at}
 
 -- dropping to the end and past it are one
@@ -18,11 +19,26 @@ pub text_read : (bytes : List ℕ) (pos end : ℕ) → position (λ byte. byte =
 unfolding c_string_at
 text_read bytes pos end h = rw (h, drop-drop (end + 1) pos bytes) refl
 
+-- the same bytes from a place on
+abbrev at : Buffer → ℕ → Buffer
+at b place = record { bytes = b.bytes; pos = place }
+
+-- the same bytes from a later place on
+abbrev pub after : Buffer → ℕ → Buffer
+after b n = record { bytes = b.bytes; pos = b.pos + n }
+
+-- bytes that are there are behind their place
+pub taken : (b : Buffer) (n : ℕ) → b.pos ≤ length b.bytes → n ≤ length (rest b) → after b n ≡ behind b (rest (after b n))
+unfolding rest
+taken b n within le =
+    let there : n ≤ length b.bytes - b.pos = rw (sym (length-drop b.pos b.bytes)) le in
+    let p : b.pos + n ≡ length b.bytes - length (drop (b.pos + n) b.bytes) = omega (arith, within, there, length-drop (b.pos + n) b.bytes) in
+    ap (at b) p
+
 -- a length in one byte, and so many bytes, are a Pascal string
-pub pascal_read : (bytes behind : List ℕ) (pos size : ℕ) → drop pos bytes ≡ size ∷ behind → size ≤ length behind
-    → pascal_string_at (drop pos bytes) ≡ Ok (take size behind, drop (pos + (size + 1)) bytes)
-unfolding pascal_string_at
-pascal_read bytes behind pos size h le =
+pub pascal_read : (b : Buffer) (text : List ℕ) (size : ℕ) → rest b ≡ size ∷ text → size ≤ length text → pascal_string_at (rest b) ≡ Ok (take size text, rest (after b (size + 1)))
+unfolding rest pascal_string_at
+pascal_read b text size h le =
     let k : size + 1 ≡ suc size = omega arith in
-    let left : drop size behind ≡ drop (pos + (size + 1)) bytes = ap (drop (suc size)) (sym h) ∙ ap (λ n. drop n (drop pos bytes)) (sym k) ∙ drop-drop (size + 1) pos bytes in
-    rw (h, le-ltb (length behind) size le, left) refl
+    let left : drop size text ≡ drop (b.pos + (size + 1)) b.bytes = ap (drop (suc size)) (sym h) ∙ ap (λ n. drop n (drop b.pos b.bytes)) (sym k) ∙ drop-drop (size + 1) b.pos b.bytes in
+    rw (h, le-ltb (length text) size le, left) refl

@@ -280,7 +280,7 @@ impl<'b> ParseBuffer<'b> {
     }
 
     /// A Pascal string: a length in one byte and so many bytes; `UnexpectedEof` where any is missing.
-    #[tactic(auto, using(crate::proofs::Taking::pascal_read), unfolding(crate::specs::Buffer::rest, crate::specs::Fields::pascal_string_at))]
+    #[tactic(auto, unfolding(crate::specs::Buffer::rest, crate::specs::Fields::pascal_string_at))]
     pub fn parse_u8_pascal_string(&mut self) -> Result<RawString<'b>>
         ensures value { Reads raw_bytes result self.old self.new pascal_string_at }
         ensures taken { IfOk result (λ _. length (rest self.new) < length (rest self.old)) }

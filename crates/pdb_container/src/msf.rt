@@ -141,7 +141,7 @@ fn directory_pages<S: Source>(source: &mut S, alloc: Global, header: &Header) ->
     requires { IsSound (layout header.now) }
     ensures answer { AnswersFrom S.bytes S.failures source.old source.new (λ v. v.items) result
         (and_then (bytes_at (S.bytes source.old) (page_places header.now.page_size header.now.list_pages.items (4 * div_ceil header.now.directory_size header.now.page_size)))
-            (λ list. pages_in header.now.pages_used (div_ceil header.now.directory_size header.now.page_size) (words list))) }
+        (λ list. pages_in header.now.pages_used (div_ceil header.now.directory_size header.now.page_size) (words list))) }
     ensures len { IfOk result (λ v. vec_len v ≡ div_ceil header.now.directory_size header.now.page_size) }
 {
     let count = header.directory_size.div_ceil(header.page_size) as usize;

@@ -13,7 +13,7 @@ returns-in-Ok g c =
         same = numbers.same ∙ pages.same;
         counts = omega (arith, pages.counts, numbers.counts);
         exact = rw (directory_goes_on (layout c.args.header.now) (g.S.Source.bytes c.args.source.now) c.in-Ok.pages.items pages.exact)
-        (gives_later _ _ _ _ _ _ pages.counts (rw (pages.same, c.as_slice.ensures.value) at numbers.exact));
+            (gives_later _ _ _ _ _ _ pages.counts (rw (pages.same, c.as_slice.ensures.value) at numbers.exact));
       };
     }
 
