@@ -449,22 +449,37 @@ fn first_directory<S: Source>(
     }
 }
 
+/// The header of a source.
+#[tactic(auto, using(crate::proofs::Outside::outside_alone), unfolding(crate::specs::Container::layout_of))]
+fn read_header<S: Source>(source: &mut S, alloc: Global) -> Result<Header>
+    ensures answer { AnswersFrom S.bytes S.failures source.old source.new layout result (layout_of (S.bytes source.old)) }
+    ensures sound { IfOk result (λ h. IsSound (layout h)) }
+{
+    match read_front(source, alloc) {
+        Ok(front) => header_of(alloc, front.as_slice()),
+        Err(fault) => Err(fault),
+    }
+}
+
 /// Opens the MSF container that a source holds: its header and the numbers of its list pages, in the first 4096 bytes.
 /// The directory is read here too, and a fault of it is answered by every `get`; where the source fails in that, the
 /// next `get` tries again. `UnrecognizedFileFormat`, `InvalidPageSize`, `PageReferenceOutOfRange`, `UnexpectedEof`;
 /// `IoError` where the source failed.
-#[tactic(auto, using(crate::proofs::Outside::outside_alone, crate::proofs::Outside::outside_with), unfolding(crate::specs::Container::layout_of))]
+#[tactic(auto, using(crate::proofs::Outside::outside_with))]
 pub fn open_msf<'s, S: Source + Drop>(alloc: Global, mut source: S) -> Result<BigMSF<'s, S>>
     ensures file { IfOk result (λ m. (S.bytes m ≡ S.bytes source) × (S.failures source ≤ S.failures m) × IsOk (layout_of (S.bytes source))) }
     ensures err { IfErr result (λ e. IsOutside e ((after : S) × (S.bytes after ≡ S.bytes source) × HasRisen (S.failures source) (S.failures after)) ⊎ (layout_of (S.bytes source) ≡ Err (fault_of e))) }
 {
-    let front = read_front(&mut source, alloc)?;
-    let header = header_of(alloc, front.as_slice())?;
-    let directory = first_directory(&mut source, alloc, &header)?;
-    Ok(BigMSF {
-        source,
-        header,
-        directory,
-        of: PhantomData,
-    })
+    match read_header(&mut source, alloc) {
+        Ok(header) => match first_directory(&mut source, alloc, &header) {
+            Ok(directory) => Ok(BigMSF {
+                source,
+                header,
+                directory,
+                of: PhantomData,
+            }),
+            Err(fault) => Err(fault),
+        },
+        Err(fault) => Err(fault),
+    }
 }
