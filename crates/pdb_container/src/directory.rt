@@ -32,7 +32,7 @@ impl Directory {
     }
 
     /// The size in bytes and the pages of a stream. `StreamNotFound`, `UnexpectedEof`, `PageReferenceOutOfRange`.
-    #[tactic(auto, using(crate::proofs::Paging::pages_enough, crate::proofs::Starts::starts_there, crate::proofs::Starts::start_at), unfolding(crate::specs::Container::stream_pages_in))]
+    #[tactic(auto, using(crate::proofs::Paging::pages_enough, crate::proofs::Starts::starts_there))]
     pub fn place_of(
         &self,
         alloc: Global,
