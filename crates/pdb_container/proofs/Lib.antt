@@ -1,5 +1,6 @@
 pub mod Alike
 pub mod Bytes
+pub mod DirectorySteps
 pub mod Entries
 pub mod First
 pub mod Limits

@@ -1,37 +1,58 @@
--- Where the names of a table lie in its stream.
-use Rattle.std.proofs.Common.{◌≡◌, ℕ, List, length, take, drop, Bool, true, false, cond, ltb, Result, Ok, Err, sym, ap, ◌∙◌, ◌≤◌, min, inl, inr, arith}
-use Rattle.std.proofs.lemmas.List.{drop-drop, length-take, take_all}
-use Rattle.std.proofs.lemmas.Bool.{cases_lt}
+-- What a string table's header says of its names.
+use Rattle.std.proofs.Common.{◌≡◌, ℕ, List, length, take, drop, true, false, not, ◌&&◌, ◌||◌, ◌==◌, Result, Ok, Err, ◌≤◌, ◌<◌, ◌-◌, inl, inr, refl, ◌∙◌, arith}
+use Rattle.std.specs.Prelude.{codes}
+use Rattle.std.proofs.lemmas.List.{drop-drop, length-drop}
+use Rattle.std.proofs.lemmas.Bool.{cases_lt, lt-ltb, le-ltb}
 use Rattle.std.specs.Int.{w32, from_le_bytes}
-use Rattle.pdb_container.specs.Fault.{Fault, UnexpectedEof}
+use Rattle.pdb_container.specs.Fault.{Fault, UnexpectedEof, UnimplementedFeature, ◌>>=◌, refuse}
 use Rattle.pdb_container.specs.Fields.{number_at, bytes_of}
+use Rattle.pdb_container.specs.Container.{word_at}
+use Rattle.pdb_container.specs.StringTable.{names_of}
 
--- what stands in the second part of a result
-abbrev answer : {X Y : Type 0} → Bool → X → Y → Result (X × Y) Fault
-answer short x y = cond short (Err UnexpectedEof) (Ok (x, y))
+-- four bytes that are there, and fewer
+word : (bytes : List ℕ) → 4 ≤ length bytes → number_at w32 bytes ≡ Ok (from_le_bytes w32 (take 4 bytes), drop 4 bytes)
+word bytes le = rw (le-ltb (length bytes) 4 le) refl
 
-second : {X : Type 0} (short : Bool) (x y : X) (there left : List ℕ) → answer short x there ≡ Ok (y, left) → left ≡ there
-second {X} true x y there left h = absurd cc
-second {X} false x y there left h = let found : X × List ℕ = (x, there) in let wanted : X × List ℕ = (y, left) in let pair : found ≡ wanted = cc in sym (ap (λ p. p.1) pair)
+no_word : (bytes : List ℕ) → length bytes < 4 → number_at w32 bytes ≡ Err UnexpectedEof
+no_word bytes lt = rw (lt-ltb (length bytes) 4 lt) refl
 
-first : {X : Type 0} (short : Bool) (there names : List ℕ) (x y : X) → answer short there x ≡ Ok (names, y) → names ≡ there
-first {X} true there names x y h = absurd cc
-first {X} false there names x y h = let found : List ℕ × X = (there, x) in let wanted : List ℕ × X = (names, y) in let pair : found ≡ wanted = cc in sym (ap (λ p. p.0) pair)
+-- what three numbers, and the bytes behind them, say
+abbrev said : ℕ → ℕ → ℕ → List ℕ → Result (List ℕ) Fault
+said signature version size left =
+    refuse (not ((signature == 0xeffeeffe) && ((version == 1) || (version == 2)))) (UnimplementedFeature (codes "string table")) >>= λ _. bytes_of size left >>= λ names. Ok names.0
 
-behind_word : (bytes left : List ℕ) (a : ℕ) → number_at w32 bytes ≡ Ok (a, left) → left ≡ drop 4 bytes
-behind_word bytes left a h = second (ltb (length bytes) 4) (from_le_bytes w32 (take 4 bytes)) a (drop 4 bytes) left h
+header : (bytes : List ℕ) → 12 ≤ length bytes → names_of bytes ≡ said (word_at bytes 0) (word_at bytes 4) (word_at bytes 8) (drop 12 bytes)
+unfolding names_of
+header bytes le =
+    rw (word bytes (omega arith), word (drop 4 bytes) (omega (arith, length-drop 4 bytes)), drop-drop 4 4 bytes, word (drop 8 bytes) (omega (arith, length-drop 8 bytes)), drop-drop 4 8 bytes) refl
 
-own_length : (size : ℕ) (names bytes : List ℕ) → names ≡ take size bytes → (names ≡ take (length names) bytes) × (length names ≤ length bytes)
-own_length size names bytes h =
-    let n : length names ≡ min size (length bytes) = ap length h ∙ length-take size bytes in
-    elim (cases_lt (length bytes) size) [
-      | inl lt ↦ let e : length names ≡ length bytes = omega (arith, n) in (h ∙ take_all size bytes (omega arith) ∙ sym (take_all (length names) bytes (omega (arith, e))), omega (arith, e))
-      | inr le ↦ let e : length names ≡ size = omega (arith, n) in (rw e h, omega (arith, e))
+-- a header that isn't whole
+pub names_short : (bytes : List ℕ) → length bytes < 12 → names_of bytes ≡ Err UnexpectedEof
+unfolding names_of
+names_short bytes lt =
+    elim (cases_lt (length bytes) 4) [
+      | inl h ↦ rw (no_word bytes h) refl
+      | inr h ↦ elim (cases_lt (length bytes) 8) [
+        | inl i ↦ rw (word bytes h, no_word (drop 4 bytes) (omega (arith, length-drop 4 bytes))) refl
+        | inr i ↦ rw (word bytes h, word (drop 4 bytes) (omega (arith, length-drop 4 bytes)), drop-drop 4 4 bytes, no_word (drop 8 bytes) (omega (arith, length-drop 8 bytes))) refl
+      ]
     ]
 
--- the names of a string table lie behind three numbers, and in the stated size
-pub names_behind : (bytes x y z names left : List ℕ) (a b size : ℕ) → number_at w32 bytes ≡ Ok (a, x) → number_at w32 x ≡ Ok (b, y) → number_at w32 y ≡ Ok (size, z)
-    → bytes_of size z ≡ Ok (names, left) → (names ≡ take (length names) (drop 12 bytes)) × (length names ≤ length (drop 12 bytes))
-names_behind bytes x y z names left a b size h i j k =
-    let e : z ≡ drop 12 bytes = behind_word y z size j ∙ ap (drop 4) (behind_word x y b i ∙ ap (drop 4) (behind_word bytes x a h)) ∙ ap (drop 4) (drop-drop 4 4 bytes) ∙ drop-drop 4 8 bytes in
-    own_length size names (drop 12 bytes) (first (ltb (length z) size) (take size z) names (drop size z) left k ∙ ap (take size) e)
+-- another signature or version
+pub names_unknown : (bytes : List ℕ) → 12 ≤ length bytes → ((word_at bytes 0 == 0xeffeeffe) && ((word_at bytes 4 == 1) || (word_at bytes 4 == 2))) ≡ false
+    → names_of bytes ≡ Err (UnimplementedFeature (codes "string table"))
+names_unknown bytes le unknown = header bytes le ∙ rw unknown refl
+
+known : (bytes : List ℕ) → 12 ≤ length bytes → ((word_at bytes 0 == 0xeffeeffe) && ((word_at bytes 4 == 1) || (word_at bytes 4 == 2))) ≡ true
+    → names_of bytes ≡ (bytes_of (word_at bytes 8) (drop 12 bytes) >>= λ names. Ok names.0)
+known bytes le h = header bytes le ∙ rw h refl
+
+-- names that aren't all there
+pub names_missing : (bytes : List ℕ) → 12 ≤ length bytes → ((word_at bytes 0 == 0xeffeeffe) && ((word_at bytes 4 == 1) || (word_at bytes 4 == 2))) ≡ true
+    → length bytes - 12 < word_at bytes 8 → names_of bytes ≡ Err UnexpectedEof
+names_missing bytes le h lt = known bytes le h ∙ rw (lt-ltb (length (drop 12 bytes)) (word_at bytes 8) (omega (arith, length-drop 12 bytes))) refl
+
+-- names that are all there
+pub names_there : (bytes : List ℕ) → 12 ≤ length bytes → ((word_at bytes 0 == 0xeffeeffe) && ((word_at bytes 4 == 1) || (word_at bytes 4 == 2))) ≡ true
+    → word_at bytes 8 ≤ length bytes - 12 → names_of bytes ≡ Ok (take (word_at bytes 8) (drop 12 bytes))
+names_there bytes le h fits = known bytes le h ∙ rw (le-ltb (length (drop 12 bytes)) (word_at bytes 8) (omega (arith, length-drop 12 bytes))) refl

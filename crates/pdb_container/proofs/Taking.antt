@@ -1,13 +1,10 @@
--- Places in bytes, and a C string as the bytes before its NUL of those with it.
-use Rattle.std.proofs.Common.{◌≡◌, ℕ, ◌+◌, ◌<◌, inl, inr, min, List, length, take, drop, position, Some, Ok, Err, sym, ◌∙◌, ap, refl, arith}
+-- Places in bytes, and what strings are of the bytes from a place on.
+use Rattle.std.proofs.Common.{◌≡◌, ℕ, suc, ◌+◌, ◌-◌, ◌≤◌, inl, inr, min, List, ◌∷◌, length, take, drop, position, Some, Ok, sym, ◌∙◌, ap, refl, arith}
 use Rattle.std.specs.Prelude.{◌==◌}
 use Rattle.std.proofs.lemmas.Bool.{cases_lt, le-ltb}
-use Rattle.std.proofs.lemmas.List.{take-take, drop_all}
-use Rattle.pdb_container.specs.Fault.{Fault}
-use Rattle.pdb_container.specs.Fields.{bytes_of, c_string_at}
-
-there : (bytes : List ℕ) (end : ℕ) → end < length bytes → bytes_of (end + 1) bytes ≡ Ok (take (end + 1) bytes, drop (end + 1) bytes)
-there bytes end within = rw (le-ltb (length bytes) (end + 1) (omega arith)) refl
+use Rattle.std.proofs.lemmas.List.{drop-drop, drop_all, length-drop}
+use Rattle.pdb_container.specs.Buffer.{Buffer, rest, behind}
+use Rattle.pdb_container.specs.Fields.{c_string_at, pascal_string_at}
 
 -- dropping to the end and past it are one
 pub drop_within : (n : ℕ) (bytes : List ℕ) → drop (min n (length bytes)) bytes ≡ drop n bytes
@@ -17,20 +14,31 @@ drop_within n bytes =
       | inr h ↦ let e : min n (length bytes) ≡ n = omega arith in rw e refl
     ]
 
--- bytes up to a NUL that is there aren't missing
-pub text_missing : (bytes : List ℕ) (end : ℕ) (e : Fault) → end < length bytes → bytes_of (end + 1) bytes ≡ Err e → ⊥
-text_missing bytes end e within h = let wrong = sym h ∙ there bytes end within in absurd cc
-
--- the bytes up to the first NUL are a C string
-pub text_read : (bytes text left : List ℕ) (end : ℕ) → end < length bytes → position (λ byte. byte == 0) bytes ≡ Some end → bytes_of (end + 1) bytes ≡ Ok (text, left)
-    → c_string_at bytes ≡ Ok (take end text, left)
+-- the bytes before the first NUL are a C string
+pub text_read : (bytes : List ℕ) (pos end : ℕ) → position (λ byte. byte == 0) (drop pos bytes) ≡ Some end → c_string_at (drop pos bytes) ≡ Ok (take end (drop pos bytes), drop (pos + (end + 1)) bytes)
 unfolding c_string_at
-text_read bytes text left end within h read =
-    let same = sym (there bytes end within) ∙ read in
-    let front : take end (take (end + 1) bytes) ≡ take end bytes = take-take end (end + 1) bytes (omega arith) in
-    let found : List ℕ × List ℕ = (text, left) in
-    let wanted : List ℕ × List ℕ = (take (end + 1) bytes, drop (end + 1) bytes) in
-    let pair : found ≡ wanted = cc in
-    let t : text ≡ take (end + 1) bytes = ap (λ x. x.0) pair in
-    let l : left ≡ drop (end + 1) bytes = ap (λ x. x.1) pair in
-    rw (h, t, l, front) refl
+text_read bytes pos end h = rw (h, drop-drop (end + 1) pos bytes) refl
+
+-- the same bytes from a place on
+abbrev at : Buffer → ℕ → Buffer
+at b place = record { bytes = b.bytes; pos = place }
+
+-- the same bytes from a later place on
+abbrev pub after : Buffer → ℕ → Buffer
+after b n = record { bytes = b.bytes; pos = b.pos + n }
+
+-- bytes that are there are behind their place
+pub taken : (b : Buffer) (n : ℕ) → b.pos ≤ length b.bytes → n ≤ length (rest b) → after b n ≡ behind b (rest (after b n))
+unfolding rest
+taken b n within le =
+    let there : n ≤ length b.bytes - b.pos = rw (sym (length-drop b.pos b.bytes)) le in
+    let p : b.pos + n ≡ length b.bytes - length (drop (b.pos + n) b.bytes) = omega (arith, within, there, length-drop (b.pos + n) b.bytes) in
+    ap (at b) p
+
+-- a length in one byte, and so many bytes, are a Pascal string
+pub pascal_read : (b : Buffer) (text : List ℕ) (size : ℕ) → rest b ≡ size ∷ text → size ≤ length text → pascal_string_at (rest b) ≡ Ok (take size text, rest (after b (size + 1)))
+unfolding rest pascal_string_at
+pascal_read b text size h le =
+    let k : size + 1 ≡ suc size = omega arith in
+    let left : drop size text ≡ drop (b.pos + (size + 1)) b.bytes = ap (drop (suc size)) (sym h) ∙ ap (λ n. drop n (drop b.pos b.bytes)) (sym k) ∙ drop-drop (size + 1) b.pos b.bytes in
+    rw (h, le-ltb (length text) size le, left) refl

@@ -148,8 +148,10 @@ impl<'b> ParseBuffer<'b> {
         ensures value { Reads (λ x. x) result self.old self.new (number_at w8) }
         ensures taken { IfOk result (λ _. length (rest self.new) + 1 ≡ length (rest self.old)) }
     {
-        let part = self.take(1)?;
-        Ok(part[0])
+        match self.take(1) {
+            Ok(part) => Ok(part[0]),
+            Err(fault) => Err(fault),
+        }
     }
 
     /// The next two bytes as a number, the lowest first; `UnexpectedEof` where fewer are left.
@@ -157,8 +159,10 @@ impl<'b> ParseBuffer<'b> {
         ensures value { Reads (λ x. x) result self.old self.new (number_at w16) }
         ensures taken { IfOk result (λ _. length (rest self.new) + 2 ≡ length (rest self.old)) }
     {
-        let part = self.take(2)?;
-        Ok(u16::from_le_bytes([part[0], part[1]]))
+        match self.take(2) {
+            Ok(part) => Ok(u16::from_le_bytes([part[0], part[1]])),
+            Err(fault) => Err(fault),
+        }
     }
 
     /// The next four bytes as a number, the lowest first; `UnexpectedEof` where fewer are left.
@@ -166,8 +170,10 @@ impl<'b> ParseBuffer<'b> {
         ensures value { Reads (λ x. x) result self.old self.new (number_at w32) }
         ensures taken { IfOk result (λ _. length (rest self.new) + 4 ≡ length (rest self.old)) }
     {
-        let part = self.take(4)?;
-        Ok(u32::from_le_bytes([part[0], part[1], part[2], part[3]]))
+        match self.take(4) {
+            Ok(part) => Ok(u32::from_le_bytes([part[0], part[1], part[2], part[3]])),
+            Err(fault) => Err(fault),
+        }
     }
 
     /// The next eight bytes as a number, the lowest first; `UnexpectedEof` where fewer are left.
@@ -175,10 +181,12 @@ impl<'b> ParseBuffer<'b> {
         ensures value { Reads (λ x. x) result self.old self.new (number_at w64) }
         ensures taken { IfOk result (λ _. length (rest self.new) + 8 ≡ length (rest self.old)) }
     {
-        let part = self.take(8)?;
-        Ok(u64::from_le_bytes([
-            part[0], part[1], part[2], part[3], part[4], part[5], part[6], part[7],
-        ]))
+        match self.take(8) {
+            Ok(part) => Ok(u64::from_le_bytes([
+                part[0], part[1], part[2], part[3], part[4], part[5], part[6], part[7],
+            ])),
+            Err(fault) => Err(fault),
+        }
     }
 
     /// The next byte in two's complement; `UnexpectedEof` where none is left.
@@ -186,7 +194,10 @@ impl<'b> ParseBuffer<'b> {
         ensures value { Reads (λ x. x) result self.old self.new (signed_at w8) }
         ensures taken { IfOk result (λ _. length (rest self.new) + 1 ≡ length (rest self.old)) }
     {
-        Ok(self.parse_u8()?.cast_signed())
+        match self.parse_u8() {
+            Ok(number) => Ok(number.cast_signed()),
+            Err(fault) => Err(fault),
+        }
     }
 
     /// The next two bytes in two's complement, the lowest first; `UnexpectedEof` where fewer are left.
@@ -194,7 +205,10 @@ impl<'b> ParseBuffer<'b> {
         ensures value { Reads (λ x. x) result self.old self.new (signed_at w16) }
         ensures taken { IfOk result (λ _. length (rest self.new) + 2 ≡ length (rest self.old)) }
     {
-        Ok(self.parse_u16()?.cast_signed())
+        match self.parse_u16() {
+            Ok(number) => Ok(number.cast_signed()),
+            Err(fault) => Err(fault),
+        }
     }
 
     /// The next four bytes in two's complement, the lowest first; `UnexpectedEof` where fewer are left.
@@ -202,7 +216,10 @@ impl<'b> ParseBuffer<'b> {
         ensures value { Reads (λ x. x) result self.old self.new (signed_at w32) }
         ensures taken { IfOk result (λ _. length (rest self.new) + 4 ≡ length (rest self.old)) }
     {
-        Ok(self.parse_u32()?.cast_signed())
+        match self.parse_u32() {
+            Ok(number) => Ok(number.cast_signed()),
+            Err(fault) => Err(fault),
+        }
     }
 
     /// The next eight bytes in two's complement, the lowest first; `UnexpectedEof` where fewer are left.
@@ -210,7 +227,10 @@ impl<'b> ParseBuffer<'b> {
         ensures value { Reads (λ x. x) result self.old self.new (signed_at w64) }
         ensures taken { IfOk result (λ _. length (rest self.new) + 8 ≡ length (rest self.old)) }
     {
-        Ok(self.parse_u64()?.cast_signed())
+        match self.parse_u64() {
+            Ok(number) => Ok(number.cast_signed()),
+            Err(fault) => Err(fault),
+        }
     }
 
     /// The next byte, which isn't taken; `UnexpectedEof` where none is left.
@@ -246,32 +266,33 @@ impl<'b> ParseBuffer<'b> {
     }
 
     /// A C string: the bytes before the next NUL, which is read too; `UnexpectedEof` where there is no NUL.
-    #[tactic(auto, using(crate::proofs::Taking::text_read, crate::proofs::Taking::text_missing), unfolding(crate::specs::Fields::c_string_at))]
+    #[tactic(auto, using(crate::proofs::Taking::text_read), unfolding(crate::specs::Buffer::rest, crate::specs::Fields::c_string_at))]
     pub fn parse_cstring(&mut self) -> Result<RawString<'b>>
         ensures value { Reads raw_bytes result self.old self.new c_string_at }
         ensures taken { IfOk result (λ _. length (rest self.new) < length (rest self.old)) }
     {
-        let Some(end) = nul_in(self.left()) else {
+        let left = self.left();
+        let Some(end) = nul_in(left) else {
             return Err(Error::UnexpectedEof);
         };
-        let text = self.take(end + 1)?;
-        Ok(RawString::from(&text[..end]))
+        self.pos += end + 1;
+        Ok(RawString::from(&left[..end]))
     }
 
     /// A Pascal string: a length in one byte and so many bytes; `UnexpectedEof` where any is missing.
-    #[tactic(auto, unfolding(crate::specs::Fields::pascal_string_at))]
+    #[tactic(auto, unfolding(crate::specs::Buffer::rest, crate::specs::Fields::pascal_string_at))]
     pub fn parse_u8_pascal_string(&mut self) -> Result<RawString<'b>>
         ensures value { Reads raw_bytes result self.old self.new pascal_string_at }
         ensures taken { IfOk result (λ _. length (rest self.new) < length (rest self.old)) }
     {
-        let start = self.pos;
-        let size = self.parse_u8()?;
-        match self.take(usize::from(size)) {
-            Ok(text) => Ok(RawString::from(text)),
-            Err(fault) => {
-                self.pos = start;
-                Err(fault)
-            }
+        let Some((size, behind)) = self.left().split_first() else {
+            return Err(Error::UnexpectedEof);
+        };
+        let size = usize::from(*size);
+        if behind.len() < size {
+            return Err(Error::UnexpectedEof);
         }
+        self.pos += size + 1;
+        Ok(RawString::from(&behind[..size]))
     }
 }

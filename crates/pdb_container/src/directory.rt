@@ -25,12 +25,14 @@ impl Directory {
         requires { 0 < page_size }
         ensures { Gives directory_seen ⊥ result (Ok (with_starts page_size numbers.items)) }
     {
-        let starts = starts_of(alloc, page_size, numbers.as_slice())?;
-        Ok(Directory { numbers, starts })
+        match starts_of(alloc, page_size, numbers.as_slice()) {
+            Ok(starts) => Ok(Directory { numbers, starts }),
+            Err(fault) => Err(fault),
+        }
     }
 
     /// The size in bytes and the pages of a stream. `StreamNotFound`, `UnexpectedEof`, `PageReferenceOutOfRange`.
-    #[tactic(auto, using(crate::proofs::Paging::pages_enough, crate::proofs::Starts::starts_there, crate::proofs::Starts::start_at), unfolding(crate::specs::Container::stream_pages_in))]
+    #[tactic(auto, using(crate::proofs::Paging::pages_enough, crate::proofs::Starts::starts_there))]
     pub fn place_of(
         &self,
         alloc: Global,
@@ -58,8 +60,10 @@ impl Directory {
             return Err(Error::StreamNotFound(number));
         }
         let own = numbers_from(numbers, *count, self.starts[number as usize]);
-        let pages = pages_of(alloc, used, pages_for(page_size, size) as usize, own)?;
-        Ok((size, pages))
+        match pages_of(alloc, used, pages_for(page_size, size) as usize, own) {
+            Ok(pages) => Ok((size, pages)),
+            Err(fault) => Err(fault),
+        }
     }
 }
 

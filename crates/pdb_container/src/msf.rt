@@ -1,13 +1,14 @@
 //! MSF streams: the header, and the pages in which each stream lies.
 
-ghost use Rattle.std.specs.Prelude.{◌≡◌, ◌*◌, ◌<◌, ◌≤◌, ◌^◌, length, take, drop, Some, IfOk, IfErr, IsOk, ◌⊎◌};
-ghost use Rattle.pdb_container.specs.Container.{words, header_in, front_in, behind_header as behind, layout_of, directory_of, stream_in, stream, at_most, list_count as lists_for};
+ghost use Rattle.std.specs.Prelude.{◌≡◌, ◌*◌, ◌<◌, ◌≤◌, ◌^◌, length, vec_len, take, drop, Some, Ok, IfOk, IfErr, IsOk, ◌⊎◌};
+ghost use Rattle.std.specs.Int.{div_ceil};
+ghost use Rattle.pdb_container.specs.Container.{words, pages_in, header_in, front_in, behind_header as behind, layout_of, directory_of, stream_in, stream, at_most, list_count as lists_for};
 ghost use Rattle.pdb_container.specs.Directory.{IsKept};
 ghost use Rattle.pdb_container.specs.SourceAnswers.{AnswersFrom};
 ghost use Rattle.pdb_container.specs.Header.{layout, IsSound};
 ghost use Rattle.std.specs.declared.io.ErrorKind.TheVariants.{UnexpectedEof};
 ghost use Rattle.pdb_container.specs.declared.error.Error.TheVariants.{OutOfMemory};
-ghost use Rattle.pdb_container.specs.Fault.{error_of, fault_of, IoError, Gives, HasRisen, IsOutside};
+ghost use Rattle.pdb_container.specs.Fault.{error_of, fault_of, IoError, ◌>>=◌ as and_then, Gives, HasRisen, IsOutside};
 ghost use Rattle.pdb_container.specs.Places.{bytes_at, page_places, IsPaged};
 
 use crate::directory::{Directory, pages_of};
@@ -90,8 +91,13 @@ fn read_pages<S: Source>(
         (bytes_at (S.bytes source.old) (page_places page_size pages.now size)) }
     ensures len { IfOk result (λ v. length v ≡ size) }
 {
-    let list = list_of(alloc, page_size, pages, size)?;
-    Ok(source.view(alloc, list.source_slices())?)
+    match list_of(alloc, page_size, pages, size) {
+        Ok(list) => match source.view(alloc, list.source_slices()) {
+            Ok(view) => Ok(view),
+            Err(cause) => Err(Error::from(cause)),
+        },
+        Err(fault) => Err(fault),
+    }
 }
 
 #[tactic(auto, using(crate::proofs::Paging::page_places_at, crate::proofs::Paging::flat_more, crate::proofs::Paging::flat_front_len))]
@@ -109,31 +115,57 @@ fn list_of(alloc: Global, page_size: u32, pages: &[u32], size: usize) -> Result<
     Ok(list)
 }
 
+/// The numbers that the first `size` bytes of the pages spell.
+fn read_words<S: Source>(
+    source: &mut S,
+    alloc: Global,
+    page_size: u32,
+    pages: &[u32],
+    size: usize,
+) -> Result<Vec<u32>>
+    requires page_size { (0 < page_size) × (page_size ≤ 0x800000) }
+    requires enough { size ≤ length pages.now * page_size }
+    requires few { length pages.now < 2 ^ 32 }
+    ensures answer { AnswersFrom S.bytes S.failures source.old source.new (λ v. v.items) result
+        (and_then (bytes_at (S.bytes source.old) (page_places page_size pages.now size)) (λ bytes. Ok (words bytes))) }
+{
+    match read_pages(source, alloc, page_size, pages, size) {
+        Ok(bytes) => words_of(alloc, bytes.as_slice()),
+        Err(fault) => Err(fault),
+    }
+}
+
+/// The directory's pages.
+#[tactic(auto, using(crate::proofs::Paging::pages_enough))]
+fn directory_pages<S: Source>(source: &mut S, alloc: Global, header: &Header) -> Result<Vec<u32>>
+    requires { IsSound (layout header.now) }
+    ensures answer { AnswersFrom S.bytes S.failures source.old source.new (λ v. v.items) result
+        (and_then (bytes_at (S.bytes source.old) (page_places header.now.page_size header.now.list_pages.items (4 * div_ceil header.now.directory_size header.now.page_size)))
+        (λ list. pages_in header.now.pages_used (div_ceil header.now.directory_size header.now.page_size) (words list))) }
+    ensures len { IfOk result (λ v. vec_len v ≡ div_ceil header.now.directory_size header.now.page_size) }
+{
+    let count = header.directory_size.div_ceil(header.page_size) as usize;
+    let list = header.list_pages.as_slice();
+    match read_words(source, alloc, header.page_size, list, 4 * count) {
+        Ok(numbers) => pages_of(alloc, header.pages_used, count, numbers.as_slice()),
+        Err(fault) => Err(fault),
+    }
+}
+
 /// The directory's numbers.
-#[tactic(auto, using(crate::proofs::Paging::pages_enough, crate::proofs::Outside::outside_alone, crate::proofs::Outside::outside_earlier, crate::proofs::Outside::outside_later), unfolding(crate::specs::Container::directory_of))]
+#[tactic(auto, using(crate::proofs::Paging::pages_enough))]
 fn read_numbers<S: Source>(source: &mut S, alloc: Global, header: &Header) -> Result<Vec<u32>>
     requires { IsSound (layout header.now) }
     ensures answer { AnswersFrom S.bytes S.failures source.old source.new (λ v. v.items) result
         (directory_of (layout header.now) (S.bytes source.old)) }
 {
-    let count = header.directory_size.div_ceil(header.page_size) as usize;
-    let list = read_pages(
-        source,
-        alloc,
-        header.page_size,
-        header.list_pages.as_slice(),
-        4 * count,
-    )?;
-    let numbers = words_of(alloc, list.as_slice())?;
-    let pages = pages_of(alloc, header.pages_used, count, numbers.as_slice())?;
-    let directory = read_pages(
-        source,
-        alloc,
-        header.page_size,
-        pages.as_slice(),
-        header.directory_size as usize,
-    )?;
-    words_of(alloc, directory.as_slice())
+    match directory_pages(source, alloc, header) {
+        Ok(pages) => {
+            let size = header.directory_size as usize;
+            read_words(source, alloc, header.page_size, pages.as_slice(), size)
+        }
+        Err(fault) => Err(fault),
+    }
 }
 
 /// The directory, or its fault, to be kept. `OutOfMemory`, and `IoError` where the source failed, are not kept.
@@ -151,7 +183,10 @@ fn read_directory<S: Source>(
         ⊎ (directory_of (layout header.now) (S.bytes source.old) ≡ Err (fault_of e))) }
 {
     match read_numbers(source, alloc, header) {
-        Ok(numbers) => Ok(Ok(Directory::new(alloc, header.page_size, numbers)?)),
+        Ok(numbers) => match Directory::new(alloc, header.page_size, numbers) {
+            Ok(directory) => Ok(Ok(directory)),
+            Err(fault) => Err(fault),
+        },
         Err(Error::OutOfMemory) => Err(Error::OutOfMemory),
         Err(Error::IoError(kind)) => match kind {
             ErrorKind::UnexpectedEof => Ok(Err(Error::IoError(kind))),
@@ -181,9 +216,13 @@ fn read_stream<S: Source>(
         Ok(directory) => directory,
         Err(fault) => return Err(*fault),
     };
-    let (size, pages) = directory.place_of(alloc, header.page_size, header.pages_used, number)?;
-    let size = cut(limit, size as usize);
-    read_pages(source, alloc, header.page_size, pages.as_slice(), size)
+    match directory.place_of(alloc, header.page_size, header.pages_used, number) {
+        Ok((size, pages)) => {
+            let size = cut(limit, size as usize);
+            read_pages(source, alloc, header.page_size, pages.as_slice(), size)
+        }
+        Err(fault) => Err(fault),
+    }
 }
 
 /// The first bytes of a stream, where no directory is kept: it is read anew and kept.
@@ -203,10 +242,14 @@ fn read_anew<S: Source>(
         (stream_in (layout header.now) (S.bytes source.old) number limit) }
     ensures few { IfOk result (λ v. length v < 2 ^ 32) }
 {
-    let kept = read_directory(source, alloc, header)?;
-    let view = read_stream(source, alloc, header, &kept, number, limit);
-    *directory = Some(kept);
-    view
+    match read_directory(source, alloc, header) {
+        Ok(kept) => {
+            let view = read_stream(source, alloc, header, &kept, number, limit);
+            *directory = Some(kept);
+            view
+        }
+        Err(fault) => Err(fault),
+    }
 }
 
 fn cut(limit: Option<usize>, size: usize) -> usize
@@ -234,15 +277,27 @@ fn header_of(alloc: Global, front: &[u8]) -> Result<Header>
     if !page_size.is_power_of_two() || page_size < 0x100 || page_size > 0x80_0000 {
         return Err(Error::InvalidPageSize(page_size));
     }
-    let numbers = words_of(alloc, behind_header(front))?;
     let count = list_count(page_size, directory_size);
-    let list_pages = pages_of(alloc, pages_used, count, numbers.as_slice())?;
-    Ok(Header {
-        page_size,
-        pages_used,
-        directory_size,
-        list_pages,
-    })
+    match pages_from(alloc, pages_used, count, behind_header(front)) {
+        Ok(list_pages) => Ok(Header {
+            page_size,
+            pages_used,
+            directory_size,
+            list_pages,
+        }),
+        Err(fault) => Err(fault),
+    }
+}
+
+/// The first `count` numbers that the bytes spell, which have to be page numbers.
+fn pages_from(alloc: Global, used: u32, count: usize, bytes: &[u8]) -> Result<Vec<u32>>
+    ensures exact { Gives (λ v. v.items) ⊥ result (pages_in used count (words bytes.now)) }
+    ensures len { IfOk result (λ v. vec_len v ≡ count) }
+{
+    match words_of(alloc, bytes) {
+        Ok(numbers) => pages_of(alloc, used, count, numbers.as_slice()),
+        Err(fault) => Err(fault),
+    }
 }
 
 #[tactic(auto, unfolding(crate::specs::Container::behind_header))]
@@ -344,11 +399,13 @@ impl<'s, S: Source> Msf<'s, S> for BigMSF<'s, S> {
         stream_number: u32,
         limit: Option<usize>,
     ) -> Result<Stream<'s>> {
-        let view = self.view_of(alloc, stream_number, limit)?;
-        Ok(Stream {
-            view,
-            of: PhantomData,
-        })
+        match self.view_of(alloc, stream_number, limit) {
+            Ok(view) => Ok(Stream {
+                view,
+                of: PhantomData,
+            }),
+            Err(fault) => Err(fault),
+        }
     }
 }
 
@@ -392,22 +449,37 @@ fn first_directory<S: Source>(
     }
 }
 
+/// The header of a source.
+#[tactic(auto, using(crate::proofs::Outside::outside_alone), unfolding(crate::specs::Container::layout_of))]
+fn read_header<S: Source>(source: &mut S, alloc: Global) -> Result<Header>
+    ensures answer { AnswersFrom S.bytes S.failures source.old source.new layout result (layout_of (S.bytes source.old)) }
+    ensures sound { IfOk result (λ h. IsSound (layout h)) }
+{
+    match read_front(source, alloc) {
+        Ok(front) => header_of(alloc, front.as_slice()),
+        Err(fault) => Err(fault),
+    }
+}
+
 /// Opens the MSF container that a source holds: its header and the numbers of its list pages, in the first 4096 bytes.
 /// The directory is read here too, and a fault of it is answered by every `get`; where the source fails in that, the
 /// next `get` tries again. `UnrecognizedFileFormat`, `InvalidPageSize`, `PageReferenceOutOfRange`, `UnexpectedEof`;
 /// `IoError` where the source failed.
-#[tactic(auto, using(crate::proofs::Outside::outside_alone, crate::proofs::Outside::outside_with), unfolding(crate::specs::Container::layout_of))]
+#[tactic(auto, using(crate::proofs::Outside::outside_with))]
 pub fn open_msf<'s, S: Source + Drop>(alloc: Global, mut source: S) -> Result<BigMSF<'s, S>>
     ensures file { IfOk result (λ m. (S.bytes m ≡ S.bytes source) × (S.failures source ≤ S.failures m) × IsOk (layout_of (S.bytes source))) }
     ensures err { IfErr result (λ e. IsOutside e ((after : S) × (S.bytes after ≡ S.bytes source) × HasRisen (S.failures source) (S.failures after)) ⊎ (layout_of (S.bytes source) ≡ Err (fault_of e))) }
 {
-    let front = read_front(&mut source, alloc)?;
-    let header = header_of(alloc, front.as_slice())?;
-    let directory = first_directory(&mut source, alloc, &header)?;
-    Ok(BigMSF {
-        source,
-        header,
-        directory,
-        of: PhantomData,
-    })
+    match read_header(&mut source, alloc) {
+        Ok(header) => match first_directory(&mut source, alloc, &header) {
+            Ok(directory) => Ok(BigMSF {
+                source,
+                header,
+                directory,
+                of: PhantomData,
+            }),
+            Err(fault) => Err(fault),
+        },
+        Err(fault) => Err(fault),
+    }
 }

@@ -65,9 +65,13 @@ impl PageList {
             offset: u64::from(number) * self.page_size as u64,
             size: self.page_size,
         };
-        add_slice(&mut self.slices, slice)?;
-        self.len += self.page_size;
-        Ok(())
+        match add_slice(&mut self.slices, slice) {
+            Ok(()) => {
+                self.len += self.page_size;
+                Ok(())
+            }
+            Err(fault) => Err(fault),
+        }
     }
 
     /// Keeps the first bytes alone.

@@ -1,6 +1,6 @@
 //! The string table (`/names`): the names that lines and modules refer to. Its layout is microsoft-pdb's nmt.h.
 
-ghost use Rattle.std.specs.Prelude.{◌≡◌, ◌≤◌, length, take, drop, IfOk};
+ghost use Rattle.std.specs.Prelude.{◌≡◌, ◌≤◌, ◌==◌, ◌&&◌, ◌||◌, length, take, drop, IfOk};
 ghost use Rattle.std.specs.Cow.{cow_str_bytes};
 ghost use Rattle.pdb_container.specs.Fault.{Gives, Parses};
 ghost use Rattle.pdb_container.specs.StringTable.{names_of, name_in, text_in};
@@ -9,6 +9,7 @@ ghost use Rattle.pdb_container.specs.RawString.{raw_bytes};
 use crate::buffer::ParseBuffer;
 use crate::error::{Error, Result};
 use crate::msf::Stream;
+use crate::numbers::word_at;
 use crate::raw_string::RawString;
 use std::alloc::Global;
 use std::borrow::CowStr;
@@ -46,8 +47,10 @@ impl<'s> StringTable<'s> {
     pub fn parse(stream: Stream<'s>) -> Result<StringTable<'s>>
         ensures { Parses (λ t. t) result (names_of stream.entry) }
     {
-        let size = names_in(stream.as_slice())?.len();
-        Ok(StringTable { stream, size })
+        match names_size(stream.as_slice()) {
+            Ok(size) => Ok(StringTable { stream, size }),
+            Err(fault) => Err(fault),
+        }
     }
 
     /// The name at a place among the names; `UnexpectedEof` outside them, and where no NUL among them ends it.
@@ -86,23 +89,35 @@ impl StringRef {
     ) -> Result<CowStr<'t>>
         ensures { Gives cow_str_bytes ⊥ result (text_in strings.now self.0) }
     {
-        strings.get(self)?.to_string(alloc)
+        match strings.get(self) {
+            Ok(name) => name.to_string(alloc),
+            Err(fault) => Err(fault),
+        }
     }
 }
 
-/// The names of a table that these bytes are.
-#[tactic(auto, using(crate::proofs::Names::names_behind), unfolding(crate::specs::StringTable::names_of))]
-fn names_in(bytes: &[u8]) -> Result<&[u8]>
-    ensures value { Parses (λ names. names.now) result (names_of bytes.now) }
-    ensures place { IfOk result (λ names. names.now ≡ take (length names.now) (drop 12 bytes.now)) }
-    ensures within { IfOk result (λ names. length names.now ≤ length (drop 12 bytes.now)) }
+/// How many bytes the names of a table have that these bytes are.
+#[tactic(auto, using(crate::proofs::Names::names_short, crate::proofs::Names::names_unknown, crate::proofs::Names::names_missing, crate::proofs::Names::names_there))]
+fn names_size(bytes: &[u8]) -> Result<usize>
+    ensures value { Parses (λ size. take size (drop 12 bytes.now)) result (names_of bytes.now) }
+    ensures within { IfOk result (λ size. size ≤ length (drop 12 bytes.now)) }
 {
-    let mut buffer = ParseBuffer::from(bytes);
-    let signature = buffer.parse_u32()?;
-    let version = buffer.parse_u32()?;
-    let size = buffer.parse_u32()? as usize;
-    if signature != SIGNATURE || version < 1 || version > 2 {
+    if bytes.len() < HEADER_SIZE {
+        return Err(Error::UnexpectedEof);
+    }
+    if !is_known(word_at(bytes, 0), word_at(bytes, 4)) {
         return Err(Error::UnimplementedFeature("string table"));
     }
-    buffer.take(size)
+    let size = word_at(bytes, 8) as usize;
+    if bytes.len() - HEADER_SIZE < size {
+        return Err(Error::UnexpectedEof);
+    }
+    Ok(size)
+}
+
+/// Whether a table with this signature and version can be read.
+fn is_known(signature: u32, version: u32) -> bool
+    ensures { result ≡ ((signature == 0xeffeeffe) && ((version == 1) || (version == 2))) }
+{
+    signature == SIGNATURE && (version == 1 || version == 2)
 }
