@@ -14,7 +14,7 @@
 use anyhow::{Context, Result};
 use pdb_container::{Error, FallibleIterator, RawString, StringTable};
 use pdb_symbols_modules::{
-    LineInfo, LineProgram, Module, ModuleInfo, PDB, ProcedureSymbol, SymbolData,
+    LineInfo, LineProgram, Module, ModuleInfo, ModuleIter, PDB, ProcedureSymbol, SymbolData,
 };
 use std::{env, fs, io};
 
@@ -25,16 +25,34 @@ fn main(rt: HostRuntime) -> Result<()> {
     let file = env::args(&rt)?.nth(1).context("usage: list_lines FILE")?;
     let bytes = fs::read(&rt, file.as_str())?;
     let mut database = PDB::open(rt.alloc(), bytes)?;
-    list_modules(&rt, &mut database)
+    list_database(&rt, &mut database)
 }
 
 /// Lists the modules of a database.
-fn list_modules(rt: &(impl Print + AllocGlobal), database: &mut Database) -> Result<()> {
+fn list_database(rt: &(impl Print + AllocGlobal), database: &mut Database) -> Result<()> {
     let names = database.string_table(rt.alloc())?;
+    list_by_names(rt, database, &names)
+}
+
+/// Lists the modules of a database with these names of files.
+fn list_by_names(
+    rt: &(impl Print + AllocGlobal),
+    database: &mut Database,
+    names: &StringTable<'_>,
+) -> Result<()> {
     let debug_information = database.debug_information(rt.alloc())?;
-    let mut modules = debug_information.modules();
+    list_modules(rt, database, &mut debug_information.modules(), names)
+}
+
+/// Lists the modules that an iterator gives.
+fn list_modules(
+    rt: &(impl Print + AllocGlobal),
+    database: &mut Database,
+    modules: &mut ModuleIter<'_>,
+    names: &StringTable<'_>,
+) -> Result<()> {
     while let Some(module) = modules.next()? {
-        list_module(rt, database, &module, &names)?;
+        list_module(rt, database, &module, names)?;
     }
     Ok(())
 }

@@ -20,7 +20,7 @@ use pdb_container::Result;
 use question::{Question, Subject, question_of};
 use shown::shown;
 use std::rt::{Env, Files};
-use std::{env, fs};
+use std::{env, fs, io};
 
 fn main(rt: HostRuntime) -> anyhow::Result<()> {
     let mut count = 0u64;
@@ -33,23 +33,41 @@ fn main(rt: HostRuntime) -> anyhow::Result<()> {
 /// Goes through the cases of a file, and returns how many there are.
 fn run_file(rt: &(impl Files + Print + AllocGlobal), file: &str) -> Result<u64> {
     let text = fs::read_to_string(rt, file)?;
+    run_lines(rt, text.as_str())
+}
+
+/// Goes through the cases of a text.
+fn run_lines(rt: &(impl Files + Print + AllocGlobal), text: &str) -> Result<u64> {
     let mut count = 0u64;
     for line in text.lines() {
-        if let Some((question, wanted)) = line.split_once(" => ") {
-            run_case(rt, question, wanted)?;
-            count = count.saturating_add(1);
-        }
+        count = count.saturating_add(run_line(rt, line)?);
     }
     Ok(count)
+}
+
+/// Goes through the case of a line, and returns 1, or 0 where the line is no case.
+fn run_line(rt: &(impl Files + Print + AllocGlobal), line: &str) -> Result<u64> {
+    match line.split_once(" => ") {
+        None => Ok(0),
+        Some((question, wanted)) => {
+            run_case(rt, question, wanted)?;
+            Ok(1)
+        }
+    }
 }
 
 /// Prints a case that is answered otherwise.
 fn run_case(rt: &(impl Files + Print + AllocGlobal), question: &str, wanted: &str) -> Result<()> {
     let answer = told(rt, &question_of(question))?;
-    if answer.as_str() == wanted {
+    Ok(print_other(rt, question, answer.as_str(), wanted)?)
+}
+
+/// Prints an answer that isn't the wanted one.
+fn print_other(rt: &impl Print, question: &str, answer: &str, wanted: &str) -> io::Result<()> {
+    if answer == wanted {
         return Ok(());
     }
-    Ok(println!(rt; "{question}\n  gives {answer}\n  and not {wanted}")?)
+    println!(rt; "{question}\n  gives {answer}\n  and not {wanted}")
 }
 
 /// The answer to a question, or why there is none.

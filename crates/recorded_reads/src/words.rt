@@ -31,10 +31,16 @@ pub fn bytes_of(alloc: Global, word: &str) -> Result<Vec<u8>> {
 /// Writes bytes over those of a file, as `PLACE:BYTES,PLACE:BYTES`; `-` changes none.
 pub fn change(alloc: Global, file: &mut [u8], changes: &str) -> Result<()> {
     for change in changes.split(',') {
-        if let Some((place, bytes)) = change.split_once(':') {
-            let place = place.parse::<usize>().unwrap_or(0);
-            write_over(file, place, &bytes_of(alloc, bytes)?);
-        }
+        change_place(alloc, file, change)?;
+    }
+    Ok(())
+}
+
+/// Writes over a file what one change says.
+fn change_place(alloc: Global, file: &mut [u8], change: &str) -> Result<()> {
+    if let Some((place, bytes)) = change.split_once(':') {
+        let bytes = bytes_of(alloc, bytes)?;
+        write_over(file, place.parse::<usize>().unwrap_or(0), &bytes);
     }
     Ok(())
 }

@@ -2,5 +2,5 @@ use Rattle.std.specs.Prelude.{length}
 use Rattle.list_lines.proofs.list_modules.Given as goal
 
 -- each step gives one of the modules that are still to come
-abbrev pub decreases-loop-debug_information : goal.decreases-loop-debug_information
-decreases-loop-debug_information g l = length l.modules.items
+abbrev pub decreases-loop-module : goal.decreases-loop-module
+decreases-loop-module g l = length l.modules.items
