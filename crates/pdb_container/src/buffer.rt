@@ -266,7 +266,7 @@ impl<'b> ParseBuffer<'b> {
     }
 
     /// A C string: the bytes before the next NUL, which is read too; `UnexpectedEof` where there is no NUL.
-    #[tactic(auto, using(crate::proofs::Taking::text_read), unfolding(crate::specs::Buffer::rest, crate::specs::Fields::c_string_at))]
+    #[tactic(auto, unfolding(crate::specs::Buffer::rest, crate::specs::Fields::c_string_at))]
     pub fn parse_cstring(&mut self) -> Result<RawString<'b>>
         ensures value { Reads raw_bytes result self.old self.new c_string_at }
         ensures taken { IfOk result (λ _. length (rest self.new) < length (rest self.old)) }
