@@ -65,19 +65,19 @@ past_length [] n h = omega arith
 past_length (x ∷ xs) zero h = absurd (subst IsAbsent (sym h) tt)
 past_length (x ∷ xs) (suc n) h = omega (arith, past_length xs n h)
 
-records_next : (t : Table) (n : ℕ) (bytes : List ℕ) → t.minimum ≤ n → n < t.maximum → item_at t n ≡ Ok bytes → records_from t n ≡ bytes ∷ records_from t (n + 1)
+pub records_next : (t : Table) (n : ℕ) (bytes : List ℕ) → t.minimum ≤ n → n < t.maximum → item_at t n ≡ Ok bytes → records_from t n ≡ bytes ∷ records_from t (n + 1)
 records_next t n bytes low lt h =
     let next : n + 1 - t.minimum ≡ suc (n - t.minimum) = omega arith in
     rw next (next_record (items_of t).items (n - t.minimum) (t.maximum - t.minimum) bytes (omega arith) (record_at t n bytes low lt h))
 
-records_end : (t : Table) (n : ℕ) (e : Fault) → t.minimum ≤ n → n < t.maximum → item_at t n ≡ Err e → records_from t n ≡ []
+pub records_end : (t : Table) (n : ℕ) (e : Fault) → t.minimum ≤ n → n < t.maximum → item_at t n ≡ Err e → records_from t n ≡ []
 records_end t n e low lt h =
     let items = (items_of t).items in
     let within = past_length (items_of t).items (n - t.minimum) (no_record_at t n e low lt h) in
     drop_all (n - t.minimum) (take (t.maximum - t.minimum) (items_of t).items) (omega (arith, length-take (t.maximum - t.minimum) (items_of t).items, within))
 
-records_past : (t : Table) (n : ℕ) → t.minimum ≤ n → t.maximum ≤ n → records_from t n ≡ []
-records_past t n low past = drop_all (n - t.minimum) (take (t.maximum - t.minimum) (items_of t).items) (omega (arith, length-take (t.maximum - t.minimum) (items_of t).items))
+pub records_past : (t : Table) (n : ℕ) → t.maximum ≤ n → records_from t n ≡ []
+records_past t n past = drop_all (n - t.minimum) (take (t.maximum - t.minimum) (items_of t).items) (omega (arith, length-take (t.maximum - t.minimum) (items_of t).items))
 
 -- ---- the first definition
 
@@ -106,6 +106,6 @@ unfolding first_definition
 definition_end t wanted n e total low lt h so_far = subst (λ (records : List (List ℕ)). first_definition wanted n records ≡ total) (records_end t n e low lt h) so_far
 
 -- at the table's maximum there is no definition
-pub definition_past : (t : Table) (wanted : List ℕ) (n : ℕ) (total : Option ℕ) → t.minimum ≤ n → t.maximum ≤ n → first_definition wanted n (records_from t n) ≡ total → None ≡ total
+pub definition_past : (t : Table) (wanted : List ℕ) (n : ℕ) (total : Option ℕ) → t.maximum ≤ n → first_definition wanted n (records_from t n) ≡ total → None ≡ total
 unfolding first_definition
-definition_past t wanted n total low past so_far = subst (λ (records : List (List ℕ)). first_definition wanted n records ≡ total) (records_past t n low past) so_far
+definition_past t wanted n total past so_far = subst (λ (records : List (List ℕ)). first_definition wanted n records ≡ total) (records_past t n past) so_far

@@ -1,4 +1,5 @@
 pub mod DefinitionSteps
 pub mod EndSteps
+pub mod GatherSteps
 pub mod KeptSteps
 pub mod SizeSteps

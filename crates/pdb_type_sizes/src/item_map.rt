@@ -117,6 +117,15 @@ impl<'t, I: ItemIndex> ItemMap<'t, I> {
         self.maximum
     }
 
+    /// Goes over the whole table, and returns an index close behind its last item.
+    #[tactic(auto, using(crate::proofs::EndSteps::kept_on))]
+    pub(crate) fn go_over(&mut self) -> u32
+        ensures { self.new ≡ self.old }
+    {
+        self.end = advance(&mut self.finder, &mut self.iterator, self.end, self.maximum);
+        last_known(&self.finder).saturating_add(1)
+    }
+
     /// The item of an index, by the whole table: below the table's first index it has no bytes.
     ///
     /// # Errors

@@ -5,6 +5,7 @@ mod definitions;
 mod item_map;
 mod item_reader;
 mod primitives;
+mod references;
 mod sized_types;
 mod sizes;
 

@@ -1,4 +1,4 @@
-//! Types by their indices with the sizes of forward references that were asked for.
+//! Types by their indices with the sizes of forward references.
 
 ghost use Rattle.std.specs.Prelude.{◌≡◌, ℕ, IfOk, IsOkUnless};
 ghost use Rattle.pdb_container.specs.declared.error.Error.TheVariants as causes;
@@ -17,8 +17,8 @@ use std::alloc::{AllocError, Global};
 use std::collections::BTreeMap;
 use std::marker::Model;
 
-/// The types of a table. It keeps the size of each forward reference that was asked for, so that the table is searched once
-/// for its definition.
+/// The types of a table. When the size of a forward reference is first asked for, it keeps the sizes of all of them, so that it
+/// goes over the table once for their definitions.
 #[derive(Drop)]
 pub(crate) struct SizedTypes<'t> {
     types: ItemMap<'t, TypeIndex>,

@@ -11,6 +11,7 @@ ghost use Rattle.pdb_type_sizes.specs.Sizes.{variant_bytes, last_dimension as la
 use crate::definitions::{aggregate_size, is_forward_reference, key_name};
 use crate::item_map::ItemMap;
 use crate::primitives::primitive_size;
+use crate::references::keep_references;
 use pdb_indices::{TypeIndex, Variant};
 use pdb_records::{ClassType, TypeData, UnionType};
 use pdb_resolving::{Error, Result};
@@ -132,8 +133,9 @@ pub(crate) fn read_type_in<'t>(
     Ok(item.parse(alloc)?)
 }
 
-/// What a type of an index of the table says of its size, which is kept where the type is a forward reference. Nothing is kept
-/// where memory is short.
+/// What a type of an index of the table says of its size. Where it is a forward reference, the sizes of all forward references of
+/// the table are kept.
+#[tactic(auto, using(crate::proofs::KeptSteps::size_read))]
 fn stated_and_kept(
     alloc: Global,
     types: &mut ItemMap<'_, TypeIndex>,
@@ -148,16 +150,13 @@ fn stated_and_kept(
     ensures kept { AreSizes types.old sizes.new }
     ensures size { IfOk result (λ s. (of : ℕ → ℕ) → stated_bytes of s ≡ form_bytes types.old pointer_size of index (shape type_data.now)) }
 {
-    let stated = stated_size(alloc, types, pointer_size, index, type_data)?;
     if !is_forward_reference(type_data) {
-        return Ok(stated);
+        return stated_size(alloc, types, pointer_size, index, type_data);
     }
-    match stated {
-        Stated::Bytes(size) => {
-            sizes.insert(index, size)?;
-            Ok(stated)
-        }
-        Stated::SameAs(_) => Ok(stated),
+    keep_references(alloc, types, sizes)?;
+    match sizes.get(&index) {
+        Some(size) => Ok(Stated::Bytes(*size)),
+        None => stated_size(alloc, types, pointer_size, index, type_data),
     }
 }
 
