@@ -6,7 +6,7 @@ ghost use Rattle.pdb_symbols.specs.Kinds.{starts_scope, ends_scope};
 ghost use Rattle.pdb_symbols.specs.Symbols.{kind_of, payload_of, symbol_at};
 
 use crate::kinds;
-use pdb_container::{Error, ParseBuffer, Result};
+use pdb_container::{Error, Result, half_at};
 use pdb_indices::SymbolIndex;
 use std::marker::Model;
 
@@ -75,18 +75,25 @@ impl<'t> Symbol<'t> {
 }
 
 /// What stands at a place of a list's bytes, and the place behind it. `SymbolTooShort`, `UnexpectedEof`.
-#[tactic(auto, unfolding(crate::specs::Symbols::symbol_at))]
+#[tactic(auto, using(pdb_container::proofs::Taking::drop_within), unfolding(crate::specs::Symbols::symbol_at))]
 pub(crate) fn parse_symbol(bytes: &[u8], place: usize) -> Result<(Symbol<'_>, usize)>
     requires { length bytes.now < 2 ^ 32 }
     ensures { Parses (λ found. found) result (symbol_at bytes.now place) }
 {
-    let mut buffer = ParseBuffer::from(bytes);
-    buffer.seek(place);
-    let size = buffer.parse_u16()?;
+    let left = &bytes[place.min(bytes.len())..];
+    if left.len() < 2 {
+        return Err(Error::UnexpectedEof);
+    }
+    let size = usize::from(half_at(left, 0));
     if size < 2 {
         return Err(Error::SymbolTooShort);
     }
-    let body = buffer.take(usize::from(size))?;
-    let index = SymbolIndex(place as u32);
-    Ok((Symbol { index, bytes: body }, place + 2 + usize::from(size)))
+    if left.len() - 2 < size {
+        return Err(Error::UnexpectedEof);
+    }
+    let symbol = Symbol {
+        index: SymbolIndex(place as u32),
+        bytes: &left[2..2 + size],
+    };
+    Ok((symbol, place + 2 + size))
 }
