@@ -1,7 +1,7 @@
 //! Open databases.
 
 use crate::question::{Question, Task};
-use crate::shown::{listed, push, shown};
+use crate::shown::{listed, push, shown, shown_read};
 use crate::{addresses, modules};
 use pdb_container::{FallibleIterator, Result, Stream, StringRef};
 use pdb_container_types::{
@@ -48,8 +48,7 @@ fn ask_database(alloc: Global, database: &mut Database, question: &Question<'_>)
 
 /// The section headers of the image.
 fn sections_text(alloc: Global, database: &mut Database) -> Result<String> {
-    let sections = database.sections(alloc)?;
-    shown(alloc, &sections)
+    shown_read(alloc, database.sections(alloc))
 }
 
 /// The answer of the global symbols.
@@ -118,7 +117,7 @@ fn stream_text(alloc: Global, stream: &Option<Stream<'_>>) -> Result<String> {
 /// The name of a file.
 fn name_text(alloc: Global, database: &mut Database, offset: u32) -> Result<String> {
     let names = database.string_table(alloc)?;
-    shown(alloc, &names.get(StringRef(offset))?)
+    shown_read(alloc, names.get(StringRef(offset)))
 }
 
 /// The numbers of stream 1.
@@ -183,7 +182,7 @@ fn type_text(alloc: Global, table: &TypeInformation<'_>, index: TypeIndex) -> Re
 /// The record of a type that a finder finds.
 fn found_type(alloc: Global, finder: &TypeFinder<'_>, index: TypeIndex) -> Result<String> {
     let item = finder.find(index)?;
-    shown(alloc, &item.parse(alloc)?)
+    shown_read(alloc, item.parse(alloc))
 }
 
 /// The answer of the table of ids.
@@ -207,7 +206,7 @@ fn id_text(alloc: Global, table: &IdInformation<'_>, index: IdIndex) -> Result<S
 /// The record of an id that a finder finds.
 fn found_id(alloc: Global, finder: &IdFinder<'_>, index: IdIndex) -> Result<String> {
     let item = finder.find(index)?;
-    shown(alloc, &item.parse(alloc)?)
+    shown_read(alloc, item.parse(alloc))
 }
 
 /// The answer of the stream of the module of a number, counted from 0.

@@ -2,7 +2,7 @@
 
 use crate::question::{Question, Task};
 use crate::records;
-use crate::shown::{listed, push, shown};
+use crate::shown::{listed, push, shown, shown_read};
 use crate::words::{bytes_of, not_a_case};
 use pdb_container::{FallibleIterator, Result};
 use pdb_container_types::{
@@ -22,17 +22,17 @@ pub fn ask(alloc: Global, bytes: &[u8], question: &Question<'_>) -> Result<Strin
         Task::Attributes => records::attributes_text(alloc, bytes),
         Task::Annotations => listed(alloc, &mut BinaryAnnotations::new(bytes).iter()),
         Task::Call => call_text(alloc, bytes, question),
-        Task::Inlinees => inlinees_text(alloc, InlineeIterator::parse(bytes)?),
+        Task::Inlinees => inlinees_text(alloc, InlineeIterator::parse(bytes)),
         Task::Symbols | Task::Symbol | Task::SymbolKind | Task::SkipTo => {
             ask_symbols(alloc, bytes, question)
         }
         Task::Lines | Task::LinesAt | Task::Files | Task::File => {
-            ask_lines(alloc, &LineProgram::parse(alloc, bytes)?, question)
+            ask_lines(alloc, LineProgram::parse(alloc, bytes), question)
         }
         Task::TypeImport | Task::IdImport => {
-            ask_imports(alloc, &CrossModuleImports::parse(alloc, bytes)?, question)
+            ask_imports(alloc, CrossModuleImports::parse(alloc, bytes), question)
         }
-        _ => ask_exports(alloc, &CrossModuleExports::parse(bytes)?, question),
+        _ => ask_exports(alloc, CrossModuleExports::parse(bytes), question),
     }
 }
 
@@ -43,18 +43,20 @@ pub fn ask_stream(
     question: &Question<'_>,
 ) -> Result<String> {
     match question.task {
-        Task::Symbols => listed(alloc, &mut module.symbols()?),
-        Task::SkipTo => listed(
-            alloc,
-            &mut module.symbols_at(SymbolIndex(question.numbers.1))?,
-        ),
-        Task::Inlinees => inlinees_text(alloc, module.inlinees()?),
+        Task::Symbols => symbols_text(alloc, module.symbols()),
+        Task::SkipTo => symbols_text(alloc, module.symbols_at(SymbolIndex(question.numbers.1))),
+        Task::Inlinees => inlinees_text(alloc, module.inlinees()),
         Task::Lines | Task::LinesAt | Task::Files | Task::File => {
-            ask_lines(alloc, &module.line_program(alloc)?, question)
+            ask_lines(alloc, module.line_program(alloc), question)
         }
-        Task::TypeImport | Task::IdImport => ask_imports(alloc, &module.imports(alloc)?, question),
-        _ => ask_exports(alloc, &module.exports()?, question),
+        Task::TypeImport | Task::IdImport => ask_imports(alloc, module.imports(alloc), question),
+        _ => ask_exports(alloc, module.exports(), question),
     }
+}
+
+/// The symbols of a module.
+fn symbols_text(alloc: Global, symbols: Result<SymbolIter<'_>>) -> Result<String> {
+    listed(alloc, &mut symbols?)
 }
 
 /// The answer of a list of symbols of less than 65536 bytes.
@@ -68,7 +70,7 @@ fn ask_symbols(alloc: Global, bytes: &[u8], question: &Question<'_>) -> Result<S
         Task::SkipTo => skip_text(alloc, &mut SymbolIter::over(bytes, SymbolIndex(0)), place),
         task => match SymbolIter::over(bytes, place).next()? {
             None => Err(not_a_case()),
-            Some(symbol) if matches!(task, Task::Symbol) => shown(alloc, &symbol.parse()?),
+            Some(symbol) if matches!(task, Task::Symbol) => shown_read(alloc, symbol.parse()),
             Some(symbol) => kind_text(alloc, &symbol),
         },
     }
@@ -93,8 +95,17 @@ fn kind_text(alloc: Global, symbol: &Symbol<'_>) -> Result<String> {
     shown(alloc, &(index, kind, symbol.raw_bytes(), scope))
 }
 
+/// The answer of a module's line data that were read.
+fn ask_lines(
+    alloc: Global,
+    lines: Result<LineProgram<'_>>,
+    question: &Question<'_>,
+) -> Result<String> {
+    lines_text(alloc, &lines?, question)
+}
+
 /// The answer of a module's line data. Its last two numbers are a place, or the second is a file's index.
-fn ask_lines(alloc: Global, lines: &LineProgram<'_>, question: &Question<'_>) -> Result<String> {
+fn lines_text(alloc: Global, lines: &LineProgram<'_>, question: &Question<'_>) -> Result<String> {
     let (_, section, number) = question.numbers;
     match question.task {
         Task::Lines => listed(alloc, &mut lines.lines()),
@@ -103,7 +114,7 @@ fn ask_lines(alloc: Global, lines: &LineProgram<'_>, question: &Question<'_>) ->
             &mut lines.lines_for_symbol(place_of(section, number)),
         ),
         Task::Files => listed(alloc, &mut lines.files()),
-        _ => shown(alloc, &lines.get_file_info(FileIndex(number))?),
+        _ => shown_read(alloc, lines.get_file_info(FileIndex(number))),
     }
 }
 
@@ -116,7 +127,8 @@ fn place_of(section: u32, offset: u32) -> PdbInternalSectionOffset {
 }
 
 /// The ids of inlined functions, and how their list ends.
-fn inlinees_text(alloc: Global, mut inlinees: InlineeIterator<'_>) -> Result<String> {
+fn inlinees_text(alloc: Global, inlinees: Result<InlineeIterator<'_>>) -> Result<String> {
+    let mut inlinees = inlinees?;
     let mut text = String::new(alloc);
     for _ in 0..1000u32 {
         match inlinees.next() {
@@ -162,21 +174,39 @@ fn call_rows<'a>(
     }
 }
 
-/// What an index stands for in another module.
+/// The answer of imports that were read.
 fn ask_imports(
+    alloc: Global,
+    imports: Result<CrossModuleImports<'_>>,
+    question: &Question<'_>,
+) -> Result<String> {
+    imported_text(alloc, &imports?, question)
+}
+
+/// What an index stands for in another module.
+fn imported_text(
     alloc: Global,
     imports: &CrossModuleImports<'_>,
     question: &Question<'_>,
 ) -> Result<String> {
     let (_, index, _) = question.numbers;
     match question.task {
-        Task::TypeImport => shown(alloc, &imports.resolve_import(TypeIndex(index))?),
-        _ => shown(alloc, &imports.resolve_import(IdIndex(index))?),
+        Task::TypeImport => shown_read(alloc, imports.resolve_import(TypeIndex(index))),
+        _ => shown_read(alloc, imports.resolve_import(IdIndex(index))),
     }
 }
 
-/// The exports, or what a type's or an id's index stands for.
+/// The answer of exports that were read.
 fn ask_exports(
+    alloc: Global,
+    exports: Result<CrossModuleExports<'_>>,
+    question: &Question<'_>,
+) -> Result<String> {
+    exported_text(alloc, &exports?, question)
+}
+
+/// The exports, or what a type's or an id's index stands for.
+fn exported_text(
     alloc: Global,
     exports: &CrossModuleExports<'_>,
     question: &Question<'_>,
@@ -184,8 +214,8 @@ fn ask_exports(
     let (_, index, _) = question.numbers;
     match question.task {
         Task::Exports => exports_text(alloc, exports),
-        Task::TypeExport => shown(alloc, &exports.resolve_import(Local(TypeIndex(index)))?),
-        Task::IdExport => shown(alloc, &exports.resolve_import(Local(IdIndex(index)))?),
+        Task::TypeExport => shown_read(alloc, exports.resolve_import(Local(TypeIndex(index)))),
+        Task::IdExport => shown_read(alloc, exports.resolve_import(Local(IdIndex(index)))),
         _ => Err(not_a_case()),
     }
 }

@@ -1,6 +1,6 @@
 //! Records of types and ids, and primitive types.
 
-use crate::shown::shown;
+use crate::shown::{shown, shown_read};
 use crate::words::not_a_case;
 use pdb_container::Result;
 use pdb_container_types::{PointerAttributes, TypeData, TypeIndex, type_data_for_primitive};
@@ -9,17 +9,17 @@ use std::alloc::Global;
 
 /// What the record of a type says.
 pub fn type_text(alloc: Global, bytes: &[u8]) -> Result<String> {
-    shown(alloc, &parse_type_data(alloc, bytes)?)
+    shown_read(alloc, parse_type_data(alloc, bytes))
 }
 
 /// What the record of an id says.
 pub fn id_text(alloc: Global, bytes: &[u8]) -> Result<String> {
-    shown(alloc, &parse_id_data(alloc, bytes)?)
+    shown_read(alloc, parse_id_data(alloc, bytes))
 }
 
 /// What a primitive type is.
 pub fn primitive(alloc: Global, index: u32) -> Result<String> {
-    shown(alloc, &type_data_for_primitive(TypeIndex(index))?)
+    shown_read(alloc, type_data_for_primitive(TypeIndex(index)))
 }
 
 /// What the attributes of a type's record mean.

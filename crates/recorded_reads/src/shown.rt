@@ -9,6 +9,11 @@ pub fn shown<T: Debug>(alloc: Global, value: &T) -> Result<String> {
     Ok(format!(in alloc; "{value:?}")?)
 }
 
+/// What was read, as a text.
+pub fn shown_read<T: Debug + Drop>(alloc: Global, read: Result<T>) -> Result<String> {
+    shown(alloc, &read?)
+}
+
 /// Appends a value.
 pub fn push<T: Debug>(alloc: Global, text: &mut String, value: &T) -> Result<()> {
     let shown = format!(in alloc; "{value:?}; ")?;
