@@ -166,7 +166,7 @@ impl<'a, 's, P: ModuleProvider> Context<'a, 's, P> {
     /// inlinees, rows of the function's `DEBUG_S_LINES`, inline sites: `PdbError`, `ProcedureInlineRangesUnsuccessful`. From then
     /// on the part stands as failed, and its fault is `ExtendedModuleInfoUnsuccessful`, `ProcedureLinesUnsuccessful` or
     /// `ProcedureInlineRangesUnsuccessful`. `OutOfMemory`, and then nothing stands as failed that did not before.
-    #[tactic(auto, unfolding(pdb_answers::specs::Frames::frames))]
+    #[tactic(auto, unfolding(pdb_frames::specs::Frames::frames))]
     pub fn find_frames(&mut self, alloc: Global, probe: u32) -> Result<Option<FunctionFrames<'a>>>
         ensures same { lasting self.new ≡ lasting self.old }
         ensures failed { self.new.failed ≡ failed_after (failing self.old.parts (scope_in P.provided self.old) probe) result self.old.failed }
@@ -193,7 +193,7 @@ impl<'a, 's, P: ModuleProvider> Context<'a, 's, P> {
     ///
     /// # Errors
     /// `OutOfMemory` alone.
-    #[tactic(auto, unfolding(pdb_answers::specs::Frames::function))]
+    #[tactic(auto, unfolding(pdb_frames::specs::Frames::function))]
     pub fn find_function(&mut self, alloc: Global, probe: u32) -> Result<Option<Function>>
         ensures same { uncounted self.new ≡ uncounted self.old }
         ensures lookups { self.new.lookups ≡ lookups_after (is_some (place_of self.old.parts probe)) result self.old.lookups }
