@@ -1,6 +1,5 @@
 -- A formatter and a context over what is held of a database.
 use Rattle.std.specs.Prelude.{ℕ, List, Result, Ok}
-use Rattle.pdb_container.specs.Fault.{◌>>=◌}
 use Rattle.pdb_loading.specs.Held.{Held}
 use Rattle.pdb_loading.specs.Kept.{KeptInfo}
 use Rattle.pdb_symbols_modules.specs.Machine.{machine_of}
@@ -10,7 +9,7 @@ use Rattle.pdb_context.specs.Printing.{Formatting}
 use Rattle.pdb_resolving.specs.Fault.{Fault}
 use Rattle.pdb_resolving.specs.Resolving.{none_failed}
 use Rattle.pdb_context.specs.Choice.{Parts}
-use Rattle.pdb_context.specs.Parts.{parts_of}
+use Rattle.pdb_context.specs.Parts.{outcome, parts_of}
 use Rattle.pdb_context.specs.Context.{Context, context_over}
 
 -- what types and ids are read from: what is held gives the modules, by the entries in stream 3
@@ -36,4 +35,4 @@ context_in h flags = context_over h.infos (formatting_of h flags) (parts_in h)
 
 -- whether that can be had
 abbrev pub checked_parts : Held → Result (Unit {0}) Fault
-checked_parts h = parts_in h >>= λ parts. Ok tt
+checked_parts h = outcome (parts_in h)

@@ -244,15 +244,12 @@ impl<'p, 's, S: Source> ContextPdbData<'p, 's, S> {
         requires { IsOrdered self.now.tables.map }
         ensures { Answers (λ _. tt) result (checked_parts self.now) }
     {
-        ContextParts::new(
+        ContextParts::check(
             alloc,
             self.tables.address_map.image_section_headers(),
-            &self.tables.address_map,
             &self.tables.symbol_records,
-            self.names.as_ref(),
             &self.debug_information,
-        )?;
-        Ok(())
+        )
     }
 }
 

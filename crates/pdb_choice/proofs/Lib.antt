@@ -1,1 +1,2 @@
+pub mod CheckedParts
 pub mod NextPublic

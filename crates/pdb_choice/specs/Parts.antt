@@ -5,7 +5,7 @@ use Rattle.pdb_addresses.specs.declared.sections.ImageSectionHeader.{ImageSectio
 use Rattle.pdb_addresses.specs.Addresses.{Map}
 use Rattle.pdb_symbols.specs.Symbols.{symbols_from}
 use Rattle.pdb_contributions.specs.Contributions.{held_of}
-use Rattle.pdb_public_list.specs.Publics.{publics_among, entries_read, placeholders, section_ends}
+use Rattle.pdb_public_list.specs.Publics.{publics_among, entries_read, placeholders, section_ends, are_whole}
 use Rattle.pdb_resolving.specs.Fault.{Fault, lifted}
 use Rattle.pdb_choice.specs.Choice.{Parts}
 
@@ -17,3 +17,14 @@ parts_of sections map symbol_records contributions names = do
   functions ← lifted (entries_read sections (symbols_from symbol_records 0))
   held ← held_of sections contributions
   Ok record { map = map; contributions = held.contributions; publics = publics_among (functions ++ placeholders held.later_starts ++ section_ends sections); names = names }
+
+-- whether it can be had, or the fault of reading it
+abbrev pub outcome : Result Parts Fault → Result (Unit {0}) Fault
+outcome read = read >>= λ parts. Ok tt
+
+-- The same without what is read: the symbol records have to be there to their end, and then the contributions in order and apart.
+unfoldable pub parts_checked : List ImageSectionHeader → List ℕ → List ℕ → Result (Unit {0}) Fault
+parts_checked sections symbol_records contributions = do
+  read ← lifted (are_whole (symbols_from symbol_records 0))
+  held ← held_of sections contributions
+  Ok tt

@@ -1,12 +1,12 @@
 //! What every question goes over.
 
-ghost use Rattle.std.specs.Prelude.{◌≡◌, option_map};
-ghost use Rattle.pdb_addresses.specs.Addresses.{IsOrdered};
+ghost use Rattle.std.specs.Prelude.{◌≡◌, ℕ, List, Option, option_map};
+ghost use Rattle.pdb_addresses.specs.Addresses.{IsOrdered, Map};
 ghost use Rattle.pdb_container.specs.RawString.{raw_bytes};
 ghost use Rattle.pdb_contributions.specs.Contributions.{holder as holder_of};
 ghost use Rattle.pdb_resolving.specs.Fault.{Answers};
 ghost use Rattle.pdb_choice.specs.Choice.{decorated_at as decorated_name_at, is_decorated as is_decorated_name};
-ghost use Rattle.pdb_choice.specs.Parts.{parts_of};
+ghost use Rattle.pdb_choice.specs.Parts.{outcome, parts_checked, parts_of};
 
 use pdb_addresses::{AddressMap, ImageSectionHeader, PdbInternalSectionOffset};
 use pdb_bounds::{SortedBounds, contribution_bounds};
@@ -14,7 +14,8 @@ use pdb_container::{RawString, StringTable};
 use pdb_contributions::{
     HeldPlaces, ModuleSectionContribution, SectionContributions, compute_section_contributions,
 };
-use pdb_public_list::{PublicList, read_public_symbols};
+use pdb_module_data::FileNames;
+use pdb_public_list::{PublicList, check_symbols, read_public_symbols};
 use pdb_resolving::Result;
 use pdb_symbols::SymbolTable;
 use pdb_symbols_modules::DebugInformation;
@@ -41,19 +42,18 @@ pub struct ContextParts<'a, 's> {
     pub bounds: SortedBounds,
     /// The public list.
     pub publics: PublicList<'a>,
-    /// The string table (`/names`), if there is one.
-    pub string_table: Option<&'a StringTable<'s>>,
+    /// The names of the string table (`/names`), if there is one.
+    pub names: FileNames<'a, 's>,
 }
 
 impl<'a, 's> Model for ContextParts<'a, 's> {
-    ghost use Rattle.std.specs.Prelude.{option_map};
     ghost use Rattle.pdb_addresses.specs.Addresses.{IsOrdered};
     ghost use Rattle.pdb_bounds.specs.Bounds.{AreContributionBounds};
     ghost use Rattle.pdb_choice.specs.Choice as choice;
 
     ghost Value = { choice.Parts };
 
-    ghost view = { λ p. record { map = p.address_map.now; contributions = p.contributions; publics = p.publics; names = option_map (λ t. t.now) p.string_table } };
+    ghost view = { λ p. record { map = p.address_map.now; contributions = p.contributions; publics = p.publics; names = p.names } };
 
     // The OMAPs are in order, and the bounds are those of the contributions.
     ghost invariant = { λ p. IsOrdered p.address_map.now × AreContributionBounds p.contributions p.bounds };
@@ -66,12 +66,28 @@ impl<'a, 's> Drop for ContextParts<'a, 's> {
             contributions,
             bounds,
             publics,
-            string_table: _,
+            names,
         } = self;
         drop(contributions);
         drop(bounds);
         drop(publics);
+        drop(names);
     }
+}
+
+/// Reads the symbol records to their end, and then the section contributions of the DBI stream, and keeps nothing.
+#[tactic(auto, using(pdb_resolving::proofs::Lifting::parsed_fails_on, pdb_resolving::proofs::Lifting::fails_on), unfolding(crate::specs::Parts::parts_checked))]
+fn read_through(
+    alloc: Global,
+    sections: &[ImageSectionHeader],
+    global_symbols: &SymbolTable<'_>,
+    debug_info: &DebugInformation<'_>,
+) -> Result<()>
+    ensures { Answers (λ _. tt) result (parts_checked sections.now global_symbols.now debug_info.now.contributions) }
+{
+    check_symbols(global_symbols.iter())?;
+    compute_section_contributions(alloc, debug_info, sections)?;
+    Ok(())
 }
 
 impl<'a, 's> ContextParts<'a, 's> {
@@ -100,13 +116,31 @@ impl<'a, 's> ContextParts<'a, 's> {
         let publics = PublicList::new(functions, later_starts.as_slice(), sections)?;
         let bounds = contribution_bounds(alloc, contributions.as_slice())?;
         let contributions = HeldPlaces::new(alloc, contributions)?;
+        let names = FileNames::new(alloc, string_table)?;
         Ok(ContextParts {
             address_map,
             contributions,
             bounds,
             publics,
-            string_table,
+            names,
         })
+    }
+
+    /// Whether there are parts of these, whatever the ways between addresses and the names: `Ok`, or the fault that
+    /// [`ContextParts::new`] has.
+    ///
+    /// # Errors
+    /// As [`ContextParts::new`].
+    #[tactic(auto, using(crate::proofs::CheckedParts::as_checked))]
+    pub fn check(
+        alloc: Global,
+        sections: &[ImageSectionHeader],
+        global_symbols: &SymbolTable<'_>,
+        debug_info: &DebugInformation<'_>,
+    ) -> Result<()>
+        ensures { (map : Map) (names : Option (List ℕ)) → Answers (λ _. tt) result (outcome (parts_of sections.now map global_symbols.now debug_info.now.contributions names)) }
+    {
+        read_through(alloc, sections, global_symbols, debug_info)
     }
 
     /// The contribution that holds a place.

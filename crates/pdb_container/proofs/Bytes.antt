@@ -81,7 +81,8 @@ ended : (b : Bool) (x : List ℕ) (e : Fault) → is_ok (cond b (Ok x) (Err e)) 
 ended true x e h = absurd (false≢true (sym h))
 ended false x e h = refl
 
-not_ok_ends : (file places : List ℕ) → is_ok (bytes_at file places) ≡ false → bytes_at file places ≡ Err (IoError UnexpectedEof)
+-- where they aren't all there, one is missing
+pub not_ok_ends : (file places : List ℕ) → is_ok (bytes_at file places) ≡ false → bytes_at file places ≡ Err (IoError UnexpectedEof)
 unfolding bytes_at
 not_ok_ends file places h = ended (list_all (below file) places) (map (byte file) places) (IoError UnexpectedEof) h
 
@@ -170,3 +171,9 @@ pub is_done : (file front : List ℕ) (slices : List SourceSlice) (i : ℕ) → 
     → bytes_at file (places_of slices) ≡ Ok front
 unfolding bytes_at
 is_done file front slices i le so_far = sym so_far ∙ rw (drop_all i slices le) (ap (λ (z : List ℕ). Ok z) (append-nil front))
+
+-- one slice alone
+pub places_of_one : (slices : List SourceSlice) (d : SourceSlice) → length slices ≡ 1 → places_of slices ≡ slice_places (get_or slices 0 d)
+places_of_one [] d one = absurd (omega arith)
+places_of_one (s ∷ []) d one = append-nil (slice_places s)
+places_of_one (s ∷ t ∷ slices) d one = absurd (omega arith)

@@ -4,9 +4,11 @@ ghost use Rattle.std.specs.Prelude.{◌≡◌, ℕ, ◌+◌, ◌≤◌, ◌-◌,
 ghost use Rattle.std.specs.declared.io.ErrorKind.TheVariants.{UnexpectedEof};
 ghost use Rattle.pdb_container.specs.Fault.{error_of, fault_of, IoError, HasRisen, IsOutside};
 ghost use Rattle.pdb_container.specs.Places.{slice_places, places_of, bytes_at};
+ghost use Rattle.pdb_container.specs.declared.error.Error.TheVariants.{OutOfMemory};
 
 use crate::error::Error;
-use std::alloc::Global;
+use bytes::Bytes;
+use std::alloc::{AllocError, Global};
 use std::io;
 use std::io::ErrorKind;
 use std::marker::Model;
@@ -20,22 +22,30 @@ pub struct SourceSlice {
     pub size: usize,
 }
 
-/// A view of a source: the bytes that it returned.
+/// A view of a source: the bytes that it returned, which may be shared with others.
 #[derive(Debug, Drop)]
 pub struct ReadView {
-    bytes: Vec<u8>,
+    bytes: Bytes,
 }
 
 impl Model for ReadView {
     ghost Value = { List ℕ };
 
-    ghost view = { λ v. v.bytes.items };
+    ghost view = { λ v. v.bytes };
 }
 
 impl ReadView {
     /// A view of these bytes.
-    pub fn new(bytes: Vec<u8>) -> ReadView
-        ensures { result ≡ bytes.items }
+    pub fn new(bytes: Vec<u8>) -> Result<ReadView, AllocError>
+        ensures { IfOk result (λ v. v ≡ bytes.items) }
+    {
+        let bytes = Bytes::from_vec(bytes)?;
+        Ok(ReadView { bytes })
+    }
+
+    /// A view of bytes that others may have too: none is copied.
+    pub fn shared(bytes: Bytes) -> ReadView
+        ensures { result ≡ bytes }
     {
         ReadView { bytes }
     }
@@ -72,6 +82,7 @@ pub trait Source {
         ensures { result ≡ failures self.now };
 }
 
+/// Bytes of a file's own: each view has a copy.
 impl Source for Vec<u8> {
     ghost use Rattle.std.specs.Global.{Vec};
 
@@ -80,20 +91,75 @@ impl Source for Vec<u8> {
     ghost failures = { λ _. 0 };
 
     fn view(&mut self, alloc: Global, slices: &[SourceSlice]) -> io::Result<ReadView> {
-        // Memory is taken only for bytes that are there, once and for all of them.
-        let Some(size) = size_within(self, slices) else {
-            return Err(ErrorKind::UnexpectedEof.into());
-        };
-        let mut bytes = Vec::with_capacity(alloc, size)?;
-        for slice in slices {
-            bytes.extend_from_slice(part_of(self, *slice))?;
-        }
-        Ok(ReadView::new(bytes))
+        copy_slices(alloc, self, slices)
     }
 
     fn failures(&self) -> u64 {
         0
     }
+}
+
+/// Bytes that are shared: a view of one slice shares them, and any other has a copy.
+impl Source for Bytes {
+    ghost bytes = { λ b. b };
+
+    ghost failures = { λ _. 0 };
+
+    fn view(&mut self, alloc: Global, slices: &[SourceSlice]) -> io::Result<ReadView> {
+        match only_slice(slices) {
+            Some(slice) => share_slice(self, slice),
+            None => copy_slices(alloc, self.as_slice(), slices),
+        }
+    }
+
+    fn failures(&self) -> u64 {
+        0
+    }
+}
+
+/// The slice, where there is one alone.
+#[tactic(auto, using(crate::proofs::Bytes::places_of_one))]
+fn only_slice(slices: &[SourceSlice]) -> Option<SourceSlice>
+    ensures { IfSome result (λ s. places_of slices.now ≡ slice_places s) }
+{
+    if slices.len() == 1 {
+        Some(slices[0])
+    } else {
+        None
+    }
+}
+
+/// The bytes of a slice of shared bytes, which are shared.
+#[tactic(auto, using(crate::proofs::Bytes::bytes_at_none, crate::proofs::Bytes::bytes_at_range, crate::proofs::Bytes::ok_fits, crate::proofs::Bytes::not_ok_ends))]
+fn share_slice(file: &Bytes, slice: SourceSlice) -> io::Result<ReadView>
+    ensures ok { IfOk result (λ v. bytes_at file.now (slice_places slice) ≡ Ok v) }
+    ensures err { IfErr result (λ e. (error_of e ≡ OutOfMemory) ⊎ (bytes_at file.now (slice_places slice) ≡ Err (fault_of (error_of e)))) }
+{
+    if !is_within(file.as_slice(), slice) {
+        return Err(ErrorKind::UnexpectedEof.into());
+    }
+    if slice.size == 0 {
+        return Ok(ReadView::shared(Bytes::new()));
+    }
+    let start = slice.offset as usize;
+    let part = file.slice(start..start + slice.size)?;
+    Ok(ReadView::shared(part))
+}
+
+/// The bytes at the slices, joined, copied. Memory is taken only for bytes that are there, once and for all of them.
+fn copy_slices(alloc: Global, file: &[u8], slices: &[SourceSlice]) -> io::Result<ReadView>
+    ensures ok { IfOk result (λ v. bytes_at file.now (places_of slices.now) ≡ Ok v) }
+    ensures err { IfErr result (λ e. (error_of e ≡ OutOfMemory) ⊎ (bytes_at file.now (places_of slices.now) ≡ Err (fault_of (error_of e)))) }
+{
+    let Some(size) = size_within(file, slices) else {
+        return Err(ErrorKind::UnexpectedEof.into());
+    };
+    let mut bytes = Vec::with_capacity(alloc, size)?;
+    for slice in slices {
+        bytes.extend_from_slice(part_of(file, *slice))?;
+    }
+    let view = ReadView::new(bytes)?;
+    Ok(view)
 }
 
 /// How many bytes the slices have, at most `usize::MAX`; `None` where one doesn't lie within the file.

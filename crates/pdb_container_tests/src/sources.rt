@@ -4,6 +4,7 @@ use crate::damage::{
     DIRECTORY_PAGE, DIRECTORY_SIZE, LIST_PAGE, Numbers, PAGES_USED, PAST_END, write_numbers,
 };
 use crate::files::{container, counted, file, get};
+use bytes::Bytes;
 use pdb_container::{BigMSF, Error, Msf, ReadView, Source, SourceSlice, open_msf};
 use pdb_samples::{PageOrder, SampleError};
 use std::alloc::Global;
@@ -239,6 +240,38 @@ fn a_stream_views_its_own_pages_once_and_alone(rt: HostRuntime) -> Result<(), Fa
     let reversed: &[(u64, usize)] = &[(0x400, 0x100), (0x300, 44)];
     let apart = by_own_pages(rt.alloc(), PageOrder::StreamsReversed, reversed)?;
     assert_eq!(rt; apart, (300, 4, other));
+    Ok(())
+}
+
+/// Whether stream 1, in pages 3 and 4, of a container over shared bytes, so many of a file's, is as usual, or why it is refused.
+fn of_shared_bytes(
+    alloc: Global,
+    order: PageOrder,
+    len: usize,
+) -> Result<Result<bool, Error>, Fail> {
+    let description = container(alloc, 0x1000, order, &[Some(0), Some(5000)])?;
+    let bytes = Bytes::from_vec(file(alloc, &description)?)?;
+    let len = len.min(bytes.len());
+    let mut container = open_msf(alloc, bytes.slice(..len)?)?;
+    let usual = counted(alloc, 1, 5000)?;
+    match get(&mut container, alloc, 1, None) {
+        Ok(stream) => Ok(Ok(stream.as_slice() == usual.as_slice())),
+        Err(error) => Ok(Err(error)),
+    }
+}
+
+#[test]
+fn streams_of_shared_bytes(rt: HostRuntime) -> Result<(), Fail> {
+    let past_end = Error::IoError(ErrorKind::UnexpectedEof);
+    for (order, len, wanted) in [
+        (PageOrder::Natural, 0x5000, Ok(true)),
+        (PageOrder::StreamsReversed, 0x5000, Ok(true)),
+        (PageOrder::Natural, 0x4100, Err(past_end)),
+        (PageOrder::StreamsReversed, 0x4100, Err(past_end)),
+    ] {
+        let found = of_shared_bytes(rt.alloc(), order, len)?;
+        assert_eq!(rt; found, wanted);
+    }
     Ok(())
 }
 

@@ -123,7 +123,7 @@ fn file_of<'a>(
 {
     match file {
         None => Ok(None),
-        Some(index) => file_name(alloc, &extended.line_program, parts.string_table, index),
+        Some(index) => file_name(alloc, &extended.line_program, &parts.names, index),
     }
 }
 

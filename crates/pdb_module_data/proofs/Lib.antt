@@ -5,6 +5,7 @@ mod CallsDeep
 mod ChainSteps
 mod ForestGrammar
 pub mod KeptRows
+pub mod KnownNames
 mod NestedSites
 mod OpenBodies
 pub mod Deepest

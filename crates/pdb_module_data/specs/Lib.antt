@@ -1,4 +1,5 @@
 pub mod Elements
+pub mod FileNames
 pub mod Forest
 pub mod FunctionLine
 pub mod InlinedCalls

@@ -3,6 +3,7 @@
 #![tactic(auto)]
 
 mod call_rows;
+mod file_names;
 mod function_line;
 mod function_rows;
 mod inline_ranges;
@@ -13,6 +14,7 @@ pub mod laws;
 mod procedure_list;
 mod procedures;
 
+pub use file_names::FileNames;
 pub use function_line::file_name;
 pub use function_rows::{FunctionRows, LineRow};
 pub use inline_ranges::InlineRanges;

@@ -4,7 +4,7 @@ use pdb_addresses::PdbInternalSectionOffset;
 use pdb_container::{Error, FallibleIterator, StringTable};
 use pdb_indices::FileIndex;
 use pdb_lines::LineProgram;
-use pdb_module_data::{FunctionRows, file_name};
+use pdb_module_data::{FileNames, FunctionRows, file_name};
 use pdb_samples::{file_f, push_u32};
 use pdb_symbols_modules::{ModuleInfo, PDB};
 use std::alloc::Global;
@@ -101,15 +101,30 @@ fn name_in(
     index: u32,
 ) -> Result<Option<Vec<u8>>, Fail> {
     let program = info.line_program(alloc)?;
-    match file_name(alloc, &program, strings, FileIndex(index))? {
+    let names = FileNames::new(alloc, strings)?;
+    match file_name(alloc, &program, &names, FileIndex(index))? {
         None => Ok(None),
         Some(name) => Ok(Some(Vec::from_slice(alloc, name.as_str().as_bytes())?)),
     }
 }
 
-/// The name of the file of an index in file F's module, with its string table or without.
-fn name_in_f(alloc: Global, index: u32, by_table: bool) -> Result<Option<Vec<u8>>, Fail> {
-    let mut pdb = PDB::open(alloc, file_f(alloc)?.bytes(alloc)?)?;
+/// File F with other names in its string table.
+fn file_with_names(alloc: Global, names: &[u8]) -> Result<Vec<u8>, Fail> {
+    let mut database = file_f(alloc)?;
+    database.names.clear();
+    database.names.extend_from_slice(names)?;
+    Ok(database.bytes(alloc)?)
+}
+
+/// The name of the file of an index in file F's module, with a string table of these names or without one. The module's file
+/// has the name at 1.
+fn name_in_f(
+    alloc: Global,
+    names: &[u8],
+    index: u32,
+    by_table: bool,
+) -> Result<Option<Vec<u8>>, Fail> {
+    let mut pdb = PDB::open(alloc, file_with_names(alloc, names)?)?;
     let strings = pdb.string_table(alloc)?;
     let strings = if by_table { Some(&strings) } else { None };
     match first_info(alloc, &mut pdb)? {
@@ -120,9 +135,19 @@ fn name_in_f(alloc: Global, index: u32, by_table: bool) -> Result<Option<Vec<u8>
 
 #[test]
 fn names_of_files(rt: HostRuntime) -> Result<(), Fail> {
-    let name = name_in_f(rt.alloc(), 0, true)?.unwrap_or(Vec::new(rt.alloc()));
-    assert_eq!(rt; name.as_slice(), b"a.c".as_slice());
-    assert!(rt; name_in_f(rt.alloc(), 8, true)?.is_none());
-    assert!(rt; name_in_f(rt.alloc(), 0, false)?.is_none());
+    let long = b"\0directory/a.c\0".as_slice();
+    for (names, wanted) in [
+        (b"\0a.c\0".as_slice(), b"a.c".as_slice()),
+        (long, b"directory/a.c".as_slice()),
+        (
+            b"\0directory\xff\0".as_slice(),
+            "directory\u{fffd}".as_bytes(),
+        ),
+    ] {
+        let name = name_in_f(rt.alloc(), names, 0, true)?.unwrap_or(Vec::new(rt.alloc()));
+        assert_eq!(rt; name.as_slice(), wanted);
+    }
+    assert!(rt; name_in_f(rt.alloc(), long, 8, true)?.is_none());
+    assert!(rt; name_in_f(rt.alloc(), long, 0, false)?.is_none());
     Ok(())
 }

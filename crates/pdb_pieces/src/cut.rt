@@ -63,7 +63,7 @@ fn overlay(alloc: Global, left: &[Span], right: &[Span]) -> Result<Vec<Span>, Al
     ensures pieces { IfOk result (λ v. ArePieces 0 u64.MAX v.items) }
     ensures best { IfOk result (λ v. (p : ℕ) → best v.items p ≡ better (best left.now p) (best right.now p)) }
 {
-    let mut pieces = Vec::new(alloc);
+    let mut pieces = Vec::with_capacity(alloc, left.len().saturating_add(right.len()))?;
     let mut from = 0;
     let mut i = 0;
     let mut j = 0;

@@ -14,7 +14,7 @@ use Rattle.pdb_symbols.specs.Forms.{SymbolForm}
 use Rattle.pdb_symbols.specs.Kinds.{is_public, is_procedure, is_thunk, is_separated_code, is_inline_site}
 use Rattle.pdb_symbols.specs.Symbols.{Symbol, kind_of, payload_of}
 use Rattle.pdb_symbols.specs.Records.{symbol_form_of, form_of, as_form, end_form, procedure_symbol_at, thunk_of, separated_code_of, inline_site_of}
-use Rattle.pdb_public_list.specs.Publics.{PublicFunction, placeholder, placeholders, section_end, section_ends_from, section_ends, as_public, entry_of_public, entries_of_symbols, entries_read}
+use Rattle.pdb_public_list.specs.Publics.{PublicFunction, placeholder, placeholders, section_end, section_ends_from, section_ends, as_public, entry_of_public, entries_of_symbols, entries_read, are_whole}
 
 -- ---- symbols that aren't public
 
@@ -96,6 +96,24 @@ read_end sections front l total end so_far =
 -- the list ends with a fault
 pub read_fault : (sections : List ImageSectionHeader) (front : List PublicFunction) (l : Listing Symbol) (total : Result (List PublicFunction) Fault) (e : Fault) → l ≡ ending (Some e) → entries_front front (entries_read sections l) ≡ total → total ≡ Err e
 read_fault sections front l total e end so_far = sym so_far ∙ ap (λ (m : Listing Symbol). entries_front front (entries_read sections m)) end
+
+-- ---- symbols that are there to their end
+
+whole_behind : (x : Symbol) (others : List Symbol) (fault : Option Fault) → are_whole (record { items = others; fault = fault }) ≡ are_whole (record { items = x ∷ others; fault = fault })
+whole_behind x others None = refl
+whole_behind x others (Some e) = refl
+
+-- one more symbol
+pub whole_more : (l others : Listing Symbol) (total : Result (Unit {0}) Fault) (x : Symbol) → l ≡ before x others → are_whole l ≡ total → are_whole others ≡ total
+whole_more l others total x step so_far = whole_behind x others.items others.fault ∙ ap are_whole (sym step) ∙ so_far
+
+-- the list ends well
+pub whole_end : (l : Listing Symbol) (total : Result (Unit {0}) Fault) → l ≡ ending None → are_whole l ≡ total → total ≡ Ok tt
+whole_end l total end so_far = sym so_far ∙ ap are_whole end
+
+-- the list ends with a fault
+pub whole_fault : (l : Listing Symbol) (total : Result (Unit {0}) Fault) (e : Fault) → l ≡ ending (Some e) → are_whole l ≡ total → total ≡ Err e
+whole_fault l total e end so_far = sym so_far ∙ ap are_whole end
 
 -- ---- placeholders
 

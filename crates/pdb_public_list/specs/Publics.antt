@@ -44,6 +44,10 @@ entries_of_symbols sections symbols = flat_map (λ s. entry_of_public sections (
 abbrev pub entries_read : List ImageSectionHeader → Listing Symbol → Result (List PublicFunction) container.Fault
 entries_read sections symbols = whole symbols >>= λ all. Ok (entries_of_symbols sections all)
 
+-- whether symbols are there to their end
+abbrev pub are_whole : Listing Symbol → Result (Unit {0}) container.Fault
+are_whole symbols = whole symbols >>= λ all. Ok tt
+
 -- placeholders at places
 abbrev pub placeholders : List PdbInternalSectionOffset → List PublicFunction
 placeholders places = map placeholder places

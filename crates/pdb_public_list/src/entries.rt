@@ -1,8 +1,8 @@
 //! What is put into the public list.
 
 ghost use Rattle.std.specs.Prelude.{◌≡◌, ◌++◌, OnOk, option_map};
-ghost use Rattle.pdb_container.specs.Fault.{Gives};
-ghost use Rattle.pdb_public_list.specs.Publics.{as_public, entry_of_public, placeholders, section_ends, entries_read};
+ghost use Rattle.pdb_container.specs.Fault.{Gives, Parses};
+ghost use Rattle.pdb_public_list.specs.Publics.{as_public, entry_of_public, placeholders, section_ends, are_whole, entries_read};
 ghost use Rattle.pdb_symbols.specs.Forms.{public_form};
 ghost use Rattle.pdb_symbols.specs.Iteration.{symbols_left};
 ghost use Rattle.pdb_symbols.specs.Records.{symbol_form_of};
@@ -86,6 +86,18 @@ pub fn read_public_symbols<'s>(
         push_public(&mut functions, sections, &symbol)?;
     }
     Ok(functions)
+}
+
+/// Reads symbol records to their end, and keeps nothing of them.
+///
+/// # Errors
+/// The first fault of the records: `SymbolTooShort`, `UnexpectedEof`.
+#[tactic(auto, using(crate::proofs::PublicSteps::whole_more, crate::proofs::PublicSteps::whole_end, crate::proofs::PublicSteps::whole_fault))]
+pub fn check_symbols(mut symbols: SymbolIter<'_>) -> Result<()>
+    ensures { Parses (λ _. tt) result (are_whole (symbols_left symbols.entry)) }
+{
+    while symbols.next()?.is_some() {}
+    Ok(())
 }
 
 /// Puts placeholders at these places behind the entries.

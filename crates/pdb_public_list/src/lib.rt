@@ -5,5 +5,5 @@ mod entries;
 pub mod laws;
 mod list;
 
-pub use entries::{PublicFunction, read_public_symbols};
+pub use entries::{PublicFunction, check_symbols, read_public_symbols};
 pub use list::PublicList;

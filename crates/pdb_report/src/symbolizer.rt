@@ -11,6 +11,7 @@ ghost use Rattle.pdb_report.specs.Loading.{loaded, load_fault, Refuses};
 ghost use Rattle.pdb_symbols_modules.specs.Shared.{shared};
 ghost use Rattle.pdb_symbols_modules.specs.Streams.{streams};
 
+use bytes::Bytes;
 use pdb_addr2line::{Context, ContextPdbData, KeptModules, Tables, read_tables};
 use pdb_addresses::AddressMap;
 use pdb_report_texts::LoadFault;
@@ -19,13 +20,13 @@ use std::alloc::Global;
 use std::marker::Model;
 
 /// An open program database over a file's bytes.
-type Database = PDB<'static, Vec<u8>>;
+type Database = PDB<'static, Bytes>;
 
 /// A symbolizer: a program database that was loaded, with what contexts are made of. Its value in contracts is the file's
 /// bytes.
 pub struct Symbolizer {
     pdb: Database,
-    held: ContextPdbData<'static, 'static, Vec<u8>>,
+    held: ContextPdbData<'static, 'static, Bytes>,
 }
 
 impl Model for Symbolizer {
@@ -34,9 +35,9 @@ impl Model for Symbolizer {
 
     ghost Value = { List ℕ };
 
-    ghost view = { λ s. s.pdb.items };
+    ghost view = { λ s. s.pdb };
 
-    ghost invariant = { λ s. IsKept s.pdb.items s.held };
+    ghost invariant = { λ s. IsKept s.pdb s.held };
 }
 
 impl Drop for Symbolizer {
@@ -53,10 +54,10 @@ fn read_in_order(
     alloc: Global,
     pdb: &mut Database,
 ) -> Result<(DebugInformation<'static>, Tables<'static>), LoadFault>
-    requires { (streams pdb.old.items).open_fault ≡ None }
-    ensures same { OnOk result (pdb.new.items ≡ pdb.old.items) }
-    ensures read { IfOk result (λ read. AreInOrder (streams pdb.old.items) read.0 read.1) }
-    ensures err { IfErr result (λ e. FailsLoading e (loaded (shared (streams pdb.old.items)))) }
+    requires { (streams pdb.old).open_fault ≡ None }
+    ensures same { OnOk result (pdb.new ≡ pdb.old) }
+    ensures read { IfOk result (λ read. AreInOrder (streams pdb.old) read.0 read.1) }
+    ensures err { IfErr result (λ e. FailsLoading e (loaded (shared (streams pdb.old)))) }
 {
     let debug_information = pdb.debug_information(alloc)?;
     let tables = read_tables(pdb, alloc, &debug_information)?;
@@ -70,11 +71,11 @@ fn read_in_order(
 fn read_held(
     alloc: Global,
     pdb: &mut Database,
-) -> Result<ContextPdbData<'static, 'static, Vec<u8>>, LoadFault>
-    requires { (streams pdb.old.items).open_fault ≡ None }
-    ensures same { OnOk result (pdb.new.items ≡ pdb.old.items) }
-    ensures kept { IfOk result (λ held. IsKept pdb.old.items held) }
-    ensures err { IfErr result (λ e. FailsLoading e (loaded (shared (streams pdb.old.items)))) }
+) -> Result<ContextPdbData<'static, 'static, Bytes>, LoadFault>
+    requires { (streams pdb.old).open_fault ≡ None }
+    ensures same { OnOk result (pdb.new ≡ pdb.old) }
+    ensures kept { IfOk result (λ held. IsKept pdb.old held) }
+    ensures err { IfErr result (λ e. FailsLoading e (loaded (shared (streams pdb.old)))) }
 {
     let (debug_information, tables) = read_in_order(alloc, pdb)?;
     let held = ContextPdbData::try_from_tables(alloc, pdb, debug_information, tables)?;
@@ -84,10 +85,10 @@ fn read_held(
 
 /// Loads an open program database, and keeps what contexts are made of.
 fn load(alloc: Global, mut pdb: Database) -> Result<Symbolizer, LoadFault>
-    requires { (streams pdb.items).open_fault ≡ None }
-    ensures ok { IfOk result (λ s. s ≡ pdb.entry.items) }
-    ensures loaded { OnOk result (load_fault (streams pdb.entry.items) ≡ None) }
-    ensures err { IfErr result (λ e. FailsLoading e (loaded (shared (streams pdb.entry.items)))) }
+    requires { (streams pdb).open_fault ≡ None }
+    ensures ok { IfOk result (λ s. s ≡ pdb.entry) }
+    ensures loaded { OnOk result (load_fault (streams pdb.entry) ≡ None) }
+    ensures err { IfErr result (λ e. FailsLoading e (loaded (shared (streams pdb.entry)))) }
 {
     match read_held(alloc, &mut pdb) {
         Ok(held) => Ok(Symbolizer { pdb, held }),
@@ -95,9 +96,20 @@ fn load(alloc: Global, mut pdb: Database) -> Result<Symbolizer, LoadFault>
     }
 }
 
+/// Opens the program database of a file's bytes, and loads it.
+fn open_file(alloc: Global, file: Bytes) -> Result<Symbolizer, LoadFault>
+    ensures ok { IfOk result (λ s. s ≡ file) }
+    ensures loaded { OnOk result (load_fault (streams file) ≡ None) }
+    ensures refused { IfErr result (λ e. Refuses e (load_fault (streams file))) }
+{
+    let pdb = PDB::open(alloc, file)?;
+    load(alloc, pdb)
+}
+
 impl Symbolizer {
     /// Loads the program database of a file's bytes: everything that keeps the file from being answered is found here, and
-    /// everything that answers need is read. A module's own stream keeps no file from being loaded.
+    /// everything that answers need is read. A module's own stream keeps no file from being loaded. No stream is copied that lies in
+    /// the file in one piece.
     ///
     /// # Errors
     /// The first fault, in the order in which a file is read: the container; stream 3 and its header; the stream of symbol
@@ -108,8 +120,10 @@ impl Symbolizer {
         ensures loaded { OnOk result (load_fault (streams bytes.items) ≡ None) }
         ensures refused { IfErr result (λ e. Refuses e (load_fault (streams bytes.items))) }
     {
-        let pdb = PDB::open(alloc, bytes)?;
-        load(alloc, pdb)
+        match Bytes::from_vec(bytes) {
+            Ok(file) => open_file(alloc, file),
+            Err(_) => Err(LoadFault::OutOfMemory),
+        }
     }
 
     /// The ways between addresses of the image and places in sections; the sources of its OMAPs don't decrease.

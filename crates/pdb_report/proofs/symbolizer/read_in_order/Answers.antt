@@ -12,18 +12,18 @@ use Rattle.pdb_report.proofs.symbolizer.read_in_order.Goals as goal
 pub returns-in_err-debug_information-clause-err : goal.returns-in_err-debug_information-clause-err
 returns-in_err-debug_information-clause-err c =
     let p = err_from_is_err_and c.from_residual.result c.from_residual.ensures.1 in
-    rw (p.1, p.2) (dbi_fails (streams c.args.pdb.now.items) c.in_err-debug_information.field-0.0 c.requires c.in_err-debug_information.ensures.exact)
+    rw (p.1, p.2) (dbi_fails (streams c.args.pdb.now) c.in_err-debug_information.field-0.0 c.requires c.in_err-debug_information.ensures.exact)
 
 pub returns-in_err-tables-clause-err : goal.returns-in_err-tables-clause-err
 returns-in_err-tables-clause-err c =
     let p = err_from_is_err_and c.from_residual-in_err-tables.result c.from_residual-in_err-tables.ensures.1 in
     let failed = rw c.debug_information.ensures.same at c.in_err-tables.ensures.exact in
-    rw (p.1, p.2) (tables_fail (streams c.args.pdb.now.items) c.in_err-tables.field-0.0 c.in_ok-debug_information.debug_information c.requires c.in_ok-debug_information.ensures.exact failed)
+    rw (p.1, p.2) (tables_fail (streams c.args.pdb.now) c.in_err-tables.field-0.0 c.in_ok-debug_information.debug_information c.requires c.in_ok-debug_information.ensures.exact failed)
 
 pub returns-then-not-is_ordered-clause-err : goal.returns-then-not-is_ordered-clause-err
 returns-then-not-is_ordered-clause-err c =
     let read = rw c.debug_information.ensures.same at c.in_ok-tables.ensures.exact in
-    order_fails (streams c.args.pdb.now.items) c.in_ok-debug_information.debug_information c.in_ok-tables.tables c.requires c.in_ok-debug_information.ensures.exact read
+    order_fails (streams c.args.pdb.now) c.in_ok-debug_information.debug_information c.in_ok-tables.tables c.requires c.in_ok-debug_information.ensures.exact read
     (sym (c.if-not-is_ordered.ensures.value ∙ ap (λ (t : Tables). is_ordered t.map) c.tables.view_is))
 
 -- nothing else is promised of a fault

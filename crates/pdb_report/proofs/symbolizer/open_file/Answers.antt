@@ -4,12 +4,12 @@ use Rattle.std.proofs.lemmas.Result.{err_from_is_err_and}
 use Rattle.pdb_symbols_modules.specs.Streams.{streams}
 use Rattle.pdb_report.specs.Loading.{load_fault, Refuses}
 use Rattle.pdb_report.proofs.OpeningSteps.{not_opened, all_refused}
-use Rattle.pdb_report.proofs.symbolizer.Symbolizer.open.Goals as goal
+use Rattle.pdb_report.proofs.symbolizer.open_file.Goals as goal
 
 pub returns-in_err-pdb-clause-refused : goal.returns-in_err-pdb-clause-refused
 returns-in_err-pdb-clause-refused c =
     let p = err_from_is_err_and c.from_residual.result c.from_residual.ensures.1 in
-    rw (p.1, p.2) (not_opened (λ v. v.items) c.args.bytes (streams c.args.bytes.items) c.in_err-pdb.field-0.0 c.in_err-pdb.ensures.err)
+    rw (p.1, p.2) (not_opened (λ v. v) c.args.file (streams c.args.file) c.in_err-pdb.field-0.0 c.in_err-pdb.ensures.err)
 
 -- nothing else is promised of a fault
 pub returns-in_err-pdb-clause-ok : goal.returns-in_err-pdb-clause-ok
@@ -32,4 +32,4 @@ returns-clause-loaded c = subst (λ (file : List ℕ). OnOk c.load.result (load_
 
 pub returns-clause-refused : goal.returns-clause-refused
 returns-clause-refused c =
-    subst (λ (file : List ℕ). IfErr c.load.result (λ e. Refuses e (load_fault (streams file)))) c.in_ok-pdb.ensures.file.0 (all_refused c.load.result (streams c.in_ok-pdb.pdb.items) c.load.ensures.err)
+    subst (λ (file : List ℕ). IfErr c.load.result (λ e. Refuses e (load_fault (streams file)))) c.in_ok-pdb.ensures.file.0 (all_refused c.load.result (streams c.in_ok-pdb.pdb) c.load.ensures.err)
