@@ -4,10 +4,11 @@ use Rattle.std.specs.List.{slice_get}
 use Rattle.std.specs.Option.{option_map}
 use Rattle.std.proofs.lemmas.Bool.{cases_lt, cases_order}
 use Rattle.std.proofs.Math.Nat.{pow-succ'}
-use Rattle.std.proofs.lemmas.Option.{slice_get_within, slice_get-get_or}
+use Rattle.std.proofs.lemmas.List.{get_or-map}
+use Rattle.std.proofs.lemmas.Option.{slice_get_within, slice_get_past, slice_get-get_or}
 use Rattle.pdb_pieces.specs.declared.span.Mark.{Mark}
 use Rattle.pdb_pieces.specs.declared.span.Span.{Span}
-use Rattle.pdb_pieces.specs.Spans.{mark_over, best, ArePieces, PieceHolds, mark_at}
+use Rattle.pdb_pieces.specs.Spans.{mark_over, best, starts_of, ArePieces, HasBegun, PieceHolds, mark_at}
 use Rattle.pdb_pieces.proofs.Covers.{best-before, mark_over-before, mark_over-after, mark_over-within}
 
 ArePieces-at : (low high : ℕ) (xs : List Span) (i : ℕ) (s : Span) → ArePieces low high xs → slice_get xs i ≡ Some s → (low ≤ s.start) × (s.start < s.end)
@@ -125,6 +126,56 @@ found_best low high xs p m s h e k l = best-at low high xs m s p h e k l ∙ sym
 -- what an index past a list's end reads
 abbrev pub no_span : Span
 no_span = record { start = 0; end = 0; mark = record { rank = 0; value = 0 } }
+
+-- the start that stands at a piece's number is the piece's
+pub start_at : (xs : List Span) (starts : List ℕ) (m d : ℕ) → starts ≡ starts_of xs → m < length xs → get_or starts m d ≡ (get_or xs m no_span).start
+start_at xs starts m d is lt = ap (λ (l : List ℕ). get_or l m d) is ∙ get_or-map (λ (s : Span). s.start) xs m no_span d lt
+
+-- the last of the pieces before a number begins at the place or before it
+pub record EndsBegun (xs : List Span) (low p : ℕ) : Type 0 where
+  pub last : (i : ℕ) (s : Span) → i + 1 ≡ low → slice_get xs i ≡ Some s → s.start ≤ p
+
+pub EndsBegun-start : (xs : List Span) (p : ℕ) → EndsBegun xs 0 p
+EndsBegun-start xs p = record { last = λ i s e f. absurd (omega arith) }
+
+pub EndsBegun-more : (xs : List Span) (m p : ℕ) → m < length xs → (get_or xs m no_span).start ≤ p → EndsBegun xs (m + 1) p
+EndsBegun-more xs m p lt le = record {
+  last = λ i s e f.
+      let same : m ≡ i = omega arith in
+      let read = slice_get-get_or xs m no_span lt in
+      let g : Some (get_or xs m no_span) ≡ Some s = sym read ∙ ap (slice_get xs) same ∙ f in
+      let st : get_or xs m no_span ≡ s = cc in subst (λ (y : Span). y.start ≤ p) st le;
+}
+
+pub IsBeyond-start : (xs : List Span) (p : ℕ) → IsBeyond xs (length xs) p
+IsBeyond-start xs p = record { each = λ i s le f. (let none = slice_get_past xs i le in absurd cc) }
+
+-- the search ends
+pub begun_all : (xs : List Span) (low high p : ℕ) → EndsBegun xs low p → IsBeyond xs high p → low ≤ high → high ≤ length xs → high ≤ low → HasBegun xs low p
+begun_all xs low high p a b l r e = record { bound = omega arith; last = a.last; behind = λ i s k f. b.each i s (omega arith) f }
+
+-- no piece begins at the place or before it
+pub IsPast-none : (xs : List Span) (p : ℕ) → IsPast xs 0 p
+IsPast-none xs p = record { each = λ i s l f. absurd (omega arith) }
+
+-- the last one that begins so ends there
+pub IsPast-last : (low high : ℕ) (xs : List Span) (count p : ℕ) → ArePieces low high xs → 0 < count → count ≤ length xs → (get_or xs (count - 1) no_span).end ≤ p → IsPast xs count p
+IsPast-last low high xs count p h some r le =
+    let e : count - 1 + 1 ≡ count = omega arith in
+    subst (λ n. IsPast xs n p) e (IsPast-more low high xs (count - 1) p (get_or xs (count - 1) no_span) h (slice_get-get_or xs (count - 1) no_span (omega arith)) le)
+
+pub IsBeyond-begun : (xs : List Span) (count p : ℕ) → HasBegun xs count p → IsBeyond xs count p
+IsBeyond-begun xs count p h = record { each = h.behind }
+
+-- the last one that begins so is found at its number
+pub last_begun : (xs : List Span) (count p : ℕ) → HasBegun xs count p → 0 < count → (get_or xs (count - 1) no_span).start ≤ p
+last_begun xs count p h some =
+    let b = h.bound in
+    h.last (count - 1) (get_or xs (count - 1) no_span) (omega arith) (slice_get-get_or xs (count - 1) no_span (omega arith))
+
+-- no piece holds the place
+pub found_none : (xs : List Span) (count p : ℕ) → IsPast xs count p → IsBeyond xs count p → (i : ℕ) → (None ≡ Some i) ↔ PieceHolds xs p i
+found_none xs count p a b i = (λ e. absurd cc, λ h. absurd (holds_nowhere xs count count p i a b (omega arith) h))
 
 pub holds_within : (xs : List Span) (p i : ℕ) → PieceHolds xs p i → i < length xs
 holds_within xs p i h = slice_get_within xs i h.piece h.is

@@ -1,5 +1,5 @@
 -- Which of many spans stands at a place, where places are numbers.
-use Rattle.std.specs.Prelude.{◌≡◌, ℕ, ◌+◌, ◌*◌, ◌<◌, ◌≤◌, Option, Some, None, List, [], ◌∷◌, if◌then◌else◌, ◌&&◌, nat_lt, nat_le, length, drop, slice_get}
+use Rattle.std.specs.Prelude.{◌≡◌, ℕ, ◌+◌, ◌*◌, ◌<◌, ◌≤◌, Option, Some, None, List, [], ◌∷◌, if◌then◌else◌, ◌&&◌, nat_lt, nat_le, length, drop, map, slice_get}
 use Rattle.std.specs.Option.{option_map}
 use Rattle.pdb_addresses.specs.declared.internal_section_offset.PdbInternalSectionOffset.{PdbInternalSectionOffset}
 use Rattle.pdb_pieces.specs.declared.span.Mark.{Mark}
@@ -66,6 +66,16 @@ pub record PieceHolds (pieces : List Span) (p i : ℕ) : Type 0 where
   pub is : slice_get pieces i ≡ Some piece
   pub from : piece.start ≤ p
   pub before : p < piece.end
+
+-- where spans begin
+abbrev pub starts_of : List Span → List ℕ
+starts_of spans = map (λ s. s.start) spans
+
+-- so many pieces begin at the place or before it: the last of them does, and none behind them
+pub record HasBegun (pieces : List Span) (count p : ℕ) : Type 0 where
+  pub bound : count ≤ length pieces
+  pub last : (i : ℕ) (s : Span) → i + 1 ≡ count → slice_get pieces i ≡ Some s → s.start ≤ p
+  pub behind : (i : ℕ) (s : Span) → count ≤ i → slice_get pieces i ≡ Some s → p < s.start
 
 -- the mark of the piece with that number
 abbrev pub mark_at : List Span → Option ℕ → Option Mark

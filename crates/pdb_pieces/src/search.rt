@@ -2,7 +2,7 @@
 
 ghost use Rattle.std.specs.Prelude.{◌≡◌, ℕ, ◌^◌, ◌<◌, ◌≤◌, ◌↔◌, IfOk, Some, List, length};
 ghost use Rattle.std.specs.Option.{option_map};
-ghost use Rattle.pdb_pieces.specs.Spans.{best, place_number as number_of_place, ArePieces, PieceHolds, mark_at};
+ghost use Rattle.pdb_pieces.specs.Spans.{best, place_number as number_of_place, starts_of as starts_of_spans, ArePieces, HasBegun, PieceHolds, mark_at};
 
 use crate::cut::cut;
 use crate::span::{Span, place_number};
@@ -10,22 +10,24 @@ use pdb_addresses::PdbInternalSectionOffset;
 use std::alloc::{AllocError, Global};
 use std::marker::Model;
 
-/// Pieces: spans in ascending order, none empty and no two over one place.
+/// Pieces: spans in ascending order, none empty and no two over one place; and where each begins, close together, for the search.
 #[derive(Drop)]
 pub struct Pieces {
     spans: Vec<Span>,
+    starts: Vec<u64>,
 }
 
 impl Model for Pieces {
     ghost use Rattle.std.specs.Prelude.{List};
     ghost use Rattle.pdb_pieces.specs.declared.span.Span.{Span};
-    ghost use Rattle.pdb_pieces.specs.Spans.{ArePieces};
+    ghost use Rattle.std.specs.Prelude.{◌≡◌};
+    ghost use Rattle.pdb_pieces.specs.Spans.{ArePieces, starts_of};
 
     ghost Value = { List Span };
 
     ghost view = { λ p. p.spans.items };
 
-    ghost invariant = { λ p. ArePieces 0 18446744073709551615 p.spans.items };
+    ghost invariant = { λ p. ArePieces 0 18446744073709551615 p.spans.items × (p.starts.items ≡ starts_of p.spans.items) };
 }
 
 impl Pieces {
@@ -35,7 +37,8 @@ impl Pieces {
         ensures { IfOk result (λ pieces. (p : ℕ) → best pieces p ≡ best spans.now p) }
     {
         let spans = cut(alloc, spans)?;
-        Ok(Pieces { spans })
+        let starts = starts_of(alloc, &spans)?;
+        Ok(Pieces { spans, starts })
     }
 
     /// The number of the one piece that holds the place, if one does, and how many pieces were looked at: at most as many as the
@@ -45,7 +48,7 @@ impl Pieces {
         ensures best { best self.now (number_of_place place) ≡ mark_at self.now result.0 }
         ensures probes { (digits : ℕ) → length self.now < 2 ^ digits → result.1 ≤ digits }
     {
-        find_piece(&self.spans, place_number(place))
+        find_piece(&self.spans, &self.starts, place_number(place))
     }
 
     /// What the piece that holds the place stands for.
@@ -59,27 +62,55 @@ impl Pieces {
     }
 }
 
-/// The same for pieces in a list. Each probe halves what is left.
-fn find_piece(pieces: &[Span], place: u64) -> (Option<usize>, u32)
-    requires { ArePieces 0 u64.MAX pieces.now }
+/// Where spans begin.
+fn starts_of(alloc: Global, spans: &[Span]) -> Result<Vec<u64>, AllocError>
+    ensures { IfOk result (λ v. v.items ≡ starts_of_spans spans.now) }
+{
+    let mut starts = Vec::with_capacity(alloc, spans.len())?;
+    for span in spans {
+        starts.push(span.start)?;
+    }
+    Ok(starts)
+}
+
+/// The same for pieces in a list, by where they begin.
+fn find_piece(pieces: &[Span], starts: &[u64], place: u64) -> (Option<usize>, u32)
+    requires pieces { ArePieces 0 u64.MAX pieces.now }
+    requires starts { starts.now ≡ starts_of_spans pieces.now }
     ensures one { (i : ℕ) → (result.0 ≡ Some i) ↔ PieceHolds pieces.now place i }
     ensures best { best pieces.now place ≡ mark_at pieces.now result.0 }
     ensures probes { (digits : ℕ) → length pieces.now < 2 ^ digits → result.1 ≤ digits }
 {
+    let (count, probes) = count_begun(pieces, starts, place);
+    if count == 0 {
+        return (None, probes);
+    }
+    let last = count - 1;
+    if place < pieces[last].end {
+        (Some(last), probes)
+    } else {
+        (None, probes)
+    }
+}
+
+/// How many pieces begin at a place or before it, and how many were looked at. Each probe halves what is left.
+fn count_begun(pieces: &[Span], starts: &[u64], place: u64) -> (usize, u32)
+    requires pieces { ArePieces 0 u64.MAX pieces.now }
+    requires starts { starts.now ≡ starts_of_spans pieces.now }
+    ensures begun { HasBegun pieces.now result.0 place }
+    ensures probes { (digits : ℕ) → length pieces.now < 2 ^ digits → result.1 ≤ digits }
+{
     let mut low = 0;
-    let mut high = pieces.len();
+    let mut high = starts.len();
     let mut probes = 0;
     while low < high {
         let middle = low + (high - low) / 2;
-        let piece = pieces[middle];
         probes += 1;
-        if place < piece.start {
+        if place < starts[middle] {
             high = middle;
-        } else if piece.end <= place {
-            low = middle + 1;
         } else {
-            return (Some(middle), probes);
+            low = middle + 1;
         }
     }
-    (None, probes)
+    (low, probes)
 }
