@@ -1,5 +1,5 @@
 -- A formatter and a context over what is held of a database.
-use Rattle.std.specs.Prelude.{ℕ, List, Result, Ok}
+use Rattle.std.specs.Prelude.{ℕ, List, Result}
 use Rattle.pdb_loading.specs.Held.{Held}
 use Rattle.pdb_loading.specs.Kept.{KeptInfo}
 use Rattle.pdb_symbols_modules.specs.Machine.{machine_of}

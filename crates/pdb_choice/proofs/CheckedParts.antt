@@ -10,7 +10,6 @@ use Rattle.pdb_contributions.specs.Contributions.{Held, held_of}
 use Rattle.pdb_public_list.specs.Publics.{publics_among, entries_of_symbols, placeholders, section_ends}
 use Rattle.pdb_resolving.specs.declared.error.Error.{Error}
 use Rattle.pdb_resolving.specs.Fault.{Fault, Answers, lifted}
-use Rattle.pdb_choice.specs.Choice.{Parts}
 use Rattle.pdb_choice.specs.Parts.{outcome, parts_of, parts_checked}
 
 same_outcome : (sections : List ImageSectionHeader) (map : Map) (names : Option (List ℕ)) (read : Result (List Symbol) container.Fault) (found : Result Held Fault)

@@ -1,5 +1,5 @@
 -- The names of the string table that are listed by where they begin.
-use Rattle.std.specs.Prelude.{◌≡◌, ℕ, List, [], ◌∷◌, Option, None, Some, Result, Ok}
+use Rattle.std.specs.Prelude.{◌≡◌, ℕ, List, [], ◌∷◌, Option, None, Some, Ok}
 use Rattle.pdb_container.specs.StringTable.{text_in}
 use Rattle.pdb_module_data.specs.declared.file_names.KnownName.{KnownName}
 
