@@ -95,7 +95,6 @@ impl<'t> InlineRanges<'t> {
     ///
     /// # Errors
     /// Those of [`InlineSites::read`].
-    #[tactic(auto, using(crate::proofs::InlineSteps::stand_as_read))]
     pub fn read(
         alloc: Global,
         symbols: SymbolIter<'t>,
