@@ -243,21 +243,39 @@ fn a_stream_views_its_own_pages_once_and_alone(rt: HostRuntime) -> Result<(), Fa
     Ok(())
 }
 
-/// Whether stream 1, in pages 3 and 4, of a container over shared bytes, so many of a file's, is as usual, or why it is refused.
+fn opened_shared(alloc: Global, bytes: &[u8]) -> Result<BigMSF<'static, Bytes>, Error> {
+    open_msf(alloc, Bytes::copy_from_slice(alloc, bytes)?)
+}
+
+/// A container over shared bytes.
+fn shared(alloc: Global, bytes: &[u8]) -> Result<BigMSF<'static, Bytes>, Error> {
+    match opened_shared(alloc, bytes) {
+        Err(Error::OutOfMemory) => opened_shared(alloc, bytes),
+        answer => answer,
+    }
+}
+
+/// Whether stream 1 of a container over shared bytes has these bytes, or why it is refused.
+fn has_shared(
+    alloc: Global,
+    container: &mut BigMSF<'static, Bytes>,
+    usual: &[u8],
+) -> Result<bool, Error> {
+    let stream = get(container, alloc, 1, None)?;
+    Ok(stream.as_slice() == usual)
+}
+
+/// Whether stream 1, in pages 3 and 4, of a container over so many shared bytes of a file is as usual, or why it is refused.
 fn of_shared_bytes(
     alloc: Global,
     order: PageOrder,
     len: usize,
 ) -> Result<Result<bool, Error>, Fail> {
     let description = container(alloc, 0x1000, order, &[Some(0), Some(5000)])?;
-    let bytes = Bytes::from_vec(file(alloc, &description)?)?;
-    let len = len.min(bytes.len());
-    let mut container = open_msf(alloc, bytes.slice(..len)?)?;
+    let bytes = file(alloc, &description)?;
     let usual = counted(alloc, 1, 5000)?;
-    match get(&mut container, alloc, 1, None) {
-        Ok(stream) => Ok(Ok(stream.as_slice() == usual.as_slice())),
-        Err(error) => Ok(Err(error)),
-    }
+    let mut container = shared(alloc, &bytes[..len.min(bytes.len())])?;
+    Ok(has_shared(alloc, &mut container, &usual))
 }
 
 #[test]
