@@ -13,6 +13,9 @@ use pdb_pieces::{Mark, Pieces, Span};
 use std::alloc::{AllocError, Global};
 use std::marker::Model;
 
+/// How many rows most functions have, so that the list of them isn't moved as it grows.
+const USUAL_ROWS: usize = 16;
+
 /// What is kept of a line row of a function: where its code begins, and its file and line.
 #[derive(Clone, Copy, Debug, PartialEq, Eq)]
 pub struct LineRow {
@@ -64,7 +67,7 @@ fn row_span(number: usize, row: LineRow) -> Span
 fn row_spans(alloc: Global, rows: &[LineRow]) -> std::result::Result<Vec<Span>, AllocError>
     ensures { IfOk result (λ v. v.items ≡ spans_of_rows 0 rows.now) }
 {
-    let mut spans = Vec::new(alloc);
+    let mut spans = Vec::with_capacity(alloc, rows.len())?;
     let mut number = rows.len();
     while number > 0 {
         number -= 1;
@@ -159,7 +162,7 @@ fn read_rows(
     ensures { Gives (λ v. v.items) ⊥ result (function_rows line_program.now start) }
 {
     let mut remaining = line_program.lines_for_symbol(start);
-    let mut rows = Vec::new(alloc);
+    let mut rows = Vec::with_capacity(alloc, USUAL_ROWS)?;
     while let Some(row) = remaining.next()? {
         rows.push(LineRow {
             start: row.offset.offset,

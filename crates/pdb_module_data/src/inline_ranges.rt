@@ -17,6 +17,9 @@ use pdb_symbols::SymbolIter;
 use std::alloc::{AllocError, Global};
 use std::marker::Model;
 
+/// How many rows most sites have, so that lists of them aren't moved as they grow.
+const ROWS_OF_SITE: usize = 4;
+
 /// The inline sites of a procedure (`S_INLINESITE`, `S_INLINESITE2`) in the order of the file, what is kept of the rows of all of
 /// them one after another, with where those of each start, and pieces of places for a search of the deepest one over a place.
 #[derive(Drop)]
@@ -73,9 +76,10 @@ fn rows_and_spans<'a>(
     ensures spans { IfOk result (λ r. r.spans.items ≡ spans_of_sites (call_rows (given_by inlinees.now) start) 0 sites.now) }
     ensures short { IfOk result (λ r. AreShortSites (call_rows (given_by inlinees.now) start) sites.now) }
 {
-    let mut rows = Vec::new(alloc);
+    let usual = sites.len().saturating_mul(ROWS_OF_SITE);
+    let mut rows = Vec::with_capacity(alloc, usual)?;
     let mut starts = Vec::with_capacity(alloc, sites.len() + 1)?;
-    let mut spans = Vec::with_capacity(alloc, sites.len())?;
+    let mut spans = Vec::with_capacity(alloc, usual)?;
     for (number, site) in sites.iter().enumerate() {
         starts.push(rows.len())?;
         push_site(&mut rows, &mut spans, number, site, inlinees, start)?;

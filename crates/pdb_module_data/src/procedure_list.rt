@@ -59,7 +59,7 @@ fn procedure_spans(
     ensures spans { IfOk result (λ v. v.items ≡ spans_of_procedures 0 procedures.now) }
     ensures short { IfOk result (λ v. AreShort procedures.now) }
 {
-    let mut spans = Vec::new(alloc);
+    let mut spans = Vec::with_capacity(alloc, procedures.len())?;
     for (number, procedure) in procedures.iter().enumerate() {
         spans.push(procedure_span(number, procedure))?;
     }

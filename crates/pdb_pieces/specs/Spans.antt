@@ -1,10 +1,9 @@
 -- Which of many spans stands at a place, where places are numbers.
-use Rattle.std.specs.Prelude.{◌≡◌, ℕ, ◌+◌, ◌*◌, ◌<◌, ◌≤◌, Option, Some, None, List, [], ◌∷◌, if◌then◌else◌, ◌&&◌, nat_lt, nat_le, length, drop, map, slice_get}
+use Rattle.std.specs.Prelude.{◌≡◌, ℕ, ◌+◌, ◌*◌, ◌<◌, ◌≤◌, Option, Some, None, List, [], ◌∷◌, if◌then◌else◌, ◌&&◌, nat_lt, nat_le, length, drop, map, slice_get, slice_range, ◌++◌}
 use Rattle.std.specs.Option.{option_map}
 use Rattle.pdb_addresses.specs.declared.internal_section_offset.PdbInternalSectionOffset.{PdbInternalSectionOffset}
 use Rattle.pdb_pieces.specs.declared.span.Mark.{Mark}
 use Rattle.pdb_pieces.specs.declared.span.Span.{Span}
-use Rattle.std.specs.Global.{Vec}
 
 -- a place in a section as a number: 2 ^ 33 numbers for each section, so that what begins in one ends before the next
 abbrev pub place_number : PdbInternalSectionOffset → ℕ
@@ -30,15 +29,22 @@ abbrev pub ArePieces : ℕ → ℕ → List Span → Type 0
 ArePieces low high [] = low ≤ high
 ArePieces low high (s ∷ rest) = (low ≤ s.start) × (s.start < s.end) × ArePieces s.end high rest
 
--- each of the lists is pieces
-abbrev pub AllPieces : ℕ → List (Vec Span) → Type 0
-AllPieces high [] = Unit {0}
-AllPieces high (run ∷ rest) = ArePieces 0 high run.items × AllPieces high rest
+-- none of the spans is empty
+abbrev pub AreWide : List Span → Type 0
+AreWide [] = Unit {0}
+AreWide (s ∷ rest) = (s.start < s.end) × AreWide rest
 
--- the best of several lists, one after another
-abbrev pub best_of_all : List (Vec Span) → ℕ → Option Mark
-best_of_all [] p = None
-best_of_all (run ∷ rest) p = better (best run.items p) (best_of_all rest p)
+-- the spans from one number on and before another are runs, one behind the other, that end at these numbers; each run is pieces
+abbrev pub AreRuns : List Span → ℕ → List ℕ → ℕ → Type 0
+AreRuns spans from [] to = from ≡ to
+AreRuns spans from (end ∷ ends) to = (from ≤ end) × (end ≤ length spans) × ArePieces 0 18446744073709551615 (slice_range spans from end) × AreRuns spans end ends to
+
+-- pieces were added that stand at each place with the better of what both lists stand with
+pub record AddsBetter (before after left right : List Span) : Type 0 where
+  pub added : List Span
+  pub is : after ≡ before ++ added
+  pub pieces : ArePieces 0 18446744073709551615 added
+  pub best : (p : ℕ) → best added p ≡ better (best left p) (best right p)
 
 -- the first of what is left ends past `from`, and what is left is pieces
 abbrev pub IsRest : ℕ → ℕ → List Span → Type 0

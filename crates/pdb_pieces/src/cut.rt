@@ -1,10 +1,11 @@
 //! Cuts spans that may overlap into pieces that don't.
 
-ghost use Rattle.std.specs.Prelude.{◌≡◌, ℕ, ◌+◌, ◌*◌, ◌^◌, ◌<◌, ◌≤◌, IfOk, Option, Some, None, if◌then◌else◌, nat_le, min, length, drop, [], ◌∷◌, vec_len};
-ghost use Rattle.pdb_pieces.specs.Spans.{mark_over, better, best, ArePieces, AllPieces, best_of_all, IsAhead, StandsWith, FirstReaches};
+ghost use Rattle.std.specs.Prelude.{◌≡◌, ℕ, ◌+◌, ◌*◌, ◌^◌, ◌<◌, ◌≤◌, IfOk, OnOk, Option, Some, None, if◌then◌else◌, nat_le, min, length, drop, [], ◌∷◌, vec_len};
+ghost use Rattle.pdb_pieces.specs.Spans.{mark_over, better, best, ArePieces, AreRuns, AreWide, AddsBetter, IsAhead, StandsWith, FirstReaches};
 
 use crate::span::{Mark, Span, better_of};
 use std::alloc::{AllocError, Global};
+use std::mem::swap;
 
 /// What stands from a place on, and before which bound it may change.
 #[derive(Clone, Copy)]
@@ -56,14 +57,12 @@ fn pass(spans: &[Span], i: usize, to: u64) -> usize
     }
 }
 
-/// The pieces that at each place have the better of what both stand with there. It goes from bound to bound.
-fn overlay(alloc: Global, left: &[Span], right: &[Span]) -> Result<Vec<Span>, AllocError>
+/// Puts behind pieces those that at each place have the better of what both lists stand with there. It goes from bound to bound.
+fn overlay(pieces: &mut Vec<Span>, left: &[Span], right: &[Span]) -> Result<(), AllocError>
     requires left { ArePieces 0 u64.MAX left.now }
     requires right { ArePieces 0 u64.MAX right.now }
-    ensures pieces { IfOk result (λ v. ArePieces 0 u64.MAX v.items) }
-    ensures best { IfOk result (λ v. (p : ℕ) → best v.items p ≡ better (best left.now p) (best right.now p)) }
+    ensures { OnOk result (AddsBetter pieces.old.items pieces.new.items left.now right.now) }
 {
-    let mut pieces = Vec::with_capacity(alloc, left.len().saturating_add(right.len()))?;
     let mut from = 0;
     let mut i = 0;
     let mut j = 0;
@@ -83,64 +82,115 @@ fn overlay(alloc: Global, left: &[Span], right: &[Span]) -> Result<Vec<Span>, Al
         i = pass(left, i, to);
         j = pass(right, j, to);
     }
-    Ok(pieces)
+    Ok(())
 }
 
-/// The spans that cover anything, in lists: each list goes on as long as the spans ascend and lie apart.
-fn ascending_runs(alloc: Global, spans: &[Span]) -> Result<Vec<Vec<Span>>, AllocError>
-    ensures pieces { IfOk result (λ runs. AllPieces u64.MAX runs.items) }
-    ensures best { IfOk result (λ runs. (p : ℕ) → best_of_all runs.items p ≡ best spans.now p) }
+/// A span behind others. Where it goes on with the mark of the last of them, that one ends where it does.
+fn push_joined(spans: &mut Vec<Span>, span: Span) -> Result<(), AllocError>
+    requires wide { span.start < span.end }
+    requires all_wide { AreWide spans.old.items }
+    ensures wide { OnOk result (AreWide spans.new.items) }
+    ensures best { OnOk result ((p : ℕ) → best spans.new.items p ≡ better (best spans.old.items p) (mark_over span p)) }
 {
-    let mut runs = Vec::new(alloc);
-    let mut run = Vec::new(alloc);
-    let mut end = 0;
-    for span in spans {
-        if span.start < span.end {
-            if span.start < end {
-                runs.push(run)?;
-                run = Vec::new(alloc);
+    match spans.pop() {
+        None => spans.push(span)?,
+        Some(last) => {
+            if last.end == span.start && last.mark == span.mark {
+                spans.push(Span {
+                    start: last.start,
+                    end: span.end,
+                    mark: last.mark,
+                })?;
+            } else {
+                spans.push(last)?;
+                spans.push(span)?;
             }
-            end = span.end;
-            run.push(*span)?;
         }
     }
-    runs.push(run)?;
-    Ok(runs)
+    Ok(())
 }
 
-/// Each two neighbors become one; an odd last one stays.
-fn merge_pairs(alloc: Global, runs: &[Vec<Span>]) -> Result<Vec<Vec<Span>>, AllocError>
-    requires { AllPieces u64.MAX runs.now }
-    ensures pieces { IfOk result (λ merged. AllPieces u64.MAX merged.items) }
-    ensures best { IfOk result (λ merged. (p : ℕ) → best_of_all merged.items p ≡ best_of_all runs.now p) }
-    ensures half { IfOk result (λ merged. vec_len merged * 2 ≤ length runs.now + 1) }
+/// The spans that cover anything; neighbors of one mark, of which one goes on where the other ends, are one.
+fn joined(alloc: Global, spans: &[Span]) -> Result<Vec<Span>, AllocError>
+    ensures wide { IfOk result (λ v. AreWide v.items) }
+    ensures best { IfOk result (λ v. (p : ℕ) → best v.items p ≡ best spans.now p) }
 {
-    let mut merged = Vec::new(alloc);
+    let mut wide = Vec::with_capacity(alloc, spans.len())?;
+    for span in spans {
+        if span.start < span.end {
+            push_joined(&mut wide, *span)?;
+        }
+    }
+    Ok(wide)
+}
+
+/// Where the runs end that spans are: each run goes on as long as they ascend and lie apart.
+fn run_ends(alloc: Global, spans: &[Span]) -> Result<Vec<usize>, AllocError>
+    requires { AreWide spans.now }
+    ensures { IfOk result (λ v. AreRuns spans.now 0 v.items (length spans.now)) }
+{
+    let mut ends = Vec::new(alloc);
+    let mut end = 0;
     let mut i = 0;
-    while i + 1 < runs.len() {
-        let pair = overlay(alloc, &runs[i], &runs[i + 1])?;
-        merged.push(pair)?;
+    while i < spans.len() {
+        let span = spans[i];
+        if span.start < end {
+            ends.push(i)?;
+        }
+        end = span.end;
+        i += 1;
+    }
+    ends.push(i)?;
+    Ok(ends)
+}
+
+/// Makes one run of each two neighbors; an odd last one stays.
+fn merge_pairs(
+    spans: &[Span],
+    ends: &[usize],
+    merged: &mut Vec<Span>,
+    merged_ends: &mut Vec<usize>,
+) -> Result<(), AllocError>
+    requires { AreRuns spans.now 0 ends.now (length spans.now) }
+    ensures runs { OnOk result (AreRuns merged.new.items 0 merged_ends.new.items (length merged.new.items)) }
+    ensures best { OnOk result ((p : ℕ) → best merged.new.items p ≡ best spans.now p) }
+    ensures half { OnOk result (vec_len merged_ends.new * 2 ≤ length ends.now + 1) }
+{
+    merged.clear();
+    merged_ends.clear();
+    let mut from = 0;
+    let mut i = 0;
+    while i + 1 < ends.len() {
+        let middle = ends[i];
+        let to = ends[i + 1];
+        overlay(merged, &spans[from..middle], &spans[middle..to])?;
+        merged_ends.push(merged.len())?;
+        from = to;
         i += 2;
     }
-    if i < runs.len() {
-        let last = Vec::from_slice(alloc, &runs[i])?;
-        merged.push(last)?;
+    if i < ends.len() {
+        let to = ends[i];
+        merged.extend_from_slice(&spans[from..to])?;
+        merged_ends.push(merged.len())?;
     }
-    Ok(merged)
+    Ok(())
 }
 
-/// Pieces that at each place have the mark of the best span over it: the one of greatest rank, of equals the first. Neighbors
-/// are merged in rounds, so that n spans take some n log n steps; spans that ascend and lie apart are pieces as they stand.
+/// Pieces that at each place have the mark of the best span over it: the one of greatest rank, of equals the first. Neighboring
+/// runs are merged in rounds, from one list into another and back, so that n spans take some n log n steps; spans that ascend and
+/// lie apart are pieces as they stand.
 pub fn cut(alloc: Global, spans: &[Span]) -> Result<Vec<Span>, AllocError>
     ensures pieces { IfOk result (λ v. ArePieces 0 u64.MAX v.items) }
     ensures best { IfOk result (λ v. (p : ℕ) → best v.items p ≡ best spans.now p) }
 {
-    let mut runs = ascending_runs(alloc, spans)?;
-    while runs.len() > 1 {
-        runs = merge_pairs(alloc, &runs)?;
+    let mut runs = joined(alloc, spans)?;
+    let mut ends = run_ends(alloc, &runs)?;
+    let mut merged = Vec::new(alloc);
+    let mut merged_ends = Vec::new(alloc);
+    while ends.len() > 1 {
+        merge_pairs(&runs, &ends, &mut merged, &mut merged_ends)?;
+        swap(&mut runs, &mut merged);
+        swap(&mut ends, &mut merged_ends);
     }
-    match runs.pop() {
-        Some(run) => Ok(run),
-        None => Ok(Vec::new(alloc)),
-    }
+    Ok(runs)
 }

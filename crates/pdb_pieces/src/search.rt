@@ -36,7 +36,8 @@ impl Pieces {
     pub fn new(alloc: Global, spans: &[Span]) -> Result<Self, AllocError>
         ensures { IfOk result (λ pieces. (p : ℕ) → best pieces p ≡ best spans.now p) }
     {
-        let spans = cut(alloc, spans)?;
+        let mut spans = cut(alloc, spans)?;
+        spans.shrink_to_fit();
         let starts = starts_of(alloc, &spans)?;
         Ok(Pieces { spans, starts })
     }

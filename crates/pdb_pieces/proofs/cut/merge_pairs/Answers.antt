@@ -1,50 +1,41 @@
-use Rattle.std.proofs.Common.{◌≡◌, ℕ, ◌+◌, ◌<◌, length, take, ap, ◌∙◌, sym, subst, arith}
-use Rattle.pdb_pieces.specs.Spans.{ArePieces, AllPieces, best, better}
-use Rattle.pdb_pieces.proofs.Rounds.{IsSameBest, IsSameBest-pair, IsSameBest-last, IsSameBest-end, AllPieces-push, AllPieces-read}
-use Rattle.pdb_pieces.proofs.cut.merge_pairs.Goals.{then-i-runs+in_ok-last+in_ok-push-2, else-i-runs}
+use Rattle.std.proofs.Common.{◌≡◌, ℕ, ◌+◌, ◌<◌, ◌≤◌, length, drop, take, get_or, ap, ◌∙◌, sym, subst, arith}
+use Rattle.std.proofs.lemmas.List.{take_all}
+use Rattle.pdb_pieces.specs.Spans.{ArePieces, AreRuns, best, better}
+use Rattle.pdb_pieces.proofs.Runs.{AreRuns-first, AreRuns-after, all_passed, pair_law, last_law}
 use Rattle.pdb_pieces.proofs.cut.merge_pairs.Goals as goal
-
-pub overlay-requires-clause-left : goal.overlay-requires-clause-left
-overlay-requires-clause-left c =
-    let lt : c.loop-i.i < length c.args.runs.now = omega arith in
-    subst (ArePieces 0 _) (sym c.deref.ensures.value) (AllPieces-read _ _ _ _ c.requires lt c.index-runs-i.is)
-
-pub overlay-requires-clause-right : goal.overlay-requires-clause-right
-overlay-requires-clause-right c =
-    subst (ArePieces 0 _) (sym c.deref-in-loop-i.ensures.value) (AllPieces-read _ _ _ _ c.requires c.loop-i-test.true c.index-runs-i-in-loop-i.is)
 
 pub loop-i-preserved : goal.loop-i-preserved
 loop-i-preserved c =
     let v = c.loop-i.invariant in
-    let items = c.in_ok-push.ensures.items in
-    let law : (p : ℕ) → best c.in_ok-pair.pair.items p ≡ better (best c.index-runs-i.result.items p) (best c.index-runs-i-in-loop-i.result.items p) =
-    λ p. rw (← c.deref.ensures.value, ← c.deref-in-loop-i.ensures.value) (c.in_ok-pair.ensures.best p) in
+    let spans = c.args.spans.now in
+    let ends = c.args.ends.now in
+    let i = c.loop-i.i in
+    let first = AreRuns-first spans c.loop-i.from (length spans) i ends 0 v.left (omega arith) in
+    let second = AreRuns-first spans (get_or ends i 0) (length spans) (i + 1) ends 0 first.3 c.loop-i-test.true in
+    let on : i + 1 + 1 ≡ i + 2 = omega arith in
+    let adds = c.in_ok-overlay.ensures in
     record {
       in_range = omega arith;
       half = omega (arith, c.in_ok-push.ensures.len);
-      pieces = subst (AllPieces _) (sym items) (AllPieces-push _ _ _ v.pieces c.in_ok-pair.ensures.pieces);
-      law = subst (λ rs. IsSameBest rs (take (c.loop-i.i + 2) c.args.runs.now)) (sym items) (IsSameBest-pair c.args.runs.now c.loop-i.merged.items c.loop-i.i c.index-runs-i.result c.index-runs-i-in-loop-i.result c.in_ok-pair.pair c.loop-i-test.true c.index-runs-i.is c.index-runs-i-in-loop-i.is law v.law);
+      left = subst (λ n. AreRuns spans (get_or ends (i + 1) 0) (drop n ends) (length spans)) on second.3;
+      done = AreRuns-after c.loop-i.merged.items adds.added c.overlay.new.pieces.items c.loop-i.merged_ends.items c.push.new.self.items _ adds.is c.in_ok-push.ensures.items (omega (arith, c.len.ensures, c.overlay.new.pieces.ok)) v.done adds.pieces;
+      law = λ p. pair_law spans c.loop-i.merged.items c.overlay.new.pieces.items c.loop-i.from (get_or ends i 0) (get_or ends (i + 1) 0) p first.0 second.0 adds (v.law p);
     }
 
-pub returns-clause-pieces : goal.returns-clause-pieces
-returns-clause-pieces c =
+pub returns-in_ok-push-2-clause-runs : goal.returns-in_ok-push-2-clause-runs
+returns-in_ok-push-2-clause-runs c =
     let v = c.loop-i.invariant in
-    elim c.if-i-runs.branch [
-      | then-i-runs+in_ok-last+in_ok-push-2 w ↦
-          let items = ap (λ x. x.items) w.merged-is ∙ w.in_ok-push-2.ensures.items in
-          let read = AllPieces-read _ _ _ _ c.requires w.if-i-runs.true w.index-runs-i-then-i-runs.is in
-          let copy = w.in_ok-last.ensures.items ∙ w.deref-then-i-runs.ensures.value in
-          subst (AllPieces _) (sym items) (AllPieces-push _ _ _ v.pieces (subst (ArePieces 0 _) (sym copy) read))
-      | else-i-runs w ↦ subst (AllPieces _) (sym (ap (λ x. x.items) w.merged-is)) v.pieces
-    ]
+    let spans = c.args.spans.now in
+    let ends = c.args.ends.now in
+    let first = AreRuns-first spans c.loop-i.from (length spans) c.loop-i.i ends 0 v.left c.if-i-ends.true in
+    AreRuns-after c.loop-i.merged.items _ c.extend_from_slice.new.self.items c.loop-i.merged_ends.items c.push-then-i-ends.new.self.items _ c.in_ok-extend_from_slice.ensures.items c.in_ok-push-2.ensures.items (omega (arith, c.len-then-i-ends.ensures, c.extend_from_slice.new.self.ok)) v.done first.2
 
-pub returns-clause-best : goal.returns-clause-best
-returns-clause-best c =
+pub returns-in_ok-push-2-clause-best : goal.returns-in_ok-push-2-clause-best
+returns-in_ok-push-2-clause-best c p =
     let v = c.loop-i.invariant in
-    elim c.if-i-runs.branch [
-      | then-i-runs+in_ok-last+in_ok-push-2 w ↦
-          let items = ap (λ x. x.items) w.merged-is ∙ w.in_ok-push-2.ensures.items in
-          let copy = w.in_ok-last.ensures.items ∙ w.deref-then-i-runs.ensures.value in
-          subst (λ rs. IsSameBest rs c.args.runs.now) (sym items) (IsSameBest-last c.args.runs.now c.loop-i.merged.items c.loop-i.i w.index-runs-i-then-i-runs.result w.in_ok-last.last w.if-i-runs.true c.loop-i-test.false w.index-runs-i-then-i-runs.is copy v.law)
-      | else-i-runs w ↦ subst (λ rs. IsSameBest rs c.args.runs.now) (sym (ap (λ x. x.items) w.merged-is)) (IsSameBest-end c.args.runs.now c.loop-i.merged.items c.loop-i.i w.if-i-runs.false v.law)
-    ]
+    let spans = c.args.spans.now in
+    let ends = c.args.ends.now in
+    let i = c.loop-i.i in
+    let first = AreRuns-first spans c.loop-i.from (length spans) i ends 0 v.left c.if-i-ends.true in
+    let all = all_passed spans (get_or ends i 0) (length spans) (i + 1) ends first.3 (omega arith) in
+    last_law spans c.loop-i.merged.items c.extend_from_slice.new.self.items c.loop-i.from (get_or ends i 0) p first.0 all c.in_ok-extend_from_slice.ensures.items (v.law p)

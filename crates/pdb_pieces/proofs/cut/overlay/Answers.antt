@@ -1,4 +1,5 @@
-use Rattle.std.proofs.Common.{◌≡◌, ◌<◌, ◌≤◌, Some, None, ap, ◌∙◌, sym, subst, arith}
+use Rattle.std.proofs.Common.{◌≡◌, ◌<◌, ◌≤◌, ◌++◌, [], ◌∷◌, Some, None, ap, ◌∙◌, sym, append_assoc, arith}
+use Rattle.pdb_pieces.specs.declared.span.Span.{Span}
 use Rattle.pdb_pieces.specs.Spans.{ArePieces, better}
 use Rattle.pdb_pieces.proofs.Covers.{ArePieces-push, ArePieces-wider}
 use Rattle.pdb_pieces.proofs.Overlay.{IsBetterBelow, IsBetterBelow-push, IsBetterBelow-skip, IsBetter-at_end}
@@ -16,31 +17,36 @@ loop-from-preserved c =
     let in_right : to ≤ r.result.until = omega arith in
     elim c.match-better_of.branch [
       | in-Some+in_ok-push w ↦
-          let items = ap (λ (x : _). x.items) w.pieces-is ∙ w.in_ok-push.ensures.items in
           let is : better l.result.mark r.result.mark ≡ Some w.in-Some.mark = sym c.better_of.ensures ∙ w.in-Some.is in
+          let piece : Span = record { start = c.loop-from.from; end = to; mark = w.in-Some.mark } in
           record {
             bound = omega arith;
             left = c.pass-i.ensures;
             right = c.pass-j.ensures;
-            pieces = subst (ArePieces 0 to) (sym items) (ArePieces-push _ _ _ _ _ v.pieces (omega arith) rises (omega arith));
-            law = subst (λ ys. IsBetterBelow ys c.args.left.now c.args.right.now to) (sym items) (IsBetterBelow-push _ _ _ _ _ _ _ _ _ _ v.pieces v.law l.ensures.stands r.ensures.stands in_left in_right is);
+            added = v.added ++ piece ∷ [];
+            is = ap (λ (x : _). x.items) w.pieces-is ∙ w.in_ok-push.ensures.items ∙ ap (λ ys. ys ++ piece ∷ []) v.is ∙ append_assoc _ v.added (piece ∷ []);
+            pieces = ArePieces-push _ _ _ _ _ v.pieces (omega arith) rises (omega arith);
+            law = IsBetterBelow-push _ _ _ _ _ _ _ _ _ _ v.pieces v.law l.ensures.stands r.ensures.stands in_left in_right is;
           }
       | in_default w ↦
-          let items : c.match-better_of.pieces.items ≡ c.loop-from.pieces.items = ap (λ x. x.items) w.pieces-is in
           let is : better l.result.mark r.result.mark ≡ None = sym c.better_of.ensures ∙ w.in_default.is in
           record {
             bound = omega arith;
             left = c.pass-i.ensures;
             right = c.pass-j.ensures;
-            pieces = subst (ArePieces 0 to) (sym items) (ArePieces-wider _ _ _ _ v.pieces (omega arith));
-            law = subst (λ ys. IsBetterBelow ys c.args.left.now c.args.right.now to) (sym items) (IsBetterBelow-skip _ _ _ _ _ _ _ _ _ v.pieces v.law l.ensures.stands r.ensures.stands in_left in_right is);
+            added = v.added;
+            is = ap (λ (x : _). x.items) w.pieces-is ∙ v.is;
+            pieces = ArePieces-wider _ _ _ _ v.pieces (omega arith);
+            law = IsBetterBelow-skip _ _ _ _ _ _ _ _ _ v.pieces v.law l.ensures.stands r.ensures.stands in_left in_right is;
           }
     ]
 
-pub returns-clause-pieces : goal.returns-clause-pieces
-returns-clause-pieces c = ArePieces-wider 0 c.loop-from.from _ _ c.loop-from.invariant.pieces (omega arith)
-
-pub returns-clause-best : goal.returns-clause-best
-returns-clause-best c =
+pub returns : goal.returns
+returns c =
     let v = c.loop-from.invariant in
-    IsBetter-at_end _ _ _ _ _ v.pieces v.law c.requires.left c.requires.right (omega arith)
+    record {
+      added = v.added;
+      is = v.is;
+      pieces = ArePieces-wider 0 c.loop-from.from _ _ v.pieces (omega arith);
+      best = IsBetter-at_end _ _ _ _ _ v.pieces v.law c.requires.left c.requires.right (omega arith);
+    }
