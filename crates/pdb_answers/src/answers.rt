@@ -25,7 +25,7 @@ use pdb_frames::{
     Chosen, ContextParts, Failures, Namer, Part, choose, failing_in, frames_in, name_of,
     to_next_bound, to_next_shared_bound, unsuccessful,
 };
-use pdb_functions::{Function, FunctionFrames};
+use pdb_functions::{Function, SharedFunctionFrames, owned_name};
 use pdb_kept_modules::{
     BasicModuleInfo, KeptModule, empty_places, keep_lines, keep_module, keep_procedure,
     keep_public_rows, known_at, number_over, procedure_numbered,
@@ -53,14 +53,14 @@ fn frames_of<'a, P: ModuleProvider>(
     known: Option<&BasicModuleInfo<'_, P::Info>>,
     chosen: Chosen<'_, 'a>,
     place: PdbInternalSectionOffset,
-) -> Result<Option<FunctionFrames<'a>>>
+) -> Result<Option<SharedFunctionFrames<'a>>>
     ensures same { namer.new ≡ namer.old }
     ensures frames { Answers (λ f. f) result (frames_of_chosen parts.now (env_of P.provided namer.old module_index) (option_copied known.entry) place (Some (chosen_seen chosen.entry))) }
 {
     let frames = frames_in(alloc, parts, namer, module_index, known, chosen, place)?;
     match chosen.start_rva(parts) {
         None => Ok(None),
-        Some(start_rva) => Ok(Some(FunctionFrames {
+        Some(start_rva) => Ok(Some(SharedFunctionFrames {
             start_rva,
             end_rva: chosen.end_of_frames(parts, start_rva),
             frames,
@@ -81,7 +81,7 @@ fn frames_told<'a, P: ModuleProvider>(
     known: Option<&BasicModuleInfo<'_, P::Info>>,
     chosen: Chosen<'_, 'a>,
     place: PdbInternalSectionOffset,
-) -> Result<Option<FunctionFrames<'a>>>
+) -> Result<Option<SharedFunctionFrames<'a>>>
     ensures same { namer.new ≡ namer.old }
     ensures failed { failed.new ≡ failed_after (failing_in_module module_index (option_copied known.entry) (chosen_seen chosen.entry)) result failed.old }
     ensures known { (own : ℕ → Option ModuleData) → own module_index ≡ option_copied known.entry → AreFailuresOf own known_failures.old → AreFailuresOf own known_failures.new }
@@ -119,7 +119,7 @@ fn frames_unless_known<'a, P: ModuleProvider>(
     chosen: Chosen<'_, 'a>,
     failing: Option<Part>,
     place: PdbInternalSectionOffset,
-) -> Result<Option<FunctionFrames<'a>>>
+) -> Result<Option<SharedFunctionFrames<'a>>>
     requires failing { IfSome failing (λ part. failing_in_module module_index (option_copied known) (chosen_seen chosen) ≡ Some part) }
     ensures same { namer.new ≡ namer.old }
     ensures failed { failed.new ≡ failed_after (failing_in_module module_index (option_copied known.entry) (chosen_seen chosen.entry)) result failed.old }
@@ -226,7 +226,7 @@ fn frames_at<'a, P: ModuleProvider>(
     known_failures: &mut KnownFailures,
     contribution: ModuleSectionContribution,
     place: PdbInternalSectionOffset,
-) -> Result<Option<FunctionFrames<'a>>>
+) -> Result<Option<SharedFunctionFrames<'a>>>
     requires kept { AreKept (λ n. module_data (own_of (P.provided provider.now) (entries_of namer.old) n)) kept.old }
     requires known { AreFailuresOf (data_of_modules P.provided provider.now namer.old) known_failures.old }
     ensures kept { AreKept (λ n. module_data (own_of (P.provided provider.now) (entries_of namer.old) n)) kept.new }
@@ -278,6 +278,7 @@ fn function_of<'a, P: ModuleProvider>(
         return Ok(None);
     };
     let name = name_of(alloc, parts, namer, module_index, chosen)?;
+    let name = owned_name(alloc, &name)?;
     Ok(Some(Function {
         start_rva,
         end_rva,
@@ -321,7 +322,7 @@ pub fn frames_here<'a, P: ModuleProvider>(
     failed: &mut Failures,
     known_failures: &mut KnownFailures,
     place: PdbInternalSectionOffset,
-) -> Result<Option<FunctionFrames<'a>>>
+) -> Result<Option<SharedFunctionFrames<'a>>>
     requires kept { AreKept (λ n. module_data (own_of (P.provided provider.now) (entries_of namer.old) n)) kept.old }
     requires known { AreFailuresOf (data_of_modules P.provided provider.now namer.old) known_failures.old }
     ensures kept { AreKept (λ n. module_data (own_of (P.provided provider.now) (entries_of namer.old) n)) kept.new }

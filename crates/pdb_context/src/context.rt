@@ -1,14 +1,15 @@
 //! A context: answers about addresses of an image.
 
-ghost use Rattle.std.specs.Prelude.{◌≡◌, ◌≤◌, true, IfOk, Ok, is_some, length, option_map};
+ghost use Rattle.std.specs.Prelude.{◌≡◌, ◌≤◌, true, IfOk, Ok, Some, is_some, length, option_map, Option, Result as Answer};
 ghost use Rattle.pdb_addresses.specs.Addresses.{IsOrdered};
-ghost use Rattle.pdb_resolving.specs.Fault.{Answers};
-ghost use Rattle.pdb_answers.specs.Choice.{place_of};
+ghost use Rattle.pdb_resolving.specs.Fault.{Answers, Fault};
+ghost use Rattle.pdb_answers.specs.Choice.{held_at, place_of};
 ghost use Rattle.pdb_answers.specs.Parts.{parts_of};
 ghost use Rattle.pdb_context.specs.Context.{context_over, lasting, scope_in, uncounted, lookups_after};
-ghost use Rattle.pdb_answers.specs.Failed.{failed_after, told};
-ghost use Rattle.pdb_answers.specs.Failing.{failing};
-ghost use Rattle.pdb_answers.specs.Frames.{frames, function};
+ghost use Rattle.pdb_answers.specs.Failed.{Failures as FailedParts, failed_after, told};
+ghost use Rattle.pdb_answers.specs.Failing.{Part, failing, failing_if_held};
+ghost use Rattle.pdb_answers.specs.Frames.{frames, frames_if_held, function};
+ghost use Rattle.pdb_functions.specs.Frames.{FunctionFrames as FramesFound};
 ghost use Rattle.pdb_answers.specs.MaybeOwned.{value_of};
 ghost use Rattle.pdb_answers.specs.Runs.{database_of, function_here as function_at_place};
 ghost use Rattle.pdb_functions.specs.Databases.{IsOneRun, place_of as as_place};
@@ -20,7 +21,7 @@ use pdb_answers::{
     frames_here, function_here, run_here,
 };
 use pdb_container::StringTable;
-use pdb_functions::{Function, FunctionFrames};
+use pdb_functions::{Function, FunctionFrames, SharedFunctionFrames};
 use pdb_resolving::{Error, ModuleProvider, Result};
 use pdb_symbols::SymbolTable;
 use pdb_symbols_modules::DebugInformation;
@@ -82,6 +83,23 @@ fn place_at(parts: &ContextParts<'_, '_>, probe: u32) -> Option<PdbInternalSecti
     ensures { result ≡ place_of parts.now probe }
 {
     Rva(probe).to_internal_offset(parts.address_map)
+}
+
+/// Frames that were found, with names of their own.
+fn owned_frames<'a>(
+    alloc: Global,
+    found: Result<Option<SharedFunctionFrames<'a>>>,
+) -> Result<Option<FunctionFrames<'a>>>
+    ensures failed { (part : Option Part) (f : FailedParts) → failed_after part result f ≡ failed_after part found f }
+    ensures frames { (spec : Answer (Option FramesFound) Fault) → Answers (λ f. f) found spec → Answers (λ f. f) result spec }
+{
+    match found? {
+        None => Ok(None),
+        Some(frames) => {
+            let frames = frames.to_frames(alloc)?;
+            Ok(Some(frames))
+        }
+    }
 }
 
 impl<'a, 's, P: ModuleProvider> Context<'a, 's, P> {
@@ -158,6 +176,29 @@ impl<'a, 's, P: ModuleProvider> Context<'a, 's, P> {
         }
     }
 
+    /// The frames at a place; it isn't counted.
+    fn frames_at(
+        &mut self,
+        alloc: Global,
+        place: PdbInternalSectionOffset,
+    ) -> Result<Option<SharedFunctionFrames<'a>>>
+        ensures same { lasting self.new ≡ lasting self.old }
+        ensures lookups { self.new.lookups ≡ self.old.lookups }
+        ensures failed { self.new.failed ≡ failed_after (failing_if_held self.old.parts (scope_in P.provided self.old) (held_at self.old.parts (Some place))) result self.old.failed }
+        ensures frames { Answers (λ f. f) result (told self.old.failed (failing_if_held self.old.parts (scope_in P.provided self.old) (held_at self.old.parts (Some place))) (frames_if_held self.old.parts (scope_in P.provided self.old) (held_at self.old.parts (Some place)))) }
+    {
+        frames_here(
+            alloc,
+            self.provider,
+            &mut self.kept,
+            &self.parts,
+            &mut self.namer,
+            &mut self.failed,
+            &mut self.known_failures,
+            place,
+        )
+    }
+
     /// The frames at an RVA: the inlined calls over it, innermost first, and then the function. `None` where there is no
     /// function.
     ///
@@ -166,7 +207,6 @@ impl<'a, 's, P: ModuleProvider> Context<'a, 's, P> {
     /// inlinees, rows of the function's `DEBUG_S_LINES`, inline sites: `PdbError`, `ProcedureInlineRangesUnsuccessful`. From then
     /// on the part stands as failed, and its fault is `ExtendedModuleInfoUnsuccessful`, `ProcedureLinesUnsuccessful` or
     /// `ProcedureInlineRangesUnsuccessful`. `OutOfMemory`, and then nothing stands as failed that did not before.
-    #[tactic(auto, unfolding(pdb_frames::specs::Frames::frames))]
     pub fn find_frames(&mut self, alloc: Global, probe: u32) -> Result<Option<FunctionFrames<'a>>>
         ensures same { lasting self.new ≡ lasting self.old }
         ensures failed { self.new.failed ≡ failed_after (failing self.old.parts (scope_in P.provided self.old) probe) result self.old.failed }
@@ -176,16 +216,29 @@ impl<'a, 's, P: ModuleProvider> Context<'a, 's, P> {
         let Some(place) = place_at(&self.parts, probe) else {
             return Ok(None);
         };
-        let frames = frames_here(
-            alloc,
-            self.provider,
-            &mut self.kept,
-            &self.parts,
-            &mut self.namer,
-            &mut self.failed,
-            &mut self.known_failures,
-            place,
-        );
+        let found = self.frames_at(alloc, place);
+        let frames = owned_frames(alloc, found);
+        self.counted(frames)
+    }
+
+    /// The same, with names that are shared with what the context keeps, so that none is copied.
+    ///
+    /// # Errors
+    /// As [`Context::find_frames`].
+    pub fn find_shared_frames(
+        &mut self,
+        alloc: Global,
+        probe: u32,
+    ) -> Result<Option<SharedFunctionFrames<'a>>>
+        ensures same { lasting self.new ≡ lasting self.old }
+        ensures failed { self.new.failed ≡ failed_after (failing self.old.parts (scope_in P.provided self.old) probe) result self.old.failed }
+        ensures lookups { self.new.lookups ≡ lookups_after (is_some (place_of self.old.parts probe)) result self.old.lookups }
+        ensures frames { Answers (λ f. f) result (told self.old.failed (failing self.old.parts (scope_in P.provided self.old) probe) (frames self.old.parts (scope_in P.provided self.old) probe)) }
+    {
+        let Some(place) = place_at(&self.parts, probe) else {
+            return Ok(None);
+        };
+        let frames = self.frames_at(alloc, place);
         self.counted(frames)
     }
 

@@ -9,4 +9,4 @@ mod functions;
 pub use context::Context;
 pub use functions::FunctionIter;
 pub use pdb_answers::{ContextParts, ModuleSectionContribution, TypeFormatter, maybe_owned};
-pub use pdb_functions::{Frame, Function, FunctionFrames};
+pub use pdb_functions::{Frame, Function, FunctionFrames, SharedFrame, SharedFunctionFrames};

@@ -208,10 +208,7 @@ fn gather_answer<A: Answers, W: Write>(
     ensures fails { IfErr result (λ fault. OnWrite fault (λ kind. CountsFailure writer.old writer.new kind)) }
     ensures part { OnErr result (WritesFront W.contents writer.old writer.new (pending.old.items ++ A.text answers.old line.now)) }
 {
-    let Ok(text) = answers.answer(alloc, line) else {
-        return Err(write_last(writer, pending));
-    };
-    let Ok(()) = pending.extend_from_slice(&text) else {
+    let Ok(()) = answers.answer(alloc, line, pending) else {
         return Err(write_last(writer, pending));
     };
     if pending.len() < CHUNK_SIZE {
@@ -270,7 +267,8 @@ fn answer_line<A: Answers, W: Write>(
     ensures fails { IfErr result (λ fault. OnWrite fault (λ kind. CountsFailure writer.old writer.new kind)) }
     ensures part { OnErr result (WritesFront W.contents writer.old writer.new (A.text answers.old line.now)) }
 {
-    let Ok(text) = answers.answer(alloc, line) else {
+    let mut text = Vec::new(alloc);
+    let Ok(()) = answers.answer(alloc, line, &mut text) else {
         return Err(InputFault::OutOfMemory);
     };
     match write_all(writer, &text) {

@@ -1,6 +1,7 @@
 //! The frames at a place in a chosen function.
 
-ghost use Rattle.std.specs.Prelude.{◌≡◌, Ok, IfOk, map, option_copied, option_map, option_and_then, string_bytes};
+ghost use Rattle.std.specs.Prelude.{◌≡◌, Ok, IfOk, map, option_copied, option_map, option_and_then};
+ghost use Rattle.std.specs.Rc.{rc_str_bytes};
 ghost use Rattle.std.specs.Cow.{cow_str_bytes};
 ghost use Rattle.pdb_container.specs.Fault.{Gives};
 ghost use Rattle.pdb_module_data.specs.FunctionLine.{file_text, function_row, row_at};
@@ -17,7 +18,7 @@ ghost use Rattle.pdb_known_modules.specs.Seen.{extended_seen};
 use crate::chosen_name::name_of;
 use pdb_addresses::PdbInternalSectionOffset;
 use pdb_choice::{Chosen, ContextParts};
-use pdb_functions::Frame;
+use pdb_functions::SharedFrame;
 use pdb_indices::FileIndex;
 use pdb_known_modules::{
     BasicModuleInfo, ExtendedModuleInfo, ExtendedProcedureInfo, read_extended,
@@ -28,6 +29,7 @@ use pdb_names::Namer;
 use pdb_resolving::{ModuleProvider, ModuleTables, Result};
 use std::alloc::{AllocError, Global};
 use std::borrow::CowStr;
+use std::rc::RcStr;
 
 /// The line row of a place in a procedure, and the inlined calls over the place, by what was read of the procedure.
 fn row_and_calls_by<'a>(
@@ -135,13 +137,13 @@ fn call_frame<'a, P: ModuleProvider>(
     module_index: u16,
     extended: &ExtendedModuleInfo<'_>,
     call: InlinedCall,
-) -> std::result::Result<Frame<'a>, AllocError>
+) -> std::result::Result<SharedFrame<'a>, AllocError>
     ensures same { namer.new ≡ namer.old }
     ensures frame { IfOk result (λ f. f ≡ frame_of_call parts.now (env_of P.provided namer.old module_index) (extended_seen extended.now).program call) }
 {
     let function = namer.inlined_name(alloc, module_index, call.inlinee)?;
     let file = file_of(alloc, parts, extended, call.file)?;
-    Ok(Frame {
+    Ok(SharedFrame {
         function,
         file,
         line: call.line,
@@ -156,7 +158,7 @@ fn call_frames<'a, P: ModuleProvider>(
     module_index: u16,
     extended: &ExtendedModuleInfo<'_>,
     calls: &[InlinedCall],
-) -> std::result::Result<Vec<Frame<'a>>, AllocError>
+) -> std::result::Result<Vec<SharedFrame<'a>>, AllocError>
     ensures same { namer.new ≡ namer.old }
     ensures frames { IfOk result (λ v. v.items ≡ map (frame_of_call parts.now (env_of P.provided namer.old module_index) (extended_seen extended.now).program) calls.now) }
 {
@@ -173,20 +175,20 @@ fn function_frame<'a>(
     alloc: Global,
     parts: &ContextParts<'a, '_>,
     extended: &ExtendedModuleInfo<'_>,
-    function: Option<String>,
+    function: Option<RcStr>,
     row: Option<LineRow>,
-) -> std::result::Result<Frame<'a>, AllocError>
-    ensures { IfOk result (λ f. f ≡ frame_of_function parts.now (extended_seen extended.now).program (option_map string_bytes function) row) }
+) -> std::result::Result<SharedFrame<'a>, AllocError>
+    ensures { IfOk result (λ f. f ≡ frame_of_function parts.now (extended_seen extended.now).program (option_map rc_str_bytes function) row) }
 {
     match row {
-        None => Ok(Frame {
+        None => Ok(SharedFrame {
             function,
             file: None,
             line: None,
         }),
         Some(row) => {
             let file = file_of(alloc, parts, extended, Some(row.file_index))?;
-            Ok(Frame {
+            Ok(SharedFrame {
                 function,
                 file,
                 line: Some(row.line_start),
@@ -207,7 +209,7 @@ fn frames_by<'a, 'm, P: ModuleProvider>(
     extended: &ExtendedModuleInfo<'m>,
     chosen: Chosen<'_, 'a>,
     place: PdbInternalSectionOffset,
-) -> Result<Vec<Frame<'a>>>
+) -> Result<Vec<SharedFrame<'a>>>
     requires extended { extended_of (known.now).stream ≡ Ok (extended_seen extended.now) }
     ensures same { namer.new ≡ namer.old }
     ensures frames { Answers (λ v. v.items) result (frames_of_data parts.now (env_of P.provided namer.old module_index) known.now (chosen_seen chosen.entry) place) }
@@ -238,7 +240,7 @@ fn frames_in_data<'a, P: ModuleProvider>(
     known: &BasicModuleInfo<'_, P::Info>,
     chosen: Chosen<'_, 'a>,
     place: PdbInternalSectionOffset,
-) -> Result<Vec<Frame<'a>>>
+) -> Result<Vec<SharedFrame<'a>>>
     ensures same { namer.new ≡ namer.old }
     ensures frames { Answers (λ v. v.items) result (frames_of_data parts.now (env_of P.provided namer.old module_index) known.now (chosen_seen chosen.entry) place) }
 {
@@ -276,7 +278,7 @@ pub fn frames_in<'a, P: ModuleProvider>(
     known: Option<&BasicModuleInfo<'_, P::Info>>,
     chosen: Chosen<'_, 'a>,
     place: PdbInternalSectionOffset,
-) -> Result<Vec<Frame<'a>>>
+) -> Result<Vec<SharedFrame<'a>>>
     ensures same { namer.new ≡ namer.old }
     ensures frames { Answers (λ v. v.items) result (frames_of_module parts.now (env_of P.provided namer.old module_index) (option_copied known.entry) (chosen_seen chosen.entry) place) }
 {
@@ -284,7 +286,7 @@ pub fn frames_in<'a, P: ModuleProvider>(
         None => {
             let function = name_of(alloc, parts, namer, module_index, chosen)?;
             let mut frames = Vec::new(alloc);
-            frames.push(Frame {
+            frames.push(SharedFrame {
                 function,
                 file: None,
                 line: None,

@@ -12,6 +12,9 @@ use pdb_resolving::{ModuleProvider, Result};
 use pdb_text_pieces::Seen;
 use pdb_type_printing::Asker;
 
+/// How many bytes most texts fit into, so that they aren't moved as they grow.
+const USUAL_LENGTH: usize = 128;
+
 impl<'a, 's, P: ModuleProvider> FunctionPrinter<'a, 's, P> {
     /// The signature of a function of this name whose type has this index; with type 0 it is the name alone.
     ///
@@ -27,7 +30,7 @@ impl<'a, 's, P: ModuleProvider> FunctionPrinter<'a, 's, P> {
         ensures same { self.new ≡ self.old }
         ensures text { Answers string_bytes result (function_text (env_of P.provided self.old asker.module_index) name.now function_type_index.0) }
     {
-        let mut text = String::new(asker.alloc);
+        let mut text = String::with_capacity(asker.alloc, USUAL_LENGTH)?;
         self.emit_signature(asker, &mut text, name, function_type_index)?;
         Ok(text)
     }
@@ -41,7 +44,7 @@ impl<'a, 's, P: ModuleProvider> FunctionPrinter<'a, 's, P> {
         ensures same { self.new ≡ self.old }
         ensures text { Answers string_bytes result (id_text (env_of P.provided self.old asker.module_index) id_index.0) }
     {
-        let mut text = String::new(asker.alloc);
+        let mut text = String::with_capacity(asker.alloc, USUAL_LENGTH)?;
         let mut path = Vec::new(asker.alloc);
         let mut ids = Seen::new(&mut path);
         self.emit_id_index(asker, &mut text, id_index, &mut ids)?;

@@ -49,7 +49,7 @@ impl<'a> Model for FunctionFrames<'a> {
 }
 
 /// A copy of a file's name that may be missing; a borrowed one stays borrowed.
-fn clone_file<'a>(
+pub(crate) fn clone_file<'a>(
     alloc: Global,
     file: &Option<CowStr<'a>>,
 ) -> Result<Option<CowStr<'a>>, AllocError>

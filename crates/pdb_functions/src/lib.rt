@@ -4,6 +4,8 @@
 mod frames;
 mod function;
 pub mod laws;
+mod shared_frames;
 
 pub use frames::{Frame, FunctionFrames};
 pub use function::Function;
+pub use shared_frames::{SharedFrame, SharedFunctionFrames, owned_name};

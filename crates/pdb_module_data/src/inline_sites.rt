@@ -216,7 +216,8 @@ impl<'t> InlineSites<'t> {
         ensures { Reads (λ s. s) result (sites_of symbols.entry.bytes procedure.now.symbol_index.0 procedure.now.end_symbol_index.0) }
     {
         symbols.skip_to(procedure.symbol_index)?;
-        let sites = scan_sites(alloc, symbols, procedure.end_symbol_index.0)?;
+        let mut sites = scan_sites(alloc, symbols, procedure.end_symbol_index.0)?;
+        sites.shrink_to_fit();
         Ok(InlineSites { sites })
     }
 

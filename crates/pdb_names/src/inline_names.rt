@@ -1,20 +1,22 @@
 //! The names of inlined functions that were asked for.
 
-ghost use Rattle.std.specs.Prelude.{◌≡◌, ℕ, IfOk, List, Option, option_map, string_bytes};
+ghost use Rattle.std.specs.Prelude.{◌≡◌, ℕ, IfOk, List, Option, option_map};
+ghost use Rattle.std.specs.Rc.{rc_str_bytes};
 ghost use Rattle.pdb_names.specs.InlineNames.{AreNames, inline_text};
 
 use crate::by_module::ByModule;
-use crate::names::{clone_name, inlinee_name};
+use crate::names::{inlinee_name, share_name, shared_name};
 use pdb_indices::IdIndex;
 use pdb_resolving::ModuleProvider;
 use pdb_type_text::TypeFormatter;
 use std::alloc::{AllocError, Global};
+use std::rc::RcStr;
 
 /// The names of inlined functions that were asked for, by module and id; `None` where no text can be made of an id.
 #[derive(Drop)]
 pub struct InlineNames {
     /// The names, each under its id in its module.
-    by_id: ByModule<Option<String>>,
+    by_id: ByModule<Option<RcStr>>,
 }
 
 impl InlineNames {
@@ -35,18 +37,19 @@ impl InlineNames {
         formatter: &mut TypeFormatter<'_, '_, P>,
         module_index: u16,
         inlinee: IdIndex,
-    ) -> Result<Option<String>, AllocError>
+    ) -> Result<Option<RcStr>, AllocError>
         requires { AreNames (inline_text P.provided formatter.old) self.old }
         ensures kept { AreNames (inline_text P.provided formatter.old) self.new }
         ensures same { formatter.new ≡ formatter.old }
-        ensures name { IfOk result (λ n. option_map string_bytes n ≡ inline_text P.provided formatter.old module_index inlinee.0) }
+        ensures name { IfOk result (λ n. option_map rc_str_bytes n ≡ inline_text P.provided formatter.old module_index inlinee.0) }
     {
         if let Some(name) = self.by_id.get(module_index, inlinee.0) {
-            return clone_name(alloc, name);
+            return share_name(name);
         }
         let name = inlinee_name(alloc, formatter, usize::from(module_index), inlinee)?;
-        let copy = clone_name(alloc, &name)?;
-        self.by_id.insert(alloc, module_index, inlinee.0, copy)?;
+        let name = shared_name(name)?;
+        let kept = share_name(&name)?;
+        self.by_id.insert(alloc, module_index, inlinee.0, kept)?;
         Ok(name)
     }
 }

@@ -10,5 +10,5 @@ mod names;
 mod typed_names;
 
 pub use namer::Namer;
-pub use names::{clone_name, if_named, raw_name};
+pub use names::{if_named, shared_raw_name};
 pub use pdb_type_text::TypeFormatter;

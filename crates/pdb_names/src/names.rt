@@ -1,6 +1,8 @@
 //! The names of functions.
 
 ghost use Rattle.std.specs.Prelude.{◌≡◌, IfOk, option_map, string_bytes};
+ghost use Rattle.std.specs.Cow.{cow_str_bytes};
+ghost use Rattle.std.specs.Rc.{rc_str_bytes};
 ghost use Rattle.std.specs.Str.Lossy.{utf8_lossy};
 ghost use Rattle.pdb_container.specs.RawString.{raw_bytes};
 ghost use Rattle.pdb_names.specs.Names.{typed_name as name_by_type, if_made, IsText};
@@ -13,6 +15,8 @@ use pdb_module_data::Procedure;
 use pdb_resolving::{Error, ModuleProvider, Result};
 use pdb_type_text::{TypeFormatter, function_text_of, id_text_of};
 use std::alloc::{AllocError, Global};
+use std::borrow::CowStr;
+use std::rc::RcStr;
 
 /// A text, if it could be made. Want of memory is no missing text.
 fn if_text(made: Result<String>) -> std::result::Result<Option<String>, AllocError>
@@ -25,8 +29,18 @@ fn if_text(made: Result<String>) -> std::result::Result<Option<String>, AllocErr
     }
 }
 
+/// A name as it is stored, as text, and lent where it is text as it stands.
+fn raw_text<'n>(alloc: Global, name: &RawString<'n>) -> std::result::Result<CowStr<'n>, AllocError>
+    ensures { IfOk result (λ t. cow_str_bytes t ≡ utf8_lossy (raw_bytes name.now)) }
+{
+    match name.to_string(alloc) {
+        Ok(text) => Ok(text),
+        Err(_) => Err(AllocError),
+    }
+}
+
 /// A name as it is stored, as text: bytes that are no text are replaced.
-pub fn raw_name(alloc: Global, name: &RawString<'_>) -> std::result::Result<String, AllocError>
+fn raw_name(alloc: Global, name: &RawString<'_>) -> std::result::Result<String, AllocError>
     ensures { IfOk result (λ t. string_bytes t ≡ utf8_lossy (raw_bytes name.now)) }
 {
     String::from_utf8_lossy(alloc, name.as_bytes())
@@ -57,7 +71,7 @@ pub fn typed_name<P: ModuleProvider>(
     ensures same { formatter.new ≡ formatter.old }
     ensures name { IfOk result (λ n. option_map string_bytes n ≡ name_by_type (env_of P.provided formatter.old module_index) procedure.now) }
 {
-    let name = raw_name(alloc, &procedure.name)?;
+    let name = raw_text(alloc, &procedure.name)?;
     let made = function_text_of(
         formatter,
         alloc,
@@ -68,33 +82,54 @@ pub fn typed_name<P: ModuleProvider>(
     if_text(made)
 }
 
-/// A name that may be there, as text.
+/// A name that may be there, as text that is shared.
 pub fn if_named(
     alloc: Global,
     name: &Option<RawString<'_>>,
-) -> std::result::Result<Option<String>, AllocError>
-    ensures { IfOk result (λ n. option_map string_bytes n ≡ option_map (λ r. utf8_lossy (raw_bytes r)) name.now) }
+) -> std::result::Result<Option<RcStr>, AllocError>
+    ensures { IfOk result (λ n. option_map rc_str_bytes n ≡ option_map (λ r. utf8_lossy (raw_bytes r)) name.now) }
 {
     match name {
         None => Ok(None),
         Some(name) => {
-            let name = raw_name(alloc, name)?;
+            let name = shared_raw_name(alloc, name)?;
             Ok(Some(name))
         }
     }
 }
 
-/// A copy of a name that may be missing.
-pub fn clone_name(
+/// A name as it is stored, as text that is shared: bytes that are no text are replaced.
+pub fn shared_raw_name(
     alloc: Global,
-    name: &Option<String>,
-) -> std::result::Result<Option<String>, AllocError>
-    ensures { IfOk result (λ n. option_map string_bytes n ≡ option_map string_bytes name.now) }
+    name: &RawString<'_>,
+) -> std::result::Result<RcStr, AllocError>
+    ensures { IfOk result (λ t. rc_str_bytes t ≡ utf8_lossy (raw_bytes name.now)) }
+{
+    let name = raw_name(alloc, name)?;
+    RcStr::from_string(name)
+}
+
+/// A name that may be missing, to be shared.
+pub fn shared_name(name: Option<String>) -> std::result::Result<Option<RcStr>, AllocError>
+    ensures { IfOk result (λ n. option_map rc_str_bytes n ≡ option_map string_bytes name) }
 {
     match name {
         None => Ok(None),
         Some(name) => {
-            let name = String::from_str(alloc, name.as_str())?;
+            let name = RcStr::from_string(name)?;
+            Ok(Some(name))
+        }
+    }
+}
+
+/// The same name that may be missing, shared once more.
+pub fn share_name(name: &Option<RcStr>) -> std::result::Result<Option<RcStr>, AllocError>
+    ensures { IfOk result (λ n. option_map rc_str_bytes n ≡ option_map rc_str_bytes name.now) }
+{
+    match name {
+        None => Ok(None),
+        Some(name) => {
+            let name = name.clone()?;
             Ok(Some(name))
         }
     }

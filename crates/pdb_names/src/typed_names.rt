@@ -1,18 +1,20 @@
 //! The names of procedures that were asked for.
 
-ghost use Rattle.std.specs.Prelude.{◌≡◌, ◌↔◌, ℕ, true, IfOk, List, Option, option_map, string_bytes};
+ghost use Rattle.std.specs.Prelude.{◌≡◌, ◌↔◌, ℕ, true, IfOk, List, Option, option_map};
+ghost use Rattle.std.specs.Rc.{rc_str_bytes};
 ghost use Rattle.pdb_names.specs.Names.{typed_name as name_by_type};
 ghost use Rattle.pdb_names.specs.TypedNames.{AreTyped, IsNamedBy, typed_text};
 ghost use Rattle.pdb_type_text.specs.Printing.{env_of};
 
 use crate::by_number::ByNumber;
-use crate::names::{clone_name, typed_name};
+use crate::names::{share_name, shared_name, typed_name};
 use pdb_container::RawString;
 use pdb_indices::TypeIndex;
 use pdb_module_data::Procedure;
 use pdb_resolving::ModuleProvider;
 use pdb_type_text::TypeFormatter;
 use std::alloc::{AllocError, Global};
+use std::rc::RcStr;
 
 /// A procedure's name by its type, with what it was made of.
 #[derive(Drop)]
@@ -22,7 +24,7 @@ pub struct TypedName<'a> {
     /// The index of its type.
     type_index: TypeIndex,
     /// The text; `None` where none can be made.
-    text: Option<String>,
+    text: Option<RcStr>,
 }
 
 impl<'a> TypedName<'a> {
@@ -60,22 +62,23 @@ impl<'a> TypedNames<'a> {
         module_index: u16,
         number: usize,
         procedure: &Procedure<'a>,
-    ) -> Result<Option<String>, AllocError>
+    ) -> Result<Option<RcStr>, AllocError>
         requires { AreTyped (typed_text P.provided formatter.old) self.old }
         ensures kept { AreTyped (typed_text P.provided formatter.old) self.new }
         ensures same { formatter.new ≡ formatter.old }
-        ensures name { IfOk result (λ n. option_map string_bytes n ≡ name_by_type (env_of P.provided formatter.old module_index) procedure.now) }
+        ensures name { IfOk result (λ n. option_map rc_str_bytes n ≡ name_by_type (env_of P.provided formatter.old module_index) procedure.now) }
     {
         if let Some(name) = self.by_number.get(module_index, number) {
             if name.is_of(procedure) {
-                return clone_name(alloc, &name.text);
+                return share_name(&name.text);
             }
         }
         let text = typed_name(alloc, formatter, usize::from(module_index), procedure)?;
+        let text = shared_name(text)?;
         let name = TypedName {
             raw: procedure.name,
             type_index: procedure.type_index,
-            text: clone_name(alloc, &text)?,
+            text: share_name(&text)?,
         };
         self.by_number.insert(alloc, module_index, number, name)?;
         Ok(text)

@@ -1,5 +1,5 @@
 -- Runs that lie one behind the other in a list, and what joining and merging leave of the best mark.
-use Rattle.std.proofs.Common.{◌≡◌, ℕ, ◌+◌, ◌-◌, ◌<◌, ◌≤◌, Option, None, List, [], ◌∷◌, ◌++◌, true, ◌&&◌, ◌==◌, length, take, drop, get_or, length-append, inl, inr, zero, suc, refl, sym, ap, subst, ◌∙◌, arith}
+use Rattle.std.proofs.Common.{◌≡◌, ℕ, ◌+◌, ◌-◌, ◌<◌, ◌≤◌, None, List, [], ◌∷◌, ◌++◌, true, ◌&&◌, ◌==◌, length, take, drop, get_or, length-append, inl, inr, zero, suc, refl, sym, ap, subst, ◌∙◌, arith}
 use Rattle.std.proofs.lemmas.Bool.{cases_lt}
 use Rattle.std.proofs.lemmas.Bool.Decides.{nat_tests}
 use Rattle.std.proofs.lemmas.List.{take_more, take_all, drop_more, drop_all, length-drop, get_or-drop, drop-append-le, take-append-le}

@@ -44,7 +44,16 @@ fn answer_lines<R: Read, W: Write>(
     ensures part { OnErr result (IfSome (R.remaining (inner_of reader.old)) (λ input. WritesFront W.contents writer.old writer.new (report (line_text (answer (streams symbolizer.now))) input))) }
 {
     match symbolizer.context(alloc) {
-        Ok(context) => run(alloc, LineAnswers { context }, reader, writer, INPUT_LIMIT),
+        Ok(context) => {
+            let room = String::new(alloc);
+            run(
+                alloc,
+                LineAnswers { context, room },
+                reader,
+                writer,
+                INPUT_LIMIT,
+            )
+        }
         Err(_) => Err(InputFault::OutOfMemory),
     }
 }

@@ -6,5 +6,5 @@ mod texts;
 mod told;
 
 pub use fault::{LoadFault, RunFault};
-pub use texts::{address_text, unreadable_text};
+pub use texts::{append_address, append_unreadable};
 pub use told::tell;

@@ -1,21 +1,20 @@
 //! The text of an answer.
 
-ghost use Rattle.std.specs.Prelude.{◌≡◌, ◌++◌, ◌∷◌, IfOk, OnOk, Ok, Err, string_bytes, option_map, codes};
+ghost use Rattle.std.specs.Prelude.{◌≡◌, ◌++◌, ◌∷◌, [], OnOk, Ok, Err, string_bytes, option_map, codes};
 ghost use Rattle.std.specs.List.{flat_map};
 ghost use Rattle.pdb_resolving.specs.Fault.{Fault};
 ghost use Rattle.pdb_report_texts.specs.AddressText.{eight_digits, frame_text, answer_text, number_text, text_or};
 ghost use Rattle.std.specs.Cow.{cow_str_bytes};
+ghost use Rattle.std.specs.Rc.{rc_str_bytes};
 
 use itoa::Buffer;
-use pdb_functions::{Frame, FunctionFrames};
-use std::alloc::{AllocError, Global};
+use pdb_functions::{SharedFrame, SharedFunctionFrames};
+use std::alloc::AllocError;
 use std::borrow::CowStr;
-
-/// How many bytes most answers fit into, so that their text isn't moved as it grows.
-const USUAL_LENGTH: usize = 512;
+use std::rc::RcStr;
 
 /// Appends the line of a frame.
-fn append_frame(text: &mut String, frame: &Frame<'_>) -> Result<(), AllocError>
+fn append_frame(text: &mut String, frame: &SharedFrame<'_>) -> Result<(), AllocError>
     ensures { OnOk result (string_bytes text.new ≡ string_bytes text.old ++ frame_text frame.now) }
 {
     text.push_str("  ")?;
@@ -41,8 +40,8 @@ fn append_line_number(text: &mut String, line: Option<u32>) -> Result<(), AllocE
 }
 
 /// The text, or two question marks.
-fn text_or_unknown(text: &Option<String>) -> &str
-    ensures { result.now ≡ text_or (option_map string_bytes text.now) }
+fn text_or_unknown(text: &Option<RcStr>) -> &str
+    ensures { result.now ≡ text_or (option_map rc_str_bytes text.now) }
 {
     match text {
         None => "??",
@@ -63,7 +62,10 @@ fn file_or_unknown<'f>(file: &'f Option<CowStr<'_>>) -> &'f str
 
 /// Appends the lines of an answer.
 #[tactic(auto, unfolding(crate::specs::AddressText::answer_text))]
-fn append_answer(text: &mut String, answer: &Option<FunctionFrames<'_>>) -> Result<(), AllocError>
+fn append_answer(
+    text: &mut String,
+    answer: &Option<SharedFunctionFrames<'_>>,
+) -> Result<(), AllocError>
     ensures { OnOk result (string_bytes text.new ≡ string_bytes text.old ++ answer_text (Ok answer.now)) }
 {
     match answer {
@@ -74,7 +76,7 @@ fn append_answer(text: &mut String, answer: &Option<FunctionFrames<'_>>) -> Resu
 
 /// Appends the lines of frames.
 #[tactic(auto, using(crate::proofs::FrameSteps::lines_more, crate::proofs::FrameSteps::lines_all))]
-fn append_frames(text: &mut String, frames: &[Frame<'_>]) -> Result<(), AllocError>
+fn append_frames(text: &mut String, frames: &[SharedFrame<'_>]) -> Result<(), AllocError>
     ensures { OnOk result (string_bytes text.new ≡ string_bytes text.old ++ flat_map frame_text frames.now) }
 {
     for frame in frames {
@@ -83,24 +85,31 @@ fn append_frames(text: &mut String, frames: &[Frame<'_>]) -> Result<(), AllocErr
     Ok(())
 }
 
-/// The lines of an address: itself, and its answer.
-pub fn address_text(
-    alloc: Global,
-    address: u32,
-    answer: &Option<FunctionFrames<'_>>,
-) -> Result<String, AllocError>
-    ensures { IfOk result (λ t. string_bytes t ≡ codes "0x" ++ eight_digits address ++ 10 ∷ answer_text (Ok answer.now)) }
+/// Appends the line of an address itself.
+fn append_address_alone(text: &mut String, address: u32) -> Result<(), AllocError>
+    ensures { OnOk result (string_bytes text.new ≡ string_bytes text.old ++ codes "0x" ++ eight_digits address ++ 10 ∷ []) }
 {
-    let mut text = String::with_capacity(alloc, USUAL_LENGTH)?;
-    write!(text, "0x{address:08x}\n")?;
-    append_answer(&mut text, answer)?;
-    Ok(text)
+    write!(text, "0x{address:08x}\n")
 }
 
-/// The lines of an address whose answer can't be read.
-#[tactic(auto, unfolding(crate::specs::AddressText::answer_text))]
-pub fn unreadable_text(alloc: Global, address: u32) -> Result<String, AllocError>
-    ensures { IfOk result (λ t. (e : Fault) → string_bytes t ≡ codes "0x" ++ eight_digits address ++ 10 ∷ answer_text (Err e)) }
+/// Appends the lines of an address: itself, and its answer.
+pub fn append_address(
+    text: &mut String,
+    address: u32,
+    answer: &Option<SharedFunctionFrames<'_>>,
+) -> Result<(), AllocError>
+    ensures { OnOk result (string_bytes text.new ≡ string_bytes text.old ++ codes "0x" ++ eight_digits address ++ 10 ∷ answer_text (Ok answer.now)) }
 {
-    format!(in alloc; "0x{address:08x}\n  unreadable\n")
+    append_address_alone(text, address)?;
+    append_answer(text, answer)
+}
+
+/// Appends the lines of an address whose answer can't be read.
+#[tactic(auto, unfolding(crate::specs::AddressText::answer_text))]
+pub fn append_unreadable(text: &mut String, address: u32) -> Result<(), AllocError>
+    ensures { OnOk result ((e : Fault) → string_bytes text.new ≡ string_bytes text.old ++ codes "0x" ++ eight_digits address ++ 10 ∷ answer_text (Err e)) }
+{
+    append_address_alone(text, address)?;
+    text.push_str("  unreadable\n")?;
+    Ok(())
 }

@@ -1,4 +1,4 @@
-use Rattle.std.proofs.Common.{◌≡◌, ◌<◌, ap, ◌∙◌, sym, get_or, length}
+use Rattle.std.proofs.Common.{ap, ◌∙◌, sym, get_or}
 use Rattle.pdb_pieces.specs.Spans.{better, mark_over}
 use Rattle.pdb_pieces.proofs.Runs.{best-take_more, empty_law, no_span}
 use Rattle.pdb_pieces.proofs.cut.joined.Goals.{then-span+in_ok-push_joined, else-span}

@@ -1,6 +1,5 @@
-use Rattle.std.proofs.Common.{◌≡◌, ℕ, ◌+◌, ◌<◌, ◌≤◌, length, drop, take, get_or, ap, ◌∙◌, sym, subst, arith}
-use Rattle.std.proofs.lemmas.List.{take_all}
-use Rattle.pdb_pieces.specs.Spans.{ArePieces, AreRuns, best, better}
+use Rattle.std.proofs.Common.{◌≡◌, ◌+◌, length, drop, get_or, subst, arith}
+use Rattle.pdb_pieces.specs.Spans.{AreRuns}
 use Rattle.pdb_pieces.proofs.Runs.{AreRuns-first, AreRuns-after, all_passed, pair_law, last_law}
 use Rattle.pdb_pieces.proofs.cut.merge_pairs.Goals as goal
 

@@ -1,8 +1,8 @@
 use Rattle.std.proofs.Common.{◌≡◌, ◌<◌, ◌≤◌, ◌++◌, [], ◌∷◌, Some, None, ap, ◌∙◌, sym, append_assoc, arith}
 use Rattle.pdb_pieces.specs.declared.span.Span.{Span}
-use Rattle.pdb_pieces.specs.Spans.{ArePieces, better}
+use Rattle.pdb_pieces.specs.Spans.{better}
 use Rattle.pdb_pieces.proofs.Covers.{ArePieces-push, ArePieces-wider}
-use Rattle.pdb_pieces.proofs.Overlay.{IsBetterBelow, IsBetterBelow-push, IsBetterBelow-skip, IsBetter-at_end}
+use Rattle.pdb_pieces.proofs.Overlay.{IsBetterBelow-push, IsBetterBelow-skip, IsBetter-at_end}
 use Rattle.pdb_pieces.proofs.cut.overlay.Goals.{in-Some+in_ok-push, in_default}
 use Rattle.pdb_pieces.proofs.cut.overlay.Goals as goal
 

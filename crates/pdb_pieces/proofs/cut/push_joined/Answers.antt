@@ -1,5 +1,4 @@
-use Rattle.std.proofs.Common.{◌≡◌, ◌<◌, ◌++◌, [], ◌∷◌, ap, ◌∙◌, sym, subst, arith}
-use Rattle.pdb_pieces.specs.declared.span.Span.{Span}
+use Rattle.std.proofs.Common.{◌≡◌, ◌++◌, [], ◌∷◌, ap, ◌∙◌, sym, subst, arith}
 use Rattle.pdb_pieces.specs.Spans.{AreWide, best, better, mark_over}
 use Rattle.pdb_pieces.proofs.Runs.{AreWide-push, AreWide-front, AreWide-last, best-push, joined_law, same_mark}
 use Rattle.pdb_pieces.proofs.cut.push_joined.Goals as goal
