@@ -1,3 +1,2 @@
-pub mod FailedSteps
 pub mod FunctionSteps
 pub mod StartSteps

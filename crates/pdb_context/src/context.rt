@@ -90,8 +90,8 @@ fn owned_frames<'a>(
     alloc: Global,
     found: Result<Option<SharedFunctionFrames<'a>>>,
 ) -> Result<Option<FunctionFrames<'a>>>
-    ensures failed { (part : Option Part) (f : FailedParts) → failed_after part result f ≡ failed_after part found f }
-    ensures frames { (spec : Answer (Option FramesFound) Fault) → Answers (λ f. f) found spec → Answers (λ f. f) result spec }
+    ensures failed { (part : Option Part) (f : FailedParts) → failed_after part result f ≡ failed_after part found.entry f }
+    ensures frames { (spec : Answer (Option FramesFound) Fault) → Answers (λ f. f) found.entry spec → Answers (λ f. f) result spec }
 {
     match found? {
         None => Ok(None),
@@ -207,6 +207,7 @@ impl<'a, 's, P: ModuleProvider> Context<'a, 's, P> {
     /// inlinees, rows of the function's `DEBUG_S_LINES`, inline sites: `PdbError`, `ProcedureInlineRangesUnsuccessful`. From then
     /// on the part stands as failed, and its fault is `ExtendedModuleInfoUnsuccessful`, `ProcedureLinesUnsuccessful` or
     /// `ProcedureInlineRangesUnsuccessful`. `OutOfMemory`, and then nothing stands as failed that did not before.
+    #[tactic(auto, unfolding(pdb_frames::specs::Frames::frames))]
     pub fn find_frames(&mut self, alloc: Global, probe: u32) -> Result<Option<FunctionFrames<'a>>>
         ensures same { lasting self.new ≡ lasting self.old }
         ensures failed { self.new.failed ≡ failed_after (failing self.old.parts (scope_in P.provided self.old) probe) result self.old.failed }
@@ -225,6 +226,7 @@ impl<'a, 's, P: ModuleProvider> Context<'a, 's, P> {
     ///
     /// # Errors
     /// As [`Context::find_frames`].
+    #[tactic(auto, unfolding(pdb_frames::specs::Frames::frames))]
     pub fn find_shared_frames(
         &mut self,
         alloc: Global,

@@ -1,4 +1,4 @@
-use Rattle.std.proofs.Common.{◌++◌, ◌∷◌, [], Err, codes, ap, ◌∙◌, append_assoc, string_bytes}
+use Rattle.std.proofs.Common.{◌++◌, ◌∷◌, [], codes, ap, ◌∙◌, append_assoc, string_bytes}
 use Rattle.pdb_report_texts.specs.AddressText.{answer_text, eight_digits}
 use Rattle.pdb_report_texts.proofs.texts.append_unreadable.Goals as goal
 
