@@ -23,9 +23,15 @@ fn append_address_lines<P: ModuleProvider>(
     ensures text { OnOk result (string_bytes text.new ≡ string_bytes text.old ++ text_at (answer_of P.provided context.old) (Some address)) }
 {
     match context.find_shared_frames(alloc, address) {
-        Ok(found) => append_address(text, address, &found),
+        Ok(found) => {
+            append_address(text, address, &found)?;
+            Ok(())
+        }
         Err(Error::OutOfMemory) => Err(AllocError),
-        Err(_) => append_unreadable(text, address),
+        Err(_) => {
+            append_unreadable(text, address)?;
+            Ok(())
+        }
     }
 }
 
@@ -41,7 +47,10 @@ fn append_line<P: ModuleProvider>(
     ensures text { OnOk result (string_bytes text.new ≡ string_bytes text.old ++ text_of_line (answer_of P.provided context.old) line.now) }
 {
     match parse_address(line) {
-        None => text.push_str("not an address\n"),
+        None => {
+            text.push_str("not an address\n")?;
+            Ok(())
+        }
         Some(address) => append_address_lines(alloc, context, address, text),
     }
 }

@@ -18,3 +18,7 @@ lines_more frames i d front text lt so_far =
 -- all frames' lines
 pub lines_all : (frames : List Frame) (i : ℕ) (front text : List ℕ) → length frames ≤ i → text ≡ front ++ flat_map frame_text (take i frames) → text ≡ front ++ flat_map frame_text frames
 lines_all frames i front text past so_far = so_far ∙ ap (λ (xs : List Frame). front ++ flat_map frame_text xs) (take_all i frames past)
+
+-- a line behind a text, and more behind that
+pub address_more : (old front more : List ℕ) → old ++ (front ++ 10 ∷ []) ++ more ≡ old ++ (front ++ 10 ∷ more)
+address_more old front more = append_assoc old (front ++ 10 ∷ []) more ∙ ap (λ l. old ++ l) (append_assoc front (10 ∷ []) more)

@@ -87,7 +87,7 @@ fn append_frames(text: &mut String, frames: &[SharedFrame<'_>]) -> Result<(), Al
 
 /// Appends the line of an address itself.
 fn append_address_alone(text: &mut String, address: u32) -> Result<(), AllocError>
-    ensures { OnOk result (string_bytes text.new ≡ string_bytes text.old ++ codes "0x" ++ eight_digits address ++ 10 ∷ []) }
+    ensures { OnOk result (string_bytes text.new ≡ string_bytes text.old ++ (codes "0x" ++ eight_digits address ++ 10 ∷ [])) }
 {
     write!(text, "0x{address:08x}\n")
 }
@@ -98,16 +98,17 @@ pub fn append_address(
     address: u32,
     answer: &Option<SharedFunctionFrames<'_>>,
 ) -> Result<(), AllocError>
-    ensures { OnOk result (string_bytes text.new ≡ string_bytes text.old ++ codes "0x" ++ eight_digits address ++ 10 ∷ answer_text (Ok answer.now)) }
+    ensures { OnOk result (string_bytes text.new ≡ string_bytes text.old ++ (codes "0x" ++ eight_digits address ++ 10 ∷ answer_text (Ok answer.now))) }
 {
     append_address_alone(text, address)?;
-    append_answer(text, answer)
+    append_answer(text, answer)?;
+    Ok(())
 }
 
 /// Appends the lines of an address whose answer can't be read.
 #[tactic(auto, unfolding(crate::specs::AddressText::answer_text))]
 pub fn append_unreadable(text: &mut String, address: u32) -> Result<(), AllocError>
-    ensures { OnOk result ((e : Fault) → string_bytes text.new ≡ string_bytes text.old ++ codes "0x" ++ eight_digits address ++ 10 ∷ answer_text (Err e)) }
+    ensures { OnOk result ((e : Fault) → string_bytes text.new ≡ string_bytes text.old ++ (codes "0x" ++ eight_digits address ++ 10 ∷ answer_text (Err e))) }
 {
     append_address_alone(text, address)?;
     text.push_str("  unreadable\n")?;
