@@ -1,6 +1,8 @@
 -- What is kept of procedures that were asked for.
 use Rattle.std.specs.Prelude.{◌≡◌, ℕ, List, slice_get, Option, None, Some, Ok}
 use Rattle.std.specs.Borrow.{Bor}
+use Rattle.std.specs.Box.{box_value}
+use Rattle.std.specs.Global.{Box}
 use Rattle.pdb_symbols_modules.specs.ModuleStream.{ModuleStream}
 use Rattle.pdb_module_data.specs.Procedures.{Procedure}
 use Rattle.pdb_module_data.specs.InlinedCalls.{call_rows}
@@ -25,8 +27,8 @@ pub record IsOfStream (stream : ModuleStream) (info : ExtendedProcedureInfo) : T
   pub each : (extended : ExtendedModule) (q : Procedure) → extended_of stream ≡ Ok extended → IsReadBy q info → IsOfProcedure stream extended q info
 
 -- What is kept in places is the stream's.
-pub record AreOfStream (stream : ModuleStream) (places : List (Option ExtendedProcedureInfo)) : Type 0 where
-  pub each : (k : ℕ) (info : ExtendedProcedureInfo) → slice_get places k ≡ Some (Some info) → IsOfStream stream info
+pub record AreOfStream (stream : ModuleStream) (places : List (Option (Box ExtendedProcedureInfo))) : Type 0 where
+  pub each : (k : ℕ) (info : Box ExtendedProcedureInfo) → slice_get places k ≡ Some (Some info) → IsOfStream stream (box_value info)
 
 -- What is lent of a procedure, if something is, is the procedure's.
 abbrev pub IsLentOf : ModuleStream → Procedure → Option (Bor ExtendedProcedureInfo) → Type 0

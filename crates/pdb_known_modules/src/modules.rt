@@ -1,6 +1,7 @@
 //! What a module's own stream says.
 
 ghost use Rattle.std.specs.Prelude.{◌≡◌, ◌↔◌, true, IfOk, IfSome, None, Ok, Some, option_copied, option_map, slice_get};
+ghost use Rattle.std.specs.Box.{box_value};
 ghost use Rattle.std.specs.List.{flat_map};
 ghost use Rattle.pdb_addresses.specs.SectionRun.{up_to_next};
 ghost use Rattle.pdb_bounds.specs.SectionBounds.{procedure_bounds as bounds_of_procedure};
@@ -34,7 +35,7 @@ pub struct BasicModuleInfo<'a, I: ModuleTables> {
     /// Its line program and inlinees, once they were read.
     extended: Option<ExtendedModuleInfo<'a>>,
     /// For each procedure a place, in which its data are kept once they were read; no place before line program and inlinees are.
-    kept_procedures: Vec<Option<ExtendedProcedureInfo<'a>>>,
+    kept_procedures: Vec<Option<Box<ExtendedProcedureInfo<'a>>>>,
     /// The line rows of functions that begin at public entries, once they were read; none before line program and inlinees are.
     public_rows: PublicRows,
 }
@@ -155,8 +156,8 @@ impl<'a, I: ModuleTables> BasicModuleInfo<'a, I> {
         &self,
         alloc: Global,
         number: usize,
-    ) -> std::result::Result<Option<ExtendedProcedureInfo<'a>>, AllocError>
-        ensures { IfOk result (λ d. IfSome d (λ info. IsOfStream (self.now).stream info)) }
+    ) -> std::result::Result<Option<Box<ExtendedProcedureInfo<'a>>>, AllocError>
+        ensures { IfOk result (λ d. IfSome d (λ info. IsOfStream (self.now).stream (box_value info))) }
     {
         let Some(extended) = self.extended() else {
             return Ok(None);
@@ -165,7 +166,10 @@ impl<'a, I: ModuleTables> BasicModuleInfo<'a, I> {
             return Ok(None);
         };
         match read_extended_procedure(alloc, self.module_info, extended, procedure) {
-            Ok(data) => Ok(Some(data)),
+            Ok(data) => {
+                let data = Box::new(alloc, data)?;
+                Ok(Some(data))
+            }
             Err(pdb_resolving::Error::OutOfMemory) => Err(AllocError),
             Err(_) => Ok(None),
         }
@@ -181,7 +185,7 @@ impl<'a, I: ModuleTables> BasicModuleInfo<'a, I> {
         ensures { IsLentOf (self.now).stream procedure.now result }
     {
         match place_at(&self.kept_procedures, number) {
-            Some(Some(data)) if data.is_of(procedure) => Some(data),
+            Some(Some(data)) if data.is_of(procedure) => Some(data.as_ref()),
             _ => None,
         }
     }
@@ -233,16 +237,16 @@ impl<'a, I: ModuleTables> BasicModuleInfo<'a, I> {
 
 /// The place of a number, if it is there.
 fn place_at<'m, 'a>(
-    places: &'m Vec<Option<ExtendedProcedureInfo<'a>>>,
+    places: &'m Vec<Option<Box<ExtendedProcedureInfo<'a>>>>,
     number: usize,
-) -> Option<&'m Option<ExtendedProcedureInfo<'a>>>
+) -> Option<&'m Option<Box<ExtendedProcedureInfo<'a>>>>
     ensures { option_map (λ p. p.now) result ≡ slice_get places.now.items number }
 {
     places.get(number)
 }
 
 /// Whether the place of a number is there and empty.
-fn is_empty_at(places: &[Option<ExtendedProcedureInfo<'_>>], number: usize) -> bool
+fn is_empty_at(places: &[Option<Box<ExtendedProcedureInfo<'_>>>], number: usize) -> bool
     ensures { (result ≡ true) ↔ (slice_get places.now number ≡ Some None) }
 {
     matches!(places.get(number), Some(None))

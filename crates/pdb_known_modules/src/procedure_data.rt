@@ -94,7 +94,7 @@ pub fn read_extended_procedure<'a, I: ModuleTables>(
 pub fn empty_procedures<'a>(
     alloc: Global,
     count: usize,
-) -> std::result::Result<Vec<Option<ExtendedProcedureInfo<'a>>>, AllocError>
+) -> std::result::Result<Vec<Option<Box<ExtendedProcedureInfo<'a>>>>, AllocError>
     ensures { IfOk result (λ v. v.items ≡ replicate count None) }
 {
     let mut places = Vec::with_capacity(alloc, count)?;
