@@ -109,13 +109,14 @@ pub fn shared_raw_name(
     RcStr::from_string(name)
 }
 
-/// A name that may be missing, to be shared.
+/// A name that may be missing, to be shared; it takes no more room than it needs.
 pub fn shared_name(name: Option<String>) -> std::result::Result<Option<RcStr>, AllocError>
     ensures { IfOk result (λ n. option_map rc_str_bytes n ≡ option_map string_bytes name) }
 {
     match name {
         None => Ok(None),
-        Some(name) => {
+        Some(mut name) => {
+            name.shrink_to_fit();
             let name = RcStr::from_string(name)?;
             Ok(Some(name))
         }
