@@ -1,11 +1,10 @@
 -- The lines that the engine keeps are those of the definition.
-use Rattle.std.proofs.Common.{◌≡◌, ℕ, zero, suc, ◌+◌, ◌<◌, ◌≤◌, true, false, cond, List, [], ◌∷◌, ◌++◌, refl, sym, ap, subst, ◌∙◌, append_assoc, append-nil, length, take, drop, get_or, take-append-drop}
-use Rattle.std.specs.Prelude.{◌==◌, Option, Result, Ok, Err, OnOk, OnErr}
+use Rattle.std.proofs.Common.{◌≡◌, ℕ, zero, suc, ◌+◌, ◌<◌, true, false, cond, List, [], ◌∷◌, ◌++◌, refl, sym, ap, ◌∙◌, append_assoc, append-nil, length, take, get_or}
+use Rattle.std.specs.Prelude.{◌==◌, Option, Result, Ok, Err, OnErr}
 use Rattle.std.specs.Io.KnownBytes.{Appends}
-use Rattle.std.proofs.KnownBytes.{Appends-trans}
 use Rattle.std.specs.List.{flat_map}
 use Rattle.std.proofs.lemmas.Grind.{flat_map-append}
-use Rattle.std.proofs.lemmas.List.{take_more, take_all}
+use Rattle.std.proofs.lemmas.List.{take_more}
 use Rattle.pdb_engine.specs.InputLines.{onto, input_lines, onto_ended, ended_input_lines, report, report_of_ended, kept_lines, kept_rest, Begins}
 
 -- bytes that come in two pieces
@@ -141,95 +140,9 @@ kept_lines-more kept bytes i h = ap (kept_lines kept) (take_more bytes i 0 h) �
 pub kept_rest-more : (kept bytes : List ℕ) (i : ℕ) → i < length bytes → kept_rest kept (take (i + 1) bytes) ≡ kept_rest (kept_rest kept (take i bytes)) (get_or bytes i 0 ∷ [])
 kept_rest-more kept bytes i h = ap (kept_rest kept) (take_more bytes i 0 h) ∙ kept_rest-append kept (take i bytes) (get_or bytes i 0 ∷ [])
 
--- the answers that a byte brings, where the text and the line so far have other names
-same_answer : (text text' : List ℕ → List ℕ) (kept kept' bytes : List ℕ) (i : ℕ) → text' ≡ text → kept' ≡ kept_rest kept (take i bytes)
-    → flat_map text' (kept_lines kept' (get_or bytes i 0 ∷ [])) ≡ flat_map text (kept_lines (kept_rest kept (take i bytes)) (get_or bytes i 0 ∷ []))
-same_answer text text' kept kept' bytes i et ek =
-    ap (λ (t : List ℕ → List ℕ). flat_map t (kept_lines kept' (get_or bytes i 0 ∷ []))) et ∙ ap (λ (k : List ℕ). flat_map text (kept_lines k (get_or bytes i 0 ∷ []))) ek
-
--- the text is written, but for what is pending, its end
-abbrev pub AllBut : Option (List ℕ) → Option (List ℕ) → List ℕ → List ℕ → Type 0
-AllBut a b pending text = (out : List ℕ) × Appends a b out × (text ≡ out ++ pending)
-
--- One byte more, as what a writer holds and what is pending; the text and the line so far may have other names at that call.
-pub out_more : (text text' : List ℕ → List ℕ) (a b c : Option (List ℕ)) (kept kept' pending pending' bytes : List ℕ) (i : ℕ) → i < length bytes → text' ≡ text → kept' ≡ kept_rest kept (take i bytes)
-    → AllBut a b pending (flat_map text (kept_lines kept (take i bytes))) → AllBut b c pending' (pending ++ flat_map text' (kept_lines kept' (get_or bytes i 0 ∷ []))) → AllBut a c pending' (flat_map text (kept_lines kept (take (i + 1) bytes)))
-out_more text text' a b c kept kept' pending pending' bytes i h et ek (out, p, e) (out', q, e') =
-    let answer = flat_map text (kept_lines (kept_rest kept (take i bytes)) (get_or bytes i 0 ∷ [])) in
-    let joined = ap (flat_map text) (kept_lines-more kept bytes i h) ∙ flat_map-append text (kept_lines kept (take i bytes)) (kept_lines (kept_rest kept (take i bytes)) (get_or bytes i 0 ∷ [])) in (
-      out ++ out',
-      Appends-trans a b c out out' p q,
-      joined ∙ ap (λ l. l ++ answer) e ∙ append_assoc out pending answer
-          ∙ ap (λ l. out ++ l) (ap (λ l. pending ++ l) (sym (same_answer text text' kept kept' bytes i et ek)) ∙ e')
-          ∙ sym (append_assoc out out' pending'),
-    )
-
 -- what is kept behind one byte more
 pub rest_more : (kept kept' kept'' bytes : List ℕ) (i : ℕ) → i < length bytes → kept' ≡ kept_rest kept (take i bytes) → kept'' ≡ kept_rest kept' (get_or bytes i 0 ∷ []) → kept'' ≡ kept_rest kept (take (i + 1) bytes)
 rest_more kept kept' kept'' bytes i h e e' = e' ∙ ap (λ k. kept_rest k (get_or bytes i 0 ∷ [])) e ∙ sym (kept_rest-more kept bytes i h)
-
--- the answers behind bytes are those behind the bytes before one, then its own, then those behind the rest
-answers_around : (text : List ℕ → List ℕ) (kept bytes : List ℕ) (i : ℕ) → i < length bytes
-    → (rest : List ℕ) × (flat_map text (kept_lines kept bytes)
-    ≡ flat_map text (kept_lines kept (take i bytes)) ++ (flat_map text (kept_lines (kept_rest kept (take i bytes)) (get_or bytes i 0 ∷ [])) ++ rest))
-answers_around text kept bytes i h =
-    let done = flat_map text (kept_lines kept (take i bytes)) in
-    let answer = flat_map text (kept_lines (kept_rest kept (take i bytes)) (get_or bytes i 0 ∷ [])) in
-    let rest = flat_map text (kept_lines (kept_rest kept (take (i + 1) bytes)) (drop (i + 1) bytes)) in (
-      rest,
-      ap (λ l. flat_map text (kept_lines kept l)) (sym (take-append-drop (i + 1) bytes))
-          ∙ ap (flat_map text) (kept_lines-append kept (take (i + 1) bytes) (drop (i + 1) bytes))
-          ∙ flat_map-append text (kept_lines kept (take (i + 1) bytes)) _
-          ∙ ap (λ l. l ++ rest) (ap (flat_map text) (kept_lines-more kept bytes i h) ∙ flat_map-append text (kept_lines kept (take i bytes)) _)
-          ∙ append_assoc done answer rest,
-    )
-
--- a front of what is pending and of one byte's answers, behind what is out, is a front of the answers to all
-pub part_more : (text text' : List ℕ → List ℕ) (a b c : Option (List ℕ)) (kept kept' pending bytes : List ℕ) (i : ℕ) → i < length bytes → text' ≡ text → kept' ≡ kept_rest kept (take i bytes)
-    → AllBut a b pending (flat_map text (kept_lines kept (take i bytes)))
-    → ((out : List ℕ) × Appends b c out × Begins out (pending ++ flat_map text' (kept_lines kept' (get_or bytes i 0 ∷ []))))
-    → (out : List ℕ) × Appends a c out × Begins out (flat_map text (kept_lines kept bytes))
-part_more text text' a b c kept kept' pending bytes i h et ek (out, p, e) (out', q, (more, begins)) =
-    let answer = flat_map text (kept_lines (kept_rest kept (take i bytes)) (get_or bytes i 0 ∷ [])) in
-    let around = answers_around text kept bytes i h in
-    let rest = around.0 in
-    let now : pending ++ answer ≡ out' ++ more = ap (λ l. pending ++ l) (sym (same_answer text text' kept kept' bytes i et ek)) ∙ begins in (
-      out ++ out',
-      Appends-trans a b c out out' p q,
-      (
-        more ++ rest,
-        around.1 ∙ ap (λ l. l ++ (answer ++ rest)) e ∙ append_assoc out pending (answer ++ rest)
-            ∙ ap (λ l. out ++ l) (sym (append_assoc pending answer rest) ∙ ap (λ l. l ++ rest) now ∙ append_assoc out' more rest)
-            ∙ sym (append_assoc out out' (more ++ rest)),
-      ),
-    )
-
--- a front of what is pending behind all the bytes
-pub part_last : {T E : Type 0} (r : Result T E) (text : List ℕ → List ℕ) (a b c : Option (List ℕ)) (kept pending bytes : List ℕ) (i : ℕ) → length bytes ≤ i
-    → AllBut a b pending (flat_map text (kept_lines kept (take i bytes)))
-    → OnErr r ((out : List ℕ) × Appends b c out × Begins out pending) → OnErr r ((out : List ℕ) × Appends a c out × Begins out (flat_map text (kept_lines kept bytes)))
-part_last (Ok x) text a b c kept pending bytes i past so_far h = tt
-part_last (Err x) text a b c kept pending bytes i past (out, p, e) (out', q, (more, begins)) = (
-  out ++ out',
-  Appends-trans a b c out out' p q,
-  (
-    more,
-    ap (λ l. flat_map text (kept_lines kept l)) (sym (take_all i bytes past)) ∙ e ∙ ap (λ l. out ++ l) begins ∙ sym (append_assoc out out' more),
-  ),
-)
-
--- all of what is pending behind all the bytes
-pub out_last : {T E : Type 0} (r : Result T E) (text : List ℕ → List ℕ) (a b c : Option (List ℕ)) (kept pending bytes : List ℕ) (i : ℕ) → length bytes ≤ i
-    → AllBut a b pending (flat_map text (kept_lines kept (take i bytes)))
-    → OnOk r (Appends b c pending) → OnOk r (Appends a c (flat_map text (kept_lines kept bytes)))
-out_last (Err x) text a b c kept pending bytes i past so_far h = tt
-out_last (Ok x) text a b c kept pending bytes i past (out, p, e) q =
-    subst (λ (l : List ℕ). Appends a c l) (sym e ∙ ap (λ l. flat_map text (kept_lines kept l)) (take_all i bytes past)) (Appends-trans a b c out pending p q)
-
--- what is kept behind all the bytes
-pub rest_last : {T E : Type 0} (r : Result T E) (kept kept' bytes : List ℕ) (i : ℕ) → length bytes ≤ i → kept' ≡ kept_rest kept (take i bytes) → OnOk r (kept' ≡ kept_rest kept bytes)
-rest_last (Err x) kept kept' bytes i past e = tt
-rest_last (Ok x) kept kept' bytes i past e = e ∙ ap (kept_rest kept) (take_all i bytes past)
 
 -- a front of a text is one of the text with more behind it
 pub front_of_more : (a b : Option (List ℕ)) (text more : List ℕ) → ((out : List ℕ) × Appends a b out × Begins out text) → (out : List ℕ) × Appends a b out × Begins out (text ++ more)

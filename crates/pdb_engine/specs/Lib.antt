@@ -1,4 +1,5 @@
 pub mod InputFaults
 pub mod InputLines
 pub mod Puts
+pub mod Requests
 pub mod Watched

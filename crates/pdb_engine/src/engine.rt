@@ -5,11 +5,13 @@ ghost use Rattle.std.specs.List.{flat_map};
 ghost use Rattle.std.specs.Io.KnownBytes.{IsAtEnd};
 ghost use Rattle.pdb_engine.specs.Watched.{inner_of, CountsFailure, IsQuiet, Writes, WritesAllBut, WritesFront, Takes};
 ghost use Rattle.pdb_engine.specs.InputLines.{kept_lines, kept_rest, report, report_of_ended};
+ghost use Rattle.pdb_engine.specs.Requests.{lines_of, AreAnswered, IsAnswered};
 ghost use Rattle.pdb_engine.specs.InputFaults.{OnRead, OnWrite, OnTooLong, IsOfWriting, IsOfRunning};
 
 use crate::answers::Answers;
 use crate::fault::{InputFault, read_fault, write_fault};
 use crate::line_start::LineStart;
+use crate::requests::{Request, answer_ahead, append_answer, split};
 use crate::watched::Watched;
 use std::alloc::Global;
 use std::io::{ErrorKind, Read, Write};
@@ -129,7 +131,8 @@ fn pump<A: Answers, R: Read, W: Write>(
     }
 }
 
-/// Answers the lines that the bytes end, all of them before it returns, and keeps the start of the one behind them.
+/// Answers the lines that the bytes end, all of them before it returns, and keeps the start of the one behind them. The answers are
+/// made in the order of the lines' places, as far as their texts are short together, and written in that of the lines.
 ///
 /// # Errors
 /// As [`answer_line`].
@@ -148,44 +151,36 @@ fn feed<A: Answers, W: Write>(
     ensures fails { IfErr result (λ fault. OnWrite fault (λ kind. CountsFailure writer.old writer.new kind)) }
     ensures part { OnErr result (WritesFront W.contents writer.old writer.new (flat_map (A.text answers.old) (kept_lines start.old bytes.now))) }
 {
-    let mut pending = Vec::new(alloc);
-    for byte in bytes {
-        feed_byte(alloc, answers, writer, start, &mut pending, *byte)?;
-    }
-    write_pending(writer, &mut pending)
+    let Ok(mut requests) = split(alloc, start, bytes) else {
+        return Err(InputFault::OutOfMemory);
+    };
+    answer_ahead(alloc, answers, &mut requests);
+    write_answers(alloc, answers, writer, &requests)
 }
 
-/// Gathers the answer to the line that the byte ends, or keeps the byte.
+/// Writes the answers to lines in the order of the lines, and makes those that weren't made.
 ///
 /// # Errors
 /// As [`answer_line`].
-fn feed_byte<A: Answers, W: Write>(
+fn write_answers<A: Answers, W: Write>(
     alloc: Global,
     answers: &mut A,
     writer: &mut Watched<W>,
-    start: &mut LineStart,
-    pending: &mut Vec<u8>,
-    byte: u8,
+    requests: &[Request],
 ) -> Result<(), InputFault>
-    ensures ok { OnOk result (WritesAllBut W.contents writer.old writer.new pending.new.items (pending.old.items ++ flat_map (A.text answers.old) (kept_lines start.old (byte ∷ [])))) }
-    ensures rest { OnOk result (start.new ≡ kept_rest start.old (byte ∷ [])) }
+    requires { AreAnswered (A.text answers.old) requests.now }
+    ensures ok { OnOk result (Writes W.contents writer.old writer.new (flat_map (A.text answers.old) (lines_of requests.now))) }
     ensures same { A.text answers.new ≡ A.text answers.old }
     ensures quiet { OnOk result (IsQuiet writer.old writer.new) }
     ensures kind { IfErr result IsOfWriting }
     ensures fails { IfErr result (λ fault. OnWrite fault (λ kind. CountsFailure writer.old writer.new kind)) }
-    ensures part { OnErr result (WritesFront W.contents writer.old writer.new (pending.old.items ++ flat_map (A.text answers.old) (kept_lines start.old (byte ∷ [])))) }
+    ensures part { OnErr result (WritesFront W.contents writer.old writer.new (flat_map (A.text answers.old) (lines_of requests.now))) }
 {
-    if byte != b'\n' {
-        start.push(byte);
-        return Ok(());
+    let mut pending = Vec::new(alloc);
+    for request in requests {
+        gather_answer(alloc, answers, writer, &mut pending, request)?;
     }
-    match gather_answer(alloc, answers, writer, pending, start.bytes()) {
-        Ok(()) => {
-            start.clear();
-            Ok(())
-        }
-        Err(fault) => Err(fault),
-    }
+    write_pending(writer, &mut pending)
 }
 
 /// Puts the answer to a line behind what is pending, and writes that once it is long.
@@ -197,18 +192,19 @@ fn gather_answer<A: Answers, W: Write>(
     answers: &mut A,
     writer: &mut Watched<W>,
     pending: &mut Vec<u8>,
-    line: &[u8],
+    request: &Request,
 ) -> Result<(), InputFault>
-    ensures ok { OnOk result (WritesAllBut W.contents writer.old writer.new pending.new.items (pending.old.items ++ A.text answers.old line.now)) }
+    requires { IsAnswered (A.text answers.old) request.now }
+    ensures ok { OnOk result (WritesAllBut W.contents writer.old writer.new pending.new.items (pending.old.items ++ A.text answers.old request.now.line)) }
     // What is pending stays short.
     ensures short { OnOk result (length pending.new.items < 65536) }
     ensures same { A.text answers.new ≡ A.text answers.old }
     ensures quiet { OnOk result (IsQuiet writer.old writer.new) }
     ensures kind { IfErr result IsOfWriting }
     ensures fails { IfErr result (λ fault. OnWrite fault (λ kind. CountsFailure writer.old writer.new kind)) }
-    ensures part { OnErr result (WritesFront W.contents writer.old writer.new (pending.old.items ++ A.text answers.old line.now)) }
+    ensures part { OnErr result (WritesFront W.contents writer.old writer.new (pending.old.items ++ A.text answers.old request.now.line)) }
 {
-    let Ok(()) = answers.answer(alloc, line, pending) else {
+    let Ok(()) = append_answer(alloc, answers, request, pending) else {
         return Err(write_last(writer, pending));
     };
     if pending.len() < CHUNK_SIZE {

@@ -7,6 +7,7 @@ mod engine;
 mod fault;
 mod line_start;
 mod output;
+mod requests;
 mod watched;
 
 pub use answers::Answers;

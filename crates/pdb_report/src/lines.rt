@@ -68,6 +68,10 @@ impl<'a, 's, P: ModuleProvider> Answers for LineAnswers<'a, 's, P> {
 
     ghost text = { λ answers line. line_text (answer_of P.provided answers.context) line };
 
+    fn place(&self, line: &[u8]) -> u32 {
+        parse_address(line).unwrap_or(0)
+    }
+
     fn answer(
         &mut self,
         alloc: Global,

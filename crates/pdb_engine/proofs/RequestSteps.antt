@@ -1,0 +1,97 @@
+-- Requests: the lines that bytes end, one byte at a time, and answers to them, one at a time.
+use Rattle.std.proofs.Common.{◌≡◌, ℕ, ◌+◌, ◌<◌, ◌≤◌, List, [], ◌∷◌, ◌++◌, sym, ap, ◌∙◌, append_assoc, append-nil, length, take, drop, get_or, take-append-drop, slice_index_or, slice_set}
+use Rattle.std.specs.Prelude.{Option, Result, Ok, Err, OnErr}
+use Rattle.std.specs.List.{flat_map}
+use Rattle.std.specs.Io.KnownBytes.{Appends}
+use Rattle.std.proofs.KnownBytes.{Appends-trans}
+use Rattle.std.proofs.Math.Seq.{map-set_same}
+use Rattle.std.proofs.lemmas.Grind.{flat_map-append}
+use Rattle.std.proofs.lemmas.List.{map-append, take_more, take_all}
+use Rattle.pdb_engine.specs.declared.requests.Request.{Request}
+use Rattle.pdb_engine.specs.InputLines.{kept_lines, kept_rest, Begins}
+use Rattle.pdb_engine.specs.Requests.{lines_of}
+use Rattle.pdb_engine.proofs.LineLemmas.{kept_lines-more}
+
+-- a request takes the place of one of the same line
+pub lines_set : (requests : List Request) (i : ℕ) (r d : Request) → r.line ≡ (slice_index_or requests i d).line → lines_of (slice_set requests i r) ≡ lines_of requests
+lines_set requests i r d same = map-set_same (λ (q : Request). q.line) requests i r d same
+
+-- one byte more
+pub lines_more : (lines lines' : List (List ℕ)) (kept kept' bytes : List ℕ) (i : ℕ) → i < length bytes → lines ≡ kept_lines kept (take i bytes) → kept' ≡ kept_rest kept (take i bytes)
+    → lines' ≡ lines ++ kept_lines kept' (get_or bytes i 0 ∷ []) → lines' ≡ kept_lines kept (take (i + 1) bytes)
+lines_more lines lines' kept kept' bytes i h e ek more =
+    more ∙ ap (λ l. l ++ kept_lines kept' (get_or bytes i 0 ∷ [])) e
+    ∙ ap (λ k. kept_lines kept (take i bytes) ++ kept_lines k (get_or bytes i 0 ∷ [])) ek
+    ∙ sym (kept_lines-more kept bytes i h)
+
+-- ---- what a writer holds behind the answers to some lines
+
+-- the text is written, but for what is pending, its end
+abbrev pub AllBut : Option (List ℕ) → Option (List ℕ) → List ℕ → List ℕ → Type 0
+AllBut a b pending text = (out : List ℕ) × Appends a b out × (text ≡ out ++ pending)
+
+-- the answers to lines, and to more of them
+answers-append : (text : List ℕ → List ℕ) (xs ys : List Request) → flat_map text (lines_of (xs ++ ys)) ≡ flat_map text (lines_of xs) ++ flat_map text (lines_of ys)
+answers-append text xs ys = ap (flat_map text) (map-append (λ (r : Request). r.line) xs ys) ∙ flat_map-append text (lines_of xs) (lines_of ys)
+
+-- those to one line more
+answers-more : (text : List ℕ → List ℕ) (requests : List Request) (i : ℕ) (r : Request) → i < length requests → r ≡ get_or requests i r
+    → flat_map text (lines_of (take (i + 1) requests)) ≡ flat_map text (lines_of (take i requests)) ++ text r.line
+answers-more text requests i r h is =
+    ap (λ l. flat_map text (lines_of l)) (take_more requests i r h ∙ ap (λ q. take i requests ++ q ∷ []) (sym is))
+    ∙ answers-append text (take i requests) (r ∷ [])
+    ∙ ap (λ l. flat_map text (lines_of (take i requests)) ++ l) (append-nil (text r.line))
+
+-- the answers to all are those to the lines before one, then its own, then those to the rest
+answers-around : (text : List ℕ → List ℕ) (requests : List Request) (i : ℕ) (r : Request) → i < length requests → r ≡ get_or requests i r
+    → flat_map text (lines_of requests) ≡ flat_map text (lines_of (take i requests)) ++ (text r.line ++ flat_map text (lines_of (drop (i + 1) requests)))
+answers-around text requests i r h is =
+    ap (λ l. flat_map text (lines_of l)) (sym (take-append-drop (i + 1) requests))
+    ∙ answers-append text (take (i + 1) requests) (drop (i + 1) requests)
+    ∙ ap (λ l. l ++ flat_map text (lines_of (drop (i + 1) requests))) (answers-more text requests i r h is)
+    ∙ append_assoc (flat_map text (lines_of (take i requests))) (text r.line) _
+
+-- One line more, as what a writer holds and what is pending; the text may have another name at that call.
+pub out_more : (text text' : List ℕ → List ℕ) (a b c : Option (List ℕ)) (pending pending' : List ℕ) (requests : List Request) (i : ℕ) (r : Request) → i < length requests → r ≡ get_or requests i r → text' ≡ text
+    → AllBut a b pending (flat_map text (lines_of (take i requests))) → AllBut b c pending' (pending ++ text' r.line) → AllBut a c pending' (flat_map text (lines_of (take (i + 1) requests)))
+out_more text text' a b c pending pending' requests i r h is et (out, p, e) (out', q, e') =
+    let answer = text r.line in (
+      out ++ out',
+      Appends-trans a b c out out' p q,
+      answers-more text requests i r h is ∙ ap (λ l. l ++ answer) e ∙ append_assoc out pending answer
+          ∙ ap (λ l. out ++ l) (ap (λ (t : List ℕ → List ℕ). pending ++ t r.line) (sym et) ∙ e')
+          ∙ sym (append_assoc out out' pending'),
+    )
+
+-- a front of what is pending and of one line's answer, behind what is out, is a front of the answers to all
+pub part_more : (text text' : List ℕ → List ℕ) (a b c : Option (List ℕ)) (pending : List ℕ) (requests : List Request) (i : ℕ) (r : Request) → i < length requests → r ≡ get_or requests i r → text' ≡ text
+    → AllBut a b pending (flat_map text (lines_of (take i requests)))
+    → ((out : List ℕ) × Appends b c out × Begins out (pending ++ text' r.line))
+    → (out : List ℕ) × Appends a c out × Begins out (flat_map text (lines_of requests))
+part_more text text' a b c pending requests i r h is et (out, p, e) (out', q, (more, begins)) =
+    let answer = text r.line in
+    let rest = flat_map text (lines_of (drop (i + 1) requests)) in
+    let now : pending ++ answer ≡ out' ++ more = ap (λ (t : List ℕ → List ℕ). pending ++ t r.line) (sym et) ∙ begins in (
+      out ++ out',
+      Appends-trans a b c out out' p q,
+      (
+        more ++ rest,
+        answers-around text requests i r h is ∙ ap (λ l. l ++ (answer ++ rest)) e ∙ append_assoc out pending (answer ++ rest)
+            ∙ ap (λ l. out ++ l) (sym (append_assoc pending answer rest) ∙ ap (λ l. l ++ rest) now ∙ append_assoc out' more rest)
+            ∙ sym (append_assoc out out' (more ++ rest)),
+      ),
+    )
+
+-- a front of what is pending behind the answers to all
+pub part_last : {T E : Type 0} (r : Result T E) (text : List ℕ → List ℕ) (a b c : Option (List ℕ)) (pending : List ℕ) (requests : List Request) (i : ℕ) → length requests ≤ i
+    → AllBut a b pending (flat_map text (lines_of (take i requests)))
+    → OnErr r ((out : List ℕ) × Appends b c out × Begins out pending) → OnErr r ((out : List ℕ) × Appends a c out × Begins out (flat_map text (lines_of requests)))
+part_last (Ok x) text a b c pending requests i past so_far h = tt
+part_last (Err x) text a b c pending requests i past (out, p, e) (out', q, (more, begins)) = (
+  out ++ out',
+  Appends-trans a b c out out' p q,
+  (
+    more,
+    ap (λ l. flat_map text (lines_of l)) (sym (take_all i requests past)) ∙ e ∙ ap (λ l. out ++ l) begins ∙ sym (append_assoc out out' more),
+  ),
+)

@@ -1,0 +1,13 @@
+use Rattle.std.proofs.Common.{◌≡◌}
+use Rattle.pdb_engine.specs.Requests.{lines_of, AreAnswered}
+use Rattle.pdb_engine.proofs.requests.answer_in_turn.Given as goal
+
+-- the lines stay, and what was made is right
+abbrev pub invariant-loop-turn : goal.invariant-loop-turn
+invariant-loop-turn g l =
+    let text = g.A.Answers.text in
+    record {
+      lines : lines_of l.requests.items ≡ lines_of l.fn.requests.items;
+      answered : AreAnswered (text l.fn.answers) l.requests.items;
+      same : text l.answers ≡ text l.fn.answers;
+    }
