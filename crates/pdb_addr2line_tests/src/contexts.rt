@@ -14,6 +14,8 @@ enum Question {
     Functions,
     /// The frames at 0x1014, told of their copy.
     Frames,
+    /// The frames at 0x1014 with shared names, which may go to another thread.
+    SharedFrames,
     /// Twice the frames at 0x1014, whose lines can't be read.
     FailedLines,
 }
@@ -76,6 +78,23 @@ fn frames_by<P: ModuleProvider>(
     }
 }
 
+/// Takes what may go to another thread.
+fn takes_sendable<T: Send>(_value: &T) {}
+
+/// The frames with shared names that a context finds at 0x1014, told; both may go to another thread.
+fn shared_frames_by<P: ModuleProvider>(
+    alloc: Global,
+    context: &mut Context<'_, '_, P>,
+) -> Result<String, Error> {
+    match context.find_shared_frames(alloc, 0x1014)? {
+        Some(found) => {
+            takes_sendable(&found);
+            Ok(format!(in alloc; "{found:?}")?)
+        }
+        None => Ok(String::new(alloc)),
+    }
+}
+
 /// What is told of lines that can't be read: their own fault, or that they stand as failed.
 fn lines_fault<P: ModuleProvider>(alloc: Global, context: &mut Context<'_, '_, P>) -> &'static str {
     match context.find_frames(alloc, 0x1014) {
@@ -104,6 +123,7 @@ fn asked<P: ModuleProvider>(
     match question {
         Question::Functions => functions_by(alloc, &mut context),
         Question::Frames => frames_by(alloc, &mut context),
+        Question::SharedFrames => shared_frames_by(alloc, &mut context),
         Question::FailedLines => lines_faults(alloc, &mut context),
     }
 }
@@ -122,6 +142,7 @@ fn context_of(
 /// What a context over what was read answers.
 fn asked_over(alloc: Global, data: &Data, question: Question) -> Result<String, Error> {
     let context = context_of(alloc, data)?;
+    takes_sendable(&context);
     asked(alloc, context, question)
 }
 
@@ -147,6 +168,16 @@ fn copies_of_frames(rt: HostRuntime) -> Result<(), Fail> {
     assert_eq!(rt;
         text.as_str(),
         r#"FunctionFrames { start_rva: 4112, end_rva: Some(4144), frames: [Frame { function: Some("g()"), file: Some("b.h"), line: Some(3) }, Frame { function: Some("f"), file: Some("a.c"), line: Some(5) }] }"#
+    );
+    Ok(())
+}
+
+#[test]
+fn frames_with_shared_names(rt: HostRuntime) -> Result<(), Fail> {
+    let text = answer(rt.alloc(), cross_imports(rt.alloc())?, Question::SharedFrames)?;
+    assert_eq!(rt;
+        text.as_str(),
+        r#"SharedFunctionFrames { start_rva: 4112, end_rva: Some(4144), frames: [SharedFrame { function: Some("g()"), file: Some("b.h"), line: Some(3) }, SharedFrame { function: Some("f"), file: Some("a.c"), line: Some(5) }] }"#
     );
     Ok(())
 }

@@ -1,7 +1,7 @@
 //! The name of a chosen function.
 
 ghost use Rattle.std.specs.Prelude.{◌≡◌, IfOk, option_map};
-ghost use Rattle.std.specs.Rc.{rc_str_bytes};
+ghost use Rattle.std.specs.Arc.{arc_str_bytes};
 ghost use Rattle.pdb_container.specs.RawString.{raw_bytes};
 ghost use Rattle.pdb_frames.specs.ChosenNames.{name_of as name_of_chosen, procedure_name as name_of_procedure, public_name as public_name_of};
 ghost use Rattle.pdb_choice.specs.Seen.{chosen_seen};
@@ -13,7 +13,7 @@ use pdb_module_data::Procedure;
 use pdb_names::{Namer, if_named, shared_raw_name};
 use pdb_resolving::ModuleProvider;
 use std::alloc::{AllocError, Global};
-use std::rc::RcStr;
+use std::sync::ArcStr;
 
 /// The decorated public name that a procedure has in place of its own: at its start, where it has no type and no decorated name
 /// of its own.
@@ -38,9 +38,9 @@ fn procedure_name<'a, P: ModuleProvider>(
     module_index: u16,
     number: usize,
     procedure: &Procedure<'a>,
-) -> Result<Option<RcStr>, AllocError>
+) -> Result<Option<ArcStr>, AllocError>
     ensures same { namer.new ≡ namer.old }
-    ensures name { IfOk result (λ n. option_map rc_str_bytes n ≡ name_of_procedure parts.now (env_of P.provided namer.old module_index) procedure.now) }
+    ensures name { IfOk result (λ n. option_map arc_str_bytes n ≡ name_of_procedure parts.now (env_of P.provided namer.old module_index) procedure.now) }
 {
     match public_name(parts, procedure) {
         Some(name) => {
@@ -58,9 +58,9 @@ pub fn name_of<'a, P: ModuleProvider>(
     namer: &mut Namer<'a, '_, P>,
     module_index: u16,
     chosen: Chosen<'_, 'a>,
-) -> Result<Option<RcStr>, AllocError>
+) -> Result<Option<ArcStr>, AllocError>
     ensures same { namer.new ≡ namer.old }
-    ensures name { IfOk result (λ n. option_map rc_str_bytes n ≡ name_of_chosen parts.now (env_of P.provided namer.old module_index) (chosen_seen chosen.entry)) }
+    ensures name { IfOk result (λ n. option_map arc_str_bytes n ≡ name_of_chosen parts.now (env_of P.provided namer.old module_index) (chosen_seen chosen.entry)) }
 {
     match chosen {
         Chosen::Procedure(number, procedure) => procedure_name(

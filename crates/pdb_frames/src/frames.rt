@@ -1,7 +1,7 @@
 //! The frames at a place in a chosen function.
 
 ghost use Rattle.std.specs.Prelude.{◌≡◌, Ok, IfOk, map, option_copied, option_map, option_and_then};
-ghost use Rattle.std.specs.Rc.{rc_str_bytes};
+ghost use Rattle.std.specs.Arc.{arc_str_bytes};
 ghost use Rattle.std.specs.Cow.{cow_str_bytes};
 ghost use Rattle.pdb_container.specs.Fault.{Gives};
 ghost use Rattle.pdb_module_data.specs.FunctionLine.{file_text, function_row, row_at};
@@ -29,7 +29,7 @@ use pdb_names::Namer;
 use pdb_resolving::{ModuleProvider, ModuleTables, Result};
 use std::alloc::{AllocError, Global};
 use std::borrow::CowStr;
-use std::rc::RcStr;
+use std::sync::ArcStr;
 
 /// The line row of a place in a procedure, and the inlined calls over the place, by what was read of the procedure.
 fn row_and_calls_by<'a>(
@@ -175,10 +175,10 @@ fn function_frame<'a>(
     alloc: Global,
     parts: &ContextParts<'a, '_>,
     extended: &ExtendedModuleInfo<'_>,
-    function: Option<RcStr>,
+    function: Option<ArcStr>,
     row: Option<LineRow>,
 ) -> std::result::Result<SharedFrame<'a>, AllocError>
-    ensures { IfOk result (λ f. f ≡ frame_of_function parts.now (extended_seen extended.now).program (option_map rc_str_bytes function) row) }
+    ensures { IfOk result (λ f. f ≡ frame_of_function parts.now (extended_seen extended.now).program (option_map arc_str_bytes function) row) }
 {
     match row {
         None => Ok(SharedFrame {

@@ -1,19 +1,19 @@
 //! The frames at an address in a function, with shared names.
 
 ghost use Rattle.std.specs.Prelude.{◌≡◌, IfOk, option_map, string_bytes};
-ghost use Rattle.std.specs.Rc.{rc_str_bytes};
+ghost use Rattle.std.specs.Arc.{arc_str_bytes};
 
 use crate::frames::{Frame, FunctionFrames, clone_file};
 use std::alloc::{AllocError, Global};
 use std::borrow::CowStr;
 use std::marker::Model;
-use std::rc::RcStr;
+use std::sync::ArcStr;
 
 /// A frame whose name is shared with what keeps it: a copy of that takes no memory.
 #[derive(Debug, Drop)]
 pub struct SharedFrame<'a> {
     /// The function's name, if it has one.
-    pub function: Option<RcStr>,
+    pub function: Option<ArcStr>,
     /// The source file, if it is known.
     pub file: Option<CowStr<'a>>,
     /// The line, counted from 1, if it is known.
@@ -23,12 +23,12 @@ pub struct SharedFrame<'a> {
 impl<'a> Model for SharedFrame<'a> {
     ghost use Rattle.std.specs.Cow.{cow_str_bytes};
     ghost use Rattle.std.specs.Prelude.{option_map};
-    ghost use Rattle.std.specs.Rc.{rc_str_bytes};
+    ghost use Rattle.std.specs.Arc.{arc_str_bytes};
     ghost use Rattle.pdb_functions.specs.Frames as answers;
 
     ghost Value = { answers.Frame };
 
-    ghost view = { λ f. record { function = option_map rc_str_bytes f.function; file = option_map cow_str_bytes f.file; line = f.line } };
+    ghost view = { λ f. record { function = option_map arc_str_bytes f.function; file = option_map cow_str_bytes f.file; line = f.line } };
 }
 
 /// A function with the frames at an address in it, whose names are shared.
@@ -51,8 +51,8 @@ impl<'a> Model for SharedFunctionFrames<'a> {
 }
 
 /// A name of its own for a shared one that may be missing.
-pub fn owned_name(alloc: Global, name: &Option<RcStr>) -> Result<Option<String>, AllocError>
-    ensures { IfOk result (λ n. option_map string_bytes n ≡ option_map rc_str_bytes name.now) }
+pub fn owned_name(alloc: Global, name: &Option<ArcStr>) -> Result<Option<String>, AllocError>
+    ensures { IfOk result (λ n. option_map string_bytes n ≡ option_map arc_str_bytes name.now) }
 {
     match name {
         None => Ok(None),

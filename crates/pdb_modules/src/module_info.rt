@@ -14,7 +14,7 @@ use pdb_subsections::{CROSS_MODULE_EXPORTS, CROSS_MODULE_IMPORTS, INLINEE_LINES,
 use pdb_symbols::SymbolIter;
 use std::alloc::Global;
 use std::marker::Model;
-use std::rc::Rc;
+use std::sync::Arc;
 
 /// Where the first symbol stands, behind the signature.
 const FIRST_SYMBOL: SymbolIndex = SymbolIndex(4);
@@ -23,7 +23,7 @@ const FIRST_SYMBOL: SymbolIndex = SymbolIndex(4);
 /// parts alone.
 #[derive(Debug, Drop)]
 pub struct ModuleInfo<'s> {
-    stream: Rc<Stream<'s>>,
+    stream: Arc<Stream<'s>>,
     symbols_size: u32,
     c11_lines_size: u32,
     c13_lines_size: u32,
@@ -49,7 +49,7 @@ impl<'s> ModuleInfo<'s> {
     ) -> Result<ModuleInfo<'s>>
         ensures { Gives (λ m. m) ⊥ result (Ok (record { bytes = stream.entry; symbols_size = symbols_size; c11_lines_size = c11_lines_size; c13_lines_size = c13_lines_size })) }
     {
-        match Rc::new(alloc, stream) {
+        match Arc::new(alloc, stream) {
             Ok(stream) => Ok(ModuleInfo {
                 stream,
                 symbols_size,

@@ -1,6 +1,6 @@
 -- The names of inlined functions that a context keeps.
 use Rattle.std.specs.Prelude.{◌≡◌, ℕ, List, Option, Some, option_map}
-use Rattle.std.specs.Rc.{rc_str_bytes}
+use Rattle.std.specs.Arc.{arc_str_bytes}
 use Rattle.pdb_resolving.specs.Resolving.{Provided}
 use Rattle.pdb_type_text.specs.Printing.{Formatting, env_of}
 use Rattle.pdb_type_text.specs.Ids.{id_text}
@@ -10,7 +10,7 @@ use Rattle.pdb_names.specs.declared.inline_names.InlineNames.{InlineNames}
 
 -- Each name that is kept is the text of its id in its module.
 pub record AreNames (text : ℕ → ℕ → Option (List ℕ)) (names : InlineNames) : Type 0 where
-  pub each : (m id : ℕ) (name : Option _) → kept_at names.by_id m id ≡ Some name → option_map rc_str_bytes name ≡ text m id
+  pub each : (m id : ℕ) (name : Option _) → kept_at names.by_id m id ≡ Some name → option_map arc_str_bytes name ≡ text m id
 
 -- the name of an inlined function by its id, as the module of a number has it, if a text can be made of it
 abbrev pub inline_text : {P : Type 0} → (P → Provided) → Formatting P → ℕ → ℕ → Option (List ℕ)

@@ -1,7 +1,7 @@
 //! The names of inlined functions that were asked for.
 
 ghost use Rattle.std.specs.Prelude.{◌≡◌, ℕ, IfOk, List, Option, option_map};
-ghost use Rattle.std.specs.Rc.{rc_str_bytes};
+ghost use Rattle.std.specs.Arc.{arc_str_bytes};
 ghost use Rattle.pdb_names.specs.InlineNames.{AreNames, inline_text};
 
 use crate::by_module::ByModule;
@@ -10,13 +10,13 @@ use pdb_indices::IdIndex;
 use pdb_resolving::ModuleProvider;
 use pdb_type_text::TypeFormatter;
 use std::alloc::{AllocError, Global};
-use std::rc::RcStr;
+use std::sync::ArcStr;
 
 /// The names of inlined functions that were asked for, by module and id; `None` where no text can be made of an id.
 #[derive(Drop)]
 pub struct InlineNames {
     /// The names, each under its id in its module.
-    by_id: ByModule<Option<RcStr>>,
+    by_id: ByModule<Option<ArcStr>>,
 }
 
 impl InlineNames {
@@ -37,11 +37,11 @@ impl InlineNames {
         formatter: &mut TypeFormatter<'_, '_, P>,
         module_index: u16,
         inlinee: IdIndex,
-    ) -> Result<Option<RcStr>, AllocError>
+    ) -> Result<Option<ArcStr>, AllocError>
         requires { AreNames (inline_text P.provided formatter.old) self.old }
         ensures kept { AreNames (inline_text P.provided formatter.old) self.new }
         ensures same { formatter.new ≡ formatter.old }
-        ensures name { IfOk result (λ n. option_map rc_str_bytes n ≡ inline_text P.provided formatter.old module_index inlinee.0) }
+        ensures name { IfOk result (λ n. option_map arc_str_bytes n ≡ inline_text P.provided formatter.old module_index inlinee.0) }
     {
         if let Some(name) = self.by_id.get(module_index, inlinee.0) {
             return share_name(name);

@@ -1,7 +1,7 @@
 //! What names functions.
 
 ghost use Rattle.std.specs.Prelude.{◌≡◌, IfOk, option_map};
-ghost use Rattle.std.specs.Rc.{rc_str_bytes};
+ghost use Rattle.std.specs.Arc.{arc_str_bytes};
 ghost use Rattle.pdb_names.specs.InlineNames.{inline_text};
 ghost use Rattle.pdb_names.specs.MaybeOwned.{value_of};
 ghost use Rattle.pdb_names.specs.Names.{typed_name};
@@ -17,7 +17,7 @@ use pdb_symbols_modules::Module;
 use pdb_type_text::TypeFormatter;
 use std::alloc::{AllocError, Global};
 use std::marker::Model;
-use std::rc::RcStr;
+use std::sync::ArcStr;
 
 /// What names functions: a formatter of types, and the names that were asked for. Its value is that of the formatter: which names
 /// are kept shows in no name.
@@ -85,9 +85,9 @@ impl<'a, 's, P: ModuleProvider> Namer<'a, 's, P> {
         alloc: Global,
         module_index: u16,
         inlinee: IdIndex,
-    ) -> Result<Option<RcStr>, AllocError>
+    ) -> Result<Option<ArcStr>, AllocError>
         ensures same { self.new ≡ self.old }
-        ensures name { IfOk result (λ n. option_map rc_str_bytes n ≡ inline_text P.provided self.old module_index inlinee.0) }
+        ensures name { IfOk result (λ n. option_map arc_str_bytes n ≡ inline_text P.provided self.old module_index inlinee.0) }
     {
         self.inlined
             .name(alloc, self.formatter.get_mut(), module_index, inlinee)
@@ -101,9 +101,9 @@ impl<'a, 's, P: ModuleProvider> Namer<'a, 's, P> {
         module_index: u16,
         number: usize,
         procedure: &Procedure<'a>,
-    ) -> Result<Option<RcStr>, AllocError>
+    ) -> Result<Option<ArcStr>, AllocError>
         ensures same { self.new ≡ self.old }
-        ensures name { IfOk result (λ n. option_map rc_str_bytes n ≡ typed_name (env_of P.provided self.old module_index) procedure.now) }
+        ensures name { IfOk result (λ n. option_map arc_str_bytes n ≡ typed_name (env_of P.provided self.old module_index) procedure.now) }
     {
         self.typed.name(
             alloc,

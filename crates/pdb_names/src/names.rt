@@ -2,7 +2,7 @@
 
 ghost use Rattle.std.specs.Prelude.{◌≡◌, IfOk, option_map, string_bytes};
 ghost use Rattle.std.specs.Cow.{cow_str_bytes};
-ghost use Rattle.std.specs.Rc.{rc_str_bytes};
+ghost use Rattle.std.specs.Arc.{arc_str_bytes};
 ghost use Rattle.std.specs.Str.Lossy.{utf8_lossy};
 ghost use Rattle.pdb_container.specs.RawString.{raw_bytes};
 ghost use Rattle.pdb_names.specs.Names.{typed_name as name_by_type, if_made, IsText};
@@ -16,7 +16,7 @@ use pdb_resolving::{Error, ModuleProvider, Result};
 use pdb_type_text::{TypeFormatter, function_text_of, id_text_of};
 use std::alloc::{AllocError, Global};
 use std::borrow::CowStr;
-use std::rc::RcStr;
+use std::sync::ArcStr;
 
 /// A text, if it could be made. Want of memory is no missing text.
 fn if_text(made: Result<String>) -> std::result::Result<Option<String>, AllocError>
@@ -37,13 +37,6 @@ fn raw_text<'n>(alloc: Global, name: &RawString<'n>) -> std::result::Result<CowS
         Ok(text) => Ok(text),
         Err(_) => Err(AllocError),
     }
-}
-
-/// A name as it is stored, as text: bytes that are no text are replaced.
-fn raw_name(alloc: Global, name: &RawString<'_>) -> std::result::Result<String, AllocError>
-    ensures { IfOk result (λ t. string_bytes t ≡ utf8_lossy (raw_bytes name.now)) }
-{
-    String::from_utf8_lossy(alloc, name.as_bytes())
 }
 
 /// The name of an inlined function by its id in the IPI, as the module of a number has it; `None` where no text can be made of
@@ -86,8 +79,8 @@ pub fn typed_name<P: ModuleProvider>(
 pub fn if_named(
     alloc: Global,
     name: &Option<RawString<'_>>,
-) -> std::result::Result<Option<RcStr>, AllocError>
-    ensures { IfOk result (λ n. option_map rc_str_bytes n ≡ option_map (λ r. utf8_lossy (raw_bytes r)) name.now) }
+) -> std::result::Result<Option<ArcStr>, AllocError>
+    ensures { IfOk result (λ n. option_map arc_str_bytes n ≡ option_map (λ r. utf8_lossy (raw_bytes r)) name.now) }
 {
     match name {
         None => Ok(None),
@@ -102,30 +95,30 @@ pub fn if_named(
 pub fn shared_raw_name(
     alloc: Global,
     name: &RawString<'_>,
-) -> std::result::Result<RcStr, AllocError>
-    ensures { IfOk result (λ t. rc_str_bytes t ≡ utf8_lossy (raw_bytes name.now)) }
+) -> std::result::Result<ArcStr, AllocError>
+    ensures { IfOk result (λ t. arc_str_bytes t ≡ utf8_lossy (raw_bytes name.now)) }
 {
-    let name = raw_name(alloc, name)?;
-    RcStr::from_string(name)
+    let name = String::from_utf8_lossy(alloc, name.as_bytes())?;
+    ArcStr::from_string(name)
 }
 
 /// A name that may be missing, to be shared; it takes no more room than it needs.
-pub fn shared_name(name: Option<String>) -> std::result::Result<Option<RcStr>, AllocError>
-    ensures { IfOk result (λ n. option_map rc_str_bytes n ≡ option_map string_bytes name) }
+pub fn shared_name(name: Option<String>) -> std::result::Result<Option<ArcStr>, AllocError>
+    ensures { IfOk result (λ n. option_map arc_str_bytes n ≡ option_map string_bytes name) }
 {
     match name {
         None => Ok(None),
         Some(mut name) => {
             name.shrink_to_fit();
-            let name = RcStr::from_string(name)?;
+            let name = ArcStr::from_string(name)?;
             Ok(Some(name))
         }
     }
 }
 
 /// The same name that may be missing, shared once more.
-pub fn share_name(name: &Option<RcStr>) -> std::result::Result<Option<RcStr>, AllocError>
-    ensures { IfOk result (λ n. option_map rc_str_bytes n ≡ option_map rc_str_bytes name.now) }
+pub fn share_name(name: &Option<ArcStr>) -> std::result::Result<Option<ArcStr>, AllocError>
+    ensures { IfOk result (λ n. option_map arc_str_bytes n ≡ option_map arc_str_bytes name.now) }
 {
     match name {
         None => Ok(None),

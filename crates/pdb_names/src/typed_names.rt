@@ -1,7 +1,7 @@
 //! The names of procedures that were asked for.
 
 ghost use Rattle.std.specs.Prelude.{◌≡◌, ◌↔◌, ℕ, true, IfOk, List, Option, option_map};
-ghost use Rattle.std.specs.Rc.{rc_str_bytes};
+ghost use Rattle.std.specs.Arc.{arc_str_bytes};
 ghost use Rattle.pdb_names.specs.Names.{typed_name as name_by_type};
 ghost use Rattle.pdb_names.specs.TypedNames.{AreTyped, IsNamedBy, typed_text};
 ghost use Rattle.pdb_type_text.specs.Printing.{env_of};
@@ -14,7 +14,7 @@ use pdb_module_data::Procedure;
 use pdb_resolving::ModuleProvider;
 use pdb_type_text::TypeFormatter;
 use std::alloc::{AllocError, Global};
-use std::rc::RcStr;
+use std::sync::ArcStr;
 
 /// A procedure's name by its type, with what it was made of.
 #[derive(Drop)]
@@ -24,7 +24,7 @@ pub struct TypedName<'a> {
     /// The index of its type.
     type_index: TypeIndex,
     /// The text; `None` where none can be made.
-    text: Option<RcStr>,
+    text: Option<ArcStr>,
 }
 
 impl<'a> TypedName<'a> {
@@ -62,11 +62,11 @@ impl<'a> TypedNames<'a> {
         module_index: u16,
         number: usize,
         procedure: &Procedure<'a>,
-    ) -> Result<Option<RcStr>, AllocError>
+    ) -> Result<Option<ArcStr>, AllocError>
         requires { AreTyped (typed_text P.provided formatter.old) self.old }
         ensures kept { AreTyped (typed_text P.provided formatter.old) self.new }
         ensures same { formatter.new ≡ formatter.old }
-        ensures name { IfOk result (λ n. option_map rc_str_bytes n ≡ name_by_type (env_of P.provided formatter.old module_index) procedure.now) }
+        ensures name { IfOk result (λ n. option_map arc_str_bytes n ≡ name_by_type (env_of P.provided formatter.old module_index) procedure.now) }
     {
         if let Some(name) = self.by_number.get(module_index, number) {
             if name.is_of(procedure) {

@@ -5,13 +5,13 @@ ghost use Rattle.std.specs.List.{flat_map};
 ghost use Rattle.pdb_resolving.specs.Fault.{Fault};
 ghost use Rattle.pdb_report_texts.specs.AddressText.{eight_digits, frame_text, answer_text, number_text, text_or};
 ghost use Rattle.std.specs.Cow.{cow_str_bytes};
-ghost use Rattle.std.specs.Rc.{rc_str_bytes};
+ghost use Rattle.std.specs.Arc.{arc_str_bytes};
 
 use itoa::Buffer;
 use pdb_functions::{SharedFrame, SharedFunctionFrames};
 use std::alloc::AllocError;
 use std::borrow::CowStr;
-use std::rc::RcStr;
+use std::sync::ArcStr;
 
 /// Appends the line of a frame.
 fn append_frame(text: &mut String, frame: &SharedFrame<'_>) -> Result<(), AllocError>
@@ -40,8 +40,8 @@ fn append_line_number(text: &mut String, line: Option<u32>) -> Result<(), AllocE
 }
 
 /// The text, or two question marks.
-fn text_or_unknown(text: &Option<RcStr>) -> &str
-    ensures { result.now ≡ text_or (option_map rc_str_bytes text.now) }
+fn text_or_unknown(text: &Option<ArcStr>) -> &str
+    ensures { result.now ≡ text_or (option_map arc_str_bytes text.now) }
 {
     match text {
         None => "??",
