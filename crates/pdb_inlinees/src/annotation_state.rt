@@ -54,55 +54,37 @@ fn moved_column(column: Option<u32>, columns: i32) -> Option<u32>
 }
 
 impl AnnotationState {
-    /// What holds behind an annotation.
-    pub(crate) fn behind(self, annotation: BinaryAnnotation) -> AnnotationState
-        ensures { result ≡ state_behind self annotation }
+    /// Goes on to what holds behind an annotation.
+    pub(crate) fn pass(&mut self, annotation: BinaryAnnotation)
+        ensures { self.new ≡ state_behind self.old annotation }
     {
         match annotation {
-            BinaryAnnotation::CodeOffset(offset) => AnnotationState { offset, ..self },
-            BinaryAnnotation::ChangeCodeOffsetBase(base) => AnnotationState { base, ..self },
-            BinaryAnnotation::ChangeCodeOffset(offset) => AnnotationState {
-                offset: self.offset.wrapping_add(offset),
-                ..self
-            },
-            BinaryAnnotation::ChangeCodeLength(length) => AnnotationState {
-                offset: self.offset.wrapping_add(length),
-                ..self
-            },
-            BinaryAnnotation::ChangeFile(file) => AnnotationState { file, ..self },
-            BinaryAnnotation::ChangeLineOffset(lines) => AnnotationState {
-                line: self.line.wrapping_add(lines.cast_unsigned()),
-                ..self
-            },
-            BinaryAnnotation::ChangeLineEndDelta(line_length) => AnnotationState {
-                line_length,
-                ..self
-            },
-            BinaryAnnotation::ChangeRangeKind(number) => AnnotationState {
-                kind: kind_by(number, self.kind),
-                ..self
-            },
-            BinaryAnnotation::ChangeColumnStart(column) => AnnotationState {
-                first_column: Some(column),
-                ..self
-            },
-            BinaryAnnotation::ChangeColumnEndDelta(columns) => AnnotationState {
-                last_column: moved_column(self.last_column, columns),
-                ..self
-            },
-            BinaryAnnotation::ChangeCodeOffsetAndLineOffset(offset, lines) => AnnotationState {
-                offset: self.offset.wrapping_add(offset),
-                line: self.line.wrapping_add(lines.cast_unsigned()),
-                ..self
-            },
-            BinaryAnnotation::ChangeCodeLengthAndCodeOffset(_, offset) => AnnotationState {
-                offset: self.offset.wrapping_add(offset),
-                ..self
-            },
-            BinaryAnnotation::ChangeColumnEnd(column) => AnnotationState {
-                last_column: Some(column),
-                ..self
-            },
+            BinaryAnnotation::CodeOffset(offset) => self.offset = offset,
+            BinaryAnnotation::ChangeCodeOffsetBase(base) => self.base = base,
+            BinaryAnnotation::ChangeCodeOffset(offset) => {
+                self.offset = self.offset.wrapping_add(offset);
+            }
+            BinaryAnnotation::ChangeCodeLength(length) => {
+                self.offset = self.offset.wrapping_add(length);
+            }
+            BinaryAnnotation::ChangeFile(file) => self.file = file,
+            BinaryAnnotation::ChangeLineOffset(lines) => {
+                self.line = self.line.wrapping_add(lines.cast_unsigned());
+            }
+            BinaryAnnotation::ChangeLineEndDelta(line_length) => self.line_length = line_length,
+            BinaryAnnotation::ChangeRangeKind(number) => self.kind = kind_by(number, self.kind),
+            BinaryAnnotation::ChangeColumnStart(column) => self.first_column = Some(column),
+            BinaryAnnotation::ChangeColumnEndDelta(columns) => {
+                self.last_column = moved_column(self.last_column, columns);
+            }
+            BinaryAnnotation::ChangeCodeOffsetAndLineOffset(offset, lines) => {
+                self.offset = self.offset.wrapping_add(offset);
+                self.line = self.line.wrapping_add(lines.cast_unsigned());
+            }
+            BinaryAnnotation::ChangeCodeLengthAndCodeOffset(_, offset) => {
+                self.offset = self.offset.wrapping_add(offset);
+            }
+            BinaryAnnotation::ChangeColumnEnd(column) => self.last_column = Some(column),
         }
     }
 

@@ -7,13 +7,14 @@ ghost use Rattle.pdb_annotations.specs.Annotations.{is_emitting};
 ghost use Rattle.pdb_annotations.specs.declared.annotation.BinaryAnnotation.{BinaryAnnotation as Annotation};
 ghost use Rattle.pdb_inlinees.specs.InlinedRows.{all_rows, place_behind, length_by};
 ghost use Rattle.pdb_inlinees.specs.Operands.{own_length, given_length};
-ghost use Rattle.pdb_inlinees.specs.RowsToCome.{completed, rows_ahead, to_come, row_in_front};
+ghost use Rattle.pdb_inlinees.specs.RowsToCome.{rows_ahead, to_come, row_in_front};
 
 use crate::annotation_state::AnnotationState;
 use pdb_annotations::{BinaryAnnotation, BinaryAnnotationsIter};
 use pdb_container::{Error, FallibleIterator, Result};
 use pdb_subsections::{LineInfo, LineInfoKind};
 use std::marker::Model;
+use std::mem::replace;
 
 /// The length that an annotation gives its row.
 fn length_of(annotation: BinaryAnnotation) -> Option<u32>
@@ -30,7 +31,9 @@ fn length_of(annotation: BinaryAnnotation) -> Option<u32>
 fn place_at(origin: AnnotationState, annotation: BinaryAnnotation) -> u32
     ensures { result ≡ place_behind origin (annotation ∷ []) }
 {
-    origin.behind(annotation).place()
+    let mut next = origin;
+    next.pass(annotation);
+    next.place()
 }
 
 /// How far that row lies behind an offset, if the annotation gives one and it doesn't lie before that.
@@ -66,47 +69,24 @@ fn length_at(origin: AnnotationState, row: LineInfo, annotation: BinaryAnnotatio
     }
 }
 
-/// A row with this length, unless it has one.
-fn complete(row: LineInfo, length: Option<u32>) -> LineInfo
-    ensures { result ≡ completed row length }
-{
-    LineInfo {
-        length: row.length.or(length),
-        ..row
-    }
-}
-
-/// What an annotation leaves: what is in force behind it, a row that waits for its length, and a row that is whole.
-#[derive(Clone, Copy)]
-struct Passed {
-    origin: AnnotationState,
-    waiting: Option<LineInfo>,
-    whole: Option<LineInfo>,
-}
-
-/// One step over an annotation, where a row may wait for its length.
+/// Goes over an annotation, where a row may wait for its length; the row that is whole behind it.
 #[tactic(auto, using(crate::proofs::Steps::first_row, crate::proofs::Steps::next_row, crate::proofs::Steps::still_none, crate::proofs::Steps::still_open))]
-fn pass(origin: AnnotationState, waiting: Option<LineInfo>, annotation: BinaryAnnotation) -> Passed
-    ensures rows { (after : List Annotation) → rows_ahead origin waiting (annotation ∷ after) ≡ row_in_front result.whole (rows_ahead result.origin result.waiting after) }
-    ensures waits { IfSome result.whole (λ _. IsSome result.waiting) }
+fn pass(
+    origin: &mut AnnotationState,
+    waiting: &mut Option<LineInfo>,
+    annotation: BinaryAnnotation,
+) -> Option<LineInfo>
+    ensures rows { (after : List Annotation) → rows_ahead origin.old waiting.old (annotation ∷ after) ≡ row_in_front result (rows_ahead origin.new waiting.new after) }
+    ensures waits { IfSome result (λ _. IsSome waiting.new) }
 {
-    let next = origin.behind(annotation);
-    let before = match waiting {
-        None => None,
-        Some(row) => Some(complete(row, length_at(origin, row, annotation))),
-    };
+    if let Some(row) = waiting {
+        row.length = row.length.or(length_at(*origin, *row, annotation));
+    }
+    origin.pass(annotation);
     if annotation.emits_line_info() {
-        Passed {
-            origin: next,
-            waiting: Some(next.row(length_of(annotation))),
-            whole: before,
-        }
+        replace(waiting, Some(origin.row(length_of(annotation))))
     } else {
-        Passed {
-            origin: next,
-            waiting: before,
-            whole: None,
-        }
+        None
     }
 }
 
@@ -160,10 +140,7 @@ impl<'a> FallibleIterator for InlineeLineIterator<'a> {
         loop {
             match self.annotations.next() {
                 Ok(Some(annotation)) => {
-                    let passed = pass(self.origin, self.waiting, annotation);
-                    self.origin = passed.origin;
-                    self.waiting = passed.waiting;
-                    if let Some(row) = passed.whole {
+                    if let Some(row) = pass(&mut self.origin, &mut self.waiting, annotation) {
                         return Ok(Some(row));
                     }
                 }

@@ -16,6 +16,9 @@ use pdb_symbols::{Symbol, SymbolData, SymbolIter};
 use std::alloc::{AllocError, AllocFailed, Global};
 use std::marker::Model;
 
+/// Room that is taken ahead for sites, so that a list of few of them isn't moved as it grows.
+const SITES_AHEAD: usize = 16;
+
 /// How deep a site may lie in others.
 const MAXIMUM_DEPTH: usize = 65_535;
 
@@ -171,7 +174,7 @@ fn scan_sites<'t>(
 ) -> Result<Vec<Site<'t>>, SitesError>
     ensures { Reads (λ v. v.items) result (sites_from symbols.entry.bytes limit symbols.entry.place) }
 {
-    let mut sites = Vec::new(alloc);
+    let mut sites = Vec::with_capacity(alloc, SITES_AHEAD)?;
     let mut below = Vec::new(alloc);
     let mut top = Open { limit, site: None };
     while let Some(symbol) = symbols.next()? {

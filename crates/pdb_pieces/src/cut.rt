@@ -7,6 +7,9 @@ use crate::span::{Mark, Span, better_of};
 use std::alloc::{AllocError, Global};
 use std::mem::swap;
 
+/// Room that is taken ahead for the ends of runs, so that a list of few of them isn't moved as it grows.
+const RUNS_AHEAD: usize = 16;
+
 /// What stands from a place on, and before which bound it may change.
 #[derive(Clone, Copy)]
 struct Ahead {
@@ -129,7 +132,7 @@ fn run_ends(alloc: Global, spans: &[Span]) -> Result<Vec<usize>, AllocError>
     requires { AreWide spans.now }
     ensures { IfOk result (λ v. AreRuns spans.now 0 v.items (length spans.now)) }
 {
-    let mut ends = Vec::new(alloc);
+    let mut ends = Vec::with_capacity(alloc, RUNS_AHEAD)?;
     let mut end = 0;
     let mut i = 0;
     while i < spans.len() {
@@ -185,8 +188,11 @@ pub fn cut(alloc: Global, spans: &[Span]) -> Result<Vec<Span>, AllocError>
 {
     let mut runs = joined(alloc, spans)?;
     let mut ends = run_ends(alloc, &runs)?;
-    let mut merged = Vec::new(alloc);
-    let mut merged_ends = Vec::new(alloc);
+    if ends.len() == 1 {
+        return Ok(runs);
+    }
+    let mut merged = Vec::with_capacity(alloc, runs.len().saturating_mul(2))?;
+    let mut merged_ends = Vec::with_capacity(alloc, ends.len())?;
     while ends.len() > 1 {
         merge_pairs(&runs, &ends, &mut merged, &mut merged_ends)?;
         swap(&mut runs, &mut merged);

@@ -36,8 +36,9 @@ impl Pieces {
     pub fn new(alloc: Global, spans: &[Span]) -> Result<Self, AllocError>
         ensures { IfOk result (λ pieces. (p : ℕ) → best pieces p ≡ best spans.now p) }
     {
-        let mut spans = cut(alloc, spans)?;
-        spans.shrink_to_fit();
+        let pieces = cut(alloc, spans)?;
+        let mut spans = Vec::with_capacity(alloc, pieces.len())?;
+        spans.extend_from_slice(&pieces)?;
         let starts = starts_of(alloc, &spans)?;
         Ok(Pieces { spans, starts })
     }

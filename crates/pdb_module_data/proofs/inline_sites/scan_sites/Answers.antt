@@ -46,9 +46,9 @@ loop-below-preserved-in-Plain c =
 pub loop-below-smaller-in-Plain : goal.loop-below-smaller-in-Plain
 loop-below-smaller-in-Plain c = (found (goal.at.loop-below-smaller-in-Plain c).In-Some).fewer
 
-pub loop-below-preserved-in-Continue-branch-3 : goal.loop-below-preserved-in-Continue-branch-3
-loop-below-preserved-in-Continue-branch-3 c =
-    let f = found (goal.at.loop-below-preserved-in-Continue-branch-3 c).In-Some in
+pub loop-below-preserved-in-Continue-branch-4 : goal.loop-below-preserved-in-Continue-branch-4
+loop-below-preserved-in-Continue-branch-4 c =
+    let f = found (goal.at.loop-below-preserved-in-Continue-branch-4 c).In-Some in
     let past : nested_past c.next.new.self.bytes c.in-Some.symbol.index c.in-Nested.end ≡ Ok c.skip_nested.new.symbols.place =
     ap (λ i. nested_past c.next.new.self.bytes i c.in-Nested.end) (sym c.index-in-Nested.ensures) ∙ c.in_ok-skip_nested-in-Nested.ensures.place in
     record {
@@ -56,9 +56,9 @@ loop-below-preserved-in-Continue-branch-3 c =
           ∙ c.loop-below.invariant.same;
     }
 
-pub loop-below-smaller-in-Continue-branch-3 : goal.loop-below-smaller-in-Continue-branch-3
-loop-below-smaller-in-Continue-branch-3 c =
-    let f = found (goal.at.loop-below-smaller-in-Continue-branch-3 c).In-Some in
+pub loop-below-smaller-in-Continue-branch-4 : goal.loop-below-smaller-in-Continue-branch-4
+loop-below-smaller-in-Continue-branch-4 c =
+    let f = found (goal.at.loop-below-smaller-in-Continue-branch-4 c).In-Some in
     let past : nested_past c.next.new.self.bytes c.in-Some.symbol.index c.in-Nested.end ≡ Ok c.skip_nested.new.symbols.place =
     ap (λ i. nested_past c.next.new.self.bytes i c.in-Nested.end) (sym c.index-in-Nested.ensures) ∙ c.in_ok-skip_nested-in-Nested.ensures.place in
     nested_fewer c.loop-below.symbols c.next.new.self c.skip_nested.new.symbols c.in-Some.symbol c.in-Nested.end f past c.in_ok-skip_nested-in-Nested.ensures.bytes
