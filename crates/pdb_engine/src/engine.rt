@@ -20,24 +20,26 @@ use std::io::{ErrorKind, Read, Write};
 const CHUNK_SIZE: usize = 65_536;
 
 /// Answers every line of the reader's input, of which at most `limit` bytes are read, and writes
-/// nothing else; what answers ends with it. A last line that no newline ends counts if it has a byte.
+/// nothing else. A last line that no newline ends counts if it has a byte.
 /// The answers to the lines that a read ends are out before the next read, in as few writes as their length allows.
 ///
 /// # Errors
 /// `Read` and `Write` at the first call that failed, and `InputTooLong` past `limit` bytes. At `Read`,
 /// and at `InputTooLong` for the first `limit` bytes, the lines that newlines end are answered. `OutOfMemory`
 /// where memory ran out, in whichever call.
-pub fn run<A: Answers + Drop, R: Read, W: Write>(
+pub fn run<A: Answers, R: Read, W: Write>(
     alloc: Global,
-    mut answers: A,
+    answers: &mut A,
     reader: &mut Watched<R>,
     writer: &mut Watched<W>,
     limit: u64,
 ) -> Result<(), InputFault>
     // Every line is answered, and nothing else is written.
-    requires { (line : List ℕ) → A.text answers (take 12 line) ≡ A.text answers line }
+    requires { (line : List ℕ) → A.text answers.old (take 12 line) ≡ A.text answers.old line }
     ensures ok { OnOk result (IfSome (R.remaining (inner_of reader.old)) (λ input. (length input ≤ limit)
-        × Writes W.contents writer.old writer.new (report (A.text answers) input))) }
+        × Writes W.contents writer.old writer.new (report (A.text answers.old) input))) }
+    // Running changes no answer.
+    ensures same { A.text answers.new ≡ A.text answers.old }
     // No call failed unnoticed, and no fault is made up.
     ensures quiet { OnOk result (IsQuiet reader.old reader.new × IsQuiet writer.old writer.new) }
     ensures kind { IfErr result IsOfRunning }
@@ -45,24 +47,18 @@ pub fn run<A: Answers + Drop, R: Read, W: Write>(
     ensures write_fails { IfErr result (λ fault. OnWrite fault (λ kind. CountsFailure writer.old writer.new kind)) }
     // The lines that were read whole before a failed read are answered.
     ensures read_out { IfErr result (λ fault. OnRead fault (λ _. (taken : List ℕ) × Takes R.remaining reader.old reader.new taken
-        × Writes W.contents writer.old writer.new (report_of_ended (A.text answers) taken))) }
+        × Writes W.contents writer.old writer.new (report_of_ended (A.text answers.old) taken))) }
     ensures too_long { IfErr result (λ fault. OnTooLong fault (IfSome (R.remaining (inner_of reader.old)) (λ input. (limit < length input)
-        × Writes W.contents writer.old writer.new (report_of_ended (A.text answers) (take limit input))))) }
+        × Writes W.contents writer.old writer.new (report_of_ended (A.text answers.old) (take limit input))))) }
     // At each fault a front of the report is out.
-    ensures part { OnErr result (IfSome (R.remaining (inner_of reader.old)) (λ input. WritesFront W.contents writer.old writer.new (report (A.text answers) input))) }
+    ensures part { OnErr result (IfSome (R.remaining (inner_of reader.old)) (λ input. WritesFront W.contents writer.old writer.new (report (A.text answers.old) input))) }
 {
     let Ok(mut chunk) = vec![in alloc; 0u8; CHUNK_SIZE] else {
         return Err(InputFault::OutOfMemory);
     };
     let mut start = LineStart::new();
     match pump(
-        alloc,
-        &mut answers,
-        reader,
-        writer,
-        &mut start,
-        &mut chunk,
-        limit,
+        alloc, answers, reader, writer, &mut start, &mut chunk, limit,
     ) {
         Ok(()) => {}
         Err(fault) => return Err(fault),
@@ -70,7 +66,7 @@ pub fn run<A: Answers + Drop, R: Read, W: Write>(
     if start.bytes().is_empty() {
         return Ok(());
     }
-    match answer_line(alloc, &mut answers, writer, start.bytes()) {
+    match answer_line(alloc, answers, writer, start.bytes()) {
         Ok(()) => {}
         Err(fault) => return Err(fault),
     }

@@ -16,9 +16,27 @@ use pdb_engine::{InputFault, Watched, run};
 use pdb_report_texts::RunFault;
 use std::alloc::Global;
 use std::io::{Read, Write};
+use std::mem::forget;
 
 /// The most bytes of input that a run reads.
 const INPUT_LIMIT: u64 = 1 << 30;
+
+/// What becomes of the memory that a run's context keeps, once the run ends.
+#[derive(Clone, Copy, Debug, PartialEq, Eq)]
+pub enum AtEnd {
+    /// It is given back, one piece after another.
+    GiveBack,
+    /// It is left to the process, which ends and gives back all of it at once.
+    LeaveToProcess,
+}
+
+/// Gives back what a value holds, or leaves it to the process.
+fn let_go<T: Drop>(value: T, at_end: AtEnd) {
+    match at_end {
+        AtEnd::GiveBack => drop(value),
+        AtEnd::LeaveToProcess => forget(value),
+    }
+}
 
 /// Answers the lines of the reader by a file that was loaded.
 ///
@@ -30,6 +48,7 @@ fn answer_lines<R: Read, W: Write>(
     symbolizer: &Symbolizer,
     reader: &mut Watched<R>,
     writer: &mut Watched<W>,
+    at_end: AtEnd,
 ) -> Result<(), InputFault>
     ensures ok { OnOk result (IfSome (R.remaining (inner_of reader.old)) (λ input. (length input ≤ 2 ^ 30)
         × Writes W.contents writer.old writer.new (report (line_text (answer (streams symbolizer.now))) input))) }
@@ -46,13 +65,10 @@ fn answer_lines<R: Read, W: Write>(
     match symbolizer.context(alloc) {
         Ok(context) => {
             let room = String::new(alloc);
-            run(
-                alloc,
-                LineAnswers { context, room },
-                reader,
-                writer,
-                INPUT_LIMIT,
-            )
+            let mut answers = LineAnswers { context, room };
+            let outcome = run(alloc, &mut answers, reader, writer, INPUT_LIMIT);
+            let_go(answers, at_end);
+            outcome
         }
         Err(_) => Err(InputFault::OutOfMemory),
     }
@@ -68,6 +84,7 @@ fn frames_of<R: Read, W: Write>(
     symbolizer: &Symbolizer,
     reader: &mut Watched<R>,
     writer: &mut Watched<W>,
+    at_end: AtEnd,
 ) -> Result<(), RunFault>
     ensures load { IfErr result (λ fault. OnLoad fault (λ _. ⊥)) }
     ensures kind { IfErr result IsOfFrames }
@@ -82,7 +99,7 @@ fn frames_of<R: Read, W: Write>(
         × Writes W.contents writer.old writer.new (report_of_ended (line_text (answer (streams symbolizer.now))) (take (2 ^ 30) input))))) }
     ensures part { OnErr result (IfSome (R.remaining (inner_of reader.old)) (λ input. WritesFront W.contents writer.old writer.new (report (line_text (answer (streams symbolizer.now))) input))) }
 {
-    match answer_lines(alloc, symbolizer, reader, writer) {
+    match answer_lines(alloc, symbolizer, reader, writer, at_end) {
         Ok(()) => Ok(()),
         Err(fault) => Err(RunFault::from(fault)),
     }
@@ -94,7 +111,6 @@ fn frames_of<R: Read, W: Write>(
 /// # Errors
 /// `Load` where the file has a loading fault, and then nothing was read and nothing written; `Read` and `Write` where
 /// that end failed in this call; `InputTooLong` past 2^30 bytes of input; `OutOfMemory`.
-#[tactic(auto, using(crate::proofs::OpeningSteps::run_refused))]
 pub fn run_frames<R: Read, W: Write>(
     alloc: Global,
     bytes: Vec<u8>,
@@ -123,8 +139,47 @@ pub fn run_frames<R: Read, W: Write>(
     // At every fault what is out is the front of the report.
     ensures part { OnErr result (IfSome (R.remaining (inner_of reader.old)) (λ input. WritesFront W.contents writer.old writer.new (report (line_text (answer (streams bytes.items))) input))) }
 {
+    run_frames_ending(alloc, bytes, reader, writer, AtEnd::GiveBack)
+}
+
+/// As [`run_frames`], with a say in what becomes of the memory that the run's context keeps: a process that ends behind the run can
+/// be left to give it back.
+///
+/// # Errors
+/// `Load` where the file has a loading fault, and then nothing was read and nothing written; `Read` and `Write` where
+/// that end failed in this call; `InputTooLong` past 2^30 bytes of input; `OutOfMemory`.
+#[tactic(auto, using(crate::proofs::OpeningSteps::run_refused))]
+pub fn run_frames_ending<R: Read, W: Write>(
+    alloc: Global,
+    bytes: Vec<u8>,
+    reader: &mut Watched<R>,
+    writer: &mut Watched<W>,
+    at_end: AtEnd,
+) -> Result<(), RunFault>
+    // The loading fault is returned where the file has one, with both ends untouched; every other end but out of
+    // memory says that there is none.
+    ensures load { IfErr result (λ fault. OnLoad fault (λ cause. IsFileFault cause (load_fault (streams bytes.items)) × ((reader.new ≡ reader.old) × (writer.new ≡ writer.old)))) }
+    ensures loaded { UnlessLoad result (load_fault (streams bytes.items) ≡ None) }
+    ensures kind { IfErr result IsOfFrames }
+    // Out of memory is returned with both ends untouched, or where there is none.
+    ensures memory { IfErr result (λ fault. OnMemory fault ((load_fault (streams bytes.items) ≡ None) ⊎ ((reader.new ≡ reader.old) × (writer.new ≡ writer.old)))) }
+    // Where the run ends well, the report on the whole input is out, and neither end failed.
+    ensures ok { OnOk result (IfSome (R.remaining (inner_of reader.old)) (λ input. (length input ≤ 2 ^ 30)
+        × Writes W.contents writer.old writer.new (report (line_text (answer (streams bytes.items))) input))) }
+    ensures quiet { OnOk result (IsQuiet reader.old reader.new × IsQuiet writer.old writer.new) }
+    // A failed read or write is one of this call, with its kind.
+    ensures read_fails { IfErr result (λ fault. OnRead fault (λ kind. CountsFailure reader.old reader.new kind)) }
+    ensures write_fails { IfErr result (λ fault. OnWrite fault (λ kind. CountsFailure writer.old writer.new kind)) }
+    // The complete lines before a failed read, and those of a too long input, are answered.
+    ensures read_out { IfErr result (λ fault. OnRead fault (λ _. (taken : List ℕ) × Takes R.remaining reader.old reader.new taken
+        × Writes W.contents writer.old writer.new (report_of_ended (line_text (answer (streams bytes.items))) taken))) }
+    ensures too_long { IfErr result (λ fault. OnTooLong fault (IfSome (R.remaining (inner_of reader.old)) (λ input. (2 ^ 30 < length input)
+        × Writes W.contents writer.old writer.new (report_of_ended (line_text (answer (streams bytes.items))) (take (2 ^ 30) input))))) }
+    // At every fault what is out is the front of the report.
+    ensures part { OnErr result (IfSome (R.remaining (inner_of reader.old)) (λ input. WritesFront W.contents writer.old writer.new (report (line_text (answer (streams bytes.items))) input))) }
+{
     match Symbolizer::open(alloc, bytes) {
-        Ok(symbolizer) => frames_of(alloc, &symbolizer, reader, writer),
+        Ok(symbolizer) => frames_of(alloc, &symbolizer, reader, writer, at_end),
         Err(fault) => Err(RunFault::from(fault)),
     }
 }

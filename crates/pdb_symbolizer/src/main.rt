@@ -3,8 +3,8 @@
 #![tactic(auto)]
 
 pub use pdb_report::{
-    Error, LoadFault, RunFault, Symbolizer, Tally, Watched, finish_run, parse_address, read_file,
-    run_frames, run_sizes,
+    AtEnd, Error, LoadFault, RunFault, Symbolizer, Tally, Watched, finish_run, parse_address,
+    read_file, run_frames, run_frames_ending, run_sizes,
 };
 pub use pdb_words::{Task, TextOutput, WordsFault, read_words, tell_words};
 use std::alloc::Global;
@@ -46,7 +46,13 @@ fn main(rt: HostRuntime) -> ExitCode {
     let mut reader = Watched::new(rt.stdin());
     let mut writer = Watched::new(rt.stdout());
     let outcome = match task {
-        Task::Frames { .. } => run_frames(rt.alloc(), bytes, &mut reader, &mut writer),
+        Task::Frames { .. } => run_frames_ending(
+            rt.alloc(),
+            bytes,
+            &mut reader,
+            &mut writer,
+            AtEnd::LeaveToProcess,
+        ),
         Task::Sizes { start, end, .. } => count_sizes(rt.alloc(), bytes, start, end, &mut writer),
     };
     ExitCode::from(finish_run(outcome, &mut errors))

@@ -7,7 +7,7 @@ use Rattle.pdb_report_texts.specs.AddressText.{line_text}
 use Rattle.pdb_report.specs.Answer.{answer}
 use Rattle.pdb_report_texts.specs.RunFaults.{OnRead, OnTooLong}
 use Rattle.pdb_report_texts.proofs.InputFaultSteps.{all_never_load, all_if_memory, unless_load}
-use Rattle.pdb_report.proofs.report.run_frames.Goals as goal
+use Rattle.pdb_report.proofs.report.run_frames_ending.Goals as goal
 
 -- a file that was loaded has no fault
 pub returns-in-Ok-clause-load : goal.returns-in-Ok-clause-load
