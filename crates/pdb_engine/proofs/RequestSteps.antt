@@ -1,15 +1,15 @@
 -- Requests: the lines that bytes end, one byte at a time, and answers to them, one at a time.
-use Rattle.std.proofs.Common.{◌≡◌, ℕ, ◌+◌, ◌<◌, ◌≤◌, List, [], ◌∷◌, ◌++◌, sym, ap, ◌∙◌, append_assoc, append-nil, length, take, drop, get_or, take-append-drop, slice_index_or, slice_set}
+use Rattle.std.proofs.Common.{arith, ◌-◌, length-append, ◌≡◌, ℕ, ◌+◌, ◌<◌, ◌≤◌, List, [], ◌∷◌, ◌++◌, sym, ap, ◌∙◌, append_assoc, append-nil, length, take, drop, get_or, take-append-drop, slice_index_or, slice_set}
 use Rattle.std.specs.Prelude.{Option, Result, Ok, Err, OnErr}
-use Rattle.std.specs.List.{flat_map}
+use Rattle.std.specs.List.{flat_map, slice_range}
 use Rattle.std.specs.Io.KnownBytes.{Appends}
 use Rattle.std.proofs.KnownBytes.{Appends-trans}
-use Rattle.std.proofs.Math.Seq.{map-set_same}
+use Rattle.std.proofs.Math.Seq.{drop-append_seam, map-set_same}
 use Rattle.std.proofs.lemmas.Grind.{flat_map-append}
 use Rattle.std.proofs.lemmas.List.{map-append, take_more, take_all}
 use Rattle.pdb_engine.specs.declared.requests.Request.{Request}
 use Rattle.pdb_engine.specs.InputLines.{kept_lines, kept_rest, Begins}
-use Rattle.pdb_engine.specs.Requests.{lines_of}
+use Rattle.pdb_engine.specs.Requests.{lines_of, IsMade}
 use Rattle.pdb_engine.proofs.LineLemmas.{kept_lines-more}
 
 -- a request takes the place of one of the same line
@@ -23,6 +23,20 @@ lines_more lines lines' kept kept' bytes i h e ek more =
     more ∙ ap (λ l. l ++ kept_lines kept' (get_or bytes i 0 ∷ [])) e
     ∙ ap (λ k. kept_lines kept (take i bytes) ++ kept_lines k (get_or bytes i 0 ∷ [])) ek
     ∙ sym (kept_lines-more kept bytes i h)
+
+-- ---- texts that were made
+
+-- what was put behind a list stands there
+between_added : (xs ys : List ℕ) → slice_range (xs ++ ys) (length xs) (length (xs ++ ys)) ≡ ys
+between_added xs ys = ap (λ l. take (length (xs ++ ys) - length xs) l) (drop-append_seam xs ys) ∙ take_all _ ys (omega (arith, length-append xs ys))
+
+-- a text that is put behind others is made
+pub made_behind : (text : List ℕ → List ℕ) (texts texts' line : List ℕ) → texts' ≡ texts ++ text line → IsMade text texts' line record { start = length texts; end = length texts' }
+made_behind text texts texts' line is = record {
+  order = omega (arith, ap length is, length-append texts (text line));
+  within = omega arith;
+  is = ap (λ l. slice_range l (length texts) (length l)) is ∙ between_added texts (text line);
+}
 
 -- ---- what a writer holds behind the answers to some lines
 

@@ -1,16 +1,23 @@
 -- Lines that wait for their answers, of which some were made.
-use Rattle.std.specs.Prelude.{◌≡◌, ℕ, List, map, IfSome}
-use Rattle.std.specs.List.{All}
+use Rattle.std.specs.Prelude.{◌≡◌, ℕ, ◌≤◌, List, map, length, IfSome}
+use Rattle.std.specs.List.{All, slice_range}
+use Rattle.pdb_engine.specs.declared.requests.Made.{Made}
 use Rattle.pdb_engine.specs.declared.requests.Request.{Request}
 
 -- the lines of requests, each by its first twelve bytes
 abbrev pub lines_of : List Request → List (List ℕ)
 lines_of requests = map (λ r. r.line) requests
 
+-- the text from one place of others on and before another is the answer to the line
+pub record IsMade (text : List ℕ → List ℕ) (texts line : List ℕ) (made : Made) : Type 0 where
+  pub order : made.start ≤ made.end
+  pub within : made.end ≤ length texts
+  pub is : slice_range texts made.start made.end ≡ text line
+
 -- a text that was made for a line is its answer
-abbrev pub IsAnswered : (List ℕ → List ℕ) → Request → Type 0
-IsAnswered text r = IfSome r.text (λ made. made.items ≡ text r.line)
+abbrev pub IsAnswered : (List ℕ → List ℕ) → List ℕ → Request → Type 0
+IsAnswered text texts r = IfSome r.made (IsMade text texts r.line)
 
 -- each text that was made is the answer to its line
-abbrev pub AreAnswered : (List ℕ → List ℕ) → List Request → Type 0
-AreAnswered text requests = All (IsAnswered text) requests
+abbrev pub AreAnswered : (List ℕ → List ℕ) → List ℕ → List Request → Type 0
+AreAnswered text texts requests = All (IsAnswered text texts) requests

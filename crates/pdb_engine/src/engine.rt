@@ -104,6 +104,7 @@ fn pump<A: Answers, R: Read, W: Write>(
     ensures part { OnErr result ((taken : List ℕ) × Takes R.remaining reader.old reader.new taken
         × WritesFront W.contents writer.old writer.new (flat_map (A.text answers.old) (kept_lines start.old taken))) }
 {
+    let mut texts = Vec::new(alloc);
     let mut left = limit;
     'chunks: loop {
         let count = match reader.read(chunk) {
@@ -114,12 +115,19 @@ fn pump<A: Answers, R: Read, W: Write>(
             return Ok(());
         }
         if left < count as u64 {
-            match feed(alloc, answers, writer, start, &chunk[..left as usize]) {
+            match feed(
+                alloc,
+                answers,
+                writer,
+                start,
+                &mut texts,
+                &chunk[..left as usize],
+            ) {
                 Ok(()) => return Err(InputFault::InputTooLong),
                 Err(fault) => return Err(fault),
             }
         }
-        match feed(alloc, answers, writer, start, &chunk[..count]) {
+        match feed(alloc, answers, writer, start, &mut texts, &chunk[..count]) {
             Ok(()) => {}
             Err(fault) => return Err(fault),
         }
@@ -128,7 +136,8 @@ fn pump<A: Answers, R: Read, W: Write>(
 }
 
 /// Answers the lines that the bytes end, all of them before it returns, and keeps the start of the one behind them. The answers are
-/// made in the order of the lines' places, as far as their texts are short together, and written in that of the lines.
+/// made in the order of the lines' places, as far as their texts are short together, in room that is kept for them, and written in that
+/// of the lines.
 ///
 /// # Errors
 /// As [`answer_line`].
@@ -137,6 +146,7 @@ fn feed<A: Answers, W: Write>(
     answers: &mut A,
     writer: &mut Watched<W>,
     start: &mut LineStart,
+    texts: &mut Vec<u8>,
     bytes: &[u8],
 ) -> Result<(), InputFault>
     ensures ok { OnOk result (Writes W.contents writer.old writer.new (flat_map (A.text answers.old) (kept_lines start.old bytes.now))) }
@@ -150,8 +160,8 @@ fn feed<A: Answers, W: Write>(
     let Ok(mut requests) = split(alloc, start, bytes) else {
         return Err(InputFault::OutOfMemory);
     };
-    answer_ahead(alloc, answers, &mut requests);
-    write_answers(alloc, answers, writer, &requests)
+    answer_ahead(alloc, answers, &mut requests, texts);
+    write_answers(alloc, answers, writer, &requests, texts)
 }
 
 /// Writes the answers to lines in the order of the lines, and makes those that weren't made.
@@ -163,8 +173,9 @@ fn write_answers<A: Answers, W: Write>(
     answers: &mut A,
     writer: &mut Watched<W>,
     requests: &[Request],
+    texts: &[u8],
 ) -> Result<(), InputFault>
-    requires { AreAnswered (A.text answers.old) requests.now }
+    requires { AreAnswered (A.text answers.old) texts.now requests.now }
     ensures ok { OnOk result (Writes W.contents writer.old writer.new (flat_map (A.text answers.old) (lines_of requests.now))) }
     ensures same { A.text answers.new ≡ A.text answers.old }
     ensures quiet { OnOk result (IsQuiet writer.old writer.new) }
@@ -174,7 +185,7 @@ fn write_answers<A: Answers, W: Write>(
 {
     let mut pending = Vec::new(alloc);
     for request in requests {
-        gather_answer(alloc, answers, writer, &mut pending, request)?;
+        gather_answer(alloc, answers, writer, &mut pending, request, texts)?;
     }
     write_pending(writer, &mut pending)
 }
@@ -189,8 +200,9 @@ fn gather_answer<A: Answers, W: Write>(
     writer: &mut Watched<W>,
     pending: &mut Vec<u8>,
     request: &Request,
+    texts: &[u8],
 ) -> Result<(), InputFault>
-    requires { IsAnswered (A.text answers.old) request.now }
+    requires { IsAnswered (A.text answers.old) texts.now request.now }
     ensures ok { OnOk result (WritesAllBut W.contents writer.old writer.new pending.new.items (pending.old.items ++ A.text answers.old request.now.line)) }
     // What is pending stays short.
     ensures short { OnOk result (length pending.new.items < 65536) }
@@ -200,7 +212,7 @@ fn gather_answer<A: Answers, W: Write>(
     ensures fails { IfErr result (λ fault. OnWrite fault (λ kind. CountsFailure writer.old writer.new kind)) }
     ensures part { OnErr result (WritesFront W.contents writer.old writer.new (pending.old.items ++ A.text answers.old request.now.line)) }
 {
-    let Ok(()) = append_answer(alloc, answers, request, pending) else {
+    let Ok(()) = append_answer(alloc, answers, request, texts, pending) else {
         return Err(write_last(writer, pending));
     };
     if pending.len() < CHUNK_SIZE {

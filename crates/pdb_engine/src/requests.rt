@@ -8,14 +8,21 @@ use crate::answers::Answers;
 use crate::line_start::LineStart;
 use std::alloc::{AllocError, Global};
 
-/// The most bytes that texts take together which are made before their turn to be written.
+/// From how many bytes on, taken together, no more texts are made before their turn to be written.
 const AHEAD_SIZE: usize = 8_388_608;
 
-/// A line, and the text that answers it, if that was made before its turn to be written.
+/// Where the answer to a line stands among texts that were made: from one place on and before another, in bytes.
+#[derive(Clone, Copy)]
+pub struct Made {
+    pub start: usize,
+    pub end: usize,
+}
+
+/// A line, and where the text that answers it stands, if that was made before its turn to be written.
 #[derive(Drop)]
 pub struct Request {
     pub line: LineStart,
-    pub text: Option<Vec<u8>>,
+    pub made: Option<Made>,
 }
 
 /// When a line is answered: those of lesser places first, and those of one place in their order.
@@ -33,14 +40,14 @@ fn split_byte(
 ) -> Result<(), AllocError>
     ensures lines { OnOk result (lines_of requests.new.items ≡ lines_of requests.old.items ++ kept_lines start.old (byte ∷ [])) }
     ensures rest { OnOk result (start.new ≡ kept_rest start.old (byte ∷ [])) }
-    ensures unanswered { (text : List ℕ → List ℕ) → AreAnswered text requests.old.items → OnOk result (AreAnswered text requests.new.items) }
+    ensures unanswered { (text : List ℕ → List ℕ) (texts : List ℕ) → AreAnswered text texts requests.old.items → OnOk result (AreAnswered text texts requests.new.items) }
 {
     if byte != b'\n' {
         start.push(byte);
         return Ok(());
     }
     let line = start.take();
-    requests.push(Request { line, text: None })?;
+    requests.push(Request { line, made: None })?;
     Ok(())
 }
 
@@ -48,7 +55,7 @@ fn split_byte(
 pub fn split(alloc: Global, start: &mut LineStart, bytes: &[u8]) -> Result<Vec<Request>, AllocError>
     ensures lines { IfOk result (λ requests. lines_of requests.items ≡ kept_lines start.old bytes.now) }
     ensures rest { OnOk result (start.new ≡ kept_rest start.old bytes.now) }
-    ensures unanswered { (text : List ℕ → List ℕ) → IfOk result (λ requests. AreAnswered text requests.items) }
+    ensures unanswered { (text : List ℕ → List ℕ) (texts : List ℕ) → IfOk result (λ requests. AreAnswered text texts requests.items) }
 {
     let mut requests = Vec::new(alloc);
     for byte in bytes {
@@ -71,29 +78,50 @@ fn turns<A: Answers>(
     Ok(turns)
 }
 
-/// Makes the answer to a line before its turn, unless memory is short, or it is longer than what is left for such texts: then
-/// no further one is to be made.
+/// Makes the answer to a line before its turn to be written, behind other texts, unless memory is short or these are long: then no
+/// further one is to be made.
+#[tactic(auto, using(crate::proofs::RequestSteps::made_behind))]
 fn answer_request<A: Answers>(
     alloc: Global,
     answers: &mut A,
     request: &mut Request,
-    left: &mut usize,
+    texts: &mut Vec<u8>,
 ) -> bool
-    requires { IsAnswered (A.text answers.old) request.old }
+    requires { IsAnswered (A.text answers.old) texts.old.items request.old }
     ensures line { request.new.line ≡ request.old.line }
-    ensures answered { IsAnswered (A.text answers.old) request.new }
+    ensures answered { IsAnswered (A.text answers.old) texts.new.items request.new }
+    ensures grown { (more : List ℕ) × (texts.new.items ≡ texts.old.items ++ more) }
     ensures same { A.text answers.new ≡ A.text answers.old }
 {
-    let mut text = Vec::new(alloc);
-    let Ok(()) = answers.answer(alloc, request.line.bytes(), &mut text) else {
-        return false;
-    };
-    if *left < text.len() {
+    let start = texts.len();
+    if start >= AHEAD_SIZE {
         return false;
     }
-    *left -= text.len();
-    request.text = Some(text);
+    let Ok(()) = answers.answer(alloc, request.line.bytes(), texts) else {
+        return false;
+    };
+    let end = texts.len();
+    request.made = Some(Made { start, end });
     true
+}
+
+/// Makes the answer to the line of a number, if there is one.
+fn answer_numbered<A: Answers>(
+    alloc: Global,
+    answers: &mut A,
+    requests: &mut Vec<Request>,
+    index: usize,
+    texts: &mut Vec<u8>,
+) -> bool
+    requires { AreAnswered (A.text answers.old) texts.old.items requests.old.items }
+    ensures lines { lines_of requests.new.items ≡ lines_of requests.old.items }
+    ensures answered { AreAnswered (A.text answers.old) texts.new.items requests.new.items }
+    ensures same { A.text answers.new ≡ A.text answers.old }
+{
+    match requests.get_mut(index) {
+        None => false,
+        Some(request) => answer_request(alloc, answers, request, texts),
+    }
 }
 
 /// Makes answers in turn, as far as there is room for their texts.
@@ -102,31 +130,34 @@ fn answer_in_turn<A: Answers>(
     answers: &mut A,
     requests: &mut Vec<Request>,
     turns: &[Turn],
+    texts: &mut Vec<u8>,
 )
-    requires { AreAnswered (A.text answers.old) requests.old.items }
+    requires { AreAnswered (A.text answers.old) texts.old.items requests.old.items }
     ensures lines { lines_of requests.new.items ≡ lines_of requests.old.items }
-    ensures answered { AreAnswered (A.text answers.old) requests.new.items }
+    ensures answered { AreAnswered (A.text answers.old) texts.new.items requests.new.items }
     ensures same { A.text answers.new ≡ A.text answers.old }
 {
-    let mut left = AHEAD_SIZE;
     for turn in turns {
-        let Some(request) = requests.get_mut(turn.index) else {
-            return;
-        };
-        if !answer_request(alloc, answers, request, &mut left) {
+        if !answer_numbered(alloc, answers, requests, turn.index, texts) {
             return;
         }
     }
 }
 
-/// Makes answers before their turn to be written, in the order of the lines' places, if that is another one. Those that aren't made for
-/// want of memory or of room are left.
-pub fn answer_ahead<A: Answers>(alloc: Global, answers: &mut A, requests: &mut Vec<Request>)
-    requires { AreAnswered (A.text answers.old) requests.old.items }
+/// Makes answers before their turn to be written, one behind the other, in the order of the lines' places, if that is another one than
+/// the lines'. Those that aren't made for want of memory or of room are left.
+pub fn answer_ahead<A: Answers>(
+    alloc: Global,
+    answers: &mut A,
+    requests: &mut Vec<Request>,
+    texts: &mut Vec<u8>,
+)
+    requires { (made : List ℕ) → AreAnswered (A.text answers.old) made requests.old.items }
     ensures lines { lines_of requests.new.items ≡ lines_of requests.old.items }
-    ensures answered { AreAnswered (A.text answers.old) requests.new.items }
+    ensures answered { AreAnswered (A.text answers.old) texts.new.items requests.new.items }
     ensures same { A.text answers.new ≡ A.text answers.old }
 {
+    texts.clear();
     let Ok(mut turns) = turns(alloc, answers, requests) else {
         return;
     };
@@ -134,7 +165,7 @@ pub fn answer_ahead<A: Answers>(alloc: Global, answers: &mut A, requests: &mut V
         return;
     }
     turns.sort_unstable();
-    answer_in_turn(alloc, answers, requests, &turns);
+    answer_in_turn(alloc, answers, requests, &turns, texts);
 }
 
 /// Appends the answer to a line: the text that was made, or else it is made now.
@@ -145,15 +176,16 @@ pub fn append_answer<A: Answers>(
     alloc: Global,
     answers: &mut A,
     request: &Request,
+    texts: &[u8],
     output: &mut Vec<u8>,
 ) -> Result<(), AllocError>
-    requires { IsAnswered (A.text answers.old) request.now }
+    requires { IsAnswered (A.text answers.old) texts.now request.now }
     ensures text { OnOk result (output.new.items ≡ output.old.items ++ A.text answers.old request.now.line) }
     ensures refused { OnErr result (output.new.items ≡ output.old.items) }
     ensures same { A.text answers.new ≡ A.text answers.old }
 {
-    match &request.text {
-        Some(text) => output.extend_from_slice(text),
+    match request.made {
+        Some(made) => output.extend_from_slice(&texts[made.start..made.end]),
         None => answers.answer(alloc, request.line.bytes(), output),
     }
 }

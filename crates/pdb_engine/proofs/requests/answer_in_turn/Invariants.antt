@@ -8,6 +8,6 @@ invariant-loop-turn g l =
     let text = g.A.Answers.text in
     record {
       lines : lines_of l.requests.items ≡ lines_of l.fn.requests.items;
-      answered : AreAnswered (text l.fn.answers) l.requests.items;
+      answered : AreAnswered (text l.fn.answers) l.texts.items l.requests.items;
       same : text l.answers ≡ text l.fn.answers;
     }

@@ -8,5 +8,5 @@ abbrev pub invariant-loop-byte : goal.invariant-loop-byte
 invariant-loop-byte l = record {
   lines : lines_of l.requests.items ≡ kept_lines l.fn.start (take l.byte-index l.bytes);
   rest : l.start ≡ kept_rest l.fn.start (take l.byte-index l.bytes);
-  unanswered : (text : List ℕ → List ℕ) → AreAnswered text l.requests.items;
+  unanswered : (text : List ℕ → List ℕ) (texts : List ℕ) → AreAnswered text texts l.requests.items;
 }
