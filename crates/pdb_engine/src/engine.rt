@@ -160,7 +160,9 @@ fn feed<A: Answers, W: Write>(
     let Ok(mut requests) = split(alloc, start, bytes) else {
         return Err(InputFault::OutOfMemory);
     };
-    answer_ahead(alloc, answers, &mut requests, texts);
+    let Ok(()) = answer_ahead(alloc, answers, &mut requests, texts) else {
+        return Err(InputFault::OutOfMemory);
+    };
     write_answers(alloc, answers, writer, &requests, texts)
 }
 

@@ -78,15 +78,15 @@ fn turns<A: Answers>(
     Ok(turns)
 }
 
-/// Makes the answer to a line before its turn to be written, behind other texts, unless memory is short or these are long: then no
-/// further one is to be made.
+/// Makes the answer to a line before its turn to be written, behind other texts, unless these are long: then no further one is to be
+/// made, and `false` is returned.
 #[tactic(auto, using(crate::proofs::RequestSteps::made_behind))]
 fn answer_request<A: Answers>(
     alloc: Global,
     answers: &mut A,
     request: &mut Request,
     texts: &mut Vec<u8>,
-) -> bool
+) -> Result<bool, AllocError>
     requires { IsAnswered (A.text answers.old) texts.old.items request.old }
     ensures line { request.new.line ≡ request.old.line }
     ensures answered { IsAnswered (A.text answers.old) texts.new.items request.new }
@@ -95,31 +95,29 @@ fn answer_request<A: Answers>(
 {
     let start = texts.len();
     if start >= AHEAD_SIZE {
-        return false;
+        return Ok(false);
     }
-    let Ok(()) = answers.answer(alloc, request.line.bytes(), texts) else {
-        return false;
-    };
+    answers.answer(alloc, request.line.bytes(), texts)?;
     let end = texts.len();
     request.made = Some(Made { start, end });
-    true
+    Ok(true)
 }
 
-/// Makes the answer to the line of a number, if there is one.
+/// Makes the answer to the line of a number, unless there is none or other texts are long: then `false` is returned.
 fn answer_numbered<A: Answers>(
     alloc: Global,
     answers: &mut A,
     requests: &mut Vec<Request>,
     index: usize,
     texts: &mut Vec<u8>,
-) -> bool
+) -> Result<bool, AllocError>
     requires { AreAnswered (A.text answers.old) texts.old.items requests.old.items }
     ensures lines { lines_of requests.new.items ≡ lines_of requests.old.items }
     ensures answered { AreAnswered (A.text answers.old) texts.new.items requests.new.items }
     ensures same { A.text answers.new ≡ A.text answers.old }
 {
     match requests.get_mut(index) {
-        None => false,
+        None => Ok(false),
         Some(request) => answer_request(alloc, answers, request, texts),
     }
 }
@@ -131,41 +129,43 @@ fn answer_in_turn<A: Answers>(
     requests: &mut Vec<Request>,
     turns: &[Turn],
     texts: &mut Vec<u8>,
-)
+) -> Result<(), AllocError>
     requires { AreAnswered (A.text answers.old) texts.old.items requests.old.items }
     ensures lines { lines_of requests.new.items ≡ lines_of requests.old.items }
     ensures answered { AreAnswered (A.text answers.old) texts.new.items requests.new.items }
     ensures same { A.text answers.new ≡ A.text answers.old }
 {
     for turn in turns {
-        if !answer_numbered(alloc, answers, requests, turn.index, texts) {
-            return;
+        if !answer_numbered(alloc, answers, requests, turn.index, texts)? {
+            return Ok(());
         }
     }
+    Ok(())
 }
 
 /// Makes answers before their turn to be written, one behind the other, in the order of the lines' places, if that is another one than
-/// the lines'. Those that aren't made for want of memory or of room are left.
+/// the lines'. Those for which there is no room are left.
+///
+/// # Errors
+/// Where memory ran out; some answers were made then.
 pub fn answer_ahead<A: Answers>(
     alloc: Global,
     answers: &mut A,
     requests: &mut Vec<Request>,
     texts: &mut Vec<u8>,
-)
+) -> Result<(), AllocError>
     requires { (made : List ℕ) → AreAnswered (A.text answers.old) made requests.old.items }
     ensures lines { lines_of requests.new.items ≡ lines_of requests.old.items }
     ensures answered { AreAnswered (A.text answers.old) texts.new.items requests.new.items }
     ensures same { A.text answers.new ≡ A.text answers.old }
 {
     texts.clear();
-    let Ok(mut turns) = turns(alloc, answers, requests) else {
-        return;
-    };
+    let mut turns = turns(alloc, answers, requests)?;
     if turns.is_sorted() {
-        return;
+        return Ok(());
     }
     turns.sort_unstable();
-    answer_in_turn(alloc, answers, requests, &turns, texts);
+    answer_in_turn(alloc, answers, requests, &turns, texts)
 }
 
 /// Appends the answer to a line: the text that was made, or else it is made now.
