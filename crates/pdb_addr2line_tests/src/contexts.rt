@@ -174,7 +174,11 @@ fn copies_of_frames(rt: HostRuntime) -> Result<(), Fail> {
 
 #[test]
 fn frames_with_shared_names(rt: HostRuntime) -> Result<(), Fail> {
-    let text = answer(rt.alloc(), cross_imports(rt.alloc())?, Question::SharedFrames)?;
+    let text = answer(
+        rt.alloc(),
+        cross_imports(rt.alloc())?,
+        Question::SharedFrames,
+    )?;
     assert_eq!(rt;
         text.as_str(),
         r#"SharedFunctionFrames { start_rva: 4112, end_rva: Some(4144), frames: [SharedFrame { function: Some("g()"), file: Some("b.h"), line: Some(3) }, SharedFrame { function: Some("f"), file: Some("a.c"), line: Some(5) }] }"#
