@@ -1,16 +1,14 @@
 -- A call that loads passes a fault of the container on.
-use Rattle.std.proofs.Common.{◌≡◌, ℕ, List, Result, Ok, Err, ap, inl, inr, arith}
+use Rattle.std.proofs.Common.{◌≡◌, ℕ, List, Result, Err, ap, inl, inr, arith}
 use Rattle.std.specs.Prelude.{◌⊎◌, Option, Some}
 use Rattle.pdb_container.specs.declared.error.Error.{Error}
 use Rattle.pdb_container.specs.declared.error.Error.TheVariants as errors
-use Rattle.pdb_container.specs.Fault.{Fault, fault_of, IsOutside, HasRisen, Gives, ◌>>=◌}
+use Rattle.pdb_container.specs.Fault.{Fault, fault_of, IsOutside, HasRisen, ◌>>=◌}
 use Rattle.pdb_report_texts.specs.declared.fault.LoadFault.{LoadFault}
 use Rattle.pdb_report_texts.specs.declared.fault.LoadFault.TheVariants as faults
 use Rattle.pdb_resolving.specs.declared.error.Error.TheVariants as contexts
 use Rattle.pdb_report.specs.Loading.{none_or}
-use Rattle.pdb_resolving.specs.declared.error.Error as context
-use Rattle.pdb_report_texts.specs.Faults.{load_fault_of, load_fault_in_context, lifted, in_loading, FailsLoading, LoadingFault}
-use Rattle.pdb_resolving.specs.Fault as answers
+use Rattle.pdb_report_texts.specs.Faults.{load_fault_of, lifted, FailsLoading, LoadingFault}
 
 -- an error of a reading is the fault of the loading step that makes it
 pub load_fails : {A B : Type 0} (e : Error) (read : Result A Fault) (f : A → Result B LoadingFault)

@@ -1,6 +1,6 @@
 -- The report on a range by a context is that of the file.
-use Rattle.std.proofs.Common.{◌≡◌, ℕ, ◌+◌, ◌≤◌, ◌⊎◌, List, Some, Result, Ok, Err, inl, inr, refl, sym, ap, subst, ◌∙◌, arith}
-use Rattle.std.specs.Prelude.{Option, OnOk, OnErr, IfOk}
+use Rattle.std.proofs.Common.{◌≡◌, ℕ, ◌+◌, ◌≤◌, ◌⊎◌, List, Some, Result, Ok, Err, inl, inr, ap, subst, ◌∙◌, arith}
+use Rattle.std.specs.Prelude.{OnOk, OnErr, IfOk}
 use Rattle.pdb_addresses.specs.Addresses.{Map}
 use Rattle.pdb_functions.specs.Databases.{Database}
 use Rattle.pdb_functions.specs.FunctionOrder.{Function}

@@ -1,4 +1,4 @@
-use Rattle.std.proofs.Common.{◌≡◌, inl, ℕ, ◌^◌, ◌<◌, ◌≤◌, List, length, take, subst}
+use Rattle.std.proofs.Common.{inl, ℕ, ◌^◌, ◌<◌, ◌≤◌, List, length, take, subst}
 use Rattle.std.specs.Prelude.{OnOk, OnErr, IfErr, IfSome}
 use Rattle.pdb_engine.specs.InputLines.{report, report_of_ended}
 use Rattle.pdb_engine.specs.Watched.{inner_of, Writes, WritesFront, Takes}

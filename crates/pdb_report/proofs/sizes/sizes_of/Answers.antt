@@ -1,4 +1,4 @@
-use Rattle.std.proofs.Common.{◌≡◌, List, ℕ, refl}
+use Rattle.std.proofs.Common.{◌≡◌, refl}
 use Rattle.pdb_engine.specs.Watched.{Writes, WritesFront}
 use Rattle.pdb_report.specs.Answer.{database_in}
 use Rattle.pdb_report.specs.Kept.{answered_in}

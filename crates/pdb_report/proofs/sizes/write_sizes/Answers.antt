@@ -1,4 +1,4 @@
-use Rattle.std.proofs.Common.{inr, ap, ◌∙◌}
+use Rattle.std.proofs.Common.{inr}
 use Rattle.std.specs.String.{string_bytes}
 use Rattle.pdb_report.specs.Answer.{database_in}
 use Rattle.pdb_report.proofs.SizesSteps.{counted_text}

@@ -1,4 +1,3 @@
-use Rattle.std.proofs.Common.{◌≡◌, ℕ, List}
 use Rattle.std.proofs.lemmas.Result.{err_from_is_err_and}
 use Rattle.pdb_report.proofs.OpeningSteps.{ordered_list_fails, ordered_parts_fail, held_is_kept}
 use Rattle.pdb_report.proofs.symbolizer.read_held.Goals as goal
