@@ -1,5 +1,5 @@
 -- The parts of modules that stand as failed since they were asked for.
-use Rattle.std.specs.Prelude.{ℕ, ◌+◌, ◌*◌, ◌^◌, Bool, List, []}
+use Rattle.std.specs.Prelude.{ℕ, ◌+◌, ◌*◌, ◌^◌, ◌<◌, Bool, List, []}
 use Rattle.pdb_addresses.specs.declared.internal_section_offset.PdbInternalSectionOffset.{PdbInternalSectionOffset}
 use Rattle.pdb_failed_parts.specs.Failed.{stands, with_part}
 pub use Rattle.pdb_failed_parts.specs.declared.failures.Part.{Part}
@@ -15,6 +15,16 @@ pub record Failures : Type 0 where
 -- nothing stands as failed
 abbrev pub no_failures : Failures
 no_failures = record { modules = []; lines = []; inline_ranges = [] }
+
+-- a place has a section's number of 16 bits and an offset of 32
+abbrev pub IsPlace : PdbInternalSectionOffset → Type 0
+IsPlace place = (place.section < 2 ^ 16) × (place.offset < 2 ^ 32)
+
+-- so has the place that a part is named by, if it is
+abbrev pub IsPart : Part → Type 0
+IsPart (ExtendedModule m) = Unit {0}
+IsPart (ProcedureLines m start) = IsPlace start
+IsPart (ProcedureInlineRanges m start) = IsPlace start
 
 -- the number of a place in a module, which no other place and no place in another module has
 abbrev pub number_of : ℕ → PdbInternalSectionOffset → ℕ

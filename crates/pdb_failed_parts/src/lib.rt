@@ -3,6 +3,7 @@
 
 mod failed_parts;
 mod failures;
+pub mod laws;
 
 pub use failed_parts::FailedParts;
 pub use failures::{Failures, Part, number_of};
