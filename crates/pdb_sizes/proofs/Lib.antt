@@ -2,5 +2,6 @@ pub mod CountLemmas
 pub mod HowMany
 pub mod PlaceLemmas
 pub mod RangeLemmas
+pub mod RangeSums
 pub mod TableLemmas
 pub mod UniqueLemmas
