@@ -41,6 +41,13 @@ write_behind (Read kind) a b c quiet failed = tt
 write_behind InputTooLong a b c quiet failed = tt
 write_behind OutOfMemory a b c quiet failed = tt
 
+-- so did a read
+pub read_behind : {T : Type 0} (fault : InputFault) (a b c : Watched T) → IsQuiet a b → OnRead fault (λ kind. CountsFailure b c kind) → OnRead fault (λ kind. CountsFailure a c kind)
+read_behind (Read kind) a b c quiet failed = counted_behind a b c kind quiet failed
+read_behind (Write kind) a b c quiet failed = tt
+read_behind InputTooLong a b c quiet failed = tt
+read_behind OutOfMemory a b c quiet failed = tt
+
 -- a read that failed so
 pub read_failed : (P : ErrorKind → Type 0) (fault : InputFault) (kind : ErrorKind) → fault ≡ read_fault_of kind → P kind → OnRead fault P
 read_failed P fault kind e h = subst (λ (f : InputFault). OnRead f P) (sym e) (said kind h)

@@ -1,13 +1,17 @@
--- One more piece of the input.
-use Rattle.std.proofs.Common.{◌≡◌, ℕ, zero, suc, ◌∷◌, ◌+◌, ◌-◌, ◌≤◌, ◌<◌, List, [], ◌++◌, refl, sym, ap, subst, ◌∙◌, append_assoc, length, take, drop, arith, length-append, take-append-drop}
+-- What was read and answered, and one read more.
+use Rattle.std.proofs.Common.{◌≡◌, ℕ, zero, suc, ◌∷◌, ◌+◌, ◌-◌, ◌≤◌, ◌<◌, List, [], ◌++◌, refl, sym, ap, subst, ◌∙◌, append_assoc, append-nil, length, take, drop, arith, length-append, take-append-drop}
 use Rattle.std.specs.Prelude.{Option}
 use Rattle.std.specs.List.{flat_map}
 use Rattle.std.specs.Io.KnownBytes.{Appends, Consumes}
 use Rattle.std.proofs.KnownBytes.{Appends-trans, Consumes-trans}
-use Rattle.std.proofs.lemmas.List.{length-take}
 use Rattle.std.proofs.Math.Seq.{take-append-add}
 use Rattle.std.proofs.lemmas.Grind.{flat_map-append}
+use Rattle.pdb_engine.specs.declared.fault.InputFault.{InputFault}
+use Rattle.pdb_engine.specs.declared.fault.InputFault.TheVariants.{Read, Write, InputTooLong, OutOfMemory}
+use Rattle.pdb_engine.specs.InputFaults.{OnRead, OnTooLong}
+use Rattle.pdb_engine.specs.declared.watched.Watched.{Watched}
 use Rattle.pdb_engine.specs.InputLines.{kept_lines, kept_rest, Begins}
+use Rattle.pdb_engine.specs.Watched.{inner_of}
 use Rattle.pdb_engine.proofs.LineLemmas.{kept_lines-append, kept_rest-append}
 
 take_take : (m n : ℕ) (xs : List ℕ) → m ≤ n → take m (take n xs) ≡ take m xs
@@ -16,69 +20,115 @@ take_take (suc m) zero xs h = absurd (omega arith)
 take_take (suc m) (suc n) [] h = refl
 take_take (suc m) (suc n) (x ∷ xs) h = ap (λ l. x ∷ l) (take_take m n xs (omega arith))
 
+-- what was read so far, with the answers to its lines out
 abbrev pub Taken : (List ℕ → List ℕ) → Option (List ℕ) → Option (List ℕ) → Option (List ℕ) → Option (List ℕ) → List ℕ → List ℕ → ℕ → ℕ → Type 0
 Taken text ra rb wa wb kept start left limit =
     (taken : List ℕ) × Consumes ra rb taken × (length taken + left ≡ limit) × Appends wa wb (flat_map text (kept_lines kept taken)) × (start ≡ kept_rest kept taken)
 
--- the answers behind two pieces
+-- what one read took, with the answers to its lines out
+abbrev pub Answered : (List ℕ → List ℕ) → Option (List ℕ) → Option (List ℕ) → Option (List ℕ) → Option (List ℕ) → List ℕ → List ℕ → ℕ → ℕ → Type 0
+Answered text ra rb wa wb kept start count left =
+    (taken : List ℕ) × Consumes ra rb taken × (length taken ≡ count) × (count ≤ left) × Appends wa wb (flat_map text (kept_lines kept taken)) × (start ≡ kept_rest kept taken)
+
+-- what was read is more than may be, with the answers to the lines before that out
+abbrev pub IsTooLong : (List ℕ → List ℕ) → Option (List ℕ) → Option (List ℕ) → Option (List ℕ) → Option (List ℕ) → List ℕ → ℕ → Type 0
+IsTooLong text ra rb wa wb kept limit =
+    (taken : List ℕ) × Consumes ra rb taken × (limit < length taken) × Appends wa wb (flat_map text (kept_lines kept (take limit taken)))
+
+-- what was read, with a prefix of the answers to its lines out
+abbrev pub IsPart : (List ℕ → List ℕ) → Option (List ℕ) → Option (List ℕ) → Option (List ℕ) → Option (List ℕ) → List ℕ → Type 0
+IsPart text ra rb wa wb kept =
+    (taken : List ℕ) × Consumes ra rb taken × ((out : List ℕ) × Appends wa wb out × Begins out (flat_map text (kept_lines kept taken)))
+
+-- the answers after two pieces
 joined : (text : List ℕ → List ℕ) (kept taken piece : List ℕ) → flat_map text (kept_lines kept (taken ++ piece)) ≡ flat_map text (kept_lines kept taken) ++ flat_map text (kept_lines (kept_rest kept taken) piece)
 joined text kept taken piece = ap (flat_map text) (kept_lines-append kept taken piece) ∙ flat_map-append text (kept_lines kept taken) (kept_lines (kept_rest kept taken) piece)
 
 same_answers : (text text' : List ℕ → List ℕ) (start start' piece : List ℕ) → text' ≡ text → start ≡ start' → flat_map text' (kept_lines start piece) ≡ flat_map text (kept_lines start' piece)
 same_answers text text' start start' piece et es = ap (λ (t : List ℕ → List ℕ). flat_map t (kept_lines start piece)) et ∙ ap (λ (k : List ℕ). flat_map text (kept_lines k piece)) es
 
--- one piece of input more that was read and answered
-pub taken_more : (text text' : List ℕ → List ℕ) (ra rb rc wa wb wc : Option (List ℕ)) (kept start start' chunk piece : List ℕ) (n left limit : ℕ) → Taken text ra rb wa wb kept start left limit
-    → text' ≡ text → n ≤ length chunk → n ≤ left → piece ≡ take n chunk → Consumes rb rc (take n chunk) → Appends wb wc (flat_map text' (kept_lines start piece)) → start' ≡ kept_rest start piece
-    → Taken text ra rc wa wc kept start' (left - n) limit
-taken_more text text' ra rb rc wa wb wc kept start start' chunk piece n left limit (taken, consumed, counted, done, behind) et inside room is read written rest =
-    let e = sym (joined text kept taken (take n chunk)) in (
-      taken ++ take n chunk,
-      Consumes-trans ra rb rc taken (take n chunk) consumed read,
-      omega (arith, length-append taken (take n chunk), length-take n chunk),
-      subst (λ (l : List ℕ). Appends wa wc l) (ap (λ l. flat_map text (kept_lines kept taken) ++ l) (same_answers text text' start (kept_rest kept taken) piece et behind ∙ ap (λ l. flat_map text (kept_lines (kept_rest kept taken) l)) is) ∙ e)
-          (Appends-trans wa wb wc _ _ done written),
-      rest ∙ ap (λ k. kept_rest k piece) behind ∙ ap (kept_rest (kept_rest kept taken)) is ∙ sym (kept_rest-append kept taken (take n chunk)),
-    )
-
--- a piece of input past the limit, of which the front up to the limit was answered
-pub taken_too_long : (text text' : List ℕ → List ℕ) (ra rb rc wa wb wc : Option (List ℕ)) (kept start chunk piece : List ℕ) (n left limit : ℕ) → Taken text ra rb wa wb kept start left limit
-    → text' ≡ text → n ≤ length chunk → left < n → piece ≡ take left chunk → Consumes rb rc (take n chunk) → Appends wb wc (flat_map text' (kept_lines start piece))
-    → (taken : List ℕ) × Consumes ra rc taken × (limit < length taken) × Appends wa wc (flat_map text (kept_lines kept (take limit taken)))
-taken_too_long text text' ra rb rc wa wb wc kept start chunk piece n left limit (taken, consumed, counted, done, behind) et inside past is read written =
-    let cut : take limit (taken ++ take n chunk) ≡ taken ++ take left chunk =
-    ap (λ k. take k (taken ++ take n chunk)) (sym counted) ∙ take-append-add taken (take n chunk) left ∙ ap (λ l. taken ++ l) (take_take left n chunk (omega arith)) in (
-      taken ++ take n chunk,
-      Consumes-trans ra rb rc taken (take n chunk) consumed read,
-      omega (arith, length-append taken (take n chunk), length-take n chunk),
-      subst (λ (l : List ℕ). Appends wa wc l)
-          (ap (λ l. flat_map text (kept_lines kept taken) ++ l) (same_answers text text' start (kept_rest kept taken) piece et behind ∙ ap (λ l. flat_map text (kept_lines (kept_rest kept taken) l)) is)
-          ∙ sym (joined text kept taken (take left chunk)) ∙ ap (λ l. flat_map text (kept_lines kept l)) (sym cut))
-          (Appends-trans wa wb wc _ _ done written),
-    )
-
--- a piece of input of which a front was answered
-pub taken_part : (text text' : List ℕ → List ℕ) (ra rb rc wa wb wc : Option (List ℕ)) (kept start chunk piece : List ℕ) (n m left limit : ℕ) → Taken text ra rb wa wb kept start left limit
-    → text' ≡ text → m ≤ n → piece ≡ take m chunk → Consumes rb rc (take n chunk) → ((out : List ℕ) × Appends wb wc out × Begins out (flat_map text' (kept_lines start piece)))
-    → (taken : List ℕ) × Consumes ra rc taken × ((out : List ℕ) × Appends wa wc out × Begins out (flat_map text (kept_lines kept taken)))
-taken_part text text' ra rb rc wa wb wc kept start chunk piece n m left limit (taken, consumed, counted, done, behind) et short is read (out, written, (more, begins)) =
-    let before = flat_map text (kept_lines kept taken) in
-    let tail = drop m (take n chunk) in
-    let whole : take n chunk ≡ piece ++ tail = sym (take-append-drop m (take n chunk)) ∙ ap (λ l. l ++ tail) (take_take m n chunk short ∙ sym is) in
-    let k = kept_rest kept taken in
-    let rest = flat_map text (kept_lines (kept_rest k piece) tail) in (
-      taken ++ take n chunk,
-      Consumes-trans ra rb rc taken (take n chunk) consumed read,
+-- a prefix of the answers to the lines that end in the first bytes of what one read took
+pub read_part : (text : List ℕ → List ℕ) (ra rb wa wb : Option (List ℕ)) (kept chunk chunk' : List ℕ) (count within : ℕ) → chunk' ≡ chunk → within ≤ count → Consumes ra rb (take count chunk)
+    → ((out : List ℕ) × Appends wa wb out × Begins out (flat_map text (kept_lines kept (take within chunk')))) → IsPart text ra rb wa wb kept
+read_part text ra rb wa wb kept chunk chunk' count within same short read (out, written, (more, begins)) =
+    let tail = drop within (take count chunk) in
+    let piece = take within chunk' in
+    let whole : take count chunk ≡ piece ++ tail =
+    sym (take-append-drop within (take count chunk)) ∙ ap (λ l. l ++ tail) (take_take within count chunk short ∙ ap (take within) (sym same)) in
+    let rest = flat_map text (kept_lines (kept_rest kept piece) tail) in (
+      take count chunk,
+      read,
       (
-        before ++ out,
-        Appends-trans wa wb wc _ out done written,
-        (
-          more ++ rest,
-          joined text kept taken (take n chunk) ∙ ap (λ l. before ++ l) (
-              ap (λ l. flat_map text (kept_lines k l)) whole ∙ joined text k piece tail
-              ∙ ap (λ l. l ++ rest) (sym (same_answers text text' start k piece et behind) ∙ begins)
-              ∙ append_assoc out more rest)
-              ∙ sym (append_assoc before out (more ++ rest)),
-        ),
+        out,
+        written,
+        (more ++ rest, ap (λ l. flat_map text (kept_lines kept l)) whole ∙ joined text kept piece tail ∙ ap (λ l. l ++ rest) begins ∙ append_assoc out more rest),
       ),
     )
+
+-- ---- one read more, of which the text may have another name
+
+module _ (text text' : List ℕ → List ℕ) (ra rb rc wa wb wc : Option (List ℕ)) (kept start : List ℕ) (left limit : ℕ) (so_far : Taken text ra rb wa wb kept start left limit) (et : text' ≡ text) where
+  pub taken_more : (start' : List ℕ) (count : ℕ) → Answered text' rb rc wb wc start start' count left → Taken text ra rc wa wc kept start' (left - count) limit
+  taken_more start' count (piece, read, counted, room, written, rest) =
+      let taken = so_far.0 in (
+        taken ++ piece,
+        Consumes-trans ra rb rc taken piece so_far.1 read,
+        omega (arith, length-append taken piece, so_far.2),
+        subst (λ (l : List ℕ). Appends wa wc l) (ap (λ l. flat_map text (kept_lines kept taken) ++ l) (same_answers text text' start (kept_rest kept taken) piece et so_far.4) ∙ sym (joined text kept taken piece))
+            (Appends-trans wa wb wc _ _ so_far.3 written),
+        rest ∙ ap (λ k. kept_rest k piece) so_far.4 ∙ sym (kept_rest-append kept taken piece),
+      )
+
+  too_long_more : IsTooLong text' rb rc wb wc start left → IsTooLong text ra rc wa wc kept limit
+  too_long_more (piece, read, past, written) =
+      let taken = so_far.0 in
+      let cut : take limit (taken ++ piece) ≡ taken ++ take left piece = ap (λ k. take k (taken ++ piece)) (sym so_far.2) ∙ take-append-add taken piece left in (
+        taken ++ piece,
+        Consumes-trans ra rb rc taken piece so_far.1 read,
+        omega (arith, length-append taken piece, so_far.2),
+        subst (λ (l : List ℕ). Appends wa wc l)
+            (ap (λ l. flat_map text (kept_lines kept taken) ++ l) (same_answers text text' start (kept_rest kept taken) (take left piece) et so_far.4)
+            ∙ sym (joined text kept taken (take left piece)) ∙ ap (λ l. flat_map text (kept_lines kept l)) (sym cut))
+            (Appends-trans wa wb wc _ _ so_far.3 written),
+      )
+
+  pub taken_too_long : (fault : InputFault) → OnTooLong fault (IsTooLong text' rb rc wb wc start left) → OnTooLong fault (IsTooLong text ra rc wa wc kept limit)
+  taken_too_long InputTooLong h = too_long_more h
+  taken_too_long (Read kind) h = tt
+  taken_too_long (Write kind) h = tt
+  taken_too_long OutOfMemory h = tt
+
+  pub taken_part : IsPart text' rb rc wb wc start → IsPart text ra rc wa wc kept
+  taken_part (piece, read, (out, written, (more, begins))) =
+      let taken = so_far.0 in
+      let before = flat_map text (kept_lines kept taken) in (
+        taken ++ piece,
+        Consumes-trans ra rb rc taken piece so_far.1 read,
+        (
+          before ++ out,
+          Appends-trans wa wb wc _ out so_far.3 written,
+          (
+            more,
+            joined text kept taken piece
+                ∙ ap (λ l. before ++ l) (sym (same_answers text text' start (kept_rest kept taken) piece et so_far.4) ∙ begins)
+                ∙ sym (append_assoc before out more),
+          ),
+        ),
+      )
+
+-- what was read before a read that failed
+read_before : (text : List ℕ → List ℕ) (ra rb rc wa wb wc : Option (List ℕ)) (kept start : List ℕ) (left limit : ℕ) → Taken text ra rb wa wb kept start left limit → Consumes rb rc [] → wc ≡ wb
+    → (taken : List ℕ) × Consumes ra rc taken × Appends wa wc (flat_map text (kept_lines kept taken))
+read_before text ra rb rc wa wb wc kept start left limit (taken, consumed, counted, done, rest) none same = (
+  taken,
+  subst (λ (l : List ℕ). Consumes ra rc l) (append-nil taken) (Consumes-trans ra rb rc taken [] consumed none),
+  subst (λ (w : Option (List ℕ)). Appends wa w (flat_map text (kept_lines kept taken))) (sym same) done,
+)
+
+pub taken_before : {W : Type 0} (contents : W → Option (List ℕ)) (text : List ℕ → List ℕ) (ra rb rc wa : Option (List ℕ)) (w w' : Watched W) (kept start : List ℕ) (left limit : ℕ) (fault : InputFault)
+    → Taken text ra rb wa (contents (inner_of w)) kept start left limit → OnRead fault (λ _. Consumes rb rc [] × (w' ≡ w))
+    → OnRead fault (λ _. (taken : List ℕ) × Consumes ra rc taken × Appends wa (contents (inner_of w')) (flat_map text (kept_lines kept taken)))
+taken_before {W = W} contents text ra rb rc wa w w' kept start left limit (Read kind) so_far (none, same) = read_before text ra rb rc wa (contents (inner_of w)) (contents (inner_of w')) kept start left limit so_far none (ap (λ (v : Watched W). contents (inner_of v)) same)
+taken_before contents text ra rb rc wa w w' kept start left limit (Write kind) so_far h = tt
+taken_before contents text ra rb rc wa w w' kept start left limit InputTooLong so_far h = tt
+taken_before contents text ra rb rc wa w w' kept start left limit OutOfMemory so_far h = tt

@@ -31,10 +31,11 @@ between_added : (xs ys : List ℕ) → slice_range (xs ++ ys) (length xs) (lengt
 between_added xs ys = ap (λ l. take (length (xs ++ ys) - length xs) l) (drop-append_seam xs ys) ∙ take_all _ ys (omega (arith, length-append xs ys))
 
 -- a text that is put behind others is made
-pub made_behind : (text : List ℕ → List ℕ) (texts texts' line : List ℕ) → texts' ≡ texts ++ text line → IsMade text texts' line record { start = length texts; end = length texts' }
-made_behind text texts texts' line is = record {
+pub made_behind : (text : List ℕ → List ℕ) (texts texts' line : List ℕ) → length texts < 8388608 → texts' ≡ texts ++ text line → IsMade text texts' line record { start = length texts; end = length texts' }
+made_behind text texts texts' line room is = record {
   order = omega (arith, ap length is, length-append texts (text line));
   within = omega arith;
+  ahead = room;
   is = ap (λ l. slice_range l (length texts) (length l)) is ∙ between_added texts (text line);
 }
 

@@ -1,5 +1,5 @@
 -- Lines that wait for their answers, of which some were made.
-use Rattle.std.specs.Prelude.{◌≡◌, ℕ, ◌≤◌, List, map, length, IfSome}
+use Rattle.std.specs.Prelude.{◌≡◌, ℕ, ◌<◌, ◌≤◌, List, map, length, IfSome}
 use Rattle.std.specs.List.{All, slice_range}
 use Rattle.pdb_engine.specs.declared.requests.Made.{Made}
 use Rattle.pdb_engine.specs.declared.requests.Request.{Request}
@@ -8,10 +8,12 @@ use Rattle.pdb_engine.specs.declared.requests.Request.{Request}
 abbrev pub lines_of : List Request → List (List ℕ)
 lines_of requests = map (λ r. r.line) requests
 
--- the text from one place of others on and before another is the answer to the line
+-- the text from one place of others on and before another is the answer to the line; it begins
+-- where the others take less than 8 MB
 pub record IsMade (text : List ℕ → List ℕ) (texts line : List ℕ) (made : Made) : Type 0 where
   pub order : made.start ≤ made.end
   pub within : made.end ≤ length texts
+  pub ahead : made.start < 8388608
   pub is : slice_range texts made.start made.end ≡ text line
 
 -- a text that was made for a line is its answer

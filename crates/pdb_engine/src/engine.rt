@@ -1,6 +1,6 @@
 //! Reads lines, and writes the answer to each.
 
-ghost use Rattle.std.specs.Prelude.{◌≡◌, ℕ, List, OnOk, OnErr, IfErr, IfSome, [], ◌∷◌, ◌++◌, length, ◌<◌, ◌≤◌, take};
+ghost use Rattle.std.specs.Prelude.{◌≡◌, ℕ, List, OnOk, OnErr, IfOk, IfErr, IfSome, [], ◌∷◌, ◌++◌, length, ◌<◌, ◌≤◌, take};
 ghost use Rattle.std.specs.List.{flat_map};
 ghost use Rattle.std.specs.Io.KnownBytes.{IsAtEnd};
 ghost use Rattle.pdb_engine.specs.Watched.{inner_of, CountsFailure, IsQuiet, Writes, WritesAllBut, WritesFront, Takes};
@@ -18,6 +18,14 @@ use std::io::{ErrorKind, Read, Write};
 
 /// How many bytes a read asks for, and from how many on gathered answers are written before the next one.
 const CHUNK_SIZE: usize = 65_536;
+
+/// The start of a line, and room for what a read takes and for texts, kept from read to read.
+#[derive(Drop)]
+struct Buffers {
+    start: LineStart,
+    chunk: Vec<u8>,
+    texts: Vec<u8>,
+}
 
 /// Answers every line of the reader's input, of which at most `limit` bytes are read, and writes
 /// nothing else. A last line that no newline ends counts if it has a byte.
@@ -53,27 +61,31 @@ pub fn run<A: Answers, R: Read, W: Write>(
     // At each fault a front of the report is out.
     ensures part { OnErr result (IfSome (R.remaining (inner_of reader.old)) (λ input. WritesFront W.contents writer.old writer.new (report (A.text answers.old) input))) }
 {
-    let Ok(mut chunk) = vec![in alloc; 0u8; CHUNK_SIZE] else {
+    let Ok(chunk) = vec![in alloc; 0u8; CHUNK_SIZE] else {
         return Err(InputFault::OutOfMemory);
     };
-    let mut start = LineStart::new();
-    match pump(
-        alloc, answers, reader, writer, &mut start, &mut chunk, limit,
-    ) {
+    let texts = Vec::new(alloc);
+    let start = LineStart::new();
+    let mut buffers = Buffers {
+        start,
+        chunk,
+        texts,
+    };
+    match pump(alloc, answers, reader, writer, &mut buffers, limit) {
         Ok(()) => {}
         Err(fault) => return Err(fault),
     }
-    if start.bytes().is_empty() {
+    if buffers.start.bytes().is_empty() {
         return Ok(());
     }
-    match answer_line(alloc, answers, writer, start.bytes()) {
+    match answer_line(alloc, answers, writer, buffers.start.bytes()) {
         Ok(()) => {}
         Err(fault) => return Err(fault),
     }
     Ok(())
 }
 
-/// Reads to the end by way of the chunk, and answers each line that a newline ends.
+/// Reads to the end, and answers each line that a newline ends: none waits when a read begins.
 ///
 /// # Errors
 /// As [`run`].
@@ -82,57 +94,107 @@ fn pump<A: Answers, R: Read, W: Write>(
     answers: &mut A,
     reader: &mut Watched<R>,
     writer: &mut Watched<W>,
-    start: &mut LineStart,
-    chunk: &mut [u8],
+    buffers: &mut Buffers,
     limit: u64,
 ) -> Result<(), InputFault>
-    requires { 0 < length chunk.old }
+    requires { 0 < length buffers.old.chunk.items }
     ensures ok { OnOk result ((taken : List ℕ) × Takes R.remaining reader.old reader.new taken
         × IsAtEnd (R.remaining (inner_of reader.new)) × (length taken ≤ limit)
-        × Writes W.contents writer.old writer.new (flat_map (A.text answers.old) (kept_lines start.old taken))
-        × (start.new ≡ kept_rest start.old taken)) }
+        × Writes W.contents writer.old writer.new
+        (flat_map (A.text answers.old) (kept_lines buffers.old.start taken))
+        × (buffers.new.start ≡ kept_rest buffers.old.start taken)) }
     ensures quiet { OnOk result (IsQuiet reader.old reader.new × IsQuiet writer.old writer.new) }
     ensures same { A.text answers.new ≡ A.text answers.old }
     ensures kind { IfErr result IsOfRunning }
-    ensures read_fails { IfErr result (λ fault. OnRead fault (λ kind. CountsFailure reader.old reader.new kind)) }
-    ensures write_fails { IfErr result (λ fault. OnWrite fault (λ kind. CountsFailure writer.old writer.new kind)) }
-    ensures read_out { IfErr result (λ fault. OnRead fault (λ _. (taken : List ℕ) × Takes R.remaining reader.old reader.new taken
-        × Writes W.contents writer.old writer.new (flat_map (A.text answers.old) (kept_lines start.old taken)))) }
-    ensures too_long { IfErr result (λ fault. OnTooLong fault ((taken : List ℕ) × Takes R.remaining reader.old reader.new taken
+    ensures read_fails { IfErr result (λ fault. OnRead fault
+        (λ kind. CountsFailure reader.old reader.new kind)) }
+    ensures write_fails { IfErr result (λ fault. OnWrite fault
+        (λ kind. CountsFailure writer.old writer.new kind)) }
+    ensures read_out { IfErr result (λ fault. OnRead fault (λ _.
+        (taken : List ℕ) × Takes R.remaining reader.old reader.new taken
+        × Writes W.contents writer.old writer.new
+        (flat_map (A.text answers.old) (kept_lines buffers.old.start taken)))) }
+    ensures too_long { IfErr result (λ fault. OnTooLong fault
+        ((taken : List ℕ) × Takes R.remaining reader.old reader.new taken
         × (limit < length taken)
-        × Writes W.contents writer.old writer.new (flat_map (A.text answers.old) (kept_lines start.old (take limit taken))))) }
+        × Writes W.contents writer.old writer.new
+        (flat_map (A.text answers.old) (kept_lines buffers.old.start (take limit taken))))) }
     ensures part { OnErr result ((taken : List ℕ) × Takes R.remaining reader.old reader.new taken
-        × WritesFront W.contents writer.old writer.new (flat_map (A.text answers.old) (kept_lines start.old taken))) }
+        × WritesFront W.contents writer.old writer.new
+        (flat_map (A.text answers.old) (kept_lines buffers.old.start taken))) }
 {
-    let mut texts = Vec::new(alloc);
     let mut left = limit;
-    'chunks: loop {
-        let count = match reader.read(chunk) {
-            Ok(count) => count,
-            Err(error) => return Err(read_fault(error.kind())),
-        };
-        if count == 0 {
-            return Ok(());
-        }
-        if left < count as u64 {
-            match feed(
-                alloc,
-                answers,
-                writer,
-                start,
-                &mut texts,
-                &chunk[..left as usize],
-            ) {
-                Ok(()) => return Err(InputFault::InputTooLong),
-                Err(fault) => return Err(fault),
-            }
-        }
-        match feed(alloc, answers, writer, start, &mut texts, &chunk[..count]) {
-            Ok(()) => {}
+    'reads: loop {
+        match answer_read(alloc, answers, reader, writer, buffers, left) {
+            Ok(0) => return Ok(()),
+            Ok(count) => left -= count,
             Err(fault) => return Err(fault),
         }
-        left -= count as u64;
     }
+}
+
+/// Reads once, and answers the lines that end in what was read, of which at most `left` bytes
+/// count: none of them waits for another read. Returns how many bytes were read, 0 at the end.
+///
+/// # Errors
+/// As [`run`].
+fn answer_read<A: Answers, R: Read, W: Write>(
+    alloc: Global,
+    answers: &mut A,
+    reader: &mut Watched<R>,
+    writer: &mut Watched<W>,
+    buffers: &mut Buffers,
+    left: u64,
+) -> Result<u64, InputFault>
+    requires { 0 < length buffers.old.chunk.items }
+    ensures room { length buffers.new.chunk.items ≡ length buffers.old.chunk.items }
+    // The answers to the lines that end in what was read are out, and the rest of it is kept.
+    ensures ok { IfOk result (λ count.
+        (taken : List ℕ) × Takes R.remaining reader.old reader.new taken
+        × (length taken ≡ count) × (count ≤ left)
+        × Writes W.contents writer.old writer.new
+        (flat_map (A.text answers.old) (kept_lines buffers.old.start taken))
+        × (buffers.new.start ≡ kept_rest buffers.old.start taken)) }
+    ensures end { IfOk result (λ count. count ≡ 0 → IsAtEnd (R.remaining (inner_of reader.new))) }
+    ensures quiet { OnOk result (IsQuiet reader.old reader.new × IsQuiet writer.old writer.new) }
+    ensures same { A.text answers.new ≡ A.text answers.old }
+    ensures kind { IfErr result IsOfRunning }
+    ensures read_fails { IfErr result (λ fault. OnRead fault
+        (λ kind. CountsFailure reader.old reader.new kind)) }
+    ensures write_fails { IfErr result (λ fault. OnWrite fault
+        (λ kind. CountsFailure writer.old writer.new kind)) }
+    // A read that failed is the only one: nothing was taken before it, and nothing written.
+    ensures read_once { IfErr result (λ fault. OnRead fault (λ _.
+        Takes R.remaining reader.old reader.new [] × (writer.new ≡ writer.old))) }
+    ensures too_long { IfErr result (λ fault. OnTooLong fault
+        ((taken : List ℕ) × Takes R.remaining reader.old reader.new taken
+        × (left < length taken)
+        × Writes W.contents writer.old writer.new
+        (flat_map (A.text answers.old) (kept_lines buffers.old.start (take left taken))))) }
+    ensures part { OnErr result ((taken : List ℕ) × Takes R.remaining reader.old reader.new taken
+        × WritesFront W.contents writer.old writer.new
+        (flat_map (A.text answers.old) (kept_lines buffers.old.start taken))) }
+{
+    let count = match reader.read(&mut buffers.chunk) {
+        Ok(count) => count,
+        Err(error) => return Err(read_fault(error.kind())),
+    };
+    let within = (count as u64).min(left) as usize;
+    match feed(
+        alloc,
+        answers,
+        writer,
+        &mut buffers.start,
+        &mut buffers.texts,
+        &buffers.chunk[..within],
+    ) {
+        Ok(()) => {}
+        Err(fault) => return Err(fault),
+    }
+    if left < count as u64 {
+        return Err(InputFault::InputTooLong);
+    }
+    Ok(count as u64)
 }
 
 /// Answers the lines that the bytes end, all of them before it returns, and keeps the start of the one behind them. The answers are
