@@ -17,27 +17,27 @@ pub struct TypeFormatterFlags {
 static FLAGS: [Flag<TypeFormatterFlags>; 6] = [
     Flag {
         name: "NO_FUNCTION_RETURN",
-        value: TypeFormatterFlags { bits: 1 },
+        value: TypeFormatterFlags::NO_FUNCTION_RETURN,
     },
     Flag {
         name: "NO_MEMBER_FUNCTION_STATIC",
-        value: TypeFormatterFlags { bits: 2 },
+        value: TypeFormatterFlags::NO_MEMBER_FUNCTION_STATIC,
     },
     Flag {
         name: "SPACE_AFTER_COMMA",
-        value: TypeFormatterFlags { bits: 4 },
+        value: TypeFormatterFlags::SPACE_AFTER_COMMA,
     },
     Flag {
         name: "SPACE_BEFORE_POINTER",
-        value: TypeFormatterFlags { bits: 8 },
+        value: TypeFormatterFlags::SPACE_BEFORE_POINTER,
     },
     Flag {
         name: "NAME_ONLY",
-        value: TypeFormatterFlags { bits: 16 },
+        value: TypeFormatterFlags::NAME_ONLY,
     },
     Flag {
         name: "NO_ARGUMENTS",
-        value: TypeFormatterFlags { bits: 32 },
+        value: TypeFormatterFlags::NO_ARGUMENTS,
     },
 ];
 
@@ -48,7 +48,7 @@ impl TypeFormatterFlags {
     /// `static` isn't printed before a method without a `this` pointer.
     pub const NO_MEMBER_FUNCTION_STATIC: TypeFormatterFlags = TypeFormatterFlags { bits: 2 };
 
-    /// A space is printed behind each comma of an argument list.
+    /// A space is printed after each comma of an argument list.
     pub const SPACE_AFTER_COMMA: TypeFormatterFlags = TypeFormatterFlags { bits: 4 };
 
     /// A space is printed before the `*` or `&` of a pointer or a reference.
