@@ -1,14 +1,15 @@
 -- A search by halving among pieces.
-use Rattle.std.proofs.Common.{◌≡◌, ℕ, ◌+◌, ◌-◌, ◌/◌, ◌^◌, ◌<◌, ◌≤◌, Option, Some, None, length, get_or, List, [], ◌∷◌, ◌⊎◌, ◌↔◌, inl, inr, zero, suc, refl, sym, ap, subst, ◌∙◌, arith}
+use Rattle.std.proofs.Common.{◌≡◌, ℕ, ◌+◌, ◌-◌, ◌*◌, ◌/◌, ◌^◌, ◌<◌, ◌≤◌, Option, Some, None, length, get_or, map, List, [], ◌∷◌, ◌⊎◌, ◌↔◌, inl, inr, zero, suc, refl, sym, ap, subst, ◌∙◌, arith}
 use Rattle.std.specs.List.{slice_get}
 use Rattle.std.specs.Option.{option_map}
 use Rattle.std.proofs.lemmas.Bool.{cases_lt, cases_order}
-use Rattle.std.proofs.Math.Nat.{pow-succ'}
-use Rattle.std.proofs.lemmas.List.{get_or-map}
-use Rattle.std.proofs.lemmas.Option.{slice_get_within, slice_get_past, slice_get-get_or}
+use Rattle.std.proofs.Math.Nat.{pow-succ', mul-le-mul_left}
+use Rattle.std.proofs.lemmas.List.{map-id, length-map}
+use Rattle.std.proofs.lemmas.Option.{slice_get_within, slice_get_past, slice_get-get_or, slice_get-map, slice_get_read}
 use Rattle.pdb_pieces.specs.declared.span.Mark.{Mark}
 use Rattle.pdb_pieces.specs.declared.span.Span.{Span}
-use Rattle.pdb_pieces.specs.Spans.{mark_over, best, starts_of, ArePieces, HasBegun, PieceHolds, mark_at}
+use Rattle.pdb_pieces.specs.Spans.{mark_over, best, starts_of, ArePieces, PieceHolds, mark_at}
+use Rattle.pdb_pieces.specs.Halving.{Ascend, IsSplit}
 use Rattle.pdb_pieces.proofs.Covers.{best-before, mark_over-before, mark_over-after, mark_over-within}
 
 ArePieces-at : (low high : ℕ) (xs : List Span) (i : ℕ) (s : Span) → ArePieces low high xs → slice_get xs i ≡ Some s → (low ≤ s.start) × (s.start < s.end)
@@ -84,14 +85,6 @@ IsPast-more low high xs m p s h e k = record {
   ];
 }
 
-pub IsBeyond-more : (low high : ℕ) (xs : List Span) (m p : ℕ) (s : Span) → ArePieces low high xs → slice_get xs m ≡ Some s → p < s.start → IsBeyond xs m p
-IsBeyond-more low high xs m p s h e k = record {
-  each = λ i t l f. elim (cases_lt m i) [
-    | inl n ↦ (let a = ArePieces-ascend low high xs m i s t h e f n in let b = ArePieces-at low high xs m s h e in omega (arith, b.1))
-    | inr n ↦ (let same : i ≡ m = omega arith in let g : Some s ≡ Some t = sym e ∙ ap (slice_get xs) (sym same) ∙ f in let st : s ≡ t = cc in subst (λ (y : Span). p < y.start) st k)
-  ];
-}
-
 -- among n pieces: no more probes than n has digits, and what is left has as many digits as probes are left
 pub record IsCheap (n probes left : ℕ) : Type 0 where
   pub each : (digits : ℕ) → n < 2 ^ digits → (probes ≤ digits) × (left < 2 ^ (digits - probes))
@@ -127,32 +120,34 @@ found_best low high xs p m s h e k l = best-at low high xs m s p h e k l ∙ sym
 abbrev pub no_span : Span
 no_span = record { start = 0; end = 0; mark = record { rank = 0; value = 0 } }
 
--- the start that stands at a piece's number is the piece's
-pub start_at : (xs : List Span) (starts : List ℕ) (m d : ℕ) → starts ≡ starts_of xs → m < length xs → get_or starts m d ≡ (get_or xs m no_span).start
-start_at xs starts m d is lt = ap (λ (l : List ℕ). get_or l m d) is ∙ get_or-map (λ (s : Span). s.start) xs m no_span d lt
+-- so many pieces begin at the place or before it: the last of them does, and none behind them
+pub record HasBegun (pieces : List Span) (count p : ℕ) : Type 0 where
+  pub bound : count ≤ length pieces
+  pub last : (i : ℕ) (s : Span) → i + 1 ≡ count → slice_get pieces i ≡ Some s → s.start ≤ p
+  pub behind : (i : ℕ) (s : Span) → count ≤ i → slice_get pieces i ≡ Some s → p < s.start
 
--- the last of the pieces before a number begins at the place or before it
-pub record EndsBegun (xs : List Span) (low p : ℕ) : Type 0 where
-  pub last : (i : ℕ) (s : Span) → i + 1 ≡ low → slice_get xs i ≡ Some s → s.start ≤ p
+-- where pieces begin ascends
+pub pieces_ascend : (low high : ℕ) (xs : List Span) → ArePieces low high xs → Ascend low (starts_of xs)
+pieces_ascend low high [] h = tt
+pieces_ascend low high (x ∷ rest) h = (h.0, starts_above x.start x.end (starts_of rest) (omega (arith, h.1)) (pieces_ascend x.end high rest h.2))
+  where
+    starts_above : (fewer low : ℕ) (ns : List ℕ) → fewer ≤ low → Ascend low ns → Ascend fewer ns
+    starts_above fewer low [] l h = tt
+    starts_above fewer low (n ∷ ns) l h = (omega (arith, h.0), h.1)
 
-pub EndsBegun-start : (xs : List Span) (p : ℕ) → EndsBegun xs 0 p
-EndsBegun-start xs p = record { last = λ i s e f. absurd (omega arith) }
+pub starts_ascend : (low high : ℕ) (xs : List Span) (starts : List ℕ) → ArePieces low high xs → starts ≡ starts_of xs → Ascend low (map (λ n. n) starts)
+starts_ascend low high xs starts h is = subst (Ascend low) (sym is ∙ sym (map-id starts)) (pieces_ascend low high xs h)
 
-pub EndsBegun-more : (xs : List Span) (m p : ℕ) → m < length xs → (get_or xs m no_span).start ≤ p → EndsBegun xs (m + 1) p
-EndsBegun-more xs m p lt le = record {
-  last = λ i s e f.
-      let same : m ≡ i = omega arith in
-      let read = slice_get-get_or xs m no_span lt in
-      let g : Some (get_or xs m no_span) ≡ Some s = sym read ∙ ap (slice_get xs) same ∙ f in
-      let st : get_or xs m no_span ≡ s = cc in subst (λ (y : Span). y.start ≤ p) st le;
+-- the pieces that begin at a place or before it, by how many starts do
+pub begun_by : (xs : List Span) (starts : List ℕ) (count p : ℕ) → starts ≡ starts_of xs → IsSplit (map (λ n. n) starts) p count → HasBegun xs count p
+begun_by xs starts count p is at = record {
+  bound = simp length-map at s.bound;
+  last = λ i x e f. s.before i x.start (omega arith) (slice_get-map (λ (y : Span). y.start) xs i ∙ ap (option_map (λ (y : Span). y.start)) f);
+  behind = λ i x l f. s.after i x.start l (slice_get-map (λ (y : Span). y.start) xs i ∙ ap (option_map (λ (y : Span). y.start)) f);
 }
-
-pub IsBeyond-start : (xs : List Span) (p : ℕ) → IsBeyond xs (length xs) p
-IsBeyond-start xs p = record { each = λ i s le f. (let none = slice_get_past xs i le in absurd cc) }
-
--- the search ends
-pub begun_all : (xs : List Span) (low high p : ℕ) → EndsBegun xs low p → IsBeyond xs high p → low ≤ high → high ≤ length xs → high ≤ low → HasBegun xs low p
-begun_all xs low high p a b l r e = record { bound = omega arith; last = a.last; behind = λ i s k f. b.each i s (omega arith) f }
+  where
+    s : IsSplit (starts_of xs) p count
+    s = subst (λ ns. IsSplit ns p count) (map-id starts ∙ is) at
 
 -- no piece begins at the place or before it
 pub IsPast-none : (xs : List Span) (p : ℕ) → IsPast xs 0 p
@@ -186,3 +181,79 @@ value_found xs p i s o e l f g =
     let read : slice_get xs i ≡ Some s = slice_get-get_or xs i s l ∙ ap Some (sym e) in
     let mark : best xs p ≡ Some s.mark = g ∙ ap (mark_at xs) f ∙ ap (option_map (λ (x : Span). x.mark)) read in
     sym (ap (option_map (λ (m : Mark). m.value)) mark)
+
+-- ---- a search among numbers in ascending order
+
+Ascend-at : (low : ℕ) (ns : List ℕ) (i n : ℕ) → Ascend low ns → slice_get ns i ≡ Some n → low ≤ n
+Ascend-at low [] i n h e = cc
+Ascend-at low (x ∷ rest) zero n h e = let same : x ≡ n = cc in subst (λ y. low ≤ y) same h.0
+Ascend-at low (x ∷ rest) (suc i) n h e = let r = Ascend-at x rest i n h.1 e in omega (arith, h.0)
+
+Ascend-rises : (low : ℕ) (ns : List ℕ) (i j m n : ℕ) → Ascend low ns → i < j → slice_get ns i ≡ Some m → slice_get ns j ≡ Some n → m ≤ n
+Ascend-rises low [] i j m n h l e f = cc
+Ascend-rises low (x ∷ rest) i zero m n h l e f = absurd (omega arith)
+Ascend-rises low (x ∷ rest) zero (suc j) m n h l e f = let same : x ≡ m = cc in subst (λ y. y ≤ n) same (Ascend-at x rest j n h.1 f)
+Ascend-rises low (x ∷ rest) (suc i) (suc j) m n h l e f = Ascend-rises x rest i j m n h.1 (omega arith) e f
+
+-- the numbers in front of `low` lie at the place or before it
+pub record AreBefore (ns : List ℕ) (low place : ℕ) : Type 0 where
+  pub each : (i n : ℕ) → i < low → slice_get ns i ≡ Some n → n ≤ place
+
+-- the numbers from `high` on lie past the place
+pub record AreAfter (ns : List ℕ) (high place : ℕ) : Type 0 where
+  pub each : (i n : ℕ) → high ≤ i → slice_get ns i ≡ Some n → place < n
+
+pub AreBefore-start : (ns : List ℕ) (place : ℕ) → AreBefore ns 0 place
+AreBefore-start ns place = record { each = λ i n l e. absurd (omega arith) }
+
+pub AreAfter-start : (ns : List ℕ) (high place : ℕ) → high ≡ length ns → AreAfter ns high place
+AreAfter-start ns high place is = record { each = λ i n l e. (let none = slice_get_past ns i (omega arith) in absurd cc) }
+
+same_number : (ns : List ℕ) (i m k n : ℕ) → i ≡ m → slice_get ns i ≡ Some k → slice_get ns m ≡ Some n → n ≡ k
+same_number ns i m k n s e f = let g : Some n ≡ Some k = sym f ∙ ap (slice_get ns) (sym s) ∙ e in cc
+
+pub AreBefore-more : (ns : List ℕ) (m n place : ℕ) → Ascend 0 ns → slice_get ns m ≡ Some n → n ≤ place → AreBefore ns (m + 1) place
+AreBefore-more ns m n place h e k = record {
+  each = λ i x l f. elim (cases_lt i m) [
+    | inl before ↦ (let r = Ascend-rises 0 ns i m x n h before f e in omega arith)
+    | inr past ↦ (let same = same_number ns i m x n (omega arith) f e in omega arith)
+  ];
+}
+
+pub AreAfter-more : (ns : List ℕ) (m n place : ℕ) → Ascend 0 ns → slice_get ns m ≡ Some n → place < n → AreAfter ns m place
+AreAfter-more ns m n place h e k = record {
+  each = λ i x l f. elim (cases_lt m i) [
+    | inl past ↦ (let r = Ascend-rises 0 ns m i n x h past e f in omega arith)
+    | inr before ↦ (let same = same_number ns i m x n (omega arith) f e in omega arith)
+  ];
+}
+
+pub split_at : (ns : List ℕ) (low high place : ℕ) → AreBefore ns low place → AreAfter ns high place → low ≡ high → low ≤ length ns → IsSplit ns place low
+split_at ns low high place a b is bound = record { bound = bound; before = a.each; after = λ i n l e. b.each i n (omega arith) e }
+
+-- where an item begins that was read
+pub number_read : {T : Type 0} (f : T → ℕ) (xs : List T) (m : ℕ) (x : T) → m < length xs → x ≡ get_or xs m x → slice_get (map f xs) m ≡ Some (f x)
+number_read f xs m x lt is = slice_get-map f xs m ∙ ap (option_map f) (slice_get_read xs (length xs) m x refl lt is)
+
+-- among n items: what is left, doubled as often as was probed, makes up for n
+pub record IsThorough (n probes left : ℕ) : Type 0 where
+  pub least : n + 1 < (left + 2) * 2 ^ probes
+
+pub IsThorough-start : (n : ℕ) → IsThorough n 0 n
+IsThorough-start n = record { least = omega arith }
+
+pub IsThorough-more : (n probes left fewer : ℕ) → IsThorough n probes left → left ≤ 2 * fewer + 2 → IsThorough n (probes + 1) fewer
+IsThorough-more n probes left fewer c l = record {
+  least =
+      let e = pow-succ' 2 probes in
+      let same : probes + 1 ≡ suc probes = omega arith in
+      let grown = mul-le-mul_left {m = left + 2} {n = 2 * fewer + 4} (2 ^ probes) (omega arith) in
+      rw (same, e) (omega (arith, c.least));
+}
+
+pub IsThorough-end : (n probes left : ℕ) → IsThorough n probes left → left ≡ 0 → n + 1 < 2 ^ (probes + 1)
+IsThorough-end n probes left c none =
+    let e = pow-succ' 2 probes in
+    let same : probes + 1 ≡ suc probes = omega arith in
+    let l : n + 1 < 2 * 2 ^ probes = subst (λ k. n + 1 < (k + 2) * 2 ^ probes) none c.least in
+    rw (same, e) l

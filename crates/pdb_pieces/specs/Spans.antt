@@ -77,12 +77,6 @@ pub record PieceHolds (pieces : List Span) (p i : ℕ) : Type 0 where
 abbrev pub starts_of : List Span → List ℕ
 starts_of spans = map (λ s. s.start) spans
 
--- so many pieces begin at the place or before it: the last of them does, and none behind them
-pub record HasBegun (pieces : List Span) (count p : ℕ) : Type 0 where
-  pub bound : count ≤ length pieces
-  pub last : (i : ℕ) (s : Span) → i + 1 ≡ count → slice_get pieces i ≡ Some s → s.start ≤ p
-  pub behind : (i : ℕ) (s : Span) → count ≤ i → slice_get pieces i ≡ Some s → p < s.start
-
 -- the mark of the piece with that number
 abbrev pub mark_at : List Span → Option ℕ → Option Mark
 mark_at pieces None = None

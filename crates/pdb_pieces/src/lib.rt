@@ -1,10 +1,12 @@
 //! Spans of places that may overlap, cut into pieces that don't, and a search among these by halving.
 #![tactic(auto)]
 
+mod ascending;
 mod cut;
 pub mod laws;
 mod search;
 mod span;
 
+pub use ascending::{Begins, count_begun};
 pub use search::Pieces;
 pub use span::{Mark, Span, place_number};

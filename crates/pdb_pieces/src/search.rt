@@ -1,9 +1,10 @@
 //! Finds the piece that holds a place, by halving.
 
-ghost use Rattle.std.specs.Prelude.{◌≡◌, ℕ, ◌^◌, ◌<◌, ◌≤◌, ◌↔◌, IfOk, Some, List, length};
+ghost use Rattle.std.specs.Prelude.{◌≡◌, ℕ, ◌+◌, ◌^◌, ◌<◌, ◌≤◌, ◌↔◌, IfOk, Some, List, length};
 ghost use Rattle.std.specs.Option.{option_map};
-ghost use Rattle.pdb_pieces.specs.Spans.{best, place_number as number_of_place, starts_of as starts_of_spans, ArePieces, HasBegun, PieceHolds, mark_at};
+ghost use Rattle.pdb_pieces.specs.Spans.{best, place_number as number_of_place, starts_of as starts_of_spans, ArePieces, PieceHolds, mark_at};
 
+use crate::ascending::count_begun;
 use crate::cut::cut;
 use crate::span::{Span, place_number};
 use pdb_addresses::PdbInternalSectionOffset;
@@ -43,12 +44,13 @@ impl Pieces {
         Ok(Pieces { spans, starts })
     }
 
-    /// The number of the one piece that holds the place, if one does, and how many pieces were looked at: at most as many as the
-    /// number of pieces has binary digits.
+    /// The number of the one piece that holds the place, if one does, and how many pieces were
+    /// looked at: of n as many as n has binary digits, or one fewer.
     pub fn at(&self, place: PdbInternalSectionOffset) -> (Option<usize>, u32)
         ensures one { (i : ℕ) → (result.0 ≡ Some i) ↔ PieceHolds self.now (number_of_place place) i }
         ensures best { best self.now (number_of_place place) ≡ mark_at self.now result.0 }
         ensures probes { (digits : ℕ) → length self.now < 2 ^ digits → result.1 ≤ digits }
+        ensures fewest { length self.now + 1 < 2 ^ (result.1 + 1) }
     {
         find_piece(&self.spans, &self.starts, place_number(place))
     }
@@ -82,8 +84,9 @@ fn find_piece(pieces: &[Span], starts: &[u64], place: u64) -> (Option<usize>, u3
     ensures one { (i : ℕ) → (result.0 ≡ Some i) ↔ PieceHolds pieces.now place i }
     ensures best { best pieces.now place ≡ mark_at pieces.now result.0 }
     ensures probes { (digits : ℕ) → length pieces.now < 2 ^ digits → result.1 ≤ digits }
+    ensures fewest { length pieces.now + 1 < 2 ^ (result.1 + 1) }
 {
-    let (count, probes) = count_begun(pieces, starts, place);
+    let (count, probes) = count_begun(starts, place);
     if count == 0 {
         return (None, probes);
     }
@@ -93,26 +96,4 @@ fn find_piece(pieces: &[Span], starts: &[u64], place: u64) -> (Option<usize>, u3
     } else {
         (None, probes)
     }
-}
-
-/// How many pieces begin at a place or before it, and how many were looked at. Each probe halves what is left.
-fn count_begun(pieces: &[Span], starts: &[u64], place: u64) -> (usize, u32)
-    requires pieces { ArePieces 0 u64.MAX pieces.now }
-    requires starts { starts.now ≡ starts_of_spans pieces.now }
-    ensures begun { HasBegun pieces.now result.0 place }
-    ensures probes { (digits : ℕ) → length pieces.now < 2 ^ digits → result.1 ≤ digits }
-{
-    let mut low = 0;
-    let mut high = starts.len();
-    let mut probes = 0;
-    while low < high {
-        let middle = low + (high - low) / 2;
-        probes += 1;
-        if place < starts[middle] {
-            high = middle;
-        } else {
-            low = middle + 1;
-        }
-    }
-    (low, probes)
 }
