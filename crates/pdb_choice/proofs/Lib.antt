@@ -1,2 +1,3 @@
 pub mod CheckedParts
 pub mod NextPublic
+pub mod StandingParts

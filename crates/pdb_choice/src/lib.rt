@@ -4,6 +4,7 @@
 
 mod choice;
 mod failures;
+pub mod laws;
 mod parts;
 mod runs;
 

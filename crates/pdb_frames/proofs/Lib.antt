@@ -1,2 +1,3 @@
+pub mod FramesDeep
 pub mod ProcedureSteps
 pub mod RunLaw

@@ -1,4 +1,5 @@
 pub mod ChosenNames
+pub mod Depth
 pub mod Failing
 pub mod Frames
 pub mod Runs

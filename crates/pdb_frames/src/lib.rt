@@ -3,6 +3,7 @@
 
 mod chosen_name;
 mod frames;
+pub mod laws;
 
 pub use chosen_name::name_of;
 pub use frames::frames_in;

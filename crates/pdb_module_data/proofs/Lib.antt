@@ -2,11 +2,11 @@ pub mod AscendingRows
 mod Bodies
 mod BodySteps
 mod CallsDeep
-mod ChainSteps
+pub mod ChainSteps
 mod ForestGrammar
 pub mod KeptRows
 pub mod KnownNames
-mod NestedSites
+pub mod NestedSites
 mod OpenBodies
 pub mod Deepest
 pub mod InlineeSteps

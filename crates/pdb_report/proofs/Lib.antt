@@ -1,5 +1,6 @@
 pub mod Lifting
 pub mod OtherFiles
 pub mod OpeningSteps
+pub mod SizeSums
 pub mod SizesSteps
 pub mod ToldSteps

@@ -1,13 +1,26 @@
 //! Laws of the definitions: functions that do nothing, whose contracts are proved.
 
-ghost use Rattle.std.specs.Prelude.{◌≡◌, ℕ, List, None};
+ghost use Rattle.std.specs.Prelude.{◌≡◌, ◌+◌, ◌-◌, ◌≤◌, ℕ, List, None};
 ghost use Rattle.pdb_files.specs.FileRead.{IsRead};
+ghost use Rattle.pdb_functions.specs.FunctionOrder.{Function as FunctionValue};
+ghost use Rattle.pdb_report.specs.Answer.{database};
 ghost use Rattle.pdb_report.specs.Loading.{load_fault};
-ghost use Rattle.pdb_symbols_modules.specs.Streams.{streams};
+ghost use Rattle.pdb_report.specs.SizesReport.{IsSizesReport};
+ghost use Rattle.pdb_sizes.specs.Counts.{count_of_none};
+ghost use Rattle.pdb_sizes.specs.Table.{count_in, sum_of};
+ghost use Rattle.pdb_symbols_modules.specs.Streams.{Streams, streams};
 
 /// What was read of a file has the loading fault that the whole file has; and where the file has none, it is the whole
 /// file. So a report on what was read is the report on the file.
 pub fn files_that_were_read()
     ensures alike { (file bytes : List ℕ) → IsRead file bytes → load_fault (streams bytes) ≡ load_fault (streams file) }
     ensures whole { (file bytes : List ℕ) → IsRead file bytes → load_fault (streams file) ≡ None → bytes ≡ file }
+{}
+
+/// The counts of a file's report on a range, with the count of nothing, add up to the number of the range's addresses. What the
+/// reports on two ranges, one after the other, have for a function, and for nothing, adds up to what the report on both has.
+pub fn size_reports_add_up()
+    ensures sum { (s : Streams) (start end : ℕ) (text : List ℕ) → start ≤ end → (r : IsSizesReport s start end text) → sum_of r.report.table + count_of_none r.map (database s) start end ≡ end - start }
+    ensures each { (s : Streams) (a b c : ℕ) (x y z : List ℕ) → a ≤ b → b ≤ c → (p : IsSizesReport s a b x) (q : IsSizesReport s b c y) (r : IsSizesReport s a c z) (f : FunctionValue) → count_in p.report.table f + count_in q.report.table f ≡ count_in r.report.table f }
+    ensures none { (s : Streams) (a b c : ℕ) (x y z : List ℕ) → a ≤ b → b ≤ c → (p : IsSizesReport s a b x) (q : IsSizesReport s b c y) (r : IsSizesReport s a c z) → count_of_none p.map (database s) a b + count_of_none q.map (database s) b c ≡ count_of_none r.map (database s) a c }
 {}

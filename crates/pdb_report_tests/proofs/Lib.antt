@@ -1,2 +1,3 @@
+pub mod DeepAnswers
 pub mod FailingParts
 pub mod RowFacts
