@@ -1,17 +1,29 @@
 -- The row at an offset, of rows that ascend: the last of those that begin at it or before it.
-use Rattle.std.proofs.Common.{◌≡◌, ℕ, zero, suc, ◌-◌, ◌<◌, ◌≤◌, true, false, List, [], ◌∷◌, length, get_or, Option, None, Some, refl, sym, ap, subst, ◌∙◌, arith, inl, inr}
-use Rattle.std.specs.Prelude.{slice_get, nat_le}
-use Rattle.std.specs.List.Sorted.{IsPartitionedBy, IsPartitionPoint}
-use Rattle.std.proofs.lemmas.Bool.{cases_lt, leb-true, leb-false, le-leb, lt-leb, le-ltb}
-use Rattle.std.proofs.lemmas.Option.{slice_get-get_or, slice_get_within}
+use Rattle.std.proofs.Common.{◌≡◌, ℕ, zero, suc, ◌-◌, ◌<◌, ◌≤◌, List, [], ◌∷◌, length, Option, None, Some, refl, ap, subst, ◌∙◌, arith}
+use Rattle.std.specs.Prelude.{map, slice_get}
+use Rattle.std.specs.Option.{option_map}
+use Rattle.std.proofs.lemmas.Bool.{le-leb, lt-leb, le-ltb}
+use Rattle.std.proofs.lemmas.List.{length-map}
+use Rattle.std.proofs.lemmas.Option.{slice_get-get_or, slice_get-map}
+use Rattle.pdb_pieces.specs.Halving.{Ascend, IsSplit}
 use Rattle.pdb_module_data.specs.declared.function_rows.LineRow.{LineRow}
 use Rattle.pdb_module_data.specs.FunctionLine.{later_row, row_at}
-use Rattle.pdb_module_data.specs.RowPieces.{AreAscending, AreSplit, row_before}
+use Rattle.pdb_module_data.specs.RowPieces.{AreAscending}
 
 ascend_at : (low : ℕ) (rows : List LineRow) (i : ℕ) (row : LineRow) → AreAscending low rows → slice_get rows i ≡ Some row → low ≤ row.start
 ascend_at low [] i row h e = cc
 ascend_at low (r ∷ rows) zero row h e = let same : r ≡ row = cc in subst (λ (x : LineRow). low ≤ x.start) same h.0
 ascend_at low (r ∷ rows) (suc i) row h e = let k = ascend_at r.start rows i row h.1 e in omega (arith, h.0)
+
+-- the row in front of a number
+abbrev pub row_before : List LineRow → ℕ → Option LineRow
+row_before rows zero = None
+row_before rows (suc n) = slice_get rows n
+
+-- so many rows begin at an offset or before it, and those behind them past it.
+pub record AreSplit (rows : List LineRow) (offset n : ℕ) : Type 0 where
+  pub front : (i : ℕ) (row : LineRow) → i < n → slice_get rows i ≡ Some row → row.start ≤ offset
+  pub back : (i : ℕ) (row : LineRow) → n ≤ i → slice_get rows i ≡ Some row → offset < row.start
 
 -- none begins there or before
 none_begun : (rows : List LineRow) (offset : ℕ) → ((i : ℕ) (row : LineRow) → slice_get rows i ≡ Some row → offset < row.start) → row_at rows offset ≡ None
@@ -41,29 +53,20 @@ row_at_split low (row ∷ rows) offset (suc n) h l s =
 
 -- ---- what a search by halving says
 
-rises : (low : ℕ) (rows : List LineRow) (i j : ℕ) (r s : LineRow) → AreAscending low rows → i < j → slice_get rows i ≡ Some r → slice_get rows j ≡ Some s → r.start ≤ s.start
-rises low [] i j r s h l e f = cc
-rises low (row ∷ rows) i zero r s h l e f = absurd (omega arith)
-rises low (row ∷ rows) zero (suc j) r s h l e f = let same : row ≡ r = cc in subst (λ (x : LineRow). x.start ≤ s.start) same (ascend_at row.start rows j s h.1 f)
-rises low (row ∷ rows) (suc i) (suc j) r s h l e f = rises row.start rows i j r s h.1 (omega arith) e f
+-- where rows begin ascends as they do
+pub starts_ascend : (low : ℕ) (rows : List LineRow) → AreAscending low rows → Ascend low (map (λ row. row.start) rows)
+starts_ascend low [] h = tt
+starts_ascend low (row ∷ rows) h = (h.0, starts_ascend row.start rows h.1)
 
--- no row that begins at an offset or before it comes behind one that begins past it
-pub starts_first : (low : ℕ) (rows : List LineRow) (offset : ℕ) → AreAscending low rows → IsPartitionedBy (λ row. nat_le row.start offset) rows
-starts_first low rows offset h i j d le lt e = elim (cases_lt i j) [
-  | inl before ↦ (
-      let r = rises low rows i j (get_or rows i d) (get_or rows j d) h before (slice_get-get_or rows i d (omega arith)) (slice_get-get_or rows j d lt) in
-      le-leb (get_or rows i d).start offset (omega (arith, r, leb-true (get_or rows j d).start offset e)))
-  | inr past ↦ (let same : i ≡ j = omega arith in rw same e)
-]
-
-at_index : (rows : List LineRow) (i : ℕ) (row : LineRow) → slice_get rows i ≡ Some row → get_or rows i row ≡ row
-at_index rows i row e = let here = slice_get-get_or rows i row (slice_get_within rows i row e) in cc
-
-pub split_by : (rows : List LineRow) (offset n : ℕ) → IsPartitionPoint (λ row. nat_le row.start offset ≡ true) (λ row. nat_le row.start offset ≡ false) rows n → AreSplit rows offset n
+-- the rows that begin at an offset or before it, by how many of their starts lie there
+pub split_by : (rows : List LineRow) (offset n : ℕ) → IsSplit (map (λ row. row.start) rows) offset n → AreSplit rows offset n
 split_by rows offset n at = record {
-  front = λ i row lt e. leb-true row.start offset (ap (λ (r : LineRow). nat_le r.start offset) (sym (at_index rows i row e)) ∙ at.0 i row (omega arith) lt);
-  back = λ i row le e. leb-false row.start offset (ap (λ (r : LineRow). nat_le r.start offset) (sym (at_index rows i row e)) ∙ at.1 i row le (slice_get_within rows i row e));
+  front = λ i row l e. at.before i row.start l (slice_get-map (λ (r : LineRow). r.start) rows i ∙ ap (option_map (λ (r : LineRow). r.start)) e);
+  back = λ i row l e. at.after i row.start l (slice_get-map (λ (r : LineRow). r.start) rows i ∙ ap (option_map (λ (r : LineRow). r.start)) e);
 }
+
+pub split_within : (rows : List LineRow) (offset n : ℕ) → IsSplit (map (λ row. row.start) rows) offset n → n ≤ length rows
+split_within rows offset n at = simp length-map at at.bound
 
 -- the row in front of a number that isn't 0
 pub row_in_front : (rows : List LineRow) (n : ℕ) → (n ≡ 0 → ⊥) → row_before rows n ≡ slice_get rows (n - 1)

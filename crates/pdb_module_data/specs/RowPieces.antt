@@ -1,6 +1,6 @@
 -- How the line rows of a function are searched: as they stand where they ascend, else by pieces of offsets with the number of the
 -- row at each.
-use Rattle.std.specs.Prelude.{◌≡◌, ℕ, zero, suc, ◌+◌, ◌^◌, ◌<◌, ◌≤◌, List, [], ◌∷◌, ◌++◌, slice_get, Option, None, Some, option_and_then}
+use Rattle.std.specs.Prelude.{◌≡◌, ℕ, ◌+◌, ◌^◌, ◌<◌, ◌≤◌, List, [], ◌∷◌, ◌++◌, slice_get, Option, None, Some, option_and_then}
 use Rattle.pdb_pieces.specs.declared.span.Span.{Span}
 use Rattle.pdb_pieces.specs.Spans.{best}
 use Rattle.pdb_module_data.specs.declared.function_rows.LineRow.{LineRow}
@@ -28,13 +28,3 @@ AreAscending low (row ∷ rows) = (low ≤ row.start) × AreAscending row.start 
 abbrev pub AreSearchable : List LineRow → Option (List Span) → Type 0
 AreSearchable rows None = AreAscending 0 rows
 AreSearchable rows (Some pieces) = StandForRows pieces rows
-
--- the row in front of a number
-abbrev pub row_before : List LineRow → ℕ → Option LineRow
-row_before rows zero = None
-row_before rows (suc n) = slice_get rows n
-
--- So many rows begin at an offset or before it, and those behind them past it.
-pub record AreSplit (rows : List LineRow) (offset n : ℕ) : Type 0 where
-  pub front : (i : ℕ) (row : LineRow) → i < n → slice_get rows i ≡ Some row → row.start ≤ offset
-  pub back : (i : ℕ) (row : LineRow) → n ≤ i → slice_get rows i ≡ Some row → offset < row.start

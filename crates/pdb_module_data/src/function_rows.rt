@@ -1,15 +1,15 @@
 //! The line rows of a function, and a search of the one at an offset by halving.
 
-ghost use Rattle.std.specs.Prelude.{◌≡◌, ◌≤◌, true, IfOk, length, slice_get};
+ghost use Rattle.std.specs.Prelude.{◌≡◌, ℕ, ◌+◌, ◌^◌, ◌<◌, ◌≤◌, true, IfOk, length, slice_get};
 ghost use Rattle.pdb_container.specs.Fault.{Gives};
 ghost use Rattle.pdb_module_data.specs.FunctionLine.{function_rows, row_at};
-ghost use Rattle.pdb_module_data.specs.RowPieces.{row_span as span_of_row, row_spans as spans_of_rows, AreAscending, AreSearchable, AreSplit, StandForRows};
+ghost use Rattle.pdb_module_data.specs.RowPieces.{row_span as span_of_row, row_spans as spans_of_rows, AreAscending, AreSearchable, StandForRows};
 
 use pdb_addresses::PdbInternalSectionOffset;
 use pdb_container::{FallibleIterator, Result};
 use pdb_indices::FileIndex;
 use pdb_lines::LineProgram;
-use pdb_pieces::{Mark, Pieces, Span};
+use pdb_pieces::{Begins, Mark, Pieces, Span, count_begun};
 use std::alloc::{AllocError, Global};
 use std::marker::Model;
 
@@ -25,6 +25,15 @@ pub struct LineRow {
     pub file_index: FileIndex,
     /// The line, counted from 1.
     pub line_start: u32,
+}
+
+/// A row begins where its code does.
+impl Begins for LineRow {
+    ghost beginning = { λ row. row.start };
+
+    fn begins_at(&self) -> u64 {
+        u64::from(self.start)
+    }
 }
 
 /// The line rows of a function: what is kept of those of its `DEBUG_S_LINES`, in their order, and pieces of offsets for a search
@@ -113,15 +122,6 @@ fn pieces_unless_ascending(
     Ok(Some(pieces))
 }
 
-/// How many rows begin at an offset or before it, of rows that ascend.
-fn count_begun(rows: &[LineRow], offset: u32) -> usize
-    requires { AreAscending 0 rows.now }
-    ensures bound { result ≤ length rows.now }
-    ensures split { AreSplit rows.now offset result }
-{
-    rows.partition_point(|row| row.start <= offset)
-}
-
 /// The row of a number, if it is there.
 fn row_numbered(rows: &[LineRow], number: usize) -> Option<LineRow>
     ensures { result ≡ slice_get rows.now number }
@@ -129,16 +129,18 @@ fn row_numbered(rows: &[LineRow], number: usize) -> Option<LineRow>
     rows.get(number).copied()
 }
 
-/// The row at an offset, of rows that ascend, by halving.
-fn row_by_halving(rows: &[LineRow], offset: u32) -> Option<LineRow>
+/// The row at an offset, of rows that ascend, by halving, and how many were looked at.
+fn row_by_halving(rows: &[LineRow], offset: u32) -> (Option<LineRow>, u32)
     requires { AreAscending 0 rows.now }
-    ensures { result ≡ row_at rows.now offset }
+    ensures row { result.0 ≡ row_at rows.now offset }
+    ensures probes { (digits : ℕ) → length rows.now < 2 ^ digits → result.1 ≤ digits }
+    ensures fewest { length rows.now + 1 < 2 ^ (result.1 + 1) }
 {
-    let count = count_begun(rows, offset);
+    let (count, probes) = count_begun(rows, u64::from(offset));
     if count == 0 {
-        None
+        (None, probes)
     } else {
-        row_numbered(rows, count - 1)
+        (row_numbered(rows, count - 1), probes)
     }
 }
 
@@ -192,13 +194,14 @@ impl FunctionRows {
         Ok(FunctionRows { rows, pieces })
     }
 
-    /// The row at an offset: of those that begin at it or before it the one with the greatest start, of equals the last. It
-    /// takes as many steps as the number of rows or of pieces has binary digits.
+    /// The row at an offset: of those that begin at it or before it the one with the greatest
+    /// start, of equals the last. Rows or pieces are halved: of n as many are looked at as n has
+    /// binary digits, or one fewer.
     pub fn at(&self, offset: u32) -> Option<LineRow>
         ensures { result ≡ row_at self.now offset }
     {
         match &self.pieces {
-            None => row_by_halving(self.rows.as_slice(), offset),
+            None => row_by_halving(self.rows.as_slice(), offset).0,
             Some(pieces) => row_by_pieces(self.rows.as_slice(), pieces, offset),
         }
     }
