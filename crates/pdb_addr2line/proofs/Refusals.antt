@@ -7,6 +7,7 @@ use Rattle.pdb_resolving.specs.declared.error.Error as upper
 use Rattle.pdb_resolving.specs.declared.error.Error.TheVariants as uppers
 use Rattle.pdb_resolving.specs.Fault.{error_of}
 use Rattle.pdb_loading.specs.Held.{Held, IsOwn}
+use Rattle.pdb_loading.proofs.HeldSteps.{own_wider}
 use Rattle.pdb_addr2line.specs.Refused.{CanFail, Refuses}
 use Rattle.pdb_symbols_modules.specs.Streams.{Streams}
 
@@ -36,10 +37,7 @@ refused_once bytes failures before after e read same h = absurd h
 
 own_once : {S : Type 0} (bytes : S → List ℕ) (failures : S → ℕ) (before after : S) (s : Streams) (d : Held) → bytes after ≡ bytes before
     → IsOwn s (HasRisen (failures before) (failures after)) d → IsOwn s (CanFail bytes failures before) d
-own_once bytes failures before after s d same h = record {
-  names_are = elim h.names_are [ inl risen ↦ inl (after, same, risen) | inr is ↦ inr is ];
-  modules_are = elim h.modules_are [ inl risen ↦ inl (after, same, risen) | inr is ↦ inr is ];
-}
+own_once bytes failures before after s d same h = own_wider s d (HasRisen (failures before) (failures after)) (CanFail bytes failures before) (λ risen. (after, same, risen)) h
 
 -- the same of what is held
 pub own_if_loaded : {S : Type 0} (bytes : S → List ℕ) (failures : S → ℕ) (before after : S) (s : Streams) (r : Result Held upper.Error) → bytes after ≡ bytes before

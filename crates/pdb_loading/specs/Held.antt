@@ -1,11 +1,11 @@
 -- What is held of a database, and that it is the file's.
-use Rattle.std.specs.Prelude.{◌≡◌, ℕ, ◌⊎◌, List, Option, map, Result}
-use Rattle.pdb_loading.specs.Kept.{KeptInfo, kept_info, answered, answered_at, if_read}
+use Rattle.std.specs.Prelude.{◌≡◌, ℕ, List, length, Option, map, Result}
+use Rattle.pdb_loading.specs.Kept.{KeptInfo, kept_info, answered, answered_at, if_read, AnswersSourceFault, KeepsAt, KeepsNames}
 use Rattle.pdb_loading.specs.Loading.{Tables, Loaded}
 use Rattle.pdb_container.specs.Fault.{Fault}
 use Rattle.pdb_symbols_modules.specs.ModuleStream.{ModuleStream}
 use Rattle.pdb_symbols_modules.specs.Dbi.{Dbi}
-use Rattle.pdb_symbols_modules.specs.Modules.{Module}
+use Rattle.pdb_symbols_modules.specs.Modules.{Module, modules_of}
 use Rattle.pdb_symbols_modules.specs.DatabaseCalls.{names, module_info}
 use Rattle.pdb_symbols_modules.specs.Shared.{shared, provider}
 use Rattle.pdb_symbols_modules.specs.Streams.{Streams}
@@ -34,7 +34,10 @@ names_in s = if_read (names (shared s))
 abbrev pub given : Streams → ℕ → Result (Option ModuleStream) Fault
 given s number = answered (kept_info (provider s number))
 
--- Names and modules are the file's, unless its source failed: each module is what the file gives of its number.
+-- Names and modules are the file's, but for what its source failed to give: names are missing
+-- then, and a module has that fault. As many modules are kept as the list has, so past it there is
+-- none.
 pub record IsOwn (s : Streams) (failed : Type 0) (h : Held) : Type 0 where
-  pub names_are : failed ⊎ (h.names ≡ names_in s)
-  pub modules_are : failed ⊎ ((number : ℕ) → answered_at h.infos number ≡ given s number)
+  pub names_are : KeepsNames failed h.names (names_in s)
+  pub modules_are : (number : ℕ) → KeepsAt AnswersSourceFault failed (answered_at h.infos number) (given s number)
+  pub count_is : length h.infos ≡ length (modules_of h.debug_information.modules).items

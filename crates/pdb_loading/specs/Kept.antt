@@ -1,5 +1,8 @@
 -- What is kept of what may be missing: modules' own streams, and the string table.
-use Rattle.std.specs.Prelude.{◌≡◌, ℕ, ◌≤◌, ◌⊎◌, List, Option, None, Some, slice_get, Result, Ok, Err}
+use Rattle.std.specs.Prelude.{◌≡◌, ◌≢◌, ℕ, ◌≤◌, ◌⊎◌, List, Option, None, Some, slice_get, Result, Ok, Err}
+use Rattle.std.specs.List.{AllZip}
+use Rattle.std.specs.Result.{IsErrAnd}
+use Rattle.std.specs.declared.io.ErrorKind.TheVariants as kinds
 use Rattle.pdb_container.specs.declared.error.Error.{Error}
 use Rattle.pdb_container.specs.declared.error.Error.TheVariants as errors
 use Rattle.pdb_container.specs.declared.error.ModuleFault.{ModuleFault}
@@ -47,17 +50,46 @@ abbrev pub if_read : {A : Type 0} → Result A Fault → Option A
 if_read (Ok x) = Some x
 if_read (Err e) = None
 
--- What a call kept is what there is to keep, unless the source failed; it is refused for want of memory alone.
-abbrev pub Keeps : {X Y : Type 0} → (X → Y) → Type 0 → Result X Error → Y → Type 0
-Keeps view failed (Ok x) there = failed ⊎ (view x ≡ there)
-Keeps view failed (Err errors.OutOfMemory) there = Unit {0}
-Keeps view failed (Err e) there = ⊥
+-- a fault of the source: an error of input or output, other than that a file ends too early
+abbrev pub IsSourceFault : ModuleFault → Type 0
+IsSourceFault (kept.IoError kind) = kind ≢ kinds.UnexpectedEof
+IsSourceFault fault = ⊥
 
--- A call left the source's bytes as they were and its count of failures at least where it stood, and kept what there is.
-pub record KeepsFrom {S X Y : Type 0} (bytes : S → List ℕ) (failures : S → ℕ) (old new : S) (view : X → Y) (result : Result X Error) (there : Y) : Type 0 where
+-- What is kept is what there is to keep, or the source failed, and it is what stands for that.
+abbrev pub KeepsAt : {A : Type 0} → (A → Type 0) → Type 0 → A → A → Type 0
+KeepsAt stands failed kept there = (kept ≡ there) ⊎ (failed × stands kept)
+
+-- of a module: where the source failed, that fault
+abbrev pub KeepsInfo : Type 0 → KeptInfo → KeptInfo → Type 0
+KeepsInfo failed kept there = KeepsAt (λ k. IsErrAnd k IsSourceFault) failed kept there
+
+-- of modules, one by one
+abbrev pub KeepsInfos : Type 0 → List KeptInfo → List KeptInfo → Type 0
+KeepsInfos failed kept there = AllZip (KeepsInfo failed) kept there
+
+-- of names: where the source failed, none
+abbrev pub KeepsNames : Type 0 → Option (List ℕ) → Option (List ℕ) → Type 0
+KeepsNames failed kept there = KeepsAt (λ names. names ≡ None) failed kept there
+
+-- a fault of the source, as it is answered of a module that was kept
+abbrev pub AnswersSourceFault : Result (Option ModuleStream) Fault → Type 0
+AnswersSourceFault (Err (Kept fault)) = IsSourceFault fault
+AnswersSourceFault answer = ⊥
+
+-- What a call kept, seen by view, is so kept of what there is to keep; its only error is out of
+-- memory.
+abbrev pub Keeps : {X Y : Type 0} → (Y → Y → Type 0) → (X → Y) → Result X Error → Y → Type 0
+Keeps keeps view (Ok x) there = keeps (view x) there
+Keeps keeps view (Err errors.OutOfMemory) there = Unit {0}
+Keeps keeps view (Err e) there = ⊥
+
+-- A call left the source's bytes as they were and its count of failures at least where it stood,
+-- and kept what there is, or what stands for a failure that was counted then.
+pub record KeepsFrom {S X Y : Type 0} (bytes : S → List ℕ) (failures : S → ℕ) (old new : S)
+    (keeps : Type 0 → Y → Y → Type 0) (view : X → Y) (result : Result X Error) (there : Y) : Type 0 where
   pub same : bytes new ≡ bytes old
   pub counts : failures old ≤ failures new
-  pub exact : Keeps view (HasRisen (failures old) (failures new)) result there
+  pub exact : Keeps (keeps (HasRisen (failures old) (failures new))) view result there
 
 -- the faults that a stream of an open file may have
 abbrev pub IsStreamFault : Fault → Type 0

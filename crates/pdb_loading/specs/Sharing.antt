@@ -1,8 +1,9 @@
 -- Modules that name one stream: it is read once, and held in common.
 use Rattle.std.specs.Prelude.{◌≡◌, ℕ, ◌⊎◌, Option, None, Some, Result, Ok, Err}
 use Rattle.std.specs.BTreeMap.{BTreeMap, get}
+use Rattle.std.specs.Result.{IsErrAnd}
 use Rattle.std.specs.Ordering.{nat_cmp}
-use Rattle.pdb_loading.specs.Kept.{KeptInfo, kept_info}
+use Rattle.pdb_loading.specs.Kept.{KeptInfo, kept_info, IsSourceFault, KeepsInfo}
 use Rattle.pdb_symbols_modules.specs.DatabaseCalls.{module_info}
 use Rattle.pdb_symbols_modules.specs.Modules.{Module}
 use Rattle.pdb_symbols_modules.specs.Shared.{module_stream}
@@ -19,11 +20,17 @@ in_parts_of m (Err fault) = Err fault
 abbrev pub IsOfStream : Streams → ℕ → KeptInfo → Type 0
 IsOfStream s number kept = (m : Module) → m.stream ≡ number → kept_info (module_info s m) ≡ in_parts_of m kept
 
--- streams by their numbers as they were kept, unless the source failed
-pub record AreOfStreams (s : Streams) (failed : Type 0) (read : BTreeMap ℕ KeptInfo) : Type 0 where
-  pub each : (number : ℕ) (kept : KeptInfo) → get nat_cmp read number ≡ Some kept → failed ⊎ IsOfStream s number kept
+-- What was kept of a stream is that, or the source failed, and it is that fault.
+abbrev pub KeepsStream : Streams → Type 0 → ℕ → KeptInfo → Type 0
+KeepsStream s failed number kept = IsOfStream s number kept ⊎ (failed × IsErrAnd kept IsSourceFault)
 
--- what is kept of one module more, and of the streams that were read then, unless the source failed
-pub record IsShared (s : Streams) (m : Module) (failed : Type 0) (kept : KeptInfo) (read : BTreeMap ℕ KeptInfo) : Type 0 where
-  pub own : failed ⊎ (kept ≡ kept_info (module_info s m))
+-- streams by their numbers, as they were kept
+pub record AreOfStreams (s : Streams) (failed : Type 0) (read : BTreeMap ℕ KeptInfo) : Type 0 where
+  pub each : (number : ℕ) (kept : KeptInfo) → get nat_cmp read number ≡ Some kept
+      → KeepsStream s failed number kept
+
+-- what is kept of one module more, and of the streams that were read then
+pub record IsShared (s : Streams) (m : Module) (failed : Type 0) (kept : KeptInfo)
+    (read : BTreeMap ℕ KeptInfo) : Type 0 where
+  pub own : KeepsInfo failed kept (kept_info (module_info s m))
   pub others : AreOfStreams s failed read

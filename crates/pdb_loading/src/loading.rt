@@ -2,7 +2,7 @@
 
 ghost use Rattle.std.specs.Prelude.{◌≡◌, Ok};
 ghost use Rattle.pdb_container.specs.SourceAnswers.{AnswersFrom};
-ghost use Rattle.pdb_loading.specs.Kept.{KeepsFrom};
+ghost use Rattle.pdb_loading.specs.Kept.{KeepsFrom, KeepsNames};
 ghost use Rattle.pdb_loading.specs.Held.{names_in};
 ghost use Rattle.pdb_loading.specs.Loading.{items, tables};
 ghost use Rattle.pdb_symbols_modules.specs.AddressTables.{address_map_by};
@@ -120,7 +120,8 @@ pub fn read_names<'s, S: Source + Drop>(
     pdb: &mut PDB<'s, S>,
     alloc: Global,
 ) -> Result<Option<StringTable<'s>>>
-    ensures { KeepsFrom S.bytes S.failures pdb.old pdb.new (λ n. n) result (names_in (streams (S.bytes pdb.old))) }
+    ensures { KeepsFrom S.bytes S.failures pdb.old pdb.new KeepsNames (λ n. n) result
+        (names_in (streams (S.bytes pdb.old))) }
 {
     match pdb.string_table(alloc) {
         Ok(names) => Ok(Some(names)),

@@ -1,8 +1,8 @@
 //! What is kept of the modules' own streams.
 
-ghost use Rattle.std.specs.Prelude.{ℕ, ◌≡◌, ◌≤◌, ◌⊎◌, IfOk, IsOkUnless, Ok, None};
+ghost use Rattle.std.specs.Prelude.{ℕ, ◌≡◌, ◌≤◌, IfOk, IsOkUnless, Ok, None};
 ghost use Rattle.pdb_loading.specs.Held.{kept_infos};
-ghost use Rattle.pdb_loading.specs.Kept.{kept_info, kept_as, KeepsFrom};
+ghost use Rattle.pdb_loading.specs.Kept.{kept_info, kept_as, KeepsFrom, KeepsInfo, KeepsInfos};
 ghost use Rattle.pdb_loading.specs.Loading.{listed};
 ghost use Rattle.pdb_loading.specs.Sharing.{in_parts_of, AreOfStreams, IsShared};
 ghost use Rattle.pdb_container.specs.Fault.{Gives, HasRisen, kept_of};
@@ -101,7 +101,8 @@ fn read_info<'s, S: Source + Drop>(
     entry: &Module<'_>,
 ) -> Result<KeptInfo<'s>>
     requires { (streams (S.bytes pdb.old)).open_fault ≡ None }
-    ensures { KeepsFrom S.bytes S.failures pdb.old pdb.new (λ k. k) result (kept_info (module_info (streams (S.bytes pdb.old)) entry.now)) }
+    ensures { KeepsFrom S.bytes S.failures pdb.old pdb.new KeepsInfo (λ k. k) result
+        (kept_info (module_info (streams (S.bytes pdb.old)) entry.now)) }
 {
     match pdb.module_info(alloc, entry) {
         Ok(info) => Ok(Ok(info)),
@@ -163,7 +164,8 @@ fn read_infos<'s, S: Source + Drop>(
     entries: &[Module<'_>],
 ) -> Result<Vec<KeptInfo<'s>>>
     requires { (streams (S.bytes pdb.old)).open_fault ≡ None }
-    ensures { KeepsFrom S.bytes S.failures pdb.old pdb.new (λ v. v.items) result (kept_infos (streams (S.bytes pdb.old)) entries.now) }
+    ensures { KeepsFrom S.bytes S.failures pdb.old pdb.new KeepsInfos (λ v. v.items) result
+        (kept_infos (streams (S.bytes pdb.old)) entries.now) }
 {
     let mut infos = Vec::new(alloc);
     let mut read = BTreeMap::new(alloc);
@@ -184,7 +186,8 @@ pub fn read_module_infos<'s, S: Source + Drop>(
     ensures same { S.bytes pdb.new ≡ S.bytes pdb.old }
     ensures counts { S.failures pdb.old ≤ S.failures pdb.new }
     ensures whole_list { Gives (λ _. tt) ⊥ result (listed debug_information.now) }
-    ensures kept { IfOk result (λ v. HasRisen (S.failures pdb.old) (S.failures pdb.new) ⊎ (v.items ≡ kept_infos (streams (S.bytes pdb.old)) (modules_of debug_information.now.modules).items)) }
+    ensures kept { IfOk result (λ v. KeepsInfos (HasRisen (S.failures pdb.old) (S.failures pdb.new)) v.items
+        (kept_infos (streams (S.bytes pdb.old)) (modules_of debug_information.now.modules).items)) }
 {
     let modules = collect_modules(alloc, debug_information.modules())?;
     read_infos(pdb, alloc, modules.as_slice())

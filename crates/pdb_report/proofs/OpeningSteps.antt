@@ -155,10 +155,10 @@ same_parts : (s : Streams) (h : Held) → h.names ≡ names_in s → parts_in (s
 same_parts s h names_are = rw names_are refl
 
 own_names : (s : Streams) (h : Held) → IsOwn s (HasRisen 0 0) h → h.names ≡ names_in s
-own_names s h own = elim own.names_are [ inl risen ↦ absurd (omega (arith, risen)) | inr is ↦ is ]
+own_names s h own = elim own.names_are [ inl is ↦ is | inr failed ↦ absurd (omega (arith, failed.0)) ]
 
 own_modules : (s : Streams) (h : Held) → IsOwn s (HasRisen 0 0) h → (number : ℕ) → answered_at h.infos number ≡ given s number
-own_modules s h own = elim own.modules_are [ inl risen ↦ absurd (omega (arith, risen)) | inr is ↦ is ]
+own_modules s h own = λ number. elim (own.modules_are number) [ inl is ↦ is | inr failed ↦ absurd (omega (arith, failed.0)) ]
 
 -- what every question goes over that is refused isn't loaded, with its fault
 pub parts_fail : (s : Streams) (e : context.Error) (dbi : Dbi) (read : Tables) (h : Held) → s.open_fault ≡ None → debug_information (shared s) ≡ Ok dbi → tables (shared s) dbi ≡ Ok read → is_ordered read.map ≡ true

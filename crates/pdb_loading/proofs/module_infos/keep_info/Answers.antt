@@ -1,7 +1,13 @@
+use Rattle.std.proofs.Common.{sym}
 use Rattle.std.proofs.lemmas.Map.Lookups.{exact_unsigned}
 use Rattle.pdb_symbols_modules.specs.Streams.{streams}
-use Rattle.pdb_loading.proofs.SharedStreams.{shared_then}
+use Rattle.pdb_loading.proofs.SharedStreams.{shared_again, shared_then}
 use Rattle.pdb_loading.proofs.module_infos.keep_info.Goals as goal
+
+pub returns-in-Some-clause-shared : goal.returns-in-Some-clause-shared
+returns-in-Some-clause-shared g c =
+    shared_again (streams (g.S.Source.bytes c.args.pdb.now)) c.args.entry.now (g.S.Source.failures c.args.pdb.now) c.stream-number.result.0 c.args.read.now c.in-Some.kept.now c.share_info.result
+    c.stream-number.ensures (sym c.in-Some.ensures.value) c.share_info.ensures
 
 pub returns-clause-shared : goal.returns-clause-shared
 returns-clause-shared g c = λ before low are.
