@@ -1,10 +1,13 @@
 //! Laws of the definitions: functions that do nothing, whose contracts are proved.
 
-ghost use Rattle.std.specs.Prelude.{◌≡◌, ◌+◌, ◌-◌, ◌≤◌, ℕ, List, None};
+ghost use Rattle.std.specs.Prelude.{◌≡◌, ◌+◌, ◌-◌, ◌<◌, ◌≤◌, ◌^◌, ℕ, List, None};
+ghost use Rattle.pdb_container.specs.Alike.{OpenAlike, ReadAlike};
 ghost use Rattle.pdb_files.specs.FileRead.{IsRead};
 ghost use Rattle.pdb_functions.specs.FunctionOrder.{Function as FunctionValue};
 ghost use Rattle.pdb_report.specs.Answer.{database};
+ghost use Rattle.pdb_report.specs.Isolation.{AreAlikeFor, IsIsolated};
 ghost use Rattle.pdb_report.specs.Loading.{load_fault};
+ghost use Rattle.pdb_report.specs.SameReports.{HaveSameReports};
 ghost use Rattle.pdb_report.specs.SizesReport.{IsSizesReport};
 ghost use Rattle.pdb_sizes.specs.Counts.{count_of_none};
 ghost use Rattle.pdb_sizes.specs.Table.{count_in, sum_of};
@@ -23,4 +26,21 @@ pub fn size_reports_add_up()
     ensures sum { (s : Streams) (start end : ℕ) (text : List ℕ) → start ≤ end → (r : IsSizesReport s start end text) → sum_of r.report.table + count_of_none r.map (database s) start end ≡ end - start }
     ensures each { (s : Streams) (a b c : ℕ) (x y z : List ℕ) → a ≤ b → b ≤ c → (p : IsSizesReport s a b x) (q : IsSizesReport s b c y) (r : IsSizesReport s a c z) (f : FunctionValue) → count_in p.report.table f + count_in q.report.table f ≡ count_in r.report.table f }
     ensures none { (s : Streams) (a b c : ℕ) (x y z : List ℕ) → a ≤ b → b ≤ c → (p : IsSizesReport s a b x) (q : IsSizesReport s b c y) (r : IsSizesReport s a c z) → count_of_none p.map (database s) a b + count_of_none q.map (database s) b c ≡ count_of_none r.map (database s) a c }
+{}
+
+/// Isolation: damage in one module leaves the others' answers alone. Two files that open alike, and
+/// read alike at every number that isn't free for a module in the first, have the same loading
+/// fault, or none; and at every address that the module holds in the first they have the same
+/// frames, the same function, and the same line of a report.
+pub fn isolation()
+    ensures loads { (a b : List ℕ) (m : ℕ) → AreAlikeFor m a b
+        → load_fault (streams a) ≡ load_fault (streams b) }
+    ensures answers { (file : List ℕ) → IsIsolated file }
+{}
+
+/// Two files that open alike, and read alike at every number, have the same loading fault, or none,
+/// and the same answers, functions and reports, however their pages lie.
+pub fn page_layout()
+    ensures { (a b : List ℕ) → OpenAlike a b → ((n : ℕ) → n < 2 ^ 32 → ReadAlike a b n)
+        → HaveSameReports (streams a) (streams b) }
 {}

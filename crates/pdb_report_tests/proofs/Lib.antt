@@ -1,3 +1,4 @@
 pub mod DeepAnswers
 pub mod FailingParts
+pub mod FreeStreams
 pub mod RowFacts
