@@ -8,8 +8,8 @@ use Rattle.pdb_engine.specs.InputLines.{Begins}
 abbrev pub Count : Type 0
 Count = Option (ℕ × Option ErrorKind)
 
--- A write failed: the count rose, unless it stood at its greatest, and the kind is kept. Where nothing is counted, one
--- may have.
+-- A write failed: the count rose, unless it stood at its greatest, and the kind is kept. Where
+-- nothing is counted, this says nothing.
 abbrev pub HasFailed : Count → Count → Type 0
 HasFailed None new = Unit {0}
 HasFailed (Some old) None = ⊥
@@ -19,11 +19,16 @@ HasFailed (Some old) (Some new) = (new.0 ≡ min (old.0 + 1) (2 ^ 64 - 1)) × ((
 abbrev pub PutsAll : {T : Type 0} → (T → Option (List ℕ)) → (T → Count) → T → T → List ℕ → Type 0
 PutsAll contents failures old new text = (failures new ≡ failures old) × Appends (contents old) (contents new) text
 
--- one failed, and a front of it was
-abbrev pub PutsFront : {T : Type 0} → (T → Option (List ℕ)) → (T → Count) → T → T → List ℕ → Type 0
-PutsFront contents failures old new text = HasFailed (failures old) (failures new) × ((out : List ℕ) × Appends (contents old) (contents new) out × Begins out text)
+-- a write failed so, and a prefix of the text was written
+abbrev pub PutsFront : {T : Type 0} → (T → Option (List ℕ)) → (T → Count)
+    → (T → ErrorKind → Type 0) → T → T → ErrorKind → List ℕ → Type 0
+PutsFront contents failures has_failed old new kind text =
+    HasFailed (failures old) (failures new) × has_failed new kind
+    × ((out : List ℕ) × Appends (contents old) (contents new) out × Begins out text)
 
 -- what a call that writes a text and stops at a failure returns, and leaves
-abbrev pub Puts : {T : Type 0} → (T → Option (List ℕ)) → (T → Count) → T → T → Result (Unit {0}) ErrorKind → List ℕ → Type 0
-Puts contents failures old new (Ok done) text = PutsAll contents failures old new text
-Puts contents failures old new (Err kind) text = PutsFront contents failures old new text
+abbrev pub Puts : {T : Type 0} → (T → Option (List ℕ)) → (T → Count)
+    → (T → ErrorKind → Type 0) → T → T → Result (Unit {0}) ErrorKind → List ℕ → Type 0
+Puts contents failures has_failed old new (Ok done) text = PutsAll contents failures old new text
+Puts contents failures has_failed old new (Err kind) text =
+    PutsFront contents failures has_failed old new kind text

@@ -10,28 +10,32 @@ use crate::engine::write_all;
 use crate::watched::Watched;
 use std::io::{ErrorKind, Write};
 
-/// Where a fault is told: any writer; a watched one also tells whether a write failed.
+/// Where a fault is told: any writer.
 pub trait ErrorOutput {
     // what it holds, where that is known
     ghost contents: { Self → Option (List ℕ) };
     // how many of its calls failed and how the last one did, where that is counted
     ghost failures: { Self → Option (ℕ × Option Kind) };
+    // its last write failed so: over any writer, a call learns that of a write that failed alone
+    ghost has_failed: { Self → Kind → Type 0 };
 
     /// Writes all of the bytes, and stops at the first failure.
     ///
     /// # Errors
     /// The kind of that failure.
     fn put(&mut self, bytes: &[u8]) -> Result<(), ErrorKind>
-        ensures { Puts contents failures self.old self.new result bytes.now };
+        ensures { Puts contents failures has_failed self.old self.new result bytes.now };
 }
 
 impl<W: Write> ErrorOutput for Watched<W> {
-    ghost use Rattle.std.specs.Prelude.{Some};
+    ghost use Rattle.std.specs.Prelude.{◌≡◌, Some};
     ghost use Rattle.pdb_engine.specs.Watched.{inner_of, failures_of, last_kind_of};
 
     ghost contents = { λ w. W.contents (inner_of w) };
 
     ghost failures = { λ w. Some (failures_of w, last_kind_of w) };
+
+    ghost has_failed = { λ w kind. last_kind_of w ≡ Some kind };
 
     #[tactic(auto, using(crate::proofs::Puts::watched_puts))]
     fn put(&mut self, bytes: &[u8]) -> Result<(), ErrorKind> {
@@ -40,11 +44,13 @@ impl<W: Write> ErrorOutput for Watched<W> {
 }
 
 impl<W: Write> ErrorOutput for W {
-    ghost use Rattle.std.specs.Prelude.{None};
+    ghost use Rattle.std.specs.Prelude.{None, ⊤};
 
     ghost contents = { λ w. W.contents w };
 
     ghost failures = { λ _. None };
+
+    ghost has_failed = { λ _ _. ⊤ };
 
     fn put(&mut self, bytes: &[u8]) -> Result<(), ErrorKind> {
         write_plain(self, bytes)

@@ -9,6 +9,8 @@ pub mod definitions;
 mod files;
 pub mod laws;
 #[cfg(test)]
+mod limits;
+#[cfg(test)]
 mod promptness;
 #[cfg(test)]
 mod sizes;

@@ -1,6 +1,7 @@
 -- What is told of a fault.
 use Rattle.std.specs.Prelude.{◌⊎◌, ℕ, List, [], ◌∷◌, ◌++◌, Option, codes}
 use Rattle.std.specs.Fmt.{decimal}
+use Rattle.std.specs.declared.io.ErrorKind.{ErrorKind}
 use Rattle.pdb_engine.specs.Puts.{Count, PutsAll, PutsFront}
 use Rattle.pdb_report_texts.specs.declared.fault.RunFault.{RunFault}
 use Rattle.pdb_report_texts.specs.declared.told.Told.{Told}
@@ -21,6 +22,9 @@ text_of t = (t.name).now ++ piece_text t.first ++ (t.between).now ++ piece_text 
 abbrev pub fault_line : RunFault → List ℕ
 fault_line fault = codes "fault: " ++ run_fault_text fault ++ 10 ∷ []
 
--- A line was told: no write failed, and all of it was written; or one failed, and a front of it was.
-abbrev pub Tells : {T : Type 0} → (T → Option (List ℕ)) → (T → Count) → T → T → List ℕ → Type 0
-Tells contents failures old new line = PutsAll contents failures old new line ⊎ PutsFront contents failures old new line
+-- a line was written: no write failed, and all of it was; or one failed, and a prefix of it was
+abbrev pub Tells : {T : Type 0} → (T → Option (List ℕ)) → (T → Count)
+    → (T → ErrorKind → Type 0) → T → T → List ℕ → Type 0
+Tells contents failures has_failed old new line =
+    PutsAll contents failures old new line
+    ⊎ ((kind : ErrorKind) × PutsFront contents failures has_failed old new kind line)

@@ -263,7 +263,7 @@ fn run_told(fault: &RunFault) -> Told<'_>
 /// # Errors
 /// The kind of that failure.
 fn write_piece<W: ErrorOutput>(output: &mut W, piece: Piece<'_>) -> Result<(), ErrorKind>
-    ensures { Puts W.contents W.failures output.old output.new result (piece_text piece.entry) }
+    ensures { Puts W.contents W.failures W.has_failed output.old output.new result (piece_text piece.entry) }
 {
     match piece {
         Piece::Text(text) => output.put(text.as_bytes()),
@@ -276,7 +276,7 @@ fn write_piece<W: ErrorOutput>(output: &mut W, piece: Piece<'_>) -> Result<(), E
 /// # Errors
 /// As [`write_piece`].
 fn write_number<W: ErrorOutput>(output: &mut W, number: u64) -> Result<(), ErrorKind>
-    ensures { Puts W.contents W.failures output.old output.new result (decimal number) }
+    ensures { Puts W.contents W.failures W.has_failed output.old output.new result (decimal number) }
 {
     let mut buffer = Buffer::new();
     let digits = buffer.format(number);
@@ -289,7 +289,7 @@ fn write_number<W: ErrorOutput>(output: &mut W, number: u64) -> Result<(), Error
 /// The kind of that failure.
 #[tactic(auto, using(crate::proofs::Pieces::pieces_more, crate::proofs::Pieces::pieces_all, crate::proofs::Pieces::pieces_part))]
 fn write_pieces<W: ErrorOutput>(output: &mut W, pieces: &[Piece<'_>]) -> Result<(), ErrorKind>
-    ensures { Puts W.contents W.failures output.old output.new result (flat_map piece_text pieces.now) }
+    ensures { Puts W.contents W.failures W.has_failed output.old output.new result (flat_map piece_text pieces.now) }
 {
     for piece in pieces {
         match write_piece(output, *piece) {
@@ -324,7 +324,7 @@ fn line_pieces(fault: &RunFault) -> [Piece<'_>; 9]
 /// # Errors
 /// The kind of that failure.
 pub fn tell<W: ErrorOutput>(fault: &RunFault, output: &mut W) -> Result<(), ErrorKind>
-    ensures { Puts W.contents W.failures output.old output.new result (fault_line fault.now) }
+    ensures { Puts W.contents W.failures W.has_failed output.old output.new result (fault_line fault.now) }
 {
     let pieces = line_pieces(fault);
     write_pieces(output, &pieces)
