@@ -4,7 +4,7 @@ ghost use Rattle.std.specs.Prelude.{◌≡◌, option_map, OnErr, OnOk};
 ghost use Rattle.std.specs.Option.{ok_or};
 ghost use Rattle.pdb_cross_modules.specs.Exports.{first_export};
 ghost use Rattle.pdb_cross_modules.specs.Imports.{imported as import_by, reference};
-ghost use Rattle.pdb_resolving.specs.Cause.{Finds};
+ghost use Rattle.pdb_resolving.specs.Cause.{Finds, of_no_table};
 ghost use Rattle.pdb_resolving.specs.Fault.{Answers, lifted, LocalIndexNotInExports};
 ghost use Rattle.pdb_resolving.specs.KeptTables.{export_of as module_export, import_of as module_import, numbered, resolved_by_steps};
 ghost use Rattle.pdb_resolving.specs.Resolving.{resolve, none_failed, modules_by, with_failed};
@@ -141,7 +141,7 @@ impl<'a, 's, P: ModuleProvider> Resolver<'a, 's, P> {
     /// What an index stands for as the module of a number imports it. `ModuleImportsUnsuccessful` where the module's imports stand
     /// as failed, else the module's fault or that of its imports, with this table, or
     /// `CrossModuleRefNotFound`.
-    #[tactic(auto, using(pdb_resolving::proofs::Ending::ends_by_table_on, pdb_resolving::proofs::Ending::ends_by_error))]
+    #[tactic(auto, using(pdb_resolving::proofs::Ending::ends_by_table_on))]
     fn import_of(
         &mut self,
         alloc: Global,
@@ -157,7 +157,7 @@ impl<'a, 's, P: ModuleProvider> Resolver<'a, 's, P> {
         }
         let modules = self.modules.as_slice();
         match keep_imports(&mut self.imports, alloc, self.provider, modules, number) {
-            Ok(()) => Ok(imported(&self.imports[&number], index)?),
+            Ok(()) => imported(&self.imports[&number], index),
             Err(Error::OutOfMemory) => Err(Stop::ByError(Error::OutOfMemory)),
             Err(fault) => Err(Stop::ByTable(Table::Imports(number), fault)),
         }
@@ -173,7 +173,7 @@ impl<'a, 's, P: ModuleProvider> Resolver<'a, 's, P> {
 
     /// What the module of a number exports first under an index as it names it, as [`Resolver::import_of`].
     /// `LocalIndexNotInExports`.
-    #[tactic(auto, using(pdb_resolving::proofs::Ending::ends_by_table_on, pdb_resolving::proofs::Ending::ends_by_error))]
+    #[tactic(auto, using(pdb_resolving::proofs::Ending::ends_by_table_on))]
     fn export_of(
         &mut self,
         alloc: Global,
@@ -189,7 +189,7 @@ impl<'a, 's, P: ModuleProvider> Resolver<'a, 's, P> {
         }
         let modules = self.modules.as_slice();
         match keep_exports(&mut self.exports, alloc, self.provider, modules, number) {
-            Ok(()) => Ok(exported(&self.exports[&number], local)?),
+            Ok(()) => exported(&self.exports[&number], local),
             Err(Error::OutOfMemory) => Err(Stop::ByError(Error::OutOfMemory)),
             Err(fault) => Err(Stop::ByTable(Table::Exports(number), fault)),
         }
@@ -197,19 +197,24 @@ impl<'a, 's, P: ModuleProvider> Resolver<'a, 's, P> {
 }
 
 /// What an index stands for by what a module imports. `CrossModuleRefNotFound`.
-#[tactic(auto, using(pdb_resolving::proofs::Lifting::parsed_fails))]
-fn imported(imports: &CrossModuleImports<'_>, index: TypeIndex) -> Result<CrossModuleRef<TypeIndex>>
-    ensures { Answers (reference (λ i. i.0)) result (lifted (import_by imports.now index.0)) }
+#[tactic(auto, using(pdb_resolving::proofs::Ending::ends_by_parsed))]
+fn imported(
+    imports: &CrossModuleImports<'_>,
+    index: TypeIndex,
+) -> stop::Result<CrossModuleRef<TypeIndex>>
+    ensures { Finds (reference (λ i. i.0)) result
+        (of_no_table (lifted (import_by imports.now index.0))) }
 {
     Ok(imports.resolve_import(index)?)
 }
 
 /// The index in the database's table by a module's first export of an index as it names it. `LocalIndexNotInExports`.
-fn exported(exports: &ModuleExports<'_>, local: Local<TypeIndex>) -> Result<u32>
-    ensures { Answers (λ n. n) result (ok_or (first_export exports.now local.0.0) (LocalIndexNotInExports local.0.0)) }
+fn exported(exports: &ModuleExports<'_>, local: Local<TypeIndex>) -> stop::Result<u32>
+    ensures { Finds (λ n. n) result
+        (of_no_table (ok_or (first_export exports.now local.0.0) (LocalIndexNotInExports local.0.0))) }
 {
     match exports.first(local.0.0) {
         Some(index) => Ok(index),
-        None => Err(Error::LocalIndexNotInExports(local.0.0)),
+        None => Err(Stop::ByError(Error::LocalIndexNotInExports(local.0.0))),
     }
 }

@@ -4,7 +4,7 @@ use Rattle.std.specs.Prelude.{◌⊎◌}
 use Rattle.pdb_container.specs.declared.error.Error as container
 use Rattle.pdb_container.specs.declared.error.Error.TheVariants as causes
 use Rattle.pdb_container.specs.Fault as container_fault
-use Rattle.pdb_container.specs.Fault.{IsOutside, ◌>>=◌}
+use Rattle.pdb_container.specs.Fault.{IsOutside, IsOfBytes, ◌>>=◌}
 use Rattle.pdb_resolving.specs.declared.error.Error.{Error}
 use Rattle.pdb_resolving.specs.declared.error.Error.TheVariants as errors
 use Rattle.pdb_resolving.specs.declared.stop.Stop.{Stop}
@@ -12,7 +12,7 @@ use Rattle.pdb_resolving.specs.declared.stop.Stop.TheVariants as stops
 use Rattle.pdb_resolving.specs.declared.table.Table.{Table}
 use Rattle.pdb_resolving.specs.Cause.{Cause, Ends, of_any, of_no_table, of_table, error_in}
 use Rattle.pdb_resolving.specs.Fault.{Fault, Fails, error_of, lifted}
-use Rattle.pdb_resolving.proofs.Lifting.{given_fails}
+use Rattle.pdb_resolving.proofs.Lifting.{given_fails, parsed_fails}
 
 -- a step that has ended is the end
 pub ends_on : {A B : Type 0} (s : Stop) (read : Result A Cause) (f : A → Result B Cause) → Ends s read → Ends s (read >>= f)
@@ -37,6 +37,11 @@ ends_by_error_on e read f h = ends_on (stops.ByError e) (of_no_table read) f (en
 pub ends_by_given_on : {A B : Type 0} (e : container.Error) (read : Result A container_fault.Fault) (f : A → Result B Cause)
     → (IsOutside e ⊥ ⊎ (read ≡ Err (container_fault.fault_of e))) → Ends (stops.ByError (error_of e)) (of_no_table (lifted read) >>= f)
 ends_by_given_on e read f h = ends_by_error_on (error_of e) (lifted read) f (given_fails e read h)
+
+-- a call of the container that takes no memory fails
+pub ends_by_parsed : {A : Type 0} (e : container.Error) (read : Result A container_fault.Fault)
+    → IsOfBytes e → read ≡ Err (container_fault.fault_of e) → Ends (stops.ByError (error_of e)) (of_no_table (lifted read))
+ends_by_parsed e read bytes h = ends_by_error (error_of e) (lifted read) (parsed_fails e read bytes h)
 
 -- a table can't be read
 pub ends_by_table : {A : Type 0} (table : Table) (e : Error) (read : Result A Fault) → (e ≡ errors.OutOfMemory → ⊥) → Fails e read → Ends (stops.ByTable table e) (of_table table read)
