@@ -2,7 +2,7 @@
 use Rattle.std.proofs.Common.{◌≡◌, sym, subst}
 use Rattle.pdb_records.specs.declared.type_data.ProcedureType.{ProcedureType}
 use Rattle.pdb_records.specs.IdForms.{FunctionForm}
-use Rattle.pdb_resolving.specs.declared.error.Error.{Error}
+use Rattle.pdb_resolving.specs.declared.stop.Stop.{Stop}
 use Rattle.std.specs.Str.Lossy.{utf8_lossy}
 use Rattle.pdb_text_pieces.specs.Printed.{Text, Printed, Done, ◌>>=◌, Stops}
 use Rattle.pdb_text_pieces.specs.Paths.{Path}
@@ -13,7 +13,7 @@ use Rattle.pdb_function_text.specs.Ids.{VisitId, visiting_id, scope_text, scoped
 use Rattle.pdb_type_printing.proofs.Others.{stops_on}
 
 -- where the return type was printed, what stops the scope stops the function
-scope_ends : (env : Env) (visit : VisitId) (ids path : Path) (id : FunctionForm) (t : ProcedureType) (w w1 new : Text) (e : Error)
+scope_ends : (env : Env) (visit : VisitId) (ids path : Path) (id : FunctionForm) (t : ProcedureType) (w w1 new : Text) (e : Stop)
     → returned_unless env (visiting env path) path t.return_type t.attributes w ≡ Done w1
     → Stops e new (scope_text visit ids id.scope w1) → Stops e new (scoped_text env visit ids path id t w)
 scope_ends env visit ids path id t w w1 new e returned stopped =
@@ -21,7 +21,7 @@ scope_ends env visit ids path id t w w1 new e returned stopped =
     (stops_on e new (scope_text visit ids id.scope w1) (λ w. name_and_arguments env path (utf8_lossy id.name) t w) stopped)
 
 -- the same, by what was asked in between, and by the path as it was kept
-pub scope_stops : {F : Type 0} (env : F → Env) (f f' : F) (ids path path' : Path) (id : FunctionForm) (t : ProcedureType) (w w1 new : Text) (e : Error)
+pub scope_stops : {F : Type 0} (env : F → Env) (f f' : F) (ids path path' : Path) (id : FunctionForm) (t : ProcedureType) (w w1 new : Text) (e : Stop)
     → f' ≡ f → path' ≡ path → returned_unless (env f) (visiting (env f) path') path' t.return_type t.attributes w ≡ Done w1
     → Stops e new (scope_text (visiting_id (env f') ids) ids id.scope w1) → Stops e new (scoped_text (env f) (visiting_id (env f) ids) ids path id t w)
 scope_stops {F} env f f' ids path path' id t w w1 new e same is returned stopped =

@@ -6,6 +6,7 @@ use Rattle.pdb_records.specs.declared.type_data.MemberFunctionType.{MemberFuncti
 use Rattle.pdb_records.specs.declared.type_data.ProcedureType.{ProcedureType}
 use Rattle.pdb_records.specs.Forms as forms
 use Rattle.pdb_records.specs.Forms.{TypeForm, Plain}
+use Rattle.pdb_resolving.specs.Cause.{Cause, of_any}
 use Rattle.pdb_resolving.specs.Fault.{Fault}
 use Rattle.pdb_text_pieces.specs.Printed.{Text, Printed, Done, Stopped, ◌>>=◌, say, answered, read_or}
 use Rattle.pdb_type_printing.specs.Env.{Env}
@@ -52,6 +53,10 @@ abbrev pub function_printed : Env → Text → ℕ → Text → Printed
 function_printed env name i w =
     if i == 0 then say (name_or_omitted name) w else read_or (λ e. Stopped e w) (env.read i) (λ form. signature env (i ∷ []) name form w)
 
+-- the signature of a function, or what ends it
+abbrev pub function_made : Env → Text → ℕ → Result Text Cause
+function_made env name i = answered (function_printed env name i [])
+
 -- the signature of a function, or the first fault
 abbrev pub function_text : Env → Text → ℕ → Result Text Fault
-function_text env name i = answered (function_printed env name i [])
+function_text env name i = of_any (function_made env name i)

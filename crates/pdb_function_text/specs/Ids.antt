@@ -8,6 +8,7 @@ use Rattle.pdb_records.specs.Forms as forms
 use Rattle.pdb_records.specs.Forms.{TypeForm, Plain}
 use Rattle.pdb_records.specs.IdForms as id_forms
 use Rattle.pdb_records.specs.IdForms.{IdForm, FunctionForm, MemberFunctionForm}
+use Rattle.pdb_resolving.specs.Cause.{Cause, ByFault, of_any}
 use Rattle.pdb_resolving.specs.Fault.{Fault, FunctionIdIsNotProcedureType, MemberFunctionIdIsNotMemberFunctionType, CircularTypeDefinition}
 use Rattle.pdb_text_pieces.specs.Printed.{Text, Printed, Done, Stopped, ◌>>=◌, say, answered, unread, read_or}
 use Rattle.pdb_type_printing.specs.Env.{Env}
@@ -24,7 +25,7 @@ VisitId = Path → ℕ → Text → Printed
 -- a method by its type, whose index is on the path
 abbrev pub method_id_text : Env → Path → MemberFunctionForm → TypeForm → Text → Printed
 method_id_text env path id (Plain (forms.MemberFunction t)) w = method_text env path (Some id.parent) (utf8_lossy id.name) t w
-method_id_text env path id form w = Stopped MemberFunctionIdIsNotMemberFunctionType w
+method_id_text env path id form w = Stopped (ByFault MemberFunctionIdIsNotMemberFunctionType) w
 
 -- a method
 abbrev pub method_id_printed : Env → MemberFunctionForm → Text → Printed
@@ -45,7 +46,7 @@ scoped_text env visit ids path id t w = do
 -- a function by its type, whose index is on the path
 abbrev pub function_id_text : Env → VisitId → Path → Path → FunctionForm → TypeForm → Text → Printed
 function_id_text env visit ids path id (Plain (forms.Procedure t)) w = scoped_text env visit ids path id t w
-function_id_text env visit ids path id form w = Stopped FunctionIdIsNotProcedureType w
+function_id_text env visit ids path id form w = Stopped (ByFault FunctionIdIsNotProcedureType) w
 
 -- further parts of a list of strings
 abbrev pub more_parts : Env → List TypeIndex → Text → Printed
@@ -80,17 +81,21 @@ id_form_text env visit ids form w = unhandled_id form w
 
 -- an id is read before it goes on the path of ids, and has a text where it can't be read
 abbrev pub entering_id : Env → Bool → ℕ → Text → (IdForm → Printed) → Printed
-entering_id env free i w more = read_or (λ e. unread e w) (env.read_id i) (λ form. if free then more form else Stopped (CircularTypeDefinition i) w)
+entering_id env free i w more = read_or (λ e. unread e w) (env.read_id i) (λ form. if free then more form else Stopped (ByFault (CircularTypeDefinition i)) w)
 
 -- an id with room for so many more on the path of ids
 unfoldable pub visit_id : Env → ℕ → VisitId
-visit_id env zero ids i w = entering_id env false i w (λ form. Stopped (CircularTypeDefinition i) w)
+visit_id env zero ids i w = entering_id env false i w (λ form. Stopped (ByFault (CircularTypeDefinition i)) w)
 visit_id env (suc left) ids i w = entering_id env (not (is_on ids i)) i w (λ form. id_form_text env (visit_id env left) (ids ++ i ∷ []) form w)
 
 -- an id as its path leaves room, which ends at 1,024 ids
 abbrev pub visiting_id : Env → Path → VisitId
 visiting_id env ids = visit_id env (room ids)
 
+-- the text of an id, or what ends it
+abbrev pub id_made : Env → ℕ → Result Text Cause
+id_made env i = answered (visit_id env 1024 [] i [])
+
 -- the text of an id, or the first fault
 abbrev pub id_text : Env → ℕ → Result Text Fault
-id_text env i = answered (visit_id env 1024 [] i [])
+id_text env i = of_any (id_made env i)

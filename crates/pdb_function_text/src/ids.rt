@@ -2,6 +2,7 @@
 
 ghost use Rattle.std.specs.Prelude.{◌≡◌, ◌≤◌, ◌==◌, ◌++◌, ◌∷◌, [], length, string_bytes, if◌then◌else◌};
 ghost use Rattle.pdb_records.specs.IdForms.{id_shape, function_form, member_function_form, Function, MemberFunction};
+ghost use Rattle.pdb_resolving.specs.Cause.{ByFault};
 ghost use Rattle.pdb_resolving.specs.Fault.{CircularTypeDefinition};
 ghost use Rattle.pdb_text_pieces.specs.Printed.{Prints, Stopped, say};
 ghost use Rattle.pdb_text_pieces.specs.Paths.{may_enter};
@@ -12,7 +13,8 @@ ghost use Rattle.pdb_type_printing.specs.Printing.{env_of};
 use crate::printer::FunctionPrinter;
 use pdb_indices::{IdIndex, TypeIndex};
 use pdb_records::{FunctionId, IdData, MemberFunctionId, ProcedureType, TypeData};
-use pdb_resolving::{Error, ModuleProvider, Result};
+use pdb_resolving::stop::{Result, Stop};
+use pdb_resolving::{Error, ModuleProvider};
 use pdb_text_pieces::{
     Seen, emit, emit_between_strings, emit_scope_end, emit_string, emit_unhandled_id, emit_unread,
 };
@@ -37,7 +39,7 @@ impl<'a, 's, P: ModuleProvider> FunctionPrinter<'a, 's, P> {
     {
         match self.printer.read_id(asker, index) {
             Ok(found) => self.emit_entered_id(asker, w, index, &found, ids),
-            Err(error) => emit_unread(w, error),
+            Err(stop) => emit_unread(w, stop),
         }
     }
 
@@ -56,7 +58,7 @@ impl<'a, 's, P: ModuleProvider> FunctionPrinter<'a, 's, P> {
         ensures same_reference { ids.new.path.ghost_name ≡ ids.old.path.ghost_name }
         ensures level { ids.new.level ≡ ids.old.level }
         ensures path { ids.new.path.now.items ≡ ids.old.path.now.items }
-        ensures text { Prints result (string_bytes w.new) (if may_enter ids.old.path.now.items index.0 then id_form_text (env_of P.provided self.old asker.module_index) (visiting_id (env_of P.provided self.old asker.module_index) (ids.old.path.now.items ++ index.0 ∷ [])) (ids.old.path.now.items ++ index.0 ∷ []) (id_shape found.now) (string_bytes w.old) else Stopped (CircularTypeDefinition index.0) (string_bytes w.old)) }
+        ensures text { Prints result (string_bytes w.new) (if may_enter ids.old.path.now.items index.0 then id_form_text (env_of P.provided self.old asker.module_index) (visiting_id (env_of P.provided self.old asker.module_index) (ids.old.path.now.items ++ index.0 ∷ [])) (ids.old.path.now.items ++ index.0 ∷ []) (id_shape found.now) (string_bytes w.old) else Stopped (ByFault (CircularTypeDefinition index.0)) (string_bytes w.old)) }
     {
         let mut level = Seen::new(&mut *ids.path);
         level.insert(index.0)?;
@@ -109,7 +111,7 @@ impl<'a, 's, P: ModuleProvider> FunctionPrinter<'a, 's, P> {
         ensures text { Prints result (string_bytes w.new) (id_form_text (env_of P.provided self.old asker.module_index) (visiting_id (env_of P.provided self.old asker.module_index) ids.old.path.now.items) ids.old.path.now.items (Function (function_form id.now)) (string_bytes w.old)) }
     {
         let TypeData::Procedure(t) = self.printer.read(asker, id.function_type)? else {
-            return Err(Error::FunctionIdIsNotProcedureType);
+            return Err(Stop::ByError(Error::FunctionIdIsNotProcedureType));
         };
         self.emit_scoped(asker, w, id, &t, ids)
     }
@@ -177,7 +179,7 @@ impl<'a, 's, P: ModuleProvider> FunctionPrinter<'a, 's, P> {
         ensures text { Prints result (string_bytes w.new) (method_id_printed (env_of P.provided self.old asker.module_index) (member_function_form id.now) (string_bytes w.old)) }
     {
         let TypeData::MemberFunction(t) = self.printer.read(asker, id.function_type)? else {
-            return Err(Error::MemberFunctionIdIsNotMemberFunctionType);
+            return Err(Stop::ByError(Error::MemberFunctionIdIsNotMemberFunctionType));
         };
         let mut path = Vec::new(asker.alloc);
         path.push(id.function_type.0)?;

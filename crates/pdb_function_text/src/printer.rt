@@ -2,10 +2,10 @@
 
 ghost use Rattle.std.specs.Prelude.{◌≡◌, Ok, OnErr, OnOk};
 ghost use Rattle.pdb_resolving.specs.Fault.{Answers};
-ghost use Rattle.pdb_type_printing.specs.Printing.{env_of, KeepsAsFailed};
+ghost use Rattle.pdb_type_printing.specs.Printing.{env_of, with_failed};
 
 use pdb_indices::TypeIndex;
-use pdb_resolving::{ModuleProvider, Result};
+use pdb_resolving::{ModuleProvider, Result, Table};
 use pdb_symbols_modules::Module;
 use pdb_type_printing::{Asker, TypePrinter};
 use std::alloc::AllocError;
@@ -47,18 +47,11 @@ impl<'a, 's, P: ModuleProvider> FunctionPrinter<'a, 's, P> {
     }
 
     /// As [`TypePrinter::keep_failed`].
-    pub fn keep_failed(&mut self) -> std::result::Result<(), AllocError>
-        ensures kept { OnOk result (KeepsAsFailed P.provided self.old self.new) }
+    pub fn keep_failed(&mut self, table: Table) -> std::result::Result<(), AllocError>
+        ensures kept { OnOk result (self.new ≡ with_failed self.old table) }
         ensures same { OnErr result (self.new ≡ self.old) }
     {
-        self.printer.keep_failed()
-    }
-
-    /// As [`TypePrinter::forget_failing`].
-    pub fn forget_failing(&mut self)
-        ensures { self.new ≡ self.old }
-    {
-        self.printer.forget_failing();
+        self.printer.keep_failed(table)
     }
 
     /// The size of the type of an index, in bytes.

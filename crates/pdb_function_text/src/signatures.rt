@@ -10,7 +10,8 @@ ghost use Rattle.pdb_type_printing.specs.Printing.{env_of};
 use crate::printer::FunctionPrinter;
 use pdb_indices::TypeIndex;
 use pdb_records::{MemberFunctionType, ProcedureType, TypeData};
-use pdb_resolving::{ModuleProvider, Result};
+use pdb_resolving::ModuleProvider;
+use pdb_resolving::stop::Result;
 use pdb_text_pieces::{Seen, emit, emit_name, emit_scope_end, emit_static, leaves_out_arguments};
 use pdb_type_printing::Asker;
 

@@ -1,14 +1,15 @@
 //! Texts in one piece.
 
 ghost use Rattle.std.specs.Prelude.{◌≡◌, string_bytes};
-ghost use Rattle.pdb_resolving.specs.Fault.{Answers};
+ghost use Rattle.pdb_resolving.specs.Cause.{Finds};
 ghost use Rattle.pdb_type_printing.specs.Printing.{env_of};
-ghost use Rattle.pdb_function_text.specs.Functions.{function_text};
-ghost use Rattle.pdb_function_text.specs.Ids.{id_text};
+ghost use Rattle.pdb_function_text.specs.Functions.{function_made};
+ghost use Rattle.pdb_function_text.specs.Ids.{id_made};
 
 use crate::printer::FunctionPrinter;
 use pdb_indices::{IdIndex, TypeIndex};
-use pdb_resolving::{ModuleProvider, Result};
+use pdb_resolving::ModuleProvider;
+use pdb_resolving::stop::Result;
 use pdb_text_pieces::Seen;
 use pdb_type_printing::Asker;
 
@@ -20,7 +21,7 @@ impl<'a, 's, P: ModuleProvider> FunctionPrinter<'a, 's, P> {
     ///
     /// # Errors
     /// The first fault in the order of printing; `OutOfMemory`.
-    #[tactic(auto, using(crate::proofs::Failing::stops_fails))]
+    #[tactic(auto, using(crate::proofs::Failing::stops_ends))]
     pub fn function_text(
         &mut self,
         asker: Asker,
@@ -28,7 +29,9 @@ impl<'a, 's, P: ModuleProvider> FunctionPrinter<'a, 's, P> {
         function_type_index: TypeIndex,
     ) -> Result<String>
         ensures same { self.new ≡ self.old }
-        ensures text { Answers string_bytes result (function_text (env_of P.provided self.old asker.module_index) name.now function_type_index.0) }
+        ensures text { Finds string_bytes result
+            (function_made (env_of P.provided self.old asker.module_index) name.now
+            function_type_index.0) }
     {
         let mut text = String::with_capacity(asker.alloc, USUAL_LENGTH)?;
         self.emit_signature(asker, &mut text, name, function_type_index)?;
@@ -39,10 +42,11 @@ impl<'a, 's, P: ModuleProvider> FunctionPrinter<'a, 's, P> {
     ///
     /// # Errors
     /// As [`FunctionPrinter::function_text`].
-    #[tactic(auto, using(crate::proofs::Failing::stops_fails))]
+    #[tactic(auto, using(crate::proofs::Failing::stops_ends))]
     pub fn id_text(&mut self, asker: Asker, id_index: IdIndex) -> Result<String>
         ensures same { self.new ≡ self.old }
-        ensures text { Answers string_bytes result (id_text (env_of P.provided self.old asker.module_index) id_index.0) }
+        ensures text { Finds string_bytes result
+            (id_made (env_of P.provided self.old asker.module_index) id_index.0) }
     {
         let mut text = String::with_capacity(asker.alloc, USUAL_LENGTH)?;
         let mut path = Vec::new(asker.alloc);

@@ -4,13 +4,15 @@ ghost use Rattle.std.specs.Prelude.{◌≡◌, option_map, OnErr, OnOk};
 ghost use Rattle.std.specs.Option.{ok_or};
 ghost use Rattle.pdb_cross_modules.specs.Exports.{first_export};
 ghost use Rattle.pdb_cross_modules.specs.Imports.{imported as import_by, reference};
+ghost use Rattle.pdb_resolving.specs.Cause.{Finds, of_no_table};
 ghost use Rattle.pdb_resolving.specs.Fault.{Answers, lifted, LocalIndexNotInExports};
 ghost use Rattle.pdb_resolving.specs.KeptTables.{export_of as module_export, import_of as module_import, numbered, resolved_by_steps};
-ghost use Rattle.pdb_resolving.specs.Resolving.{resolve, none_failed, modules_by, KeepsAsFailed};
+ghost use Rattle.pdb_resolving.specs.Resolving.{resolve, none_failed, modules_by, with_failed};
 
 use pdb_container::StringTable;
 use pdb_failed_parts::FailedParts;
 use pdb_indices::{ItemIndex, Local, TypeIndex};
+use pdb_resolving::stop::{self, Stop};
 use pdb_resolving::{
     Error, KeptExports, KeptImports, ModuleExports, ModuleNames, ModuleProvider, Result, Table,
     keep_exports, keep_imports,
@@ -37,21 +39,19 @@ pub struct Resolver<'a, 's, P: ModuleProvider> {
     failed_imports: FailedParts,
     /// The modules whose exports stand as failed.
     failed_exports: FailedParts,
-    /// The last table that couldn't be read and doesn't stand as failed, if there is one since this was last forgotten.
-    failing: Option<Table>,
 }
 
 impl<'a, 's, P: ModuleProvider> Model for Resolver<'a, 's, P> {
-    ghost use Rattle.std.specs.Prelude.{option_map, IfSome};
+    ghost use Rattle.std.specs.Prelude.{option_map};
     ghost use Rattle.pdb_resolving.specs.KeptTables.{AreNames, AreRead};
-    ghost use Rattle.pdb_resolving.specs.Resolving.{exports_read, imports_read, IsFailing, Kept};
+    ghost use Rattle.pdb_resolving.specs.Resolving.{exports_read, imports_read, Kept};
 
     ghost Value = { Kept P };
 
     ghost view = { λ r. record { provider = r.provider.now; entries = r.modules.items; names = option_map (λ t. t.now) r.string_table; failed = record { imports = r.failed_imports; exports = r.failed_exports } } };
 
     // What is kept is what reading gives, so that it shows nowhere.
-    ghost invariant = { λ r. IfSome r.failing (IsFailing (record { provided = P.provided r.provider.now; entries = r.modules.items; names = option_map (λ t. t.now) r.string_table; failed = record { imports = r.failed_imports; exports = r.failed_exports } })) × AreNames r.modules.items r.names × AreRead (imports_read (P.provided r.provider.now) r.modules.items) r.imports × AreRead (exports_read (P.provided r.provider.now) r.modules.items) r.exports };
+    ghost invariant = { λ r. AreNames r.modules.items r.names × AreRead (imports_read (P.provided r.provider.now) r.modules.items) r.imports × AreRead (exports_read (P.provided r.provider.now) r.modules.items) r.exports };
 }
 
 impl<'a, 's, P: ModuleProvider> Resolver<'a, 's, P> {
@@ -74,7 +74,6 @@ impl<'a, 's, P: ModuleProvider> Resolver<'a, 's, P> {
             exports: BTreeMap::new(alloc),
             failed_imports: FailedParts::new(alloc),
             failed_exports: FailedParts::new(alloc),
-            failing: None,
         }
     }
 
@@ -93,11 +92,13 @@ impl<'a, 's, P: ModuleProvider> Resolver<'a, 's, P> {
     /// The first fault of: `CantResolveCrossModuleRefWithoutStringTable`; the asking module's imports (`OutOfRangeModuleIndex`,
     /// the provider's fault, `ModuleInfoNotFound`, their own); `CrossModuleRefNotFound`; the module's name in the table of
     /// names; `ModuleNameNotFound`; the other module's exports, as its imports; `LocalIndexNotInExports`. Imports and exports
-    /// that stand as failed are `ModuleImportsUnsuccessful` and `ModuleExportsUnsuccessful`. `OutOfMemory`.
+    /// that stand as failed are `ModuleImportsUnsuccessful` and `ModuleExportsUnsuccessful`; a fault of
+    /// others comes with their table. `OutOfMemory`.
     #[tactic(auto, using(pdb_resolving::proofs::Steps::by_steps))]
-    pub fn resolve(&mut self, alloc: Global, module_index: usize, index: u32) -> Result<u32>
+    pub fn resolve(&mut self, alloc: Global, module_index: usize, index: u32) -> stop::Result<u32>
         ensures same { self.new ≡ self.old }
-        ensures value { Answers (λ n. n) result (resolve (modules_by P.provided self.old) module_index index) }
+        ensures value { Finds (λ n. n) result
+            (resolve (modules_by P.provided self.old) module_index index) }
     {
         if !TypeIndex(index).is_cross_module() {
             return Ok(index);
@@ -105,39 +106,31 @@ impl<'a, 's, P: ModuleProvider> Resolver<'a, 's, P> {
         self.resolve_elsewhere(alloc, module_index, TypeIndex(index))
     }
 
-    /// Keeps as failed the table of imports or exports that couldn't be read last since [`Resolver::forget_failing`], if there
-    /// is one. Nothing changes where memory is short.
-    pub fn keep_failed(&mut self) -> std::result::Result<(), AllocError>
-        ensures kept { OnOk result (KeepsAsFailed P.provided self.old self.new) }
+    /// Keeps a table as failed. Nothing changes where memory is short.
+    pub fn keep_failed(&mut self, table: Table) -> std::result::Result<(), AllocError>
+        ensures kept { OnOk result (self.new ≡ with_failed self.old table) }
         ensures same { OnErr result (self.new ≡ self.old) }
     {
-        match self.failing.take() {
-            None => Ok(()),
-            Some(Table::Imports(number)) => self.failed_imports.keep(number as u64),
-            Some(Table::Exports(number)) => self.failed_exports.keep(number as u64),
+        match table {
+            Table::Imports(number) => self.failed_imports.keep(number as u64),
+            Table::Exports(number) => self.failed_exports.keep(number as u64),
         }
     }
 
-    /// Forgets which table couldn't be read last, so that it isn't kept as failed.
-    pub fn forget_failing(&mut self)
-        ensures { self.new ≡ self.old }
-    {
-        self.failing = None;
-    }
-
     /// What an index stands for that leads into another module.
-    #[tactic(auto, using(pdb_resolving::proofs::Lifting::fails_on, pdb_resolving::proofs::Lifting::given_fails_on), unfolding(pdb_resolving::specs::KeptTables::resolved_by_steps))]
+    #[tactic(auto, using(pdb_resolving::proofs::Ending::ends_on, pdb_resolving::proofs::Ending::ends_by_given_on, pdb_resolving::proofs::Ending::ends_by_error_on), unfolding(pdb_resolving::specs::KeptTables::resolved_by_steps))]
     fn resolve_elsewhere(
         &mut self,
         alloc: Global,
         module_index: usize,
         index: TypeIndex,
-    ) -> Result<u32>
+    ) -> stop::Result<u32>
         ensures same { self.new ≡ self.old }
-        ensures value { Answers (λ n. n) result (resolved_by_steps (modules_by P.provided self.old) module_index index.0) }
+        ensures value { Finds (λ n. n) result
+            (resolved_by_steps (modules_by P.provided self.old) module_index index.0) }
     {
         let Some(names) = self.string_table else {
-            return Err(Error::CantResolveCrossModuleRefWithoutStringTable);
+            return Err(Stop::ByError(Error::CantResolveCrossModuleRefWithoutStringTable));
         };
         let CrossModuleRef(ModuleRef(name), local) = self.import_of(alloc, module_index, index)?;
         let name = name.to_string_lossy(alloc, names)?;
@@ -146,27 +139,27 @@ impl<'a, 's, P: ModuleProvider> Resolver<'a, 's, P> {
     }
 
     /// What an index stands for as the module of a number imports it. `ModuleImportsUnsuccessful` where the module's imports stand
-    /// as failed, else the module's fault, that of its imports, or `CrossModuleRefNotFound`. A fault of the imports is noted.
+    /// as failed, else the module's fault or that of its imports, with this table, or
+    /// `CrossModuleRefNotFound`.
+    #[tactic(auto, using(pdb_resolving::proofs::Ending::ends_by_table_on))]
     fn import_of(
         &mut self,
         alloc: Global,
         number: usize,
         index: TypeIndex,
-    ) -> Result<CrossModuleRef<TypeIndex>>
+    ) -> stop::Result<CrossModuleRef<TypeIndex>>
         ensures same { self.new ≡ self.old }
-        ensures value { Answers (reference (λ i. i.0)) result (module_import (modules_by P.provided self.old) number index.0) }
+        ensures value { Finds (reference (λ i. i.0)) result
+            (module_import (modules_by P.provided self.old) number index.0) }
     {
         if self.failed_imports.stands(number as u64) {
-            return Err(Error::ModuleImportsUnsuccessful);
+            return Err(Stop::ByError(Error::ModuleImportsUnsuccessful));
         }
         let modules = self.modules.as_slice();
         match keep_imports(&mut self.imports, alloc, self.provider, modules, number) {
             Ok(()) => imported(&self.imports[&number], index),
-            Err(Error::OutOfMemory) => Err(Error::OutOfMemory),
-            Err(fault) => {
-                self.failing = Some(Table::Imports(number));
-                Err(fault)
-            }
+            Err(Error::OutOfMemory) => Err(Stop::ByError(Error::OutOfMemory)),
+            Err(fault) => Err(Stop::ByTable(Table::Imports(number), fault)),
         }
     }
 
@@ -180,39 +173,48 @@ impl<'a, 's, P: ModuleProvider> Resolver<'a, 's, P> {
 
     /// What the module of a number exports first under an index as it names it, as [`Resolver::import_of`].
     /// `LocalIndexNotInExports`.
-    fn export_of(&mut self, alloc: Global, number: usize, local: Local<TypeIndex>) -> Result<u32>
+    #[tactic(auto, using(pdb_resolving::proofs::Ending::ends_by_table_on))]
+    fn export_of(
+        &mut self,
+        alloc: Global,
+        number: usize,
+        local: Local<TypeIndex>,
+    ) -> stop::Result<u32>
         ensures same { self.new ≡ self.old }
-        ensures value { Answers (λ n. n) result (module_export (modules_by P.provided self.old) number local.0.0) }
+        ensures value { Finds (λ n. n) result
+            (module_export (modules_by P.provided self.old) number local.0.0) }
     {
         if self.failed_exports.stands(number as u64) {
-            return Err(Error::ModuleExportsUnsuccessful);
+            return Err(Stop::ByError(Error::ModuleExportsUnsuccessful));
         }
         let modules = self.modules.as_slice();
         match keep_exports(&mut self.exports, alloc, self.provider, modules, number) {
             Ok(()) => exported(&self.exports[&number], local),
-            Err(Error::OutOfMemory) => Err(Error::OutOfMemory),
-            Err(fault) => {
-                self.failing = Some(Table::Exports(number));
-                Err(fault)
-            }
+            Err(Error::OutOfMemory) => Err(Stop::ByError(Error::OutOfMemory)),
+            Err(fault) => Err(Stop::ByTable(Table::Exports(number), fault)),
         }
     }
 }
 
 /// What an index stands for by what a module imports. `CrossModuleRefNotFound`.
-#[tactic(auto, using(pdb_resolving::proofs::Lifting::parsed_fails))]
-fn imported(imports: &CrossModuleImports<'_>, index: TypeIndex) -> Result<CrossModuleRef<TypeIndex>>
-    ensures { Answers (reference (λ i. i.0)) result (lifted (import_by imports.now index.0)) }
+#[tactic(auto, using(pdb_resolving::proofs::Ending::ends_by_parsed))]
+fn imported(
+    imports: &CrossModuleImports<'_>,
+    index: TypeIndex,
+) -> stop::Result<CrossModuleRef<TypeIndex>>
+    ensures { Finds (reference (λ i. i.0)) result
+        (of_no_table (lifted (import_by imports.now index.0))) }
 {
     Ok(imports.resolve_import(index)?)
 }
 
 /// The index in the database's table by a module's first export of an index as it names it. `LocalIndexNotInExports`.
-fn exported(exports: &ModuleExports<'_>, local: Local<TypeIndex>) -> Result<u32>
-    ensures { Answers (λ n. n) result (ok_or (first_export exports.now local.0.0) (LocalIndexNotInExports local.0.0)) }
+fn exported(exports: &ModuleExports<'_>, local: Local<TypeIndex>) -> stop::Result<u32>
+    ensures { Finds (λ n. n) result
+        (of_no_table (ok_or (first_export exports.now local.0.0) (LocalIndexNotInExports local.0.0))) }
 {
     match exports.first(local.0.0) {
         Some(index) => Ok(index),
-        None => Err(Error::LocalIndexNotInExports(local.0.0)),
+        None => Err(Stop::ByError(Error::LocalIndexNotInExports(local.0.0))),
     }
 }

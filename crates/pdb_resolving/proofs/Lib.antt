@@ -1,3 +1,4 @@
+pub mod Ending
 pub mod FirstExports
 pub mod LastPlaces
 pub mod Lifting

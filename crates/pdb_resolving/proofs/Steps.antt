@@ -9,14 +9,15 @@ use Rattle.pdb_container.specs.Fault.{◌>>=◌}
 use Rattle.pdb_container.specs.StringTable.{text_in}
 use Rattle.pdb_cross_modules.specs.Imports.{imported}
 use Rattle.pdb_symbols_modules.specs.Modules.{Module}
-use Rattle.pdb_resolving.specs.declared.error.Error.{Error}
+use Rattle.pdb_resolving.specs.declared.stop.Stop.{Stop}
 use Rattle.pdb_resolving.specs.declared.module_names.ModuleNames.{ModuleNames}
-use Rattle.pdb_resolving.specs.Fault.{Fault, Answers, CantResolveCrossModuleRefWithoutStringTable, ModuleNameNotFound, lifted}
+use Rattle.pdb_resolving.specs.Cause.{Cause, Finds, of_no_table}
+use Rattle.pdb_resolving.specs.Fault.{CantResolveCrossModuleRefWithoutStringTable, ModuleNameNotFound, lifted}
 use Rattle.pdb_resolving.specs.KeptTables.{AreNames, numbered, export_of, resolved_by_steps}
 use Rattle.pdb_resolving.specs.Resolving.{Modules, imports_of, last_named, resolved_elsewhere}
 
 -- two steps as one
-regroup : {N A B C : Type 0} (names : Result N Fault) (m : Result A Fault) (f : A → Result B Fault) (k : N → B → Result C Fault)
+regroup : {N A B C : Type 0} (names : Result N Cause) (m : Result A Cause) (f : A → Result B Cause) (k : N → B → Result C Cause)
     → (names >>= (λ n. (m >>= f) >>= k n)) ≡ (names >>= (λ n. m >>= (λ x. f x >>= k n)))
 regroup (Ok n) (Ok x) f k = refl
 regroup (Ok n) (Err e) f k = refl
@@ -25,13 +26,13 @@ regroup (Err e) m f k = refl
 same_steps : (modules : Modules) (asking index : ℕ) → resolved_by_steps modules asking index ≡ resolved_elsewhere modules asking index
 unfolding resolved_by_steps resolved_elsewhere
 same_steps modules asking index =
-    regroup (ok_or modules.names CantResolveCrossModuleRefWithoutStringTable) (imports_of modules asking) (λ imports. lifted (imported imports index))
-    (λ names target. lifted (text_in names target.name) >>= (λ name. numbered name modules.entries >>= (λ number. export_of modules number target.local)))
+    regroup (of_no_table (ok_or modules.names CantResolveCrossModuleRefWithoutStringTable)) (imports_of modules asking) (λ imports. of_no_table (lifted (imported imports index)))
+    (λ names target. of_no_table (lifted (text_in names target.name)) >>= (λ name. of_no_table (numbered name modules.entries) >>= (λ number. export_of modules number target.local)))
 
 -- what the steps answer is the answer
-pub by_steps : (modules : Modules) (asking index : ℕ) (result : Result ℕ Error)
-    → Answers (λ n. n) result (resolved_by_steps modules asking index) → Answers (λ n. n) result (resolved_elsewhere modules asking index)
-by_steps modules asking index result answer = subst (λ read. Answers (λ n. n) result read) (same_steps modules asking index) answer
+pub by_steps : (modules : Modules) (asking index : ℕ) (result : Result ℕ Stop)
+    → Finds (λ n. n) result (resolved_by_steps modules asking index) → Finds (λ n. n) result (resolved_elsewhere modules asking index)
+by_steps modules asking index result answer = subst (λ read. Finds (λ n. n) result read) (same_steps modules asking index) answer
 
 -- the last module of a name is what is kept under the name in lower case
 kept_last : (entries : List Module) (names : ModuleNames) (name lower : List ℕ) (kept : Option (BTreeMap (String Global) ℕ)) → AreNames entries names → names.numbers ≡ kept → IsSome kept

@@ -13,6 +13,7 @@ use Rattle.pdb_cross_modules.specs.Exports.{Entry, first_export}
 use Rattle.pdb_cross_modules.specs.Imports.{Imported, imported}
 use Rattle.pdb_symbols_modules.specs.Modules.{Module}
 use Rattle.pdb_resolving.specs.declared.module_names.ModuleNames.{ModuleNames}
+use Rattle.pdb_resolving.specs.Cause.{Cause, of_no_table}
 use Rattle.pdb_resolving.specs.Fault.{Fault, CantResolveCrossModuleRefWithoutStringTable, ModuleNameNotFound, LocalIndexNotInExports, lifted}
 use Rattle.pdb_resolving.specs.Resolving.{Modules, last_named, imports_of, exports_of}
 
@@ -40,26 +41,26 @@ pub record AreNames (entries : List Module) (names : ModuleNames) : Type 0 where
 -- ---- an index that leads into another module, in the steps that are gone
 
 -- what a module imports by an index
-abbrev pub import_of : Modules → ℕ → ℕ → Result Imported Fault
+abbrev pub import_of : Modules → ℕ → ℕ → Result Imported Cause
 import_of modules asking index = do
   imports ← imports_of modules asking
-  lifted (imported imports index)
+  of_no_table (lifted (imported imports index))
 
 -- the number of the last module of a name
 abbrev pub numbered : List ℕ → List Module → Result ℕ Fault
 numbered name entries = ok_or (last_named name entries) (ModuleNameNotFound (str_to_ascii_lowercase name))
 
 -- what a module exports first under an index as it names it
-abbrev pub export_of : Modules → ℕ → ℕ → Result ℕ Fault
+abbrev pub export_of : Modules → ℕ → ℕ → Result ℕ Cause
 export_of modules number local = do
   exports ← exports_of modules number
-  ok_or (first_export exports local) (LocalIndexNotInExports local)
+  of_no_table (ok_or (first_export exports local) (LocalIndexNotInExports local))
 
 -- what an index stands for that leads into another module, by these steps
-unfoldable pub resolved_by_steps : Modules → ℕ → ℕ → Result ℕ Fault
+unfoldable pub resolved_by_steps : Modules → ℕ → ℕ → Result ℕ Cause
 resolved_by_steps modules asking index = do
-  names ← ok_or modules.names CantResolveCrossModuleRefWithoutStringTable
+  names ← of_no_table (ok_or modules.names CantResolveCrossModuleRefWithoutStringTable)
   target ← import_of modules asking index
-  name ← lifted (text_in names target.name)
-  number ← numbered name modules.entries
+  name ← of_no_table (lifted (text_in names target.name))
+  number ← of_no_table (numbered name modules.entries)
   export_of modules number target.local

@@ -1,3 +1,4 @@
+pub mod Cause
 pub mod Fault
 pub mod KeptTables
 pub mod Reaches

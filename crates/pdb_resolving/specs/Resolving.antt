@@ -1,5 +1,5 @@
 -- Indices that lead into another module, and what they stand for in the tables of types and ids.
-use Rattle.std.specs.Prelude.{◌≡◌, ℕ, ◌+◌, ◌⊎◌, Bool, List, [], ◌∷◌, Option, None, Some, Result, Ok, Err, IsErr, slice_get, if◌then◌else◌}
+use Rattle.std.specs.Prelude.{ℕ, ◌+◌, Bool, List, [], ◌∷◌, Option, None, Some, Result, Ok, Err, slice_get, if◌then◌else◌}
 use Rattle.std.specs.Option.{ok_or}
 use Rattle.std.specs.Str.{str_eq_ignore_ascii_case, str_to_ascii_lowercase}
 use Rattle.std.specs.Str.Lossy.{utf8_lossy}
@@ -14,6 +14,7 @@ use Rattle.pdb_symbols_modules.specs.ModuleStream.{ModuleStream, imports_in, exp
 use Rattle.pdb_symbols_modules.specs.Modules.{Module}
 use Rattle.pdb_resolving.specs.declared.table.Table.{Table}
 use Rattle.pdb_resolving.specs.declared.table.Table.TheVariants as tables
+use Rattle.pdb_resolving.specs.Cause.{Cause, ByFault, of_no_table, of_table}
 use Rattle.pdb_resolving.specs.Fault.{Fault, ModuleImportsUnsuccessful, ModuleExportsUnsuccessful, CantResolveCrossModuleRefWithoutStringTable, ModuleNameNotFound, LocalIndexNotInExports, OutOfRangeModuleIndex, ModuleInfoNotFound, lifted}
 
 -- what gives modules: by a module's number and entry what its own stream holds, if it has one, or the fault
@@ -79,33 +80,34 @@ exports_read provided entries number = do
   lifted (exports_in own)
 
 -- what the module of a number imports, unless that stands as failed
-abbrev pub imports_of : Modules → ℕ → Result (List Import) Fault
+abbrev pub imports_of : Modules → ℕ → Result (List Import) Cause
 imports_of modules number =
     if stands modules.failed.imports number
-    then Err ModuleImportsUnsuccessful
-    else imports_read modules.provided modules.entries number
+    then Err (ByFault ModuleImportsUnsuccessful)
+    else of_table (tables.Imports number) (imports_read modules.provided modules.entries number)
 
 -- what the module of a number exports, unless that stands as failed
-abbrev pub exports_of : Modules → ℕ → Result (List Entry) Fault
+abbrev pub exports_of : Modules → ℕ → Result (List Entry) Cause
 exports_of modules number =
     if stands modules.failed.exports number
-    then Err ModuleExportsUnsuccessful
-    else exports_read modules.provided modules.entries number
+    then Err (ByFault ModuleExportsUnsuccessful)
+    else of_table (tables.Exports number) (exports_read modules.provided modules.entries number)
 
 -- What an index of the asking module stands for that leads into another one: that module's first export of what the asking
 -- module imports. The other module is the last one of the imported name.
-unfoldable pub resolved_elsewhere : Modules → ℕ → ℕ → Result ℕ Fault
+unfoldable pub resolved_elsewhere : Modules → ℕ → ℕ → Result ℕ Cause
 resolved_elsewhere modules asking index = do
-  names ← ok_or modules.names CantResolveCrossModuleRefWithoutStringTable
+  names ← of_no_table (ok_or modules.names CantResolveCrossModuleRefWithoutStringTable)
   imports ← imports_of modules asking
-  target ← lifted (imported imports index)
-  name ← lifted (text_in names target.name)
-  number ← ok_or (last_named name modules.entries) (ModuleNameNotFound (str_to_ascii_lowercase name))
+  target ← of_no_table (lifted (imported imports index))
+  name ← of_no_table (lifted (text_in names target.name))
+  number ← of_no_table
+      (ok_or (last_named name modules.entries) (ModuleNameNotFound (str_to_ascii_lowercase name)))
   exports ← exports_of modules number
-  ok_or (first_export exports target.local) (LocalIndexNotInExports target.local)
+  of_no_table (ok_or (first_export exports target.local) (LocalIndexNotInExports target.local))
 
 -- what an index stands for as a module has it: without bit 31 itself
-abbrev pub resolve : Modules → ℕ → ℕ → Result ℕ Fault
+abbrev pub resolve : Modules → ℕ → ℕ → Result ℕ Cause
 resolve modules asking index = if is_cross_module index then resolved_elsewhere modules asking index else Ok index
 
 -- ---- modules as they are kept
@@ -123,18 +125,11 @@ modules_by provided kept = record { entries = kept.entries; provided = provided 
 
 -- ---- tables that fail
 
--- A table can't be read, or stands as failed.
-abbrev pub IsFailing : Modules → Table → Type 0
-IsFailing modules (tables.Imports number) = IsErr (imports_of modules number)
-IsFailing modules (tables.Exports number) = IsErr (exports_of modules number)
-
 -- the tables that stand as failed, with one more
 abbrev pub with_table : FailedTables → Table → FailedTables
 with_table failed (tables.Imports number) = record failed { imports = with_part failed.imports number }
 with_table failed (tables.Exports number) = record failed { exports = with_part failed.exports number }
 
--- What a call that failed keeps: nothing, or that one more table fails.
-abbrev pub KeepsAsFailed : {P : Type 0} → (P → Provided) → Kept P → Kept P → Type 0
-KeepsAsFailed provided old new =
-    (new ≡ old)
-    ⊎ ((table : Table) × IsFailing (modules_by provided old) table × (new ≡ record old { failed = with_table old.failed table }))
+-- what resolving keeps, with one more table that stands as failed
+abbrev pub with_failed : {P : Type 0} → Kept P → Table → Kept P
+with_failed kept table = record kept { failed = with_table kept.failed table }

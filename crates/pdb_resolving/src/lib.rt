@@ -7,6 +7,7 @@ mod kept_tables;
 mod module_exports;
 mod module_names;
 mod provider;
+pub mod stop;
 mod table;
 
 pub use error::{Error, Result};

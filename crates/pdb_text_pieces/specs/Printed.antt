@@ -3,33 +3,35 @@ use Rattle.std.specs.Prelude.{◌≡◌, ℕ, false, List, ◌++◌, codes, Resu
 use Rattle.std.specs.Fmt.{digits}
 use Rattle.pdb_container.specs.declared.error.Error.TheVariants as read
 use Rattle.pdb_container.specs.Fault.{TypeNotFound, UnimplementedTypeKind}
-use Rattle.pdb_resolving.specs.declared.error.Error.{Error}
 use Rattle.pdb_resolving.specs.declared.error.Error.TheVariants.{PdbError as AtPdbError, FormatError, OutOfMemory}
-use Rattle.pdb_resolving.specs.Fault.{Fault, PdbError, fault_of}
+use Rattle.pdb_resolving.specs.declared.stop.Stop.{Stop}
+use Rattle.pdb_resolving.specs.declared.stop.Stop.TheVariants.{ByError, ByTable as AtTable}
+use Rattle.pdb_resolving.specs.Cause.{Cause, ByFault, ByTable, IsOfFault}
+use Rattle.pdb_resolving.specs.Fault.{PdbError, fault_of}
 
 -- bytes of UTF-8
 abbrev pub Text : Type 0
 Text = List ℕ
 
--- how printing ends, with the text so far: all is printed, or a fault came
+-- how printing ends, with the text so far: all is printed, or a cause came
 pub data Printed : Type 0 where
   Done : Text → Printed
-  Stopped : Fault → Text → Printed
+  Stopped : Cause → Text → Printed
 
 infixl 10 ◌>>=◌
 -- printing goes on where all is printed
 abbrev pub ◌>>=◌ : Printed → (Text → Printed) → Printed
 (Done w) >>= more = more w
-(Stopped e w) >>= more = Stopped e w
+(Stopped cause w) >>= more = Stopped cause w
 
 -- a text behind the text so far
 abbrev pub say : Text → Text → Printed
 say s w = Done (w ++ s)
 
--- what printing gives from no text on: a text, or the first fault
-abbrev pub answered : Printed → Result Text Fault
+-- what printing gives from no text on: a text, or what ended it
+abbrev pub answered : Printed → Result Text Cause
 answered (Done w) = Ok w
-answered (Stopped e w) = Err e
+answered (Stopped cause w) = Err cause
 
 -- what is printed where no type has the index
 abbrev pub missing_type : ℕ → Text
@@ -39,40 +41,43 @@ missing_type i = codes "<missing type 0x" ++ (digits 16 false i ++ codes ">")
 abbrev pub unimplemented_kind : ℕ → Text
 unimplemented_kind leaf = codes "<unimplemented type kind 0x" ++ (digits 16 false leaf ++ codes ">")
 
--- what is printed in place of a record that can't be read; any other fault is the answer
-abbrev pub unread : Fault → Text → Printed
-unread (PdbError (TypeNotFound i)) w = say (missing_type i) w
-unread (PdbError (UnimplementedTypeKind leaf)) w = say (unimplemented_kind leaf) w
-unread e w = Stopped e w
+-- what is printed in place of a record that can't be read; anything else ends the text
+abbrev pub unread : Cause → Text → Printed
+unread (ByFault (PdbError (TypeNotFound i))) w = say (missing_type i) w
+unread (ByFault (PdbError (UnimplementedTypeKind leaf))) w = say (unimplemented_kind leaf) w
+unread cause w = Stopped cause w
 
 -- a missing type ends here: what was printed before it stays, and it is named behind that
 abbrev pub caught : Printed → Printed
 caught (Done w) = Done w
-caught (Stopped (PdbError (TypeNotFound i)) w) = say (missing_type i) w
-caught (Stopped e w) = Stopped e w
+caught (Stopped (ByFault (PdbError (TypeNotFound i))) w) = say (missing_type i) w
+caught (Stopped cause w) = Stopped cause w
 
 -- what is printed of something that was read; or else what is printed in its place
-abbrev pub read_or : {A : Type 0} → (Fault → Printed) → Result A Fault → (A → Printed) → Printed
+abbrev pub read_or : {A : Type 0} → (Cause → Printed) → Result A Cause → (A → Printed) → Printed
 read_or fail (Ok x) more = more x
-read_or fail (Err e) more = fail e
+read_or fail (Err cause) more = fail cause
 
 -- ---- what a call that prints returned and left
 
--- A call failed and left this text: printing stopped so, unless memory was refused.
-abbrev pub Stops : Error → Text → Printed → Type 0
-Stops OutOfMemory new printed = Unit {0}
-Stops (AtPdbError read.OutOfMemory) new printed = ⊥
-Stops (FormatError cause) new printed = ⊥
-Stops e new printed = printed ≡ Stopped (fault_of e) new
+-- A call was ended and left this text: printing stopped so, unless memory was refused.
+abbrev pub Stops : Stop → Text → Printed → Type 0
+Stops (ByError OutOfMemory) new printed = Unit {0}
+Stops (ByError (AtPdbError read.OutOfMemory)) new printed = ⊥
+Stops (ByError (FormatError cause)) new printed = ⊥
+Stops (ByError e) new printed = printed ≡ Stopped (ByFault (fault_of e)) new
+Stops (AtTable table e) new printed = IsOfFault e × (printed ≡ Stopped (ByTable table (fault_of e)) new)
 
 -- A call returned and left this text: printing ends so, unless memory was refused.
-abbrev pub Prints : {A : Type 0} → Result A Error → Text → Printed → Type 0
+abbrev pub Prints : {A : Type 0} → Result A Stop → Text → Printed → Type 0
 Prints (Ok x) new printed = printed ≡ Done new
-Prints (Err e) new printed = Stops e new printed
+Prints (Err stop) new printed = Stops stop new printed
 
--- A call that is given the error of a reading returned and left this text.
-abbrev pub PrintsUnread : {A : Type 0} → Error → Result A Error → Text → Text → Type 0
-PrintsUnread OutOfMemory result new old = result ≡ Err OutOfMemory
-PrintsUnread (AtPdbError read.OutOfMemory) result new old = Unit {0}
-PrintsUnread (FormatError cause) result new old = Unit {0}
-PrintsUnread e result new old = Prints result new (unread (fault_of e) old)
+-- A call that is given what ended a reading returned and left this text.
+abbrev pub PrintsUnread : {A : Type 0} → Stop → Result A Stop → Text → Text → Type 0
+PrintsUnread (ByError OutOfMemory) result new old = result ≡ Err (ByError OutOfMemory)
+PrintsUnread (ByError (AtPdbError read.OutOfMemory)) result new old = Unit {0}
+PrintsUnread (ByError (FormatError cause)) result new old = Unit {0}
+PrintsUnread (ByError e) result new old = Prints result new (unread (ByFault (fault_of e)) old)
+PrintsUnread (AtTable table e) result new old =
+    IsOfFault e → Prints result new (unread (ByTable table (fault_of e)) old)

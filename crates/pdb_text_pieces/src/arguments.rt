@@ -6,7 +6,7 @@ ghost use Rattle.pdb_text_pieces.specs.Printed.{Prints, say};
 ghost use Rattle.pdb_text_pieces.specs.Arguments.{comma};
 
 use crate::text::emit;
-use pdb_resolving::Result;
+use pdb_resolving::stop::Result;
 
 /// The flag that puts a space behind a comma.
 const SPACE_AFTER_COMMA: u32 = 4;

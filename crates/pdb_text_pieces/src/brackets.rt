@@ -5,7 +5,7 @@ ghost use Rattle.pdb_text_pieces.specs.Printed.{Prints, say};
 ghost use Rattle.pdb_text_pieces.specs.Brackets.{first_or_zero, bracket, brackets, first_or};
 
 use crate::text::emit;
-use pdb_resolving::Result;
+use pdb_resolving::stop::Result;
 
 /// The first dimension of an array, which has one at least.
 pub fn first_or_zero(dimensions: &[u32]) -> u32

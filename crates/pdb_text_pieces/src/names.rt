@@ -11,7 +11,7 @@ ghost use Rattle.pdb_text_pieces.specs.FormNames.{form_name, unhandled, id_form_
 use crate::text::emit;
 use pdb_container::RawString;
 use pdb_records::{ClassKind, IdData, PrimitiveKind, PrimitiveType, TypeData};
-use pdb_resolving::Result;
+use pdb_resolving::stop::Result;
 
 /// The flag that puts a space before `*` and `&`.
 const SPACE_BEFORE_POINTER: u32 = 8;

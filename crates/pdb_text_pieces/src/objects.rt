@@ -8,7 +8,7 @@ ghost use Rattle.pdb_text_pieces.specs.Printed.{Done, Prints, say};
 use crate::text::emit;
 use pdb_indices::TypeIndex;
 use pdb_records::TypeData;
-use pdb_resolving::Result;
+use pdb_resolving::stop::Result;
 
 /// The flag that leaves out `static`.
 const NO_MEMBER_FUNCTION_STATIC: u32 = 2;

@@ -6,7 +6,7 @@ ghost use Rattle.pdb_text_pieces.specs.Pointers.{level_of, leading_to, sigil, en
 
 use crate::text::emit;
 use pdb_records::{PointerMode, PointerType};
-use pdb_resolving::Result;
+use pdb_resolving::stop::Result;
 
 /// The flag that puts a space before `*` and `&`.
 const SPACE_BEFORE_POINTER: u32 = 8;

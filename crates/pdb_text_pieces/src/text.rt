@@ -4,7 +4,8 @@ ghost use Rattle.std.specs.Prelude.{◌≡◌, ◌++◌, string_bytes};
 ghost use Rattle.pdb_resolving.specs.Fault.{fault_of};
 ghost use Rattle.pdb_text_pieces.specs.Printed.{Prints, PrintsUnread, say, unread, missing_type, unimplemented_kind};
 
-use pdb_resolving::{Error, Result};
+use pdb_resolving::Error;
+use pdb_resolving::stop::{Result, Stop};
 
 /// Appends a text.
 pub fn emit(w: &mut String, text: &str) -> Result<()>
@@ -30,15 +31,18 @@ fn emit_unimplemented(w: &mut String, leaf: u16) -> Result<()>
     Ok(())
 }
 
-/// Appends what stands for a type or an id that can't be read; any other error it returns.
-pub fn emit_unread(w: &mut String, error: Error) -> Result<()>
-    ensures { PrintsUnread error result (string_bytes w.new) (string_bytes w.old) }
+/// Appends what stands for a type or an id that can't be read; what else ended its reading it
+/// returns.
+pub fn emit_unread(w: &mut String, stop: Stop) -> Result<()>
+    ensures { PrintsUnread stop result (string_bytes w.new) (string_bytes w.old) }
 {
-    match error {
-        Error::PdbError(pdb_container::Error::TypeNotFound(index)) => emit_missing(w, index),
-        Error::PdbError(pdb_container::Error::UnimplementedTypeKind(leaf)) => emit_unimplemented(
-            w, leaf,
+    match stop {
+        Stop::ByError(Error::PdbError(pdb_container::Error::TypeNotFound(index))) => emit_missing(
+            w, index,
         ),
-        error => Err(error),
+        Stop::ByError(Error::PdbError(pdb_container::Error::UnimplementedTypeKind(leaf))) => {
+            emit_unimplemented(w, leaf)
+        }
+        stop => Err(stop),
     }
 }

@@ -7,7 +7,7 @@ ghost use Rattle.pdb_text_pieces.specs.Returns.{shown_return};
 use crate::text::emit;
 use pdb_indices::TypeIndex;
 use pdb_records::FunctionAttributes;
-use pdb_resolving::Result;
+use pdb_resolving::stop::Result;
 
 /// The flag that leaves out the return type of the function asked for.
 const NO_FUNCTION_RETURN: u32 = 1;

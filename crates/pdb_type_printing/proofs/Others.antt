@@ -10,8 +10,9 @@ use Rattle.pdb_records.specs.declared.type_data.ProcedureType.{ProcedureType}
 use Rattle.pdb_records.specs.declared.type_data.TypeData.{TypeData}
 use Rattle.pdb_records.specs.declared.type_data.TypeData as types
 use Rattle.pdb_records.specs.Shapes.{shape}
-use Rattle.pdb_resolving.specs.declared.error.Error.{Error}
 use Rattle.pdb_resolving.specs.declared.error.Error.TheVariants as errors
+use Rattle.pdb_resolving.specs.declared.stop.Stop.{Stop}
+use Rattle.pdb_resolving.specs.declared.stop.Stop.TheVariants as stops
 use Rattle.pdb_text_pieces.specs.declared.pointers.PointerLevel.{PointerLevel}
 use Rattle.pdb_text_pieces.specs.Printed.{Text, Printed, ◌>>=◌, say, caught, Stops, Prints}
 use Rattle.pdb_text_pieces.specs.Paths.{Path}
@@ -54,14 +55,15 @@ no_modified env visit constant path (types.Pointer x) w h h' = absurd (h' x refl
 no_modified env visit constant path t w h h' = refl
 
 -- what stopped stops what follows
-pub stops_on : (e : Error) (new : Text) (p : Printed) (more : Text → Printed) → Stops e new p → Stops e new (p >>= more)
-stops_on errors.OutOfMemory new p more h = tt
-stops_on (errors.PdbError causes.OutOfMemory) new p more h = h
-stops_on (errors.FormatError cause) new p more h = h
-stops_on e new p more h = ap (λ x. x >>= more) h
+pub stops_on : (s : Stop) (new : Text) (p : Printed) (more : Text → Printed) → Stops s new p → Stops s new (p >>= more)
+stops_on (stops.ByError errors.OutOfMemory) new p more h = tt
+stops_on (stops.ByError (errors.PdbError causes.OutOfMemory)) new p more h = h
+stops_on (stops.ByError (errors.FormatError cause)) new p more h = h
+stops_on (stops.ByError e) new p more h = ap (λ x. x >>= more) h
+stops_on (stops.ByTable table e) new p more h = (h.0, ap (λ x. x >>= more) h.1)
 
 -- behind pointers, once an index was read: neither a pointer nor a Modifier
-pub other_pointee : {F : Type 0} (env : F → Env) (f f' : F) (before : List PointerLevel) (p : PointerLevel) (path : Path) (i : ℕ) (w : Text) (t t' : TypeData) (ps : List PointerLevel) {A : Type 0} (r : Result A Error) (new : Text)
+pub other_pointee : {F : Type 0} (env : F → Env) (f f' : F) (before : List PointerLevel) (p : PointerLevel) (path : Path) (i : ℕ) (w : Text) (t t' : TypeData) (ps : List PointerLevel) {A : Type 0} (r : Result A Stop) (new : Text)
     → f' ≡ f → (env f).read i ≡ Ok (shape t) → t' ≡ t → ps ≡ before ++ p ∷ [] → ((x : PointerType) → t ≡ types.Pointer x → ⊥) → ((x : ModifierType) → t ≡ types.Modifier x → ⊥)
     → Prints r new (pointed_text (env f') (visiting (env f') path) path ps (shape t') w) → Prints r new (inside_text (env f) (PointedTo before p) path i w)
 other_pointee {F} env f f' before p path i w t t' ps r new same read is all h h' printed =
@@ -72,7 +74,7 @@ other_pointee {F} env f f' before p path i w t t' ps r new same read is all h h'
     rw read q4
 
 -- behind a Modifier behind pointers, once an index was read: no pointer
-pub other_modified_pointee : {F : Type 0} (env : F → Env) (f f' : F) (before : List PointerLevel) (p : PointerLevel) (path : Path) (i : ℕ) (w : Text) (t t' : TypeData) (ps : List PointerLevel) {A : Type 0} (r : Result A Error) (new : Text)
+pub other_modified_pointee : {F : Type 0} (env : F → Env) (f f' : F) (before : List PointerLevel) (p : PointerLevel) (path : Path) (i : ℕ) (w : Text) (t t' : TypeData) (ps : List PointerLevel) {A : Type 0} (r : Result A Stop) (new : Text)
     → f' ≡ f → (env f).read i ≡ Ok (shape t) → t' ≡ t → ps ≡ before ++ p ∷ [] → ((x : PointerType) → t ≡ types.Pointer x → ⊥)
     → Prints r new (pointed_text (env f') (visiting (env f') path) path ps (shape t') w) → Prints r new (inside_text (env f) (PointedModified before p) path i w)
 other_modified_pointee {F} env f f' before p path i w t t' ps r new same read is all h printed =
@@ -83,7 +85,7 @@ other_modified_pointee {F} env f f' before p path i w t t' ps r new same read is
     rw read q4
 
 -- behind a Modifier, once an index was read: neither a pointer nor a type without a record
-pub other_modified : {F : Type 0} (env : F → Env) (f f' : F) (constant : Bool) (path : Path) (i : ℕ) (w : Text) (t t' : TypeData) {A : Type 0} (r : Result A Error) (new : Text)
+pub other_modified : {F : Type 0} (env : F → Env) (f f' : F) (constant : Bool) (path : Path) (i : ℕ) (w : Text) (t t' : TypeData) {A : Type 0} (r : Result A Stop) (new : Text)
     → f' ≡ f → (env f).read i ≡ Ok (shape t) → t' ≡ t → ((x : PrimitiveType) → t ≡ types.Primitive x → ⊥) → ((x : PointerType) → t ≡ types.Pointer x → ⊥)
     → Prints r new (modified_text (env f') (visiting (env f') path) path constant (shape t') w) → Prints r new (inside_text (env f) (Modified constant) path i w)
 other_modified {F} env f f' constant path i w t t' r new same read is h h' printed =

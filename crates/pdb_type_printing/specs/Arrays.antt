@@ -4,7 +4,8 @@ use Rattle.pdb_container.specs.Fault.{◌>>=◌}
 use Rattle.pdb_indices.specs.declared.index.TypeIndex.{TypeIndex}
 use Rattle.pdb_records.specs.Forms as forms
 use Rattle.pdb_records.specs.Forms.{TypeForm, Plain, ArrayForm}
-use Rattle.pdb_resolving.specs.Fault.{Fault, CircularTypeDefinition}
+use Rattle.pdb_resolving.specs.Cause.{Cause, ByFault}
+use Rattle.pdb_resolving.specs.Fault.{CircularTypeDefinition}
 use Rattle.pdb_text_pieces.specs.Brackets.{first_or_zero}
 use Rattle.pdb_text_pieces.specs.Paths.{Path, is_on}
 use Rattle.pdb_type_printing.specs.Env.{Env}
@@ -21,20 +22,20 @@ array_step (Plain (forms.Array a)) = Some (first_or_zero a.dimensions, a.element
 array_step form = None
 
 -- what was read is the innermost element, or an array that leads further
-abbrev pub elements_behind : (ℕ → ℕ → Result Elements Fault) → Elements → Option (ℕ × TypeIndex) → Result Elements Fault
+abbrev pub elements_behind : (ℕ → ℕ → Result Elements Cause) → Elements → Option (ℕ × TypeIndex) → Result Elements Cause
 elements_behind further here None = Ok here
 elements_behind further here (Some array) = further array.0 array.1.0
 
 -- from an array's element down to what is no array, with the elements passed so far and the dimensions so far
-unfoldable pub elements_from : Env → ℕ → Path → List ℕ → ℕ → Result Elements Fault
-elements_from env zero passed dimensions i = Err (CircularTypeDefinition i)
+unfoldable pub elements_from : Env → ℕ → Path → List ℕ → ℕ → Result Elements Cause
+elements_from env zero passed dimensions i = Err (ByFault (CircularTypeDefinition i))
 elements_from env (suc left) passed dimensions i =
-    if is_on passed i then Err (CircularTypeDefinition i)
+    if is_on passed i then Err (ByFault (CircularTypeDefinition i))
     else (env.read i >>= λ form. elements_behind
     (λ d element. elements_from env left (passed ++ i ∷ []) (dimensions ++ d ∷ []) element)
     record { dimensions = dimensions; index = i; form = form }
     (array_step form))
 
 -- the arrays that begin with this one, at most 1,024 elements down
-abbrev pub elements_of : Env → ArrayForm → Result Elements Fault
+abbrev pub elements_of : Env → ArrayForm → Result Elements Cause
 elements_of env a = elements_from env 1024 [] (first_or_zero a.dimensions ∷ []) a.element_type.0

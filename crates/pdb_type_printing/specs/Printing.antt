@@ -1,8 +1,9 @@
 -- What prints types, as the definitions see it.
-use Rattle.std.specs.Prelude.{◌≡◌, ℕ}
+use Rattle.std.specs.Prelude.{ℕ}
+use Rattle.pdb_resolving.specs.declared.table.Table.{Table}
 use Rattle.pdb_resolving.specs.Resolving.{Provided}
 use Rattle.pdb_type_sizes.specs.Reading.{Reading, parts_by, type_at, id_at}
-use Rattle.pdb_type_sizes.specs.Reading.{KeepsAsFailed as ReadingKeeps}
+use Rattle.pdb_type_sizes.specs.Reading.{with_failed as reading_with_failed}
 use Rattle.pdb_type_sizes.specs.Sizes.{size_at}
 use Rattle.pdb_type_printing.specs.Env.{Env}
 
@@ -20,7 +21,6 @@ env_of provided f asking = record {
   flags = f.flags;
 }
 
--- What a call that failed keeps: at most that one more table of a module fails.
-pub record KeepsAsFailed {P : Type 0} (provided : P → Provided) (old : Formatting P) (new : Formatting P) : Type 0 where
-  pub reading : ReadingKeeps provided old.reading new.reading
-  pub others : new ≡ record old { reading = new.reading }
+-- the same, with one more table of a module that stands as failed
+abbrev pub with_failed : {P : Type 0} → Formatting P → Table → Formatting P
+with_failed f table = record f { reading = reading_with_failed f.reading table }

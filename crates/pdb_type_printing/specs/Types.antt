@@ -7,6 +7,7 @@ use Rattle.pdb_records.specs.declared.type_data.MemberFunctionType.{MemberFuncti
 use Rattle.pdb_records.specs.Attributes.{constructs}
 use Rattle.pdb_records.specs.Forms as forms
 use Rattle.pdb_records.specs.Forms.{TypeForm, Plain}
+use Rattle.pdb_resolving.specs.Cause.{ByFault}
 use Rattle.pdb_resolving.specs.Fault.{ArgumentTypeNotArgumentList, CircularTypeDefinition}
 use Rattle.pdb_text_pieces.specs.declared.pointers.PointerLevel.{PointerLevel}
 use Rattle.pdb_text_pieces.specs.Printed.{Text, Printed, Done, Stopped, ◌>>=◌, say, unread, caught, read_or}
@@ -163,19 +164,19 @@ visited env visit (Modified constant) path (Plain (forms.Primitive t)) w = say (
 visited env visit (Modified constant) path form w = modified_text env visit path constant form w
 visited env visit (MethodArguments class this says_constant) path (Plain (forms.ArgumentList ts)) w =
     read_or (λ e. Stopped e w) (this_of env class this) (λ this. in_brackets env visit path says_constant ts this w)
-visited env visit (MethodArguments class this says_constant) path form w = Stopped ArgumentTypeNotArgumentList w
+visited env visit (MethodArguments class this says_constant) path form w = Stopped (ByFault ArgumentTypeNotArgumentList) w
 
 -- ---- an index
 
 -- An index and its record: a type on its own is read before it goes on the path, and has a text where it can't be read; every other index
 -- goes on the path before it is read.
 abbrev pub entering : Env → Bool → Task → ℕ → Text → (TypeForm → Printed) → Printed
-entering env free Whole i w more = read_or (λ e. unread e w) (env.read i) (λ form. if free then more form else Stopped (CircularTypeDefinition i) w)
-entering env free task i w more = if free then read_or (λ e. Stopped e w) (env.read i) more else Stopped (CircularTypeDefinition i) w
+entering env free Whole i w more = read_or (λ e. unread e w) (env.read i) (λ form. if free then more form else Stopped (ByFault (CircularTypeDefinition i)) w)
+entering env free task i w more = if free then read_or (λ e. Stopped e w) (env.read i) more else Stopped (ByFault (CircularTypeDefinition i)) w
 
 -- an index with room for so many more on the path
 unfoldable pub visit : Env → ℕ → Visit
-visit env zero task path i w = entering env false task i w (λ form. Stopped (CircularTypeDefinition i) w)
+visit env zero task path i w = entering env false task i w (λ form. Stopped (ByFault (CircularTypeDefinition i)) w)
 visit env (suc left) task path i w = entering env (not (is_on path i)) task i w (λ form. visited env (visit env left) task (path ++ i ∷ []) form w)
 
 -- an index as its path leaves room, which ends at 1,024 indices

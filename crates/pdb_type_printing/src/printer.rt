@@ -3,16 +3,18 @@
 ghost use Rattle.std.specs.Prelude.{◌≡◌, ◌∷◌, [], Ok, OnErr, OnOk};
 ghost use Rattle.pdb_records.specs.Shapes.{shape, array_form};
 ghost use Rattle.pdb_records.specs.IdForms.{id_shape};
+ghost use Rattle.pdb_resolving.specs.Cause.{Finds};
 ghost use Rattle.pdb_resolving.specs.Fault.{Answers};
 ghost use Rattle.pdb_type_printing.specs.Arrays.{elements_of};
-ghost use Rattle.pdb_type_printing.specs.Printing.{env_of, KeepsAsFailed};
+ghost use Rattle.pdb_type_printing.specs.Printing.{env_of, with_failed};
 ghost use Rattle.pdb_type_printing.specs.This.{this_of, this_to};
 
 use crate::asker::Asker;
 use crate::elements::{Elements, MAX_ELEMENTS, array_step};
 use pdb_indices::{IdIndex, TypeIndex};
 use pdb_records::{ArrayType, IdData, TypeData};
-use pdb_resolving::{Error, ModuleProvider, Result};
+use pdb_resolving::stop::{Result, Stop};
+use pdb_resolving::{Error, ModuleProvider, Table};
 use pdb_symbols_modules::Module;
 use pdb_text_pieces::{first_or_zero, is_on, this_behind};
 use pdb_type_sizes::ItemReader;
@@ -63,24 +65,18 @@ impl<'a, 's, P: ModuleProvider> TypePrinter<'a, 's, P> {
     }
 
     /// As [`ItemReader::keep_failed`].
-    pub fn keep_failed(&mut self) -> std::result::Result<(), AllocError>
-        ensures kept { OnOk result (KeepsAsFailed P.provided self.old self.new) }
+    pub fn keep_failed(&mut self, table: Table) -> std::result::Result<(), AllocError>
+        ensures kept { OnOk result (self.new ≡ with_failed self.old table) }
         ensures same { OnErr result (self.new ≡ self.old) }
     {
-        self.reader.keep_failed()
-    }
-
-    /// As [`ItemReader::forget_failing`].
-    pub fn forget_failing(&mut self)
-        ensures { self.new ≡ self.old }
-    {
-        self.reader.forget_failing();
+        self.reader.keep_failed(table)
     }
 
     /// The type of an index.
     pub fn read(&mut self, asker: Asker, index: TypeIndex) -> Result<TypeData<'a>>
         ensures same { self.new ≡ self.old }
-        ensures value { Answers shape result ((env_of P.provided self.old asker.module_index).read index.0) }
+        ensures value { Finds shape result
+            ((env_of P.provided self.old asker.module_index).read index.0) }
     {
         self.reader
             .read_type(asker.alloc, asker.module_index, index)
@@ -89,13 +85,14 @@ impl<'a, 's, P: ModuleProvider> TypePrinter<'a, 's, P> {
     /// The id of an index.
     pub fn read_id(&mut self, asker: Asker, index: IdIndex) -> Result<IdData<'a>>
         ensures same { self.new ≡ self.old }
-        ensures value { Answers id_shape result ((env_of P.provided self.old asker.module_index).read_id index.0) }
+        ensures value { Finds id_shape result
+            ((env_of P.provided self.old asker.module_index).read_id index.0) }
     {
         self.reader.read_id(asker.alloc, asker.module_index, index)
     }
 
     /// The size of the type of an index, in bytes.
-    pub fn size(&mut self, asker: Asker, index: TypeIndex) -> Result<u64>
+    pub fn size(&mut self, asker: Asker, index: TypeIndex) -> pdb_resolving::Result<u64>
         ensures same { self.new ≡ self.old }
         ensures value { Answers (λ n. n) result (Ok ((env_of P.provided self.old asker.module_index).size index.0)) }
     {
@@ -109,7 +106,10 @@ impl<'a, 's, P: ModuleProvider> TypePrinter<'a, 's, P> {
     /// read.
     pub(crate) fn elements_of(&mut self, asker: Asker, array: &ArrayType) -> Result<Elements<'a>>
         ensures same { self.new ≡ self.old }
-        ensures value { Answers (λ e. record { dimensions = e.dimensions.items; index = e.index.0; form = shape e.found }) result (elements_of (env_of P.provided self.old asker.module_index) (array_form array.now)) }
+        ensures value { Finds
+            (λ e. record { dimensions = e.dimensions.items; index = e.index.0; form = shape e.found })
+            result
+            (elements_of (env_of P.provided self.old asker.module_index) (array_form array.now)) }
     {
         let mut passed = Vec::new(asker.alloc);
         let mut dimensions = Vec::new(asker.alloc);
@@ -117,7 +117,7 @@ impl<'a, 's, P: ModuleProvider> TypePrinter<'a, 's, P> {
         let mut index = array.element_type;
         for _ in 0..MAX_ELEMENTS {
             if is_on(&passed, index.0) {
-                return Err(Error::CircularTypeDefinition(index.0));
+                return Err(Stop::ByError(Error::CircularTypeDefinition(index.0)));
             }
             passed.push(index.0)?;
             let found = self.read(asker, index)?;
@@ -135,7 +135,7 @@ impl<'a, 's, P: ModuleProvider> TypePrinter<'a, 's, P> {
                 }
             }
         }
-        Err(Error::CircularTypeDefinition(index.0))
+        Err(Stop::ByError(Error::CircularTypeDefinition(index.0)))
     }
 
     /// Whether a method's object is constant, and the pointer to it as an extra first argument, where that isn't plainly one
@@ -147,7 +147,8 @@ impl<'a, 's, P: ModuleProvider> TypePrinter<'a, 's, P> {
         this: Option<TypeIndex>,
     ) -> Result<(bool, Option<TypeIndex>)>
         ensures same { self.new ≡ self.old }
-        ensures value { Answers (λ x. x) result (this_of (env_of P.provided self.old asker.module_index) class this) }
+        ensures value { Finds (λ x. x) result
+            (this_of (env_of P.provided self.old asker.module_index) class this) }
     {
         let Some(this) = this else {
             return Ok((false, None));
@@ -167,7 +168,8 @@ impl<'a, 's, P: ModuleProvider> TypePrinter<'a, 's, P> {
         target: TypeIndex,
     ) -> Result<(bool, Option<TypeIndex>)>
         ensures same { self.new ≡ self.old }
-        ensures value { Answers (λ x. x) result (this_to (env_of P.provided self.old asker.module_index) class this target) }
+        ensures value { Finds (λ x. x) result
+            (this_to (env_of P.provided self.old asker.module_index) class this target) }
     {
         if target.0 == class.0 {
             return Ok((false, None));

@@ -4,6 +4,7 @@ ghost use Rattle.std.specs.Prelude.{◌≡◌, ◌≤◌, ◌==◌, ◌++◌, �
 ghost use Rattle.pdb_records.specs.Forms as forms;
 ghost use Rattle.pdb_records.specs.Forms.{Plain};
 ghost use Rattle.pdb_records.specs.Shapes.{shape, array_form};
+ghost use Rattle.pdb_resolving.specs.Cause.{ByFault};
 ghost use Rattle.pdb_resolving.specs.Fault.{CircularTypeDefinition};
 ghost use Rattle.pdb_text_pieces.specs.Printed.{Prints, Stopped, caught, read_or};
 ghost use Rattle.pdb_text_pieces.specs.Paths.{may_enter};
@@ -15,7 +16,8 @@ use crate::asker::Asker;
 use crate::printer::TypePrinter;
 use pdb_indices::TypeIndex;
 use pdb_records::{ArrayType, FunctionAttributes, MemberFunctionType, ProcedureType, TypeData};
-use pdb_resolving::{Error, ModuleProvider, Result};
+use pdb_resolving::stop::{Result, Stop};
+use pdb_resolving::{Error, ModuleProvider};
 use pdb_text_pieces::{
     PointerLevel, Seen, class_word, emit, emit_bare_function, emit_bare_method, emit_brackets,
     emit_comma, emit_constant, emit_constant_object, emit_missing, emit_named, emit_pointers,
@@ -42,7 +44,7 @@ impl<'a, 's, P: ModuleProvider> TypePrinter<'a, 's, P> {
     {
         match self.read(asker, index) {
             Ok(found) => self.emit_entered(asker, w, index, &found, seen),
-            Err(error) => emit_unread(w, error),
+            Err(stop) => emit_unread(w, stop),
         }
     }
 
@@ -61,7 +63,7 @@ impl<'a, 's, P: ModuleProvider> TypePrinter<'a, 's, P> {
         ensures same_reference { seen.new.path.ghost_name ≡ seen.old.path.ghost_name }
         ensures level { seen.new.level ≡ seen.old.level }
         ensures path { seen.new.path.now.items ≡ seen.old.path.now.items }
-        ensures text { Prints result (string_bytes w.new) (if may_enter seen.old.path.now.items index.0 then caught (record_text (env_of P.provided self.old asker.module_index) (visiting (env_of P.provided self.old asker.module_index) (seen.old.path.now.items ++ index.0 ∷ [])) (seen.old.path.now.items ++ index.0 ∷ []) (shape found.now) (string_bytes w.old)) else Stopped (CircularTypeDefinition index.0) (string_bytes w.old)) }
+        ensures text { Prints result (string_bytes w.new) (if may_enter seen.old.path.now.items index.0 then caught (record_text (env_of P.provided self.old asker.module_index) (visiting (env_of P.provided self.old asker.module_index) (seen.old.path.now.items ++ index.0 ∷ [])) (seen.old.path.now.items ++ index.0 ∷ []) (shape found.now) (string_bytes w.old)) else Stopped (ByFault (CircularTypeDefinition index.0)) (string_bytes w.old)) }
     {
         let mut level = Seen::new(&mut *seen.path);
         level.insert(index.0)?;
@@ -86,9 +88,9 @@ impl<'a, 's, P: ModuleProvider> TypePrinter<'a, 's, P> {
         ensures text { Prints result (string_bytes w.new) (caught (record_text (env_of P.provided self.old asker.module_index) (visiting (env_of P.provided self.old asker.module_index) seen.old.path.now.items) seen.old.path.now.items (shape found.now) (string_bytes w.old))) }
     {
         match self.emit_type_inner(asker, w, found, seen) {
-            Err(Error::PdbError(pdb_container::Error::TypeNotFound(index))) => emit_missing(
-                w, index,
-            ),
+            Err(Stop::ByError(Error::PdbError(pdb_container::Error::TypeNotFound(index)))) => {
+                emit_missing(w, index)
+            }
             other => other,
         }
     }
@@ -155,9 +157,9 @@ impl<'a, 's, P: ModuleProvider> TypePrinter<'a, 's, P> {
         ensures text { Prints result (string_bytes w.new) (caught (plain_text (env_of P.provided self.old asker.module_index) (visiting (env_of P.provided self.old asker.module_index) seen.old.path.now.items) seen.old.path.now.items (shape found.now) (string_bytes w.old))) }
     {
         match self.emit_plain(asker, w, found, seen) {
-            Err(Error::PdbError(pdb_container::Error::TypeNotFound(index))) => emit_missing(
-                w, index,
-            ),
+            Err(Stop::ByError(Error::PdbError(pdb_container::Error::TypeNotFound(index)))) => {
+                emit_missing(w, index)
+            }
             other => other,
         }
     }
@@ -446,7 +448,7 @@ impl<'a, 's, P: ModuleProvider> TypePrinter<'a, 's, P> {
         ensures text { Prints result (string_bytes w.new) (inside_text (env_of P.provided self.old asker.module_index) (MethodArguments t.now.class_type t.now.this_pointer_type says_constant) seen.old.path.now.items t.now.argument_list.0 (string_bytes w.old)) }
     {
         let TypeData::ArgumentList(list) = self.read(asker, t.argument_list)? else {
-            return Err(Error::ArgumentTypeNotArgumentList);
+            return Err(Stop::ByError(Error::ArgumentTypeNotArgumentList));
         };
         let this = self.this_of(asker, t.class_type, t.this_pointer_type)?;
         self.emit_in_brackets(asker, w, says_constant, &list.arguments, this, seen)

@@ -1,6 +1,12 @@
 -- Sizes that lead from type to type.
-use Rattle.std.proofs.Common.{◌≡◌, ℕ, suc, ◌+◌, ◌-◌, ◌<◌, ◌≤◌, refl, sym, ap, ◌∙◌, arith}
+use Rattle.std.proofs.Common.{◌≡◌, ℕ, suc, ◌+◌, ◌-◌, ◌<◌, ◌≤◌, Result, refl, sym, ap, ◌∙◌, arith}
+use Rattle.pdb_container.specs.declared.error.Error.TheVariants as causes
 use Rattle.pdb_indices.specs.declared.index.TypeIndex.{TypeIndex}
+use Rattle.pdb_items.specs.Items.{Table}
+use Rattle.pdb_resolving.specs.declared.error.Error.TheVariants as errors
+use Rattle.pdb_resolving.specs.declared.stop.Stop.{Stop}
+use Rattle.pdb_resolving.specs.declared.stop.Stop.TheVariants as stops
+use Rattle.pdb_resolving.specs.Cause.{Cause, Ends}
 use Rattle.pdb_resolving.specs.Resolving.{resolve}
 use Rattle.pdb_type_sizes.specs.Reading.{Parts}
 use Rattle.pdb_type_sizes.specs.Sizes.{resolved_bytes, size_within}
@@ -28,3 +34,11 @@ size_on p asking passed index underlying total lt stated so_far =
 pub size_past : (p : Parts) (asking passed index total : ℕ) → 1024 ≤ passed → size_within p asking (1024 - passed) index ≡ total → total ≡ 0
 unfolding size_within
 size_past p asking passed index total past so_far = let none : 1024 - passed ≡ 0 = omega arith in sym so_far ∙ ap (λ n. size_within p asking n index) none
+
+-- a type whose index can't be resolved has the size 0
+pub size_unread : (types : Table) (pointer_size : ℕ) (of : ℕ → ℕ) (s : Stop) (resolved : Result ℕ Cause) → (s ≡ stops.ByError errors.OutOfMemory → ⊥) → Ends s resolved → 0 ≡ resolved_bytes types pointer_size of resolved
+size_unread types pointer_size of (stops.ByError errors.OutOfMemory) resolved other h = absurd (other refl)
+size_unread types pointer_size of (stops.ByError (errors.PdbError causes.OutOfMemory)) resolved other h = absurd h
+size_unread types pointer_size of (stops.ByError (errors.FormatError cause)) resolved other h = absurd h
+size_unread types pointer_size of (stops.ByError e) resolved other h = sym (ap (resolved_bytes types pointer_size of) h)
+size_unread types pointer_size of (stops.ByTable table e) resolved other h = sym (ap (resolved_bytes types pointer_size of) h.1)

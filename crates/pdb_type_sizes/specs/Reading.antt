@@ -1,5 +1,5 @@
 -- Types and ids by their indices as a module has them.
-use Rattle.std.specs.Prelude.{◌≡◌, ℕ, Result}
+use Rattle.std.specs.Prelude.{ℕ, Result}
 use Rattle.pdb_container.specs.Fault.{◌>>=◌}
 use Rattle.pdb_items.specs.Items.{Table, item_at}
 use Rattle.pdb_items.specs.ItemType.{type_of_item}
@@ -8,9 +8,11 @@ use Rattle.pdb_records.specs.IdForms.{IdForm}
 use Rattle.pdb_records.specs.IdRecords.{id_form_of}
 use Rattle.pdb_symbols_modules.specs.declared.machine.MachineType.{MachineType}
 use Rattle.pdb_symbols_modules.specs.declared.machine.MachineType.TheVariants as machines
+use Rattle.pdb_resolving.specs.declared.table.Table.{Table as TableOfModule}
+use Rattle.pdb_resolving.specs.Cause.{Cause, of_no_table}
 use Rattle.pdb_resolving.specs.Fault.{Fault, lifted}
 use Rattle.pdb_resolving.specs.Resolving.{Kept, Modules, Provided, modules_by, resolve}
-use Rattle.pdb_resolving.specs.Resolving.{KeepsAsFailed as ModulesKeep}
+use Rattle.pdb_resolving.specs.Resolving.{with_failed as modules_with_failed}
 
 -- what types and ids are read from: the modules, the tables of types and of ids, and how many bytes a pointer has
 pub record Parts : Type 0 where
@@ -32,16 +34,16 @@ id_in ids index = do
   lifted (id_form_of bytes)
 
 -- the type of an index as a module has it
-unfoldable pub type_at : Parts → ℕ → ℕ → Result TypeForm Fault
+unfoldable pub type_at : Parts → ℕ → ℕ → Result TypeForm Cause
 type_at p asking index = do
   resolved ← resolve p.modules asking index
-  type_in p.types resolved
+  of_no_table (type_in p.types resolved)
 
 -- the id of an index as a module has it
-unfoldable pub id_at : Parts → ℕ → ℕ → Result IdForm Fault
+unfoldable pub id_at : Parts → ℕ → ℕ → Result IdForm Cause
 id_at p asking index = do
   resolved ← resolve p.modules asking index
-  id_in p.ids resolved
+  of_no_table (id_in p.ids resolved)
 
 -- how many bytes a machine's pointers have
 abbrev pub pointer_bytes : MachineType → ℕ
@@ -65,7 +67,6 @@ pub record Reading (P : Type 0) : Type 0 where
 abbrev pub parts_by : {P : Type 0} → (P → Provided) → Reading P → Parts
 parts_by provided r = record { modules = modules_by provided r.modules; types = r.types; ids = r.ids; pointer_size = r.pointer_size }
 
--- What a call that failed keeps: at most that one more table of a module fails.
-pub record KeepsAsFailed {P : Type 0} (provided : P → Provided) (old : Reading P) (new : Reading P) : Type 0 where
-  pub modules : ModulesKeep provided old.modules new.modules
-  pub others : new ≡ record old { modules = new.modules }
+-- what a reader keeps, with one more table of a module that stands as failed
+abbrev pub with_failed : {P : Type 0} → Reading P → TableOfModule → Reading P
+with_failed r table = record r { modules = modules_with_failed r.modules table }

@@ -12,6 +12,7 @@ use Rattle.pdb_records.specs.Forms as forms
 use Rattle.pdb_records.specs.declared.primitive.PrimitiveKind.{PrimitiveKind}
 use Rattle.pdb_records.specs.declared.primitive.PrimitiveKind.TheVariants as kinds
 use Rattle.pdb_records.specs.declared.primitive.Indirection.{Indirection}
+use Rattle.pdb_resolving.specs.Cause.{Cause}
 use Rattle.pdb_resolving.specs.Fault.{Fault}
 use Rattle.pdb_resolving.specs.Resolving.{resolve}
 use Rattle.pdb_type_sizes.specs.Reading.{Parts, type_in}
@@ -151,7 +152,7 @@ read_bytes types pointer_size of index (Ok t) = form_bytes types pointer_size of
 read_bytes types pointer_size of index (Err e) = 0
 
 -- the same of an index that was resolved
-abbrev pub resolved_bytes : Table → ℕ → (ℕ → ℕ) → Result ℕ Fault → ℕ
+abbrev pub resolved_bytes : Table → ℕ → (ℕ → ℕ) → Result ℕ Cause → ℕ
 resolved_bytes types pointer_size of (Ok index) = read_bytes types pointer_size of index (type_in types index)
 resolved_bytes types pointer_size of (Err e) = 0
 

@@ -5,9 +5,10 @@ ghost use Rattle.pdb_container.specs.declared.error.Error.TheVariants as causes;
 ghost use Rattle.pdb_records.specs.IdForms.{id_shape};
 ghost use Rattle.pdb_records.specs.Shapes.{shape};
 ghost use Rattle.pdb_symbols_modules.specs.Machine.{machine_of};
+ghost use Rattle.pdb_resolving.specs.Cause.{Finds};
 ghost use Rattle.pdb_resolving.specs.Fault.{Answers};
 ghost use Rattle.pdb_resolving.specs.Resolving.{modules_by, none_failed, resolve};
-ghost use Rattle.pdb_type_sizes.specs.Reading.{id_in, type_at, id_at, parts_by, pointer_bytes, KeepsAsFailed};
+ghost use Rattle.pdb_type_sizes.specs.Reading.{id_in, type_at, id_at, parts_by, pointer_bytes, with_failed};
 ghost use Rattle.pdb_type_sizes.specs.Sizes.{resolved_bytes, size_at, stated_bytes};
 
 use crate::item_map::ItemMap;
@@ -18,7 +19,8 @@ use pdb_indices::{IdIndex, TypeIndex};
 use pdb_items::{IdInformation, TypeInformation};
 use pdb_records::{IdData, TypeData};
 use pdb_resolver::Resolver;
-use pdb_resolving::{Error, ModuleProvider, Result};
+use pdb_resolving::stop::{self, Stop};
+use pdb_resolving::{Error, ModuleProvider, Result, Table};
 use pdb_symbols_modules::{DebugInformation, MachineType, Module};
 use std::alloc::{AllocError, Global};
 use std::marker::Model;
@@ -84,18 +86,11 @@ impl<'a, 's, P: ModuleProvider> ItemReader<'a, 's, P> {
     }
 
     /// As [`Resolver::keep_failed`].
-    pub fn keep_failed(&mut self) -> std::result::Result<(), AllocError>
-        ensures kept { OnOk result (KeepsAsFailed P.provided self.old self.new) }
+    pub fn keep_failed(&mut self, table: Table) -> std::result::Result<(), AllocError>
+        ensures kept { OnOk result (self.new ≡ with_failed self.old table) }
         ensures same { OnErr result (self.new ≡ self.old) }
     {
-        self.resolver.keep_failed()
-    }
-
-    /// As [`Resolver::forget_failing`].
-    pub fn forget_failing(&mut self)
-        ensures { self.new ≡ self.old }
-    {
-        self.resolver.forget_failing();
+        self.resolver.keep_failed(table)
     }
 
     /// The type of an index as the module of a number, counted from 0, has it.
@@ -103,19 +98,20 @@ impl<'a, 's, P: ModuleProvider> ItemReader<'a, 's, P> {
     /// # Errors
     /// The first fault of: resolving the index ([`Resolver::resolve`]); finding its item (`TypeNotFound`, or the fault at which
     /// the table ends); parsing its record. `OutOfMemory`.
-    #[tactic(auto, using(pdb_resolving::proofs::Lifting::fails_on), unfolding(crate::specs::Reading::type_at))]
+    #[tactic(auto, using(pdb_resolving::proofs::Ending::ends_on, pdb_resolving::proofs::Ending::ends_by_error), unfolding(crate::specs::Reading::type_at))]
     pub fn read_type(
         &mut self,
         alloc: Global,
         module_index: usize,
         index: TypeIndex,
-    ) -> Result<TypeData<'a>>
+    ) -> stop::Result<TypeData<'a>>
         ensures same { self.new ≡ self.old }
-        ensures value { Answers shape result (type_at (parts_by P.provided self.old) module_index index.0) }
+        ensures value { Finds shape result
+            (type_at (parts_by P.provided self.old) module_index index.0) }
     {
         match self.resolver.resolve(alloc, module_index, index.0) {
-            Ok(resolved) => self.types.read(alloc, resolved),
-            Err(fault) => Err(fault),
+            Ok(resolved) => Ok(self.types.read(alloc, resolved)?),
+            Err(stop) => Err(stop),
         }
     }
 
@@ -123,19 +119,20 @@ impl<'a, 's, P: ModuleProvider> ItemReader<'a, 's, P> {
     ///
     /// # Errors
     /// As [`ItemReader::read_type`].
-    #[tactic(auto, using(pdb_resolving::proofs::Lifting::fails_on), unfolding(crate::specs::Reading::id_at))]
+    #[tactic(auto, using(pdb_resolving::proofs::Ending::ends_on, pdb_resolving::proofs::Ending::ends_by_error), unfolding(crate::specs::Reading::id_at))]
     pub fn read_id(
         &mut self,
         alloc: Global,
         module_index: usize,
         index: IdIndex,
-    ) -> Result<IdData<'a>>
+    ) -> stop::Result<IdData<'a>>
         ensures same { self.new ≡ self.old }
-        ensures value { Answers id_shape result (id_at (parts_by P.provided self.old) module_index index.0) }
+        ensures value { Finds id_shape result
+            (id_at (parts_by P.provided self.old) module_index index.0) }
     {
         match self.resolver.resolve(alloc, module_index, index.0) {
-            Ok(resolved) => read_id_in(alloc, &mut self.ids, resolved),
-            Err(fault) => Err(fault),
+            Ok(resolved) => Ok(read_id_in(alloc, &mut self.ids, resolved)?),
+            Err(stop) => Err(stop),
         }
     }
 
@@ -171,7 +168,7 @@ impl<'a, 's, P: ModuleProvider> ItemReader<'a, 's, P> {
     {
         match self.resolver.resolve(alloc, module_index, index.0) {
             Ok(resolved) => self.types.stated(alloc, self.pointer_size, resolved),
-            Err(Error::OutOfMemory) => Err(AllocError),
+            Err(Stop::ByError(Error::OutOfMemory)) => Err(AllocError),
             Err(_) => Ok(Stated::Bytes(0)),
         }
     }

@@ -2,16 +2,18 @@
 use Rattle.std.specs.Prelude.{◌≡◌, Result, Ok, Err}
 use Rattle.pdb_resolving.specs.declared.error.Error.{Error}
 use Rattle.pdb_resolving.specs.declared.error.Error.TheVariants as errors
-use Rattle.pdb_resolving.specs.Resolving.{Provided}
-use Rattle.pdb_function_text.specs.Printing.{Formatting, KeepsAsFailed}
+use Rattle.pdb_resolving.specs.Cause.{Cause, ByFault, ByTable}
+use Rattle.pdb_function_text.specs.Printing.{Formatting, with_failed}
 
--- What a call leaves that failed with an error: all as it was, where memory was short or a writer refused the text.
-abbrev pub LeavesAt : {P : Type 0} → (P → Provided) → Formatting P → Error → Formatting P → Type 0
-LeavesAt provided old errors.OutOfMemory new = new ≡ old
-LeavesAt provided old (errors.FormatError e) new = new ≡ old
-LeavesAt provided old e new = KeepsAsFailed provided old new
+-- a formatter after a text was made or ended: the table that ended it stands as failed
+abbrev pub failed_after : {P A : Type 0} → Result A Cause → Formatting P → Formatting P
+failed_after (Ok text) f = f
+failed_after (Err (ByFault fault)) f = f
+failed_after (Err (ByTable table fault)) f = with_failed f table
 
--- What a call leaves, by what it returned: all as it was, where that is an answer.
-abbrev pub Leaves : {P A : Type 0} → (P → Provided) → Formatting P → Result A Error → Formatting P → Type 0
-Leaves provided old (Ok x) new = new ≡ old
-Leaves provided old (Err e) new = LeavesAt provided old e new
+-- What a call leaves of a formatter, by the text that was made or what ended it: all as it was,
+-- where memory was short.
+abbrev pub Leaves : {P A B : Type 0} → Result B Cause → Formatting P → Result A Error → Formatting P
+    → Type 0
+Leaves made old (Err errors.OutOfMemory) new = new ≡ old
+Leaves made old result new = new ≡ failed_after made old

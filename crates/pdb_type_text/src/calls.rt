@@ -1,26 +1,26 @@
 //! The calls of a formatter.
 
-ghost use Rattle.std.specs.Prelude.{◌≡◌, ◌⊎◌, IfOk, IsOkUnless, option_map, string_bytes, Ok};
+ghost use Rattle.std.specs.Prelude.{◌≡◌, IfOk, IsOkUnless, List, option_map, Result, string_bytes, Ok, ℕ};
 ghost use Rattle.pdb_container.specs.declared.error.Error.TheVariants as causes;
 ghost use Rattle.pdb_symbols_modules.specs.Machine.{machine_of};
-ghost use Rattle.pdb_resolving.specs.declared.error.Error.TheVariants as errors;
+ghost use Rattle.pdb_resolving.specs.Cause.{Cause, Finds, of_any};
 ghost use Rattle.pdb_resolving.specs.Fault.{Answers};
 ghost use Rattle.pdb_resolving.specs.Resolving.{none_failed};
 ghost use Rattle.pdb_function_text.specs.Reading.{parts_by, pointer_bytes};
 ghost use Rattle.pdb_function_text.specs.Sizes.{size_at};
 ghost use Rattle.pdb_function_text.specs.Printing.{env_of};
 ghost use Rattle.pdb_type_text.specs.Formatting.{Leaves};
-ghost use Rattle.pdb_function_text.specs.Functions.{function_text};
-ghost use Rattle.pdb_function_text.specs.Ids.{id_text};
+ghost use Rattle.pdb_function_text.specs.Functions.{function_made, function_text};
+ghost use Rattle.pdb_function_text.specs.Ids.{id_made, id_text};
 ghost use Rattle.pdb_type_text.specs.Written.{Emits};
 
 use crate::formatter::TypeFormatter;
-use crate::texts::{function_text_of, id_text_of};
 use bitflags::Flags;
 use pdb_container::StringTable;
 use pdb_function_text::{Asker, FunctionPrinter, ItemReader, TypePrinter};
 use pdb_indices::{IdIndex, TypeIndex};
 use pdb_items::{IdInformation, TypeInformation};
+use pdb_resolving::stop::{self, Stop};
 use pdb_resolving::{Error, ModuleProvider, Result};
 use pdb_symbols_modules::{DebugInformation, Module};
 use pdb_type_flags::TypeFormatterFlags;
@@ -111,11 +111,16 @@ impl<'a, 's, P: ModuleProvider> TypeFormatter<'a, 's, P> {
         module_index: usize,
         function_type_index: TypeIndex,
     ) -> Result<String>
-        ensures kept { Leaves P.provided self.old result self.new }
+        ensures kept { Leaves
+            (function_made (env_of P.provided self.old module_index) name.now function_type_index.0)
+            self.old result self.new }
         ensures text { Answers string_bytes result (function_text (env_of P.provided self.old module_index) name.now function_type_index.0) }
     {
-        self.printer.forget_failing();
-        let made = function_text_of(self, alloc, name, module_index, function_type_index);
+        let asker = Asker {
+            alloc,
+            module_index,
+        };
+        let made = self.printer.function_text(asker, name, function_type_index);
         self.keep_failed(made)
     }
 
@@ -132,7 +137,9 @@ impl<'a, 's, P: ModuleProvider> TypeFormatter<'a, 's, P> {
         module_index: usize,
         function_type_index: TypeIndex,
     ) -> Result<()>
-        ensures kept { Leaves P.provided self.old result self.new }
+        ensures kept { Leaves
+            (function_made (env_of P.provided self.old module_index) name.now function_type_index.0)
+            self.old result self.new }
         ensures text { Emits W.write_str_gives w.old result w.new (function_text (env_of P.provided self.old module_index) name.now function_type_index.0) }
     {
         let text = self.format_function(alloc, name, module_index, function_type_index)?;
@@ -152,11 +159,15 @@ impl<'a, 's, P: ModuleProvider> TypeFormatter<'a, 's, P> {
         module_index: usize,
         id_index: IdIndex,
     ) -> Result<String>
-        ensures kept { Leaves P.provided self.old result self.new }
+        ensures kept { Leaves (id_made (env_of P.provided self.old module_index) id_index.0)
+            self.old result self.new }
         ensures text { Answers string_bytes result (id_text (env_of P.provided self.old module_index) id_index.0) }
     {
-        self.printer.forget_failing();
-        let made = id_text_of(self, alloc, module_index, id_index);
+        let asker = Asker {
+            alloc,
+            module_index,
+        };
+        let made = self.printer.id_text(asker, id_index);
         self.keep_failed(made)
     }
 
@@ -172,7 +183,8 @@ impl<'a, 's, P: ModuleProvider> TypeFormatter<'a, 's, P> {
         module_index: usize,
         id_index: IdIndex,
     ) -> Result<()>
-        ensures kept { Leaves P.provided self.old result self.new }
+        ensures kept { Leaves (id_made (env_of P.provided self.old module_index) id_index.0)
+            self.old result self.new }
         ensures text { Emits W.write_str_gives w.old result w.new (id_text (env_of P.provided self.old module_index) id_index.0) }
     {
         let text = self.format_id(alloc, module_index, id_index)?;
@@ -180,20 +192,23 @@ impl<'a, 's, P: ModuleProvider> TypeFormatter<'a, 's, P> {
         Ok(())
     }
 
-    /// Passes on what a call made. Where it failed, the module's imports or exports that couldn't be read in it are kept as failed.
+    /// Passes on a text, or the error that ended it; the table of a module that it is of is kept as
+    /// failed.
     ///
     /// # Errors
-    /// The call's; `OutOfMemory`.
-    fn keep_failed(&mut self, made: Result<String>) -> Result<String>
-        ensures kept { Leaves P.provided self.old result self.new }
-        ensures passed { (result ≡ made) ⊎ (result ≡ Err errors.OutOfMemory) }
+    /// That which ended the text; `OutOfMemory`.
+    #[tactic(auto, using(crate::proofs::Leaving::leaves_text, crate::proofs::Leaving::leaves_error, crate::proofs::Leaving::leaves_table, pdb_resolving::proofs::Ending::ends_fails))]
+    fn keep_failed(&mut self, made: stop::Result<String>) -> Result<String>
+        ensures kept { (text : Result (List ℕ) Cause) → Finds string_bytes made text
+            → Leaves text self.old result self.new }
+        ensures text { (text : Result (List ℕ) Cause) → Finds string_bytes made text
+            → Answers string_bytes result (of_any text) }
     {
         match made {
             Ok(text) => Ok(text),
-            Err(Error::OutOfMemory) => Err(Error::OutOfMemory),
-            Err(Error::FormatError(cause)) => Err(Error::FormatError(cause)),
-            Err(fault) => match self.printer.keep_failed() {
-                Ok(()) => Err(fault),
+            Err(Stop::ByError(error)) => Err(error),
+            Err(Stop::ByTable(table, error)) => match self.printer.keep_failed(table) {
+                Ok(()) => Err(error),
                 Err(_) => Err(Error::OutOfMemory),
             },
         }

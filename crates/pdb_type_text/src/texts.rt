@@ -13,6 +13,7 @@ use pdb_resolving::{ModuleProvider, Result};
 use std::alloc::Global;
 
 /// As [`TypeFormatter::format_function`], but no table of a module is kept as failed.
+#[tactic(auto, using(pdb_resolving::proofs::Ending::ends_fails))]
 pub fn function_text_of<P: ModuleProvider>(
     formatter: &mut TypeFormatter<'_, '_, P>,
     alloc: Global,
@@ -27,12 +28,15 @@ pub fn function_text_of<P: ModuleProvider>(
         alloc,
         module_index,
     };
-    formatter
-        .printer
-        .function_text(asker, name, function_type_index)
+    Ok(
+        formatter
+            .printer
+            .function_text(asker, name, function_type_index)?,
+    )
 }
 
 /// As [`TypeFormatter::format_id`], but no table of a module is kept as failed.
+#[tactic(auto, using(pdb_resolving::proofs::Ending::ends_fails))]
 pub fn id_text_of<P: ModuleProvider>(
     formatter: &mut TypeFormatter<'_, '_, P>,
     alloc: Global,
@@ -46,5 +50,5 @@ pub fn id_text_of<P: ModuleProvider>(
         alloc,
         module_index,
     };
-    formatter.printer.id_text(asker, id_index)
+    Ok(formatter.printer.id_text(asker, id_index)?)
 }

@@ -1,7 +1,7 @@
 use Rattle.std.proofs.Common.{◌≡◌, true, false, sym, ◌∙◌, Ok}
 use Rattle.std.proofs.lemmas.Result.{err_from_is_err_and}
 use Rattle.pdb_records.specs.Shapes.{shape}
-use Rattle.pdb_resolving.specs.Fault.{Fails}
+use Rattle.pdb_resolving.specs.Cause.{Ends}
 use Rattle.pdb_text_pieces.specs.Paths.{is_on}
 use Rattle.std.specs.Prelude.{Some, None}
 use Rattle.pdb_type_printing.specs.Arrays.{array_step}
@@ -18,7 +18,7 @@ pub returns-in_err-found-clause-value : goal.returns-in_err-found-clause-value
 returns-in_err-found-clause-value g c =
     let p = err_from_is_err_and c.from_residual-in_err-found.result c.from_residual-in_err-found.ensures.1 in
     let on : is_on c.loop.passed.items c.loop.index.0 ≡ false = cc in
-    let h : Fails c.in_err-found.field-0.0 ((env_of g.P.ModuleProvider.provided c.args.self.now c.args.asker.module_index).read c.loop.index.0) = rw (sym c.loop.invariant.same) c.in_err-found.ensures.value in
+    let h : Ends c.in_err-found.field-0.0 ((env_of g.P.ModuleProvider.provided c.args.self.now c.args.asker.module_index).read c.loop.index.0) = rw (sym c.loop.invariant.same) c.in_err-found.ensures.value in
     rw (p.1, p.2) (chain_fails (env_of g.P.ModuleProvider.provided c.args.self.now c.args.asker.module_index) c.loop.counter c.loop.passed.items c.loop.dimensions.items c.loop.index.0 c.in_err-found.field-0.0 _ c.loop-test.true on h c.loop.invariant.value)
 
 pub returns-clause-value : goal.returns-clause-value

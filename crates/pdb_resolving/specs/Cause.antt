@@ -1,0 +1,61 @@
+-- What ends a text, and when a call that makes a part of one may answer it.
+use Rattle.std.specs.Prelude.{◌≡◌, Result, Ok, Err}
+use Rattle.pdb_container.specs.declared.error.Error.TheVariants as causes
+use Rattle.pdb_resolving.specs.declared.error.Error.{Error}
+use Rattle.pdb_resolving.specs.declared.error.Error.TheVariants as errors
+use Rattle.pdb_resolving.specs.declared.stop.Stop.{Stop}
+use Rattle.pdb_resolving.specs.declared.stop.Stop.TheVariants as stops
+use Rattle.pdb_resolving.specs.declared.table.Table.{Table}
+use Rattle.pdb_resolving.specs.Fault.{Fault, fault_of}
+
+-- what a text ends by: a fault, or a table of a module, with the fault of reading it
+pub data Cause : Type 0 where
+  ByFault : Fault → Cause
+  ByTable : Table → Fault → Cause
+
+-- the fault alone
+abbrev pub fault_in : Cause → Fault
+fault_in (ByFault fault) = fault
+fault_in (ByTable table fault) = fault
+
+-- what was read of no table, as what a text is made of
+abbrev pub of_no_table : {A : Type 0} → Result A Fault → Result A Cause
+of_no_table (Ok x) = Ok x
+of_no_table (Err fault) = Err (ByFault fault)
+
+-- what was read of a table, as what a text is made of
+abbrev pub of_table : {A : Type 0} → Table → Result A Fault → Result A Cause
+of_table table (Ok x) = Ok x
+of_table table (Err fault) = Err (ByTable table fault)
+
+-- the same, whatever table a fault is of
+abbrev pub of_any : {A : Type 0} → Result A Cause → Result A Fault
+of_any (Ok x) = Ok x
+of_any (Err cause) = Err (fault_in cause)
+
+-- ---- errors
+
+-- the error alone
+abbrev pub error_in : Stop → Error
+error_in (stops.ByError e) = e
+error_in (stops.ByTable table e) = e
+
+-- An error is that of a fault: neither want of memory nor a writer's refusal.
+abbrev pub IsOfFault : Error → Type 0
+IsOfFault errors.OutOfMemory = ⊥
+IsOfFault (errors.PdbError causes.OutOfMemory) = ⊥
+IsOfFault (errors.FormatError e) = ⊥
+IsOfFault e = Unit {0}
+
+-- A call is ended: memory was short, or what is read has that cause. Want of memory is no table's.
+abbrev pub Ends : {Y : Type 0} → Stop → Result Y Cause → Type 0
+Ends (stops.ByError errors.OutOfMemory) read = Unit {0}
+Ends (stops.ByError (errors.PdbError causes.OutOfMemory)) read = ⊥
+Ends (stops.ByError (errors.FormatError e)) read = ⊥
+Ends (stops.ByError e) read = read ≡ Err (ByFault (fault_of e))
+Ends (stops.ByTable table e) read = IsOfFault e × (read ≡ Err (ByTable table (fault_of e)))
+
+-- What a call returned, seen by view, is what is read for a text, unless memory was short.
+abbrev pub Finds : {X Y : Type 0} → (X → Y) → Result X Stop → Result Y Cause → Type 0
+Finds view (Ok x) read = read ≡ Ok (view x)
+Finds view (Err stop) read = Ends stop read
