@@ -6,7 +6,7 @@ mod pdb_data;
 
 pub use pdb_context::{
     Context, Frame, Function, FunctionFrames, FunctionIter, ModuleSectionContribution, SharedFrame,
-    SharedFunctionFrames, TypeFormatter, maybe_owned,
+    SharedFunctionFrames, TextWriter, TypeFormatter, maybe_owned,
 };
 pub use pdb_data::ContextPdbData;
 pub use pdb_loading::{KeptModules, Tables, read_tables};

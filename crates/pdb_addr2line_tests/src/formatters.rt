@@ -1,8 +1,10 @@
 //! Calls of formatters over a file of three modules, of which two import from the third.
 
+ghost use Rattle.std.specs.Prelude.{◌≡◌, ◌+◌, ◌-◌, ◌^◌};
+
 use crate::files::{Data, data_of};
 use pdb_addr2line::pdb::{IdIndex, PDB, StringRef, StringTable, TypeIndex};
-use pdb_addr2line::{ContextPdbData, Error, ModuleProvider, TypeFormatter};
+use pdb_addr2line::{ContextPdbData, Error, ModuleProvider, TextWriter, TypeFormatter};
 use pdb_samples::{cross_imports, imports_of_no_stream};
 use std::alloc::Global;
 use std::fmt;
@@ -21,12 +23,21 @@ enum Question {
     FailedExports,
 }
 
-/// A writer that refuses every text.
+/// A writer that refuses every text, and counts them.
 #[derive(Drop)]
-struct Refusing;
+struct Refusing {
+    refused: u32,
+}
 
-impl fmt::Write for Refusing {
-    fn write_str(&mut self, _text: &str) -> fmt::Result {
+impl TextWriter for Refusing {
+    ghost use Rattle.std.specs.Prelude.{min};
+
+    ghost has_taken = { λ _ _ _. ⊥ };
+
+    ghost has_refused = { λ old _ new. new.refused ≡ min (old.refused + 1) (2 ^ 32 - 1) };
+
+    fn take_text(&mut self, _text: &str) -> fmt::Result {
+        self.refused = self.refused.saturating_add(1);
         Err(fmt::Error)
     }
 }
@@ -45,17 +56,19 @@ fn are_emitted<P: ModuleProvider>(
     (function.is_ok(), id.is_ok(), text.as_str() == "f()h()")
 }
 
-/// Whether a formatter answers that a function, and then an id, was refused.
+/// Whether a formatter answers that a function, and then an id, was refused, and whether the writer was
+/// asked once for each.
 fn are_refused<P: ModuleProvider>(
     alloc: Global,
     formatter: &mut TypeFormatter<'_, '_, P>,
 ) -> (bool, bool, bool) {
-    let function = formatter.emit_function(alloc, &mut Refusing, "f", 0, TypeIndex(0x1001));
-    let id = formatter.emit_id(alloc, &mut Refusing, 0, IdIndex(0x1000));
+    let mut writer = Refusing { refused: 0 };
+    let function = formatter.emit_function(alloc, &mut writer, "f", 0, TypeIndex(0x1001));
+    let id = formatter.emit_id(alloc, &mut writer, 0, IdIndex(0x1000));
     (
         matches!(&function, Err(Error::FormatError(_))),
         matches!(&id, Err(Error::FormatError(_))),
-        true,
+        writer.refused == 2,
     )
 }
 

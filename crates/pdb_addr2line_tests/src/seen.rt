@@ -5,15 +5,22 @@ use pdb_text_pieces::Seen;
 use std::alloc::Global;
 use std::test::Fail;
 
-/// Inserts 1 at one level of a path, and 0 and 2 at a further one. Whether 0 is refused, and what is on the path then.
+/// Begins a level of the index 1 on a path, inserts 0 and 2 at it, and 3 at a further one. Whether 0 is
+/// refused, and what is on the path once the further level is gone.
 fn inserted(alloc: Global, path: &mut Vec<u32>) -> Result<(bool, Vec<u32>), Fail> {
     let mut first = Seen::new(path);
-    first.insert(1)?;
-    let mut second = Seen::new(&mut *first.path);
+    let mut second = Seen::insert_one(&mut *first.path, 1)?;
     let is_refused = matches!(&second.insert(0), Err(Error::CircularTypeDefinition(0)));
     second.insert(2)?;
+    insert_further(&mut second, 3)?;
     let indices = Vec::from_slice(alloc, second.path.as_slice())?;
     Ok((is_refused, indices))
+}
+
+/// Inserts an index at a further level, which ends.
+fn insert_further(level: &mut Seen<'_>, index: u32) -> Result<(), Error> {
+    let mut further = level.new_level();
+    further.insert(index)
 }
 
 #[test]

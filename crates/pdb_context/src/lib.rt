@@ -8,5 +8,7 @@ mod functions;
 
 pub use context::Context;
 pub use functions::FunctionIter;
-pub use pdb_answers::{ContextParts, ModuleSectionContribution, TypeFormatter, maybe_owned};
+pub use pdb_answers::{
+    ContextParts, ModuleSectionContribution, TextWriter, TypeFormatter, maybe_owned,
+};
 pub use pdb_functions::{Frame, Function, FunctionFrames, SharedFrame, SharedFunctionFrames};

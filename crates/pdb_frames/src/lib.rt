@@ -11,4 +11,4 @@ pub use pdb_choice::{
     Chosen, ContextParts, Failures, Part, choose, failing_in, number_of, to_next_bound,
     to_next_shared_bound, unsuccessful,
 };
-pub use pdb_names::{Namer, TypeFormatter, maybe_owned};
+pub use pdb_names::{Namer, TextWriter, TypeFormatter, maybe_owned};

@@ -1,6 +1,7 @@
 pub mod Arguments
 pub mod Brackets
 pub mod FormNames
+pub mod Levels
 pub mod Names
 pub mod Objects
 pub mod Paths

@@ -3,6 +3,7 @@
 
 mod arguments;
 mod brackets;
+mod levels;
 mod names;
 mod objects;
 mod path;
@@ -17,7 +18,7 @@ pub use names::{
     emit_unhandled_id,
 };
 pub use objects::{emit_constant_object, emit_static, this_behind};
-pub use path::{Seen, is_on};
+pub use path::{AlreadySeenError, Seen, is_on};
 pub use pointers::{PointerLevel, emit_pointers, ends_in_sigil, leading_to, level_of};
 pub use text::{emit, emit_missing, emit_unread};
 pub use words::{

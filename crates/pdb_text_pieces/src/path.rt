@@ -16,6 +16,35 @@ pub fn is_on(path: &[u32], index: u32) -> bool
     path.iter().any(|p| *p == index)
 }
 
+/// An index that is on the path already, or that a full path can't take.
+#[derive(Clone, Copy, Debug, PartialEq, Eq)]
+pub struct AlreadySeenError(pub u32);
+
+/// `CircularTypeDefinition` of that index.
+impl From<AlreadySeenError> for Error {
+    ghost use Rattle.pdb_resolving.specs.declared.error.Error.TheVariants.{CircularTypeDefinition};
+
+    ghost from_gives = { λ seen e. e ≡ CircularTypeDefinition seen.0 };
+
+    fn from(seen: AlreadySeenError) -> Error {
+        Error::CircularTypeDefinition(seen.0)
+    }
+}
+
+/// Puts an index on a path.
+///
+/// # Errors
+/// Those of [`Seen::insert`].
+pub(crate) fn enter(path: &mut Vec<u32>, index: u32) -> Result<()>
+    ensures { Enters result path.old.items path.new.items index }
+{
+    if path.len() >= MAX_LENGTH || is_on(path, index) {
+        return Err(Error::from(AlreadySeenError(index)));
+    }
+    path.push(index)?;
+    Ok(())
+}
+
 /// A level of indices on a path: what was inserted at this level is taken back when the level is dropped.
 pub struct Seen<'a> {
     /// The path, with the indices of all levels.
@@ -45,11 +74,7 @@ impl<'a> Seen<'a> {
         ensures level { self.new.level ≡ self.old.level }
         ensures entered { Enters result self.old.path.now.items self.new.path.now.items index }
     {
-        if self.path.len() >= MAX_LENGTH || is_on(self.path, index) {
-            return Err(Error::CircularTypeDefinition(index));
-        }
-        self.path.push(index)?;
-        Ok(())
+        enter(self.path, index)
     }
 }
 

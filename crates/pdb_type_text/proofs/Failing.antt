@@ -7,6 +7,7 @@ use Rattle.pdb_type_text.specs.Written.{Emits}
 use Rattle.pdb_text_pieces.specs.Printed.{Text}
 
 -- a text that wasn't made isn't handed over
-pub fails_emits : {W : Type 0} (takes : W → Text → W → Type 0) (old new : W) (e : Error) (made : Result Text Fault) → new ≡ old → Fails e made → Emits {A = Unit {0}} takes old (Err e) new made
-fails_emits takes old new (errors.FormatError cause) made same h = absurd h
-fails_emits takes old new e made same h = (same, h)
+pub fails_emits : {W : Type 0} (taken refused : W → Text → W → Type 0) (old new : W) (e : Error)
+    (made : Result Text Fault) → new ≡ old → Fails e made → Emits {A = Unit {0}} taken refused old (Err e) new made
+fails_emits taken refused old new (errors.FormatError cause) made same h = absurd h
+fails_emits taken refused old new e made same h = (same, h)

@@ -10,9 +10,10 @@ abbrev pub IsMade : Result Text Fault → (Text → Type 0) → Type 0
 IsMade (Ok text) P = P text
 IsMade (Err e) P = ⊥
 
--- What a call that makes a text and hands it over at once returned and left: the writer has taken the whole text; or it refused the text that
--- was made; or no text was made, and the writer has got nothing.
-abbrev pub Emits : {W A : Type 0} → (W → Text → W → Type 0) → W → Result A Error → W → Result Text Fault → Type 0
-Emits takes old (Ok x) new made = IsMade made (λ text. takes old text new)
-Emits takes old (Err (errors.FormatError e)) new made = IsMade made (λ text. Unit {0})
-Emits takes old (Err e) new made = (new ≡ old) × Fails e made
+-- What a call that makes a text and hands it over by one call returned and left: the writer took
+-- exactly this text; or it refused it; or no text was made, and the writer is as it was.
+abbrev pub Emits : {W A : Type 0} → (W → Text → W → Type 0) → (W → Text → W → Type 0) → W
+    → Result A Error → W → Result Text Fault → Type 0
+Emits taken refused old (Ok x) new made = IsMade made (λ text. taken old text new)
+Emits taken refused old (Err (errors.FormatError e)) new made = IsMade made (λ text. refused old text new)
+Emits taken refused old (Err e) new made = (new ≡ old) × Fails e made

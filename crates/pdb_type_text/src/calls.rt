@@ -15,6 +15,7 @@ ghost use Rattle.pdb_function_text.specs.Ids.{id_made, id_text};
 ghost use Rattle.pdb_type_text.specs.Written.{Emits};
 
 use crate::formatter::TypeFormatter;
+use crate::writer::TextWriter;
 use bitflags::Flags;
 use pdb_container::StringTable;
 use pdb_function_text::{Asker, FunctionPrinter, ItemReader, TypePrinter};
@@ -25,7 +26,6 @@ use pdb_resolving::{Error, ModuleProvider, Result};
 use pdb_symbols_modules::{DebugInformation, Module};
 use pdb_type_flags::TypeFormatterFlags;
 use std::alloc::Global;
-use std::fmt::Write;
 
 impl<'a, 's, P: ModuleProvider> TypeFormatter<'a, 's, P> {
     /// A formatter over what gives the modules, their entries in order, the image for which the database was written, the
@@ -124,12 +124,12 @@ impl<'a, 's, P: ModuleProvider> TypeFormatter<'a, 's, P> {
         self.keep_failed(made)
     }
 
-    /// Makes the text of [`TypeFormatter::format_function`] and hands it over to a writer at once.
+    /// Makes the text of [`TypeFormatter::format_function`], and hands it over to a writer at once.
     ///
     /// # Errors
     /// As `format_function`, and then the writer got nothing; `FormatError` where the writer refused the text.
     #[tactic(auto, using(crate::proofs::Failing::fails_emits))]
-    pub fn emit_function<W: Write>(
+    pub fn emit_function<W: TextWriter>(
         &mut self,
         alloc: Global,
         w: &mut W,
@@ -140,10 +140,11 @@ impl<'a, 's, P: ModuleProvider> TypeFormatter<'a, 's, P> {
         ensures kept { Leaves
             (function_made (env_of P.provided self.old module_index) name.now function_type_index.0)
             self.old result self.new }
-        ensures text { Emits W.write_str_gives w.old result w.new (function_text (env_of P.provided self.old module_index) name.now function_type_index.0) }
+        ensures text { Emits W.has_taken W.has_refused w.old result w.new
+            (function_text (env_of P.provided self.old module_index) name.now function_type_index.0) }
     {
         let text = self.format_function(alloc, name, module_index, function_type_index)?;
-        w.write_str(text.as_str())?;
+        w.take_text(text.as_str())?;
         Ok(())
     }
 
@@ -171,12 +172,12 @@ impl<'a, 's, P: ModuleProvider> TypeFormatter<'a, 's, P> {
         self.keep_failed(made)
     }
 
-    /// Makes the text of [`TypeFormatter::format_id`] and hands it over to a writer at once.
+    /// Makes the text of [`TypeFormatter::format_id`], and hands it over to a writer at once.
     ///
     /// # Errors
     /// As `format_id`, and then the writer got nothing; `FormatError` where the writer refused the text.
     #[tactic(auto, using(crate::proofs::Failing::fails_emits))]
-    pub fn emit_id<W: Write>(
+    pub fn emit_id<W: TextWriter>(
         &mut self,
         alloc: Global,
         w: &mut W,
@@ -185,10 +186,11 @@ impl<'a, 's, P: ModuleProvider> TypeFormatter<'a, 's, P> {
     ) -> Result<()>
         ensures kept { Leaves (id_made (env_of P.provided self.old module_index) id_index.0)
             self.old result self.new }
-        ensures text { Emits W.write_str_gives w.old result w.new (id_text (env_of P.provided self.old module_index) id_index.0) }
+        ensures text { Emits W.has_taken W.has_refused w.old result w.new
+            (id_text (env_of P.provided self.old module_index) id_index.0) }
     {
         let text = self.format_id(alloc, module_index, id_index)?;
-        w.write_str(text.as_str())?;
+        w.take_text(text.as_str())?;
         Ok(())
     }
 
