@@ -63,28 +63,52 @@ fn is_viewed(alloc: Global) -> Result<bool, Fail> {
     Ok(view.as_slice() == b"bce".as_slice())
 }
 
-/// Whether two pages that lie side by side are joined.
-fn are_joined(alloc: Global) -> Result<bool, Error> {
+/// Pages 0, 1, 4, 5, 2 and 2, of 4096 bytes each.
+fn six_pages(alloc: Global) -> Result<PageList, Error> {
     let mut list = PageList::new(alloc, 4096);
-    list.push(4)?;
-    list.push(5)?;
-    Ok(list.source_slices() == [slice(16384, 8192)].as_slice())
+    for number in [0, 1, 4, 5, 2, 2] {
+        list.push(number)?;
+    }
+    Ok(list)
+}
+
+/// Whether those that lie side by side are joined, and no others.
+fn are_joined(list: &PageList) -> bool {
+    let slices = [
+        slice(0, 8192),
+        slice(16384, 8192),
+        slice(8192, 4096),
+        slice(8192, 4096),
+    ];
+    list.source_slices() == slices.as_slice() && list.len() == 24576
+}
+
+/// Whether the first 10000 bytes alone are left.
+fn are_cut(list: &PageList) -> bool {
+    let slices = [slice(0, 8192), slice(16384, 1808)];
+    list.source_slices() == slices.as_slice() && list.len() == 10000
+}
+
+/// Whether the pages are joined, and cut.
+fn has_pages(alloc: Global) -> Result<[bool; 2], Error> {
+    let mut list = six_pages(alloc)?;
+    let joined = are_joined(&list);
+    list.truncate(10000);
+    Ok([joined, are_cut(&list)])
 }
 
 /// Whether each call answers as written.
-fn are_answered(alloc: Global) -> Result<[bool; 4], Fail> {
-    Ok([
-        has_name(alloc)?,
-        has_text(alloc)?,
-        is_viewed(alloc)?,
-        are_joined(alloc)?,
-    ])
+fn are_answered(alloc: Global) -> Result<([bool; 3], [bool; 2]), Fail> {
+    Ok((
+        [has_name(alloc)?, has_text(alloc)?, is_viewed(alloc)?],
+        has_pages(alloc)?,
+    ))
 }
 
 // The only test that fails where some allocation is refused, and the others ask again.
 #[test]
 fn first_calls_in_ample_memory(rt: HostRuntime) -> Result<(), Fail> {
-    assert_eq!(rt; are_answered(rt.alloc())?, [true; 4]);
+    assert_eq!(rt; are_answered(rt.alloc())?, ([true; 3], [true; 2]));
     Ok(())
 }
 
@@ -92,5 +116,6 @@ fn first_calls_in_ample_memory(rt: HostRuntime) -> Result<(), Fail> {
 fn two_numbers(rt: HostRuntime) {
     let mut buffer = ParseBuffer::from([1, 2, 3, 4, 5, 6, 7].as_slice());
     assert_eq!(rt; buffer.parse_u32(), Ok(0x0403_0201));
+    assert_eq!(rt; buffer.pos(), 4);
     assert_eq!(rt; buffer.parse_u32(), Err(Error::UnexpectedEof));
 }

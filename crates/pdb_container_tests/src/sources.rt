@@ -19,25 +19,25 @@ enum Refusal {
     Memory,
 }
 
-/// The bytes of a file, where the views from one number to before another, counted from 0, fail.
+/// The bytes of a file, where the views of some numbers fail, counted from 0.
 #[derive(Drop)]
-struct Failing {
+struct Failing<'c> {
     bytes: Vec<u8>,
-    views: u64,
-    fails: (u64, u64),
+    views: &'c Cell<u64>,
+    fails: &'static [u64],
     refusal: Refusal,
     failures: u64,
 }
 
-impl Source for Failing {
+impl<'c> Source for Failing<'c> {
     ghost bytes = { λ f. f.bytes.items };
 
     ghost failures = { λ f. f.failures };
 
     fn view(&mut self, alloc: Global, slices: &[SourceSlice]) -> io::Result<ReadView> {
-        let number = self.views;
-        self.views = self.views.saturating_add(1);
-        if number < self.fails.0 || self.fails.1 <= number {
+        let number = self.views.get();
+        self.views.set(number.saturating_add(1));
+        if !self.fails.contains(&number) {
             return self.bytes.view(alloc, slices);
         }
         match self.refusal {
@@ -55,10 +55,16 @@ impl Source for Failing {
 }
 
 /// A source over a file whose stream 1 has the bytes 1 to 250, 0, 1 and so on.
-fn source(alloc: Global, fails: (u64, u64), refusal: Refusal) -> Result<Failing, SampleError> {
+fn source<'c>(
+    alloc: Global,
+    views: &'c Cell<u64>,
+    fails: &'static [u64],
+    refusal: Refusal,
+) -> Result<Failing<'c>, SampleError> {
+    views.set(0);
     Ok(Failing {
         bytes: two_streams(alloc, PageOrder::StreamsReversed)?,
-        views: 0,
+        views,
         fails,
         refusal,
         failures: 0,
@@ -73,20 +79,21 @@ fn two_streams(alloc: Global, order: PageOrder) -> Result<Vec<u8>, SampleError> 
 
 /// A container over the source. Opening it takes three views, of the front, the list and the directory, and each stream
 /// one, of its own pages.
-fn opened(
+fn opened<'c>(
     alloc: Global,
-    fails: (u64, u64),
+    views: &'c Cell<u64>,
+    fails: &'static [u64],
     refusal: Refusal,
-) -> Result<Result<BigMSF<'static, Failing>, Error>, SampleError> {
-    match open_msf(alloc, source(alloc, fails, refusal)?) {
-        Err(Error::OutOfMemory) => Ok(open_msf(alloc, source(alloc, fails, refusal)?)),
+) -> Result<Result<BigMSF<'static, Failing<'c>>, Error>, SampleError> {
+    match open_msf(alloc, source(alloc, views, fails, refusal)?) {
+        Err(Error::OutOfMemory) => Ok(open_msf(alloc, source(alloc, views, fails, refusal)?)),
         opened => Ok(opened),
     }
 }
 
 /// Why stream 1 of a container is refused, if it is, and whether its bytes are as usual at the next call.
 fn asked_of(
-    container: &mut BigMSF<'static, Failing>,
+    container: &mut BigMSF<'static, Failing<'_>>,
     alloc: Global,
     refusal: Refusal,
 ) -> Result<(Option<Error>, bool), Fail> {
@@ -102,26 +109,28 @@ fn asked_of(
 /// The same where views fail.
 fn asked_twice(
     alloc: Global,
-    fails: (u64, u64),
+    fails: &'static [u64],
     refusal: Refusal,
 ) -> Result<(Option<Error>, bool), Fail> {
-    let mut container = opened(alloc, fails, refusal)??;
+    let views = Cell::new(0);
+    let mut container = opened(alloc, &views, fails, refusal)??;
     asked_of(&mut container, alloc, refusal)
 }
 
 /// Why the failures of these views keep the container from being opened.
-fn refused(alloc: Global, fails: (u64, u64), refusal: Refusal) -> Result<Option<Error>, Fail> {
-    Ok(opened(alloc, fails, refusal)?.err())
+fn refused(alloc: Global, fails: &'static [u64], refusal: Refusal) -> Result<Option<Error>, Fail> {
+    let views = Cell::new(0);
+    Ok(opened(alloc, &views, fails, refusal)?.err())
 }
 
 #[test]
 fn views_fail_at_the_opening(rt: HostRuntime) -> Result<(), Fail> {
     let memory = Error::OutOfMemory;
-    let rows = [
-        ((0, 1), Refusal::Other, Error::IoError(ErrorKind::Other)),
-        ((0, 1), Refusal::Memory, memory),
-        ((1, 2), Refusal::Memory, memory),
-        ((2, 3), Refusal::Memory, memory),
+    let rows: [(&'static [u64], Refusal, Error); 4] = [
+        (&[0], Refusal::Other, Error::IoError(ErrorKind::Other)),
+        (&[0], Refusal::Memory, memory),
+        (&[1], Refusal::Memory, memory),
+        (&[2], Refusal::Memory, memory),
     ];
     for (fails, refusal, error) in rows {
         assert_eq!(rt;
@@ -134,21 +143,86 @@ fn views_fail_at_the_opening(rt: HostRuntime) -> Result<(), Fail> {
 }
 
 #[test]
+fn a_stream_is_read_anew_where_its_view_failed(rt: HostRuntime) -> Result<(), Fail> {
+    let rows = [
+        (Refusal::Other, Error::IoError(ErrorKind::Other)),
+        (Refusal::Memory, Error::OutOfMemory),
+    ];
+    for (refusal, error) in rows {
+        let found = asked_twice(rt.alloc(), &[3], refusal)?;
+        assert_eq!(rt; found, (Some(error), true));
+    }
+    Ok(())
+}
+
+/// Why a call is refused, if it is, and how many views there were then.
+type Asked = (Option<Error>, u64);
+
+/// What a call for stream 1 says, or that memory ran out.
+fn asked(
+    container: &mut BigMSF<'static, Failing<'_>>,
+    alloc: Global,
+    views: &Cell<u64>,
+) -> Result<Asked, Error> {
+    match container.get(alloc, 1, None) {
+        Err(Error::OutOfMemory) => Err(Error::OutOfMemory),
+        answer => Ok((answer.err(), views.get())),
+    }
+}
+
+/// What three calls say.
+type Calls = (Asked, Asked, Asked);
+
+/// What three calls for stream 1 say.
+fn asked_thrice(
+    container: &mut BigMSF<'static, Failing<'_>>,
+    alloc: Global,
+    views: &Cell<u64>,
+) -> Result<Calls, Error> {
+    Ok((
+        asked(container, alloc, views)?,
+        asked(container, alloc, views)?,
+        asked(container, alloc, views)?,
+    ))
+}
+
+/// How many views the opening takes, and what three calls say.
+fn viewed(alloc: Global, views: &Cell<u64>, source: Failing<'_>) -> Result<(u64, Calls), Error> {
+    let mut container = open_msf(alloc, source)?;
+    let opening = views.get();
+    let asked = asked_thrice(&mut container, alloc, views)?;
+    Ok((opening, asked))
+}
+
+/// The same where some views fail.
+fn viewed_where(alloc: Global, fails: &'static [u64]) -> Result<(u64, Calls), Fail> {
+    let views = Cell::new(0);
+    match viewed(alloc, &views, source(alloc, &views, fails, Refusal::Other)?) {
+        Err(Error::OutOfMemory) => {
+            let source = source(alloc, &views, fails, Refusal::Other)?;
+            Ok(viewed(alloc, &views, source)?)
+        }
+        viewed => Ok(viewed?),
+    }
+}
+
+// No table is kept where a view of the list (1) or of the directory (2) failed: the next call views both anew, and from then
+// on each call its stream alone.
+#[test]
 fn the_directory_is_read_anew_where_the_source_failed(rt: HostRuntime) -> Result<(), Fail> {
     let other = Some(Error::IoError(ErrorKind::Other));
-    let rows = [
-        ((1, 2), Refusal::Other, None),
-        ((2, 3), Refusal::Other, None),
-        ((1, 3), Refusal::Other, other),
-        ((3, 4), Refusal::Other, other),
-        ((3, 4), Refusal::Memory, Some(Error::OutOfMemory)),
+    let rows: [(&'static [u64], u64, Calls); 7] = [
+        (&[], 3, ((None, 4), (None, 5), (None, 6))),
+        (&[1], 2, ((None, 5), (None, 6), (None, 7))),
+        (&[2], 3, ((None, 6), (None, 7), (None, 8))),
+        (&[1, 2], 2, ((other, 3), (None, 6), (None, 7))),
+        (&[1, 3], 2, ((other, 4), (None, 7), (None, 8))),
+        (&[2, 3, 4], 3, ((other, 4), (other, 5), (None, 8))),
+        (&[3], 3, ((other, 4), (None, 5), (None, 6))),
     ];
-    for (fails, refusal, error) in rows {
-        assert_eq!(rt;
-            asked_twice(rt.alloc(), fails, refusal)?,
-            (error, true),
-            "{fails:?}"
-        );
+    for (fails, opening, calls) in rows {
+        let found = viewed_where(rt.alloc(), fails)?;
+        assert_eq!(rt; found, (opening, calls), "{fails:?}");
     }
     Ok(())
 }

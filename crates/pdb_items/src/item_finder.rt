@@ -99,19 +99,7 @@ impl<'t, I: ItemIndex> ItemFinder<'t, I> {
         ensures index { IfOk result (λ item. item.index ≡ index) }
     {
         let mut lengths = 0;
-        self.find_counting(index, &mut lengths)
-    }
-
-    /// The item of an index. Counts the lengths of items that it reads: eight at most.
-    fn find_counting(&self, index: I, lengths: &mut u32) -> Result<Item<'t, I>>
-        requires none { lengths.old ≡ 0 }
-        ensures item { Parses item_bytes result (find_in self.now (I.number index)) }
-        ensures index { IfOk result (λ item. item.index ≡ index) }
-        ensures few { lengths.new ≤ 8 }
-    {
-        let number: u32 = index.into();
-        let bytes = self.piece_of(number, lengths)?;
-        Ok(Item { index, bytes })
+        find_counting(self, index, &mut lengths)
     }
 
     /// The bytes of the item of an index.
@@ -191,4 +179,24 @@ impl<'t, I: ItemIndex> ItemFinder<'t, I> {
             self.end = Some(index);
         }
     }
+}
+
+/// The item of an index, as `ItemFinder::find` answers it. Counts the lengths of items that it reads:
+/// eight at most.
+///
+/// # Errors
+/// Those of `ItemFinder::find`.
+pub fn find_counting<'t, I: ItemIndex>(
+    finder: &ItemFinder<'t, I>,
+    index: I,
+    lengths: &mut u32,
+) -> Result<Item<'t, I>>
+    requires none { lengths.old ≡ 0 }
+    ensures item { Parses item_bytes result (find_in finder.now (I.number index)) }
+    ensures index { IfOk result (λ item. item.index ≡ index) }
+    ensures few { lengths.new ≤ 8 }
+{
+    let number: u32 = index.into();
+    let bytes = finder.piece_of(number, lengths)?;
+    Ok(Item { index, bytes })
 }

@@ -11,7 +11,7 @@ mod item_list;
 pub mod laws;
 
 pub use item::Item;
-pub use item_finder::ItemFinder;
+pub use item_finder::{ItemFinder, find_counting};
 pub use item_information::{
     Id, IdFinder, IdInformation, IdIter, ItemInformation, Type, TypeFinder, TypeInformation,
     TypeIter,

@@ -5,30 +5,41 @@ ghost use Rattle.std.specs.Prelude.{◌≡◌};
 use crate::files::database_of;
 use pdb_container::{Error, FallibleIterator, Result};
 use pdb_container_types::{TypeFinder, TypeIndex, TypeInformation, TypeIter};
+use pdb_items::find_counting;
 use pdb_samples::{SampleError, push_u32};
 use std::alloc::Global;
 use std::test::Fail;
 
-/// What is known of blocks, the known end, and the kind at an index, asked twice.
-type Said = (u32, Option<u32>, Result<u16>, Result<u16>);
+/// What is known of blocks, the known end, the kind at an index, asked twice, and how many lengths a search for it reads.
+type Said = (u32, Option<u32>, Result<u16>, Result<u16>, u32);
 
 /// Ten items, each of which is its number in two bytes.
 const TEN: &[u8] =
     b"\x02\0\x00\0\x02\0\x01\0\x02\0\x02\0\x02\0\x03\0\x02\0\x04\0\x02\0\x05\0\x02\0\x06\0\x02\0\x07\0\x02\0\x08\0\x02\0\x09\0";
 
-/// A stream of ten types and of these bytes behind them. Its header promises sixteen, from 0x1000 on.
-fn ten_types(alloc: Global, tail: &[u8]) -> std::result::Result<Vec<u8>, SampleError> {
+/// A stream of these items and of the bytes behind them. Its header promises indices from the first on and before the second.
+fn types_stream(
+    alloc: Global,
+    indices: (u32, u32),
+    items: &[u8],
+    tail: &[u8],
+) -> std::result::Result<Vec<u8>, SampleError> {
     let mut stream = Vec::new(alloc);
-    push_u32(&mut stream, &[20_040_203, 56, 0x1000, 0x1010])?;
+    push_u32(&mut stream, &[20_040_203, 56, indices.0, indices.1])?;
     stream.resize(56, 0)?;
-    stream.extend_from_slice(TEN)?;
+    stream.extend_from_slice(items)?;
     stream.extend_from_slice(tail)?;
     Ok(stream)
 }
 
 /// The table of that stream.
-fn table(alloc: Global, tail: &[u8]) -> std::result::Result<TypeInformation<'static>, Fail> {
-    let mut database = database_of(alloc, 2, ten_types(alloc, tail)?)?;
+fn table(
+    alloc: Global,
+    indices: (u32, u32),
+    items: &[u8],
+    tail: &[u8],
+) -> std::result::Result<TypeInformation<'static>, Fail> {
+    let mut database = database_of(alloc, 2, types_stream(alloc, indices, items, tail)?)?;
     Ok(database.type_information(alloc)?)
 }
 
@@ -48,13 +59,21 @@ fn kind_at(finder: &TypeFinder<'_>, index: u32) -> Result<u16> {
     finder.find(TypeIndex(index))?.raw_kind()
 }
 
+/// How many lengths of items a search for an index reads.
+fn lengths_at(finder: &TypeFinder<'_>, index: u32) -> u32 {
+    let mut lengths = 0;
+    let _ = find_counting(finder, TypeIndex(index), &mut lengths);
+    lengths
+}
+
 /// What a finder says once it was shown so many steps.
 fn asked(alloc: Global, types: &TypeInformation<'_>, steps: usize, index: u32) -> Result<Said> {
     let mut finder = types.finder(alloc)?;
     let _ = show(&mut finder, &mut types.iter(), steps);
     let first = kind_at(&finder, index);
     let again = kind_at(&finder, index);
-    Ok((finder.max_index().0, end_of(&finder), first, again))
+    let lengths = lengths_at(&finder, index);
+    Ok((finder.max_index().0, end_of(&finder), first, again, lengths))
 }
 
 /// The known end.
@@ -66,9 +85,9 @@ fn end_of(finder: &TypeFinder<'_>) -> Option<u32> {
 }
 
 /// What stands behind ten types of a stream, how many steps are shown, an index, and what is said of it: what is known of blocks,
-/// the known end, and the kind.
-const ROWS: &[(&[u8], usize, u32, u32, Option<u32>, Result<u16>)] = &[
-    (b"", 0, 0x74, 0x1007, None, Err(Error::UnexpectedEof)),
+/// the known end, the kind, and how many lengths are read: those from the start of the block on, that of the item with them.
+const ROWS: &[(&[u8], usize, u32, u32, Option<u32>, Result<u16>, u32)] = &[
+    (b"", 0, 0x74, 0x1007, None, Err(Error::UnexpectedEof), 0),
     (
         b"",
         0,
@@ -76,18 +95,19 @@ const ROWS: &[(&[u8], usize, u32, u32, Option<u32>, Result<u16>)] = &[
         0x1007,
         None,
         Err(Error::TypeNotIndexed(4104, 4104)),
+        0,
     ),
     // Each place of a block of eight.
-    (b"", 10, 0x1000, 0x100f, None, Ok(0)),
-    (b"", 10, 0x1001, 0x100f, None, Ok(1)),
-    (b"", 10, 0x1002, 0x100f, None, Ok(2)),
-    (b"", 10, 0x1003, 0x100f, None, Ok(3)),
-    (b"", 10, 0x1004, 0x100f, None, Ok(4)),
-    (b"", 10, 0x1005, 0x100f, None, Ok(5)),
-    (b"", 10, 0x1006, 0x100f, None, Ok(6)),
-    (b"", 10, 0x1007, 0x100f, None, Ok(7)),
-    (b"", 10, 0x1008, 0x100f, None, Ok(8)),
-    (b"", 10, 0x1009, 0x100f, None, Ok(9)),
+    (b"", 10, 0x1000, 0x100f, None, Ok(0), 1),
+    (b"", 10, 0x1001, 0x100f, None, Ok(1), 2),
+    (b"", 10, 0x1002, 0x100f, None, Ok(2), 3),
+    (b"", 10, 0x1003, 0x100f, None, Ok(3), 4),
+    (b"", 10, 0x1004, 0x100f, None, Ok(4), 5),
+    (b"", 10, 0x1005, 0x100f, None, Ok(5), 6),
+    (b"", 10, 0x1006, 0x100f, None, Ok(6), 7),
+    (b"", 10, 0x1007, 0x100f, None, Ok(7), 8),
+    (b"", 10, 0x1008, 0x100f, None, Ok(8), 1),
+    (b"", 10, 0x1009, 0x100f, None, Ok(9), 2),
     (
         b"",
         10,
@@ -95,6 +115,7 @@ const ROWS: &[(&[u8], usize, u32, u32, Option<u32>, Result<u16>)] = &[
         0x100f,
         None,
         Err(Error::TypeNotFound(4106)),
+        2,
     ),
     (
         b"",
@@ -103,10 +124,19 @@ const ROWS: &[(&[u8], usize, u32, u32, Option<u32>, Result<u16>)] = &[
         0x100f,
         None,
         Err(Error::TypeNotIndexed(4112, 4112)),
+        0,
     ),
-    (b"", 11, 0x1009, 0x100f, Some(0x100a), Ok(9)),
+    (b"", 11, 0x1009, 0x100f, Some(0x100a), Ok(9), 2),
     // A bad end.
-    (b"\x01\0", 8, 0x100a, 0x100f, None, Err(Error::TypeTooShort)),
+    (
+        b"\x01\0",
+        8,
+        0x100a,
+        0x100f,
+        None,
+        Err(Error::TypeTooShort),
+        3,
+    ),
     (
         b"\x01\0",
         10,
@@ -114,6 +144,7 @@ const ROWS: &[(&[u8], usize, u32, u32, Option<u32>, Result<u16>)] = &[
         0x100f,
         None,
         Err(Error::TypeTooShort),
+        3,
     ),
     (
         b"\x01\0",
@@ -122,6 +153,7 @@ const ROWS: &[(&[u8], usize, u32, u32, Option<u32>, Result<u16>)] = &[
         0x100f,
         None,
         Err(Error::TypeTooShort),
+        3,
     ),
     (
         b"\x01\0",
@@ -130,19 +162,45 @@ const ROWS: &[(&[u8], usize, u32, u32, Option<u32>, Result<u16>)] = &[
         0x100f,
         None,
         Err(Error::TypeTooShort),
+        3,
     ),
 ];
 
 #[test]
 fn item_finder(rt: HostRuntime) -> std::result::Result<(), Fail> {
-    for (tail, steps, index, last, end, kind) in ROWS {
-        let types = table(rt.alloc(), *tail)?;
+    for (tail, steps, index, last, end, kind, lengths) in ROWS {
+        let types = table(rt.alloc(), (0x1000, 0x1010), TEN, *tail)?;
         let found = asked(rt.alloc(), &types, *steps, *index)?;
         assert_eq!(rt;
             found,
-            (*last, *end, *kind, *kind),
+            (*last, *end, *kind, *kind, *lengths),
             "{steps} steps, {index}"
         );
     }
+    Ok(())
+}
+
+/// The kind of an iterator's next item, if there is one.
+fn next_kind(iterator: &mut TypeIter<'_>) -> Result<Option<u16>> {
+    match iterator.next()? {
+        None => Ok(None),
+        Some(item) => Ok(Some(item.raw_kind()?)),
+    }
+}
+
+/// What two steps of a table's iterator say.
+fn two_steps(types: &TypeInformation<'_>) -> [Result<Option<u16>>; 2] {
+    let mut iterator = types.iter();
+    [next_kind(&mut iterator), next_kind(&mut iterator)]
+}
+
+// The one item would have the greatest index, and isn't read.
+#[test]
+fn an_item_of_the_greatest_index(rt: HostRuntime) -> std::result::Result<(), Fail> {
+    let one = b"\x02\0\x00\0".as_slice();
+    let types = table(rt.alloc(), (u32::MAX, u32::MAX), one, b"")?;
+    let fault = Error::InvalidTypeInformationHeader("maximum");
+    assert_eq!(rt; types.finder(rt.alloc())?.max_index(), TypeIndex(u32::MAX));
+    assert_eq!(rt; two_steps(&types), [Err(fault), Ok(None)]);
     Ok(())
 }

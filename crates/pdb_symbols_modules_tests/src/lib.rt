@@ -12,4 +12,6 @@ mod names;
 #[cfg(test)]
 mod pages;
 #[cfg(test)]
+mod sources;
+#[cfg(test)]
 mod vectors;

@@ -1,5 +1,6 @@
 //! Bytes that words spell.
 
+use hex::FromHexError;
 use pdb_container::{Error, Result};
 use std::alloc::Global;
 
@@ -8,24 +9,16 @@ pub fn not_a_case() -> Error {
     Error::UnimplementedFeature("no such case")
 }
 
-/// The value of a hexadecimal digit.
-fn digit(byte: u8) -> u8 {
-    match byte {
-        b'0'..=b'9' => byte - b'0',
-        b'a'..=b'f' => byte - b'a' + 10,
-        _ => 0,
-    }
-}
-
-/// The bytes that two digits each spell; `-` spells none.
+/// The bytes that two hexadecimal digits each spell; `-` spells none.
 pub fn bytes_of(alloc: Global, word: &str) -> Result<Vec<u8>> {
-    let mut bytes = Vec::new(alloc);
-    for pair in word.as_bytes().chunks(2) {
-        if let [high, low] = pair {
-            bytes.push(digit(*high).wrapping_mul(16) | digit(*low))?;
-        }
+    if word == "-" {
+        return Ok(Vec::new(alloc));
     }
-    Ok(bytes)
+    match hex::decode(alloc, word) {
+        Ok(bytes) => Ok(bytes),
+        Err(FromHexError::OutOfMemory) => Err(Error::OutOfMemory),
+        Err(_) => Err(not_a_case()),
+    }
 }
 
 /// Writes bytes over those of a file, as `PLACE:BYTES,PLACE:BYTES`; `-` changes none.

@@ -1,0 +1,85 @@
+//! A source that fails while the directory of a database is read.
+
+use pdb_container::{Error, ReadView, Result, Source, SourceSlice};
+use pdb_samples::file_f;
+use pdb_symbols_modules::{PDB, StreamIndex};
+use std::alloc::Global;
+use std::cell::Cell;
+use std::io::{self, ErrorKind};
+use std::test::Fail;
+
+/// File F's bytes, where the views of some numbers fail, counted from 0.
+#[derive(Drop)]
+struct Failing<'c> {
+    bytes: Vec<u8>,
+    views: &'c Cell<u64>,
+    fails: &'static [u64],
+    failures: u64,
+}
+
+impl<'c> Source for Failing<'c> {
+    ghost bytes = { λ f. f.bytes.items };
+
+    ghost failures = { λ f. f.failures };
+
+    fn view(&mut self, alloc: Global, slices: &[SourceSlice]) -> io::Result<ReadView> {
+        let number = self.views.get();
+        self.views.set(number.saturating_add(1));
+        if self.fails.contains(&number) {
+            self.failures = self.failures.saturating_add(1);
+            return Err(ErrorKind::Other.into());
+        }
+        self.bytes.view(alloc, slices)
+    }
+
+    fn failures(&self) -> u64 {
+        self.failures
+    }
+}
+
+/// Why a call is refused, if it is, and how many views there were then.
+type Asked = (Option<Error>, u64);
+
+/// What calls of a database for its types, for stream 5 and for stream 3 say.
+fn asked(database: &mut PDB<'static, Failing<'_>>, alloc: Global, views: &Cell<u64>) -> [Asked; 3] {
+    let types = database.type_information(alloc).err();
+    let of_types = views.get();
+    let raw = database.raw_stream(alloc, StreamIndex(5)).err();
+    let of_raw = views.get();
+    let by_index = StreamIndex(3).get(alloc, database).err();
+    [(types, of_types), (raw, of_raw), (by_index, views.get())]
+}
+
+/// How many views the opening of file F takes, and what the calls say, where some views fail.
+fn viewed(alloc: Global, fails: &'static [u64]) -> std::result::Result<(u64, [Asked; 3]), Fail> {
+    let views = Cell::new(0);
+    let source = Failing {
+        bytes: file_f(alloc)?.bytes(alloc)?,
+        views: &views,
+        fails,
+        failures: 0,
+    };
+    let mut database = PDB::open(alloc, source)?;
+    let opening = views.get();
+    Ok((opening, asked(&mut database, alloc, &views)))
+}
+
+// No table is kept where a view of the list (1) or of the directory (2) failed: the next call views both anew, and from then
+// on each call its stream alone.
+#[test]
+fn the_directory_is_read_anew_where_the_source_failed(
+    rt: HostRuntime,
+) -> std::result::Result<(), Fail> {
+    let other = Some(Error::IoError(ErrorKind::Other));
+    let rows: [(&'static [u64], u64, [Asked; 3]); 4] = [
+        (&[], 3, [(None, 4), (None, 5), (None, 6)]),
+        (&[2], 3, [(None, 6), (None, 7), (None, 8)]),
+        (&[1, 2], 2, [(other, 3), (None, 6), (None, 7)]),
+        (&[1, 3], 2, [(other, 4), (None, 7), (None, 8)]),
+    ];
+    for (fails, opening, calls) in rows {
+        let found = viewed(rt.alloc(), fails)?;
+        assert_eq!(rt; found, (opening, calls), "{fails:?}");
+    }
+    Ok(())
+}
