@@ -1,5 +1,8 @@
+pub mod IsolationLaw
 pub mod Lifting
+pub mod NeededStreams
 pub mod OtherFiles
 pub mod OpeningSteps
+pub mod PageLayout
 pub mod SizesSteps
 pub mod ToldSteps

@@ -1,6 +1,8 @@
 pub mod Answer
+pub mod Isolation
 pub mod Kept
 pub mod Loading
+pub mod SameReports
 pub mod SizesReport
 pub use Rattle.pdb_report_texts.specs.AddressText
 pub use Rattle.pdb_report_texts.specs.Faults

@@ -1,8 +1,11 @@
 //! Laws of the definitions: functions that do nothing, whose contracts are proved.
 
-ghost use Rattle.std.specs.Prelude.{◌≡◌, ℕ, List, None};
+ghost use Rattle.std.specs.Prelude.{◌≡◌, ℕ, ◌<◌, ◌^◌, List, None};
+ghost use Rattle.pdb_container.specs.Alike.{OpenAlike, ReadAlike};
 ghost use Rattle.pdb_files.specs.FileRead.{IsRead};
+ghost use Rattle.pdb_report.specs.Isolation.{AreAlikeFor, IsIsolated};
 ghost use Rattle.pdb_report.specs.Loading.{load_fault};
+ghost use Rattle.pdb_report.specs.SameReports.{HaveSameReports};
 ghost use Rattle.pdb_symbols_modules.specs.Streams.{streams};
 
 /// What was read of a file has the loading fault that the whole file has; and where the file has none, it is the whole
@@ -10,4 +13,21 @@ ghost use Rattle.pdb_symbols_modules.specs.Streams.{streams};
 pub fn files_that_were_read()
     ensures alike { (file bytes : List ℕ) → IsRead file bytes → load_fault (streams bytes) ≡ load_fault (streams file) }
     ensures whole { (file bytes : List ℕ) → IsRead file bytes → load_fault (streams file) ≡ None → bytes ≡ file }
+{}
+
+/// Isolation: damage in one module leaves the others' answers alone. Two files that open alike, and
+/// read alike at every number that isn't free for a module in the first, have the same loading fault,
+/// or none; and at every address that the module holds in the first they have the same frames, the
+/// same function, and the same line of a report.
+pub fn isolation()
+    ensures loads { (a b : List ℕ) (m : ℕ) → AreAlikeFor m a b
+        → load_fault (streams a) ≡ load_fault (streams b) }
+    ensures answers { (file : List ℕ) → IsIsolated file }
+{}
+
+/// Two files that open alike, and read alike at every number, have the same loading fault, or none,
+/// and the same answers, functions and reports, however their pages lie.
+pub fn page_layout()
+    ensures { (a b : List ℕ) → OpenAlike a b → ((n : ℕ) → n < 2 ^ 32 → ReadAlike a b n)
+        → HaveSameReports (streams a) (streams b) }
 {}

@@ -1,2 +1,3 @@
 pub mod FailingParts
+pub mod FreeStreams
 pub mod RowFacts

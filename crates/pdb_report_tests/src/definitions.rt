@@ -6,6 +6,7 @@ ghost use Rattle.pdb_container.specs.Fault.{IoError, UnrecognizedFileFormat};
 ghost use Rattle.pdb_report.specs.AddressText.{line_text};
 ghost use Rattle.pdb_report.specs.Answer.{answer};
 ghost use Rattle.pdb_report.specs.Faults.{Pdb};
+ghost use Rattle.pdb_report.specs.Isolation.{IsFree};
 ghost use Rattle.pdb_resolving.specs.Fault.{PdbError};
 ghost use Rattle.pdb_engine.specs.InputLines.{report};
 ghost use Rattle.pdb_report.specs.Loading.{load_fault};
@@ -49,4 +50,11 @@ pub fn elf()
 /// Stream 3 can't be read where the file ends within it.
 pub fn cut_dbi()
     ensures { load_fault (streams samples.cut_dbi) ≡ Some (Pdb (PdbError (IoError UnexpectedEof))) }
+{}
+
+/// A stream that the second module alone names is free for the first one, and one that is named by a
+/// module from which the first imports isn't.
+pub fn free_streams()
+    ensures free { IsFree (streams samples.imports) 0 9 }
+    ensures needed { ¬ IsFree (streams samples.imports) 0 10 }
 {}

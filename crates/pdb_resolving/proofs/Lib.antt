@@ -2,4 +2,5 @@ pub mod FirstExports
 pub mod LastPlaces
 pub mod Lifting
 pub mod ModuleSteps
+pub mod ResolveAlike
 pub mod Steps

@@ -1,0 +1,74 @@
+-- Files that agree stream by stream have the same reports.
+use Rattle.std.proofs.Common.{◌≡◌, ℕ, ◌<◌, ◌^◌, List, Result, Ok, Err, refl, sym, ap, ◌∙◌, subst}
+use mathlib.Core.Path.{fun_ext}
+use Rattle.pdb_addr2line.specs.Frames.{frames, function}
+use Rattle.pdb_addr2line.specs.Runs.{database_of}
+use Rattle.pdb_container.specs.Alike.{OpenAlike, ReadAlike}
+use Rattle.pdb_functions.specs.Databases.{Database}
+use Rattle.pdb_report.specs.Answer.{scope, answer, answer_by, function_at, function_by, database, database_by, listing, listing_by, address_map, map_by}
+use Rattle.pdb_report.specs.Loading.{Loaded, loaded}
+use Rattle.pdb_report.specs.SameReports.{HaveSameReports}
+use Rattle.pdb_report.specs.SizesReport.{IsSizesReport}
+use Rattle.pdb_report_texts.specs.Faults.{LoadingFault}
+use Rattle.pdb_sizes.specs.Report.{IsReport}
+use Rattle.pdb_symbols_modules.specs.Shared.{shared}
+use Rattle.pdb_symbols_modules.specs.Streams.{Streams, streams, fault_in}
+use Rattle.pdb_report.proofs.IsolationLaw.{scope_alike}
+use Rattle.pdb_report.proofs.NeededStreams.{NeedsAlike, all_needs, shared_alike}
+
+-- two files of which every module has the same streams
+module _ (a b : Streams) (h : (m : ℕ) → NeedsAlike m a b) where
+  scopes_alike : (l : Loaded) → loaded (shared a) ≡ Ok l → scope a l ≡ scope b l
+  scopes_alike l e = fun_ext λ m. scope_alike a b m l (h m) e
+
+  -- what is made of what was loaded and of the scopes
+  by_loaded : {Y : Type 0} (f : Streams → Result Loaded LoadingFault → Y) → ((e : LoadingFault) → f a (Err e) ≡ f b (Err e)) → ((l : Loaded) → scope a l ≡ scope b l → f a (Ok l) ≡ f b (Ok l)) → f a (loaded (shared a)) ≡ f b (loaded (shared b))
+  by_loaded f refused read = by_result (loaded (shared a)) scopes_alike ∙ ap (λ c. f b (loaded c)) (shared_alike a b 0 (h 0))
+    where
+      by_result : (r : Result Loaded LoadingFault) → ((l : Loaded) → r ≡ Ok l → scope a l ≡ scope b l) → f a r ≡ f b r
+      by_result (Err e) same = refused e
+      by_result (Ok l) same = read l (same l refl)
+
+  answer_same : answer a ≡ answer b
+  unfolding answer
+  answer_same = by_loaded answer_by (λ e. refl) (λ l same. ap (frames l.parts) same)
+
+  function_same : function_at a ≡ function_at b
+  unfolding function_at
+  function_same = by_loaded function_by (λ e. refl) (λ l same. ap (function l.parts) same)
+
+  database_same : database a ≡ database b
+  unfolding database
+  database_same = by_loaded database_by (λ e. refl) (λ l same. ap (database_of l.parts) same)
+
+  listing_same : listing a ≡ listing b
+  unfolding listing
+  listing_same = by_loaded listing_by (λ e. refl) (λ l same. rw same refl)
+
+  map_same : address_map a ≡ address_map b
+  unfolding address_map
+  map_same = ap (λ c. map_by (loaded c)) (shared_alike a b 0 (h 0))
+
+sizes_same : (a b : Streams) (start end : ℕ) (text : List ℕ) → address_map a ≡ address_map b → database a ≡ database b → IsSizesReport a start end text → IsSizesReport b start end text
+sizes_same a b start end text map_is database_is r = record {
+  map = r.map;
+  map_is = sym map_is ∙ r.map_is;
+  report = subst (λ (d : Database). IsReport r.map d start end text) database_is r.report;
+}
+
+-- the law
+pub same_reports : (a b : List ℕ) → OpenAlike a b → ((n : ℕ) → n < 2 ^ 32 → ReadAlike a b n) → HaveSameReports (streams a) (streams b)
+same_reports a b opens reads =
+    let h = all_needs a b opens reads in
+    let answers = answer_same (streams a) (streams b) h in
+    let functions = function_same (streams a) (streams b) h in
+    let map = map_same (streams a) (streams b) h in
+    let places = database_same (streams a) (streams b) h in
+    record {
+      fault = ap (λ c. fault_in (loaded c)) (shared_alike (streams a) (streams b) 0 (h 0));
+      answers = λ x. ap (λ (f : ℕ → _). f x) answers;
+      functions = λ x. ap (λ (f : ℕ → _). f x) functions;
+      lists = listing_same (streams a) (streams b) h;
+      inputs = λ input. rw answers refl;
+      ranges = λ start end text. (sizes_same (streams a) (streams b) start end text map places, sizes_same (streams b) (streams a) start end text (sym map) (sym places));
+    }
