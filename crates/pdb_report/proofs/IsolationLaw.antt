@@ -52,6 +52,7 @@ loaded_dbi c l e =
     as_read : (r : Result Dbi container.Fault) (x : Dbi) → lifted r ≡ Ok x → r ≡ Ok x
     as_read (Ok y) x e = cc
     as_read (Err f) x e = absurd cc
+
     value_is : (x y : Loaded) → (let r : Result Loaded LoadingFault = Ok x in r) ≡ Ok y → x ≡ y
     value_is x y e = cc
 

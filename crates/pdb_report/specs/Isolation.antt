@@ -40,8 +40,8 @@ pub data IsRelated (s : Streams) (m k : ℕ) : Type 0 where
 
 -- ---- free streams
 
--- Stream n is needed in module m: it is 1, 2, 3 or 4, or is named as `/names`, as symbol records, by
--- the optional header or by a related module.
+-- Stream n is needed in module m: it is 1, 2, 3 or 4, or is named as `/names`, as symbol records,
+-- by the optional header or by a related module.
 pub data IsNeeded (s : Streams) (m n : ℕ) : Type 0 where
   Fixed : 0 < n → n < 5 → IsNeeded s m n
   Names : names_number (s.at 1) ≡ Ok n → IsNeeded s m n
@@ -66,7 +66,8 @@ pub record AreAlikeFor (m : ℕ) (a b : List ℕ) : Type 0 where
 -- the number of the module that holds an address, by what was loaded
 abbrev pub holder_by : Result Loaded LoadingFault → ℕ → Option ℕ
 holder_by (Err e) a = None
-holder_by (Ok l) a = option_map (λ held. (held.0).module_index) (held_at l.parts (place_of l.parts a))
+holder_by (Ok l) a =
+    option_map (λ held. (held.0).module_index) (held_at l.parts (place_of l.parts a))
 
 -- the number of the module that holds an address of the image
 unfoldable pub holder_at : Streams → ℕ → Option ℕ

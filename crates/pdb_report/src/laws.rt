@@ -16,9 +16,9 @@ pub fn files_that_were_read()
 {}
 
 /// Isolation: damage in one module leaves the others' answers alone. Two files that open alike, and
-/// read alike at every number that isn't free for a module in the first, have the same loading fault,
-/// or none; and at every address that the module holds in the first they have the same frames, the
-/// same function, and the same line of a report.
+/// read alike at every number that isn't free for a module in the first, have the same loading
+/// fault, or none; and at every address that the module holds in the first they have the same
+/// frames, the same function, and the same line of a report.
 pub fn isolation()
     ensures loads { (a b : List ℕ) (m : ℕ) → AreAlikeFor m a b
         → load_fault (streams a) ≡ load_fault (streams b) }

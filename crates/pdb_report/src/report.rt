@@ -140,13 +140,13 @@ pub fn run_frames<R: Read, W: Write>(
     // At every fault what is out is the front of the report.
     ensures part { OnErr result (IfSome (R.remaining (inner_of reader.old)) (λ input. WritesFront W.contents writer.old writer.new (report (line_text (answer (streams bytes.items))) input))) }
     // The file's answers are those of every other file that is alike for the module that holds the
-    // address; and at `Ok` what is out is also the report in which the lines of one module's addresses
-    // are such a file's.
+    // address; and at `Ok` what is out is also the report in which the lines of one module's
+    // addresses are such a file's.
     ensures isolated { IsIsolated bytes.items }
     ensures exchanged { OnOk result (IfSome (R.remaining (inner_of reader.old)) (λ input.
         (other : List ℕ) (m : ℕ) → AreAlikeFor m bytes.items other
         → Writes W.contents writer.old writer.new
-            (report (line_text (exchanged m (streams bytes.items) (streams other))) input))) }
+        (report (line_text (exchanged m (streams bytes.items) (streams other))) input))) }
 {
     run_frames_ending(alloc, bytes, reader, writer, AtEnd::GiveBack)
 }
@@ -187,13 +187,13 @@ pub fn run_frames_ending<R: Read, W: Write>(
     // At every fault what is out is the front of the report.
     ensures part { OnErr result (IfSome (R.remaining (inner_of reader.old)) (λ input. WritesFront W.contents writer.old writer.new (report (line_text (answer (streams bytes.items))) input))) }
     // The file's answers are those of every other file that is alike for the module that holds the
-    // address; and at `Ok` what is out is also the report in which the lines of one module's addresses
-    // are such a file's.
+    // address; and at `Ok` what is out is also the report in which the lines of one module's
+    // addresses are such a file's.
     ensures isolated { IsIsolated bytes.items }
     ensures exchanged { OnOk result (IfSome (R.remaining (inner_of reader.old)) (λ input.
         (other : List ℕ) (m : ℕ) → AreAlikeFor m bytes.items other
         → Writes W.contents writer.old writer.new
-            (report (line_text (exchanged m (streams bytes.items) (streams other))) input))) }
+        (report (line_text (exchanged m (streams bytes.items) (streams other))) input))) }
 {
     match Symbolizer::open(alloc, bytes) {
         Ok(symbolizer) => frames_of(alloc, &symbolizer, reader, writer, at_end),

@@ -1,6 +1,6 @@
 -- Which streams are free in a file whose first module imports from the third: what is read, by
 -- computing the definitions on the file's bytes, and what follows.
-use Rattle.std.proofs.Common.{◌≡◌, ℕ, ◌*◌, ◌<◌, ◌≤◌, zero, suc, inl, inr, ◌⊎◌, List, [], ◌∷◌, length, drop, Result, Ok, Err, refl, sym, ◌∙◌, subst, ◌+◌, arith}
+use Rattle.std.proofs.Common.{◌≡◌, ℕ, ◌*◌, ◌<◌, ◌≤◌, zero, suc, inl, inr, ◌⊎◌, List, [], ◌∷◌, length, drop, Result, Ok, Err, refl, sym, ap, ◌∙◌, subst, ◌+◌, arith}
 use Rattle.std.specs.Prelude.{◌++◌, replicate, Option, None, Some, option_map, codes}
 use Rattle.std.specs.Int.{w16}
 use Rattle.std.specs.Int.RustNames.{count_ones}

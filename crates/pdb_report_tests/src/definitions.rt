@@ -52,7 +52,7 @@ pub fn cut_dbi()
     ensures { load_fault (streams samples.cut_dbi) ≡ Some (Pdb (PdbError (IoError UnexpectedEof))) }
 {}
 
-/// A stream that the second module alone names is free for the first one, and one that is named by a
+/// A stream that the second module alone names is free for the first one; one that is named by a
 /// module from which the first imports isn't.
 pub fn free_streams()
     ensures free { IsFree (streams samples.imports) 0 9 }

@@ -95,16 +95,16 @@ elsewhere_alike modules g m i alike = rw (sym (imports_same modules g m alike.it
     bind_alike (lifted (text_in names target.name)) _ _ λ name name_is.
     bind_alike (ok_or (last_named name modules.entries) (ModuleNameNotFound (str_to_ascii_lowercase name))) _ _ λ k k_is.
     rw (exports_same modules g k (alike.reached k (record {
-        names = names;
-        imports = imports;
-        import = found.0;
-        name = name;
-        names_are = there modules.names _ names names_are;
-        imports_are = imports_are;
-        imported = found.1;
-        name_is = ap (text_in names) found.2 ∙ as_read (text_in names target.name) name name_is;
-        target_is = there (last_named name modules.entries) _ k k_is;
-      }))) refl)
+      names = names;
+      imports = imports;
+      import = found.0;
+      name = name;
+      names_are = there modules.names _ names names_are;
+      imports_are = imports_are;
+      imported = found.1;
+      name_is = ap (text_in names) found.2 ∙ as_read (text_in names target.name) name name_is;
+      target_is = there (last_named name modules.entries) _ k k_is;
+    }))) refl)
 
 -- an index means the same
 pub resolve_alike : (modules : Modules) (g : Provided) (m : ℕ) → GivenAlike modules g m → resolve modules m ≡ resolve (given_by g modules) m

@@ -5,7 +5,7 @@ use Rattle.pdb_container.specs.StringTable.{text_in}
 use Rattle.pdb_cross_modules.specs.Imports.{Import}
 use Rattle.pdb_resolving.specs.Resolving.{Modules, imports_of, last_named}
 
--- A name in the import table of the asking module reaches another module: the last one of that name.
+-- A name in the import table of the asking module reaches a module: the last one of that name.
 pub record Reaches (modules : Modules) (asking target : ℕ) : Type 0 where
   pub names : List ℕ
   pub imports : List Import
