@@ -6,6 +6,7 @@ ghost use Rattle.pdb_engine.specs.InputLines.{report, report_of_ended};
 ghost use Rattle.pdb_engine.specs.Watched.{inner_of, CountsFailure, IsQuiet, Writes, WritesFront, Takes};
 ghost use Rattle.pdb_report_texts.specs.AddressText.{line_text};
 ghost use Rattle.pdb_report.specs.Answer.{answer};
+ghost use Rattle.pdb_report.specs.Isolation.{AreAlikeFor, IsIsolated, exchanged};
 ghost use Rattle.pdb_report.specs.Loading.{load_fault, IsFileFault};
 ghost use Rattle.pdb_report_texts.specs.RunFaults.{OnLoad, OnRead, OnWrite, OnTooLong, OnMemory, UnlessLoad, IsOfFrames};
 ghost use Rattle.pdb_symbols_modules.specs.Streams.{streams};
@@ -148,6 +149,14 @@ pub fn run_frames<R: Read, W: Write>(
         × Writes W.contents writer.old writer.new (report_of_ended (line_text (answer (streams bytes.items))) (take (2 ^ 30) input))))) }
     // At every fault what is out is the front of the report.
     ensures part { OnErr result (IfSome (R.remaining (inner_of reader.old)) (λ input. WritesFront W.contents writer.old writer.new (report (line_text (answer (streams bytes.items))) input))) }
+    // The file's answers are those of every other file that is alike for the module that holds the
+    // address; and at `Ok` what is out is also the report in which the lines of one module's
+    // addresses are such a file's.
+    ensures isolated { IsIsolated bytes.items }
+    ensures exchanged { OnOk result (IfSome (R.remaining (inner_of reader.old)) (λ input.
+        (other : List ℕ) (m : ℕ) → AreAlikeFor m bytes.items other
+        → Writes W.contents writer.old writer.new
+        (report (line_text (exchanged m (streams bytes.items) (streams other))) input))) }
 {
     run_frames_ending(alloc, bytes, reader, writer, AtEnd::GiveBack)
 }
@@ -187,6 +196,14 @@ pub fn run_frames_ending<R: Read, W: Write>(
         × Writes W.contents writer.old writer.new (report_of_ended (line_text (answer (streams bytes.items))) (take (2 ^ 30) input))))) }
     // At every fault what is out is the front of the report.
     ensures part { OnErr result (IfSome (R.remaining (inner_of reader.old)) (λ input. WritesFront W.contents writer.old writer.new (report (line_text (answer (streams bytes.items))) input))) }
+    // The file's answers are those of every other file that is alike for the module that holds the
+    // address; and at `Ok` what is out is also the report in which the lines of one module's
+    // addresses are such a file's.
+    ensures isolated { IsIsolated bytes.items }
+    ensures exchanged { OnOk result (IfSome (R.remaining (inner_of reader.old)) (λ input.
+        (other : List ℕ) (m : ℕ) → AreAlikeFor m bytes.items other
+        → Writes W.contents writer.old writer.new
+        (report (line_text (exchanged m (streams bytes.items) (streams other))) input))) }
 {
     match Symbolizer::open(alloc, bytes) {
         Ok(symbolizer) => frames_of(alloc, &symbolizer, reader, writer, at_end),

@@ -7,6 +7,7 @@ use Rattle.pdb_report_texts.specs.AddressText.{line_text}
 use Rattle.pdb_report.specs.Answer.{answer}
 use Rattle.pdb_report_texts.specs.RunFaults.{OnRead, OnTooLong}
 use Rattle.pdb_report_texts.proofs.InputFaultSteps.{all_never_load, all_if_memory, unless_load}
+use Rattle.pdb_report.proofs.IsolationLaw.{exchanged_out, isolated}
 use Rattle.pdb_report.proofs.report.run_frames_ending.Goals as goal
 
 -- a file that was loaded has no fault
@@ -35,3 +36,15 @@ returns-in-Ok-clause-too_long g c =
 pub returns-in-Ok-clause-part : goal.returns-in-Ok-clause-part
 returns-in-Ok-clause-part g c =
     subst (λ (b : List ℕ). OnErr c.frames_of.result (IfSome (g.R.Read.remaining (inner_of c.args.reader.now)) (λ input. WritesFront g.W.Write.contents c.args.writer.now c.frames_of.new.writer (report (line_text (answer (streams b))) input)))) c.in-Ok.ensures.ok c.frames_of.ensures.part
+
+-- its answers may be exchanged for those of a file that is alike
+pub returns-in-Ok-clause-exchanged : goal.returns-in-Ok-clause-exchanged
+returns-in-Ok-clause-exchanged g c =
+    exchanged_out c.args.bytes.items c.frames_of.result (g.R.Read.remaining (inner_of c.args.reader.now)) (λ input. length input ≤ 2 ^ 30)
+    (λ answers input. Writes g.W.Write.contents c.args.writer.now c.frames_of.new.writer (report (line_text answers) input)) (returns-in-Ok-clause-ok g c)
+
+pub returns-in-Ok-clause-isolated : goal.returns-in-Ok-clause-isolated
+returns-in-Ok-clause-isolated g c = isolated c.args.bytes.items
+
+pub returns-in-Err-clause-isolated : goal.returns-in-Err-clause-isolated
+returns-in-Err-clause-isolated g c = isolated c.args.bytes.items
