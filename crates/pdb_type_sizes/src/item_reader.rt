@@ -12,8 +12,8 @@ ghost use Rattle.pdb_type_sizes.specs.Reading.{id_in, type_at, id_at, parts_by, 
 ghost use Rattle.pdb_type_sizes.specs.Sizes.{resolved_bytes, size_at, stated_bytes};
 
 use crate::item_map::ItemMap;
-use crate::sized_types::SizedTypes;
 use crate::sizes::Stated;
+use crate::type_size_cache::TypeSizeCache;
 use pdb_container::StringTable;
 use pdb_indices::{IdIndex, TypeIndex};
 use pdb_items::{IdInformation, TypeInformation};
@@ -32,7 +32,7 @@ const MOST_STEPS: u32 = 1024;
 #[derive(Drop)]
 pub struct ItemReader<'a, 's, P: ModuleProvider> {
     resolver: Resolver<'a, 's, P>,
-    types: SizedTypes<'a>,
+    types: TypeSizeCache<'a>,
     ids: ItemMap<'a, IdIndex>,
     pointer_size: u64,
 }
@@ -68,7 +68,7 @@ impl<'a, 's, P: ModuleProvider> ItemReader<'a, 's, P> {
         }) }
         ensures memory { IsOkUnless result causes.OutOfMemory }
     {
-        let types = SizedTypes::of(alloc, type_information)?;
+        let types = TypeSizeCache::of(alloc, type_information)?;
         let ids = ItemMap::of_ids(alloc, id_information)?;
         Ok(ItemReader {
             resolver: Resolver::new(alloc, provider, modules, string_table),

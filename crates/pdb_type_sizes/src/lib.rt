@@ -6,8 +6,8 @@ mod item_map;
 mod item_reader;
 mod primitives;
 mod references;
-mod sized_types;
 mod sizes;
+mod type_size_cache;
 
 pub use item_map::ItemMap;
 pub use item_reader::ItemReader;

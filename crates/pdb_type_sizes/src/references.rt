@@ -162,7 +162,7 @@ fn past_items(types: &mut ItemMap<'_, TypeIndex>) -> u32
 /// Keeps the sizes of all forward references of a table, each under its index. Where memory is short those of the last ones are
 /// kept.
 #[tactic(auto, using(crate::proofs::GatherSteps::none_gathered))]
-pub(crate) fn keep_references(
+pub(crate) fn update_forward_ref_size_map(
     alloc: Global,
     types: &mut ItemMap<'_, TypeIndex>,
     sizes: &mut BTreeMap<u32, u64>,

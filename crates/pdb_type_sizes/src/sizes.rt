@@ -11,7 +11,7 @@ ghost use Rattle.pdb_type_sizes.specs.Sizes.{variant_bytes, last_dimension as la
 use crate::definitions::{aggregate_size, is_forward_reference, key_name};
 use crate::item_map::ItemMap;
 use crate::primitives::primitive_size;
-use crate::references::keep_references;
+use crate::references::update_forward_ref_size_map;
 use pdb_indices::{TypeIndex, Variant};
 use pdb_records::{ClassType, TypeData, UnionType};
 use pdb_resolving::{Error, Result};
@@ -153,7 +153,7 @@ fn stated_and_kept(
     if !is_forward_reference(type_data) {
         return stated_size(alloc, types, pointer_size, index, type_data);
     }
-    keep_references(alloc, types, sizes)?;
+    update_forward_ref_size_map(alloc, types, sizes)?;
     match sizes.get(&index) {
         Some(size) => Ok(Stated::Bytes(*size)),
         None => stated_size(alloc, types, pointer_size, index, type_data),

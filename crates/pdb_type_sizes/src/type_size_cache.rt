@@ -20,13 +20,13 @@ use std::marker::Model;
 /// The types of a table. When the size of a forward reference is first asked for, it keeps the sizes of all of them, so that it
 /// goes over the table once for their definitions.
 #[derive(Drop)]
-pub(crate) struct SizedTypes<'t> {
+pub(crate) struct TypeSizeCache<'t> {
     types: ItemMap<'t, TypeIndex>,
     /// The sizes of forward references, each under its index in the table.
     sizes: BTreeMap<u32, u64>,
 }
 
-impl<'t> Model for SizedTypes<'t> {
+impl<'t> Model for TypeSizeCache<'t> {
     ghost use Rattle.pdb_items.specs.Items.{Table};
     ghost use Rattle.pdb_type_sizes.specs.KeptSizes.{AreSizes};
 
@@ -37,17 +37,17 @@ impl<'t> Model for SizedTypes<'t> {
     ghost invariant = { λ s. AreSizes s.types s.sizes };
 }
 
-impl<'t> SizedTypes<'t> {
+impl<'t> TypeSizeCache<'t> {
     /// The types of a table, of which no size is known yet. `OutOfMemory` alone.
     pub(crate) fn of(
         alloc: Global,
         information: &'t TypeInformation<'_>,
-    ) -> pdb_container::Result<SizedTypes<'t>>
+    ) -> pdb_container::Result<TypeSizeCache<'t>>
         ensures table { IfOk result (λ s. s ≡ information.now) }
         ensures memory { IsOkUnless result causes.OutOfMemory }
     {
         let types = ItemMap::of_types(alloc, information)?;
-        Ok(SizedTypes {
+        Ok(TypeSizeCache {
             types,
             sizes: BTreeMap::new(alloc),
         })

@@ -1,7 +1,7 @@
 use Rattle.std.proofs.Common.{◌≡◌}
 use Rattle.pdb_type_sizes.specs.Definitions.{AreDefinitions}
 use Rattle.pdb_type_sizes.specs.KeptSizes.{AreSizes}
-use Rattle.pdb_type_sizes.proofs.references.keep_references.Given as goal
+use Rattle.pdb_type_sizes.proofs.references.update_forward_ref_size_map.Given as goal
 
 abbrev pub invariant-loop-index : goal.invariant-loop-index
 invariant-loop-index l = (l.types ≡ l.fn.types) × (l.minimum ≡ l.types.minimum) × AreDefinitions l.types l.index l.definitions × AreSizes l.types l.sizes
