@@ -12,7 +12,8 @@ use Rattle.pdb_container.specs.Fault.{NotACrossModuleRef, CrossModuleRefNotFound
 use Rattle.pdb_container.specs.StringTable.{text_in}
 use Rattle.pdb_cross_modules.specs.Imports.{Import, Imported, imported, imported_from, found_import, module_of, entry_of}
 use Rattle.pdb_indices.specs.Index.{is_cross_module}
-use Rattle.pdb_resolving.specs.Fault.{CantResolveCrossModuleRefWithoutStringTable, ModuleNameNotFound, lifted}
+use Rattle.pdb_resolving.specs.Cause.{of_no_table}
+use Rattle.pdb_resolving.specs.Fault.{Fault, CantResolveCrossModuleRefWithoutStringTable, ModuleNameNotFound, lifted}
 use Rattle.pdb_resolving.specs.Reaches.{Reaches}
 use Rattle.pdb_resolving.specs.Resolving.{Provided, Modules, imports_of, exports_of, module_numbered, imports_read, exports_read, last_named, resolve, resolved_elsewhere}
 use Rattle.pdb_symbols_modules.specs.Modules.{Module}
@@ -35,6 +36,11 @@ there (Some y) f x e = cc
 as_read : {A : Type 0} (r : Result A container.Fault) (x : A) → lifted r ≡ Ok x → r ≡ Ok x
 as_read (Ok y) x e = cc
 as_read (Err f) x e = absurd cc
+
+-- the value of what was read of no table
+of_none : {A : Type 0} (r : Result A Fault) (x : A) → of_no_table r ≡ Ok x → r ≡ Ok x
+of_none (Ok y) x e = cc
+of_none (Err f) x e = absurd cc
 
 -- ---- what is given of a module
 
@@ -88,22 +94,22 @@ pub record GivenAlike (modules : Modules) (g : Provided) (asking : ℕ) : Type 0
 elsewhere_alike : (modules : Modules) (g : Provided) (m i : ℕ) → GivenAlike modules g m → resolved_elsewhere modules m i ≡ resolved_elsewhere (given_by g modules) m i
 unfolding resolved_elsewhere
 elsewhere_alike modules g m i alike = rw (sym (imports_same modules g m alike.itself)) (
-    bind_alike (ok_or modules.names CantResolveCrossModuleRefWithoutStringTable) _ _ λ names names_are.
+    bind_alike (of_no_table (ok_or modules.names CantResolveCrossModuleRefWithoutStringTable)) _ _ λ names names_are.
     bind_alike (imports_of modules m) _ _ λ imports imports_are.
-    bind_alike (lifted (imported imports i)) _ _ λ target target_is.
-    let found = import_of imports i target (as_read (imported imports i) target target_is) in
-    bind_alike (lifted (text_in names target.name)) _ _ λ name name_is.
-    bind_alike (ok_or (last_named name modules.entries) (ModuleNameNotFound (str_to_ascii_lowercase name))) _ _ λ k k_is.
+    bind_alike (of_no_table (lifted (imported imports i))) _ _ λ target target_is.
+    let found = import_of imports i target (as_read (imported imports i) target (of_none (lifted (imported imports i)) target target_is)) in
+    bind_alike (of_no_table (lifted (text_in names target.name))) _ _ λ name name_is.
+    bind_alike (of_no_table (ok_or (last_named name modules.entries) (ModuleNameNotFound (str_to_ascii_lowercase name)))) _ _ λ k k_is.
     rw (exports_same modules g k (alike.reached k (record {
       names = names;
       imports = imports;
       import = found.0;
       name = name;
-      names_are = there modules.names _ names names_are;
+      names_are = there modules.names CantResolveCrossModuleRefWithoutStringTable names (of_none (ok_or modules.names CantResolveCrossModuleRefWithoutStringTable) names names_are);
       imports_are = imports_are;
       imported = found.1;
-      name_is = ap (text_in names) found.2 ∙ as_read (text_in names target.name) name name_is;
-      target_is = there (last_named name modules.entries) _ k k_is;
+      name_is = ap (text_in names) found.2 ∙ as_read (text_in names target.name) name (of_none (lifted (text_in names target.name)) name name_is);
+      target_is = there (last_named name modules.entries) (ModuleNameNotFound (str_to_ascii_lowercase name)) k (of_none (ok_or (last_named name modules.entries) (ModuleNameNotFound (str_to_ascii_lowercase name))) k k_is);
     }))) refl)
 
 -- an index means the same
