@@ -46,13 +46,12 @@ pub record FunctionIteration (P : Type 0) : Type 0 where
   pub context : MutBor (Context P)
   pub left : FunctionsLeft
 
--- A count rose by no more than this, or not at all. Where it stood at 2^64 - 1 it stays there.
+-- a count of 64 bits, which ends at 2^64 - 1, never falls and rises by no more than this
 pub record RisesWithin (most old new : ℕ) : Type 0 where
   pub least : min old (2 ^ 64 - 1) ≤ new
   pub most_is : new ≤ old + most
 
--- One step gives one item. The context is the one that was borrowed, and as it was but for its
--- count of lookups, which rises by no more than one for each address that was passed.
+-- one step gives one item of the same borrowed context, which may count a lookup for each address
 pub record StepsOn {P : Type 0} (old : FunctionIteration P)
     (result : Option (Result Function Error)) (new : FunctionIteration P) : Type 0 where
   pub gives : GivesFunction old.left result new.left
