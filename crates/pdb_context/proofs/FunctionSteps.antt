@@ -1,5 +1,6 @@
 -- Going over the functions.
-use Rattle.std.proofs.Common.{◌≡◌, ℕ, ◌+◌, ◌<◌, ◌≤◌, List, ◌∷◌, ◌++◌, Option, None, Some, Result, Ok, Err, length, drop, get_or, sym, ap, ◌∙◌}
+use Rattle.std.proofs.Common.{◌≡◌, ℕ, ◌+◌, ◌-◌, ◌^◌, ◌<◌, ◌≤◌, min, Bool, true, false, List, ◌∷◌, ◌++◌, Option, None, Some, Result, Ok, Err, length, drop, get_or, sym, ap, ◌∙◌, arith}
+use Rattle.std.specs.Prelude.{if◌then◌else◌}
 use Rattle.std.proofs.lemmas.List.{drop_more, drop_all}
 use Rattle.pdb_container.specs.declared.error.Error.TheVariants as causes
 use Rattle.pdb_resolving.specs.declared.error.Error.{Error}
@@ -11,8 +12,8 @@ use Rattle.pdb_answers.specs.Choice.{Parts}
 use Rattle.pdb_answers.specs.Scopes.{Scope}
 use Rattle.pdb_answers.specs.Frames.{function}
 use Rattle.pdb_context.specs.Starts.{if_any}
-use Rattle.pdb_context.specs.Context.{Context, scope_in, uncounted}
-use Rattle.pdb_context.specs.FunctionList.{functions_at, FunctionsLeft, functions_left, none_left, GivesFunction}
+use Rattle.pdb_context.specs.Context.{Context, scope_in, uncounted, lookups_after}
+use Rattle.pdb_context.specs.FunctionList.{functions_at, FunctionsLeft, functions_left, none_left, GivesFunction, RisesWithin}
 
 -- the function that may be there, as an answer
 abbrev answer_of : Option Function → Result (Option Function) Fault
@@ -58,3 +59,23 @@ fails_gives old errors.OutOfMemory new x h none = none
 fails_gives old (errors.PdbError causes.OutOfMemory) new x h none = h
 fails_gives old (errors.FormatError cause) new x h none = h
 fails_gives old e new x h none = absurd (ok_is_not_err h)
+
+-- ---- the count of lookups
+
+-- a question for a place raises the count by one, and no other question raises it
+counted_by : (placed : Bool) (most first a b n : ℕ) → b ≡ (if placed then min (a + 1) (2 ^ 64 - 1) else a) → RisesWithin most first a → most + 1 ≤ n → RisesWithin n first b
+counted_by true most first a b n is rises more = record { least = omega (arith, rises.least); most_is = omega (arith, rises.most_is) }
+counted_by false most first a b n is rises more = record { least = omega (arith, rises.least); most_is = omega (arith, rises.most_is) }
+
+-- one more question was answered, or refused for want of memory
+pub counted_more : {A : Type 0} (placed : Bool) (r : Result A Error) (most first a b n : ℕ) → b ≡ lookups_after placed r a → RisesWithin most first a → most + 1 ≤ n → RisesWithin n first b
+counted_more placed (Err errors.OutOfMemory) most first a b n is rises more = record { least = omega (arith, rises.least); most_is = omega (arith, rises.most_is) }
+counted_more placed r most first a b n is rises more = counted_by placed most first a b n is rises more
+
+-- no question was asked
+pub counted_none : (first n : ℕ) → RisesWithin n first first
+counted_none first n = record { least = omega arith; most_is = omega arith }
+
+-- more questions could have been asked
+pub counted_within : (most first b n : ℕ) → RisesWithin most first b → most ≤ n → RisesWithin n first b
+counted_within most first b n rises more = record { least = rises.least; most_is = omega (arith, rises.most_is) }

@@ -1,5 +1,6 @@
 -- The functions of a file in the order of their addresses.
-use Rattle.std.specs.Prelude.{◌≡◌, ℕ, List, [], ◌∷◌, length, Option, None, Some, Result, Ok, Err}
+use Rattle.std.specs.Prelude.{◌≡◌, ℕ, ◌+◌, ◌-◌, ◌^◌, ◌≤◌, min, List, [], ◌∷◌, length, Option, None, Some, Result, Ok, Err}
+use Rattle.std.specs.Borrow.{MutBor}
 use Rattle.std.specs.List.{flat_map}
 use Rattle.pdb_symbols_modules.specs.Modules.{Module}
 use Rattle.pdb_resolving.specs.declared.error.Error.{Error}
@@ -8,6 +9,7 @@ use Rattle.pdb_functions.specs.FunctionOrder.{Function}
 use Rattle.pdb_answers.specs.Choice.{Parts}
 use Rattle.pdb_answers.specs.Scopes.{Scope}
 use Rattle.pdb_answers.specs.Frames.{function}
+use Rattle.pdb_context.specs.Context.{Context, uncounted}
 use Rattle.pdb_context.specs.Starts.{if_any, start_addresses, IsAscending}
 
 -- the functions at addresses, of those that have one
@@ -38,3 +40,22 @@ GivesFunction old None new = (old.functions ≡ []) × (new ≡ none_left)
 GivesFunction old (Some (Ok f)) new = old.functions ≡ f ∷ new.functions
 GivesFunction old (Some (Err errors.OutOfMemory)) new = new ≡ none_left
 GivesFunction old (Some (Err e)) new = ⊥
+
+-- an iterator of functions: the context that it borrows and asks, and what it has still to give
+pub record FunctionIteration (P : Type 0) : Type 0 where
+  pub context : MutBor (Context P)
+  pub left : FunctionsLeft
+
+-- a count of 64 bits, which ends at 2^64 - 1, never falls and rises by no more than this
+pub record RisesWithin (most old new : ℕ) : Type 0 where
+  pub least : min old (2 ^ 64 - 1) ≤ new
+  pub most_is : new ≤ old + most
+
+-- one step gives one item of the same borrowed context, which may count a lookup for each address
+pub record StepsOn {P : Type 0} (old : FunctionIteration P)
+    (result : Option (Result Function Error)) (new : FunctionIteration P) : Type 0 where
+  pub gives : GivesFunction old.left result new.left
+  pub same_reference : new.context.ghost_name ≡ old.context.ghost_name
+  pub same : uncounted new.context.now ≡ uncounted old.context.now
+  pub lookups : RisesWithin (old.left.addresses - new.left.addresses)
+      old.context.now.lookups new.context.now.lookups

@@ -1,7 +1,8 @@
-use Rattle.std.proofs.Common.{◌∙◌, sym, get_or, drop, arith}
+use Rattle.std.proofs.Common.{◌≤◌, ◌+◌, ◌-◌, ◌∙◌, length, length-drop, sym, get_or, drop, arith, refl, Option, Ok, Err}
+use Rattle.pdb_functions.specs.FunctionOrder.{Function}
 use Rattle.pdb_context.specs.Context.{scope_in}
 use Rattle.pdb_context.specs.FunctionList.{functions_at}
-use Rattle.pdb_context.proofs.FunctionSteps.{function_same, functions_passed, functions_first}
+use Rattle.pdb_context.proofs.FunctionSteps.{function_same, functions_passed, functions_first, counted_more, counted_within, counted_none}
 use Rattle.pdb_context.proofs.functions.next_function.Goals as goal
 
 pub loop-next-preserved : goal.loop-next-preserved
@@ -13,6 +14,8 @@ loop-next-preserved g c =
           (functions_at c.args.context.now.parts (scope_in g.P.ModuleProvider.provided c.args.context.now) (drop c.args.next.now c.args.starts.now))
           c.loop-next-test.true answered c.in-Ok-None.field-0-is c.loop-next.invariant.left;
       behind = omega (arith, c.loop-next.invariant.behind);
+      within = omega (arith, c.loop-next.invariant.within, c.loop-next-test.true);
+      lookups = counted_more _ (Ok c.in-Ok-None.field-0) (c.loop-next.next - c.args.next.now) _ _ _ (c.loop-next.next + 1 - c.args.next.now) c.in-Ok-None.ensures.lookups c.loop-next.invariant.lookups (omega (arith, c.loop-next.invariant.behind));
     }
 
 pub returns-in-Ok-Some-clause-gives : goal.returns-in-Ok-Some-clause-gives
@@ -21,3 +24,27 @@ returns-in-Ok-Some-clause-gives g c =
     functions_first c.args.context.now.parts (scope_in g.P.ModuleProvider.provided c.args.context.now) c.args.starts.now c.loop-next.next c.in-Ok-Some.field-0 c.in-Ok-Some.function
     (functions_at c.args.context.now.parts (scope_in g.P.ModuleProvider.provided c.args.context.now) (drop c.args.next.now c.args.starts.now))
     c.loop-next-test.true answered c.in-Ok-Some.field-0-is c.loop-next.invariant.left
+
+pub loop-next-init : goal.loop-next-init
+loop-next-init g c = record {
+  same = refl;
+  left = refl;
+  behind = omega arith;
+  within = omega arith;
+  lookups = counted_none c.args.context.now.lookups (c.args.next.now - c.args.next.now);
+}
+
+pub returns-in-Ok-Some-clause-lookups : goal.returns-in-Ok-Some-clause-lookups
+returns-in-Ok-Some-clause-lookups g c =
+    counted_more _ (Ok c.in-Ok-Some.field-0) (c.loop-next.next - c.args.next.now) c.args.context.now.lookups _ _ (length (drop c.args.next.now c.args.starts.now) - length (drop (c.loop-next.next + 1) c.args.starts.now))
+    c.in-Ok-Some.ensures.lookups c.loop-next.invariant.lookups (simp length-drop (omega (arith, c.loop-next.invariant.behind, c.loop-next-test.true)))
+
+pub returns-in-Err-clause-lookups : goal.returns-in-Err-clause-lookups
+returns-in-Err-clause-lookups g c =
+    counted_more {A = Option Function} _ (Err c.in-Err.error) (c.loop-next.next - c.args.next.now) c.args.context.now.lookups _ _ _
+    c.in-Err.ensures.lookups c.loop-next.invariant.lookups (simp length-drop (omega (arith, c.loop-next.invariant.behind, c.loop-next-test.true)))
+
+pub returns-clause-lookups : goal.returns-clause-lookups
+returns-clause-lookups g c =
+    counted_within (c.loop-next.next - c.args.next.now) c.args.context.now.lookups _ (length (drop c.args.next.now c.args.starts.now) - length (drop c.loop-next.next c.args.starts.now))
+    c.loop-next.invariant.lookups (simp length-drop (omega (arith, c.loop-next.invariant.behind, c.loop-next.invariant.within, c.loop-next-test.false)))

@@ -1,6 +1,6 @@
-use Rattle.std.proofs.Common.{◌≡◌, ◌≤◌, ◌-◌, length, drop}
+use Rattle.std.proofs.Common.{◌≡◌, ◌≤◌, ◌-◌, max, length, drop}
 use Rattle.pdb_context.specs.Context.{scope_in, uncounted}
-use Rattle.pdb_context.specs.FunctionList.{functions_at}
+use Rattle.pdb_context.specs.FunctionList.{functions_at, RisesWithin}
 use Rattle.pdb_context.proofs.functions.next_function.Given as goal
 
 -- the functions that are left are those that were, and the context is as it was but for its count
@@ -12,6 +12,8 @@ invariant-loop-next g l =
       same : uncounted l.context ≡ uncounted l.fn.context;
       left : functions_at parts scope (drop l.next l.starts) ≡ functions_at parts scope (drop l.fn.next l.starts);
       behind : l.fn.next ≤ l.next;
+      within : l.next ≤ max l.fn.next (length l.starts);
+      lookups : RisesWithin (l.next - l.fn.next) l.fn.context.lookups l.context.lookups;
     }
 
 abbrev pub decreases-loop-next : goal.decreases-loop-next
