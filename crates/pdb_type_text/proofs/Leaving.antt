@@ -14,15 +14,15 @@ pub leaves_text : {P A B : Type 0} (f : Formatting P) (x : A) (y : B) (made : Re
 leaves_text f x y made is = sym (ap (λ m. failed_after m f) is)
 
 -- so does an error that is no table's
-pub leaves_error : {P A B : Type 0} (f : Formatting P) (e : Error) (made : Result B Cause) → Ends (stops.ByError e) made → Leaves {A = A} made f (Err e) f
-leaves_error f errors.OutOfMemory made h = refl
-leaves_error f (errors.PdbError causes.OutOfMemory) made h = absurd h
-leaves_error f (errors.FormatError cause) made h = absurd h
-leaves_error f e made h = sym (ap (λ m. failed_after m f) h)
+pub leaves_error : {P B : Type 0} (A : Type 0) (f : Formatting P) (e : Error) (made : Result B Cause) → Ends (stops.ByError e) made → Leaves {A = A} made f (Err e) f
+leaves_error A f errors.OutOfMemory made h = refl
+leaves_error A f (errors.PdbError causes.OutOfMemory) made h = absurd h
+leaves_error A f (errors.FormatError cause) made h = absurd h
+leaves_error A f e made h = sym (ap (λ m. failed_after m f) h)
 
 -- a table that ended the text stands as failed
-pub leaves_table : {P A B : Type 0} (f f' : Formatting P) (table : Table) (e : Error) (made : Result B Cause) → f' ≡ with_failed f table → Ends (stops.ByTable table e) made → Leaves {A = A} made f (Err e) f'
-leaves_table f f' table errors.OutOfMemory made kept h = absurd h.0
-leaves_table f f' table (errors.PdbError causes.OutOfMemory) made kept h = absurd h.0
-leaves_table f f' table (errors.FormatError cause) made kept h = absurd h.0
-leaves_table f f' table e made kept h = kept ∙ sym (ap (λ m. failed_after m f) h.1)
+pub leaves_table : {P B : Type 0} (A : Type 0) (f f' : Formatting P) (table : Table) (e : Error) (made : Result B Cause) → f' ≡ with_failed f table → Ends (stops.ByTable table e) made → Leaves {A = A} made f (Err e) f'
+leaves_table A f f' table errors.OutOfMemory made kept h = absurd h.0
+leaves_table A f f' table (errors.PdbError causes.OutOfMemory) made kept h = absurd h.0
+leaves_table A f f' table (errors.FormatError cause) made kept h = absurd h.0
+leaves_table A f f' table e made kept h = kept ∙ sym (ap (λ m. failed_after m f) h.1)
