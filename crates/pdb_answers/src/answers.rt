@@ -235,7 +235,8 @@ fn frames_at<'a, P: ModuleProvider>(
     ensures failed { failed.new ≡ failed_after (failing_at parts.now (scope_of P.provided provider.now namer.old contribution.module_index) contribution place) result failed.old }
     ensures frames { Answers (λ f. f) result (told failed.old (failing_at parts.now (scope_of P.provided provider.now namer.old contribution.module_index) contribution place) (frames_at_place parts.now (scope_of P.provided provider.now namer.old contribution.module_index) contribution place)) }
 {
-    let module_index = usize::from(contribution.module_index());
+    let module = contribution.module_index();
+    let module_index = usize::from(module);
     keep_module(alloc, kept, provider, namer.modules(), module_index)?;
     let number = number_over(known_at(kept, module_index), place);
     keep_parts(alloc, kept, parts, failed, number, contribution, place)?;
@@ -243,14 +244,14 @@ fn frames_at<'a, P: ModuleProvider>(
     match choose(parts, known, number, contribution, place) {
         None => Ok(None),
         Some(chosen) => {
-            let failing = known_failures.part(contribution.module_index(), chosen);
+            let failing = known_failures.part(module, chosen);
             frames_unless_known(
                 alloc,
                 parts,
                 namer,
                 failed,
                 known_failures,
-                contribution.module_index(),
+                module,
                 known,
                 chosen,
                 failing,
