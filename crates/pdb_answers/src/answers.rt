@@ -159,8 +159,8 @@ fn keep_public_entry<'a, I: ModuleTables>(
 ) -> std::result::Result<(), AllocError>
     ensures { kept.new ≡ kept.old }
 {
-    let module_index = contribution.module_index();
-    match parts.publics.over(contribution.start_offset(), place) {
+    let module_index = contribution.module_index;
+    match parts.publics.over(contribution.start_offset, place) {
         Some(public) if !failed.has(Part::ProcedureLines(module_index, public.start_offset)) => {
             keep_public_rows(alloc, kept, usize::from(module_index), public.start_offset)
         }
@@ -199,16 +199,16 @@ fn keep_parts<'a, I: ModuleTables>(
 ) -> std::result::Result<(), AllocError>
     ensures { kept.new ≡ kept.old }
 {
-    if failed.has(Part::ExtendedModule(contribution.module_index())) {
+    if failed.has(Part::ExtendedModule(contribution.module_index)) {
         return Ok(());
     }
-    let module_index = usize::from(contribution.module_index());
+    let module_index = usize::from(contribution.module_index);
     keep_lines(alloc, kept, module_index)?;
     let Some(number) = number else {
         return keep_public_entry(alloc, kept, parts, failed, contribution, place);
     };
     let known = known_at(kept, module_index);
-    if stands_in_part(failed, known, number, contribution.module_index()) {
+    if stands_in_part(failed, known, number, contribution.module_index) {
         return Ok(());
     }
     keep_procedure(alloc, kept, module_index, number)
@@ -235,8 +235,7 @@ fn frames_at<'a, P: ModuleProvider>(
     ensures failed { failed.new ≡ failed_after (failing_at parts.now (scope_of P.provided provider.now namer.old contribution.module_index) contribution place) result failed.old }
     ensures frames { Answers (λ f. f) result (told failed.old (failing_at parts.now (scope_of P.provided provider.now namer.old contribution.module_index) contribution place) (frames_at_place parts.now (scope_of P.provided provider.now namer.old contribution.module_index) contribution place)) }
 {
-    let module = contribution.module_index();
-    let module_index = usize::from(module);
+    let module_index = usize::from(contribution.module_index);
     keep_module(alloc, kept, provider, namer.modules(), module_index)?;
     let number = number_over(known_at(kept, module_index), place);
     keep_parts(alloc, kept, parts, failed, number, contribution, place)?;
@@ -244,14 +243,14 @@ fn frames_at<'a, P: ModuleProvider>(
     match choose(parts, known, number, contribution, place) {
         None => Ok(None),
         Some(chosen) => {
-            let failing = known_failures.part(module, chosen);
+            let failing = known_failures.part(contribution.module_index, chosen);
             frames_unless_known(
                 alloc,
                 parts,
                 namer,
                 failed,
                 known_failures,
-                module,
+                contribution.module_index,
                 known,
                 chosen,
                 failing,
@@ -303,13 +302,13 @@ fn function_at<'a, P: ModuleProvider>(
     ensures same { namer.new ≡ namer.old }
     ensures function { Answers (λ f. f) result (Ok (function_at_contribution parts.now (scope_of P.provided provider.now namer.old contribution.module_index) contribution place)) }
 {
-    let module_index = usize::from(contribution.module_index());
+    let module_index = usize::from(contribution.module_index);
     keep_module(alloc, kept, provider, namer.modules(), module_index)?;
     let known = known_at(kept, module_index);
     let number = number_over(known, place);
     match choose(parts, known, number, contribution, place) {
         None => Ok(None),
-        Some(chosen) => function_of(alloc, parts, namer, contribution.module_index(), chosen),
+        Some(chosen) => function_of(alloc, parts, namer, contribution.module_index, chosen),
     }
 }
 
@@ -386,7 +385,7 @@ fn run_at<'a, P: ModuleProvider>(
     ensures function { Answers (λ run. run.0) result (Ok (function_at_contribution parts.now (scope_of P.provided provider.now namer.old contribution.module_index) contribution place)) }
     ensures count { IfOk result (λ run. run.1 ≡ up_to_next (bounds_near parts.now (procedures_of (scope_of P.provided provider.now namer.old) (Some contribution)) place) place.offset limit) }
 {
-    let module_index = usize::from(contribution.module_index());
+    let module_index = usize::from(contribution.module_index);
     keep_module(alloc, kept, provider, namer.modules(), module_index)?;
     let known = known_at(kept, module_index);
     let count = to_next_bound(parts, known, place, limit);
@@ -394,7 +393,7 @@ fn run_at<'a, P: ModuleProvider>(
     match choose(parts, known, number, contribution, place) {
         None => Ok((None, count)),
         Some(chosen) => {
-            let function = function_of(alloc, parts, namer, contribution.module_index(), chosen)?;
+            let function = function_of(alloc, parts, namer, contribution.module_index, chosen)?;
             Ok((function, count))
         }
     }
