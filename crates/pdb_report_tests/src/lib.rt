@@ -9,10 +9,6 @@ pub mod definitions;
 mod files;
 pub mod laws;
 #[cfg(test)]
-mod limits;
-#[cfg(test)]
-mod promptness;
-#[cfg(test)]
 mod sizes;
 #[cfg(test)]
 mod streams;
