@@ -1,8 +1,7 @@
 //! How often a context asks for modules.
 
 use crate::texts::contexts::{functions_text, told};
-use crate::texts::each_address;
-use crate::texts::question::{Asked, Question};
+use crate::texts::question::Question;
 use pdb_addr2line::maybe_owned::MaybeOwned;
 use pdb_addr2line::pdb::{
     self, DebugInformation, FallibleIterator, Module, ModuleInfo, PDB, PdbInternalSectionOffset,
@@ -99,7 +98,7 @@ fn ask_named<'s, P: ModuleProvider>(
 
 /// What was read of a database, but for its modules.
 #[derive(Clone, Copy)]
-pub struct Parts<'d, 's> {
+struct Parts<'d, 's> {
     debug_information: &'d DebugInformation<'s>,
     tables: &'d Tables<'s>,
     names: &'d StringTable<'s>,
@@ -141,20 +140,21 @@ fn formatter_of<'d, 's, P: ModuleProvider>(
     )
 }
 
-/// A context over what was read; there is none over a map that isn't ordered.
-pub fn context_of<'d, 's, P: ModuleProvider>(
+/// The answers of a context over what was read; there is none over a map that isn't ordered.
+fn ask_over<P: ModuleProvider>(
     alloc: Global,
-    provider: &'d P,
-    parts: Parts<'d, 's>,
+    provider: &P,
+    calls: &Cell<u32>,
+    parts: Parts<'_, '_>,
     question: &Question<'_>,
-) -> Result<Context<'d, 's, P>, Error> {
+) -> Result<String, Error> {
     let tables = parts.tables;
     let map = &tables.address_map;
     if !map.is_ordered() {
         return Err(Error::CircularTypeDefinition(0));
     }
     let formatter = formatter_of(alloc, provider, parts, question)?;
-    Context::new_from_parts(
+    let mut context = Context::new_from_parts(
         alloc,
         provider,
         map.image_section_headers(),
@@ -163,24 +163,8 @@ pub fn context_of<'d, 's, P: ModuleProvider>(
         Some(parts.names),
         parts.debug_information,
         MaybeOwned::Owned(formatter),
-    )
-}
-
-/// The answers over what was read, and how often modules are asked for.
-fn ask_over<P: ModuleProvider>(
-    alloc: Global,
-    provider: &P,
-    calls: &Cell<u32>,
-    parts: Parts<'_, '_>,
-    question: &Question<'_>,
-) -> Result<String, Error> {
-    match question.asked {
-        Asked::EachAgain => each_address::ask(alloc, provider, calls, parts, question),
-        _ => {
-            let mut context = context_of(alloc, provider, parts, question)?;
-            ask_twice(alloc, &mut context, calls, question.index)
-        }
-    }
+    )?;
+    ask_twice(alloc, &mut context, calls, question.index)
 }
 
 /// The answers of a context about an RVA that it was asked about before.

@@ -23,8 +23,6 @@ pub enum Asked {
     Functions,
     /// All of a context that was asked before.
     AllAgain,
-    /// How often contexts that were asked before ask for modules, at each of many addresses.
-    EachAgain,
 }
 
 /// What is asked, by its words.
@@ -38,7 +36,6 @@ const ASKED: &[(&str, Asked)] = &[
     ("run_from", Asked::RunFrom),
     ("functions", Asked::Functions),
     ("all_again", Asked::AllAgain),
-    ("each_again", Asked::EachAgain),
 ];
 
 /// What a word asks. One that isn't known asks for all functions.
