@@ -11,4 +11,4 @@ pub use pdb_context::{
 pub use pdb_data::ContextPdbData;
 pub use pdb_loading::{KeptModules, Tables, read_tables};
 pub use pdb_resolving::{Error, ModuleProvider, Result};
-pub use pdb_type_flags::{Flags, TypeFormatterFlags};
+pub use pdb_text_pieces::{Flags, TypeFormatterFlags};

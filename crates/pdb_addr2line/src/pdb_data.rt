@@ -22,7 +22,7 @@ use pdb_loading::{
 };
 use pdb_resolving::{Error, ModuleProvider};
 use pdb_symbols_modules::{DebugInformation, Module, ModuleInfo, PDB};
-use pdb_type_flags::TypeFormatterFlags;
+use pdb_text_pieces::TypeFormatterFlags;
 use std::alloc::Global;
 use std::marker::{Model, PhantomData};
 

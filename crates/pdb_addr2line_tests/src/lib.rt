@@ -1,4 +1,5 @@
-//! Tests of formatters and contexts by their public calls, where recorded cases can't show it.
+//! Tests of formatters and contexts by their public calls, where recorded cases can't show it; and
+//! of the counts of ranges, over a database with one function.
 #![tactic(auto)]
 
 #[cfg(test)]
@@ -12,6 +13,10 @@ mod flags;
 #[cfg(test)]
 mod formatters;
 #[cfg(test)]
+mod one_function;
+#[cfg(test)]
 mod seen;
+#[cfg(test)]
+mod sizes;
 #[cfg(test)]
 mod views;

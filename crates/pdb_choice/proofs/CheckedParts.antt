@@ -7,7 +7,7 @@ use Rattle.pdb_addresses.specs.declared.sections.ImageSectionHeader.{ImageSectio
 use Rattle.pdb_addresses.specs.Addresses.{Map}
 use Rattle.pdb_symbols.specs.Symbols.{Symbol, symbols_from}
 use Rattle.pdb_contributions.specs.Contributions.{Held, held_of}
-use Rattle.pdb_public_list.specs.Publics.{publics_among, entries_of_symbols, placeholders, section_ends}
+use Rattle.pdb_contributions.specs.Publics.{publics_among, entries_of_symbols, placeholders, section_ends}
 use Rattle.pdb_resolving.specs.declared.error.Error.{Error}
 use Rattle.pdb_resolving.specs.Fault.{Fault, Answers, lifted}
 use Rattle.pdb_choice.specs.Parts.{outcome, parts_of, parts_checked}

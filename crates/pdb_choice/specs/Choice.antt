@@ -6,7 +6,7 @@ use Rattle.pdb_addresses.specs.Numbers.{in_32_bits}
 use Rattle.pdb_addresses.specs.Places.{internal_place}
 use Rattle.pdb_contributions.specs.declared.contribution.ModuleSectionContribution.{ModuleSectionContribution}
 use Rattle.pdb_contributions.specs.Contributions.{holder}
-use Rattle.pdb_public_list.specs.Publics.{PublicFunction, public_exactly, public_over, next_public}
+use Rattle.pdb_contributions.specs.Publics.{PublicFunction, public_exactly, public_over, next_public}
 use Rattle.pdb_module_data.specs.Procedures.{Procedure, over}
 
 -- what every question goes over: the ways between addresses, what modules hold, the public list, and the string table, if

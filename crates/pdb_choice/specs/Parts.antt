@@ -5,7 +5,7 @@ use Rattle.pdb_addresses.specs.declared.sections.ImageSectionHeader.{ImageSectio
 use Rattle.pdb_addresses.specs.Addresses.{Map}
 use Rattle.pdb_symbols.specs.Symbols.{symbols_from}
 use Rattle.pdb_contributions.specs.Contributions.{held_of}
-use Rattle.pdb_public_list.specs.Publics.{publics_among, entries_read, placeholders, section_ends, are_whole}
+use Rattle.pdb_contributions.specs.Publics.{publics_among, entries_read, placeholders, section_ends, are_whole}
 use Rattle.pdb_resolving.specs.Fault.{Fault, lifted}
 use Rattle.pdb_choice.specs.Choice.{Parts}
 

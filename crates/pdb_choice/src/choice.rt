@@ -8,10 +8,9 @@ ghost use Rattle.pdb_choice.specs.Seen.{chosen_seen};
 
 use crate::parts::ContextParts;
 use pdb_addresses::PdbInternalSectionOffset;
-use pdb_contributions::ModuleSectionContribution;
+use pdb_contributions::{ModuleSectionContribution, PublicFunction};
 use pdb_known_modules::{BasicModuleInfo, procedure_numbered};
 use pdb_module_data::Procedure;
-use pdb_public_list::PublicFunction;
 use pdb_resolving::ModuleTables;
 
 /// A function that is chosen: a procedure, or an entry of the public list.

@@ -12,10 +12,10 @@ use pdb_addresses::{AddressMap, ImageSectionHeader, PdbInternalSectionOffset};
 use pdb_bounds::{SortedBounds, contribution_bounds};
 use pdb_container::{RawString, StringTable};
 use pdb_contributions::{
-    HeldPlaces, ModuleSectionContribution, SectionContributions, compute_section_contributions,
+    HeldPlaces, ModuleSectionContribution, PublicList, SectionContributions, check_symbols,
+    compute_section_contributions, read_public_symbols,
 };
 use pdb_module_data::FileNames;
-use pdb_public_list::{PublicList, check_symbols, read_public_symbols};
 use pdb_resolving::Result;
 use pdb_symbols::SymbolTable;
 use pdb_symbols_modules::DebugInformation;

@@ -9,8 +9,8 @@ ghost use Rattle.pdb_choice.specs.NearBounds.{public_bounds, bounds_near};
 
 use crate::parts::ContextParts;
 use pdb_addresses::PdbInternalSectionOffset;
+use pdb_contributions::PublicList;
 use pdb_known_modules::BasicModuleInfo;
-use pdb_public_list::PublicList;
 use pdb_resolving::ModuleTables;
 
 /// The lesser of `far` and the distance from an offset to a bound, if that lies behind it.

@@ -15,7 +15,7 @@ use Rattle.pdb_addresses.specs.declared.rva.Rva.{Rva}
 use Rattle.pdb_addresses.specs.Addresses.{Map, outer_of_place}
 use Rattle.pdb_addresses.specs.Numbers.{image_address}
 use Rattle.pdb_module_data.specs.Procedures.{Procedure}
-use Rattle.pdb_public_list.specs.Publics.{PublicFunction}
+use Rattle.pdb_contributions.specs.Publics.{PublicFunction}
 use Rattle.pdb_symbols_modules.specs.Modules.{Module}
 use Rattle.pdb_answers.specs.Modules.{module_data, procedures_in}
 use Rattle.pdb_answers.specs.Scopes.{Scope}

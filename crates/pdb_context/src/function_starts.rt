@@ -8,8 +8,8 @@ ghost use Rattle.pdb_answers.specs.Modules.{module_data, procedures_in as proced
 
 use pdb_addresses::{AddressMap, PdbInternalSectionOffset};
 use pdb_answers::{ContextParts, Namer, get_basic_module_info, procedures_in};
+use pdb_contributions::PublicFunction;
 use pdb_module_data::Procedure;
-use pdb_public_list::PublicFunction;
 use pdb_resolving::ModuleProvider;
 use std::alloc::{AllocError, Global};
 

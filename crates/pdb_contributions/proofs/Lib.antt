@@ -1,5 +1,11 @@
 pub mod ApartSteps
+pub mod Firsts
 pub mod HeldSteps
+pub mod Lookup
 pub mod MergeSteps
+pub mod OnePlace
 pub mod Order
 pub mod PieceSteps
+pub mod PublicOrder
+pub mod PublicSteps
+pub mod Stable

@@ -1,2 +1,3 @@
 pub mod ContributionPieces
 pub mod Contributions
+pub mod Publics

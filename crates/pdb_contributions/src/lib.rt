@@ -1,10 +1,16 @@
-//! What modules hold of sections, by the section contributions of the DBI stream.
+//! What covers a place: what modules hold of sections, by the section contributions of the DBI
+//! stream, and the public list, names and placeholders by the places at which functions may begin.
 #![tactic(auto)]
 
 mod contribution;
 mod held;
 mod holding;
+pub mod laws;
+mod public_entries;
+mod public_list;
 
 pub use contribution::{ModuleSectionContribution, is_executable};
 pub use held::HeldPlaces;
 pub use holding::{SectionContributions, compute_section_contributions};
+pub use public_entries::{PublicFunction, check_symbols, read_public_symbols};
+pub use public_list::PublicList;

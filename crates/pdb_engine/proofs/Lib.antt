@@ -1,4 +1,6 @@
+pub mod AddressLemmas
 pub mod Faults
+pub mod Hex
 pub mod LineLemmas
 pub mod Pumped
 pub mod Puts

@@ -1,3 +1,4 @@
+pub mod Address
 pub mod InputFaults
 pub mod InputLines
 pub mod Puts

@@ -1,7 +1,9 @@
-//! Answers the lines of an input: it reads these, asks what answers them, and writes each answer; and it counts the failures of
+//! Answers the lines of an input: it reads these, asks what answers them, and writes each answer;
+//! it reads the address that a line or an argument stands for; and it counts the failures of
 //! readers and writers.
 #![tactic(auto)]
 
+mod address;
 mod answers;
 mod engine;
 mod fault;
@@ -10,6 +12,7 @@ mod output;
 mod requests;
 mod watched;
 
+pub use address::parse_address;
 pub use answers::Answers;
 pub use engine::{run, write_all};
 pub use fault::{InputFault, write_fault};

@@ -9,7 +9,7 @@ use Rattle.pdb_addresses.specs.declared.internal_section_offset.PdbInternalSecti
 use Rattle.pdb_addresses.specs.SectionRun.{nearer, up_to_next}
 use Rattle.pdb_contributions.specs.declared.contribution.ModuleSectionContribution.{ModuleSectionContribution}
 use Rattle.pdb_contributions.specs.Contributions.{holds, holder}
-use Rattle.pdb_public_list.specs.Publics.{PublicFunction, is_at_or_before, last_at_or_before, not_before, public_over}
+use Rattle.pdb_contributions.specs.Publics.{PublicFunction, is_at_or_before, last_at_or_before, not_before, public_over}
 use Rattle.pdb_module_data.specs.Procedures.{Procedure, contains, later, over}
 use Rattle.pdb_functions.specs.FunctionOrder.{Function}
 use Rattle.pdb_choice.specs.Choice.{Parts, Chosen, chosen_of, chosen}

@@ -1,4 +1,8 @@
+pub mod Counts
 pub mod Databases
 pub mod Frames
 pub mod FunctionOrder
 pub mod OrderLaws
+pub mod Report
+pub mod Table
+pub mod Texts

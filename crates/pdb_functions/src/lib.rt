@@ -1,11 +1,22 @@
-//! Functions of an image: where one begins and ends, and its name; their order; and the frames at an address in one.
+//! Which function owns an address: a function as it is answered, where it begins and ends, and its
+//! name; the order of functions; the frames at an address in one; and how many addresses of a range
+//! each function owns, counted by runs with at most one lookup for each piece, and the text of such
+//! a report.
 #![tactic(auto)]
 
 mod frames;
 mod function;
+mod function_runs;
 pub mod laws;
 mod shared_frames;
+mod sizes;
+mod table;
+mod text;
 
 pub use frames::{Frame, FunctionFrames};
 pub use function::Function;
+pub use function_runs::FunctionRuns;
 pub use shared_frames::{SharedFrame, SharedFunctionFrames, owned_name};
+pub use sizes::{Sizes, count_runs};
+pub use table::Counts;
+pub use text::sizes_text;

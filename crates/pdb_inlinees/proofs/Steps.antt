@@ -3,8 +3,8 @@ use Rattle.std.proofs.Common.{◌≡◌, ℕ, suc, ◌-◌, List, [], ◌∷◌,
 use Rattle.std.specs.Option.{option_or}
 use Rattle.pdb_container.specs.Fault.{Fault}
 use Rattle.pdb_container.specs.Listing.{Listing, ending, before}
-use Rattle.pdb_annotations.specs.declared.annotation.BinaryAnnotation.{BinaryAnnotation}
-use Rattle.pdb_annotations.specs.Annotations.{is_emitting}
+use Rattle.pdb_symbols.specs.declared.annotation.BinaryAnnotation.{BinaryAnnotation}
+use Rattle.pdb_symbols.specs.Annotations.{is_emitting}
 use Rattle.pdb_subsections.specs.declared.line_info.LineInfo.{LineInfo}
 use Rattle.pdb_inlinees.specs.declared.annotation_state.AnnotationState.{AnnotationState}
 use Rattle.pdb_inlinees.specs.Operands.{own_length}

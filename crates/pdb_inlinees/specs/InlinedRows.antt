@@ -6,8 +6,8 @@ use Rattle.pdb_container.specs.Fault.{Fault}
 use Rattle.pdb_container.specs.Listing.{Listing}
 use Rattle.pdb_addresses.specs.Numbers.{distance}
 use Rattle.pdb_addresses.specs.declared.internal_section_offset.PdbInternalSectionOffset.{PdbInternalSectionOffset}
-use Rattle.pdb_annotations.specs.declared.annotation.BinaryAnnotation.{BinaryAnnotation}
-use Rattle.pdb_annotations.specs.Annotations.{annotations_of, is_emitting}
+use Rattle.pdb_symbols.specs.declared.annotation.BinaryAnnotation.{BinaryAnnotation}
+use Rattle.pdb_symbols.specs.Annotations.{annotations_of, is_emitting}
 use Rattle.pdb_subsections.specs.declared.line_info.LineInfo.{LineInfo}
 use Rattle.pdb_subsections.specs.declared.line_info.LineInfoKind.{LineInfoKind}
 use Rattle.pdb_subsections.specs.declared.line_info.LineInfoKind.TheVariants as made_of

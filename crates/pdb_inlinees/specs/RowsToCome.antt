@@ -3,7 +3,7 @@
 use Rattle.std.specs.Prelude.{ℕ, ◌+◌, ◌%◌, ◌^◌, List, [], ◌∷◌, ◌++◌, Option, None, Some, unwrap_or, option_map}
 use Rattle.std.specs.Option.{option_or}
 use Rattle.pdb_container.specs.Listing.{Listing}
-use Rattle.pdb_annotations.specs.declared.annotation.BinaryAnnotation.{BinaryAnnotation}
+use Rattle.pdb_symbols.specs.declared.annotation.BinaryAnnotation.{BinaryAnnotation}
 use Rattle.pdb_subsections.specs.declared.line_info.LineInfo.{LineInfo}
 use Rattle.pdb_inlinees.specs.declared.annotation_state.AnnotationState.{AnnotationState}
 use Rattle.pdb_inlinees.specs.Operands.{code_offset, code_base, offset_change, changed_file, line_change, line_length, range_kind, first_column, last_column, column_change}

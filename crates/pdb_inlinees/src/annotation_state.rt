@@ -3,13 +3,13 @@
 ghost use Rattle.std.specs.Prelude.{◌≡◌, [], ◌∷◌, unwrap_or, option_map};
 ghost use Rattle.pdb_inlinees.specs.InlinedRows.{row_behind, length_by, place_behind, line_behind, last_line_behind, last_column_behind, is_same_kind};
 ghost use Rattle.pdb_inlinees.specs.Operands.{own_length, range_kind, column_change};
-ghost use Rattle.pdb_annotations.specs.declared.annotation.BinaryAnnotation.TheVariants as kinds;
+ghost use Rattle.pdb_symbols.specs.declared.annotation.BinaryAnnotation.TheVariants as kinds;
 ghost use Rattle.pdb_inlinees.specs.RowsToCome.{state_behind, moved_on};
 
 use pdb_addresses::PdbInternalSectionOffset;
-use pdb_annotations::BinaryAnnotation;
 use pdb_indices::FileIndex;
 use pdb_subsections::{LineInfo, LineInfoKind};
+use pdb_symbols::BinaryAnnotation;
 
 /// The state before the annotations that are still to come.
 #[derive(Clone, Copy, Debug)]

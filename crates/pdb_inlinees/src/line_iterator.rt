@@ -3,16 +3,16 @@
 ghost use Rattle.std.specs.Prelude.{◌≡◌, ◌∷◌, [], List, None, Some, IfSome, IsSome, if◌then◌else◌};
 ghost use Rattle.pdb_container.specs.Listing.{ending, Advances};
 ghost use Rattle.pdb_addresses.specs.Numbers.{distance};
-ghost use Rattle.pdb_annotations.specs.Annotations.{is_emitting};
-ghost use Rattle.pdb_annotations.specs.declared.annotation.BinaryAnnotation.{BinaryAnnotation as Annotation};
+ghost use Rattle.pdb_symbols.specs.Annotations.{is_emitting};
+ghost use Rattle.pdb_symbols.specs.declared.annotation.BinaryAnnotation.{BinaryAnnotation as Annotation};
 ghost use Rattle.pdb_inlinees.specs.InlinedRows.{all_rows, place_behind, length_by};
 ghost use Rattle.pdb_inlinees.specs.Operands.{own_length, given_length};
 ghost use Rattle.pdb_inlinees.specs.RowsToCome.{rows_ahead, to_come, row_in_front};
 
 use crate::annotation_state::AnnotationState;
-use pdb_annotations::{BinaryAnnotation, BinaryAnnotationsIter};
 use pdb_container::{Error, FallibleIterator, Result};
 use pdb_subsections::{LineInfo, LineInfoKind};
+use pdb_symbols::{BinaryAnnotation, BinaryAnnotationsIter};
 use std::marker::Model;
 use std::mem::replace;
 

@@ -1,4 +1,6 @@
+pub mod Consumed
 pub mod HeldSteps
 pub mod KeptSteps
 pub mod OpenFiles
+pub mod OtherFronts
 pub mod SharedStreams

@@ -1,3 +1,4 @@
+pub mod FileRead
 pub mod Held
 pub mod Kept
 pub mod Loading

@@ -8,11 +8,10 @@ ghost use Rattle.pdb_module_data.specs.SitesFaults.{Reads};
 ghost use Rattle.pdb_symbols.specs.Forms.{inline_site_form};
 
 use crate::procedures::Procedure;
-use pdb_annotations::InlineSiteSymbol;
 use pdb_container::{Error, FallibleIterator};
 use pdb_indices::SymbolIndex;
 use pdb_symbols::kinds::{is_inline_site, is_procedure};
-use pdb_symbols::{Symbol, SymbolData, SymbolIter};
+use pdb_symbols::{InlineSiteSymbol, Symbol, SymbolData, SymbolIter};
 use std::alloc::{AllocError, AllocFailed, Global};
 use std::marker::Model;
 

@@ -5,8 +5,8 @@ use Rattle.std.specs.Int.{w32}
 use Rattle.pdb_container.specs.Fault.{Fault, UnexpectedEof, UnimplementedFeature, ◌>>=◌, refuse}
 use Rattle.pdb_container.specs.Fields.{number_at}
 use Rattle.pdb_container.specs.Listing.{Listing, ending}
-use Rattle.pdb_cross_modules.specs.Exports.{Entry, exports_of}
-use Rattle.pdb_cross_modules.specs.Imports.{Import, imports_of}
+use Rattle.pdb_subsections.specs.Exports.{Entry, exports_of}
+use Rattle.pdb_subsections.specs.Imports.{Import, imports_of}
 use Rattle.pdb_inlinees.specs.Inlinees.{InlinedFunction, inlinees_of}
 use Rattle.pdb_lines.specs.LinesSubsections.{Program, program_of}
 use Rattle.pdb_subsections.specs.Subsections.{inlinees_kind, imports_kind, exports_kind, subsections_of, first_of}

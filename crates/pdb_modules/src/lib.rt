@@ -5,17 +5,13 @@
 mod module_info;
 
 pub use module_info::ModuleInfo;
-pub use pdb_annotations::{
-    BinaryAnnotation, BinaryAnnotations, BinaryAnnotationsIter, InlineSiteSymbol,
-};
-pub use pdb_cross_modules::{
-    CrossModuleExport, CrossModuleExportIter, CrossModuleExports, CrossModuleImports,
-    CrossModuleRef, ModuleRef,
-};
 pub use pdb_inlinees::{Inlinee, InlineeIterator, InlineeLineIterator};
 pub use pdb_lines::{FileChecksum, FileInfo, FileIterator, LineIterator, LineProgram};
-pub use pdb_subsections::{LineInfo, LineInfoKind};
+pub use pdb_subsections::{
+    CrossModuleExport, CrossModuleExportIter, CrossModuleExports, CrossModuleImports,
+    CrossModuleRef, LineInfo, LineInfoKind, ModuleRef,
+};
 pub use pdb_symbols::{
-    ProcedureSymbol, PublicSymbol, SeparatedCodeSymbol, Symbol, SymbolData, SymbolIter,
-    SymbolTable, ThunkSymbol,
+    BinaryAnnotation, BinaryAnnotations, BinaryAnnotationsIter, InlineSiteSymbol, ProcedureSymbol,
+    PublicSymbol, SeparatedCodeSymbol, Symbol, SymbolData, SymbolIter, SymbolTable, ThunkSymbol,
 };

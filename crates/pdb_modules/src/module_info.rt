@@ -6,11 +6,13 @@ ghost use Rattle.pdb_modules.specs.ModuleStream.{signed as signed_bytes, symbol_
 ghost use Rattle.pdb_subsections.specs.Subsections.{bytes_seen};
 
 use pdb_container::{Error, ParseBuffer, Result, Stream};
-use pdb_cross_modules::{CrossModuleExports, CrossModuleImports};
 use pdb_indices::SymbolIndex;
 use pdb_inlinees::InlineeIterator;
 use pdb_lines::LineProgram;
-use pdb_subsections::{CROSS_MODULE_EXPORTS, CROSS_MODULE_IMPORTS, INLINEE_LINES, find_subsection};
+use pdb_subsections::{
+    CROSS_MODULE_EXPORTS, CROSS_MODULE_IMPORTS, CrossModuleExports, CrossModuleImports,
+    INLINEE_LINES, find_subsection,
+};
 use pdb_symbols::SymbolIter;
 use std::alloc::Global;
 use std::marker::Model;

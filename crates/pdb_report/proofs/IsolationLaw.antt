@@ -10,7 +10,7 @@ use Rattle.pdb_addr2line.specs.Held.{given, names_in}
 use Rattle.pdb_addr2line.specs.Kept.{if_read}
 use Rattle.pdb_addr2line.specs.Loading.{tables, listed}
 use Rattle.pdb_addr2line.specs.Scopes.{Scope}
-use Rattle.pdb_address_lines.specs.Address.{address_of}
+use Rattle.pdb_engine.specs.Address.{address_of}
 use Rattle.pdb_addresses.specs.Addresses.{is_ordered}
 use Rattle.pdb_addresses.specs.declared.internal_section_offset.PdbInternalSectionOffset.{PdbInternalSectionOffset}
 use Rattle.pdb_container.specs.Fault as container

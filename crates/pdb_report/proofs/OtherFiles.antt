@@ -4,9 +4,9 @@ use Rattle.std.specs.Prelude.{nat_eq, false, None, Some}
 use Rattle.std.specs.List.{starts_with}
 use Rattle.pdb_container.specs.Fault as container
 use Rattle.pdb_container.specs.Container.{magic}
-use Rattle.pdb_files.specs.FileRead.{IsRead}
-use Rattle.pdb_files.specs.FileRead.IsRead.{all, front}
-use Rattle.pdb_files.proofs.OtherFronts.{other_front, front_tells}
+use Rattle.pdb_loading.specs.FileRead.{IsRead}
+use Rattle.pdb_loading.specs.FileRead.IsRead.{all, front}
+use Rattle.pdb_loading.proofs.OtherFronts.{other_front, front_tells}
 use Rattle.pdb_report_texts.specs.Faults.{Pdb}
 use Rattle.pdb_report.specs.Loading.{loaded, load_fault}
 use Rattle.pdb_resolving.specs.Fault as answers

@@ -10,7 +10,7 @@ use Rattle.pdb_report.specs.Loading.{Loaded, loaded}
 use Rattle.pdb_report.specs.SameReports.{HaveSameReports}
 use Rattle.pdb_report.specs.SizesReport.{IsSizesReport}
 use Rattle.pdb_report_texts.specs.Faults.{LoadingFault}
-use Rattle.pdb_sizes.specs.Report.{IsReport}
+use Rattle.pdb_functions.specs.Report.{IsReport}
 use Rattle.pdb_symbols_modules.specs.Shared.{shared}
 use Rattle.pdb_symbols_modules.specs.Streams.{Streams, streams, fault_in}
 use Rattle.pdb_report.proofs.IsolationLaw.{scope_alike}

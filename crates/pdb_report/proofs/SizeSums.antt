@@ -4,10 +4,10 @@ use Rattle.std.specs.Prelude.{Some, is_some}
 use Rattle.pdb_addresses.specs.Addresses.{Map}
 use Rattle.pdb_functions.specs.FunctionOrder.{Function}
 use Rattle.pdb_functions.specs.Databases.{is_answer}
-use Rattle.pdb_sizes.specs.Counts.{counted_at, count, count_of_none}
-use Rattle.pdb_sizes.specs.Table.{count_in, sum_of}
-use Rattle.pdb_sizes.proofs.HowMany.{how_many-split}
-use Rattle.pdb_sizes.proofs.RangeSums.{table_fills}
+use Rattle.pdb_functions.specs.Counts.{counted_at, count, count_of_none}
+use Rattle.pdb_functions.specs.Table.{count_in, sum_of}
+use Rattle.pdb_functions.proofs.HowMany.{how_many-split}
+use Rattle.pdb_functions.proofs.RangeSums.{table_fills}
 use Rattle.pdb_symbols_modules.specs.Streams.{Streams}
 use Rattle.pdb_report.specs.Answer.{database}
 use Rattle.pdb_report.specs.SizesReport.{IsSizesReport}

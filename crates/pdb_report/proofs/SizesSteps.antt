@@ -4,10 +4,10 @@ use Rattle.std.specs.Prelude.{OnOk, OnErr, IfOk}
 use Rattle.pdb_addresses.specs.Addresses.{Map}
 use Rattle.pdb_functions.specs.Databases.{Database}
 use Rattle.pdb_functions.specs.FunctionOrder.{Function}
-use Rattle.pdb_sizes.specs.Counts.{count, count_of_none, pieces}
-use Rattle.pdb_sizes.specs.Report.{IsReport}
-use Rattle.pdb_sizes.specs.Table.{IsTable, count_in}
-use Rattle.pdb_sizes.specs.Texts.{sizes_text}
+use Rattle.pdb_functions.specs.Counts.{count, count_of_none, pieces}
+use Rattle.pdb_functions.specs.Report.{IsReport}
+use Rattle.pdb_functions.specs.Table.{IsTable, count_in}
+use Rattle.pdb_functions.specs.Texts.{sizes_text}
 use Rattle.pdb_symbols_modules.specs.Streams.{streams}
 use Rattle.pdb_report.specs.declared.sizes.Tally.{Tally}
 use Rattle.pdb_report.specs.Answer.{address_map, database}

@@ -2,7 +2,7 @@
 use Rattle.std.specs.Prelude.{◌≡◌, ◌==◌, if◌then◌else◌, ℕ, ◌<◌, ◌^◌, List, [], Option, None, Some, option_map, Result, Ok, Err}
 use Rattle.pdb_addr2line.specs.Choice.{held_at, place_of}
 use Rattle.pdb_addr2line.specs.Held.{names_in}
-use Rattle.pdb_address_lines.specs.Address.{address_of}
+use Rattle.pdb_engine.specs.Address.{address_of}
 use Rattle.pdb_container.specs.Alike.{OpenAlike, ReadAlike}
 use Rattle.pdb_container.specs.Fault as container
 use Rattle.pdb_report.specs.Answer.{answer, function_at, given_in}

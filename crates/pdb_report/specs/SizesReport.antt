@@ -1,8 +1,8 @@
 -- The report on a range: how many of its addresses each function has.
 use Rattle.std.specs.Prelude.{◌≡◌, ℕ, ◌≤◌, List, Some}
 use Rattle.pdb_addresses.specs.Addresses.{Map}
-use Rattle.pdb_sizes.specs.Counts.{pieces}
-use Rattle.pdb_sizes.specs.Report.{IsReport}
+use Rattle.pdb_functions.specs.Counts.{pieces}
+use Rattle.pdb_functions.specs.Report.{IsReport}
 use Rattle.pdb_symbols_modules.specs.Streams.{Streams}
 use Rattle.pdb_report.specs.Answer.{address_map, database}
 

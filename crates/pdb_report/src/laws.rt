@@ -2,15 +2,15 @@
 
 ghost use Rattle.std.specs.Prelude.{◌≡◌, ◌+◌, ◌-◌, ◌<◌, ◌≤◌, ◌^◌, ℕ, List, None};
 ghost use Rattle.pdb_container.specs.Alike.{OpenAlike, ReadAlike};
-ghost use Rattle.pdb_files.specs.FileRead.{IsRead};
+ghost use Rattle.pdb_loading.specs.FileRead.{IsRead};
 ghost use Rattle.pdb_functions.specs.FunctionOrder.{Function as FunctionValue};
 ghost use Rattle.pdb_report.specs.Answer.{database};
 ghost use Rattle.pdb_report.specs.Isolation.{AreAlikeFor, IsIsolated};
 ghost use Rattle.pdb_report.specs.Loading.{load_fault};
 ghost use Rattle.pdb_report.specs.SameReports.{HaveSameReports};
 ghost use Rattle.pdb_report.specs.SizesReport.{IsSizesReport};
-ghost use Rattle.pdb_sizes.specs.Counts.{count_of_none};
-ghost use Rattle.pdb_sizes.specs.Table.{count_in, sum_of};
+ghost use Rattle.pdb_functions.specs.Counts.{count_of_none};
+ghost use Rattle.pdb_functions.specs.Table.{count_in, sum_of};
 ghost use Rattle.pdb_symbols_modules.specs.Streams.{Streams, streams};
 
 /// What was read of a file has the loading fault that the whole file has; and where the file has none, it is the whole

@@ -11,9 +11,8 @@ mod symbolizer;
 
 pub use finish::finish_run;
 pub use pdb_addr2line::{Context, Error};
-pub use pdb_address_lines::parse_address;
-pub use pdb_engine::{ErrorOutput, Watched};
-pub use pdb_files::read_file;
+pub use pdb_engine::{ErrorOutput, Watched, parse_address};
+pub use pdb_loading::read_file;
 pub use pdb_report_texts::{LoadFault, RunFault};
 pub use report::{AtEnd, run_frames, run_frames_ending};
 pub use sizes::{Tally, run_sizes};

@@ -6,8 +6,7 @@ ghost use Rattle.pdb_report.specs.Answer.{answer_of};
 ghost use Rattle.pdb_report_texts.specs.AddressText.{line_text as text_of_line, text_at};
 
 use pdb_addr2line::{Context, Error, ModuleProvider};
-use pdb_address_lines::parse_address;
-use pdb_engine::Answers;
+use pdb_engine::{Answers, parse_address};
 use pdb_report_texts::{append_address, append_unreadable};
 use std::alloc::{AllocError, Global};
 

@@ -8,16 +8,16 @@ ghost use Rattle.pdb_report.specs.Answer.{database_in};
 ghost use Rattle.pdb_report.specs.Loading.{load_fault, IsFileFault};
 ghost use Rattle.pdb_report_texts.specs.RunFaults.{OnLoad, OnMemory, OnReversed, OnWrite, OnCounted, UnlessLoad, IsOfSizes};
 ghost use Rattle.pdb_report.specs.SizesReport.{IsSizesReport, IsWithinPieces};
-ghost use Rattle.pdb_sizes.specs.Counts.{pieces};
-ghost use Rattle.pdb_sizes.specs.Report.{IsReport};
+ghost use Rattle.pdb_functions.specs.Counts.{pieces};
+ghost use Rattle.pdb_functions.specs.Report.{IsReport};
 ghost use Rattle.pdb_symbols_modules.specs.Streams.{streams};
 
 use crate::symbolizer::Symbolizer;
 use pdb_addr2line::{Context, Function, ModuleProvider};
 use pdb_addresses::{AddressMap, PdbInternalSectionOffset};
 use pdb_engine::{InputFault, Watched, write_all, write_fault};
+use pdb_functions::{FunctionRuns, count_runs, sizes_text};
 use pdb_report_texts::RunFault;
-use pdb_sizes::{FunctionRuns, count_runs, sizes_text};
 use std::alloc::{AllocError, Global};
 use std::io::Write;
 

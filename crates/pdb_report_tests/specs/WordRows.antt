@@ -1,7 +1,7 @@
 -- Words behind the program's name, by rows.
 use Rattle.std.specs.Prelude.{ℕ, List, [], ◌∷◌, Option, Some, codes, option_map}
 use Rattle.clap.specs.Words.{Text, first_of}
-use Rattle.pdb_words.specs.Task.{address_at, entered_by}
+use Rattle.pdb_arguments.specs.Task.{address_at, entered_by}
 
 -- `frames F`
 abbrev pub frames_words : List Text

@@ -4,7 +4,7 @@ use Rattle.std.specs.List.{flat_map}
 use Rattle.std.specs.Fmt.{decimal, digits, padded_integral, format_spec}
 use Rattle.pdb_resolving.specs.Fault.{Fault}
 use Rattle.pdb_functions.specs.Frames.{Frame, FunctionFrames}
-use Rattle.pdb_address_lines.specs.Address.{address_of}
+use Rattle.pdb_engine.specs.Address.{address_of}
 
 -- a text that may be missing
 abbrev pub text_or : Option (List ℕ) → List ℕ

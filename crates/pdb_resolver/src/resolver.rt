@@ -2,8 +2,8 @@
 
 ghost use Rattle.std.specs.Prelude.{◌≡◌, option_map, OnErr, OnOk};
 ghost use Rattle.std.specs.Option.{ok_or};
-ghost use Rattle.pdb_cross_modules.specs.Exports.{first_export};
-ghost use Rattle.pdb_cross_modules.specs.Imports.{imported as import_by, reference};
+ghost use Rattle.pdb_subsections.specs.Exports.{first_export};
+ghost use Rattle.pdb_subsections.specs.Imports.{imported as import_by, reference};
 ghost use Rattle.pdb_resolving.specs.Cause.{Finds, of_no_table};
 ghost use Rattle.pdb_resolving.specs.Fault.{Answers, lifted, LocalIndexNotInExports};
 ghost use Rattle.pdb_resolving.specs.KeptTables.{export_of as module_export, import_of as module_import, numbered, resolved_by_steps};

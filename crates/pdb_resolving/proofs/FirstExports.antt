@@ -10,9 +10,9 @@ use Rattle.std.specs.Ordering.{nat_cmp}
 use Rattle.std.proofs.lemmas.Bool.Decides.{eqb_tells, nat_tests}
 use Rattle.std.proofs.lemmas.List.{append-nil, map-append, map-id}
 use Rattle.std.proofs.lemmas.Map.Iter.{rest_so_far}
-use Rattle.pdb_cross_modules.specs.declared.exports.CrossModuleExport.{CrossModuleExport}
-use Rattle.pdb_cross_modules.specs.declared.exports.CrossModuleExport.TheVariants as forms
-use Rattle.pdb_cross_modules.specs.Exports.{Entry, first_export, export_form}
+use Rattle.pdb_subsections.specs.declared.exports.CrossModuleExport.{CrossModuleExport}
+use Rattle.pdb_subsections.specs.declared.exports.CrossModuleExport.TheVariants as forms
+use Rattle.pdb_subsections.specs.Exports.{Entry, first_export, export_form}
 use Rattle.pdb_indices.specs.IdIndex.{id_index}
 use Rattle.pdb_indices.specs.Index.{is_cross_module}
 use Rattle.pdb_indices.specs.TypeIndex.{type_index}

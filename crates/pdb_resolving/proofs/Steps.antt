@@ -7,7 +7,7 @@ use Rattle.std.specs.Option.{ok_or}
 use Rattle.std.specs.Str.{str_to_ascii_lowercase}
 use Rattle.pdb_container.specs.Fault.{◌>>=◌}
 use Rattle.pdb_container.specs.StringTable.{text_in}
-use Rattle.pdb_cross_modules.specs.Imports.{imported}
+use Rattle.pdb_subsections.specs.Imports.{imported}
 use Rattle.pdb_symbols_modules.specs.Modules.{Module}
 use Rattle.pdb_resolving.specs.declared.stop.Stop.{Stop}
 use Rattle.pdb_resolving.specs.declared.module_names.ModuleNames.{ModuleNames}

@@ -7,10 +7,10 @@ use Rattle.std.specs.Ordering.{nat_cmp}
 use Rattle.std.specs.Str.{str_to_ascii_lowercase}
 use Rattle.pdb_container.specs.Fault.{◌>>=◌}
 use Rattle.pdb_container.specs.StringTable.{text_in}
-use Rattle.pdb_cross_modules.specs.declared.exports.CrossModuleExport.{CrossModuleExport}
-use Rattle.pdb_cross_modules.specs.declared.exports.CrossModuleExport.TheVariants as forms
-use Rattle.pdb_cross_modules.specs.Exports.{Entry, first_export}
-use Rattle.pdb_cross_modules.specs.Imports.{Imported, imported}
+use Rattle.pdb_subsections.specs.declared.exports.CrossModuleExport.{CrossModuleExport}
+use Rattle.pdb_subsections.specs.declared.exports.CrossModuleExport.TheVariants as forms
+use Rattle.pdb_subsections.specs.Exports.{Entry, first_export}
+use Rattle.pdb_subsections.specs.Imports.{Imported, imported}
 use Rattle.pdb_symbols_modules.specs.Modules.{Module}
 use Rattle.pdb_resolving.specs.declared.module_names.ModuleNames.{ModuleNames}
 use Rattle.pdb_resolving.specs.Cause.{Cause, of_no_table}

@@ -3,4 +3,4 @@ pub mod Fault
 pub mod KeptTables
 pub mod Reaches
 pub mod Resolving
-pub use Rattle.pdb_cross_modules.specs.Imports
+pub use Rattle.pdb_subsections.specs.Imports

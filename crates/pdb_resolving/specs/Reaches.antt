@@ -2,7 +2,7 @@
 use Rattle.std.specs.Prelude.{◌≡◌, ℕ, List, Some, Ok}
 use Rattle.std.specs.List.{Contains}
 use Rattle.pdb_container.specs.StringTable.{text_in}
-use Rattle.pdb_cross_modules.specs.Imports.{Import}
+use Rattle.pdb_subsections.specs.Imports.{Import}
 use Rattle.pdb_resolving.specs.Resolving.{Modules, imports_of, last_named}
 
 -- A name in the import table of the asking module reaches a module: the last one of that name.

@@ -7,8 +7,8 @@ use Rattle.pdb_container.specs.Fault as container_fault
 use Rattle.pdb_container.specs.Fault.{◌>>=◌}
 use Rattle.pdb_container.specs.StringTable.{text_in}
 use Rattle.pdb_indices.specs.Index.{is_cross_module}
-use Rattle.pdb_cross_modules.specs.Exports.{Entry, first_export}
-use Rattle.pdb_cross_modules.specs.Imports.{Import, imported}
+use Rattle.pdb_subsections.specs.Exports.{Entry, first_export}
+use Rattle.pdb_subsections.specs.Imports.{Import, imported}
 use Rattle.pdb_failed_parts.specs.Failed.{stands, with_part}
 use Rattle.pdb_symbols_modules.specs.ModuleStream.{ModuleStream, imports_in, exports_in}
 use Rattle.pdb_symbols_modules.specs.Modules.{Module}

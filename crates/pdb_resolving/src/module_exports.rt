@@ -1,7 +1,7 @@
 //! What a module exports, by its own indices.
 
 ghost use Rattle.std.specs.Prelude.{◌≡◌, IfOk};
-ghost use Rattle.pdb_cross_modules.specs.Exports.{first_export};
+ghost use Rattle.pdb_subsections.specs.Exports.{first_export};
 ghost use Rattle.pdb_resolving.specs.KeptTables.{AreFirst, entry_of};
 
 use pdb_indices::Local;
@@ -20,7 +20,7 @@ pub struct ModuleExports<'a> {
 
 impl<'a> Model for ModuleExports<'a> {
     ghost use Rattle.std.specs.Prelude.{List};
-    ghost use Rattle.pdb_cross_modules.specs.Exports.{Entry};
+    ghost use Rattle.pdb_subsections.specs.Exports.{Entry};
     ghost use Rattle.pdb_resolving.specs.KeptTables.{AreFirst};
 
     ghost Value = { List Entry };

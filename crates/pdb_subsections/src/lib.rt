@@ -1,10 +1,18 @@
-//! The debug subsections (C13) of a module's line data, and the rows that these hold. The kinds are those of
-//! microsoft-pdb's cvinfo.h (DEBUG_S_SUBSECTION_TYPE); LLVM's The Module Information Stream places them.
+//! The debug subsections (C13) of a module's line data: how they lie, what a row of lines is, and
+//! the types and ids that a module takes from other modules (`DEBUG_S_CROSSSCOPEIMPORTS`) and gives
+//! to them (`DEBUG_S_CROSSSCOPEEXPORTS`). Kinds and layouts are those of microsoft-pdb's cvinfo.h
+//! (DEBUG_S_SUBSECTION_TYPE), as the pdb crate reads them; LLVM's The Module Information Stream
+//! places them.
 #![tactic(auto)]
 
+mod exports;
+mod imports;
+pub mod laws;
 mod line_info;
 mod subsection;
 
+pub use exports::{CrossModuleExport, CrossModuleExportIter, CrossModuleExports};
+pub use imports::{CrossModuleImports, CrossModuleRef, ModuleRef};
 pub use line_info::{LineInfo, LineInfoKind};
 pub use subsection::{
     CROSS_MODULE_EXPORTS, CROSS_MODULE_IMPORTS, DebugSubsection, DebugSubsectionIterator,

@@ -2,11 +2,11 @@
 //! each function has: `pdb_symbolizer sizes FILE START END`.
 #![tactic(auto)]
 
+pub use pdb_arguments::{Task, TextOutput, WordsFault, read_words, tell_words};
 pub use pdb_report::{
     AtEnd, Error, LoadFault, RunFault, Symbolizer, Tally, Watched, finish_run, parse_address,
     read_file, run_frames, run_frames_ending, run_sizes,
 };
-pub use pdb_words::{Task, TextOutput, WordsFault, read_words, tell_words};
 use std::alloc::Global;
 use std::io::{self, ErrorKind, Write};
 use std::process::ExitCode;

@@ -1,1 +1,2 @@
+mod Annotating
 pub mod Lists

@@ -5,8 +5,8 @@ use Rattle.pdb_indices.specs.declared.index.IdIndex.{IdIndex}
 use Rattle.pdb_indices.specs.declared.index.TypeIndex.{TypeIndex}
 use Rattle.pdb_addresses.specs.declared.internal_section_offset.PdbInternalSectionOffset.{PdbInternalSectionOffset}
 use Rattle.pdb_indices.specs.declared.numbers.SymbolIndex.{SymbolIndex}
-use Rattle.pdb_annotations.specs.Annotations.{annotation_bytes}
-use Rattle.pdb_annotations.specs.declared.inline_site.InlineSiteSymbol.{InlineSiteSymbol}
+use Rattle.pdb_symbols.specs.Annotations.{annotation_bytes}
+use Rattle.pdb_symbols.specs.declared.inline_site.InlineSiteSymbol.{InlineSiteSymbol}
 use Rattle.pdb_symbols.specs.declared.symbol_data.PublicSymbol.{PublicSymbol}
 use Rattle.pdb_symbols.specs.declared.symbol_data.ProcedureSymbol.{ProcedureSymbol}
 use Rattle.pdb_symbols.specs.declared.symbol_data.ThunkSymbol.{ThunkSymbol}

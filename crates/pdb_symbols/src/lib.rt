@@ -1,7 +1,13 @@
-//! CodeView symbols of a program and of its modules: their lists, and what each symbol says. The layouts are those of
-//! microsoft-pdb's cvinfo.h and of LLVM's CodeView Symbol Records.
+//! CodeView symbols of a program and of its modules: their lists, what each symbol says, and the
+//! binary annotations of inline sites (`S_INLINESITE`), which say where an inlined call's code lies
+//! and of which lines it was made. The layouts are those of microsoft-pdb's cvinfo.h (for
+//! annotations BinaryAnnotationOpcode, as the pdb crate reads them) and of LLVM's CodeView Symbol
+//! Records.
 #![tactic(auto)]
 
+mod annotation;
+mod annotations;
+mod inline_site;
 pub mod kinds;
 pub mod laws;
 mod parse_symbol;
@@ -10,7 +16,9 @@ mod symbol_data;
 mod symbol_iter;
 mod symbol_table;
 
-pub use pdb_annotations::{BinaryAnnotations, InlineSiteSymbol};
+pub use annotation::BinaryAnnotation;
+pub use annotations::{BinaryAnnotations, BinaryAnnotationsIter};
+pub use inline_site::InlineSiteSymbol;
 pub use symbol::Symbol;
 pub use symbol_data::{
     ProcedureSymbol, PublicSymbol, SeparatedCodeSymbol, SymbolData, ThunkSymbol,

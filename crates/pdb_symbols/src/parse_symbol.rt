@@ -8,6 +8,8 @@ ghost use Rattle.pdb_symbols.specs.Forms as forms;
 ghost use Rattle.pdb_symbols.specs.Forms.{symbol_form, public_form, procedure_form, thunk_form, inline_site_form};
 ghost use Rattle.pdb_symbols.specs.Records.{index_of, symbol_name_at, name_behind as name_behind_front, inline_site_front, invocations_in as invocations_of, inline_site_in as inline_site_of_front, public_in as public_of_front, procedure_in as procedure_of_front, thunk_in as thunk_of_front, separated_code_in as separated_code_of_front, public_of, procedure_symbol_at, thunk_of, separated_code_of, inline_site_of, as_form, end_form, form_of, symbol_form_of};
 
+use crate::annotations::BinaryAnnotations;
+use crate::inline_site::InlineSiteSymbol;
 use crate::kinds::{
     S_END, S_INLINESITE_END, S_INLINESITE2, S_PROC_ID_END, has_form, is_dpc, is_global,
     is_inline_site, is_procedure, is_public, is_separated_code, is_thunk,
@@ -17,7 +19,6 @@ use crate::symbol_data::{
     ProcedureSymbol, PublicSymbol, SeparatedCodeSymbol, SymbolData, ThunkSymbol,
 };
 use pdb_addresses::PdbInternalSectionOffset;
-use pdb_annotations::{BinaryAnnotations, InlineSiteSymbol};
 use pdb_container::{Error, ParseBuffer, RawString, Result, half_at, word_at};
 use pdb_indices::{IdIndex, SymbolIndex, TypeIndex};
 

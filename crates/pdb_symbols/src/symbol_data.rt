@@ -1,7 +1,7 @@
 //! What a CodeView symbol says (`S_*`).
 
+use crate::inline_site::InlineSiteSymbol;
 use pdb_addresses::PdbInternalSectionOffset;
-use pdb_annotations::InlineSiteSymbol;
 use pdb_container::RawString;
 use pdb_indices::{SymbolIndex, TypeIndex};
 

@@ -1,5 +1,6 @@
 pub mod Arguments
 pub mod Brackets
+pub mod FlagTable
 pub mod FormNames
 pub mod Levels
 pub mod Names

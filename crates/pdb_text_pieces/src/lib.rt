@@ -1,8 +1,10 @@
-//! Pieces of the texts of types: names, pointers, brackets, what stands between arguments, and the indices on the way to a type.
+//! Pieces of the texts of types: names, pointers, brackets, what stands between arguments, the
+//! flags that say what is printed and how, and the indices on the way to a type.
 #![tactic(auto)]
 
 mod arguments;
 mod brackets;
+mod flags;
 mod levels;
 mod names;
 mod objects;
@@ -12,7 +14,9 @@ mod text;
 mod words;
 
 pub use arguments::{emit_comma, leaves_out_arguments};
+pub use bitflags::Flags;
 pub use brackets::{emit_brackets, first_or_zero};
+pub use flags::TypeFormatterFlags;
 pub use names::{
     class_word, emit_name, emit_named, emit_primitive, emit_string, emit_unhandled,
     emit_unhandled_id,

@@ -24,7 +24,7 @@ use pdb_items::{IdInformation, TypeInformation};
 use pdb_resolving::stop::{self, Stop};
 use pdb_resolving::{Error, ModuleProvider, Result};
 use pdb_symbols_modules::{DebugInformation, Module};
-use pdb_type_flags::TypeFormatterFlags;
+use pdb_text_pieces::TypeFormatterFlags;
 use std::alloc::Global;
 
 impl<'a, 's, P: ModuleProvider> TypeFormatter<'a, 's, P> {

@@ -3,7 +3,7 @@
 ghost use Rattle.std.specs.Prelude.{◌≡◌, ◌∷◌, [], Some, None, codes};
 ghost use Rattle.clap.specs.Words.{fault_of};
 ghost use Rattle.clap.specs.declared.error.kind.ErrorKind.TheVariants as kinds;
-ghost use Rattle.pdb_words.specs.Task.{IsTaken, program_app};
+ghost use Rattle.pdb_arguments.specs.Task.{IsTaken, program_app};
 ghost use Rattle.pdb_report_tests.specs.WordRows.{frames_words, sizes_words, told_of};
 
 /// `frames F` is a task.

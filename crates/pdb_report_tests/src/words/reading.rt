@@ -1,6 +1,6 @@
 //! Words behind the program's name, and what comes of them.
 
-use pdb_words::{Task, WordsFault, read_words};
+use pdb_arguments::{Task, WordsFault, read_words};
 use std::alloc::{AllocError, Global};
 use std::test::Fail;
 

@@ -1,6 +1,6 @@
 //! What is told where no task comes of words, to whom, and with which status.
 
-use pdb_words::{WordsFault, tell_words};
+use pdb_arguments::{WordsFault, tell_words};
 use std::alloc::{AllocError, Global};
 use std::io::{self, ErrorKind, Write};
 use std::test::Fail;

@@ -1,0 +1,69 @@
+//! A database with one function.
+
+ghost use Rattle.std.specs.Prelude.{◌≡◌, ◌≤◌, IfOk};
+ghost use Rattle.pdb_functions.specs.Databases.{IsOneRun, place_of};
+ghost use Rattle.pdb_addr2line_tests.specs.OneFunction.{one_function};
+
+use pdb_addresses::PdbInternalSectionOffset;
+use pdb_functions::{Function, FunctionRuns};
+use std::alloc::{AllocError, Global};
+
+/// The function f at offsets 0x10 to 0x30 of section 1, and how often it was asked for.
+#[derive(Drop)]
+pub(crate) struct OneFunction {
+    pub(crate) lookups: u64,
+}
+
+impl FunctionRuns for OneFunction {
+    ghost use Rattle.pdb_addr2line_tests.specs.OneFunction.{one_function};
+
+    ghost database = { λ _. one_function };
+
+    ghost lookups = { λ s. s.lookups };
+
+    fn run_at(
+        &mut self,
+        alloc: Global,
+        place: PdbInternalSectionOffset,
+        limit: u32,
+    ) -> Result<(Option<Function>, u32), AllocError> {
+        let answer = function_at(alloc, place)?;
+        let count = run_at(place, limit);
+        self.lookups = self.lookups.saturating_add(1);
+        Ok((answer, count))
+    }
+}
+
+/// The function at a place.
+fn function_at(
+    alloc: Global,
+    place: PdbInternalSectionOffset,
+) -> Result<Option<Function>, AllocError>
+    ensures { IfOk result (λ f. f ≡ one_function.function (place_of place)) }
+{
+    if place.section == 1 && (16 <= place.offset && place.offset < 48) {
+        let name = String::from_str(alloc, "f")?;
+        Ok(Some(Function {
+            start_rva: 0x1010,
+            end_rva: Some(0x1030),
+            name: Some(name),
+        }))
+    } else {
+        Ok(None)
+    }
+}
+
+/// How far its answer goes on.
+#[tactic(auto, using(crate::proofs::OneFunctionSteps::elsewhere, crate::proofs::OneFunctionSteps::behind, crate::proofs::OneFunctionSteps::before, crate::proofs::OneFunctionSteps::inside))]
+fn run_at(place: PdbInternalSectionOffset, limit: u32) -> u32
+    requires { 1 ≤ limit }
+    ensures { IsOneRun one_function (place_of place) limit result }
+{
+    if place.section != 1 || 48 <= place.offset {
+        return limit;
+    }
+    if place.offset < 16 {
+        return limit.min(16 - place.offset);
+    }
+    limit.min(48 - place.offset)
+}

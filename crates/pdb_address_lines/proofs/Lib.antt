@@ -1,2 +1,0 @@
-pub mod AddressLemmas
-pub mod Hex

@@ -1,2 +1,0 @@
-pub mod Annotations
-pub mod Numbers

@@ -1,0 +1,115 @@
+//! The command that the program's words are read by, with its help.
+
+ghost use Rattle.std.specs.Prelude.{◌≡◌, IfOk, false};
+ghost use Rattle.clap.specs.Words.{app_of, new_app, rule_of, with_subcommand};
+ghost use Rattle.clap.specs.declared.builder.command.Command.TheViews.{out-Command as fields_of};
+ghost use Rattle.pdb_arguments.specs.Task.{program_app, frames_app, sizes_app, bare_app, needed};
+
+use clap::{Arg, Command};
+use std::alloc::{AllocError, Global};
+
+const PROGRAM_ABOUT: &str =
+    "Tells the functions, source files and lines at addresses of a Windows program, by its program database (PDB).";
+
+const PROGRAM_EXAMPLES: &str = "\
+Examples:
+  echo 1018 | pdb_symbolizer frames program.pdb
+  pdb_symbolizer sizes program.pdb 1000 2000
+
+`pdb_symbolizer help frames` and `pdb_symbolizer help sizes` say what is read and written.
+The exit status is 0; 1 after a fault, which is told on standard error; 2 for wrong words.";
+
+const FRAMES_ABOUT: &str = "Tells the functions at each address that is read from standard input";
+
+const FRAMES_EXAMPLE: &str = "\
+Standard input has one address a line: image-relative (an RVA), in hexadecimal, one to eight
+digits, with or without 0x in front. For each line the address is written, and below it one line
+for each function there, NAME at FILE:LINE, from the innermost inlined call outwards. ?? stands
+for what isn't known, unreadable for what is damaged, and not an address for any other line.
+
+Example:
+  echo 1018 | pdb_symbolizer frames program.pdb";
+
+const SIZES_ABOUT: &str = "Counts the addresses of a range that each function owns";
+
+const SIZES_EXAMPLE: &str = "\
+Addresses are image-relative (RVAs), in hexadecimal, one to eight digits, with or without 0x in
+front. For each function that owns some, one line is written: the address where it starts, how
+many of the range are its own (in decimal), and its name. The last line is none and the count of
+those that no function owns.
+
+Example, the addresses 1000 to 1fff:
+  pdb_symbolizer sizes program.pdb 1000 2000";
+
+const FILE_HELP: &str = "The program database: a .pdb file, in a big MSF container";
+
+const START_HELP: &str = "The range's first address, in hexadecimal, such as 1000 or 0x1000";
+
+const END_HELP: &str =
+    "The address behind the range's last, which isn't counted, such as 2000 or 0x2000";
+
+/// A required word, with its help.
+fn needed_word<'a>(alloc: Global, name: &'a str, help: &'a str) -> Arg<'a>
+    ensures rule { rule_of result ≡ needed name.entry.now }
+    ensures local { result.global ≡ false }
+{
+    Arg::new(alloc, name).required(true).help(help)
+}
+
+/// A command of this name with its help, and no words yet.
+fn described<'a>(alloc: Global, name: &'a str, about: &'a str, end: &'a str) -> Command<'a>
+    ensures app { app_of result ≡ new_app name.entry.now }
+    ensures local { (fields_of result).has_globals ≡ false }
+{
+    Command::new(alloc, name).about(about).after_help(end)
+}
+
+/// The command `frames FILE`.
+fn frames_command<'a>(alloc: Global) -> Result<Command<'a>, AllocError>
+    ensures app { IfOk result (λ c. app_of c ≡ frames_app) }
+    ensures local { IfOk result (λ c. (fields_of c).has_globals ≡ false) }
+{
+    let file = needed_word(alloc, "FILE", FILE_HELP);
+    let frames = described(alloc, "frames", FRAMES_ABOUT, FRAMES_EXAMPLE).arg(file)?;
+    Ok(frames)
+}
+
+/// The command `sizes FILE START END`.
+fn sizes_command<'a>(alloc: Global) -> Result<Command<'a>, AllocError>
+    ensures app { IfOk result (λ c. app_of c ≡ sizes_app) }
+    ensures local { IfOk result (λ c. (fields_of c).has_globals ≡ false) }
+{
+    let bare = described(alloc, "sizes", SIZES_ABOUT, SIZES_EXAMPLE);
+    let with_file = bare.arg(needed_word(alloc, "FILE", FILE_HELP))?;
+    let with_start = with_file.arg(needed_word(alloc, "START", START_HELP))?;
+    let with_end = with_start.arg(needed_word(alloc, "END", END_HELP))?;
+    Ok(with_end)
+}
+
+/// The program's command, which requires a subcommand and has none yet. Its name is told in usage, and is
+/// no word.
+fn bare_command<'a>(alloc: Global) -> Result<Command<'a>, AllocError>
+    ensures app { IfOk result (λ c. app_of c ≡ bare_app) }
+    ensures local { IfOk result (λ c. (fields_of c).has_globals ≡ false) }
+{
+    described(alloc, "pdb_symbolizer", PROGRAM_ABOUT, PROGRAM_EXAMPLES)
+        .no_binary_name(true)
+        .subcommand_required(true)
+        .bin_name("pdb_symbolizer")
+}
+
+/// The program's command with `frames`.
+fn command_with_frames<'a>(alloc: Global) -> Result<Command<'a>, AllocError>
+    ensures app { IfOk result (λ c. app_of c ≡ with_subcommand bare_app frames_app.top) }
+{
+    let frames = frames_command(alloc)?;
+    bare_command(alloc)?.subcommand(frames)
+}
+
+/// The program's command, with `frames` and `sizes`.
+pub(crate) fn program<'a>(alloc: Global) -> Result<Command<'a>, AllocError>
+    ensures app { IfOk result (λ c. app_of c ≡ program_app) }
+{
+    let sizes = sizes_command(alloc)?;
+    command_with_frames(alloc)?.subcommand(sizes)
+}

@@ -1,0 +1,51 @@
+//! Tasks of the program, and why none comes of its words.
+
+use std::alloc::AllocError;
+use thiserror::Error;
+
+/// A task of the program.
+#[derive(Debug, Drop, PartialEq)]
+pub enum Task {
+    /// Answers addresses that are read from the standard input.
+    Frames {
+        /// The program database's file.
+        file: String,
+    },
+    /// Counts the addresses that each function owns in a range.
+    Sizes {
+        /// The program database's file.
+        file: String,
+        /// The range's first address.
+        start: u32,
+        /// The address behind the range's last.
+        end: u32,
+    },
+}
+
+/// Why no task comes of the words. `Words` and `Help` print what they hold, any other its name.
+#[derive(Debug, Drop, PartialEq, Error)]
+pub enum WordsFault {
+    /// START or END is no address.
+    #[error("NotAnAddress")]
+    NotAnAddress,
+    /// The words are no command, for the cause in this text.
+    #[error("{0}")]
+    Words(String),
+    /// The words ask for help, which is this text.
+    #[error("{0}")]
+    Help(String),
+    /// Out of memory.
+    #[error("OutOfMemory")]
+    OutOfMemory,
+}
+
+impl From<AllocError> for WordsFault {
+    ghost use Rattle.std.specs.Prelude.{◌≡◌};
+    ghost use Rattle.pdb_arguments.specs.declared.task.WordsFault.TheVariants as faults;
+
+    ghost from_gives = { λ cause e. e ≡ faults.OutOfMemory };
+
+    fn from(_error: AllocError) -> WordsFault {
+        WordsFault::OutOfMemory
+    }
+}

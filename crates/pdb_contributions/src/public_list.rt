@@ -1,0 +1,199 @@
+//! The public list in order, and looking up in it.
+
+ghost use Rattle.std.specs.Prelude.{◌≡◌, ◌++◌, IfOk, OnOk, length, option_map, slice_get};
+ghost use Rattle.pdb_contributions.specs.Publics.{placeholders, section_ends, publics_among, public_exactly, public_over, next_public, is_at as at_place, is_before as comes_before, last_at_or_before as last_before, last_of as last_of_list, Rises, IsSplit};
+
+use crate::public_entries::{PublicFunction, push_placeholders, push_section_ends};
+use pdb_addresses::{ImageSectionHeader, PdbInternalSectionOffset};
+use std::alloc::{AllocError, Global};
+use std::marker::Model;
+
+/// The public list: public symbols, and placeholders where contributions begin and where sections end, by their places, one
+/// entry a place.
+#[derive(Debug, Drop)]
+pub struct PublicList<'s> {
+    functions: Vec<PublicFunction<'s>>,
+}
+
+impl<'s> Model for PublicList<'s> {
+    ghost use Rattle.std.specs.Prelude.{List};
+    ghost use Rattle.pdb_contributions.specs.Publics as publics;
+    ghost use Rattle.pdb_contributions.specs.Publics.{Rises};
+
+    ghost Value = { List publics.PublicFunction };
+
+    ghost view = { λ l. l.functions.items };
+
+    // Places ascend.
+    ghost invariant = { λ l. Rises l.functions.items };
+}
+
+/// Brings entries into the order of their places, one a place: a named one before a placeholder, and then the first.
+fn sort_and_dedup(functions: &mut Vec<PublicFunction<'_>>) -> Result<(), AllocError>
+    ensures { OnOk result (functions.new.items ≡ publics_among functions.old.items) }
+{
+    functions.sort_by_key(|f: &PublicFunction<'_>| {
+        (
+            f.start_offset.section,
+            f.start_offset.offset,
+            f.name.is_none(),
+        )
+    })?;
+    functions.dedup_by_key(|f: &mut PublicFunction<'_>| f.start_offset);
+    Ok(())
+}
+
+/// Whether a place comes before another one, by section and offset.
+fn is_before(place: PdbInternalSectionOffset, other: PdbInternalSectionOffset) -> bool
+    ensures { result ≡ comes_before place other }
+{
+    place.section < other.section || (place.section == other.section && place.offset < other.offset)
+}
+
+/// Whether an entry begins at a place.
+fn is_at(place: PdbInternalSectionOffset, function: &PublicFunction<'_>) -> bool
+    ensures { result ≡ at_place place function.now }
+{
+    function.start_offset.section == place.section && function.start_offset.offset == place.offset
+}
+
+/// How many entries of a list in order begin at a place or before it, in its section or in one before. It halves.
+fn count_up_to(functions: &[PublicFunction<'_>], place: PdbInternalSectionOffset) -> usize
+    requires { Rises functions.now }
+    ensures { IsSplit functions.now place result }
+{
+    functions.partition_point(|f| !is_before(place, f.start_offset))
+}
+
+/// The entry of a number in a list, counted from 0.
+fn entry_at<'f, 's>(
+    functions: &'f [PublicFunction<'s>],
+    number: usize,
+) -> Option<&'f PublicFunction<'s>>
+    ensures { option_map (λ f. f.now) result ≡ slice_get functions.now number }
+{
+    functions.get(number)
+}
+
+/// The last of so many entries of a list.
+fn last_of<'f, 's>(
+    functions: &'f [PublicFunction<'s>],
+    count: usize,
+) -> Option<&'f PublicFunction<'s>>
+    ensures { option_map (λ f. f.now) result ≡ last_of_list functions.now count }
+{
+    if count == 0 {
+        return None;
+    }
+    entry_at(functions, count - 1)
+}
+
+/// The last entry of a list in order at a place or before it, in its section.
+#[tactic(auto, using(crate::proofs::Lookup::last_found, crate::proofs::Lookup::last_other, crate::proofs::Lookup::last_nothing))]
+fn last_at_or_before<'f, 's>(
+    functions: &'f [PublicFunction<'s>],
+    place: PdbInternalSectionOffset,
+) -> Option<&'f PublicFunction<'s>>
+    requires { Rises functions.now }
+    ensures { option_map (λ f. f.now) result ≡ last_before functions.now place }
+{
+    let Some(last) = last_of(functions, count_up_to(functions, place)) else {
+        return None;
+    };
+    if last.start_offset.section != place.section {
+        return None;
+    }
+    Some(last)
+}
+
+/// The entry of a list in order at exactly a place.
+#[tactic(auto, using(crate::proofs::Lookup::exactly_found, crate::proofs::Lookup::exactly_other, crate::proofs::Lookup::exactly_nothing))]
+fn exactly_at<'f, 's>(
+    functions: &'f [PublicFunction<'s>],
+    place: PdbInternalSectionOffset,
+) -> Option<&'f PublicFunction<'s>>
+    requires { Rises functions.now }
+    ensures { option_map (λ f. f.now) result ≡ public_exactly functions.now place }
+{
+    let Some(last) = last_of(functions, count_up_to(functions, place)) else {
+        return None;
+    };
+    if is_at(place, last) { Some(last) } else { None }
+}
+
+/// The next entry of a list in order behind a place, in its section.
+#[tactic(auto, using(crate::proofs::Lookup::next_found, crate::proofs::Lookup::next_other, crate::proofs::Lookup::next_nothing))]
+fn first_behind<'f, 's>(
+    functions: &'f [PublicFunction<'s>],
+    place: PdbInternalSectionOffset,
+) -> Option<&'f PublicFunction<'s>>
+    requires { Rises functions.now }
+    ensures { option_map (λ f. f.now) result ≡ next_public functions.now place }
+{
+    let Some(next) = entry_at(functions, count_up_to(functions, place)) else {
+        return None;
+    };
+    if next.start_offset.section != place.section {
+        return None;
+    }
+    Some(next)
+}
+
+impl<'s> PublicList<'s> {
+    /// The public list of public symbols, of the places where contributions begin, and of the sections' ends. Of one place
+    /// a named entry counts before a placeholder, and then the first.
+    #[tactic(auto, using(crate::proofs::Lookup::rises))]
+    pub fn new(
+        mut functions: Vec<PublicFunction<'s>>,
+        starts: &[PdbInternalSectionOffset],
+        sections: &[ImageSectionHeader],
+    ) -> Result<PublicList<'s>, AllocError>
+        ensures { IfOk result (λ l. l ≡ publics_among (functions.entry.items ++ placeholders starts.now ++ section_ends sections.now)) }
+    {
+        push_placeholders(&mut functions, starts)?;
+        push_section_ends(&mut functions, sections)?;
+        sort_and_dedup(&mut functions)?;
+        Ok(PublicList { functions })
+    }
+
+    /// How many entries it has.
+    pub fn len(&self) -> usize
+        ensures { result ≡ length self.now }
+    {
+        self.functions.len()
+    }
+
+    /// The entries by their places.
+    pub fn as_slice(&self) -> &[PublicFunction<'s>]
+        ensures { result.now ≡ self.now }
+    {
+        self.functions.as_slice()
+    }
+
+    /// The entry at exactly a place.
+    pub fn exactly(&self, place: PdbInternalSectionOffset) -> Option<&PublicFunction<'s>>
+        ensures { option_map (λ f. f.now) result ≡ public_exactly self.now place }
+    {
+        exactly_at(&self.functions, place)
+    }
+
+    /// The entry of a place: the last one at the place or before it, in its section; `None` where that one lies before
+    /// `start`, at which the contribution begins that holds the place.
+    pub fn over(&self, start: u32, place: PdbInternalSectionOffset) -> Option<&PublicFunction<'s>>
+        ensures { option_map (λ f. f.now) result ≡ public_over self.now start place }
+    {
+        let found = last_at_or_before(&self.functions, place)?;
+        if found.start_offset.offset < start {
+            return None;
+        }
+        Some(found)
+    }
+
+    /// The next entry behind a place, in its section.
+    pub fn next_behind(&self, place: PdbInternalSectionOffset) -> Option<&PublicFunction<'s>>
+        ensures next { option_map (λ f. f.now) result ≡ next_public self.now place }
+        ensures rises { Rises self.now }
+    {
+        first_behind(&self.functions, place)
+    }
+}

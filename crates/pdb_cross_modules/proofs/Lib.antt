@@ -1,4 +1,0 @@
-pub mod Chunks
-pub mod ExportSteps
-pub mod FirstExports
-pub mod ImportSteps

@@ -1,0 +1,55 @@
+//! The address that stands in a line.
+
+ghost use Rattle.std.specs.Prelude.{◌≡◌, ◌<◌, IfSome};
+ghost use Rattle.pdb_engine.specs.Address.{address_of, digit_of, without_return, without_prefix};
+
+/// The value of a hexadecimal digit.
+fn digit(byte: u8) -> Option<u32>
+    ensures value { result ≡ digit_of byte }
+    ensures small { IfSome result (λ d. d < 16) }
+{
+    match byte {
+        b'0'..=b'9' => Some(u32::from(byte - b'0')),
+        b'a'..=b'f' => Some(u32::from(byte - b'a') + 10),
+        b'A'..=b'F' => Some(u32::from(byte - b'A') + 10),
+        _ => None,
+    }
+}
+
+/// The line without a carriage return at its end.
+fn strip_return(line: &[u8]) -> &[u8]
+    ensures { result.now ≡ without_return line.now }
+{
+    if !line.is_empty() && line[line.len() - 1] == b'\r' {
+        &line[..line.len() - 1]
+    } else {
+        line
+    }
+}
+
+/// The line without `0x` or `0X` at its front.
+fn strip_hex_prefix(line: &[u8]) -> &[u8]
+    ensures { result.now ≡ without_prefix line.now }
+{
+    if line.len() >= 2 && line[0] == b'0' && (line[1] == b'x' || line[1] == b'X') {
+        &line[2..]
+    } else {
+        line
+    }
+}
+
+/// The address that a line stands for, and None if it stands for none: one carriage return at the end
+/// is dropped, then `0x` or `0X` at the front, and one to eight hexadecimal digits have to be left.
+pub fn parse_address(line: &[u8]) -> Option<u32>
+    ensures { result ≡ address_of line.now }
+{
+    let digits = strip_hex_prefix(strip_return(line));
+    if digits.is_empty() || digits.len() > 8 {
+        return None;
+    }
+    let mut value = 0u32;
+    for byte in digits {
+        value = value * 16 + digit(*byte)?;
+    }
+    Some(value)
+}

@@ -1,2 +1,0 @@
-pub mod Consumed
-pub mod OtherFronts

@@ -1,0 +1,22 @@
+use Rattle.std.proofs.Common.{◌≡◌, ◌-◌, ◌<◌, ◌≤◌, true}
+use Rattle.pdb_functions.specs.Counts.{answer_at, begins}
+use Rattle.pdb_functions.specs.Table.{IsCounted, IsWithin}
+use Rattle.pdb_functions.proofs.sizes.count_range.Given as goal
+
+-- the addresses before this one are counted, and it begins a piece
+abbrev pub invariant-loop-address : goal.invariant-loop-address
+invariant-loop-address g l =
+    let database = g.R.FunctionRuns.database in
+    let lookups = g.R.FunctionRuns.lookups in
+    let start = l.fn.range.start.0 in
+    record {
+      low : start ≤ l.address;
+      high : l.address - start ≤ l.end - start;
+      counted : IsCounted (answer_at l.map.internal (database l.fn.runs)) start (l.address - start) l.fn.counts l.counts;
+      within : IsWithin (begins l.map.internal (database l.fn.runs) start) start (l.address - start) (lookups l.fn.runs) (lookups l.runs);
+      next : l.address < l.end → begins l.map.internal (database l.fn.runs) start l.address ≡ true;
+      same : database l.runs ≡ database l.fn.runs;
+    }
+
+abbrev pub decreases-loop-address : goal.decreases-loop-address
+decreases-loop-address g l = l.end - l.address

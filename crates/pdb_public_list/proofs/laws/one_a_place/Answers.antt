@@ -1,8 +1,0 @@
-use Rattle.pdb_public_list.proofs.OnePlace.{places_rise, given_stand}
-use Rattle.pdb_public_list.proofs.laws.one_a_place.Goals as goal
-
-pub returns-clause-rising : goal.returns-clause-rising
-returns-clause-rising c = places_rise
-
-pub returns-clause-named : goal.returns-clause-named
-returns-clause-named c = given_stand

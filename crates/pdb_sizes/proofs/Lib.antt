@@ -1,7 +1,0 @@
-pub mod CountLemmas
-pub mod HowMany
-pub mod PlaceLemmas
-pub mod RangeLemmas
-pub mod RangeSums
-pub mod TableLemmas
-pub mod UniqueLemmas

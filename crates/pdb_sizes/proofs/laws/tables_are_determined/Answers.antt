@@ -1,5 +1,0 @@
-use Rattle.pdb_sizes.proofs.UniqueLemmas.{table_unique}
-use Rattle.pdb_sizes.proofs.laws.tables_are_determined.Goals as goal
-
-pub returns : goal.returns
-returns c = table_unique

@@ -1,4 +1,0 @@
-pub mod Counts
-pub mod Report
-pub mod Table
-pub mod Texts
