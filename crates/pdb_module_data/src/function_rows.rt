@@ -172,8 +172,7 @@ fn read_rows(
             line_start: row.line_start,
         })?;
     }
-    rows.shrink_to_fit();
-    Ok(rows)
+    Ok(Vec::from_slice(alloc, rows.as_slice())?)
 }
 
 impl FunctionRows {

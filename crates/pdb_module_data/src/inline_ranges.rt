@@ -85,9 +85,8 @@ fn rows_and_spans<'a>(
         push_site(&mut rows, &mut spans, number, site, inlinees, start)?;
     }
     starts.push(rows.len())?;
-    rows.shrink_to_fit();
     Ok(RowsAndSpans {
-        rows,
+        rows: Vec::from_slice(alloc, rows.as_slice())?,
         starts,
         spans,
     })

@@ -218,8 +218,9 @@ impl<'t> InlineSites<'t> {
         ensures { Reads (λ s. s) result (sites_of symbols.entry.bytes procedure.now.symbol_index.0 procedure.now.end_symbol_index.0) }
     {
         symbols.skip_to(procedure.symbol_index)?;
-        let mut sites = scan_sites(alloc, symbols, procedure.end_symbol_index.0)?;
-        sites.shrink_to_fit();
+        let mut found = scan_sites(alloc, symbols, procedure.end_symbol_index.0)?;
+        let mut sites = Vec::with_capacity(alloc, found.len())?;
+        sites.append(&mut found)?;
         Ok(InlineSites { sites })
     }
 

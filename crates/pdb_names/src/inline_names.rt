@@ -47,7 +47,7 @@ impl InlineNames {
             return share_name(name);
         }
         let name = inlinee_name(alloc, formatter, usize::from(module_index), inlinee)?;
-        let name = shared_name(name)?;
+        let name = shared_name(alloc, &name)?;
         let kept = share_name(&name)?;
         self.by_id.insert(alloc, module_index, inlinee.0, kept)?;
         Ok(name)

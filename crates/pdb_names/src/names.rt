@@ -102,15 +102,17 @@ pub fn shared_raw_name(
     ArcStr::from_string(name)
 }
 
-/// A name that may be missing, to be shared; it takes no more room than it needs.
-pub fn shared_name(name: Option<String>) -> std::result::Result<Option<ArcStr>, AllocError>
-    ensures { IfOk result (λ n. option_map arc_str_bytes n ≡ option_map string_bytes name) }
+/// A name that may be missing, copied to be shared: the copy takes no more room than it needs.
+pub fn shared_name(
+    alloc: Global,
+    name: &Option<String>,
+) -> std::result::Result<Option<ArcStr>, AllocError>
+    ensures { IfOk result (λ n. option_map arc_str_bytes n ≡ option_map string_bytes name.now) }
 {
     match name {
         None => Ok(None),
-        Some(mut name) => {
-            name.shrink_to_fit();
-            let name = ArcStr::from_string(name)?;
+        Some(name) => {
+            let name = ArcStr::from_str(alloc, name.as_str())?;
             Ok(Some(name))
         }
     }

@@ -74,7 +74,7 @@ impl<'a> TypedNames<'a> {
             }
         }
         let text = typed_name(alloc, formatter, usize::from(module_index), procedure)?;
-        let text = shared_name(text)?;
+        let text = shared_name(alloc, &text)?;
         let name = TypedName {
             raw: procedure.name,
             type_index: procedure.type_index,

@@ -69,8 +69,11 @@ fn bytes_of(rt: &(impl fs::Files + AllocGlobal), file: &str) -> io::Result<Vec<u
 /// # Errors
 /// `OutOfMemory`, and another kind where a word is no text.
 fn given_words(rt: &(impl Env + AllocGlobal)) -> io::Result<Vec<String>> {
-    let all = env::args(rt)?;
-    Ok(all.skip(1).collect(rt.alloc())?)
+    let mut words = Vec::new(rt.alloc());
+    for word in env::args(rt)?.skip(1) {
+        words.push(word)?;
+    }
+    Ok(words)
 }
 
 /// Writes the report on a range; how much was looked up for it isn't told.
