@@ -114,17 +114,17 @@ fn frames_unless_known<'a, P: ModuleProvider>(
     namer: &mut Namer<'a, '_, P>,
     failed: &mut Failures,
     known_failures: &mut KnownFailures,
-    module_index: u16,
+    contribution: ModuleSectionContribution,
     known: Option<&BasicModuleInfo<'_, P::Info>>,
     chosen: Chosen<'_, 'a>,
     failing: Option<Part>,
     place: PdbInternalSectionOffset,
 ) -> Result<Option<SharedFunctionFrames<'a>>>
-    requires failing { IfSome failing (λ part. failing_in_module module_index (option_copied known) (chosen_seen chosen) ≡ Some part) }
+    requires failing { IfSome failing (λ part. failing_in_module contribution.module_index (option_copied known) (chosen_seen chosen) ≡ Some part) }
     ensures same { namer.new ≡ namer.old }
-    ensures failed { failed.new ≡ failed_after (failing_in_module module_index (option_copied known.entry) (chosen_seen chosen.entry)) result failed.old }
-    ensures known { (own : ℕ → Option ModuleData) → own module_index ≡ option_copied known.entry → AreFailuresOf own known_failures.old → AreFailuresOf own known_failures.new }
-    ensures frames { Answers (λ f. f) result (told failed.old (failing_in_module module_index (option_copied known.entry) (chosen_seen chosen.entry)) (frames_of_chosen parts.now (env_of P.provided namer.old module_index) (option_copied known.entry) place (Some (chosen_seen chosen.entry)))) }
+    ensures failed { failed.new ≡ failed_after (failing_in_module contribution.module_index (option_copied known.entry) (chosen_seen chosen.entry)) result failed.old }
+    ensures known { (own : ℕ → Option ModuleData) → own contribution.module_index ≡ option_copied known.entry → AreFailuresOf own known_failures.old → AreFailuresOf own known_failures.new }
+    ensures frames { Answers (λ f. f) result (told failed.old (failing_in_module contribution.module_index (option_copied known.entry) (chosen_seen chosen.entry)) (frames_of_chosen parts.now (env_of P.provided namer.old contribution.module_index) (option_copied known.entry) place (Some (chosen_seen chosen.entry)))) }
 {
     match failing {
         Some(part) if failed.has(part) => {
@@ -138,7 +138,7 @@ fn frames_unless_known<'a, P: ModuleProvider>(
                 namer,
                 failed,
                 known_failures,
-                module_index,
+                contribution.module_index(),
                 known,
                 chosen,
                 place,
@@ -159,8 +159,8 @@ fn keep_public_entry<'a, I: ModuleTables>(
 ) -> std::result::Result<(), AllocError>
     ensures { kept.new ≡ kept.old }
 {
-    let module_index = contribution.module_index;
-    match parts.publics.over(contribution.start_offset, place) {
+    let module_index = contribution.module_index();
+    match parts.publics.over(contribution.start_offset(), place) {
         Some(public) if !failed.has(Part::ProcedureLines(module_index, public.start_offset)) => {
             keep_public_rows(alloc, kept, usize::from(module_index), public.start_offset)
         }
@@ -199,16 +199,16 @@ fn keep_parts<'a, I: ModuleTables>(
 ) -> std::result::Result<(), AllocError>
     ensures { kept.new ≡ kept.old }
 {
-    if failed.has(Part::ExtendedModule(contribution.module_index)) {
+    if failed.has(Part::ExtendedModule(contribution.module_index())) {
         return Ok(());
     }
-    let module_index = usize::from(contribution.module_index);
+    let module_index = usize::from(contribution.module_index());
     keep_lines(alloc, kept, module_index)?;
     let Some(number) = number else {
         return keep_public_entry(alloc, kept, parts, failed, contribution, place);
     };
     let known = known_at(kept, module_index);
-    if stands_in_part(failed, known, number, contribution.module_index) {
+    if stands_in_part(failed, known, number, contribution.module_index()) {
         return Ok(());
     }
     keep_procedure(alloc, kept, module_index, number)
@@ -235,7 +235,7 @@ fn frames_at<'a, P: ModuleProvider>(
     ensures failed { failed.new ≡ failed_after (failing_at parts.now (scope_of P.provided provider.now namer.old contribution.module_index) contribution place) result failed.old }
     ensures frames { Answers (λ f. f) result (told failed.old (failing_at parts.now (scope_of P.provided provider.now namer.old contribution.module_index) contribution place) (frames_at_place parts.now (scope_of P.provided provider.now namer.old contribution.module_index) contribution place)) }
 {
-    let module_index = usize::from(contribution.module_index);
+    let module_index = usize::from(contribution.module_index());
     keep_module(alloc, kept, provider, namer.modules(), module_index)?;
     let number = number_over(known_at(kept, module_index), place);
     keep_parts(alloc, kept, parts, failed, number, contribution, place)?;
@@ -243,14 +243,14 @@ fn frames_at<'a, P: ModuleProvider>(
     match choose(parts, known, number, contribution, place) {
         None => Ok(None),
         Some(chosen) => {
-            let failing = known_failures.part(contribution.module_index, chosen);
+            let failing = known_failures.part(contribution.module_index(), chosen);
             frames_unless_known(
                 alloc,
                 parts,
                 namer,
                 failed,
                 known_failures,
-                contribution.module_index,
+                contribution,
                 known,
                 chosen,
                 failing,
@@ -302,13 +302,13 @@ fn function_at<'a, P: ModuleProvider>(
     ensures same { namer.new ≡ namer.old }
     ensures function { Answers (λ f. f) result (Ok (function_at_contribution parts.now (scope_of P.provided provider.now namer.old contribution.module_index) contribution place)) }
 {
-    let module_index = usize::from(contribution.module_index);
+    let module_index = usize::from(contribution.module_index());
     keep_module(alloc, kept, provider, namer.modules(), module_index)?;
     let known = known_at(kept, module_index);
     let number = number_over(known, place);
     match choose(parts, known, number, contribution, place) {
         None => Ok(None),
-        Some(chosen) => function_of(alloc, parts, namer, contribution.module_index, chosen),
+        Some(chosen) => function_of(alloc, parts, namer, contribution.module_index(), chosen),
     }
 }
 
@@ -385,7 +385,7 @@ fn run_at<'a, P: ModuleProvider>(
     ensures function { Answers (λ run. run.0) result (Ok (function_at_contribution parts.now (scope_of P.provided provider.now namer.old contribution.module_index) contribution place)) }
     ensures count { IfOk result (λ run. run.1 ≡ up_to_next (bounds_near parts.now (procedures_of (scope_of P.provided provider.now namer.old) (Some contribution)) place) place.offset limit) }
 {
-    let module_index = usize::from(contribution.module_index);
+    let module_index = usize::from(contribution.module_index());
     keep_module(alloc, kept, provider, namer.modules(), module_index)?;
     let known = known_at(kept, module_index);
     let count = to_next_bound(parts, known, place, limit);
@@ -393,7 +393,7 @@ fn run_at<'a, P: ModuleProvider>(
     match choose(parts, known, number, contribution, place) {
         None => Ok((None, count)),
         Some(chosen) => {
-            let function = function_of(alloc, parts, namer, contribution.module_index, chosen)?;
+            let function = function_of(alloc, parts, namer, contribution.module_index(), chosen)?;
             Ok((function, count))
         }
     }

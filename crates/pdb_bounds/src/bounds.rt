@@ -114,9 +114,9 @@ fn contribution_numbers_of(
 {
     let mut numbers = Vec::new(alloc);
     for contribution in contributions {
-        let start = u64::from(contribution.start_offset);
-        let end = u64::from(contribution.end_offset);
-        push_bounds(&mut numbers, contribution.section_index, start, end)?;
+        let start = u64::from(contribution.start_offset());
+        let end = u64::from(contribution.end_offset());
+        push_bounds(&mut numbers, contribution.section_index(), start, end)?;
     }
     Ok(numbers)
 }

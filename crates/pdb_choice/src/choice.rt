@@ -39,7 +39,7 @@ pub fn choose<'c, 'a, I: ModuleTables>(
             return Some(Chosen::Procedure(number, procedure));
         }
     }
-    match parts.publics.over(contribution.start_offset, place) {
+    match parts.publics.over(contribution.start_offset(), place) {
         None => None,
         Some(public) => Some(Chosen::Public(public)),
     }

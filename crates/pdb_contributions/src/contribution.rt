@@ -11,13 +11,43 @@ use pdb_symbols_modules::DBISectionContribution;
 #[derive(Clone, Copy, Debug, PartialEq, Eq, PartialOrd, Ord)]
 pub struct ModuleSectionContribution {
     /// The section's number, counted from 1.
-    pub section_index: u16,
+    pub(crate) section_index: u16,
     /// The offset at which it begins, in bytes.
-    pub start_offset: u32,
+    pub(crate) start_offset: u32,
     /// The offset at which it ends, in bytes; the byte there isn't held.
-    pub end_offset: u32,
+    pub(crate) end_offset: u32,
     /// The module's number, counted from 0.
-    pub module_index: u16,
+    pub(crate) module_index: u16,
+}
+
+impl ModuleSectionContribution {
+    /// The section's number, counted from 1.
+    pub fn section_index(self) -> u16
+        ensures { result ≡ self.section_index }
+    {
+        self.section_index
+    }
+
+    /// The offset at which it begins, in bytes.
+    pub fn start_offset(self) -> u32
+        ensures { result ≡ self.start_offset }
+    {
+        self.start_offset
+    }
+
+    /// The offset at which it ends, in bytes; the byte there isn't held.
+    pub fn end_offset(self) -> u32
+        ensures { result ≡ self.end_offset }
+    {
+        self.end_offset
+    }
+
+    /// The module's number, counted from 0.
+    pub fn module_index(self) -> u16
+        ensures { result ≡ self.module_index }
+    {
+        self.module_index
+    }
 }
 
 /// Whether the number is that of a section in which code may run (`IMAGE_SCN_MEM_EXECUTE`).
