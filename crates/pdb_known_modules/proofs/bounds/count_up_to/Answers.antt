@@ -1,7 +1,7 @@
 use Rattle.std.proofs.Common.{rules, leb, get_or}
 use Rattle.std.proofs.lemmas.Bool.{leb-true, leb-false}
 use Rattle.std.proofs.lemmas.List.Sorted.{IsPartitionPoint-from_clause, IsPartitionedBy-leb, IsNonDecreasingBy-from_sort}
-use Rattle.pdb_bounds.proofs.bounds.count_up_to.Goals as goal
+use Rattle.pdb_known_modules.proofs.bounds.count_up_to.Goals as goal
 
 pub returns-clause-low : goal.returns-clause-low
 returns-clause-low c = λ k d low high.

@@ -13,9 +13,9 @@ use Rattle.pdb_addresses.specs.SectionRun.{nearer, up_to_next}
 use Rattle.pdb_addresses.specs.declared.internal_section_offset.PdbInternalSectionOffset.{PdbInternalSectionOffset}
 use Rattle.pdb_contributions.specs.declared.contribution.ModuleSectionContribution.{ModuleSectionContribution}
 use Rattle.pdb_module_data.specs.Procedures.{Procedure}
-use Rattle.pdb_bounds.specs.Bounds.{bound_number, numbers_of, contribution_numbers, procedure_numbers, AreContributionBounds, AreProcedureBounds}
-use Rattle.pdb_bounds.specs.SectionBounds.{if_there, contribution_bounds, procedure_bounds}
-use Rattle.pdb_bounds.proofs.NextBounds.{last_asked}
+use Rattle.pdb_known_modules.specs.Bounds.{bound_number, numbers_of, contribution_numbers, procedure_numbers, AreContributionBounds, AreProcedureBounds}
+use Rattle.pdb_known_modules.specs.SectionBounds.{if_there, contribution_bounds, procedure_bounds}
+use Rattle.pdb_known_modules.proofs.NextBounds.{last_asked}
 
 past : (x b far : ℕ) → x < b → nearer x b far ≡ min far (b - x)
 past x b far lt = rw (lt-ltb x b lt) refl

@@ -6,7 +6,7 @@ use Rattle.std.proofs.lemmas.Bool.Decides.{eqb_tells}
 use Rattle.std.proofs.lemmas.List.{length-set, get_or-set_same, get_or-set_other}
 use Rattle.std.proofs.lemmas.Option.{slice_get_past, slice_get_within, slice_get-get_or}
 use Rattle.pdb_known_modules.specs.Modules.{ModuleData}
-use Rattle.pdb_kept_modules.specs.Kept.{AreKept, known_in, known_of, is_empty}
+use Rattle.pdb_known_modules.specs.Kept.{AreKept, known_in, known_of, is_empty}
 
 abbrev Places : Type 0
 Places = List (Option (Option ModuleData))

@@ -1,11 +1,11 @@
 //! What is kept of modules that were asked for.
 
 ghost use Rattle.std.specs.Prelude.{◌≡◌, IfOk, option_copied, replicate, None, slice_get};
-ghost use Rattle.pdb_kept_modules.specs.Kept.{AreKept, known_in, is_empty as is_empty_place};
+ghost use Rattle.pdb_known_modules.specs.Kept.{AreKept, known_in, is_empty as is_empty_place};
 ghost use Rattle.pdb_known_modules.specs.Modules.{module_data, own_of};
 
+use crate::modules::{BasicModuleInfo, get_basic_module_info};
 use pdb_addresses::PdbInternalSectionOffset;
-use pdb_known_modules::{BasicModuleInfo, get_basic_module_info};
 use pdb_resolving::{ModuleProvider, ModuleTables};
 use pdb_symbols_modules::Module;
 use std::alloc::{AllocError, Global};

@@ -5,7 +5,7 @@ ghost use Rattle.std.specs.List.{AllWithin, flat_map};
 ghost use Rattle.std.specs.List.Sorted.{IsPermutation, IsSorted};
 ghost use Rattle.std.specs.Ordering.{nat_cmp};
 ghost use Rattle.pdb_addresses.specs.SectionRun.{nearer as nearer_of, up_to_next};
-ghost use Rattle.pdb_bounds.specs.Bounds.{bound_number as number_of_bound, numbers_of, contribution_numbers, procedure_numbers, AreContributionBounds, AreProcedureBounds};
+ghost use Rattle.pdb_known_modules.specs.Bounds.{bound_number as number_of_bound, numbers_of, contribution_numbers, procedure_numbers, AreContributionBounds, AreProcedureBounds};
 
 use pdb_addresses::PdbInternalSectionOffset;
 use pdb_contributions::ModuleSectionContribution;
