@@ -1,7 +1,7 @@
 //! The parts of modules that stand as failed since they were asked for.
 
 ghost use Rattle.std.specs.Prelude.{◌≡◌, OnErr, OnOk};
-ghost use Rattle.pdb_failed_parts.specs.Failures.{has_failed, no_failures, number_of as number_at, with_failed};
+ghost use Rattle.pdb_resolving.specs.Failures.{has_failed, no_failures, number_of as number_at, with_failed};
 
 use crate::failed_parts::FailedParts;
 use pdb_addresses::PdbInternalSectionOffset;
@@ -28,7 +28,7 @@ pub struct Failures {
 }
 
 impl Model for Failures {
-    ghost use Rattle.pdb_failed_parts.specs.Failures as failures;
+    ghost use Rattle.pdb_resolving.specs.Failures as failures;
 
     ghost Value = { failures.Failures };
 

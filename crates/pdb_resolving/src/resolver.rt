@@ -9,14 +9,16 @@ ghost use Rattle.pdb_resolving.specs.Fault.{Answers, lifted, LocalIndexNotInExpo
 ghost use Rattle.pdb_resolving.specs.KeptTables.{export_of as module_export, import_of as module_import, numbered, resolved_by_steps};
 ghost use Rattle.pdb_resolving.specs.Resolving.{resolve, none_failed, modules_by, with_failed};
 
+use crate::error::{Error, Result};
+use crate::failed_parts::FailedParts;
+use crate::kept_tables::{KeptExports, KeptImports, keep_exports, keep_imports};
+use crate::module_exports::ModuleExports;
+use crate::module_names::ModuleNames;
+use crate::provider::ModuleProvider;
+use crate::stop::{self, Stop};
+use crate::table::Table;
 use pdb_container::StringTable;
-use pdb_failed_parts::FailedParts;
 use pdb_indices::{ItemIndex, Local, TypeIndex};
-use pdb_resolving::stop::{self, Stop};
-use pdb_resolving::{
-    Error, KeptExports, KeptImports, ModuleExports, ModuleNames, ModuleProvider, Result, Table,
-    keep_exports, keep_imports,
-};
 use pdb_symbols_modules::{CrossModuleImports, CrossModuleRef, Module, ModuleRef};
 use std::alloc::{AllocError, Global};
 use std::collections::BTreeMap;
@@ -94,7 +96,7 @@ impl<'a, 's, P: ModuleProvider> Resolver<'a, 's, P> {
     /// names; `ModuleNameNotFound`; the other module's exports, as its imports; `LocalIndexNotInExports`. Imports and exports
     /// that stand as failed are `ModuleImportsUnsuccessful` and `ModuleExportsUnsuccessful`; a fault of
     /// others comes with their table. `OutOfMemory`.
-    #[tactic(auto, using(pdb_resolving::proofs::Steps::by_steps))]
+    #[tactic(auto, using(crate::proofs::Steps::by_steps))]
     pub fn resolve(&mut self, alloc: Global, module_index: usize, index: u32) -> stop::Result<u32>
         ensures same { self.new ≡ self.old }
         ensures value { Finds (λ n. n) result
@@ -118,7 +120,7 @@ impl<'a, 's, P: ModuleProvider> Resolver<'a, 's, P> {
     }
 
     /// What an index stands for that leads into another module.
-    #[tactic(auto, using(pdb_resolving::proofs::Ending::ends_on, pdb_resolving::proofs::Ending::ends_by_given_on, pdb_resolving::proofs::Ending::ends_by_error_on), unfolding(pdb_resolving::specs::KeptTables::resolved_by_steps))]
+    #[tactic(auto, using(crate::proofs::Ending::ends_on, crate::proofs::Ending::ends_by_given_on, crate::proofs::Ending::ends_by_error_on), unfolding(crate::specs::KeptTables::resolved_by_steps))]
     fn resolve_elsewhere(
         &mut self,
         alloc: Global,
@@ -141,7 +143,7 @@ impl<'a, 's, P: ModuleProvider> Resolver<'a, 's, P> {
     /// What an index stands for as the module of a number imports it. `ModuleImportsUnsuccessful` where the module's imports stand
     /// as failed, else the module's fault or that of its imports, with this table, or
     /// `CrossModuleRefNotFound`.
-    #[tactic(auto, using(pdb_resolving::proofs::Ending::ends_by_table_on))]
+    #[tactic(auto, using(crate::proofs::Ending::ends_by_table_on))]
     fn import_of(
         &mut self,
         alloc: Global,
@@ -173,7 +175,7 @@ impl<'a, 's, P: ModuleProvider> Resolver<'a, 's, P> {
 
     /// What the module of a number exports first under an index as it names it, as [`Resolver::import_of`].
     /// `LocalIndexNotInExports`.
-    #[tactic(auto, using(pdb_resolving::proofs::Ending::ends_by_table_on))]
+    #[tactic(auto, using(crate::proofs::Ending::ends_by_table_on))]
     fn export_of(
         &mut self,
         alloc: Global,
@@ -197,7 +199,7 @@ impl<'a, 's, P: ModuleProvider> Resolver<'a, 's, P> {
 }
 
 /// What an index stands for by what a module imports. `CrossModuleRefNotFound`.
-#[tactic(auto, using(pdb_resolving::proofs::Ending::ends_by_parsed))]
+#[tactic(auto, using(crate::proofs::Ending::ends_by_parsed))]
 fn imported(
     imports: &CrossModuleImports<'_>,
     index: TypeIndex,

@@ -2,8 +2,8 @@
 
 ghost use Rattle.std.specs.Prelude.{◌≡◌, ◌==◌, ◌||◌, ◌⊎◌, ℕ, true, List};
 ghost use Rattle.pdb_addresses.specs.declared.internal_section_offset.PdbInternalSectionOffset.{PdbInternalSectionOffset};
-ghost use Rattle.pdb_failed_parts.specs.Failed.{stands, with_part};
-ghost use Rattle.pdb_failed_parts.specs.Failures.{Failures, Part, IsPart, IsPlace, has_failed, number_of, with_failed};
+ghost use Rattle.pdb_resolving.specs.Failed.{stands, with_part};
+ghost use Rattle.pdb_resolving.specs.Failures.{Failures, Part, IsPart, IsPlace, has_failed, number_of, with_failed};
 
 /// Once the part of a number is kept, it stands as failed; so does each that stood before, and no other.
 pub fn kept_numbers_stand()

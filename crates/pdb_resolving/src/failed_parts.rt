@@ -1,7 +1,7 @@
 //! The parts of one kind that stand as failed.
 
 ghost use Rattle.std.specs.Prelude.{◌≡◌, [], OnErr, OnOk};
-ghost use Rattle.pdb_failed_parts.specs.Failed.{stands as stands_among, with_part};
+ghost use Rattle.pdb_resolving.specs.Failed.{stands as stands_among, with_part};
 
 use std::alloc::{AllocError, Global};
 use std::collections::BTreeSet;

@@ -1,9 +1,9 @@
 -- The parts of modules that stand as failed since they were asked for.
 use Rattle.std.specs.Prelude.{ℕ, ◌+◌, ◌*◌, ◌^◌, ◌<◌, Bool, List, []}
 use Rattle.pdb_addresses.specs.declared.internal_section_offset.PdbInternalSectionOffset.{PdbInternalSectionOffset}
-use Rattle.pdb_failed_parts.specs.Failed.{stands, with_part}
-pub use Rattle.pdb_failed_parts.specs.declared.failures.Part.{Part}
-pub use Rattle.pdb_failed_parts.specs.declared.failures.Part.TheVariants.{ExtendedModule, ProcedureLines, ProcedureInlineRanges}
+use Rattle.pdb_resolving.specs.Failed.{stands, with_part}
+pub use Rattle.pdb_resolving.specs.declared.failures.Part.{Part}
+pub use Rattle.pdb_resolving.specs.declared.failures.Part.TheVariants.{ExtendedModule, ProcedureLines, ProcedureInlineRanges}
 
 -- the parts that stand as failed: line programs with inlinees by the numbers of their modules, rows of functions and inline sites
 -- of procedures by the numbers of their starts

@@ -11,8 +11,8 @@ use Rattle.std.proofs.lemmas.Bool.{eq-eqb, eqb-true, ne_eqb}
 use Rattle.std.proofs.lemmas.Cmp.{nat_cmp_total, tied_itself}
 use Rattle.std.proofs.lemmas.Map.Lookups.{exact_unsigned}
 use Rattle.pdb_addresses.specs.declared.internal_section_offset.PdbInternalSectionOffset.{PdbInternalSectionOffset}
-use Rattle.pdb_failed_parts.specs.Failed.{stands, with_part}
-use Rattle.pdb_failed_parts.specs.Failures.{Failures, Part, ExtendedModule, ProcedureLines, ProcedureInlineRanges, IsPart, IsPlace, has_failed, number_of, with_failed}
+use Rattle.pdb_resolving.specs.Failed.{stands, with_part}
+use Rattle.pdb_resolving.specs.Failures.{Failures, Part, ExtendedModule, ProcedureLines, ProcedureInlineRanges, IsPart, IsPlace, has_failed, number_of, with_failed}
 
 -- ---- numbers
 
