@@ -1,8 +1,8 @@
 -- What is kept of modules stays theirs while more of it is read.
 use Rattle.std.proofs.Common.{◌≡◌, ℕ, List, Option, sym, subst}
 use Rattle.pdb_symbols_modules.specs.Modules.{Module}
-use Rattle.pdb_kept_modules.specs.Kept.{AreKept}
-use Rattle.pdb_kept_modules.specs.Modules.{ModuleData}
+use Rattle.pdb_known_modules.specs.Kept.{AreKept}
+use Rattle.pdb_known_modules.specs.Modules.{ModuleData}
 
 -- what is kept is the modules' own also after a call that leaves it as it was
 pub still_kept : (own : List Module → ℕ → Option ModuleData) (entries listed : List Module) (before after : List (Option (Option ModuleData))) → AreKept (own listed) before → listed ≡ entries → after ≡ before

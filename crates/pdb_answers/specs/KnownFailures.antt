@@ -6,7 +6,7 @@ use Rattle.pdb_indices.specs.declared.numbers.SymbolIndex.{SymbolIndex}
 use Rattle.pdb_addresses.specs.declared.internal_section_offset.PdbInternalSectionOffset.{PdbInternalSectionOffset}
 use Rattle.pdb_module_data.specs.Procedures.{Procedure}
 use Rattle.pdb_resolving.specs.Resolving.{Provided}
-use Rattle.pdb_kept_modules.specs.Modules.{ModuleData, module_data, own_of}
+use Rattle.pdb_known_modules.specs.Modules.{ModuleData, module_data, own_of}
 use Rattle.pdb_frames.specs.Choice.{Chosen, Proc, Public}
 use Rattle.pdb_frames.specs.Failed.{failing_in}
 use Rattle.pdb_frames.specs.Failing.{Part}

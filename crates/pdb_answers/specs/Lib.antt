@@ -8,5 +8,5 @@ pub use Rattle.pdb_frames.specs.Parts
 pub use Rattle.pdb_frames.specs.Printing
 pub use Rattle.pdb_frames.specs.Runs
 pub use Rattle.pdb_frames.specs.Scopes
-pub use Rattle.pdb_kept_modules.specs.Kept
-pub use Rattle.pdb_kept_modules.specs.Modules
+pub use Rattle.pdb_known_modules.specs.Kept
+pub use Rattle.pdb_known_modules.specs.Modules

@@ -14,8 +14,8 @@ ghost use Rattle.pdb_frames.specs.Runs.{database_of, function_here as function_a
 ghost use Rattle.pdb_frames.specs.Scopes.{entries_of, scope_of};
 ghost use Rattle.pdb_frames.specs.Seen.{chosen_seen};
 ghost use Rattle.pdb_functions.specs.Databases.{IsOneRun, place_of as as_place};
-ghost use Rattle.pdb_kept_modules.specs.Kept.{AreKept};
-ghost use Rattle.pdb_kept_modules.specs.Modules.{ModuleData, module_data, own_of, procedures_in};
+ghost use Rattle.pdb_known_modules.specs.Kept.{AreKept};
+ghost use Rattle.pdb_known_modules.specs.Modules.{ModuleData, module_data, own_of, procedures_in};
 ghost use Rattle.pdb_resolving.specs.Fault.{Answers};
 
 use crate::known_failures::KnownFailures;
@@ -26,7 +26,7 @@ use pdb_frames::{
     to_next_bound, to_next_shared_bound, unsuccessful,
 };
 use pdb_functions::{Function, SharedFunctionFrames, owned_name};
-use pdb_kept_modules::{
+use pdb_known_modules::{
     BasicModuleInfo, KeptModule, empty_places, keep_lines, keep_module, keep_procedure,
     keep_public_rows, known_at, number_over, procedure_numbered,
 };

@@ -4,7 +4,7 @@ ghost use Rattle.std.specs.Prelude.{◌≡◌, ◌↔◌, ℕ, true, Option, Som
 ghost use Rattle.pdb_frames.specs.Failed.{failing_in};
 ghost use Rattle.pdb_frames.specs.Choice.{start_of};
 ghost use Rattle.pdb_frames.specs.Seen.{chosen_seen};
-ghost use Rattle.pdb_kept_modules.specs.Modules.{ModuleData};
+ghost use Rattle.pdb_known_modules.specs.Modules.{ModuleData};
 ghost use Rattle.pdb_answers.specs.KnownFailures.{AreFailuresOf, IsAbout, those_failing, those_like};
 
 use pdb_addresses::PdbInternalSectionOffset;

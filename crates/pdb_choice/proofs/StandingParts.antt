@@ -1,8 +1,8 @@
 -- What stands as failed after a question.
 use Rattle.std.proofs.Common.{◌≡◌, ◌≢◌, true, cond, Result, Ok, Err, refl, ap, ◌∙◌}
 use Rattle.std.specs.Prelude.{Option, None, Some, Bool}
-use Rattle.pdb_failed_parts.specs.declared.failures.Part.{Part}
-use Rattle.pdb_failed_parts.proofs.KeptParts.{kept_part_stands, part_still_stands}
+use Rattle.pdb_resolving.specs.declared.failures.Part.{Part}
+use Rattle.pdb_resolving.proofs.KeptParts.{kept_part_stands, part_still_stands}
 use Rattle.pdb_resolving.specs.declared.error.Error.{Error}
 use Rattle.pdb_resolving.specs.declared.error.Error.TheVariants as errors
 use Rattle.pdb_resolving.specs.Fault.{Fault}

@@ -3,9 +3,9 @@ use Rattle.std.specs.Prelude.{ℕ, Option, None, Some, Result, Ok, Err, if◌the
 use Rattle.pdb_container.specs.Fault as container
 use Rattle.pdb_symbols_modules.specs.ModuleStream.{ModuleStream}
 use Rattle.pdb_module_data.specs.FunctionLine.{function_rows}
-pub use Rattle.pdb_failed_parts.specs.Failures.{Failures, has_failed, no_failures, number_of, with_failed}
-use Rattle.pdb_failed_parts.specs.declared.failures.Part.{Part}
-use Rattle.pdb_failed_parts.specs.declared.failures.Part.TheVariants as parts
+pub use Rattle.pdb_resolving.specs.Failures.{Failures, has_failed, no_failures, number_of, with_failed}
+use Rattle.pdb_resolving.specs.declared.failures.Part.{Part}
+use Rattle.pdb_resolving.specs.declared.failures.Part.TheVariants as parts
 use Rattle.pdb_resolving.specs.declared.error.Error.{Error}
 use Rattle.pdb_resolving.specs.declared.error.Error.TheVariants as errors
 use Rattle.pdb_resolving.specs.Fault.{Fault, ExtendedModuleInfoUnsuccessful, ProcedureLinesUnsuccessful, ProcedureInlineRangesUnsuccessful}

@@ -3,4 +3,4 @@ pub mod Failed
 pub mod NearBounds
 pub mod Parts
 pub mod Seen
-pub use Rattle.pdb_failed_parts.specs.Failures
+pub use Rattle.pdb_resolving.specs.Failures

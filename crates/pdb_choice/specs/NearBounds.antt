@@ -4,7 +4,7 @@ use Rattle.std.specs.List.{flat_map}
 use Rattle.pdb_addresses.specs.declared.internal_section_offset.PdbInternalSectionOffset.{PdbInternalSectionOffset}
 use Rattle.pdb_contributions.specs.Publics.{PublicFunction}
 use Rattle.pdb_module_data.specs.Procedures.{Procedure}
-use Rattle.pdb_bounds.specs.SectionBounds.{contribution_bounds, procedure_bounds}
+use Rattle.pdb_known_modules.specs.SectionBounds.{contribution_bounds, procedure_bounds}
 use Rattle.pdb_choice.specs.Choice.{Parts}
 
 -- where a public entry begins, if it lies in the section of a place

@@ -8,10 +8,9 @@ ghost use Rattle.pdb_known_modules.specs.Seen.{extended_seen};
 ghost use Rattle.pdb_resolving.specs.Fault.{Answers};
 
 use crate::choice::Chosen;
-use pdb_failed_parts::Part;
 use pdb_known_modules::{BasicModuleInfo, ExtendedModuleInfo, read_extended};
 use pdb_module_data::{FunctionRows, InlineSites, Procedure, SitesError};
-use pdb_resolving::{Error, ModuleTables, Result};
+use pdb_resolving::{Error, ModuleTables, Part, Result};
 use std::alloc::{AllocError, Global};
 
 /// What says of a part that it stands as failed.

@@ -1,7 +1,7 @@
 //! Laws of the definitions: functions that do nothing, whose contracts are proved.
 
 ghost use Rattle.std.specs.Prelude.{◌≡◌, ◌≢◌, true, Option, Some, Result, Err};
-ghost use Rattle.pdb_failed_parts.specs.declared.failures.Part.{Part};
+ghost use Rattle.pdb_resolving.specs.declared.failures.Part.{Part};
 ghost use Rattle.pdb_resolving.specs.declared.error.Error.{Error};
 ghost use Rattle.pdb_resolving.specs.declared.error.Error.TheVariants.{OutOfMemory};
 ghost use Rattle.pdb_resolving.specs.Fault.{Fault};

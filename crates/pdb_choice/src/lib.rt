@@ -11,5 +11,5 @@ mod runs;
 pub use choice::{Chosen, choose};
 pub use failures::{failing_in, unsuccessful};
 pub use parts::{ContextParts, is_decorated};
-pub use pdb_failed_parts::{Failures, Part, number_of};
+pub use pdb_resolving::{Failures, Part, number_of};
 pub use runs::{to_next_bound, to_next_shared_bound};

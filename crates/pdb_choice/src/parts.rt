@@ -9,12 +9,12 @@ ghost use Rattle.pdb_choice.specs.Choice.{decorated_at as decorated_name_at, is_
 ghost use Rattle.pdb_choice.specs.Parts.{outcome, parts_checked, parts_of};
 
 use pdb_addresses::{AddressMap, ImageSectionHeader, PdbInternalSectionOffset};
-use pdb_bounds::{SortedBounds, contribution_bounds};
 use pdb_container::{RawString, StringTable};
 use pdb_contributions::{
     HeldPlaces, ModuleSectionContribution, PublicList, SectionContributions, check_symbols,
     compute_section_contributions, read_public_symbols,
 };
+use pdb_known_modules::{SortedBounds, contribution_bounds};
 use pdb_module_data::FileNames;
 use pdb_resolving::Result;
 use pdb_symbols::SymbolTable;
@@ -48,7 +48,7 @@ pub struct ContextParts<'a, 's> {
 
 impl<'a, 's> Model for ContextParts<'a, 's> {
     ghost use Rattle.pdb_addresses.specs.Addresses.{IsOrdered};
-    ghost use Rattle.pdb_bounds.specs.Bounds.{AreContributionBounds};
+    ghost use Rattle.pdb_known_modules.specs.Bounds.{AreContributionBounds};
     ghost use Rattle.pdb_choice.specs.Choice as choice;
 
     ghost Value = { choice.Parts };

@@ -4,7 +4,7 @@ ghost use Rattle.std.specs.Prelude.{◌≡◌, [], option_copied};
 ghost use Rattle.std.specs.List.{flat_map};
 ghost use Rattle.pdb_addresses.specs.SectionRun.{nearer as nearer_of, up_to_next};
 ghost use Rattle.pdb_known_modules.specs.Modules.{procedures_in};
-ghost use Rattle.pdb_bounds.specs.SectionBounds.{contribution_bounds, procedure_bounds};
+ghost use Rattle.pdb_known_modules.specs.SectionBounds.{contribution_bounds, procedure_bounds};
 ghost use Rattle.pdb_choice.specs.NearBounds.{public_bounds, bounds_near};
 
 use crate::parts::ContextParts;
@@ -26,7 +26,7 @@ fn nearer(offset: u32, bound: u64, far: u32) -> u32
 }
 
 /// The lesser of `far` and the distance from a place to the next start or end of a contribution.
-#[tactic(auto, using(pdb_bounds::proofs::BoundSteps::contributions_alike))]
+#[tactic(auto, using(pdb_known_modules::proofs::BoundSteps::contributions_alike))]
 fn to_next_contribution(
     parts: &ContextParts<'_, '_>,
     place: PdbInternalSectionOffset,
@@ -75,7 +75,7 @@ fn to_next_of_all_modules(
 }
 
 /// The lesser of `limit` and the distance from a place that no module holds to the next place at which an answer may change.
-#[tactic(auto, using(pdb_bounds::proofs::NextBounds::next_of_two))]
+#[tactic(auto, using(pdb_known_modules::proofs::NextBounds::next_of_two))]
 pub fn to_next_shared_bound(
     parts: &ContextParts<'_, '_>,
     place: PdbInternalSectionOffset,
@@ -88,7 +88,7 @@ pub fn to_next_shared_bound(
 
 /// The lesser of `limit` and the distance from a place to the next place at which an answer may change, by the data of the module
 /// that holds it.
-#[tactic(auto, using(pdb_bounds::proofs::NextBounds::next_of_all))]
+#[tactic(auto, using(pdb_known_modules::proofs::NextBounds::next_of_all))]
 pub fn to_next_bound<I: ModuleTables>(
     parts: &ContextParts<'_, '_>,
     known: Option<&BasicModuleInfo<'_, I>>,

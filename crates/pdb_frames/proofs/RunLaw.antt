@@ -17,7 +17,7 @@ use Rattle.pdb_frames.specs.Scopes.{Scope}
 use Rattle.pdb_frames.specs.Frames.{function_at, function_of}
 use Rattle.pdb_known_modules.specs.Modules.{module_data, procedures_in}
 use Rattle.pdb_functions.specs.Databases.{IsOneRun, place_of}
-use Rattle.pdb_bounds.specs.SectionBounds.{if_there, contribution_bounds, procedure_bounds}
+use Rattle.pdb_known_modules.specs.SectionBounds.{if_there, contribution_bounds, procedure_bounds}
 use Rattle.pdb_choice.specs.NearBounds.{public_bounds, bounds_near}
 use Rattle.pdb_frames.specs.Runs.{procedures_of, is_bound, database_of}
 

@@ -3,8 +3,8 @@ use Rattle.std.specs.Prelude.{ℕ, Option, None, Some}
 use Rattle.pdb_addresses.specs.declared.internal_section_offset.PdbInternalSectionOffset.{PdbInternalSectionOffset}
 use Rattle.pdb_contributions.specs.declared.contribution.ModuleSectionContribution.{ModuleSectionContribution}
 use Rattle.pdb_known_modules.specs.Modules.{module_data, procedures_in}
-pub use Rattle.pdb_failed_parts.specs.declared.failures.Part.{Part}
-pub use Rattle.pdb_failed_parts.specs.declared.failures.Part.TheVariants.{ExtendedModule, ProcedureLines, ProcedureInlineRanges}
+pub use Rattle.pdb_resolving.specs.declared.failures.Part.{Part}
+pub use Rattle.pdb_resolving.specs.declared.failures.Part.TheVariants.{ExtendedModule, ProcedureLines, ProcedureInlineRanges}
 use Rattle.pdb_choice.specs.Choice.{Parts, chosen, held_at, place_of}
 use Rattle.pdb_choice.specs.Failed.{failing_of_chosen}
 use Rattle.pdb_frames.specs.Scopes.{Scope}

@@ -1,3 +1,6 @@
+pub mod BoundSteps
 pub mod KeptProcedures
 pub mod KeptRows
+pub mod KeptSteps
+pub mod NextBounds
 pub mod SitesSteps

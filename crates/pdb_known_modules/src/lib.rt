@@ -1,11 +1,19 @@
-//! What is known of modules that were asked for: the data of a module's stream, of its line program and inlinees, and of its
-//! procedures, each read once and kept. It knows no names and no addresses of an image.
+//! One cache of modules that were asked for: a place for each, in which the data of its stream, of
+//! its line program and inlinees, and of its procedures stand once they were read; and where
+//! contributions and procedures begin and end in sections, and how far it is to the next such
+//! place. It knows no names and no addresses of an image.
 #![tactic(auto)]
 
+mod bounds;
+mod kept;
 mod modules;
 mod procedure_data;
 mod public_rows;
 
+pub use bounds::{SortedBounds, contribution_bounds, procedure_bounds};
+pub use kept::{
+    KeptModule, empty_places, keep_lines, keep_module, keep_procedure, keep_public_rows, known_at,
+};
 pub use modules::{
     BasicModuleInfo, ExtendedModuleInfo, get_basic_module_info, number_over, procedure_numbered,
     procedures_in, read_extended,

@@ -4,7 +4,7 @@ ghost use Rattle.std.specs.Prelude.{◌≡◌, ◌↔◌, true, IfOk, IfSome, No
 ghost use Rattle.std.specs.Box.{box_value};
 ghost use Rattle.std.specs.List.{flat_map};
 ghost use Rattle.pdb_addresses.specs.SectionRun.{up_to_next};
-ghost use Rattle.pdb_bounds.specs.SectionBounds.{procedure_bounds as bounds_of_procedure};
+ghost use Rattle.pdb_known_modules.specs.SectionBounds.{procedure_bounds as bounds_of_procedure};
 ghost use Rattle.pdb_container.specs.Fault.{Gives};
 ghost use Rattle.pdb_module_data.specs.Procedures.{over};
 ghost use Rattle.pdb_known_modules.specs.ProcedureData.{IsLentOf, IsOfStream};
@@ -12,10 +12,10 @@ ghost use Rattle.pdb_known_modules.specs.PublicRows.{AreLentAt, AreRowsAt};
 ghost use Rattle.pdb_known_modules.specs.Seen.{extended_seen, AreExtendedHere};
 ghost use Rattle.pdb_known_modules.specs.Modules.{data_of_stream, data_if_there, extended_of, module_data, own_of, procedure_if_numbered, procedures_in as procedures_of_module};
 
+use crate::bounds::{SortedBounds, procedure_bounds};
 use crate::procedure_data::{ExtendedProcedureInfo, empty_procedures, read_extended_procedure};
 use crate::public_rows::PublicRows;
 use pdb_addresses::PdbInternalSectionOffset;
-use pdb_bounds::{SortedBounds, procedure_bounds};
 use pdb_container::{Error, Result};
 use pdb_lines::LineProgram;
 use pdb_module_data::{FunctionRows, Inlinees, Procedure, Procedures};
@@ -41,7 +41,7 @@ pub struct BasicModuleInfo<'a, I: ModuleTables> {
 }
 
 impl<'a, I: ModuleTables> Model for BasicModuleInfo<'a, I> {
-    ghost use Rattle.pdb_bounds.specs.Bounds.{AreProcedureBounds};
+    ghost use Rattle.pdb_known_modules.specs.Bounds.{AreProcedureBounds};
     ghost use Rattle.pdb_known_modules.specs.Modules as modules;
     ghost use Rattle.pdb_known_modules.specs.ProcedureData.{AreOfStream};
     ghost use Rattle.pdb_known_modules.specs.PublicRows.{AreRowsOfStream};
@@ -95,7 +95,7 @@ impl<'a, I: ModuleTables> BasicModuleInfo<'a, I> {
     }
 
     /// The lesser of `far` and the distance from a place to the next start or end of a procedure.
-    #[tactic(auto, using(pdb_bounds::proofs::BoundSteps::procedures_alike))]
+    #[tactic(auto, using(crate::proofs::BoundSteps::procedures_alike))]
     pub fn to_next_procedure(&self, place: PdbInternalSectionOffset, far: u32) -> u32
         ensures { result ≡ up_to_next (flat_map (bounds_of_procedure place) (self.now).procedures) place.offset far }
     {

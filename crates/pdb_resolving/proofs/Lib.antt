@@ -1,5 +1,6 @@
 pub mod Ending
 pub mod FirstExports
+pub mod KeptParts
 pub mod LastPlaces
 pub mod Lifting
 pub mod ModuleSteps

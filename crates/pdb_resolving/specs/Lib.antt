@@ -1,4 +1,6 @@
 pub mod Cause
+pub mod Failed
+pub mod Failures
 pub mod Fault
 pub mod KeptTables
 pub mod Reaches

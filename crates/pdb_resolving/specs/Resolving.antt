@@ -9,7 +9,7 @@ use Rattle.pdb_container.specs.StringTable.{text_in}
 use Rattle.pdb_indices.specs.Index.{is_cross_module}
 use Rattle.pdb_subsections.specs.Exports.{Entry, first_export}
 use Rattle.pdb_subsections.specs.Imports.{Import, imported}
-use Rattle.pdb_failed_parts.specs.Failed.{stands, with_part}
+use Rattle.pdb_resolving.specs.Failed.{stands, with_part}
 use Rattle.pdb_symbols_modules.specs.ModuleStream.{ModuleStream, imports_in, exports_in}
 use Rattle.pdb_symbols_modules.specs.Modules.{Module}
 use Rattle.pdb_resolving.specs.declared.table.Table.{Table}

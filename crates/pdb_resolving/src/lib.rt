@@ -1,18 +1,27 @@
-//! What answers about types and functions fail with, what gives a module's own stream, and what indices that lead into another
-//! module are resolved by: the names of modules, their imports and exports, as they are read and kept.
+//! How an index that leads into another module is resolved (`Resolver`): what gives a module's own
+//! stream, and the names of modules, their imports and exports, as they are read and cached; which
+//! parts of a database could not be read when they were asked for; and what answers about types and
+//! functions fail with.
 #![tactic(auto)]
 
 mod error;
+mod failed_parts;
+mod failures;
 mod kept_tables;
+pub mod laws;
 mod module_exports;
 mod module_names;
 mod provider;
+mod resolver;
 pub mod stop;
 mod table;
 
 pub use error::{Error, Result};
+pub use failed_parts::FailedParts;
+pub use failures::{Failures, Part, number_of};
 pub use kept_tables::{KeptExports, KeptImports, keep_exports, keep_imports};
 pub use module_exports::ModuleExports;
 pub use module_names::ModuleNames;
 pub use provider::{ModuleProvider, ModuleTables};
+pub use resolver::Resolver;
 pub use table::Table;

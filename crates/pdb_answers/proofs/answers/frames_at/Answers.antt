@@ -1,4 +1,4 @@
-use Rattle.pdb_kept_modules.specs.Modules.{module_data, own_of}
+use Rattle.pdb_known_modules.specs.Modules.{module_data, own_of}
 use Rattle.pdb_answers.proofs.KeptSteps.{still_kept}
 use Rattle.pdb_answers.proofs.answers.frames_at.Goals as goal
 

@@ -1,2 +1,0 @@
-pub mod BoundSteps
-pub mod NextBounds

@@ -1,8 +1,0 @@
-use Rattle.std.proofs.Common.{◌≡◌, ◌++◌, drop}
-use Rattle.std.specs.List.{flat_map}
-use Rattle.pdb_bounds.specs.Bounds.{procedure_numbers}
-use Rattle.pdb_bounds.proofs.bounds.procedure_numbers_of.Given as goal
-
--- the numbers so far, before those of the procedures that are left
-abbrev pub invariant-loop-procedure : goal.invariant-loop-procedure
-invariant-loop-procedure l = l.numbers.items ++ flat_map procedure_numbers (drop l.procedure-index l.procedures) ≡ flat_map procedure_numbers l.procedures

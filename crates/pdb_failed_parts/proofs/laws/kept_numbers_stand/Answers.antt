@@ -1,5 +1,0 @@
-use Rattle.pdb_failed_parts.proofs.KeptParts.{stands_with}
-use Rattle.pdb_failed_parts.proofs.laws.kept_numbers_stand.Goals as goal
-
-pub returns : goal.returns
-returns c = stands_with

@@ -1,5 +1,0 @@
-use Rattle.pdb_failed_parts.proofs.KeptParts.{own_numbers}
-use Rattle.pdb_failed_parts.proofs.laws.places_have_own_numbers.Goals as goal
-
-pub returns : goal.returns
-returns c = own_numbers

@@ -1,2 +1,0 @@
-pub mod Failed
-pub mod Failures

@@ -1,2 +1,0 @@
-pub mod Kept
-pub use Rattle.pdb_known_modules.specs.Modules

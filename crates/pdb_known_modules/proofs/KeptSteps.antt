@@ -1,0 +1,73 @@
+-- What is kept of modules stays theirs.
+use Rattle.std.proofs.Common.{◌≡◌, ◌≢◌, true, false, ℕ, ◌<◌, List, length, None, Some, refl, sym, ap, ◌∙◌, inl, inr, arith}
+use Rattle.std.specs.Prelude.{Option, slice_get, slice_set}
+use Rattle.std.proofs.lemmas.Bool.{cases_lt}
+use Rattle.std.proofs.lemmas.Bool.Decides.{eqb_tells}
+use Rattle.std.proofs.lemmas.List.{length-set, get_or-set_same, get_or-set_other}
+use Rattle.std.proofs.lemmas.Option.{slice_get_past, slice_get_within, slice_get-get_or}
+use Rattle.pdb_known_modules.specs.Modules.{ModuleData}
+use Rattle.pdb_known_modules.specs.Kept.{AreKept, known_in, known_of, is_empty}
+
+abbrev Places : Type 0
+Places = List (Option (Option ModuleData))
+
+at_known : (own : ℕ → Option ModuleData) (places : Places) (n : ℕ) → AreKept own places → n < length places → (at : Option (Option (Option ModuleData))) → slice_get places n ≡ at → at ≢ Some None → known_of at ≡ own n
+at_known own places n kept lt None e full = let there = slice_get-get_or places n None lt in absurd cc
+at_known own places n kept lt (Some None) e full = absurd (full refl)
+at_known own places n kept lt (Some (Some known)) e full = kept.each n known e
+
+-- what stands at a place that isn't an empty one is known
+pub known_before : (own : ℕ → Option ModuleData) (places : Places) (n : ℕ) → AreKept own places → slice_get places n ≢ Some None → known_in places n ≡ own n
+known_before own places n kept full = elim (cases_lt n (length places)) [
+  | inl lt ↦ at_known own places n kept lt (slice_get places n) refl full
+  | inr le ↦ rw (slice_get_past places n le) (sym (kept.past n le))
+]
+
+empty_at : (at : Option (Option (Option ModuleData))) → is_empty at ≡ true → at ≡ Some None
+empty_at None h = absurd (cc)
+empty_at (Some None) h = refl
+empty_at (Some (Some known)) h = absurd (cc)
+
+full_at : (at : Option (Option (Option ModuleData))) → is_empty at ≡ false → at ≢ Some None
+full_at None h e = absurd (cc)
+full_at (Some None) h e = absurd (cc)
+full_at (Some (Some known)) h e = absurd (cc)
+
+-- a place that is empty
+pub empty_is : (places : Places) (n : ℕ) → is_empty (slice_get places n) ≡ true → slice_get places n ≡ Some None
+empty_is places n h = empty_at (slice_get places n) h
+
+-- the same of what isn't empty
+pub known_if_full : (own : ℕ → Option ModuleData) (places : Places) (n : ℕ) → AreKept own places → is_empty (slice_get places n) ≡ false → known_in places n ≡ own n
+known_if_full own places n kept h = known_before own places n kept (full_at (slice_get places n) h)
+
+set_same : (places : Places) (n : ℕ) (x : Option (Option ModuleData)) → n < length places → slice_get (slice_set places n x) n ≡ Some x
+set_same places n x lt =
+    slice_get-get_or (slice_set places n x) n None (omega (arith, length-set places n x)) ∙ ap (λ y. Some y) (get_or-set_same places n x None lt)
+
+set_other : (places : Places) (n k : ℕ) (x : Option (Option ModuleData)) → k ≢ n → slice_get (slice_set places n x) k ≡ slice_get places k
+set_other places n k x ne = elim (cases_lt k (length places)) [
+  | inl lt ↦ slice_get-get_or (slice_set places n x) k None (omega (arith, length-set places n x)) ∙ ap (λ y. Some y) (get_or-set_other places n k x None ne) ∙ sym (slice_get-get_or places k None lt)
+  | inr le ↦ slice_get_past (slice_set places n x) k (omega (arith, length-set places n x)) ∙ sym (slice_get_past places k le)
+]
+
+-- what was read now is known
+pub known_now : (places : Places) (n : ℕ) (known : Option ModuleData) → slice_get places n ≡ Some None → known_in (slice_set places n (Some known)) n ≡ known
+known_now places n known empty = rw (set_same places n (Some known) (slice_get_within places n None empty)) refl
+
+each_now : (own : ℕ → Option ModuleData) (places : Places) (n : ℕ) (known : Option ModuleData) → AreKept own places → n < length places → known ≡ own n
+    → (k : ℕ) (other : Option ModuleData) → slice_get (slice_set places n (Some known)) k ≡ Some (Some other) → other ≡ own k
+each_now own places n known kept lt is k other e = elim (eqb_tells k n) [
+  | inl same ↦
+      let at : slice_get (slice_set places n (Some known)) k ≡ slice_get (slice_set places n (Some known)) n = ap (slice_get (slice_set places n (Some known))) (same.1) in
+      let now = set_same places n (Some known) lt in
+      let same_known : other ≡ known = cc in
+      same_known ∙ is ∙ sym (ap own (same.1))
+  | inr apart ↦ kept.each k other (sym (set_other places n k (Some known) (apart.1)) ∙ e)
+]
+
+-- and what is kept is each module's own, still
+pub kept_now : (own : ℕ → Option ModuleData) (places : Places) (n : ℕ) (known : Option ModuleData) → AreKept own places → slice_get places n ≡ Some None → known ≡ own n → AreKept own (slice_set places n (Some known))
+kept_now own places n known kept empty is =
+    let lt = slice_get_within places n None empty in
+    record { each = each_now own places n known kept lt is; past = λ k le. kept.past k (omega (arith, length-set places n (Some known))) }

@@ -1,0 +1,222 @@
+//! Indices that lead into another module.
+
+ghost use Rattle.std.specs.Prelude.{◌≡◌, option_map, OnErr, OnOk};
+ghost use Rattle.std.specs.Option.{ok_or};
+ghost use Rattle.pdb_subsections.specs.Exports.{first_export};
+ghost use Rattle.pdb_subsections.specs.Imports.{imported as import_by, reference};
+ghost use Rattle.pdb_resolving.specs.Cause.{Finds, of_no_table};
+ghost use Rattle.pdb_resolving.specs.Fault.{Answers, lifted, LocalIndexNotInExports};
+ghost use Rattle.pdb_resolving.specs.KeptTables.{export_of as module_export, import_of as module_import, numbered, resolved_by_steps};
+ghost use Rattle.pdb_resolving.specs.Resolving.{resolve, none_failed, modules_by, with_failed};
+
+use crate::error::{Error, Result};
+use crate::failed_parts::FailedParts;
+use crate::kept_tables::{KeptExports, KeptImports, keep_exports, keep_imports};
+use crate::module_exports::ModuleExports;
+use crate::module_names::ModuleNames;
+use crate::provider::ModuleProvider;
+use crate::stop::{self, Stop};
+use crate::table::Table;
+use pdb_container::StringTable;
+use pdb_indices::{ItemIndex, Local, TypeIndex};
+use pdb_symbols_modules::{CrossModuleImports, CrossModuleRef, Module, ModuleRef};
+use std::alloc::{AllocError, Global};
+use std::collections::BTreeMap;
+use std::marker::Model;
+
+/// The modules of a database, by which indices are resolved that lead from one into another. Imports, exports and names of modules
+/// that were read are kept, each once it was asked for.
+#[derive(Drop)]
+pub struct Resolver<'a, 's, P: ModuleProvider> {
+    provider: &'a P,
+    modules: Vec<Module<'a>>,
+    string_table: Option<&'a StringTable<'s>>,
+    /// The numbers of the modules by their names.
+    names: ModuleNames,
+    /// The imports that were read.
+    imports: KeptImports<'a>,
+    /// The exports that were read.
+    exports: KeptExports<'a>,
+    /// The modules whose imports stand as failed.
+    failed_imports: FailedParts,
+    /// The modules whose exports stand as failed.
+    failed_exports: FailedParts,
+}
+
+impl<'a, 's, P: ModuleProvider> Model for Resolver<'a, 's, P> {
+    ghost use Rattle.std.specs.Prelude.{option_map};
+    ghost use Rattle.pdb_resolving.specs.KeptTables.{AreNames, AreRead};
+    ghost use Rattle.pdb_resolving.specs.Resolving.{exports_read, imports_read, Kept};
+
+    ghost Value = { Kept P };
+
+    ghost view = { λ r. record { provider = r.provider.now; entries = r.modules.items; names = option_map (λ t. t.now) r.string_table; failed = record { imports = r.failed_imports; exports = r.failed_exports } } };
+
+    // What is kept is what reading gives, so that it shows nowhere.
+    ghost invariant = { λ r. AreNames r.modules.items r.names × AreRead (imports_read (P.provided r.provider.now) r.modules.items) r.imports × AreRead (exports_read (P.provided r.provider.now) r.modules.items) r.exports };
+}
+
+impl<'a, 's, P: ModuleProvider> Resolver<'a, 's, P> {
+    /// What gives the modules, their entries in order, and the table of names by which they refer to one another, if there is
+    /// one. No table stands as failed.
+    pub fn new(
+        alloc: Global,
+        provider: &'a P,
+        modules: Vec<Module<'a>>,
+        string_table: Option<&'a StringTable<'s>>,
+    ) -> Resolver<'a, 's, P>
+        ensures { result ≡ record { provider = provider.now; entries = modules.entry.items; names = option_map (λ t. t.now) string_table.entry; failed = none_failed } }
+    {
+        Resolver {
+            provider,
+            modules,
+            string_table,
+            names: ModuleNames::new(),
+            imports: BTreeMap::new(alloc),
+            exports: BTreeMap::new(alloc),
+            failed_imports: FailedParts::new(alloc),
+            failed_exports: FailedParts::new(alloc),
+        }
+    }
+
+    /// The modules in order.
+    pub fn modules(&self) -> &[Module<'a>]
+        ensures { result.now ≡ self.now.entries }
+    {
+        self.modules.as_slice()
+    }
+
+    /// What an index of a type or of an id stands for in the database's table of these, as the module of a number, counted
+    /// from 0, has the index: without bit 31 itself, else the first export that the module which it imports has of it.
+    /// Modules are named without regard to the case of ASCII letters, and of equal names the last counts.
+    ///
+    /// # Errors
+    /// The first fault of: `CantResolveCrossModuleRefWithoutStringTable`; the asking module's imports (`OutOfRangeModuleIndex`,
+    /// the provider's fault, `ModuleInfoNotFound`, their own); `CrossModuleRefNotFound`; the module's name in the table of
+    /// names; `ModuleNameNotFound`; the other module's exports, as its imports; `LocalIndexNotInExports`. Imports and exports
+    /// that stand as failed are `ModuleImportsUnsuccessful` and `ModuleExportsUnsuccessful`; a fault of
+    /// others comes with their table. `OutOfMemory`.
+    #[tactic(auto, using(crate::proofs::Steps::by_steps))]
+    pub fn resolve(&mut self, alloc: Global, module_index: usize, index: u32) -> stop::Result<u32>
+        ensures same { self.new ≡ self.old }
+        ensures value { Finds (λ n. n) result
+            (resolve (modules_by P.provided self.old) module_index index) }
+    {
+        if !TypeIndex(index).is_cross_module() {
+            return Ok(index);
+        }
+        self.resolve_elsewhere(alloc, module_index, TypeIndex(index))
+    }
+
+    /// Keeps a table as failed. Nothing changes where memory is short.
+    pub fn keep_failed(&mut self, table: Table) -> std::result::Result<(), AllocError>
+        ensures kept { OnOk result (self.new ≡ with_failed self.old table) }
+        ensures same { OnErr result (self.new ≡ self.old) }
+    {
+        match table {
+            Table::Imports(number) => self.failed_imports.keep(number as u64),
+            Table::Exports(number) => self.failed_exports.keep(number as u64),
+        }
+    }
+
+    /// What an index stands for that leads into another module.
+    #[tactic(auto, using(crate::proofs::Ending::ends_on, crate::proofs::Ending::ends_by_given_on, crate::proofs::Ending::ends_by_error_on), unfolding(crate::specs::KeptTables::resolved_by_steps))]
+    fn resolve_elsewhere(
+        &mut self,
+        alloc: Global,
+        module_index: usize,
+        index: TypeIndex,
+    ) -> stop::Result<u32>
+        ensures same { self.new ≡ self.old }
+        ensures value { Finds (λ n. n) result
+            (resolved_by_steps (modules_by P.provided self.old) module_index index.0) }
+    {
+        let Some(names) = self.string_table else {
+            return Err(Stop::ByError(Error::CantResolveCrossModuleRefWithoutStringTable));
+        };
+        let CrossModuleRef(ModuleRef(name), local) = self.import_of(alloc, module_index, index)?;
+        let name = name.to_string_lossy(alloc, names)?;
+        let number = self.number_of(alloc, name.as_str())?;
+        self.export_of(alloc, number, local)
+    }
+
+    /// What an index stands for as the module of a number imports it. `ModuleImportsUnsuccessful` where the module's imports stand
+    /// as failed, else the module's fault or that of its imports, with this table, or
+    /// `CrossModuleRefNotFound`.
+    #[tactic(auto, using(crate::proofs::Ending::ends_by_table_on))]
+    fn import_of(
+        &mut self,
+        alloc: Global,
+        number: usize,
+        index: TypeIndex,
+    ) -> stop::Result<CrossModuleRef<TypeIndex>>
+        ensures same { self.new ≡ self.old }
+        ensures value { Finds (reference (λ i. i.0)) result
+            (module_import (modules_by P.provided self.old) number index.0) }
+    {
+        if self.failed_imports.stands(number as u64) {
+            return Err(Stop::ByError(Error::ModuleImportsUnsuccessful));
+        }
+        let modules = self.modules.as_slice();
+        match keep_imports(&mut self.imports, alloc, self.provider, modules, number) {
+            Ok(()) => imported(&self.imports[&number], index),
+            Err(Error::OutOfMemory) => Err(Stop::ByError(Error::OutOfMemory)),
+            Err(fault) => Err(Stop::ByTable(Table::Imports(number), fault)),
+        }
+    }
+
+    /// The number of the last module of a name. `ModuleNameNotFound`, `OutOfMemory`.
+    fn number_of(&mut self, alloc: Global, name: &str) -> Result<usize>
+        ensures same { self.new ≡ self.old }
+        ensures value { Answers (λ n. n) result (numbered name.now self.old.entries) }
+    {
+        self.names.number(alloc, self.modules.as_slice(), name)
+    }
+
+    /// What the module of a number exports first under an index as it names it, as [`Resolver::import_of`].
+    /// `LocalIndexNotInExports`.
+    #[tactic(auto, using(crate::proofs::Ending::ends_by_table_on))]
+    fn export_of(
+        &mut self,
+        alloc: Global,
+        number: usize,
+        local: Local<TypeIndex>,
+    ) -> stop::Result<u32>
+        ensures same { self.new ≡ self.old }
+        ensures value { Finds (λ n. n) result
+            (module_export (modules_by P.provided self.old) number local.0.0) }
+    {
+        if self.failed_exports.stands(number as u64) {
+            return Err(Stop::ByError(Error::ModuleExportsUnsuccessful));
+        }
+        let modules = self.modules.as_slice();
+        match keep_exports(&mut self.exports, alloc, self.provider, modules, number) {
+            Ok(()) => exported(&self.exports[&number], local),
+            Err(Error::OutOfMemory) => Err(Stop::ByError(Error::OutOfMemory)),
+            Err(fault) => Err(Stop::ByTable(Table::Exports(number), fault)),
+        }
+    }
+}
+
+/// What an index stands for by what a module imports. `CrossModuleRefNotFound`.
+#[tactic(auto, using(crate::proofs::Ending::ends_by_parsed))]
+fn imported(
+    imports: &CrossModuleImports<'_>,
+    index: TypeIndex,
+) -> stop::Result<CrossModuleRef<TypeIndex>>
+    ensures { Finds (reference (λ i. i.0)) result
+        (of_no_table (lifted (import_by imports.now index.0))) }
+{
+    Ok(imports.resolve_import(index)?)
+}
+
+/// The index in the database's table by a module's first export of an index as it names it. `LocalIndexNotInExports`.
+fn exported(exports: &ModuleExports<'_>, local: Local<TypeIndex>) -> stop::Result<u32>
+    ensures { Finds (λ n. n) result
+        (of_no_table (ok_or (first_export exports.now local.0.0) (LocalIndexNotInExports local.0.0))) }
+{
+    match exports.first(local.0.0) {
+        Some(index) => Ok(index),
+        None => Err(Stop::ByError(Error::LocalIndexNotInExports(local.0.0))),
+    }
+}
