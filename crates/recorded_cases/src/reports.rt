@@ -4,11 +4,21 @@
 //! case has lines of these forms:
 //!
 //! - `case NAME DATABASE`: its name, and the file of its program database
+//! - `prefixes FIRST LAST`: the case is of the file's first so many bytes, for each number of them
+//! - `numbers PLACE FIRST LAST`: it is of the file with each of these numbers in the four bytes at PLACE
+//! - `bytes PLACE BYTES`: it is of the file with BYTES at PLACE
 //! - `< TEXT`: a line of input, for a report on addresses
 //! - `sizes START END`: the range, both hexadecimal, for a report on how many of its addresses each function has
 //! - `> TEXT`: a line of output that must come
 //! - `! TEXT`: a line of error output that must come
 //! - `status NUMBER`: the exit status that must come
+//!
+//! Lines `prefixes`, `numbers` and `bytes`, whose numbers and bytes are hexadecimal, name files in the
+//! place of the database's own, and the answer must be the same for each of them.
+//!
+//! An input of several lines is handed over twice, each time to a run of its own: as one read, whose
+//! lines are answered in the order of their addresses, and a line a read, each of which is answered
+//! after those before it.
 //!
 //! The lines of input are one text in their order, and so are those of output and of error output: an answer can stand
 //! below its address. TEXT is printable ASCII: `\r` stands for a carriage return, and `\xNN` for a byte that is no such
@@ -18,18 +28,23 @@
 //! A DATABASE whose name ends in `.pdb` is the file as it is. Any other is a text of it: `length NUMBER`, and below that
 //! lines `PLACE BYTES`, both hexadecimal: what stands in the file from this place on. Bytes that no line names are zero.
 //!
-//! A case whose output, error output or status isn't as recorded is printed by its name, with the first line that
-//! differs. A file or a DATABASE that can't be read so is an error.
+//! A case whose output, error output or status isn't as recorded is printed by its name, the file's
+//! difference and how its input was handed over, with the first line that differs. A file or a
+//! DATABASE that can't be read so is an error.
 
 mod case;
+mod changes;
 pub mod database;
 mod difference;
+mod input;
 mod text;
 
 use anyhow::{Context, Result};
 use case::Case;
+use changes::{Change, changed};
 use database::database_bytes;
 use difference::print_difference;
+use input::{Input, Pace};
 use pdb_report::{RunFault, Watched, finish_run, run_frames, run_sizes};
 use std::alloc::Global;
 use std::fs;
@@ -53,28 +68,49 @@ fn run_paragraph(rt: &(impl Files + Print + AllocGlobal), paragraph: &str) -> Re
     run_case(rt, &Case::read(rt.alloc(), paragraph)?)
 }
 
-/// Makes the report of a case, and prints where it isn't as recorded.
+/// Makes the reports of a case, and prints where one isn't as recorded.
 fn run_case(rt: &(impl Files + Print + AllocGlobal), case: &Case<'_>) -> Result<()> {
-    let bytes = database_bytes(rt, case.database)?;
-    let mut output = Vec::new(rt.alloc());
-    let mut errors = Vec::new(rt.alloc());
-    let outcome = report(rt.alloc(), case, bytes, &mut output);
-    let status = finish_run(outcome, &mut errors);
-    print_differences(rt, case, &output, &errors, status)
+    let original = database_bytes(rt, case.database)?;
+    for files in &case.files {
+        for number in files.first..=files.last {
+            run_paces(rt, case, &original, files.change, number)?;
+        }
+    }
+    Ok(())
 }
 
-/// Prints where the output, the error output and the status of a case aren't as recorded.
-fn print_differences(
+/// Makes the reports on one file of a case, one at each pace of its input.
+fn run_paces(
     rt: &(impl Print + AllocGlobal),
     case: &Case<'_>,
-    output: &[u8],
-    errors: &[u8],
-    status: u8,
+    original: &[u8],
+    change: Change<'_>,
+    number: u32,
 ) -> Result<()> {
-    print_difference(rt, case.name, "output", output, &case.output)?;
-    print_difference(rt, case.name, "error output", errors, &case.errors)?;
+    for pace in case.paces() {
+        let bytes = changed(rt.alloc(), original, change, number)?;
+        let label = format!(in rt.alloc(); "{}, {change:?} {number:x}, {pace:?}", case.name)?;
+        run_report(rt, case, bytes, *pace, label.as_str())?;
+    }
+    Ok(())
+}
+
+/// Makes a report, and prints where it isn't as recorded.
+fn run_report(
+    rt: &(impl Print + AllocGlobal),
+    case: &Case<'_>,
+    bytes: Vec<u8>,
+    pace: Pace,
+    label: &str,
+) -> Result<()> {
+    let mut output = Vec::new(rt.alloc());
+    let mut errors = Vec::new(rt.alloc());
+    let outcome = report(rt.alloc(), case, bytes, pace, &mut output);
+    let status = finish_run(outcome, &mut errors);
+    print_difference(rt, label, "output", &output, &case.output)?;
+    print_difference(rt, label, "error output", &errors, &case.errors)?;
     if status != case.status {
-        println!(rt; "{}: status {status} and not {}", case.name, case.status)?;
+        println!(rt; "{label}: status {status} and not {}", case.status)?;
     }
     Ok(())
 }
@@ -84,11 +120,15 @@ fn report(
     alloc: Global,
     case: &Case<'_>,
     bytes: Vec<u8>,
+    pace: Pace,
     output: &mut Vec<u8>,
 ) -> Result<(), RunFault> {
     let mut writer = Watched::new(output);
     let Some((start, end)) = case.range else {
-        let mut reader = Watched::new(case.input.as_slice());
+        let mut reader = Watched::new(Input {
+            bytes: case.input.as_slice(),
+            pace,
+        });
         return run_frames(alloc, bytes, &mut reader, &mut writer);
     };
     match run_sizes(alloc, bytes, start, end, &mut writer) {

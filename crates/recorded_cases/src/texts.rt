@@ -15,12 +15,19 @@
 //! - `functions`: how many entries the public list has, and all functions
 //! - `all_again`: all four of these of a context that was asked them before, whether what gives modules was asked then, and
 //!   how often it is asked now
+//! - `each_again`: of each of the four, at how many of the 288 addresses from this RVA on a new context
+//!   asks for modules, and how often such contexts do when they are asked the same again; and how often
+//!   one context does that was asked everything of each
+//! - `prefixes`: the frames at this RVA in the file's first so many bytes, for each number of them: each
+//!   number, in hexadecimal, from which on the answer is another one, and that answer
 //!
 //! A case that is answered otherwise is printed.
 
 mod calls;
 mod contexts;
+mod each_address;
 mod formatters;
+mod prefixes;
 mod question;
 
 use crate::reports::database::database_bytes;
@@ -70,7 +77,8 @@ fn told(alloc: Global, answer: Result<String, Error>) -> Result<String, AllocErr
 /// The answer to a question of a file's bytes.
 fn answer(alloc: Global, bytes: Vec<u8>, question: &Question<'_>) -> Result<String, Error> {
     match question.asked {
-        Asked::AllAgain => calls::ask(alloc, bytes, question),
+        Asked::AllAgain | Asked::EachAgain => calls::ask(alloc, bytes, question),
+        Asked::Prefixes => prefixes::ask(alloc, bytes, question),
         _ => ask(alloc, bytes, question),
     }
 }

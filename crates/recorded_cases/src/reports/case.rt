@@ -1,5 +1,7 @@
 //! Recorded cases.
 
+use crate::reports::changes::{self, Change, Changes};
+use crate::reports::input::Pace;
 use crate::reports::text::push_lines;
 use anyhow::{Context, Result, bail, ensure};
 use pdb_report::parse_address;
@@ -12,6 +14,8 @@ pub struct Case<'t> {
     pub name: &'t str,
     /// The file of the program database.
     pub database: &'t str,
+    /// The files that the case is of.
+    pub files: Vec<Changes<'t>>,
     /// The range whose sizes are asked for, its start and its end. None where addresses are asked for.
     pub range: Option<(u32, u32)>,
     /// The bytes of the input.
@@ -33,6 +37,7 @@ impl<'t> Case<'t> {
         let mut case = Case {
             name: "",
             database: "",
+            files: Vec::new(alloc),
             range: None,
             input: Vec::new(alloc),
             output: Vec::new(alloc),
@@ -43,7 +48,20 @@ impl<'t> Case<'t> {
             case.add(line).context(format_args!("the line {line:?}"))?;
         }
         ensure!(!case.name.is_empty(), "a case without a name");
+        if case.files.is_empty() {
+            case.files.push(changes::one_file(Change::Nothing))?;
+        }
         Ok(case)
+    }
+
+    /// How the input is handed over: at once, and line by line where it has several lines.
+    pub fn paces(&self) -> &'static [Pace] {
+        let lines = self.input.split_inclusive(|byte| *byte == b'\n').count();
+        if lines > 1 {
+            &[Pace::AtOnce, Pace::ByLine]
+        } else {
+            &[Pace::AtOnce]
+        }
     }
 
     /// Adds what a line says.
@@ -53,6 +71,9 @@ impl<'t> Case<'t> {
             "case" => self.set_names(rest),
             "sizes" => self.set_range(rest),
             "status" => self.set_status(rest),
+            "prefixes" => self.add_files(changes::prefixes(rest)?),
+            "numbers" => self.add_files(changes::numbers(rest)?),
+            "bytes" => self.add_files(changes::bytes(rest)?),
             _ => self.add_text(word, rest),
         }
     }
@@ -75,6 +96,12 @@ impl<'t> Case<'t> {
     /// Sets the status.
     fn set_status(&mut self, status: &str) -> Result<()> {
         self.status = status.parse::<u8>()?;
+        Ok(())
+    }
+
+    /// Adds files that the case is of.
+    fn add_files(&mut self, files: Changes<'t>) -> Result<()> {
+        self.files.push(files)?;
         Ok(())
     }
 

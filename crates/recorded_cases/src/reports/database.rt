@@ -44,7 +44,10 @@ fn write_line(alloc: Global, bytes: &mut [u8], line: &str) -> Result<()> {
 }
 
 /// Writes a piece over the bytes from a place on.
-fn write_piece(bytes: &mut [u8], place: usize, piece: &[u8]) -> Result<()> {
+///
+/// # Errors
+/// It reaches past the end.
+pub fn write_piece(bytes: &mut [u8], place: usize, piece: &[u8]) -> Result<()> {
     let (_, rest) = bytes
         .split_at_mut_checked(place)
         .context("the place lies past the end")?;

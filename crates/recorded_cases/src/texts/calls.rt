@@ -1,7 +1,8 @@
 //! How often a context asks for modules.
 
 use crate::texts::contexts::{functions_text, told};
-use crate::texts::question::Question;
+use crate::texts::each_address;
+use crate::texts::question::{Asked, Question};
 use pdb_addr2line::maybe_owned::MaybeOwned;
 use pdb_addr2line::pdb::{
     self, DebugInformation, FallibleIterator, Module, ModuleInfo, PDB, PdbInternalSectionOffset,
@@ -98,7 +99,7 @@ fn ask_named<'s, P: ModuleProvider>(
 
 /// What was read of a database, but for its modules.
 #[derive(Clone, Copy)]
-struct Parts<'d, 's> {
+pub struct Parts<'d, 's> {
     debug_information: &'d DebugInformation<'s>,
     tables: &'d Tables<'s>,
     names: &'d StringTable<'s>,
@@ -140,21 +141,20 @@ fn formatter_of<'d, 's, P: ModuleProvider>(
     )
 }
 
-/// The answers of a context over what was read; there is none over a map that isn't ordered.
-fn ask_over<P: ModuleProvider>(
+/// A context over what was read; there is none over a map that isn't ordered.
+pub fn context_of<'d, 's, P: ModuleProvider>(
     alloc: Global,
-    provider: &P,
-    calls: &Cell<u32>,
-    parts: Parts<'_, '_>,
+    provider: &'d P,
+    parts: Parts<'d, 's>,
     question: &Question<'_>,
-) -> Result<String, Error> {
+) -> Result<Context<'d, 's, P>, Error> {
     let tables = parts.tables;
     let map = &tables.address_map;
     if !map.is_ordered() {
         return Err(Error::CircularTypeDefinition(0));
     }
     let formatter = formatter_of(alloc, provider, parts, question)?;
-    let mut context = Context::new_from_parts(
+    Context::new_from_parts(
         alloc,
         provider,
         map.image_section_headers(),
@@ -163,8 +163,24 @@ fn ask_over<P: ModuleProvider>(
         Some(parts.names),
         parts.debug_information,
         MaybeOwned::Owned(formatter),
-    )?;
-    ask_twice(alloc, &mut context, calls, question.index)
+    )
+}
+
+/// The answers over what was read, and how often modules are asked for.
+fn ask_over<P: ModuleProvider>(
+    alloc: Global,
+    provider: &P,
+    calls: &Cell<u32>,
+    parts: Parts<'_, '_>,
+    question: &Question<'_>,
+) -> Result<String, Error> {
+    match question.asked {
+        Asked::EachAgain => each_address::ask(alloc, provider, calls, parts, question),
+        _ => {
+            let mut context = context_of(alloc, provider, parts, question)?;
+            ask_twice(alloc, &mut context, calls, question.index)
+        }
+    }
 }
 
 /// The answers of a context about an RVA that it was asked about before.

@@ -23,6 +23,10 @@ pub enum Asked {
     Functions,
     /// All of a context that was asked before.
     AllAgain,
+    /// How often contexts that were asked before ask for modules, at each of many addresses.
+    EachAgain,
+    /// The frames at an RVA, in every prefix of the file.
+    Prefixes,
 }
 
 /// What is asked, by its words.
@@ -36,6 +40,8 @@ const ASKED: &[(&str, Asked)] = &[
     ("run_from", Asked::RunFrom),
     ("functions", Asked::Functions),
     ("all_again", Asked::AllAgain),
+    ("each_again", Asked::EachAgain),
+    ("prefixes", Asked::Prefixes),
 ];
 
 /// What a word asks. One that isn't known asks for all functions.

@@ -1,0 +1,126 @@
+//! How often contexts ask for modules at each address of a range.
+
+use crate::texts::calls::{Parts, context_of};
+use crate::texts::contexts::functions_text;
+use crate::texts::question::Question;
+use pdb_addr2line::pdb::PdbInternalSectionOffset;
+use pdb_addr2line::{Context, Error, ModuleProvider};
+use std::alloc::Global;
+use std::cell::Cell;
+
+/// How many addresses a range has: the 256 of a section at 0x1000, and 16 on each side of it.
+const ADDRESSES: u32 = 288;
+
+/// What a context is asked of an address.
+#[derive(Clone, Copy, Debug)]
+enum Query {
+    /// The frames there.
+    Frames,
+    /// The function there.
+    Function,
+    /// How far that function goes on in section 1, which begins at 0x1000.
+    Run,
+    /// All functions, whatever the address.
+    Functions,
+}
+
+/// All that can be asked.
+const QUERIES: &[Query] = &[Query::Frames, Query::Function, Query::Run, Query::Functions];
+
+/// Asks a context.
+fn ask_context<P: ModuleProvider>(
+    alloc: Global,
+    context: &mut Context<'_, '_, P>,
+    query: Query,
+    rva: u32,
+) -> Result<(), Error> {
+    match query {
+        Query::Frames => {
+            context.find_frames(alloc, rva)?;
+        }
+        Query::Function => {
+            context.find_function(alloc, rva)?;
+        }
+        Query::Run => {
+            let offset = rva.wrapping_sub(0x1000);
+            let place = PdbInternalSectionOffset { offset, section: 1 };
+            context.find_function_run(alloc, place, 0x100)?;
+        }
+        Query::Functions => {
+            functions_text(alloc, context)?;
+        }
+    }
+    Ok(())
+}
+
+/// At how many of the addresses a new context that is asked so asks for modules, and how often such
+/// contexts do when they are asked the same again.
+fn ask_new_contexts<P: ModuleProvider>(
+    alloc: Global,
+    provider: &P,
+    calls: &Cell<u32>,
+    parts: Parts<'_, '_>,
+    question: &Question<'_>,
+    query: Query,
+) -> Result<(u32, u32), Error> {
+    let mut asking = 0u32;
+    let mut again = 0u32;
+    for place in 0..ADDRESSES {
+        let rva = question.index.saturating_add(place);
+        let mut context = context_of(alloc, provider, parts, question)?;
+        let before = calls.get();
+        ask_context(alloc, &mut context, query, rva)?;
+        let first = calls.get();
+        ask_context(alloc, &mut context, query, rva)?;
+        asking = asking.saturating_add(u32::from(first > before));
+        again = again.saturating_add(calls.get().saturating_sub(first));
+    }
+    Ok((asking, again))
+}
+
+/// Asks a context everything of each address.
+fn ask_everything<P: ModuleProvider>(
+    alloc: Global,
+    context: &mut Context<'_, '_, P>,
+    start: u32,
+) -> Result<(), Error> {
+    for place in 0..ADDRESSES {
+        for query in QUERIES {
+            ask_context(alloc, context, *query, start.saturating_add(place))?;
+        }
+    }
+    Ok(())
+}
+
+/// How often a context that was asked everything asks for modules when it is asked that again.
+fn ask_one_context<P: ModuleProvider>(
+    alloc: Global,
+    context: &mut Context<'_, '_, P>,
+    calls: &Cell<u32>,
+    start: u32,
+) -> Result<u32, Error> {
+    ask_everything(alloc, context, start)?;
+    let first = calls.get();
+    ask_everything(alloc, context, start)?;
+    Ok(calls.get().saturating_sub(first))
+}
+
+/// Of each query: at how many addresses a new context asks for modules, and how often such contexts do
+/// when they are asked again. At last, how often one context does that is asked everything again.
+pub fn ask<P: ModuleProvider>(
+    alloc: Global,
+    provider: &P,
+    calls: &Cell<u32>,
+    parts: Parts<'_, '_>,
+    question: &Question<'_>,
+) -> Result<String, Error> {
+    let mut text = String::new(alloc);
+    for query in QUERIES {
+        let (asking, again) = ask_new_contexts(alloc, provider, calls, parts, question, *query)?;
+        write!(text, "{query:?} {asking}, then {again}; ")?;
+    }
+    let mut context = context_of(alloc, provider, parts, question)?;
+    let again = ask_one_context(alloc, &mut context, calls, question.index)?;
+    write!(text, "everything, then {again}")?;
+    Ok(text)
+}
