@@ -4,7 +4,7 @@ use Rattle.std.specs.Prelude.{Option, None, Some, option_map}
 use Rattle.std.specs.Option.{option_or}
 use Rattle.std.proofs.lemmas.Bool.{le-ltb}
 use Rattle.std.proofs.lemmas.List.{drop_more, drop_all, take_all}
-use Rattle.std.proofs.lemmas.Option.{slice_get-map}
+use Rattle.std.proofs.lemmas.Option.{slice_get-map, slice_get-get_or}
 use Rattle.pdb_addresses.specs.Sections.{header_in, section_header_at}
 use Rattle.pdb_image.specs.CodeView.{place_in, place_of}
 
@@ -42,5 +42,5 @@ unfolding section_header_at
 header_read bytes forty = rw (le-ltb (length bytes) 40 (omega (arith, forty)), take_all 40 bytes (omega (arith, forty)), drop_all 40 bytes (omega (arith, forty))) refl
 
 -- the header of a number is made of the bytes of that number
-pub section_at : (sections : List (List ℕ)) (number : ℕ) → slice_get (map header_in sections) number ≡ option_map header_in (slice_get sections number)
-section_at sections number = slice_get-map header_in sections number
+pub section_at : (sections : List (List ℕ)) (number : ℕ) (d : List ℕ) → number < length sections → slice_get (map header_in sections) number ≡ Some (header_in (get_or sections number d))
+section_at sections number d lt = slice_get-map header_in sections number ∙ ap (option_map header_in) (slice_get-get_or sections number d lt)

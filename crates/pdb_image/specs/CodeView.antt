@@ -50,16 +50,21 @@ ended_at bytes None = Err faults.PathNotEnded
 ended_at bytes (Some end) = Ok (take end bytes)
 
 -- the path that bytes begin with: what comes before the first NUL
-abbrev pub path_of : List ℕ → Result (List ℕ) ImageError
+unfoldable pub path_of : List ℕ → Result (List ℕ) ImageError
 path_of bytes = ended_at bytes (position (λ byte. byte == 0) bytes)
 
--- the record of an entry: "RSDS", the GUID's 16 bytes, the age, and the path
-unfoldable pub record_of : List ℕ → List ℕ → Result CodeView ImageError
-record_of file entry = do
-  bytes ← ok_or (part file (word_at entry 24) (word_at entry 16)) faults.RecordPastEnd
+-- a record: "RSDS", the GUID's 16 bytes, the age in four, and the path
+unfoldable pub rsds_of : List ℕ → Result CodeView ImageError
+rsds_of bytes = do
   whole ← refuse (nat_lt (length bytes) 24) faults.RecordTooShort
   path ← path_of (drop 24 bytes)
   Ok record { identity = record { guid = take 16 (drop 4 bytes); age = word_at bytes 20 }; path = path }
+
+-- the record of an entry: its size stands at 16, its place in the file at 24
+unfoldable pub record_of : List ℕ → List ℕ → Result CodeView ImageError
+record_of file entry = do
+  bytes ← ok_or (part file (word_at entry 24) (word_at entry 16)) faults.RecordPastEnd
+  rsds_of bytes
 
 -- the record of the entry that was found, if one was; none of no CodeView entry at all
 abbrev pub found_record : List ℕ → List (List ℕ) → Option (List ℕ) → Result (Option CodeView) ImageError

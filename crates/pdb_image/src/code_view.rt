@@ -1,11 +1,10 @@
 //! The CodeView record of an image, which says what PDB it has.
 
-ghost use Rattle.std.specs.Prelude.{◌≡◌, ◌≤◌, length, map, nat_eq, option_map};
+ghost use Rattle.std.specs.Prelude.{◌≡◌, Err, MatchResult, Ok, Some, map, option_map};
 ghost use Rattle.std.specs.List.{find, list_any};
-ghost use Rattle.std.specs.Result.{result_map_both};
 ghost use Rattle.pdb_addresses.specs.Sections.{header_in};
 ghost use Rattle.pdb_container.specs.RawString.{raw_bytes};
-ghost use Rattle.pdb_image.specs.CodeView.{is_code_view as is_code_view_entry, is_rsds as is_rsds_entry, place_in as place_in_section, path_of, place_of, record_in, record_of};
+ghost use Rattle.pdb_image.specs.CodeView.{is_code_view as is_code_view_entry, is_rsds as is_rsds_entry, place_in as place_in_section, path_of, place_of, record_in, record_of, rsds_of};
 
 use crate::error::ImageError;
 use crate::identity::PdbIdentity;
@@ -122,22 +121,32 @@ fn parse_record<'a>(file: &'a [u8], entry: &[u8; 28]) -> Result<CodeView<'a>, Im
 {
     let place = word_at(entry, 24) as usize;
     let size = word_at(entry, 16) as usize;
-    let record = part(file, place, size).ok_or(ImageError::RecordPastEnd)?;
+    parse_rsds(part(file, place, size).ok_or(ImageError::RecordPastEnd)?)
+}
+
+/// What an RSDS record says.
+#[tactic(auto, unfolding(crate::specs::CodeView::rsds_of))]
+fn parse_rsds(record: &[u8]) -> Result<CodeView<'_>, ImageError>
+    ensures { result ≡ rsds_of record.now }
+{
     if record.len() < 24 {
         return Err(ImageError::RecordTooShort);
     }
+    let (_, path) = record.split_at(24);
+    let path = parse_path(path)?;
     let mut guid = [0; 16];
     guid.copy_from_slice(&record[4..20]);
     let age = word_at(record, 20);
     Ok(CodeView {
         identity: PdbIdentity { guid, age },
-        path: parse_path(&record[24..])?,
+        path,
     })
 }
 
 /// The path that these bytes begin with, which ends before a NUL.
+#[tactic(auto, unfolding(crate::specs::CodeView::path_of))]
 fn parse_path(bytes: &[u8]) -> Result<RawString<'_>, ImageError>
-    ensures { result_map_both raw_bytes (λ e. e) result ≡ path_of bytes.now }
+    ensures { MatchResult result (λ path. path_of bytes.now ≡ Ok (raw_bytes path)) (λ e. path_of bytes.now ≡ Err e) }
 {
     match nul_in(bytes) {
         None => Err(ImageError::PathNotEnded),

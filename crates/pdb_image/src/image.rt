@@ -1,7 +1,6 @@
 //! Images: what their headers say.
 
-ghost use Rattle.std.specs.Prelude.{◌≡◌, Some, length, slice_get};
-ghost use Rattle.std.specs.Result.{result_map_both};
+ghost use Rattle.std.specs.Prelude.{◌≡◌, Err, MatchResult, Ok, Some, length, slice_get};
 ghost use Rattle.pdb_addresses.specs.Sections.{header_in};
 ghost use Rattle.pdb_image.specs.Image.{image_of};
 ghost use Rattle.pdb_image.specs.CodeView.{code_view_of, directory_of};
@@ -118,7 +117,7 @@ impl<'a> Image<'a> {
     /// The bytes of the debug directory, which are all in the file.
     #[tactic(auto, unfolding(crate::specs::CodeView::directory_of))]
     fn directory(&self, debug: DataDirectory) -> Result<&'a [u8], ImageError>
-        ensures { result_map_both (λ bytes. bytes.now) (λ e. e) result ≡ directory_of self.now debug }
+        ensures { MatchResult result (λ bytes. directory_of self.now debug ≡ Ok bytes.now) (λ e. directory_of self.now debug ≡ Err e) }
     {
         let Some(place) = file_place(self.sections, debug.address) else {
             return Err(ImageError::DebugDirectoryNotFound(debug.address));
