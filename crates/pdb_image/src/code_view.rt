@@ -7,8 +7,8 @@ ghost use Rattle.pdb_container.specs.RawString.{raw_bytes};
 ghost use Rattle.pdb_image.specs.CodeView.{is_code_view as is_code_view_entry, is_rsds as is_rsds_entry, place_in as place_in_section, path_of, place_of, record_in, record_of, rsds_of};
 
 use crate::error::ImageError;
+use crate::file_part::part;
 use crate::identity::PdbIdentity;
-use crate::optional_header::part;
 use pdb_container::{RawString, nul_in, word_at};
 use std::marker::Model;
 
@@ -81,7 +81,10 @@ fn is_rsds(file: &[u8], entry: &[u8; 28]) -> bool
     ensures { result ≡ is_rsds_entry file.now entry.now }
 {
     let place = word_at(entry, 24) as usize;
-    is_code_view(entry) && file.get(place..).is_some_and(|record| record.starts_with(b"RSDS"))
+    is_code_view(entry)
+        && file
+            .get(place..)
+            .is_some_and(|record| record.starts_with(b"RSDS"))
 }
 
 /// The first CodeView entry with an RSDS record.

@@ -7,7 +7,8 @@ ghost use Rattle.pdb_image.specs.CodeView.{code_view_of, directory_of};
 
 use crate::code_view::{CodeView, file_place, parse_record_in};
 use crate::error::ImageError;
-use crate::optional_header::{DataDirectory, parse_optional, part};
+use crate::file_part::part;
+use crate::optional_header::{DataDirectory, parse_optional};
 use pdb_addresses::ImageSectionHeader;
 use pdb_container::{ParseBuffer, half_at, word_at};
 use std::marker::Model;

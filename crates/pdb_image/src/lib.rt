@@ -5,6 +5,7 @@
 
 mod code_view;
 mod error;
+mod file_part;
 mod identity;
 mod image;
 mod optional_header;

@@ -1,9 +1,10 @@
 //! The optional header of an image.
 
-ghost use Rattle.std.specs.Prelude.{◌≡◌, ◌+◌, ◌≤◌, length, option_map, IfSome};
-ghost use Rattle.pdb_image.specs.Image.{optional_of, pe32_of, pe32_plus_of, debug_entry_of, part as part_of};
+ghost use Rattle.std.specs.Prelude.{◌≡◌, ◌+◌, ◌≤◌, length};
+ghost use Rattle.pdb_image.specs.Image.{optional_of, pe32_of, pe32_plus_of, debug_entry_of};
 
 use crate::error::ImageError;
+use crate::file_part::part;
 use pdb_container::{half_at, word_at};
 
 /// The magic number of a PE32 optional header.
@@ -31,14 +32,6 @@ pub(crate) struct OptionalHeader {
     pub(crate) image_base: u64,
     /// The debug directory, if there is one.
     pub(crate) debug: Option<DataDirectory>,
-}
-
-/// So many bytes of these from a place on, where all of them are there.
-pub(crate) fn part(bytes: &[u8], place: usize, size: usize) -> Option<&[u8]>
-    ensures bytes { option_map (λ x. x.now) result ≡ part_of bytes.now place size }
-    ensures size { IfSome result (λ x. length x.now ≡ size) }
-{
-    bytes.get(place..)?.get(..size)
 }
 
 /// What the bytes of an optional header say.
