@@ -1,0 +1,2 @@
+pub mod CodeView
+pub mod Image

@@ -1,0 +1,51 @@
+//! The identity of a PDB, by which an image and its PDB are told to belong together.
+
+ghost use Rattle.std.specs.Prelude.{◌≡◌, ◌↔◌, IsTrue, unwrap_or};
+
+use pdb_container::{half_at, word_at};
+use std::fmt;
+
+/// The identity of a PDB: a GUID, and an age that says how often the PDB of that GUID was written. It prints as the
+/// name of a folder in a symbol server: the GUID and the age in hexadecimal, without hyphens.
+#[derive(Clone, Copy, Debug, PartialEq, Eq, Hash)]
+pub struct PdbIdentity {
+    /// The GUID, as its 16 bytes stand in the file: its first three numbers have their lowest byte first.
+    pub guid: [u8; 16],
+    /// The age.
+    pub age: u32,
+}
+
+impl PdbIdentity {
+    /// The identity that a PDB has: the GUID of its information stream (1), and the age of its DBI header (stream 3),
+    /// or that of the information stream where the DBI header has none. Tools that write to a PDB after it was linked
+    /// raise the age of its information stream alone.
+    pub fn of_pdb(guid: [u8; 16], information_age: u32, dbi_age: Option<u32>) -> PdbIdentity
+        ensures { result ≡ record { guid = guid; age = unwrap_or dbi_age information_age } }
+    {
+        PdbIdentity {
+            guid,
+            age: dbi_age.unwrap_or(information_age),
+        }
+    }
+
+    /// Whether both are of one PDB: GUID and age are equal, as Windows's debuggers ask for it. `llvm-symbolizer` takes
+    /// the file that the image's path names and compares neither.
+    pub fn matches(&self, other: &PdbIdentity) -> bool
+        ensures { IsTrue result ↔ (self.now.guid ≡ other.now.guid) × (self.now.age ≡ other.now.age) }
+    {
+        self == other
+    }
+}
+
+impl fmt::Display for PdbIdentity {
+    fn fmt<W: fmt::Write>(&self, f: &mut fmt::Formatter<W>) -> fmt::Result {
+        let first = word_at(&self.guid, 0);
+        let second = half_at(&self.guid, 4);
+        let third = half_at(&self.guid, 6);
+        write!(f, "{first:08X}{second:04X}{third:04X}")?;
+        for byte in &self.guid[8..] {
+            write!(f, "{byte:02X}")?;
+        }
+        write!(f, "{:x}", self.age)
+    }
+}

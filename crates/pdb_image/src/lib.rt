@@ -1,0 +1,16 @@
+//! What a PE image says of itself: its machine, where it wants to be loaded, its sections, and the identity and path of its
+//! program database (PDB). The layout is that of Microsoft's page PE Format; the CodeView record is CV_INFO_PDB70, as
+//! microsoft-pdb's and LLVM's headers have it.
+#![tactic(auto)]
+
+mod code_view;
+mod error;
+mod file_part;
+mod identity;
+mod image;
+mod optional_header;
+
+pub use code_view::CodeView;
+pub use error::ImageError;
+pub use identity::PdbIdentity;
+pub use image::Image;

@@ -1,0 +1,102 @@
+//! The optional header of an image.
+
+ghost use Rattle.std.specs.Prelude.{◌≡◌, ◌+◌, ◌≤◌, length};
+ghost use Rattle.pdb_image.specs.Image.{optional_of, pe32_of, pe32_plus_of, debug_entry_of};
+
+use crate::error::ImageError;
+use crate::file_part::part;
+use pdb_container::{half_at, word_at};
+
+/// The magic number of a PE32 optional header.
+const PE32: u16 = 0x10b;
+
+/// The magic number of a PE32+ optional header.
+const PE32_PLUS: u16 = 0x20b;
+
+/// The number of the debug directory among the data directories, counted from 0.
+const DEBUG: u32 = 6;
+
+/// A data directory: where a table lies once the image is loaded.
+#[derive(Clone, Copy, Debug)]
+pub(crate) struct DataDirectory {
+    /// The table's address, in bytes from the image's start.
+    pub(crate) address: u32,
+    /// The table's size, in bytes.
+    pub(crate) size: u32,
+}
+
+/// What is read of an optional header.
+#[derive(Clone, Copy, Debug)]
+pub(crate) struct OptionalHeader {
+    /// The address at which the image wants to be loaded.
+    pub(crate) image_base: u64,
+    /// The debug directory, if there is one.
+    pub(crate) debug: Option<DataDirectory>,
+}
+
+/// What the bytes of an optional header say.
+#[tactic(auto, unfolding(crate::specs::Image::optional_of))]
+pub(crate) fn parse_optional(bytes: &[u8]) -> Result<OptionalHeader, ImageError>
+    ensures { result ≡ optional_of bytes.now }
+{
+    if bytes.len() < 2 {
+        return Err(ImageError::OptionalHeaderTooShort);
+    }
+    match half_at(bytes, 0) {
+        PE32 => parse_pe32(bytes),
+        PE32_PLUS => parse_pe32_plus(bytes),
+        magic => Err(ImageError::UnknownMagic(magic)),
+    }
+}
+
+/// What a PE32 optional header says.
+#[tactic(auto, unfolding(crate::specs::Image::pe32_of))]
+fn parse_pe32(bytes: &[u8]) -> Result<OptionalHeader, ImageError>
+    ensures { result ≡ pe32_of bytes.now }
+{
+    if bytes.len() < 96 {
+        return Err(ImageError::OptionalHeaderTooShort);
+    }
+    Ok(OptionalHeader {
+        image_base: u64::from(word_at(bytes, 28)),
+        debug: parse_debug_entry(bytes, 92)?,
+    })
+}
+
+/// What a PE32+ optional header says.
+#[tactic(auto, unfolding(crate::specs::Image::pe32_plus_of))]
+fn parse_pe32_plus(bytes: &[u8]) -> Result<OptionalHeader, ImageError>
+    ensures { result ≡ pe32_plus_of bytes.now }
+{
+    if bytes.len() < 112 {
+        return Err(ImageError::OptionalHeaderTooShort);
+    }
+    let high = u64::from(word_at(bytes, 28));
+    Ok(OptionalHeader {
+        image_base: high * 0x1_0000_0000 + u64::from(word_at(bytes, 24)),
+        debug: parse_debug_entry(bytes, 108)?,
+    })
+}
+
+/// The debug directory, by the data directories, which lie behind their count. There is none where they are fewer than
+/// seven, or its address is 0.
+#[tactic(auto, unfolding(crate::specs::Image::debug_entry_of))]
+fn parse_debug_entry(bytes: &[u8], count_place: usize) -> Result<Option<DataDirectory>, ImageError>
+    requires { count_place + 4 ≤ length bytes.now }
+    ensures { result ≡ debug_entry_of count_place bytes.now }
+{
+    if word_at(bytes, count_place) <= DEBUG {
+        return Ok(None);
+    }
+    let Some(entry) = part(bytes, count_place + 52, 8) else {
+        return Err(ImageError::OptionalHeaderTooShort);
+    };
+    let address = word_at(entry, 0);
+    if address == 0 {
+        return Ok(None);
+    }
+    Ok(Some(DataDirectory {
+        address,
+        size: word_at(entry, 4),
+    }))
+}

@@ -1,0 +1,5 @@
+//! Tests of images: public calls on two that `lld-link` made.
+#![tactic(auto)]
+
+#[cfg(test)]
+mod calls;
