@@ -2,8 +2,8 @@
 
 use crate::question::{Question, Task};
 use crate::shown::{listed, push, shown, shown_read};
-use crate::{addresses, modules};
-use pdb_container::{FallibleIterator, Result, Stream, StringRef};
+use crate::{addresses, modules, refusals};
+use pdb_container::{Error, FallibleIterator, Result, Stream, StringRef, StringTable};
 use pdb_container_types::{
     IdFinder, IdIndex, IdInformation, SymbolIndex, TypeFinder, TypeIndex, TypeInformation,
 };
@@ -15,17 +15,27 @@ use std::alloc::Global;
 /// An open database over a file's bytes.
 type Database = PDB<'static, Vec<u8>>;
 
-/// The answer of the database that a file's bytes make.
-pub fn ask(alloc: Global, bytes: Vec<u8>, question: &Question<'_>) -> Result<String> {
-    let mut database = PDB::open(alloc, bytes)?;
-    ask_database(alloc, &mut database, question)
+/// The answer of the database that a file's bytes make; it is asked again where it finds no memory.
+pub fn ask(
+    rt: &(impl Print + AllocGlobal),
+    bytes: Vec<u8>,
+    question: &Question<'_>,
+) -> Result<String> {
+    let mut database = PDB::open(rt.alloc(), bytes)?;
+    match ask_database(rt.alloc(), &mut database, question) {
+        Err(Error::OutOfMemory) => {
+            refusals::tell(rt)?;
+            ask_database(rt.alloc(), &mut database, question)
+        }
+        answer => answer,
+    }
 }
 
 /// The answer of an open database.
 fn ask_database(alloc: Global, database: &mut Database, question: &Question<'_>) -> Result<String> {
     match question.task {
         Task::Raw | Task::Get | Task::Named => ask_streams(alloc, database, question),
-        Task::Name => name_text(alloc, database, question.numbers.0),
+        Task::Name | Task::NameText => ask_name(alloc, database, question),
         Task::Information => information_text(alloc, database),
         Task::Names => names_text(alloc, database),
         Task::Sections => sections_text(alloc, database),
@@ -115,9 +125,19 @@ fn stream_text(alloc: Global, stream: &Option<Stream<'_>>) -> Result<String> {
 }
 
 /// The name of a file.
-fn name_text(alloc: Global, database: &mut Database, offset: u32) -> Result<String> {
+fn ask_name(alloc: Global, database: &mut Database, question: &Question<'_>) -> Result<String> {
     let names = database.string_table(alloc)?;
-    shown_read(alloc, names.get(StringRef(offset)))
+    let name = StringRef(question.numbers.0);
+    match question.task {
+        Task::Name => shown_read(alloc, names.get(name)),
+        _ => name_text(alloc, &names, name),
+    }
+}
+
+/// The name of a file as a text, in UTF-8.
+fn name_text(alloc: Global, names: &StringTable<'_>, name: StringRef) -> Result<String> {
+    let text = name.to_string_lossy(alloc, names)?;
+    shown(alloc, &text.as_str().as_bytes())
 }
 
 /// The numbers of stream 1.
@@ -224,8 +244,17 @@ fn ask_module_of(
 ) -> Result<String> {
     match module_at(debug, question.numbers.0)? {
         None => shown(alloc, &"no module"),
+        Some(module) if matches!(question.task, Task::ModuleNames) => module_names(alloc, &module),
         Some(module) => ask_stream_of(alloc, database, &module, question),
     }
+}
+
+/// The names of a module and of its object file as texts, in UTF-8.
+fn module_names(alloc: Global, module: &Module<'_>) -> Result<String> {
+    let name = module.module_name(alloc)?;
+    let object_file = module.object_file_name(alloc)?;
+    let names = (name.as_str().as_bytes(), object_file.as_str().as_bytes());
+    shown(alloc, &names)
 }
 
 /// The answer of a module's stream.

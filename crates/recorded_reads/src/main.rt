@@ -5,18 +5,24 @@
 //! fault, that must come.
 //!
 //! Each case that is answered otherwise than recorded is printed, and at last how many cases there are.
+//!
+//! Where a case finds no memory, `out of memory` is printed, and it is asked once more: of the same database, if that was open. A
+//! library refuses the requests in turn (`tests/refused_requests`): which ones are a case's is shown by `+` and `-` on standard
+//! error, before it and after it.
 #![tactic(auto)]
 
 mod addresses;
 mod databases;
 mod modules;
+mod pages;
 mod question;
 mod records;
+mod refusals;
 mod shown;
 mod sums;
 mod words;
 
-use pdb_container::Result;
+use pdb_container::{Error, Result};
 use question::{Question, Subject, question_of};
 use shown::shown;
 use std::rt::{Env, Files};
@@ -31,13 +37,13 @@ fn main(rt: HostRuntime) -> anyhow::Result<()> {
 }
 
 /// Goes through the cases of a file, and returns how many there are.
-fn run_file(rt: &(impl Files + Print + AllocGlobal), file: &str) -> Result<u64> {
+fn run_file(rt: &(impl Files + Print + Eprint + AllocGlobal), file: &str) -> Result<u64> {
     let text = fs::read_to_string(rt, file)?;
     run_lines(rt, text.as_str())
 }
 
 /// Goes through the cases of a text.
-fn run_lines(rt: &(impl Files + Print + AllocGlobal), text: &str) -> Result<u64> {
+fn run_lines(rt: &(impl Files + Print + Eprint + AllocGlobal), text: &str) -> Result<u64> {
     let mut count = 0u64;
     for line in text.lines() {
         count = count.saturating_add(run_line(rt, line)?);
@@ -46,7 +52,7 @@ fn run_lines(rt: &(impl Files + Print + AllocGlobal), text: &str) -> Result<u64>
 }
 
 /// Goes through the case of a line, and returns 1, or 0 where the line is no case.
-fn run_line(rt: &(impl Files + Print + AllocGlobal), line: &str) -> Result<u64> {
+fn run_line(rt: &(impl Files + Print + Eprint + AllocGlobal), line: &str) -> Result<u64> {
     match line.split_once(" => ") {
         None => Ok(0),
         Some((question, wanted)) => {
@@ -57,7 +63,11 @@ fn run_line(rt: &(impl Files + Print + AllocGlobal), line: &str) -> Result<u64> 
 }
 
 /// Prints a case that is answered otherwise.
-fn run_case(rt: &(impl Files + Print + AllocGlobal), question: &str, wanted: &str) -> Result<()> {
+fn run_case(
+    rt: &(impl Files + Print + Eprint + AllocGlobal),
+    question: &str,
+    wanted: &str,
+) -> Result<()> {
     let answer = told(rt, &question_of(question))?;
     Ok(print_other(rt, question, answer.as_str(), wanted)?)
 }
@@ -70,16 +80,36 @@ fn print_other(rt: &impl Print, question: &str, answer: &str, wanted: &str) -> i
     println!(rt; "{question}\n  gives {answer}\n  and not {wanted}")
 }
 
-/// The answer to a question, or why there is none.
-fn told(rt: &(impl Files + AllocGlobal), question: &Question<'_>) -> Result<String> {
-    match answer(rt, question) {
+/// The answer to a question, or why there is none; it is asked again where no memory is found.
+fn told(
+    rt: &(impl Files + Print + Eprint + AllocGlobal),
+    question: &Question<'_>,
+) -> Result<String> {
+    match answer_again(rt, question) {
         Ok(answer) => Ok(answer),
         Err(fault) => shown(rt.alloc(), &fault),
     }
 }
 
+/// The answer to a question, that is asked again where no memory is found.
+fn answer_again(
+    rt: &(impl Files + Print + Eprint + AllocGlobal),
+    question: &Question<'_>,
+) -> Result<String> {
+    refusals::begin(rt)?;
+    let answered = answer(rt, question);
+    refusals::end(rt)?;
+    match answered {
+        Err(Error::OutOfMemory) => {
+            refusals::tell(rt)?;
+            answer(rt, question)
+        }
+        answered => answered,
+    }
+}
+
 /// The answer to a question.
-fn answer(rt: &(impl Files + AllocGlobal), question: &Question<'_>) -> Result<String> {
+fn answer(rt: &(impl Files + Print + AllocGlobal), question: &Question<'_>) -> Result<String> {
     match question.subject {
         Subject::Number(number) => sums::ask(rt.alloc(), number, question),
         Subject::Bytes(bytes) => {
@@ -89,7 +119,7 @@ fn answer(rt: &(impl Files + AllocGlobal), question: &Question<'_>) -> Result<St
         Subject::File(file) => {
             let mut bytes = fs::read(rt, file)?;
             words::change(rt.alloc(), &mut bytes, question.further)?;
-            databases::ask(rt.alloc(), bytes, question)
+            databases::ask(rt, bytes, question)
         }
     }
 }

@@ -1,10 +1,10 @@
 //! Records, and what modules' own streams hold.
 
 use crate::question::{Question, Task};
-use crate::records;
 use crate::shown::{listed, push, shown, shown_read};
 use crate::words::{bytes_of, not_a_case};
-use pdb_container::{FallibleIterator, Result};
+use crate::{pages, records};
+use pdb_container::{FallibleIterator, RawString, Result};
 use pdb_container_types::{
     FileIndex, IdIndex, Local, PdbInternalSectionOffset, SymbolIndex, TypeIndex,
 };
@@ -20,6 +20,8 @@ pub fn ask(alloc: Global, bytes: &[u8], question: &Question<'_>) -> Result<Strin
         Task::Type => records::type_text(alloc, bytes),
         Task::Id => records::id_text(alloc, bytes),
         Task::Attributes => records::attributes_text(alloc, bytes),
+        Task::Text => raw_text(alloc, RawString::from(bytes)),
+        Task::Pages => pages::pages_text(alloc, question),
         Task::Annotations => listed(alloc, &mut BinaryAnnotations::new(bytes).iter()),
         Task::Call => call_text(alloc, bytes, question),
         Task::Inlinees => inlinees_text(alloc, InlineeIterator::parse(bytes)),
@@ -34,6 +36,12 @@ pub fn ask(alloc: Global, bytes: &[u8], question: &Question<'_>) -> Result<Strin
         }
         _ => ask_exports(alloc, CrossModuleExports::parse(bytes), question),
     }
+}
+
+/// A text that is stored as bytes, in UTF-8.
+fn raw_text(alloc: Global, text: RawString<'_>) -> Result<String> {
+    let text = text.to_string(alloc)?;
+    shown(alloc, &text.as_str().as_bytes())
 }
 
 /// The answer of a module's stream.

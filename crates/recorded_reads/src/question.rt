@@ -11,6 +11,10 @@ pub enum Task {
     Id,
     /// What attributes of types, members and pointers mean.
     Attributes,
+    /// Bytes as a text, in UTF-8.
+    Text,
+    /// The slices of pages whose numbers the name lists, of a size, cut to so many bytes.
+    Pages,
     /// Binary annotations one by one.
     Annotations,
     /// The symbols of a list from a place on.
@@ -51,6 +55,8 @@ pub enum Task {
     Named,
     /// The name at an offset of the string table.
     Name,
+    /// The same as a text, in UTF-8.
+    NameText,
     /// What the information stream says.
     Information,
     /// The names of streams.
@@ -59,6 +65,8 @@ pub enum Task {
     Debug,
     /// The modules.
     Modules,
+    /// The two names of a module as texts, in UTF-8.
+    ModuleNames,
     /// The section contributions.
     Contributions,
     /// The global symbols.
@@ -190,6 +198,8 @@ const TASKS: &[(&str, Task)] = &[
     ("type", Task::Type),
     ("id", Task::Id),
     ("attributes", Task::Attributes),
+    ("text", Task::Text),
+    ("pages", Task::Pages),
     ("annotations", Task::Annotations),
     ("symbols", Task::Symbols),
     ("symbol", Task::Symbol),
@@ -210,10 +220,12 @@ const TASKS: &[(&str, Task)] = &[
     ("get", Task::Get),
     ("named", Task::Named),
     ("name", Task::Name),
+    ("name_text", Task::NameText),
     ("information", Task::Information),
     ("names", Task::Names),
     ("debug", Task::Debug),
     ("modules", Task::Modules),
+    ("module_names", Task::ModuleNames),
     ("contributions", Task::Contributions),
     ("globals", Task::Globals),
     ("globals_at", Task::GlobalsAt),

@@ -1,0 +1,36 @@
+#!/usr/bin/env bash
+# The command that passes all tests: `rt ci` (every proof, must-fail edit, test and program), and then each request for memory of
+# the proved programs refused in turn (tests/refused_requests). It fails where either fails; the last line counts both.
+set -u
+cd "$(dirname "$0")"
+log=$(mktemp)
+trap 'rm -f "$log"' EXIT
+
+passed=0
+failed=0
+status=0
+
+# Runs a command, and counts what its last line says; one that fails and says nothing of it is one failure.
+count() {
+    local ended=0 said
+    "$@" 2>&1 | tee "$log"
+    ended=${PIPESTATUS[0]}
+    said=$(tail -n 1 "$log")
+    if [[ $said =~ ^([0-9]+)\ passed,\ ([0-9]+)\ failed ]]; then
+        passed=$((passed + BASH_REMATCH[1]))
+        failed=$((failed + BASH_REMATCH[2]))
+    elif [[ $ended -eq 0 ]]; then
+        ended=1
+    fi
+    if [[ $ended -ne 0 ]]; then
+        status=1
+        if [[ ! $said =~ \ [1-9][0-9]*\ failed ]]; then
+            failed=$((failed + 1))
+        fi
+    fi
+}
+
+count rt ci
+count python3 tests/refused_requests/sweep.py
+echo "$passed passed, $failed failed"
+exit "$status"

@@ -1,0 +1,357 @@
+#!/usr/bin/env python3
+"""Refuses every request for memory of proved programs in turn; `rt ci` has to have built them.
+
+    tests/refused_requests/sweep.py [--built FILE] [CASE..]
+
+Of a case, the Nth request is refused in the Nth of as many runs as there are requests in one with nothing refused.
+
+- `pdb_symbolizer`, on the recorded rows of reports: such a run ends with status 1 and `fault: OutOfMemory` on standard error,
+  and what is out is a prefix of the row's report. One that ends as if nothing was refused passes only where exceptions.txt
+  names the function that asked, with the reason.
+- `recorded_reads`, on recorded reads of records, streams and tables: the call that finds no memory says so, and is made again.
+- `ask_again`, on the files of the same rows and on the recorded texts: the call that finds no memory says so, and the same
+  context or formatter then answers it, and all other questions of its file, as if nothing was refused.
+
+CASE is the name of a case; without one all are swept. Told is how many requests of each function were refused. The last line is
+`N passed, M failed`, in cases. FILE is where a program lies, with NAME for its name. A C compiler is needed (Debian: gcc).
+"""
+import bisect
+import collections
+import concurrent.futures
+import os
+import re
+import shutil
+import subprocess
+import sys
+import tempfile
+
+HERE = os.path.dirname(os.path.realpath(__file__))
+ROOT = os.path.dirname(os.path.dirname(HERE))
+DATA = f"{ROOT}/crates/recorded_cases/data"
+READS = f"{ROOT}/crates/recorded_reads/data"
+SECONDS = 60
+# The greatest file that contexts are asked about: in greater ones each of 65,536 frames is a request of its own.
+GREATEST = 100_000
+# The longest answer of a recorded read, in bytes: a text of it is made piece by piece.
+LONGEST = 1_000
+
+
+# Recorded cases
+
+
+def bytes_of(text):
+    """The bytes that a recorded text stands for."""
+    plain = re.sub(r"\\x(..)|\\r", lambda it: chr(int(it[1], 16)) if it[1] else "\r", text)
+    return plain.encode("latin-1")
+
+
+def database_of(name, folder):
+    """The file of a database, written out where it is recorded as text."""
+    if name.endswith(".pdb"):
+        return f"{DATA}/{name}"
+    path = f"{folder}/{name}"
+    if not os.path.exists(path):
+        with open(f"{DATA}/{name}", encoding="ascii") as text:
+            content = bytearray(int(next(text).split()[1]))
+            for line in text:
+                place, digits = line.split()
+                piece = bytes.fromhex(digits)
+                content[int(place, 16) : int(place, 16) + len(piece)] = piece
+        with open(path, "wb") as file:
+            file.write(content)
+    return path
+
+
+class Row:
+    """A recorded report: what is asked of a database, and what comes. recorded_cases/src/reports.rt says how it is written."""
+
+    def __init__(self, paragraph):
+        self.range, self.status, texts = [], 0, {"<": b"", ">": b"", "!": b""}
+        for line in paragraph.splitlines():
+            word, _, rest = line.partition(" ")
+            if word == "case":
+                self.name, self.database = rest.split()
+            elif word == "sizes":
+                self.range = rest.split()
+            elif word == "status":
+                self.status = int(rest)
+            else:
+                mark = word[1:]
+                times = int(mark) if mark.isdigit() else 1
+                texts[word[0]] += (bytes_of(rest) + b"\n" * (mark != "-")) * times
+        self.given, self.output, self.errors = texts["<"], texts[">"], texts["!"]
+
+    def addresses(self):
+        """The addresses of its input."""
+        return re.findall(r"^(?:0x)?([0-9a-f]{1,8})$", self.given.decode("latin-1"), re.M)
+
+
+def rows():
+    with open(f"{DATA}/rows.txt", encoding="ascii") as text:
+        return [Row(it) for it in text.read().split("\n\n") if not it.startswith("#")]
+
+
+def recorded_texts():
+    """The recorded answers of formatters and contexts, by database, flags, kind and question."""
+    texts = collections.defaultdict(dict)
+    with open(f"{DATA}/texts.txt", encoding="ascii") as lines:
+        for line in lines:
+            words, _, answer = line.rstrip("\n").partition(" => ")
+            if not answer or words.startswith(("#", "all_again")):
+                continue
+            word, database, module, flags, index = words.split()
+            kind = "formatter" if word in ("function", "unnamed", "id", "size") else "context"
+            texts[database, flags, kind][f"{word} {module} {index}"] = answer
+    return texts
+
+
+# Cases
+
+
+class Case:
+    """A run of a program, with at least so many requests. Where `wanted` is none, it is what comes with nothing refused."""
+
+    folder, given, wanted, least = ROOT, b"", None, 1
+
+    def __init__(self, name, words):
+        self.name, self.words = name, words
+
+    def differs(self, came):
+        """What differs where nothing was refused."""
+        return "" if self.wanted in (None, came) else f"{shown(came)}, and not {shown(self.wanted)}"
+
+
+class Report(Case):
+    """A run of pdb_symbolizer."""
+
+    program = "pdb_symbolizer"
+
+    def is_right(self, wanted, came):
+        """Whether a run in which a request was refused is as it has to be."""
+        return came[0] == 1 and came[2] == b"fault: OutOfMemory\n" and wanted[1].startswith(came[1])
+
+
+class Repeating(Case):
+    """A run of a program that asks again where a call finds no memory, and says so."""
+
+    def is_right(self, wanted, came):
+        """Whether one call said so, and all else is as if nothing was refused."""
+        lines, refused = came[1].splitlines(), b"out of memory"
+        others = [it for it in lines if it != refused]
+        return len(lines) == len(others) + 1 and (came[0], others, came[2]) == (wanted[0], wanted[1].splitlines(), wanted[2])
+
+
+class Read(Repeating):
+    """A run of recorded_reads."""
+
+    program, folder, wanted, least = "recorded_reads", READS, (0, b"1 reads\n", b""), 0
+
+
+class Asked(Repeating):
+    """A run of ask_again, with the recorded answers by their questions."""
+
+    program = "ask_again"
+
+    def __init__(self, name, words, answers):
+        super().__init__(name, words)
+        self.answers = answers
+
+    def differs(self, came):
+        """A fault is told as another one where its part failed before."""
+        for line in came[1].decode().splitlines():
+            question, _, answer = line.replace("Shared", "").partition(" => ")
+            recorded = self.answers.get(question, answer)
+            if recorded != answer and not (recorded.startswith("fault") and answer.startswith("fault")):
+                return f"{line}, and not {recorded}"
+        return ""
+
+
+def reports(folder):
+    """The program on the recorded rows, and on words that ask for no report."""
+    for row in rows():
+        path = database_of(row.database, folder)
+        case = Report(row.name, ["sizes", path, *row.range] if row.range else ["frames", path])
+        case.given, case.wanted = row.given, (row.status, row.output, row.errors)
+        yield case
+    for words in ("", "help", "help sizes", "frames --help", "frames", "sizes F 10 zz", "frame F", "frames F --hlep"):
+        yield Report(f"words {words}".strip(), words.split())
+
+
+def reads(folder):
+    """The recorded reads: all that were worked out by hand, and of each kind the longest answer that isn't very long."""
+    chosen, longest = [], {}
+    for file in ("by_hand.txt", "records.txt", "modules.txt", "databases.txt"):
+        with open(f"{READS}/{file}", encoding="ascii") as lines:
+            for line in lines:
+                question, is_case, answer = line.partition(" => ")
+                kind = question.split(" ")[0], ".pdb" in question
+                if is_case and file == "by_hand.txt":
+                    chosen.append(line)
+                elif is_case and len(longest.get(kind, ("", ""))[1]) < len(answer) < LONGEST:
+                    longest[kind] = line, answer
+    for number, line in enumerate([*chosen, *(it[0] for it in longest.values())]):
+        path = f"{folder}/read {number}"
+        with open(path, "w", encoding="ascii") as file:
+            file.write(line)
+        yield Read(f"read {line.partition(' => ')[0][:60]}", [path])
+
+
+def asked(folder):
+    """Contexts and formatters, asked all that is recorded of their file, and each address of a row in every way."""
+    texts = recorded_texts()
+    for row in rows():
+        answers = texts[row.database, "23", "context"]
+        for address in row.addresses():
+            offset = f"{max(int(address, 16) - 0x1000, 0):x}"
+            for question in (f"frames_at 0 {address}", f"function_at 0 {address}", f"run_from 0 {offset}", "functions 0 0"):
+                answers.setdefault(question, None)
+    for (database, flags, kind), answers in texts.items():
+        path = database_of(database, folder)
+        if os.path.getsize(path) > GREATEST:
+            continue
+        for question, answer in list(answers.items()):
+            for word, other in (("frames_at", "shared_at"), ("function", "emitted"), ("id", "emitted_id")):
+                if question.split()[0] == word:
+                    answers[question.replace(word, other, 1)] = answer
+        for kind in (kind, *["symbolizer"] * (kind == "context" and flags == "23")):
+            name = f"{kind} {database} {flags}"
+            with open(f"{folder}/{name}", "w", encoding="ascii") as questions:
+                questions.writelines(f"{it}\n" for it in answers)
+            recorded = {question: answer for question, answer in answers.items() if answer}
+            yield Asked(name, [kind, path, flags, f"{folder}/{name}"], recorded)
+
+
+# Runs
+
+
+class Program:
+    """A program, the library that refuses, and the functions by where they begin in the program."""
+
+    def __init__(self, file, library, is_marked):
+        self.file, self.environment = file, {"LD_PRELOAD": library}
+        if is_marked:
+            self.environment["REFUSE_MARKED"] = "1"
+        listed = subprocess.run(["nm", "-n", file], capture_output=True, text=True, check=True).stdout
+        self.functions = [(int(at, 16), name) for at, name in re.findall(r"^([0-9a-f]+) [tT] ([^<\n]*\w)", listed, re.M)]
+
+    def function_at(self, place):
+        """The function that a return address lies in."""
+        after = bisect.bisect_left(self.functions, (place, ""))
+        return self.functions[after - 1][1] if after else "?"
+
+    def run(self, case, number=None):
+        """Runs a case with the request of a number refused; gives what came, how many requests there were, and who asked."""
+        read, write = os.pipe()
+        environment = {**self.environment, "REFUSE_REPORT": str(write)}
+        if number:
+            environment["REFUSE"] = str(number)
+        try:
+            ran = subprocess.run(
+                [self.file, *case.words],
+                input=case.given,
+                capture_output=True,
+                env=environment,
+                cwd=case.folder,
+                pass_fds=[write],
+                timeout=SECONDS,
+            )
+        finally:
+            os.close(write)
+        with open(read, encoding="ascii") as told:
+            lines = dict(line.split(" ", 1) for line in told.read().splitlines())
+        places = lines.get("refused", "0").split()[1:]
+        callers = [self.function_at(int(place, 16)) for place in places]
+        return (ran.returncode, ran.stdout, ran.stderr), int(lines.get("requests", "-1")), callers
+
+
+def sweep(program, case, exceptions):
+    """Refuses each request of a case in turn; gives what went wrong, and how often which function was refused."""
+    wanted, count, _ = program.run(case)
+    differs = case.differs(wanted) or ("no request is seen" if count < case.least else "")
+    if differs:
+        return [f"{case.name}: with nothing refused: {differs}"], {}
+    wrong, refused = [], collections.Counter()
+    for number in range(1, count + 1):
+        came, _, callers = program.run(case, number)
+        excepted = [it for it in callers if it in exceptions]
+        if case.is_right(wanted, came):
+            refused[asker(callers)] += 1
+        elif excepted and came in (wanted, without_tip(wanted)):
+            refused[f"{excepted[0]}, as if it weren't"] += 1
+        else:
+            wrong.append(f"{case.name}: request {number} of {count} refused, of {' < '.join(callers)}: {shown(came)}")
+    return wrong, refused
+
+
+def without_tip(came):
+    """What came, but for clap's tip of a word that is like a wrong one."""
+    status, output, errors = came
+    return status, output, re.sub(rb"  tip: .*\n\n", b"", errors)
+
+
+def asker(callers):
+    """The innermost function that isn't the standard library's."""
+    others = (it for it in callers if not it.startswith(("rattle_", "std", "core")))
+    return next(others, "?")
+
+
+def shown(came):
+    """What came, in short."""
+    status, output, errors = came
+    return f"status {status}, output of {len(output)} bytes {output[-60:]!r}, errors {errors[-120:]!r}"
+
+
+# All
+
+
+def stop(why):
+    """Ends where nothing can be swept."""
+    print(f"{why}\n0 passed, 1 failed")
+    sys.exit(1)
+
+
+def exceptions_of():
+    """The functions of exceptions.txt."""
+    with open(f"{HERE}/exceptions.txt", encoding="utf-8") as text:
+        return {it.split(": ")[0] for it in text if it.strip() and not it.startswith("#")}
+
+
+def library_in(folder):
+    """Builds the library that refuses."""
+    compiler, library = shutil.which("cc"), f"{folder}/refuse.so"
+    if not compiler or not shutil.which("nm"):
+        stop("a C compiler is needed, which compiles refuse.c: install the Debian package gcc")
+    flags = "-O1 -Wall -Wextra -Werror -shared -fPIC -fno-omit-frame-pointer".split()
+    subprocess.run([compiler, *flags, "-o", library, f"{HERE}/refuse.c", "-ldl"], check=True)
+    return library
+
+
+def main(words):
+    built = f"{ROOT}/crates/NAME/out/NAME"
+    if words[:1] == ["--built"]:
+        built, words = words[1], words[2:]
+    exceptions, failed, where = exceptions_of(), 0, collections.Counter()
+    with tempfile.TemporaryDirectory(prefix="refused-requests-") as folder:
+        library, programs = library_in(folder), {}
+        for kind in (Report, Read, Asked):
+            file = built.replace("NAME", kind.program)
+            if not os.path.isfile(file):
+                stop(f"{file} isn't there: rt ci builds it")
+            programs[kind.program] = Program(file, library, kind is not Report)
+        cases = [it for it in [*reports(folder), *reads(folder), *asked(folder)] if not words or it.name in words]
+        with concurrent.futures.ProcessPoolExecutor() as lanes:
+            lanes_of = [lanes.submit(sweep, programs[it.program], it, exceptions) for it in cases]
+            for it in lanes_of:
+                wrong, refused = it.result()
+                failed += bool(wrong)
+                where.update(refused)
+                print("".join(f"{line}\n" for line in wrong), end="")
+    for name, number in sorted(where.items()):
+        print(f"{number:6} refused, of {name}")
+    print(f"{where.total()} requests refused")
+    print(f"{len(cases) - failed} passed, {failed} failed")
+    return 1 if failed else 0
+
+
+if __name__ == "__main__":
+    sys.exit(main(sys.argv[1:]))
