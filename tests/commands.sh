@@ -1,0 +1,121 @@
+#!/usr/bin/env bash
+# Runs the commands of README.md, CONTRIBUTING.md and docs/GUIDE.md as they stand, and compares what they print:
+#
+#   tests/commands.sh [--write] [--slow] [PROGRAM]
+#
+# PROGRAM is the built pdb_symbolizer; if left out, the proved one, crates/pdb_symbolizer/out/pdb_symbolizer. A block of a
+# document that begins with `    $ ` is a session: each such line is a command, and the lines below it are what it prints, on
+# standard error too. A command with nothing below it has to end with status 0. Sessions run in a new folder, with
+# pdb_symbolizer on the path and its data in data/; those with a command `cd crates/..`, `examples/..`, `tests/..` or `./..` in
+# front run in a copy of the repository. What calls `rt` takes minutes, `rt run` and `rt ci` hours, and some need clang:
+# --slow runs what begins so, too, but what proves. With --write what came is put into the documents.
+set -eu
+top=$(cd "$(dirname "$0")/.." && pwd)
+exec python3 - "$top" "$@" <<'P'
+import os, re, shutil, subprocess, sys, tempfile
+
+top, *words = sys.argv[1:]
+flags = [it for it in words if it.startswith("--")]
+programs = [it for it in words if not it.startswith("--")]
+program = os.path.abspath((programs or [f"{top}/crates/pdb_symbolizer/out/pdb_symbolizer"])[0])
+if not os.access(program, os.X_OK):
+    sys.exit(f"no program at {program}: build it by rt run in crates/pdb_symbolizer, or name one")
+PROVES = re.compile(r"rt (run|ci|check|test|must-fail|plant)\b|install ")
+SLOW = re.compile(r"rt try\b|examples/|tests/|\./")
+
+
+def is_gap(lines, at):
+    """Whether an empty line lies within what a command prints."""
+    while at < len(lines) and not lines[at]:
+        at += 1
+    return at < len(lines) and re.match(r"    (?!\$ )", lines[at])
+
+
+def sessions(lines):
+    """Each session: the numbers of its lines."""
+    at = 0
+    while at < len(lines):
+        end = at
+        if lines[at].startswith("    $ ") and (at == 0 or lines[at - 1] == ""):
+            while end < len(lines) and (lines[end].startswith("    ") or is_gap(lines, end)):
+                end += 1
+            yield at, end
+        at = max(end, at + 1)
+
+
+def copied(to):
+    """A copy of the repository without what is built."""
+    shutil.copytree(top, to, ignore=shutil.ignore_patterns(".git", "out"))
+    return to
+
+
+def run_session(lines, room):
+    """The session as it runs, or why it is left out."""
+    commands = []
+    for line in lines:
+        if line.startswith("    $ "):
+            commands.append([line[6:], []])
+        else:
+            commands[-1][1].append(line[4:])
+    if any(PROVES.match(it) for it, _ in commands):
+        return None, "it proves, or needs what is proved"
+    slow = any(SLOW.match(it) for it, _ in commands)
+    if slow and "--slow" not in flags:
+        return None, "without --slow"
+    os.makedirs(f"{room}/bin")
+    os.symlink(program, f"{room}/bin/pdb_symbolizer")
+    if slow:
+        folder = copied(f"{room}/copy")
+    else:
+        folder = f"{room}/work"
+        shutil.copytree(f"{top}/crates/pdb_symbolizer/data", f"{folder}/data")
+    came = []
+    for command, wanted in commands:
+        if command.startswith("cd "):
+            folder = os.path.join(folder, command[3:])
+            came.append((command, wanted, [], 0))
+            continue
+        path = f"{room}/bin:{os.environ['PATH']}"
+        ran = subprocess.run(["bash", "-c", command], cwd=folder, env={**os.environ, "PATH": path, "HOME": room},
+                             stdin=subprocess.DEVNULL, stdout=subprocess.PIPE, stderr=subprocess.STDOUT)
+        text = ran.stdout.decode(errors="replace")
+        came.append((command, wanted, text.splitlines(), ran.returncode))
+    return came, None
+
+
+def check(name):
+    """Runs a document's sessions: how many commands ran, and how many went otherwise."""
+    lines = open(f"{top}/{name}").read().split("\n")
+    count = bad = 0
+    changed = []
+    for start, end in sessions(lines):
+        with tempfile.TemporaryDirectory() as room:
+            came, why = run_session(lines[start:end], room)
+        if came is None:
+            print(f"{name}:{start + 1}: not run, {why}: {lines[start][6:]}")
+            continue
+        fresh = []
+        for command, wanted, got, status in came:
+            count += 1
+            fresh.append(f"    $ {command}")
+            silent = not wanted and "--write" not in flags or command.startswith("cd ")
+            if got != wanted and not silent or not wanted and status:
+                bad += 1
+                print(f"{name}:{start + 1}: $ {command}\n  wanted {wanted}\n  came {got}, status {status}")
+            fresh += [f"    {it}".rstrip() for it in (wanted if silent else got)]
+        changed.append((start, end, fresh))
+    if "--write" in flags:
+        for start, end, fresh in reversed(changed):
+            lines[start:end] = fresh
+        open(f"{top}/{name}", "w").write("\n".join(lines))
+    return count, bad
+
+
+total = wrong = 0
+for name in ("README.md", "CONTRIBUTING.md", "docs/GUIDE.md"):
+    if os.path.exists(f"{top}/{name}"):
+        count, bad = check(name)
+        total, wrong = total + count, wrong + bad
+print(f"{total} commands, {wrong} otherwise than they stand")
+sys.exit(1 if wrong else 0)
+P
