@@ -7,7 +7,7 @@
 # document that begins with `    $ ` is a session: each such line is a command, and the lines below it are what it prints, on
 # standard error too. A command with nothing below it has to end with status 0. Sessions run in a new folder, with
 # pdb_symbolizer on the path and its data in data/; those with a command `cd crates/..`, `examples/..`, `tests/..` or `./..` in
-# front run in a copy of the repository. What calls `rt` takes minutes, `rt run` and `rt ci` hours, and some need clang:
+# front run in a copy of the repository. Each block ```rust has to stand in crates/example_calls. What calls `rt` takes minutes, `rt run` and `rt ci` hours, and some need clang:
 # --slow runs what begins so, too, but what proves. With --write what came is put into the documents.
 set -eu
 top=$(cd "$(dirname "$0")/.." && pwd)
@@ -111,10 +111,20 @@ def check(name):
     return count, bad
 
 
+def unknown_code(name):
+    """The pieces of code of a document that aren't in the example."""
+    example = open(f"{top}/crates/example_calls/src/main.rt").read()
+    pieces = re.findall(r"(?ms)^```rust\n(.*?)^```$", open(f"{top}/{name}").read())
+    return [it for it in pieces if it not in example]
+
+
 total = wrong = 0
 for name in ("README.md", "CONTRIBUTING.md", "docs/GUIDE.md"):
     if os.path.exists(f"{top}/{name}"):
         count, bad = check(name)
+        for piece in unknown_code(name):
+            bad += 1
+            print(f"{name}: not in crates/example_calls:\n{piece}")
         total, wrong = total + count, wrong + bad
 print(f"{total} commands, {wrong} otherwise than they stand")
 sys.exit(1 if wrong else 0)

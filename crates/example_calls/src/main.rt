@@ -1,7 +1,7 @@
 //! Asks a program database by the library's calls: `example_calls FILE ADDRESS..`.
 //!
-//! It prints the frames at each ADDRESS, which is hexadecimal and image-relative; then all functions; then what formatters say of
-//! two types of the file; and last how many addresses each function has.
+//! It prints for each ADDRESS, which is hexadecimal and image-relative, the function there and its frames; then all functions; then
+//! what formatters say of two types of the file; the functions again, without their arguments; and last how many addresses each has.
 //!
 //! Its stored run asks `x64.pdb`, which examples/make.sh made. There type 0x1007 is the member function `TextReader::read`, and
 //! 0x1016 the class `Entry`.
@@ -10,8 +10,7 @@
 use anyhow::{Context as _, Result, bail};
 use pdb_addr2line::pdb::{PDB, TypeIndex};
 use pdb_addr2line::{
-    Context, ContextPdbData, Frame, Function, KeptModules, ModuleProvider, TypeFormatter,
-    TypeFormatterFlags,
+    Context, ContextPdbData, Frame, Function, ModuleProvider, TypeFormatter, TypeFormatterFlags,
 };
 use pdb_report::{Symbolizer, Watched, parse_address, run_sizes};
 use std::alloc::Global;
@@ -41,7 +40,7 @@ fn load(rt: &(impl Files + AllocGlobal), file: &str) -> Result<Symbolizer> {
     }
 }
 
-/// Prints the frames at each address of the program's words, and all functions.
+/// Prints what is at each address of the program's words, and all functions.
 fn tell_addresses(rt: &(impl Env + Files + Print + AllocGlobal), file: &str) -> Result<()> {
     let symbolizer = load(rt, file)?;
     match symbolizer.context(rt.alloc()) {
@@ -53,31 +52,42 @@ fn tell_addresses(rt: &(impl Env + Files + Print + AllocGlobal), file: &str) -> 
     }
 }
 
-/// Prints the frames at each address of the program's words.
-fn tell_words(
+/// Prints the function and the frames at each address of the program's words.
+fn tell_words<P: ModuleProvider>(
     rt: &(impl Env + Print + AllocGlobal),
-    context: &mut Context<'_, '_, KeptModules<'_>>,
+    context: &mut Context<'_, '_, P>,
 ) -> Result<()> {
     for word in env::args(rt)?.skip(2) {
         let address = parse_address(word.as_bytes()).context("an address is needed")?;
+        println!(rt; "at {address:#x}")?;
+        tell_owner(rt, context, address)?;
         tell_frames(rt, context, address)?;
     }
     Ok(())
 }
 
-/// Prints the frames at an address.
+/// Prints the function at an address.
+fn tell_owner<P: ModuleProvider>(
+    rt: &(impl Print + AllocGlobal),
+    context: &mut Context<'_, '_, P>,
+    address: u32,
+) -> Result<()> {
+    match context.find_function(rt.alloc(), address)? {
+        Some(function) => tell_function(rt, &function),
+        None => Ok(println!(rt; "no function")?),
+    }
+}
+
+/// Prints the frames at an address, innermost first.
 fn tell_frames<P: ModuleProvider>(
     rt: &(impl Print + AllocGlobal),
     context: &mut Context<'_, '_, P>,
     address: u32,
 ) -> Result<()> {
-    let Some(found) = context.find_frames(rt.alloc(), address)? else {
-        println!(rt; "{address:#x}: no function")?;
-        return Ok(());
-    };
-    println!(rt; "{address:#x}: in the function at {:#x}", found.start_rva)?;
-    for frame in found.frames.iter() {
-        tell_frame(rt, frame)?;
+    if let Some(found) = context.find_frames(rt.alloc(), address)? {
+        for frame in found.frames.iter() {
+            tell_frame(rt, frame)?;
+        }
     }
     Ok(())
 }
@@ -122,7 +132,19 @@ fn tell_types(rt: &(impl Files + Print + AllocGlobal), file: &str) -> Result<()>
     // Flags replace the default ones, so those that are to stay are named too.
     let flags = TypeFormatterFlags::default() - TypeFormatterFlags::NO_FUNCTION_RETURN;
     let with_returns = held.make_type_formatter_with_flags(rt.alloc(), flags)?;
-    tell_texts(rt, with_returns)
+    tell_texts(rt, with_returns)?;
+    tell_bare_names(rt, &held)
+}
+
+/// Prints all functions without their arguments, by a context that is made by hand.
+fn tell_bare_names(rt: &(impl Print + AllocGlobal), held: &Held) -> Result<()> {
+    // A `Symbolizer` refuses a file whose address map is out of order; by hand one has to ask.
+    if !held.address_map().is_ordered() {
+        bail!("the address map is out of order");
+    }
+    let flags = TypeFormatterFlags::default() | TypeFormatterFlags::NO_ARGUMENTS;
+    let mut context = held.make_context_with_formatter_flags(rt.alloc(), flags)?;
+    tell_functions(rt, &mut context)
 }
 
 /// Prints the text of a function's type and the size of a class, as module 0 has them.
