@@ -22,8 +22,9 @@ count = int(words[1]) if len(words) > 1 else 1000
 seed = int(words[2]) if len(words) > 2 else 1
 MAGIC = b"Microsoft C/C++ MSF 7.00\r\n\x1aDS\0\0\0"
 FAULT = re.compile(rb"fault: [A-Za-z]+(\(.*\))?\n")
-ANSWER = re.compile(r"  (\?\?|unreadable|.* at .*:(\d+|\?\?))")
-ROW = re.compile(r"0x[0-9a-f]{8} (\d+) .*")
+# names are written as they are stored, also with a newline in them
+ANSWER = re.compile(r"(?s)  (\?\?|unreadable|.* at .*:(\d+|\?\?))\n")
+SIZES = re.compile(r"(?s)(0x[0-9a-f]{8} \d+ .*\n)?none (\d+)\n")
 SPAN = (0x1000, 0x1200)
 ADDRESSES = [*range(0x1000, 0x1200, 3), 0, 0xFFFFFFFF]
 rnd = random.Random(seed)
@@ -95,7 +96,7 @@ def frames_wrong(status, out, error):
     parts = re.split(r"(?m)^(0x[0-9a-f]{8})\n", out.decode("utf-8", "replace"))
     if [int(it, 16) for it in parts[1::2]] != ADDRESSES or parts[0]:
         return "not one answer for each address"
-    if not all(it and all(map(ANSWER.fullmatch, it.split("\n")[:-1])) for it in parts[2::2]):
+    if not all(map(ANSWER.fullmatch, parts[2::2])):
         return "an answer of another form"
     return "a text on standard error" if error else None
 
@@ -103,12 +104,11 @@ def frames_wrong(status, out, error):
 def sizes_wrong(status, out, error):
     if status != 0:
         return refusal_wrong(status, out, error)
-    *rows, last = out.decode("utf-8", "replace").splitlines()
-    found = [ROW.fullmatch(it) for it in rows]
-    none = re.fullmatch(r"none (\d+)", last)
-    if not none or not all(found):
-        return "a line of another form"
-    if sum(int(it[1]) for it in found) + int(none[1]) != SPAN[1] - SPAN[0]:
+    found = SIZES.fullmatch(out.decode("utf-8", "replace"))
+    if not found:
+        return "a report of another form"
+    counts = re.findall(r"(?m)^0x[0-9a-f]{8} (\d+) ", found[1] or "")
+    if sum(map(int, counts)) + int(found[2]) != SPAN[1] - SPAN[0]:
         return "counts that don't add up"
     return "a text on standard error" if error else None
 
