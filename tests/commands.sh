@@ -6,9 +6,9 @@
 # PROGRAM is the built pdb_symbolizer; if left out, the proved one, crates/pdb_symbolizer/out/pdb_symbolizer. A block of a
 # document that begins with `    $ ` is a session: each such line is a command, and the lines below it are what it prints, on
 # standard error too. A command with nothing below it has to end with status 0. Sessions run in a new folder, with
-# pdb_symbolizer on the path and its data in data/; those with a command `cd crates/..`, `examples/..`, `tests/..` or `./..` in
-# front run in a copy of the repository. Each block ```rust has to stand in crates/example_calls. What calls `rt` takes minutes, `rt run` and `rt ci` hours, and some need clang:
-# --slow runs what begins so, too, but what proves. With --write what came is put into the documents.
+# pdb_symbolizer on the path and its data in data/. What compiles, makes files or takes a minute (`rt try`, examples/, tests/,
+# install) runs with --slow alone, in a copy of the repository; what proves or measures isn't run. Each block ```rust has to stand
+# in crates/example_calls. With --write what came is put into the documents.
 set -eu
 top=$(cd "$(dirname "$0")/.." && pwd)
 exec python3 - "$top" "$@" <<'P'
@@ -20,8 +20,8 @@ programs = [it for it in words if not it.startswith("--")]
 program = os.path.abspath((programs or [f"{top}/crates/pdb_symbolizer/out/pdb_symbolizer"])[0])
 if not os.access(program, os.X_OK):
     sys.exit(f"no program at {program}: build it by rt run in crates/pdb_symbolizer, or name one")
-PROVES = re.compile(r"rt (run|ci|check|test|must-fail|plant)\b|install ")
-SLOW = re.compile(r"rt try\b|examples/|tests/|\./")
+LONG = re.compile(r"rt (run|ci|check|test|must-fail|plant)\b|bench/")
+SLOW = re.compile(r"rt try\b|examples/|tests/|\./|install ")
 
 
 def is_gap(lines, at):
@@ -44,8 +44,10 @@ def sessions(lines):
 
 
 def copied(to):
-    """A copy of the repository without what is built."""
+    """A copy of the repository, with the program where it lies once it was built."""
     shutil.copytree(top, to, ignore=shutil.ignore_patterns(".git", "out"))
+    os.mkdir(f"{to}/crates/pdb_symbolizer/out")
+    shutil.copy(program, f"{to}/crates/pdb_symbolizer/out/pdb_symbolizer")
     return to
 
 
@@ -57,8 +59,8 @@ def run_session(lines, room):
             commands.append([line[6:], []])
         else:
             commands[-1][1].append(line[4:])
-    if any(PROVES.match(it) for it, _ in commands):
-        return None, "it proves, or needs what is proved"
+    if any(LONG.match(it) for it, _ in commands):
+        return None, "it takes too long"
     slow = any(SLOW.match(it) for it, _ in commands)
     if slow and "--slow" not in flags:
         return None, "without --slow"
@@ -77,7 +79,8 @@ def run_session(lines, room):
             continue
         path = f"{room}/bin:{os.environ['PATH']}"
         ran = subprocess.run(["bash", "-c", command], cwd=folder, env={**os.environ, "PATH": path, "HOME": room},
-                             stdin=subprocess.DEVNULL, stdout=subprocess.PIPE, stderr=subprocess.STDOUT)
+                             stdin=subprocess.DEVNULL,
+                             stdout=subprocess.PIPE, stderr=subprocess.STDOUT)
         text = ran.stdout.decode(errors="replace")
         came.append((command, wanted, text.splitlines(), ran.returncode))
     return came, None
