@@ -5,7 +5,8 @@
 #
 # OUT gets x64.pdb and i386.pdb (clang and lld), gnu_ld.pdb (clang and GNU ld) and damaged.pdb (x64.pdb with four bytes of
 # one module overwritten), each but the last with its .exe. The sources are in examples/source; no Windows SDK is needed.
-# With --store the databases are copied to crates/pdb_symbolizer/data and crates/recorded_cases/data.
+# With --store the databases are copied to where programs read them: crates/pdb_symbolizer/data, crates/recorded_cases/data and
+# crates/example_calls/data. GNU ld writes the time into its own, so that each one made differs in that.
 #
 # The stored ones were made on Debian 12 by clang-19 and lld-19 (19.1.7) and binutils-mingw-w64-x86-64 (2.40+10.4):
 #   apt-get install clang-19 lld-19 binutils-mingw-w64-x86-64
@@ -68,5 +69,6 @@ if [ "${2:-}" = --store ]; then
         cp "$out/$name.pdb" "$here/../crates/pdb_symbolizer/data/"
         cp "$out/$name.pdb" "$here/../crates/recorded_cases/data/real_$name.pdb"
     done
+    cp "$out/x64.pdb" "$here/../crates/example_calls/data/"
 fi
 ls -l "$out"

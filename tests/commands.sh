@@ -121,7 +121,20 @@ def unknown_code(name):
     return [it for it in pieces if it not in example]
 
 
+def copies_differ():
+    """The stored databases that aren't the same wherever they stand."""
+    read = lambda file: open(f"{top}/crates/{file}", "rb").read()
+    for name in os.listdir(f"{top}/crates/pdb_symbolizer/data"):
+        others = [f"recorded_cases/data/real_{name}", f"example_calls/data/{name}"]
+        for other in others:
+            if os.path.exists(f"{top}/crates/{other}") and read(other) != read(f"pdb_symbolizer/data/{name}"):
+                yield other
+
+
 total = wrong = 0
+for other in copies_differ():
+    wrong += 1
+    print(f"crates/{other} is another database than that of crates/pdb_symbolizer/data")
 for name in ("README.md", "CONTRIBUTING.md", "docs/GUIDE.md"):
     if os.path.exists(f"{top}/{name}"):
         count, bad = check(name)
