@@ -1,4 +1,32 @@
 //! What is held of a program database, and the formatters of types and contexts that are made of it.
+//!
+//! A database is read once ([`ContextPdbData`]); contexts and formatters are made of what is held then:
+//!
+//! ```text
+//! let pdb = PDB::open(alloc, bytes)?;
+//! let held = ContextPdbData::try_from_pdb(alloc, pdb)?;
+//! if held.address_map().is_ordered() {
+//!     let mut context = held.make_context(alloc)?;
+//!     let function = context.find_function(alloc, 0x1148)?;
+//! }
+//! let mut formatter = held.make_type_formatter(alloc)?;
+//! let text = formatter.format_function(alloc, "f", 0, TypeIndex(0x1007))?;
+//! ```
+//!
+//! `Symbolizer` of `pdb_report` does the first half, and refuses a file whose address map is out of order.
+//!
+//! | to | call |
+//! |---|---|
+//! | read what is asked of a database | [`ContextPdbData::try_from_pdb`], `try_from_pdb_ref`; in two halves [`read_tables`], `try_from_tables` |
+//! | make a context | `make_context`, or with flags in place of the default ones `make_context_with_formatter_flags` |
+//! | ask for the frames at an address | [`Context::find_frames`]; [`Context::find_shared_frames`], which copies no name |
+//! | ask for the function at an address | [`Context::find_function`] |
+//! | go over all functions | [`Context::functions`] |
+//! | ask how far one answer goes | [`Context::find_function_run`] |
+//! | make a formatter | `make_type_formatter`, `make_type_formatter_with_flags` |
+//! | have the text of a function, of an inlined function's id | [`TypeFormatter::format_function`], `format_id`; `emit_function`, `emit_id` into a writer |
+//! | have the size of a type | [`TypeFormatter::get_type_size`] |
+//! | read the database itself | [`pdb`] |
 #![tactic(auto)]
 
 pub mod pdb;

@@ -1,5 +1,30 @@
 //! Reports by a program database: it is loaded, and the answer to each line of an input is written, or how many addresses of a
 //! range each function has.
+//!
+//! A [`Symbolizer`] is a file that was loaded, and a context of it is asked:
+//!
+//! ```text
+//! let symbolizer = Symbolizer::open(alloc, bytes)?;
+//! let mut context = symbolizer.context(alloc)?;
+//! if let Some(found) = context.find_frames(alloc, 0x1148)? {
+//!     for frame in found.frames.iter() {
+//!         println!(rt; "{}", frame.function.as_deref().unwrap_or("??"))?;
+//!     }
+//! }
+//! ```
+//!
+//! | to | call |
+//! |---|---|
+//! | load a file once, for many questions | [`Symbolizer::open`], [`Symbolizer::context`] |
+//! | write the answers to lines of addresses | [`run_frames`]; [`run_frames_ending`] in a process that ends behind it |
+//! | write how many addresses of a range each function has | [`run_sizes`] |
+//! | read an address, as a line of input has it | [`parse_address`] |
+//! | read a file, but only its front where that is no container's | [`read_file`] |
+//! | have the failures of a reader or a writer counted | [`Watched`] |
+//! | tell how a run ended, and with which status | [`finish_run`] |
+//! | see what is proved of whole files | [`laws`] |
+//!
+//! What a context answers besides, and the formatter of types, is in `pdb_addr2line`.
 #![tactic(auto)]
 
 mod finish;

@@ -1,0 +1,167 @@
+//! Asks a program database by the library's calls: `example_calls FILE ADDRESS..`.
+//!
+//! It prints for each ADDRESS, which is hexadecimal and image-relative, the function there and its frames; then all functions; then
+//! what formatters say of two types of the file; the functions again, without their arguments; and last how many addresses each has.
+//!
+//! Its stored run asks `x64.pdb`, which examples/make.sh made. There type 0x1007 is the member function `TextReader::read`, and
+//! 0x1016 the class `Entry`.
+#![tactic(auto)]
+
+use anyhow::{Context as _, Result, bail};
+use pdb_addr2line::pdb::{PDB, TypeIndex};
+use pdb_addr2line::{
+    Context, ContextPdbData, Frame, Function, ModuleProvider, TypeFormatter, TypeFormatterFlags,
+};
+use pdb_report::{Symbolizer, Watched, parse_address, run_sizes};
+use std::alloc::Global;
+use std::io::Write;
+use std::rt::{Env, Files};
+use std::{env, fs};
+
+/// A database that is held for formatters.
+type Held = ContextPdbData<'static, 'static, Vec<u8>>;
+
+fn main(rt: HostRuntime) -> Result<()> {
+    let file = env::args(&rt)?
+        .nth(1)
+        .context("usage: example_calls FILE ADDRESS..")?;
+    tell_addresses(&rt, file.as_str())?;
+    tell_types(&rt, file.as_str())?;
+    let bytes = fs::read(&rt, file.as_str())?;
+    write_sizes(rt.alloc(), bytes, &mut Watched::new(rt.stdout()))
+}
+
+/// The bytes of a file, loaded for questions about addresses.
+fn load(rt: &(impl Files + AllocGlobal), file: &str) -> Result<Symbolizer> {
+    let bytes = fs::read(rt, file)?;
+    match Symbolizer::open(rt.alloc(), bytes) {
+        Ok(symbolizer) => Ok(symbolizer),
+        Err(fault) => bail!("{file}: {fault}"),
+    }
+}
+
+/// Prints what is at each address of the program's words, and all functions.
+fn tell_addresses(rt: &(impl Env + Files + Print + AllocGlobal), file: &str) -> Result<()> {
+    let symbolizer = load(rt, file)?;
+    match symbolizer.context(rt.alloc()) {
+        Ok(mut context) => {
+            tell_words(rt, &mut context)?;
+            tell_functions(rt, &mut context)
+        }
+        Err(fault) => bail!("{file}: {fault}"),
+    }
+}
+
+/// Prints the function and the frames at each address of the program's words.
+fn tell_words<P: ModuleProvider>(
+    rt: &(impl Env + Print + AllocGlobal),
+    context: &mut Context<'_, '_, P>,
+) -> Result<()> {
+    for word in env::args(rt)?.skip(2) {
+        let address = parse_address(word.as_bytes()).context("an address is needed")?;
+        println!(rt; "at {address:#x}")?;
+        tell_owner(rt, context, address)?;
+        tell_frames(rt, context, address)?;
+    }
+    Ok(())
+}
+
+/// Prints the function at an address.
+fn tell_owner<P: ModuleProvider>(
+    rt: &(impl Print + AllocGlobal),
+    context: &mut Context<'_, '_, P>,
+    address: u32,
+) -> Result<()> {
+    match context.find_function(rt.alloc(), address)? {
+        Some(function) => tell_function(rt, &function),
+        None => Ok(println!(rt; "no function")?),
+    }
+}
+
+/// Prints the frames at an address, innermost first.
+fn tell_frames<P: ModuleProvider>(
+    rt: &(impl Print + AllocGlobal),
+    context: &mut Context<'_, '_, P>,
+    address: u32,
+) -> Result<()> {
+    if let Some(found) = context.find_frames(rt.alloc(), address)? {
+        for frame in found.frames.iter() {
+            tell_frame(rt, frame)?;
+        }
+    }
+    Ok(())
+}
+
+/// Prints a frame.
+fn tell_frame(rt: &impl Print, frame: &Frame<'_>) -> Result<()> {
+    let name = frame.function.as_deref().unwrap_or("??");
+    let file = frame.file.as_deref().unwrap_or("??");
+    let line = frame.line.unwrap_or(0);
+    println!(rt; "  {name}, {file}, line {line}")?;
+    Ok(())
+}
+
+/// Prints all functions.
+fn tell_functions<P: ModuleProvider>(
+    rt: &(impl Print + AllocGlobal),
+    context: &mut Context<'_, '_, P>,
+) -> Result<()> {
+    for function in context.functions(rt.alloc())? {
+        tell_function(rt, &function?)?;
+    }
+    Ok(())
+}
+
+/// Prints a function.
+fn tell_function(rt: &impl Print, function: &Function) -> Result<()> {
+    let name = function.name.as_deref().unwrap_or("??");
+    let start = function.start_rva;
+    match function.end_rva {
+        Some(end) => println!(rt; "{start:#x} to {end:#x}: {name}")?,
+        None => println!(rt; "{start:#x}: {name}")?,
+    }
+    Ok(())
+}
+
+/// Prints what formatters say of types.
+fn tell_types(rt: &(impl Files + Print + AllocGlobal), file: &str) -> Result<()> {
+    let pdb = PDB::open(rt.alloc(), fs::read(rt, file)?)?;
+    let held: Held = ContextPdbData::try_from_pdb(rt.alloc(), pdb)?;
+    let plain = held.make_type_formatter(rt.alloc())?;
+    tell_texts(rt, plain)?;
+    // Flags replace the default ones, so those that are to stay are named too.
+    let flags = TypeFormatterFlags::default() - TypeFormatterFlags::NO_FUNCTION_RETURN;
+    let with_returns = held.make_type_formatter_with_flags(rt.alloc(), flags)?;
+    tell_texts(rt, with_returns)?;
+    tell_bare_names(rt, &held)
+}
+
+/// Prints all functions without their arguments, by a context that is made by hand.
+fn tell_bare_names(rt: &(impl Print + AllocGlobal), held: &Held) -> Result<()> {
+    // A `Symbolizer` refuses a file whose address map is out of order; by hand one has to ask.
+    if !held.address_map().is_ordered() {
+        bail!("the address map is out of order");
+    }
+    let flags = TypeFormatterFlags::default() | TypeFormatterFlags::NO_ARGUMENTS;
+    let mut context = held.make_context_with_formatter_flags(rt.alloc(), flags)?;
+    tell_functions(rt, &mut context)
+}
+
+/// Prints the text of a function's type and the size of a class, as module 0 has them.
+fn tell_texts<P: ModuleProvider>(
+    rt: &(impl Print + AllocGlobal),
+    mut formatter: TypeFormatter<'_, '_, P>,
+) -> Result<()> {
+    let text = formatter.format_function(rt.alloc(), "read", 0, TypeIndex(0x1007))?;
+    let size = formatter.get_type_size(rt.alloc(), 0, TypeIndex(0x1016))?;
+    println!(rt; "{text}; an entry has {size} bytes")?;
+    Ok(())
+}
+
+/// Writes how many addresses of the whole image each function has.
+fn write_sizes<W: Write>(alloc: Global, bytes: Vec<u8>, writer: &mut Watched<W>) -> Result<()> {
+    match run_sizes(alloc, bytes, 0, 0xffffffff, writer) {
+        Ok(_) => Ok(()),
+        Err(fault) => bail!("{fault}"),
+    }
+}

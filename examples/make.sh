@@ -1,0 +1,74 @@
+#!/usr/bin/env bash
+# Makes the databases of real linkers that the examples and recorded cases read, and the images beside them:
+#
+#   examples/make.sh OUT [--store]
+#
+# OUT gets x64.pdb and i386.pdb (clang and lld), gnu_ld.pdb (clang and GNU ld) and damaged.pdb (x64.pdb with four bytes of
+# one module overwritten), each but the last with its .exe. The sources are in examples/source; no Windows SDK is needed.
+# With --store the databases are copied to where programs read them: crates/pdb_symbolizer/data, crates/recorded_cases/data and
+# crates/example_calls/data. GNU ld writes the time into its own, so that each one made differs in that.
+#
+# The stored ones were made on Debian 12 by clang-19 and lld-19 (19.1.7) and binutils-mingw-w64-x86-64 (2.40+10.4):
+#   apt-get install clang-19 lld-19 binutils-mingw-w64-x86-64
+set -eu
+here=$(cd "$(dirname "$0")" && pwd)
+out=${1:?usage: examples/make.sh OUT [--store]}
+mkdir -p "$out"
+out=$(cd "$out" && pwd)
+
+# Objects lie here, since GNU ld writes their whole paths into the database.
+work=/tmp/src
+rm -rf "$work"
+mkdir -p "$work"
+cp "$here"/source/* "$work"
+cd "$work"
+
+# With these a database has no path of this machine: names of files are relative, and lld puts C:\src before them.
+plain="-O2 -fno-unroll-loops -fno-vectorize -ffreestanding -fno-stack-protector -mno-stack-arg-probe"
+debug="-g -gcodeview -gno-codeview-command-line -fdebug-compilation-dir=."
+
+compile() { # TARGET FILE FLAGS..
+    local target=$1 file=$2
+    shift 2
+    clang-19 --target="$target" $plain "$@" -c "$file" -Xclang -object-file-name="${file%.*}.obj" -o "${file%.*}.obj"
+}
+
+with_lld() { # NAME TARGET
+    for file in main.cpp archive.cpp; do
+        compile "$2" "$file" $debug -fno-exceptions -fno-rtti
+    done
+    compile "$2" plain.c
+    lld-link-19 /nologo /Brepro /debug /nodefaultlib /entry:start /subsystem:console '/pdbsourcepath:C:\src' \
+        "/pdbaltpath:$1.pdb" "/pdb:$1.pdb" "/out:$1.exe" main.obj archive.obj plain.obj
+    cp "$1.pdb" "$1.exe" "$out"
+}
+
+with_gnu_ld() { # NAME TARGET
+    for file in weigh.c tools.c plain.c; do
+        compile "$2" "$file" $debug -fno-inline
+    done
+    # GNU ld 2.40 writes past the end of its pieces of memory; a page for each piece keeps it from harm.
+    MALLOC_MMAP_THRESHOLD_=1 MALLOC_MMAP_MAX_=1000000 x86_64-w64-mingw32-ld --no-insert-timestamp \
+        -e start --subsystem console "--pdb=$1.pdb" -o "$1.exe" weigh.obj tools.obj plain.obj
+    cp "$1.pdb" "$1.exe" "$out"
+    # The same code with DWARF, for compare.py.
+    for file in weigh.c tools.c plain.c; do
+        compile "$2" "$file" -gdwarf-4 -fdebug-compilation-dir=. -fno-inline
+    done
+    x86_64-w64-mingw32-ld --no-insert-timestamp -e start --subsystem console -o "$out/$1_dwarf.exe" weigh.obj tools.obj plain.obj
+}
+
+with_lld x64 x86_64-pc-windows-msvc
+with_lld i386 i386-pc-windows-msvc
+with_gnu_ld gnu_ld x86_64-w64-windows-gnu
+python3 "$here/damage.py" "$out/x64.pdb" archive.obj "$out/damaged.pdb"
+rm -rf "$work"
+
+if [ "${2:-}" = --store ]; then
+    for name in x64 i386 gnu_ld damaged; do
+        cp "$out/$name.pdb" "$here/../crates/pdb_symbolizer/data/"
+        cp "$out/$name.pdb" "$here/../crates/recorded_cases/data/real_$name.pdb"
+    done
+    cp "$out/x64.pdb" "$here/../crates/example_calls/data/"
+fi
+ls -l "$out"

@@ -1,0 +1,147 @@
+#!/usr/bin/env bash
+# Runs the commands of README.md, CONTRIBUTING.md and docs/GUIDE.md as they stand, and compares what they print:
+#
+#   tests/commands.sh [--write] [--slow] [PROGRAM]
+#
+# PROGRAM is the built pdb_symbolizer; if left out, the proved one, crates/pdb_symbolizer/out/pdb_symbolizer. A block of a
+# document that begins with `    $ ` is a session: each such line is a command, and the lines below it are what it prints, on
+# standard error too. A command with nothing below it has to end with status 0. Sessions run in a new folder, with
+# pdb_symbolizer on the path and its data in data/. What compiles, makes files or takes a minute (`rt try`, examples/, tests/,
+# install) runs with --slow alone, in a copy of the repository; what proves or measures isn't run. Each block ```rust has to stand
+# in crates/example_calls. With --write what came is put into the documents.
+set -eu
+top=$(cd "$(dirname "$0")/.." && pwd)
+exec python3 - "$top" "$@" <<'P'
+import os, re, shutil, subprocess, sys, tempfile
+
+top, *words = sys.argv[1:]
+flags = [it for it in words if it.startswith("--")]
+programs = [it for it in words if not it.startswith("--")]
+program = os.path.abspath((programs or [f"{top}/crates/pdb_symbolizer/out/pdb_symbolizer"])[0])
+if not os.access(program, os.X_OK):
+    sys.exit(f"no program at {program}: build it by rt run in crates/pdb_symbolizer, or name one")
+LONG = re.compile(r"rt (run|ci|check|test|must-fail|plant)\b|bench/")
+SLOW = re.compile(r"rt try\b|examples/|tests/|\./|install ")
+
+
+def is_gap(lines, at):
+    """Whether an empty line lies within what a command prints."""
+    while at < len(lines) and not lines[at]:
+        at += 1
+    return at < len(lines) and re.match(r"    (?!\$ )", lines[at])
+
+
+def sessions(lines):
+    """Each session: the numbers of its lines."""
+    at = 0
+    while at < len(lines):
+        end = at
+        if lines[at].startswith("    $ ") and (at == 0 or lines[at - 1] == ""):
+            while end < len(lines) and (lines[end].startswith("    ") or is_gap(lines, end)):
+                end += 1
+            yield at, end
+        at = max(end, at + 1)
+
+
+def copied(to):
+    """A copy of the repository, with the program where it lies once it was built."""
+    shutil.copytree(top, to, ignore=shutil.ignore_patterns(".git", "out"))
+    os.mkdir(f"{to}/crates/pdb_symbolizer/out")
+    shutil.copy(program, f"{to}/crates/pdb_symbolizer/out/pdb_symbolizer")
+    return to
+
+
+def run_session(lines, room):
+    """The session as it runs, or why it is left out."""
+    commands = []
+    for line in lines:
+        if line.startswith("    $ "):
+            commands.append([line[6:], []])
+        else:
+            commands[-1][1].append(line[4:])
+    if any(LONG.match(it) for it, _ in commands):
+        return None, "it takes too long"
+    slow = any(SLOW.match(it) for it, _ in commands)
+    if slow and "--slow" not in flags:
+        return None, "without --slow"
+    os.makedirs(f"{room}/bin")
+    os.symlink(program, f"{room}/bin/pdb_symbolizer")
+    if slow:
+        folder = copied(f"{room}/copy")
+    else:
+        folder = f"{room}/work"
+        shutil.copytree(f"{top}/crates/pdb_symbolizer/data", f"{folder}/data")
+    came = []
+    for command, wanted in commands:
+        if command.startswith("cd "):
+            folder = os.path.join(folder, command[3:])
+            came.append((command, wanted, [], 0))
+            continue
+        path = f"{room}/bin:{os.environ['PATH']}"
+        ran = subprocess.run(["bash", "-c", command], cwd=folder, env={**os.environ, "PATH": path, "HOME": room},
+                             stdin=subprocess.DEVNULL,
+                             stdout=subprocess.PIPE, stderr=subprocess.STDOUT)
+        text = ran.stdout.decode(errors="replace")
+        came.append((command, wanted, text.splitlines(), ran.returncode))
+    return came, None
+
+
+def check(name):
+    """Runs a document's sessions: how many commands ran, and how many went otherwise."""
+    lines = open(f"{top}/{name}").read().split("\n")
+    count = bad = 0
+    changed = []
+    for start, end in sessions(lines):
+        with tempfile.TemporaryDirectory() as room:
+            came, why = run_session(lines[start:end], room)
+        if came is None:
+            print(f"{name}:{start + 1}: not run, {why}: {lines[start][6:]}")
+            continue
+        fresh = []
+        for command, wanted, got, status in came:
+            count += 1
+            fresh.append(f"    $ {command}")
+            silent = not wanted and "--write" not in flags or command.startswith("cd ")
+            if got != wanted and not silent or not wanted and status:
+                bad += 1
+                print(f"{name}:{start + 1}: $ {command}\n  wanted {wanted}\n  came {got}, status {status}")
+            fresh += [f"    {it}".rstrip() for it in (wanted if silent else got)]
+        changed.append((start, end, fresh))
+    if "--write" in flags:
+        for start, end, fresh in reversed(changed):
+            lines[start:end] = fresh
+        open(f"{top}/{name}", "w").write("\n".join(lines))
+    return count, bad
+
+
+def unknown_code(name):
+    """The pieces of code of a document that aren't in the example."""
+    example = open(f"{top}/crates/example_calls/src/main.rt").read()
+    pieces = re.findall(r"(?ms)^```rust\n(.*?)^```$", open(f"{top}/{name}").read())
+    return [it for it in pieces if it not in example]
+
+
+def copies_differ():
+    """The stored databases that aren't the same wherever they stand."""
+    read = lambda file: open(f"{top}/crates/{file}", "rb").read()
+    for name in os.listdir(f"{top}/crates/pdb_symbolizer/data"):
+        others = [f"recorded_cases/data/real_{name}", f"example_calls/data/{name}"]
+        for other in others:
+            if os.path.exists(f"{top}/crates/{other}") and read(other) != read(f"pdb_symbolizer/data/{name}"):
+                yield other
+
+
+total = wrong = 0
+for other in copies_differ():
+    wrong += 1
+    print(f"crates/{other} is another database than that of crates/pdb_symbolizer/data")
+for name in ("README.md", "CONTRIBUTING.md", "docs/GUIDE.md"):
+    if os.path.exists(f"{top}/{name}"):
+        count, bad = check(name)
+        for piece in unknown_code(name):
+            bad += 1
+            print(f"{name}: not in crates/example_calls:\n{piece}")
+        total, wrong = total + count, wrong + bad
+print(f"{total} commands, {wrong} otherwise than they stand")
+sys.exit(1 if wrong else 0)
+P
