@@ -5,9 +5,9 @@
 //! FILE is a question, as `contexts.rt` and `formatters.rt` say: a word, the number of a module, counted from 0, and an index,
 //! an RVA or an offset in hexadecimal. It is printed with its answer, or with `fault: ` and the fault.
 //!
-//! Where a call finds no memory, `out of memory` is printed, and it is made once more on the same object. A program of another
-//! kind refuses the requests in turn (`tests/refused_requests`): which ones are a call's is shown by `+` and `-` on
-//! standard error, before the call and after it.
+//! Where a call finds no memory, `out of memory` is printed, and it is made once more, on the same object. A library refuses the
+//! requests in turn (`tests/refused_requests`): which ones are a call's is shown by `+` and `-` on standard error, before the
+//! call and after it.
 #![tactic(auto)]
 
 mod contexts;
