@@ -66,7 +66,7 @@ class Row:
     """A recorded report: what is asked of a database, and what comes. recorded_cases/src/reports.rt says how it is written."""
 
     def __init__(self, paragraph):
-        self.range, self.status, texts = [], 0, {"<": b"", ">": b"", "!": b""}
+        self.range, self.status, self.change, texts = [], 0, None, {"<": b"", ">": b"", "!": b""}
         for line in paragraph.splitlines():
             word, _, rest = line.partition(" ")
             if word == "case":
@@ -75,11 +75,30 @@ class Row:
                 self.range = rest.split()
             elif word == "status":
                 self.status = int(rest)
+            elif word in ("prefixes", "numbers", "bytes"):
+                self.change = self.change or [word, *rest.split()]
             else:
                 mark = word[1:]
                 times = int(mark) if mark.isdigit() else 1
                 texts[word[0]] += (bytes_of(rest) + b"\n" * (mark != "-")) * times
         self.given, self.output, self.errors = texts["<"], texts[">"], texts["!"]
+
+    def file(self, folder):
+        """Its database; of a row of several files that differ in one thing, the first."""
+        path = database_of(self.database, folder)
+        if not self.change:
+            return path
+        with open(path, "rb") as file:
+            content = bytearray(file.read())
+        word, place, *rest = self.change
+        if word == "prefixes":
+            content = content[: int(place, 16)]
+        else:
+            piece = int(rest[0], 16).to_bytes(4, "little") if word == "numbers" else bytes.fromhex(rest[0])
+            content[int(place, 16) : int(place, 16) + len(piece)] = piece
+        with open(f"{folder}/{self.name}", "wb") as file:
+            file.write(content)
+        return f"{folder}/{self.name}"
 
     def addresses(self):
         """The addresses of its input."""
@@ -97,7 +116,7 @@ def recorded_texts():
     with open(f"{DATA}/texts.txt", encoding="ascii") as lines:
         for line in lines:
             words, _, answer = line.rstrip("\n").partition(" => ")
-            if not answer or words.startswith(("#", "all_again")):
+            if not answer or words.startswith(("#", "all_again", "each_again", "prefixes")):
                 continue
             word, database, module, flags, index = words.split()
             kind = "formatter" if word in ("function", "unnamed", "id", "size") else "context"
@@ -169,7 +188,7 @@ class Asked(Repeating):
 def reports(folder):
     """The program on the recorded rows, and on words that ask for no report."""
     for row in rows():
-        path = database_of(row.database, folder)
+        path = row.file(folder)
         case = Report(row.name, ["sizes", path, *row.range] if row.range else ["frames", path])
         case.given, case.wanted = row.given, (row.status, row.output, row.errors)
         yield case
