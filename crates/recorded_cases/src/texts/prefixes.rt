@@ -44,7 +44,7 @@ fn ask_prefixes(alloc: Global, file: &Bytes, question: &Question<'_>) -> Result<
     Ok(text)
 }
 
-/// The answer of a file's first so many bytes, or the fault behind `fault: `.
+/// The answer of a file's first so many bytes, or its fault after `fault: `.
 fn answer_at(
     alloc: Global,
     file: &Bytes,
