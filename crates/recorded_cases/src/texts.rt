@@ -18,8 +18,7 @@
 //! - `each_again`: of each of the four, at how many of the 288 addresses from this RVA on a new context
 //!   asks for modules, and how often such contexts do when they are asked the same again; and how often
 //!   one context does that was asked everything of each
-//! - `prefixes`: the frames at this RVA in the file's first so many bytes, for each number of them up to
-//!   0x100 after the begin of a page of 0x1000 bytes or up to 0x10 before it, and for every 16th: each
+//! - `prefixes`: the frames at this RVA in the file's first so many bytes, for each number of them: each
 //!   number, in hexadecimal, from which on the answer is another one, and that answer
 //!
 //! A case that is answered otherwise is printed.

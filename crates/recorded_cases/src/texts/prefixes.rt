@@ -10,8 +10,8 @@ use std::alloc::Global;
 /// What was read of a prefix.
 type PrefixData = ContextPdbData<'static, 'static, Bytes>;
 
-/// The answers of a file's prefixes, of each length that is tried: each length from which on the answer
-/// is another one, and that answer.
+/// The answers of a file's prefixes, of each length from 0 to its own: each length from which on the
+/// answer is another one, and that answer.
 pub fn ask(alloc: Global, bytes: Vec<u8>, question: &Question<'_>) -> Result<String, Error> {
     match Bytes::from_vec(bytes) {
         Ok(file) => ask_prefixes(alloc, &file, question),
@@ -19,21 +19,11 @@ pub fn ask(alloc: Global, bytes: Vec<u8>, question: &Question<'_>) -> Result<Str
     }
 }
 
-/// Whether the prefix of a length is tried: near the place where a page of 0x1000 bytes begins, where
-/// file F has all its bytes that aren't zero, each is, and of the others every 16th.
-fn is_tried(length: usize) -> bool {
-    let place = length % 0x1000;
-    place <= 0x100 || place >= 0xff0 || length % 16 == 0
-}
-
 /// The same of bytes that are shared, so that no prefix is a copy.
 fn ask_prefixes(alloc: Global, file: &Bytes, question: &Question<'_>) -> Result<String, Error> {
     let mut text = String::new(alloc);
     let mut last = String::new(alloc);
     for length in 0..=file.len() {
-        if !is_tried(length) {
-            continue;
-        }
         let answer = answer_at(alloc, file, length, question)?;
         if answer != last {
             write!(text, "{length:x}: {answer}; ")?;

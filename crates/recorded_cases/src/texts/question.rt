@@ -25,7 +25,7 @@ pub enum Asked {
     AllAgain,
     /// How often contexts that were asked before ask for modules, at each of many addresses.
     EachAgain,
-    /// The frames at an RVA, in prefixes of the file.
+    /// The frames at an RVA, in every prefix of the file.
     Prefixes,
 }
 
