@@ -1,4 +1,5 @@
--- What a PE image says of itself by its headers: the DOS header, the COFF header, the optional header, section headers.
+-- What a PE image says of itself by its headers: the DOS header, the COFF header, the optional
+-- header, section headers.
 -- The layout is that of Microsoft's PE Format.
 use Rattle.std.specs.Prelude.{ℕ, ◌+◌, ◌*◌, ◌/◌, ◌^◌, Bool, List, length, take, drop, map, codes, nat_lt, nat_le, nat_eq, ◌==◌, if◌then◌else◌, Option, None, Some, Result, Ok, Err, ok_or}
 use Rattle.std.specs.List.{starts_with}
@@ -14,7 +15,8 @@ use Rattle.pdb_image.specs.declared.optional_header.OptionalHeader.{OptionalHead
 
 -- so many bytes from a place on, where all of them are there
 abbrev pub part : List ℕ → ℕ → ℕ → Option (List ℕ)
-part bytes place size = if nat_lt (length bytes) (place + size) then None else Some (take size (drop place bytes))
+part bytes place size =
+    if nat_lt (length bytes) (place + size) then None else Some (take size (drop place bytes))
 
 -- the entries of so many bytes each; bytes at the end that make no whole one are none
 abbrev pub entries : ℕ → List ℕ → List (List ℕ)
@@ -22,13 +24,14 @@ entries size bytes = first_chunks size (length bytes / size) bytes
 
 -- ---- the optional header
 
--- The debug directory, number 6 of the data directories, which are eight bytes each behind their count. There is none
--- where they are no more than six, or its address is 0.
+-- The debug directory: address and size, four bytes each, of number 6 of the data directories,
+-- which lie after their count. There is none where they are no more than six, or its address is 0.
 unfoldable pub debug_entry_of : ℕ → List ℕ → Result (Option DataDirectory) ImageError
 debug_entry_of count_place bytes =
     if nat_le (word_at bytes count_place) 6 then Ok None else (do
       entry ← ok_or (part bytes (count_place + 52) 8) faults.OptionalHeaderTooShort
-      Ok (if word_at entry 0 == 0 then None else Some (record { address = word_at entry 0; size = word_at entry 4 })))
+      Ok (if word_at entry 0 == 0 then None
+          else Some (record { address = word_at entry 0; size = word_at entry 4 })))
 
 -- PE32: the image base in four bytes at 28, the count of data directories at 92
 unfoldable pub pe32_of : List ℕ → Result OptionalHeader ImageError
@@ -54,7 +57,8 @@ optional_of bytes =
 
 -- ---- the image
 
--- an image: its bytes, its machine's number, where it wants to be loaded, its sections, and its debug directory
+-- an image: its bytes, its machine's number, where it wants to be loaded, its sections, and its
+-- debug directory
 pub record Image : Type 0 where
   pub file : List ℕ
   pub machine : ℕ
@@ -62,8 +66,10 @@ pub record Image : Type 0 where
   pub sections : List ImageSectionHeader
   pub debug : Option DataDirectory
 
--- What a file says that begins with "MZ". At 60 of its DOS header stands the place of "PE" and two NULs, of the COFF
--- header's 20 bytes behind that, of the optional header, and of the section headers, 40 bytes each.
+-- What a file says that begins with "MZ". At 60 of its DOS header stands the place of "PE" and two
+-- NULs. After these come the COFF header's 20 bytes, the optional header, and the section headers,
+-- 40 bytes each. The COFF header says how many sections there are and how long the optional header
+-- is.
 unfoldable pub image_of : List ℕ → Result Image ImageError
 image_of file = do
   dos ← guard (starts_with nat_eq file (codes "MZ")) faults.NoDosSignature
@@ -72,7 +78,8 @@ image_of file = do
   pe ← guard (word_at coff 0 == 0x4550) faults.NoPeSignature
   bytes ← ok_or (part file (word_at header 60 + 24) (half_at coff 20)) faults.HeadersPastEnd
   optional ← optional_of bytes
-  table ← ok_or (part file (word_at header 60 + 24 + half_at coff 20) (40 * half_at coff 6)) faults.SectionsPastEnd
+  let table_place = word_at header 60 + 24 + half_at coff 20
+  table ← ok_or (part file table_place (40 * half_at coff 6)) faults.SectionsPastEnd
   Ok record {
     file = file;
     machine = half_at coff 4;

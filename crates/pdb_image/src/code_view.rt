@@ -1,10 +1,10 @@
 //! The CodeView record of an image, which says what PDB it has.
 
-ghost use Rattle.std.specs.Prelude.{◌≡◌, Err, MatchResult, Ok, Some, map, option_map};
+ghost use Rattle.std.specs.Prelude.{◌≡◌, map, option_map};
 ghost use Rattle.std.specs.List.{find, list_any};
 ghost use Rattle.pdb_addresses.specs.Sections.{header_in};
 ghost use Rattle.pdb_container.specs.RawString.{raw_bytes};
-ghost use Rattle.pdb_image.specs.CodeView.{is_code_view as is_code_view_entry, is_rsds as is_rsds_entry, place_in as place_in_section, path_of, place_of, record_in, record_of, rsds_of};
+ghost use Rattle.pdb_image.specs.CodeView.{Returns, is_code_view as is_code_view_entry, is_rsds as is_rsds_entry, place_in as place_in_section, path_of, place_of, record_in, record_of, rsds_of};
 
 use crate::error::ImageError;
 use crate::file_part::part;
@@ -149,7 +149,7 @@ fn parse_rsds(record: &[u8]) -> Result<CodeView<'_>, ImageError>
 /// The path that these bytes begin with, which ends before a NUL.
 #[tactic(auto, unfolding(crate::specs::CodeView::path_of))]
 fn parse_path(bytes: &[u8]) -> Result<RawString<'_>, ImageError>
-    ensures { MatchResult result (λ path. path_of bytes.now ≡ Ok (raw_bytes path)) (λ e. path_of bytes.now ≡ Err e) }
+    ensures { Returns raw_bytes result (path_of bytes.now) }
 {
     match nul_in(bytes) {
         None => Err(ImageError::PathNotEnded),

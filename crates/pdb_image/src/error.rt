@@ -14,10 +14,11 @@ pub enum ImageError {
     /// No `PE` and two NULs are where the DOS header says.
     #[error("the file has no PE signature")]
     NoPeSignature,
-    /// The magic number of the optional header, which is neither 0x10b (PE32) nor 0x20b (PE32+).
+    /// The optional header's magic number, which is neither 0x10b (PE32) nor 0x20b (PE32+).
     #[error("the optional header has the unknown magic number {0:#x}")]
     UnknownMagic(u16),
-    /// The optional header has no room for its fields, or for the debug directory's place where it counts that one.
+    /// The optional header has no room for its fields, or for the debug directory's address and
+    /// size where it counts them.
     #[error("the optional header is too short")]
     OptionalHeaderTooShort,
     /// The file ends before the section headers do.

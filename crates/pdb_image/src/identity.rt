@@ -5,20 +5,22 @@ ghost use Rattle.std.specs.Prelude.{◌≡◌, ◌↔◌, IsTrue, unwrap_or};
 use pdb_container::{half_at, word_at};
 use std::fmt;
 
-/// The identity of a PDB: a GUID, and an age that says how often the PDB of that GUID was written. It prints as the
-/// name of a folder in a symbol server: the GUID and the age in hexadecimal, without hyphens.
+/// The identity of a PDB: a GUID, and an age that says how often the PDB of that GUID was written.
+/// It prints as symbol servers name it: the GUID and the age in hexadecimal, without hyphens.
 #[derive(Clone, Copy, Debug, PartialEq, Eq, Hash)]
 pub struct PdbIdentity {
-    /// The GUID, as its 16 bytes stand in the file: its first three numbers have their lowest byte first.
+    /// The GUID, as its 16 bytes stand in the file: of its first three numbers the lowest byte is
+    /// the first one.
     pub guid: [u8; 16],
     /// The age.
     pub age: u32,
 }
 
 impl PdbIdentity {
-    /// The identity that a PDB has: the GUID of its information stream (1), and the age of its DBI header (stream 3),
-    /// or that of the information stream where the DBI header has none. Tools that write to a PDB after it was linked
-    /// raise the age of its information stream alone.
+    /// The identity that a PDB has: the GUID of its information stream (1), and the age of its DBI
+    /// header (in stream 3), or that of the information stream where the DBI header has none. A
+    /// tool that writes to a PDB after it was linked raises the age of the information stream
+    /// alone.
     pub fn of_pdb(guid: [u8; 16], information_age: u32, dbi_age: Option<u32>) -> PdbIdentity
         ensures { result ≡ record { guid = guid; age = unwrap_or dbi_age information_age } }
     {
@@ -28,10 +30,11 @@ impl PdbIdentity {
         }
     }
 
-    /// Whether both are of one PDB: GUID and age are equal, as Windows's debuggers ask for it. `llvm-symbolizer` takes
-    /// the file that the image's path names and compares neither.
+    /// Whether both are of one PDB: GUID and age are equal, which is what Windows's debuggers ask
+    /// of an image's PDB. `llvm-symbolizer` 19 compares neither: it takes the file of the path's
+    /// name beside the image, or the one at the path.
     pub fn matches(&self, other: &PdbIdentity) -> bool
-        ensures { IsTrue result ↔ (self.now.guid ≡ other.now.guid) × (self.now.age ≡ other.now.age) }
+        ensures { IsTrue result ↔ (self.now ≡ other.now) }
     {
         self == other
     }

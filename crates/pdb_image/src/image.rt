@@ -1,9 +1,9 @@
 //! Images: what their headers say.
 
-ghost use Rattle.std.specs.Prelude.{◌≡◌, Err, MatchResult, Ok, Some, length, slice_get};
+ghost use Rattle.std.specs.Prelude.{◌≡◌, Some, length, slice_get};
 ghost use Rattle.pdb_addresses.specs.Sections.{header_in};
 ghost use Rattle.pdb_image.specs.Image.{image_of};
-ghost use Rattle.pdb_image.specs.CodeView.{code_view_of, directory_of};
+ghost use Rattle.pdb_image.specs.CodeView.{Returns, code_view_of, directory_of};
 
 use crate::code_view::{CodeView, file_place, parse_record_in};
 use crate::error::ImageError;
@@ -37,8 +37,8 @@ impl<'a> Image<'a> {
     /// The image that a file holds, by its headers alone.
     ///
     /// # Errors
-    /// `NoDosSignature`, `HeadersPastEnd`, `NoPeSignature`, `UnknownMagic`, `OptionalHeaderTooShort` and
-    /// `SectionsPastEnd`, the first one in the order of the headers.
+    /// The first one in the order of the headers of `NoDosSignature`, `HeadersPastEnd`,
+    /// `NoPeSignature`, `UnknownMagic`, `OptionalHeaderTooShort` and `SectionsPastEnd`.
     #[tactic(auto, unfolding(crate::specs::Image::image_of))]
     pub fn parse(file: &'a [u8]) -> Result<Image<'a>, ImageError>
         ensures { result ≡ image_of file.now }
@@ -96,16 +96,19 @@ impl<'a> Image<'a> {
         section_header(self.sections.get(number)?)
     }
 
-    /// The CodeView record, which says what PDB the image has: that of the first CodeView entry of the debug directory
-    /// whose record begins with `RSDS`. `None` without a debug directory, or without a CodeView entry in it.
+    /// The CodeView record, which says what PDB the image has: that of the first CodeView entry of
+    /// the debug directory whose record begins with `RSDS`. `None` without a debug directory, or
+    /// without a CodeView entry in it.
     ///
-    /// The debug directory lies where the first section whose data in the file hold its address has it, and the record
-    /// at its entry's pointer to raw data, which PE Format calls the file pointer to the debug data. `llvm-symbolizer`
-    /// takes the first CodeView entry whatever its record begins with, and finds the record by its address.
+    /// The debug directory lies in the first section whose data in the file hold its address. It is
+    /// made of entries of 28 bytes; fewer at its end are none. A record lies at its entry's pointer
+    /// to raw data, which PE Format calls the file pointer to the debug data. `llvm-symbolizer` 19
+    /// takes the first CodeView entry whatever its record begins with, and finds the record by its
+    /// address.
     ///
     /// # Errors
-    /// `DebugDirectoryNotFound`, `DebugDirectoryPastEnd`, `NoRsdsRecord`, `RecordPastEnd`, `RecordTooShort` and
-    /// `PathNotEnded`, in this order.
+    /// The first one in this order of `DebugDirectoryNotFound`, `DebugDirectoryPastEnd`,
+    /// `NoRsdsRecord`, `RecordPastEnd`, `RecordTooShort` and `PathNotEnded`.
     #[tactic(auto, unfolding(crate::specs::CodeView::code_view_of))]
     pub fn code_view(&self) -> Result<Option<CodeView<'a>>, ImageError>
         ensures { result ≡ code_view_of self.now }
@@ -115,10 +118,11 @@ impl<'a> Image<'a> {
             Some(directory) => parse_record_in(self.file, self.directory(directory)?),
         }
     }
+
     /// The bytes of the debug directory, which are all in the file.
     #[tactic(auto, unfolding(crate::specs::CodeView::directory_of))]
     fn directory(&self, debug: DataDirectory) -> Result<&'a [u8], ImageError>
-        ensures { MatchResult result (λ bytes. directory_of self.now debug ≡ Ok bytes.now) (λ e. directory_of self.now debug ≡ Err e) }
+        ensures { Returns (λ bytes. bytes.now) result (directory_of self.now debug) }
     {
         let Some(place) = file_place(self.sections, debug.address) else {
             return Err(ImageError::DebugDirectoryNotFound(debug.address));

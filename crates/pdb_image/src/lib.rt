@@ -1,6 +1,6 @@
-//! What a PE image says of itself: its machine, where it wants to be loaded, its sections, and the identity and path of its
-//! program database (PDB). The layout is that of Microsoft's page PE Format; the CodeView record is CV_INFO_PDB70, as
-//! microsoft-pdb's and LLVM's headers have it.
+//! What a PE image says of itself: its machine, where it wants to be loaded, its sections, and the
+//! identity and path of its program database (PDB). The layout is that of Microsoft's page PE
+//! Format; the CodeView record is LLVM's `PDB70DebugInfo` (CVDebugRecord.h).
 #![tactic(auto)]
 
 mod code_view;

@@ -78,8 +78,8 @@ fn parse_pe32_plus(bytes: &[u8]) -> Result<OptionalHeader, ImageError>
     })
 }
 
-/// The debug directory, by the data directories, which lie behind their count. There is none where they are fewer than
-/// seven, or its address is 0.
+/// The debug directory, by the data directories, which lie after their count. There is none where
+/// they are fewer than seven, or its address is 0.
 #[tactic(auto, unfolding(crate::specs::Image::debug_entry_of))]
 fn parse_debug_entry(bytes: &[u8], count_place: usize) -> Result<Option<DataDirectory>, ImageError>
     requires { count_place + 4 ≤ length bytes.now }
