@@ -15,6 +15,6 @@ pub use pdb_address_lines::parse_address;
 pub use pdb_engine::{ErrorOutput, Watched};
 pub use pdb_files::read_file;
 pub use pdb_report_texts::{LoadFault, RunFault};
-pub use report::{AtEnd, run_frames, run_frames_ending};
+pub use report::{AtEnd, answer_lines, run_frames, run_frames_ending};
 pub use sizes::{Tally, run_sizes};
 pub use symbolizer::Symbolizer;
