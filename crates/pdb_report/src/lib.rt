@@ -39,6 +39,6 @@ pub use pdb_addr2line::{Context, Error};
 pub use pdb_engine::{ErrorOutput, Watched, parse_address};
 pub use pdb_loading::read_file;
 pub use pdb_report_texts::{LoadFault, RunFault};
-pub use report::{AtEnd, run_frames, run_frames_ending};
+pub use report::{AtEnd, answer_lines, run_frames, run_frames_ending};
 pub use sizes::{Tally, run_sizes};
 pub use symbolizer::Symbolizer;

@@ -39,35 +39,46 @@ fn let_go<T: Drop>(value: T, at_end: AtEnd) {
     }
 }
 
-/// Answers the lines of the reader by a file that was loaded.
+/// Answers the lines of the reader by a file that was loaded, where the input may have at most `limit` bytes: what
+/// [`run_frames`] calls, with 2^30 bytes, once it has loaded the file. It is public for tests with shorter limits.
 ///
 /// # Errors
-/// Those of [`run`].
+/// `Read` and `Write` where that end failed in this call; `InputTooLong` past `limit` bytes of input; `OutOfMemory`.
 #[tactic(auto, using(pdb_report_texts::proofs::ShortLines::line_short))]
-fn answer_lines<R: Read, W: Write>(
+pub fn answer_lines<R: Read, W: Write>(
     alloc: Global,
     symbolizer: &Symbolizer,
     reader: &mut Watched<R>,
     writer: &mut Watched<W>,
     at_end: AtEnd,
+    limit: u64,
 ) -> Result<(), InputFault>
-    ensures ok { OnOk result (IfSome (R.remaining (inner_of reader.old)) (λ input. (length input ≤ 2 ^ 30)
-        × Writes W.contents writer.old writer.new (report (line_text (answer (streams symbolizer.now))) input))) }
+    ensures ok { OnOk result (IfSome (R.remaining (inner_of reader.old)) (λ input.
+        (length input ≤ limit) × Writes W.contents writer.old writer.new
+        (report (line_text (answer (streams symbolizer.now))) input))) }
     ensures quiet { OnOk result (IsQuiet reader.old reader.new × IsQuiet writer.old writer.new) }
     ensures kind { IfErr result IsOfRunning }
-    ensures read_fails { IfErr result (λ fault. OnInputRead fault (λ kind. CountsFailure reader.old reader.new kind)) }
-    ensures write_fails { IfErr result (λ fault. OnInputWrite fault (λ kind. CountsFailure writer.old writer.new kind)) }
-    ensures read_out { IfErr result (λ fault. OnInputRead fault (λ _. (taken : List ℕ) × Takes R.remaining reader.old reader.new taken
-        × Writes W.contents writer.old writer.new (report_of_ended (line_text (answer (streams symbolizer.now))) taken))) }
-    ensures too_long { IfErr result (λ fault. OnInputTooLong fault (IfSome (R.remaining (inner_of reader.old)) (λ input. (2 ^ 30 < length input)
-        × Writes W.contents writer.old writer.new (report_of_ended (line_text (answer (streams symbolizer.now))) (take (2 ^ 30) input))))) }
-    ensures part { OnErr result (IfSome (R.remaining (inner_of reader.old)) (λ input. WritesFront W.contents writer.old writer.new (report (line_text (answer (streams symbolizer.now))) input))) }
+    ensures read_fails { IfErr result (λ fault. OnInputRead fault
+        (λ kind. CountsFailure reader.old reader.new kind)) }
+    ensures write_fails { IfErr result (λ fault. OnInputWrite fault
+        (λ kind. CountsFailure writer.old writer.new kind)) }
+    ensures read_out { IfErr result (λ fault. OnInputRead fault (λ _.
+        (taken : List ℕ) × Takes R.remaining reader.old reader.new taken
+        × Writes W.contents writer.old writer.new
+        (report_of_ended (line_text (answer (streams symbolizer.now))) taken))) }
+    ensures too_long { IfErr result (λ fault. OnInputTooLong fault
+        (IfSome (R.remaining (inner_of reader.old)) (λ input.
+        (limit < length input) × Writes W.contents writer.old writer.new
+        (report_of_ended (line_text (answer (streams symbolizer.now))) (take limit input))))) }
+    ensures part { OnErr result (IfSome (R.remaining (inner_of reader.old)) (λ input.
+        WritesFront W.contents writer.old writer.new
+        (report (line_text (answer (streams symbolizer.now))) input))) }
 {
     match symbolizer.context(alloc) {
         Ok(context) => {
             let room = String::new(alloc);
             let mut answers = LineAnswers { context, room };
-            let outcome = run(alloc, &mut answers, reader, writer, INPUT_LIMIT);
+            let outcome = run(alloc, &mut answers, reader, writer, limit);
             let_go(answers, at_end);
             outcome
         }
@@ -100,7 +111,7 @@ fn frames_of<R: Read, W: Write>(
         × Writes W.contents writer.old writer.new (report_of_ended (line_text (answer (streams symbolizer.now))) (take (2 ^ 30) input))))) }
     ensures part { OnErr result (IfSome (R.remaining (inner_of reader.old)) (λ input. WritesFront W.contents writer.old writer.new (report (line_text (answer (streams symbolizer.now))) input))) }
 {
-    match answer_lines(alloc, symbolizer, reader, writer, at_end) {
+    match answer_lines(alloc, symbolizer, reader, writer, at_end, INPUT_LIMIT) {
         Ok(()) => Ok(()),
         Err(fault) => Err(RunFault::from(fault)),
     }

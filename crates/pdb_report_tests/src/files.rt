@@ -1,7 +1,9 @@
 //! The files that the tests report on, and reports on them.
 
 use pdb_report::{RunFault, Watched, finish_run, run_frames};
-use pdb_samples::{Change, ProgramDatabase, Result, SampleError, file_f, file_with, push_u32};
+use pdb_samples::{
+    Change, ProgramDatabase, Result, SampleError, file_f, file_with, nested_sites, push_u32,
+};
 use std::alloc::Global;
 use std::io::{ErrorKind, Read};
 use std::test::Fail;
@@ -11,6 +13,8 @@ use std::test::Fail;
 pub enum File {
     /// File F whose code was moved: two OMAPs lead from 0x2000 to the code at 0x1010 and back, and nowhere from 0x2008 on.
     MovedCode,
+    /// File F with an inline site of `g` in `f` and one of `h` in that.
+    NestedSites,
     /// File F0 but for one thing.
     With(Change),
 }
@@ -34,6 +38,7 @@ impl File {
     pub fn made(self, alloc: Global) -> Result<Vec<u8>> {
         match self {
             File::MovedCode => moved_code(alloc)?.bytes(alloc),
+            File::NestedSites => nested_sites(alloc),
             File::With(change) => file_with(alloc, change)?.bytes(alloc),
         }
     }

@@ -9,7 +9,13 @@ pub mod definitions;
 mod files;
 pub mod laws;
 #[cfg(test)]
+mod limits;
+#[cfg(test)]
+mod promptness;
+#[cfg(test)]
 mod sizes;
 #[cfg(test)]
 mod streams;
 pub mod words;
+#[cfg(test)]
+mod writes;

@@ -1,10 +1,9 @@
 //! Reports on ranges of addresses, and what was looked up for them.
 
-use crate::files::{F, File, Stop, ended, line_buffer};
+use crate::files::{F, File, Stop, ended};
 use pdb_report::{Tally, Watched, run_sizes};
-use pdb_samples::{Change, PieceWriter};
+use pdb_samples::Change;
 use std::alloc::Global;
-use std::io::ErrorKind;
 use std::test::Fail;
 
 /// How a run ends.
@@ -71,70 +70,6 @@ fn is_counted(alloc: Global, row: &Row) -> Result<bool, Fail> {
 fn sizes(rt: HostRuntime) -> Result<(), Fail> {
     for (number, row) in ROWS.iter().enumerate() {
         assert!(rt; is_counted(rt.alloc(), row)?, "row {number}");
-    }
-    Ok(())
-}
-
-/// What a writer with so much room holds at the end of a run, the last of its failures, and how the run ended.
-fn write_report(
-    alloc: Global,
-    room: usize,
-    fault: Option<ErrorKind>,
-) -> Result<(Vec<u8>, Option<ErrorKind>, Outcome), Fail> {
-    let file = F.bytes(alloc)?;
-    let mut inner = PieceWriter {
-        written: line_buffer(alloc)?,
-        piece: 9,
-        room,
-        fault,
-    };
-    let mut writer = Watched::new(&mut inner);
-    let outcome = run_sizes(alloc, file, 0x1018, 0x1030, &mut writer);
-    let kind = writer.last_kind();
-    Ok((inner.written, kind, ended(outcome)))
-}
-
-/// The same; the second run where memory is refused and no write failed.
-fn write_again(
-    alloc: Global,
-    room: usize,
-    fault: Option<ErrorKind>,
-) -> Result<(Vec<u8>, Option<ErrorKind>, Outcome), Fail> {
-    let first = write_report(alloc, room, fault)?;
-    match (first.1, &first.2) {
-        (None, Err(Stop::OutOfMemory)) => write_report(alloc, room, fault),
-        _ => Ok(first),
-    }
-}
-
-/// Whether a run ends with a failure of this kind, and the writer is full and has a front of the report.
-fn is_failing(
-    alloc: Global,
-    room: usize,
-    fault: Option<ErrorKind>,
-    kind: ErrorKind,
-) -> Result<bool, Fail> {
-    let (bytes, last_kind, outcome) = write_again(alloc, room, fault)?;
-    let is_front = bytes.len() == room
-        && b"0x00001010 24 f\nnone 0\n".starts_with(bytes.as_slice());
-    Ok(is_front && last_kind == Some(kind) && outcome == Err(Stop::Write(kind)))
-}
-
-/// The room of writers, their failure once that is full, and the kind of it. One without a failure takes no byte.
-const WRITERS: &[(usize, Option<ErrorKind>, ErrorKind)] = &[
-    (0, Some(ErrorKind::BrokenPipe), ErrorKind::BrokenPipe),
-    (0, None, ErrorKind::WriteZero),
-    (13, Some(ErrorKind::Interrupted), ErrorKind::Interrupted),
-    (13, None, ErrorKind::WriteZero),
-];
-
-#[test]
-fn failing_writers(rt: HostRuntime) -> Result<(), Fail> {
-    for (room, fault, kind) in WRITERS {
-        assert!(rt;
-            is_failing(rt.alloc(), *room, *fault, *kind)?,
-            "room for {room}, {kind:?}"
-        );
     }
     Ok(())
 }

@@ -1,291 +1,348 @@
-//! Readers and writers that misbehave.
+//! Readers and writers that fail at each place, or give and take few bytes.
 
-use crate::files::{F0, Outcome, Stop, ended, line_buffer, run_over};
-use pdb_report::{RunFault, Watched, finish_run, run_frames};
+use crate::files::{F, File, Outcome, Stop, ended, line_buffer};
+use pdb_report::{Watched, run_frames, run_sizes};
 use pdb_samples::{PieceReader, PieceWriter};
 use std::alloc::Global;
-use std::io::{self, ErrorKind, Read, Write};
+use std::io::ErrorKind;
 use std::test::Fail;
 
-const INPUT: &[u8] = b"1014\n1050\n1014";
-
-const REPORT: &[u8] = b"0x00001014\n  f at ??:??\n0x00001050\n  ??\n0x00001014\n  f at ??:??\n";
-
-/// The report on the first two lines of the input.
-const TWO_LINES: &[u8] = b"0x00001014\n  f at ??:??\n0x00001050\n  ??\n";
-
-/// How many bytes of the report are out at a fault.
-const FRONT: usize = 30;
-
-/// A run over file F0 with a reader.
-fn read_by(alloc: Global, reader: PieceReader<'_>) -> Result<(Vec<u8>, Outcome), Fail> {
-    let file = F0.bytes(alloc)?;
-    Ok(run_over(alloc, file, reader))
+/// What is asked of a file, and what is reported.
+#[derive(Clone, Copy)]
+struct Row {
+    file: File,
+    /// Addresses, a line each.
+    input: &'static [u8],
+    /// The range whose addresses are counted, if it isn't lines that are answered.
+    range: Option<(u32, u32)>,
+    /// The texts of the report: that of each line, or that on the range.
+    texts: &'static [&'static [u8]],
 }
 
-/// The same with a reader that gives pieces of these bytes; the second run where the first finds no memory.
-fn read_input(
-    alloc: Global,
-    bytes: &[u8],
+const ODD_INPUT: Row = Row {
+    file: F,
+    input: b"1050\nzz\n\n1014",
+    range: None,
+    texts: &[
+        b"0x00001050\n  ??\n",
+        b"not an address\n",
+        b"not an address\n",
+        b"0x00001014\n  f at a.c:5\n",
+    ],
+};
+
+const NESTED_SITES: Row = Row {
+    file: File::NestedSites,
+    input: b"1019\n",
+    range: None,
+    texts: &[b"0x00001019\n  h() at c.h:9\n  g() at b.h:??\n  f at a.c:7\n"],
+};
+
+const PART_OF_A_FUNCTION: Row = Row {
+    file: F,
+    input: b"",
+    range: Some((0x1018, 0x1030)),
+    texts: &[b"0x00001010 24 f\nnone 0\n"],
+};
+
+/// A line, and one that can't be read to its end.
+const CUT_LINE: Row = Row {
+    file: F,
+    input: b"1014\n10",
+    range: None,
+    texts: &[b"0x00001014\n  f at a.c:5\n", b"0x00000010\n  ??\n"],
+};
+
+/// How a reader or a writer fails at each place, if it does.
+const FAULTS: [Option<ErrorKind>; 3] = [
+    None,
+    Some(ErrorKind::Interrupted),
+    Some(ErrorKind::BrokenPipe),
+];
+
+/// Each kind of failure.
+const KINDS: &[ErrorKind] = &[
+    ErrorKind::NotFound,
+    ErrorKind::PermissionDenied,
+    ErrorKind::ConnectionRefused,
+    ErrorKind::ConnectionReset,
+    ErrorKind::HostUnreachable,
+    ErrorKind::NetworkUnreachable,
+    ErrorKind::ConnectionAborted,
+    ErrorKind::NotConnected,
+    ErrorKind::AddrInUse,
+    ErrorKind::AddrNotAvailable,
+    ErrorKind::NetworkDown,
+    ErrorKind::BrokenPipe,
+    ErrorKind::AlreadyExists,
+    ErrorKind::WouldBlock,
+    ErrorKind::NotADirectory,
+    ErrorKind::IsADirectory,
+    ErrorKind::DirectoryNotEmpty,
+    ErrorKind::ReadOnlyFilesystem,
+    ErrorKind::FilesystemLoop,
+    ErrorKind::StaleNetworkFileHandle,
+    ErrorKind::InvalidInput,
+    ErrorKind::InvalidData,
+    ErrorKind::TimedOut,
+    ErrorKind::WriteZero,
+    ErrorKind::StorageFull,
+    ErrorKind::NotSeekable,
+    ErrorKind::QuotaExceeded,
+    ErrorKind::FileTooLarge,
+    ErrorKind::ResourceBusy,
+    ErrorKind::ExecutableFileBusy,
+    ErrorKind::Deadlock,
+    ErrorKind::CrossesDevices,
+    ErrorKind::TooManyLinks,
+    ErrorKind::InvalidFilename,
+    ErrorKind::ArgumentListTooLong,
+    ErrorKind::Interrupted,
+    ErrorKind::Unsupported,
+    ErrorKind::UnexpectedEof,
+    ErrorKind::OutOfMemory,
+    ErrorKind::InProgress,
+    ErrorKind::Other,
+    ErrorKind::Uncategorized,
+];
+
+/// How a reader and a writer behave.
+#[derive(Clone, Copy)]
+struct Ends {
+    /// The most bytes that a read gives and a write takes.
     piece: usize,
-    fault: Option<ErrorKind>,
-) -> Result<(Vec<u8>, Outcome), Fail> {
-    let first = read_by(
-        alloc,
-        PieceReader {
-            bytes,
-            piece,
-            fault,
-        },
-    )?;
-    match first.1 {
-        Err(Stop::OutOfMemory) => read_by(
-            alloc,
-            PieceReader {
-                bytes,
-                piece,
-                fault,
-            },
-        ),
+    /// How many bytes the reader gives before its failure; without one, before the rest.
+    cut: usize,
+    /// How the reader fails, if it does.
+    read_fault: Option<ErrorKind>,
+    /// How many bytes the writer takes.
+    room: usize,
+    /// How it fails then, if it doesn't stall.
+    write_fault: Option<ErrorKind>,
+}
+
+/// How many calls failed, and how the last one did.
+type Failures = (u64, Option<ErrorKind>);
+
+/// What is out at the end of a run, what failed of its reader and of its writer, and how it ended.
+type Ran = (Vec<u8>, Failures, Failures, Outcome);
+
+/// A run over a row.
+fn run_once(alloc: Global, row: &Row, ends: Ends) -> Result<Ran, Fail> {
+    let file = row.file.bytes(alloc)?;
+    let cut = ends.cut.min(row.input.len());
+    let mut reader = Watched::new(PieceReader {
+        bytes: &row.input[..cut],
+        rest: &row.input[cut..],
+        piece: ends.piece,
+        fault: ends.read_fault,
+    });
+    let mut inner = PieceWriter {
+        written: line_buffer(alloc)?,
+        piece: ends.piece,
+        room: ends.room,
+        fault: ends.write_fault,
+    };
+    let mut writer = Watched::new(&mut inner);
+    let outcome = match row.range {
+        None => ended(run_frames(alloc, file, &mut reader, &mut writer)),
+        Some((start, end)) => { ended(run_sizes(alloc, file, start, end, &mut writer)).map(|_| ()) }
+    };
+    let writes = (writer.failures(), writer.last_kind());
+    let reads = (reader.failures(), reader.last_kind());
+    Ok((inner.written, reads, writes, outcome))
+}
+
+/// The same; the second run where the first is refused memory, and neither end failed.
+fn run(alloc: Global, row: &Row, ends: Ends) -> Result<Ran, Fail> {
+    let first = run_once(alloc, row, ends)?;
+    match (first.1.0, first.2.0, first.3) {
+        (0, 0, Err(Stop::OutOfMemory)) => run_once(alloc, row, ends),
         _ => Ok(first),
     }
 }
 
-/// How a run ends where a read failed, if one did.
-fn end_of_read(fault: Option<ErrorKind>) -> Outcome {
-    match fault {
+/// How a run ends where an end of this kind failed, if one did.
+fn end_of(kind: Option<ErrorKind>, stop: impl FnOnce(ErrorKind) -> Stop) -> Outcome {
+    match kind {
         None => Ok(()),
         Some(ErrorKind::OutOfMemory) => Err(Stop::OutOfMemory),
-        Some(kind) => Err(Stop::Read(kind)),
+        Some(kind) => Err(stop(kind)),
     }
 }
 
-/// Whether a run over file F0 ends as its reader does, with this report, or with a front of the whole one where memory
-/// was refused.
-fn is_read(
-    alloc: Global,
-    bytes: &[u8],
-    piece: usize,
-    fault: Option<ErrorKind>,
-    report: &[u8],
-) -> Result<bool, Fail> {
-    let (found, outcome) = read_input(alloc, bytes, piece, fault)?;
-    let is_right = match fault {
-        Some(ErrorKind::OutOfMemory) => REPORT.starts_with(found.as_slice()),
-        _ => found.as_slice() == report,
-    };
-    Ok(is_right && outcome == end_of_read(fault))
+/// The first texts of a row's report, so many.
+fn joined(alloc: Global, row: &Row, count: usize) -> Result<Vec<u8>, Fail> {
+    let mut report = line_buffer(alloc)?;
+    for text in row.texts.iter().take(count) {
+        report.extend_from_slice(text)?;
+    }
+    Ok(report)
 }
 
-/// The bytes that are read, how they end, and the report.
-const READERS: &[(&[u8], Option<ErrorKind>, &[u8])] = &[
-    (INPUT, None, REPORT),
-    (b"", Some(ErrorKind::BrokenPipe), b""),
-    (b"1014", Some(ErrorKind::BrokenPipe), b""),
-    (b"1014\n1050\n10", Some(ErrorKind::Interrupted), TWO_LINES),
-    (b"1014\n1050\n10", Some(ErrorKind::UnexpectedEof), TWO_LINES),
-    (INPUT, Some(ErrorKind::OutOfMemory), REPORT),
-];
+/// How many lines have ended in these bytes.
+fn count_ended(input: &[u8]) -> usize {
+    input.iter().filter(|byte| **byte == b'\n').count()
+}
+
+/// Whether the right report comes where the reader gives pieces, and fails after so many bytes, if
+/// it does: that of the lines which have ended there, or the whole one.
+fn is_read(
+    alloc: Global,
+    row: &Row,
+    piece: usize,
+    cut: usize,
+    fault: Option<ErrorKind>,
+) -> Result<bool, Fail> {
+    let ends = Ends {
+        piece,
+        cut,
+        read_fault: fault,
+        room: usize::MAX,
+        write_fault: None,
+    };
+    let (out, reads, writes, outcome) = run(alloc, row, ends)?;
+    let lines = match fault {
+        None => row.texts.len(),
+        Some(_) => count_ended(row.input.get(..cut).unwrap_or(row.input)),
+    };
+    Ok(
+        out == joined(alloc, row, lines)?
+            && reads == (u64::from(fault.is_some()), fault)
+            && writes == (0, None)
+            && outcome == end_of(fault, Stop::Read),
+    )
+}
+
+/// The first place of a row's input at which a reader that fails so leads to a wrong report, if one
+/// does.
+fn first_misread(
+    alloc: Global,
+    row: &Row,
+    fault: Option<ErrorKind>,
+) -> Result<Option<usize>, Fail> {
+    for cut in 0..=row.input.len() {
+        if !is_read(alloc, row, 1, cut, fault)? || !is_read(alloc, row, usize::MAX, cut, fault)? {
+            return Ok(Some(cut));
+        }
+    }
+    Ok(None)
+}
 
 #[test]
 fn readers(rt: HostRuntime) -> Result<(), Fail> {
-    for piece in [1, 3] {
-        for (bytes, fault, report) in READERS {
-            let is_right = is_read(rt.alloc(), *bytes, piece, *fault, *report)?;
-            assert!(rt; is_right, "pieces of {piece}, {fault:?}");
+    for fault in FAULTS {
+        for row in [ODD_INPUT, NESTED_SITES, CUT_LINE] {
+            let cut = first_misread(rt.alloc(), &row, fault)?;
+            assert!(rt;
+                cut.is_none(),
+                "{fault:?} after {cut:?} bytes of {:?}",
+                row.input
+            );
         }
     }
     Ok(())
 }
 
-/// What a writer holds at the end of a run, the failures that were counted and their last kind, and how the run ended.
-type Written = (Vec<u8>, (u64, Option<ErrorKind>), Outcome);
-
-/// A run over file F0 with a writer that takes pieces, so many bytes in all.
-fn write_report(
-    alloc: Global,
-    piece: usize,
-    room: usize,
-    fault: Option<ErrorKind>,
-) -> Result<Written, Fail> {
-    let file = F0.bytes(alloc)?;
-    let mut inner = PieceWriter {
-        written: line_buffer(alloc)?,
-        piece,
-        room,
-        fault,
+/// Whether the two parts of a row's input, cut after a newline, have the texts of their own lines.
+fn are_parts_read(alloc: Global, row: &Row, cut: usize) -> Result<bool, Fail> {
+    let cut = cut.min(row.input.len());
+    let lines = count_ended(&row.input[..cut]).min(row.texts.len());
+    let first = Row {
+        input: &row.input[..cut],
+        texts: &row.texts[..lines],
+        ..*row
     };
-    let mut writer = Watched::new(&mut inner);
-    let outcome = run_frames(alloc, file, &mut Watched::new(INPUT), &mut writer);
-    let failures = (writer.failures(), writer.last_kind());
-    Ok((inner.written, failures, ended(outcome)))
-}
-
-/// The same; the second run where memory is refused and no write failed.
-fn write_again(
-    alloc: Global,
-    piece: usize,
-    room: usize,
-    fault: Option<ErrorKind>,
-) -> Result<Written, Fail> {
-    let first = write_report(alloc, piece, room, fault)?;
-    match (first.1.0, first.2) {
-        (0, Err(Stop::OutOfMemory)) => write_report(alloc, piece, room, fault),
-        _ => Ok(first),
-    }
-}
-
-/// How a run ends where a write failed so, if one did.
-fn end_of_write(kind: Option<ErrorKind>) -> Outcome {
-    match kind {
-        None => Ok(()),
-        Some(ErrorKind::OutOfMemory) => Err(Stop::OutOfMemory),
-        Some(kind) => Err(Stop::Write(kind)),
-    }
-}
-
-/// Whether a run over file F0 ends as its writer does, whose last failure is of this kind, and the writer is full or
-/// has the whole report.
-fn is_written(
-    alloc: Global,
-    piece: usize,
-    room: usize,
-    fault: Option<ErrorKind>,
-    kind: Option<ErrorKind>,
-) -> Result<bool, Fail> {
-    let (bytes, failures, outcome) = write_again(alloc, piece, room, fault)?;
+    let second = Row {
+        input: &row.input[cut..],
+        texts: &row.texts[lines..],
+        ..*row
+    };
     Ok(
-        bytes.len() == room.min(REPORT.len())
-            && REPORT.starts_with(bytes.as_slice())
-            && failures == (u64::from(kind.is_some()), kind)
-            && outcome == end_of_write(kind),
+        is_read(alloc, &first, usize::MAX, cut, None)?
+            && is_read(alloc, &second, usize::MAX, 0, None)?,
     )
 }
 
-/// The most bytes at a call and in all, the failure then, and the kind of the last failure that is counted.
-const WRITERS: &[(usize, usize, Option<ErrorKind>, Option<ErrorKind>)] = &[
-    (1, usize::MAX, None, None),
-    (
-        9,
-        FRONT,
-        Some(ErrorKind::BrokenPipe),
-        Some(ErrorKind::BrokenPipe),
-    ),
-    (
-        9,
-        FRONT,
-        Some(ErrorKind::Interrupted),
-        Some(ErrorKind::Interrupted),
-    ),
-    (
-        9,
-        FRONT,
-        Some(ErrorKind::OutOfMemory),
-        Some(ErrorKind::OutOfMemory),
-    ),
-    // It stalls, and does not fail.
-    (9, FRONT, None, Some(ErrorKind::WriteZero)),
-];
+#[test]
+fn joined_inputs(rt: HostRuntime) -> Result<(), Fail> {
+    for cut in [5, 8, 9] {
+        assert!(rt;
+            are_parts_read(rt.alloc(), &ODD_INPUT, cut)?,
+            "after {cut} bytes"
+        );
+    }
+    Ok(())
+}
+
+/// Whether a prefix of the report comes that is as long as the writer's room, where the writer takes
+/// pieces, and fails then, or stalls.
+fn is_written(
+    alloc: Global,
+    row: &Row,
+    piece: usize,
+    room: usize,
+    fault: Option<ErrorKind>,
+) -> Result<bool, Fail> {
+    let ends = Ends {
+        piece,
+        cut: 0,
+        read_fault: None,
+        room,
+        write_fault: fault,
+    };
+    let (out, reads, writes, outcome) = run(alloc, row, ends)?;
+    let report = joined(alloc, row, row.texts.len())?;
+    let kind = if room < report.len() {
+        Some(fault.unwrap_or(ErrorKind::WriteZero))
+    } else {
+        None
+    };
+    Ok(
+        out.as_slice() == report.get(..room).unwrap_or(report.as_slice())
+            && reads == (0, None)
+            && writes == (u64::from(kind.is_some()), kind)
+            && outcome == end_of(kind, Stop::Write),
+    )
+}
+
+/// The least room with which a writer that fails so leads to a wrong report on a row, if any does.
+fn first_miswritten(
+    alloc: Global,
+    row: &Row,
+    fault: Option<ErrorKind>,
+) -> Result<Option<usize>, Fail> {
+    for room in 0..=joined(alloc, row, row.texts.len())?.len() {
+        if !is_written(alloc, row, 1, room, fault)?
+            || !is_written(alloc, row, usize::MAX, room, fault)?
+        {
+            return Ok(Some(room));
+        }
+    }
+    Ok(None)
+}
 
 #[test]
 fn writers(rt: HostRuntime) -> Result<(), Fail> {
-    for (piece, room, fault, kind) in WRITERS {
-        let is_right = is_written(rt.alloc(), *piece, *room, *fault, *kind)?;
-        assert!(rt; is_right, "room for {room}, {fault:?}");
+    for fault in FAULTS {
+        for row in [ODD_INPUT, NESTED_SITES, PART_OF_A_FUNCTION] {
+            let room = first_miswritten(rt.alloc(), &row, fault)?;
+            assert!(rt;
+                room.is_none(),
+                "{fault:?}, room for {room:?} bytes, {:?}",
+                row.input
+            );
+        }
     }
     Ok(())
 }
 
-/// Gives newlines, so many in all and at most so many at a call.
-#[derive(Drop)]
-struct Newlines {
-    left: usize,
-    most: usize,
-}
-
-impl Read for Newlines {
-    fn read(&mut self, buf: &mut [u8]) -> io::Result<usize> {
-        let count = buf.len().min(self.left).min(self.most);
-        buf[..count].fill(b'\n');
-        self.left -= count;
-        Ok(count)
-    }
-}
-
-/// Takes all that it is given, and counts the calls.
-#[derive(Drop)]
-struct CallCounter {
-    calls: usize,
-}
-
-impl Write for CallCounter {
-    fn write(&mut self, buf: &[u8]) -> io::Result<usize> {
-        self.calls = self.calls.saturating_add(1);
-        Ok(buf.len())
-    }
-
-    fn flush(&mut self) -> io::Result<()> {
-        Ok(())
-    }
-}
-
-/// How a run over file F0 ends that answers so many empty lines, of which a read gives at most so many, and how many
-/// writes it takes.
-fn count_writes(alloc: Global, lines: usize, most: usize) -> Result<(Outcome, usize), Fail> {
-    let file = F0.bytes(alloc)?;
-    let mut reader = Watched::new(Newlines { left: lines, most });
-    let mut inner = CallCounter { calls: 0 };
-    let mut writer = Watched::new(&mut inner);
-    let outcome = run_frames(alloc, file, &mut reader, &mut writer);
-    Ok((ended(outcome), inner.calls))
-}
-
-/// Whether the run ends well and takes so many writes. Where memory is refused it runs once more.
-fn are_gathered(alloc: Global, lines: usize, most: usize, writes: usize) -> Result<bool, Fail> {
-    let (mut outcome, mut calls) = count_writes(alloc, lines, most)?;
-    if outcome == Err(Stop::OutOfMemory) {
-        (outcome, calls) = count_writes(alloc, lines, most)?;
-    }
-    Ok(outcome == Ok(()) && calls == writes)
-}
-
-/// How many empty lines there are, how many of them a read gives at most, and how many writes their answers take, of 15
-/// bytes each.
-const GATHERED: &[(usize, usize, usize)] = &[
-    // The answers to the lines of a read go out together.
-    (1_000, usize::MAX, 1),
-    // A read's line is answered before the next read.
-    (3, 1, 3),
-    // Gathered answers go out once they have 65,536 bytes.
-    (5_000, usize::MAX, 2),
-];
-
 #[test]
-fn gathered_answers(rt: HostRuntime) -> Result<(), Fail> {
-    for (lines, most, writes) in GATHERED {
-        let is_right = are_gathered(rt.alloc(), *lines, *most, *writes)?;
-        assert!(rt; is_right, "{lines} lines, {most} at a read");
-    }
-    Ok(())
-}
-
-/// Whether a fault that can't be told whole leaves a front of the line.
-fn is_front_told(alloc: Global, room: usize) -> Result<bool, Fail> {
-    let mut errors = PieceWriter {
-        written: line_buffer(alloc)?,
-        piece: 9,
-        room,
-        fault: Some(ErrorKind::BrokenPipe),
-    };
-    let status = finish_run(Err(RunFault::InputTooLong), &mut errors);
-    let told = errors.written.as_slice();
-    Ok(status == 1 && told.len() == room && b"fault: InputTooLong\n".starts_with(told))
-}
-
-#[test]
-fn untold_faults(rt: HostRuntime) -> Result<(), Fail> {
-    for room in [0, 3] {
-        assert!(rt; is_front_told(rt.alloc(), room)?, "room for {room}");
+fn kinds(rt: HostRuntime) -> Result<(), Fail> {
+    for kind in KINDS {
+        let is_read = is_read(rt.alloc(), &CUT_LINE, usize::MAX, 7, Some(*kind))?;
+        let is_written = is_written(rt.alloc(), &ODD_INPUT, usize::MAX, 30, Some(*kind))?;
+        assert!(rt; is_read && is_written, "{kind:?}");
     }
     Ok(())
 }

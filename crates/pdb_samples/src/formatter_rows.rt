@@ -76,7 +76,7 @@ const SECOND_LINES: [u32; 15] = [
 const EXPORTS: [u32; 6] = [0xf8, 16, 0x8000_1000, 0x1000, 0x8000_1001, 0x1001];
 
 /// No arguments, and a function of these that returns nothing.
-const TYPES: &[Record] = &[
+pub(crate) const TYPES: &[Record] = &[
     Record::ArgumentList(&[]),
     Record::Procedure {
         return_type: 3,
@@ -86,7 +86,7 @@ const TYPES: &[Record] = &[
 ];
 
 /// Two such functions.
-const IDS: &[Record] = &[
+pub(crate) const IDS: &[Record] = &[
     Record::FunctionId {
         scope: 0,
         function_type: 0x1001,
@@ -100,7 +100,11 @@ const IDS: &[Record] = &[
 ];
 
 /// File F0 with these types and ids.
-fn file_of_items(alloc: Global, types: &[Record], ids: &[Record]) -> Result<ProgramDatabase> {
+pub(crate) fn file_of_items(
+    alloc: Global,
+    types: &[Record],
+    ids: &[Record],
+) -> Result<ProgramDatabase> {
     let mut database = file_with(alloc, Change::Nothing)?;
     database.types.extend(types)?;
     database.ids.extend(ids)?;

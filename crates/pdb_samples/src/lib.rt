@@ -11,6 +11,7 @@ mod formatter_rows;
 mod line_data;
 mod records;
 mod rows;
+mod site_rows;
 mod streams;
 mod symbols;
 
@@ -22,4 +23,5 @@ pub use error::{Result, SampleError};
 pub use formatter_rows::{cross_imports, imports_of_no_stream};
 pub use records::ItemTable;
 pub use rows::{Change, cut_dbi, file_f, file_with, module_of_symbols, short_line_block};
+pub use site_rows::nested_sites;
 pub use streams::{PieceReader, PieceWriter};

@@ -2,18 +2,22 @@ ghost use Rattle.std.specs.Prelude.{◌≤◌, length};
 
 use std::io::{self, ErrorKind, Read, Write};
 
-/// Gives its bytes in pieces, and then its end at each call.
+/// Gives its bytes in pieces, fails once if it does, gives the rest in pieces, and then its end at
+/// each call.
 #[derive(Drop)]
 pub struct PieceReader<'t> {
-    /// The bytes that are still to come.
+    /// The bytes that are still to come before the failure. A piece that has some of them has none
+    /// of the rest.
     pub bytes: &'t [u8],
+    /// The bytes after it.
+    pub rest: &'t [u8],
     /// The most bytes that a call gives.
     pub piece: usize,
-    /// The failure at its end, if it fails there.
+    /// The failure, if it fails.
     pub fault: Option<ErrorKind>,
 }
 
-/// Takes bytes in pieces, so many in all, and then none.
+/// Takes bytes in pieces, so many in all. Then it fails once and takes more, or it takes none at all.
 #[derive(Drop)]
 pub struct PieceWriter {
     /// The bytes that were taken.
@@ -39,24 +43,29 @@ fn give(from: &mut &[u8], to: &mut [u8], most: usize) -> usize
 
 impl Read for PieceReader<'_> {
     fn read(&mut self, buf: &mut [u8]) -> io::Result<usize> {
-        match self.fault {
-            Some(kind) if self.bytes.is_empty() => Err(io::Error::from(kind)),
-            _ => Ok(give(&mut self.bytes, buf, self.piece)),
+        if self.bytes.is_empty() {
+            if let Some(kind) = self.fault.take() {
+                return Err(io::Error::from(kind));
+            }
+            self.bytes = self.rest;
+            self.rest = &[];
         }
+        Ok(give(&mut self.bytes, buf, self.piece))
     }
 }
 
 impl Write for PieceWriter {
     fn write(&mut self, buf: &[u8]) -> io::Result<usize> {
-        match self.fault {
-            Some(kind) if self.room == 0 => Err(io::Error::from(kind)),
-            _ => {
-                let count = buf.len().min(self.piece).min(self.room);
-                self.written.extend_from_slice(&buf[..count])?;
-                self.room -= count;
-                Ok(count)
+        if self.room == 0 {
+            if let Some(kind) = self.fault.take() {
+                self.room = usize::MAX;
+                return Err(io::Error::from(kind));
             }
         }
+        let count = buf.len().min(self.piece).min(self.room);
+        self.written.extend_from_slice(&buf[..count])?;
+        self.room -= count;
+        Ok(count)
     }
 
     fn flush(&mut self) -> io::Result<()> {

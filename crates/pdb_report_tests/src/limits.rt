@@ -1,0 +1,90 @@
+//! Inputs that are longer than may be read, and one that is as long.
+
+use crate::files::F;
+use pdb_engine::InputFault;
+use pdb_report::{AtEnd, Symbolizer, Watched, answer_lines};
+use std::alloc::Global;
+use std::io::{self, Read};
+use std::test::Fail;
+
+/// The answer to the line 1014 by file F.
+const ANSWER: &[u8] = b"0x00001014\n  f at a.c:5\n";
+
+/// Gives the same bytes at each call, so many times, and then its end.
+#[derive(Drop)]
+struct Repeated {
+    bytes: &'static [u8],
+    times: usize,
+}
+
+impl Read for Repeated {
+    fn read(&mut self, buf: &mut [u8]) -> io::Result<usize> {
+        if self.times == 0 {
+            return Ok(0);
+        }
+        self.times -= 1;
+        let count = buf.len().min(self.bytes.len());
+        buf[..count].copy_from_slice(&self.bytes[..count]);
+        Ok(count)
+    }
+}
+
+/// What is read again and again, how often, the limit, what is out, and whether the input is too
+/// long.
+type Case = (&'static [u8], usize, u64, &'static [u8], bool);
+
+const CASES: &[Case] = &[
+    (b"1014\n", usize::MAX, 8, ANSWER, true),
+    // The limit lies inside one read.
+    (b"1014\n1014\n1014\n", usize::MAX, 8, ANSWER, true),
+    (b"z", usize::MAX, 100, b"", true),
+    (b"1014\n", 1, 5, ANSWER, false),
+    (b"1014\n", 1, 4, b"", true),
+];
+
+/// What is out, and how answering the lines of a case by file F ends.
+fn answered(alloc: Global, case: &Case) -> Result<(Vec<u8>, Result<(), InputFault>), Fail> {
+    let symbolizer = match Symbolizer::open(alloc, F.bytes(alloc)?) {
+        Ok(symbolizer) => symbolizer,
+        Err(_) => Symbolizer::open(alloc, F.bytes(alloc)?)?,
+    };
+    let (bytes, times, limit, _, _) = *case;
+    let mut out = Vec::new(alloc);
+    let outcome = answer_lines(
+        alloc,
+        &symbolizer,
+        &mut Watched::new(Repeated { bytes, times }),
+        &mut Watched::new(&mut out),
+        AtEnd::GiveBack,
+        limit,
+    );
+    Ok((out, outcome))
+}
+
+/// Whether a case ends as it should. Where memory is refused it is tried once more.
+fn is_limited(alloc: Global, case: &Case) -> Result<bool, Fail> {
+    let mut found = answered(alloc, case)?;
+    if found.1 == Err(InputFault::OutOfMemory) {
+        found = answered(alloc, case)?;
+    }
+    let (_, _, _, out, is_too_long) = *case;
+    let wanted = if is_too_long {
+        Err(InputFault::InputTooLong)
+    } else {
+        Ok(())
+    };
+    Ok(found.0.as_slice() == out && found.1 == wanted)
+}
+
+#[test]
+fn limits(rt: HostRuntime) -> Result<(), Fail> {
+    for case in CASES {
+        assert!(rt;
+            is_limited(rt.alloc(), case)?,
+            "up to {} bytes of {:?}",
+            case.2,
+            case.0
+        );
+    }
+    Ok(())
+}

@@ -1,0 +1,102 @@
+//! How many writes answers take, and a fault that can't be told whole.
+
+use crate::files::{F0, Outcome, Stop, ended, line_buffer};
+use pdb_report::{RunFault, Watched, finish_run, run_frames};
+use pdb_samples::PieceWriter;
+use std::alloc::Global;
+use std::io::{self, ErrorKind, Read, Write};
+use std::test::Fail;
+
+/// Gives newlines, so many in all and at most so many at a call.
+#[derive(Drop)]
+struct Newlines {
+    left: usize,
+    most: usize,
+}
+
+impl Read for Newlines {
+    fn read(&mut self, buf: &mut [u8]) -> io::Result<usize> {
+        let count = buf.len().min(self.left).min(self.most);
+        buf[..count].fill(b'\n');
+        self.left -= count;
+        Ok(count)
+    }
+}
+
+/// Takes all that it is given, and counts the calls.
+#[derive(Drop)]
+struct CallCounter {
+    calls: usize,
+}
+
+impl Write for CallCounter {
+    fn write(&mut self, buf: &[u8]) -> io::Result<usize> {
+        self.calls = self.calls.saturating_add(1);
+        Ok(buf.len())
+    }
+
+    fn flush(&mut self) -> io::Result<()> {
+        Ok(())
+    }
+}
+
+/// How a run over file F0 ends that answers so many empty lines, of which a read gives at most so many, and how many
+/// writes it takes.
+fn count_writes(alloc: Global, lines: usize, most: usize) -> Result<(Outcome, usize), Fail> {
+    let file = F0.bytes(alloc)?;
+    let mut reader = Watched::new(Newlines { left: lines, most });
+    let mut inner = CallCounter { calls: 0 };
+    let mut writer = Watched::new(&mut inner);
+    let outcome = run_frames(alloc, file, &mut reader, &mut writer);
+    Ok((ended(outcome), inner.calls))
+}
+
+/// Whether the run ends well and takes so many writes. Where memory is refused it runs once more.
+fn are_gathered(alloc: Global, lines: usize, most: usize, writes: usize) -> Result<bool, Fail> {
+    let (mut outcome, mut calls) = count_writes(alloc, lines, most)?;
+    if outcome == Err(Stop::OutOfMemory) {
+        (outcome, calls) = count_writes(alloc, lines, most)?;
+    }
+    Ok(outcome == Ok(()) && calls == writes)
+}
+
+/// How many empty lines there are, how many of them a read gives at most, and how many writes their answers take, of 15
+/// bytes each.
+const GATHERED: &[(usize, usize, usize)] = &[
+    // The answers to the lines of a read go out together.
+    (1_000, usize::MAX, 1),
+    // A read's line is answered before the next read.
+    (3, 1, 3),
+    // Gathered answers go out once they have 65,536 bytes.
+    (5_000, usize::MAX, 2),
+];
+
+#[test]
+fn gathered_answers(rt: HostRuntime) -> Result<(), Fail> {
+    for (lines, most, writes) in GATHERED {
+        let is_right = are_gathered(rt.alloc(), *lines, *most, *writes)?;
+        assert!(rt; is_right, "{lines} lines, {most} at a read");
+    }
+    Ok(())
+}
+
+/// Whether a fault that can't be told whole leaves a front of the line.
+fn is_front_told(alloc: Global, room: usize) -> Result<bool, Fail> {
+    let mut errors = PieceWriter {
+        written: line_buffer(alloc)?,
+        piece: 9,
+        room,
+        fault: Some(ErrorKind::BrokenPipe),
+    };
+    let status = finish_run(Err(RunFault::InputTooLong), &mut errors);
+    let told = errors.written.as_slice();
+    Ok(status == 1 && told.len() == room && b"fault: InputTooLong\n".starts_with(told))
+}
+
+#[test]
+fn untold_faults(rt: HostRuntime) -> Result<(), Fail> {
+    for room in [0, 3] {
+        assert!(rt; is_front_told(rt.alloc(), room)?, "room for {room}");
+    }
+    Ok(())
+}
