@@ -122,9 +122,9 @@ pub(crate) fn parse_record_in<'a>(
 fn parse_record<'a>(file: &'a [u8], entry: &[u8; 28]) -> Result<CodeView<'a>, ImageError>
     ensures { result ≡ record_of file.now entry.now }
 {
-    let place = word_at(entry, 24) as usize;
+    let pointer = word_at(entry, 24) as usize;
     let size = word_at(entry, 16) as usize;
-    parse_rsds(part(file, place, size).ok_or(ImageError::RecordPastEnd)?)
+    parse_rsds(part(file, pointer, size).ok_or(ImageError::RecordPastEnd)?)
 }
 
 /// What an RSDS record says.

@@ -18,9 +18,8 @@ pub struct PdbIdentity {
 
 impl PdbIdentity {
     /// The identity that a PDB has: the GUID of its information stream (1), and the age of its DBI
-    /// header (in stream 3), or that of the information stream where the DBI header has none. A
-    /// tool that writes to a PDB after it was linked raises the age of the information stream
-    /// alone.
+    /// header (in stream 3), or that of the information stream where the DBI header has none. The
+    /// linker writes the DBI header's age; other tools may raise that of the information stream.
     pub fn of_pdb(guid: [u8; 16], information_age: u32, dbi_age: Option<u32>) -> PdbIdentity
         ensures { result ≡ record { guid = guid; age = unwrap_or dbi_age information_age } }
     {
