@@ -1,6 +1,7 @@
 #!/usr/bin/env bash
-# The command that passes all tests: `rt ci` (every proof, must-fail edit, test and program), and then each request for memory of
-# the proved programs refused in turn (tests/refused_requests). It fails where either fails; the last line counts both.
+# The command that passes all tests: `rt ci` (every proof, must-fail edit, test and program), then each request for memory of
+# the proved programs refused in turn (tests/refused_requests), and the commands of README.md, CONTRIBUTING.md and
+# docs/GUIDE.md as they stand (tests/commands.sh). It fails where one fails; the last line counts all.
 set -u
 cd "$(dirname "$0")"
 log=$(mktemp)
@@ -32,5 +33,7 @@ count() {
 
 count rt ci
 count python3 tests/refused_requests/sweep.py
+count tests/commands.sh
+tests/version.sh || { failed=$((failed + 1)); status=1; }
 echo "$passed passed, $failed failed"
 exit "$status"

@@ -8,7 +8,7 @@
 # standard error too. A command with nothing below it has to end with status 0. Sessions run in a new folder, with
 # pdb_symbolizer on the path and its data in data/. What compiles, makes files or takes a minute (`rt try`, examples/, tests/,
 # install) runs with --slow alone, in a copy of the repository; what proves or measures isn't run. Each block ```rust has to stand
-# in crates/example_calls. With --write what came is put into the documents.
+# in crates/example_calls. With --write what came is put into the documents. The last line is `N passed, M failed`.
 set -eu
 top=$(cd "$(dirname "$0")/.." && pwd)
 exec python3 - "$top" "$@" <<'P'
@@ -143,5 +143,6 @@ for name in ("README.md", "CONTRIBUTING.md", "docs/GUIDE.md"):
             print(f"{name}: not in crates/example_calls:\n{piece}")
         total, wrong = total + count, wrong + bad
 print(f"{total} commands, {wrong} otherwise than they stand")
+print(f"{max(total - wrong, 0)} passed, {wrong} failed")
 sys.exit(1 if wrong else 0)
 P
