@@ -11,7 +11,6 @@ pub mod laws;
 #[cfg(test)]
 mod limits;
 #[cfg(test)]
-mod promptness;
 #[cfg(test)]
 mod sizes;
 #[cfg(test)]

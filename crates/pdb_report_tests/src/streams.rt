@@ -158,12 +158,21 @@ fn run(alloc: Global, row: &Row, ends: Ends) -> Result<Ran, Fail> {
     }
 }
 
-/// How a run ends where an end of this kind failed, if one did.
-fn end_of(kind: Option<ErrorKind>, stop: impl FnOnce(ErrorKind) -> Stop) -> Outcome {
+/// How a run ends whose reader fails so, if it does.
+fn read_outcome(kind: Option<ErrorKind>) -> Outcome {
     match kind {
         None => Ok(()),
         Some(ErrorKind::OutOfMemory) => Err(Stop::OutOfMemory),
-        Some(kind) => Err(stop(kind)),
+        Some(kind) => Err(Stop::Read(kind)),
+    }
+}
+
+/// How a run ends whose writer fails so, if it does.
+fn write_outcome(kind: Option<ErrorKind>) -> Outcome {
+    match kind {
+        None => Ok(()),
+        Some(ErrorKind::OutOfMemory) => Err(Stop::OutOfMemory),
+        Some(kind) => Err(Stop::Write(kind)),
     }
 }
 
@@ -206,7 +215,7 @@ fn is_read(
         out == joined(alloc, row, lines)?
             && reads == (u64::from(fault.is_some()), fault)
             && writes == (0, None)
-            && outcome == end_of(fault, Stop::Read),
+            && outcome == read_outcome(fault),
     )
 }
 
@@ -297,7 +306,7 @@ fn is_written(
         out.as_slice() == report.get(..room).unwrap_or(report.as_slice())
             && reads == (0, None)
             && writes == (u64::from(kind.is_some()), kind)
-            && outcome == end_of(kind, Stop::Write),
+            && outcome == write_outcome(kind),
     )
 }
 

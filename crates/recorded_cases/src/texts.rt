@@ -78,7 +78,7 @@ fn told(alloc: Global, answer: Result<String, Error>) -> Result<String, AllocErr
 fn answer(alloc: Global, bytes: Vec<u8>, question: &Question<'_>) -> Result<String, Error> {
     match question.asked {
         Asked::AllAgain | Asked::EachAgain => calls::ask(alloc, bytes, question),
-        Asked::Prefixes => prefixes::ask(alloc, bytes, question),
+        Asked::Prefixes => prefixes::ask(alloc, &bytes, question),
         _ => ask(alloc, bytes, question),
     }
 }

@@ -1,15 +1,15 @@
 //! Answers of contexts about addresses.
 
 use crate::texts::question::{Asked, Question};
-use pdb_addr2line::pdb::{PdbInternalSectionOffset, Source};
+use pdb_addr2line::pdb::PdbInternalSectionOffset;
 use pdb_addr2line::{Context, ContextPdbData, Error, Function, FunctionFrames, ModuleProvider};
 use std::alloc::Global;
 use std::fmt::Debug;
 
 /// The answer of a context whose formatter has the question's flags; over a map that isn't ordered there is none.
-pub fn ask<S: Source>(
+pub fn ask(
     alloc: Global,
-    data: &ContextPdbData<'static, 'static, S>,
+    data: &ContextPdbData<'static, 'static, Vec<u8>>,
     question: &Question<'_>,
 ) -> Result<String, Error> {
     if !data.address_map().is_ordered() {
