@@ -6,8 +6,8 @@
 Of a case, the Nth request is refused in the Nth of as many runs as there are requests in one with nothing refused.
 
 - `pdb_symbolizer`, on the recorded rows of reports: such a run ends with status 1 and `fault: OutOfMemory` on standard error,
-  and what is out is a prefix of the row's report. One that ends as if nothing was refused passes only where exceptions.txt
-  names the function that asked, with the reason.
+  and what is out is a prefix of the row's report. One that ends as if nothing was refused passes only in a case that
+  exceptions.txt names, with the reason.
 - `recorded_reads`, on recorded reads of records, streams and tables: the call that finds no memory says so, and is made again.
 - `ask_again`, on the files of the same rows and on the recorded texts: the call that finds no memory says so, and the same
   context or formatter then answers it, and all other questions of its file, as if nothing was refused.
@@ -292,11 +292,10 @@ def sweep(program, case, exceptions):
     wrong, refused = [], collections.Counter()
     for number in range(1, count + 1):
         came, _, callers = program.run(case, number)
-        excepted = [it for it in callers if it in exceptions]
         if case.is_right(wanted, came):
             refused[asker(callers)] += 1
-        elif excepted and came in (wanted, without_tip(wanted)):
-            refused[f"{excepted[0]}, as if it weren't"] += 1
+        elif case.name in exceptions and came in (wanted, without_tip(wanted)):
+            refused[f"{asker(callers)}, as if it weren't"] += 1
         else:
             wrong.append(f"{case.name}: request {number} of {count} refused, of {' < '.join(callers)}: {shown(came)}")
     return wrong, refused
@@ -330,7 +329,7 @@ def stop(why):
 
 
 def exceptions_of():
-    """The functions of exceptions.txt."""
+    """The cases of exceptions.txt."""
     with open(f"{HERE}/exceptions.txt", encoding="utf-8") as text:
         return {it.split(": ")[0] for it in text if it.strip() and not it.startswith("#")}
 

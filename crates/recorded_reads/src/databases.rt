@@ -253,8 +253,9 @@ fn ask_module_of(
 fn module_names(alloc: Global, module: &Module<'_>) -> Result<String> {
     let name = module.module_name(alloc)?;
     let object_file = module.object_file_name(alloc)?;
-    let names = (name.as_str().as_bytes(), object_file.as_str().as_bytes());
-    shown(alloc, &names)
+    let name = shown(alloc, &name.as_str().as_bytes())?;
+    let object_file = shown(alloc, &object_file.as_str().as_bytes())?;
+    Ok(format!(in alloc; "({name}, {object_file})")?)
 }
 
 /// The answer of a module's stream.
