@@ -4,7 +4,7 @@
 #   tests/commands.sh [--write] [--slow] [PROGRAM]
 #
 # PROGRAM is the built pdb_symbolizer; if left out, the proved one, crates/pdb_symbolizer/out/pdb_symbolizer. A block of a
-# document that begins with `    $ ` is a session: each such line is a command, and the lines below it are what it prints, on
+# document that begins with `    $ ` is a transcript: each such line is a command, and the lines below it are what it prints, on
 # standard error too. A command with nothing below it has to end with status 0. Sessions run in a new folder, with
 # pdb_symbolizer on the path and its data in data/. What compiles, makes files or takes a minute (`rt try`, examples/, tests/,
 # install) runs with --slow alone, in a copy of the repository; what proves or measures isn't run. Each block ```rust has to stand
@@ -31,8 +31,8 @@ def is_gap(lines, at):
     return at < len(lines) and re.match(r"    (?!\$ )", lines[at])
 
 
-def sessions(lines):
-    """Each session: the numbers of its lines."""
+def transcripts(lines):
+    """Each transcript: the numbers of its lines."""
     at = 0
     while at < len(lines):
         end = at
@@ -51,8 +51,8 @@ def copied(to):
     return to
 
 
-def run_session(lines, room):
-    """The session as it runs, or why it is left out."""
+def run_transcript(lines, room):
+    """The transcript as it runs, or why it is left out."""
     commands = []
     for line in lines:
         if line.startswith("    $ "):
@@ -87,13 +87,13 @@ def run_session(lines, room):
 
 
 def check(name):
-    """Runs a document's sessions: how many commands ran, and how many went otherwise."""
+    """Runs a document's transcripts: how many commands ran, and how many went otherwise."""
     lines = open(f"{top}/{name}").read().split("\n")
     count = bad = 0
     changed = []
-    for start, end in sessions(lines):
+    for start, end in transcripts(lines):
         with tempfile.TemporaryDirectory() as room:
-            came, why = run_session(lines[start:end], room)
+            came, why = run_transcript(lines[start:end], room)
         if came is None:
             print(f"{name}:{start + 1}: not run, {why}: {lines[start][6:]}")
             continue
