@@ -84,7 +84,7 @@ fn is_rsds(file: &[u8], entry: &[u8; 28]) -> bool
     is_code_view(entry)
         && file
             .get(place..)
-            .is_some_and(|record| record.starts_with(b"RSDS"))
+            .is_some_and(|bytes| bytes.starts_with(b"RSDS"))
 }
 
 /// The first CodeView entry with an RSDS record.
@@ -129,17 +129,17 @@ fn parse_record<'a>(file: &'a [u8], entry: &[u8; 28]) -> Result<CodeView<'a>, Im
 
 /// What an RSDS record says.
 #[tactic(auto, unfolding(crate::specs::CodeView::rsds_of))]
-fn parse_rsds(record: &[u8]) -> Result<CodeView<'_>, ImageError>
-    ensures { result ≡ rsds_of record.now }
+fn parse_rsds(bytes: &[u8]) -> Result<CodeView<'_>, ImageError>
+    ensures { result ≡ rsds_of bytes.now }
 {
-    if record.len() < 24 {
+    if bytes.len() < 24 {
         return Err(ImageError::RecordTooShort);
     }
-    let (_, path) = record.split_at(24);
+    let (_, path) = bytes.split_at(24);
     let path = parse_path(path)?;
     let mut guid = [0; 16];
-    guid.copy_from_slice(&record[4..20]);
-    let age = word_at(record, 20);
+    guid.copy_from_slice(&bytes[4..20]);
+    let age = word_at(bytes, 20);
     Ok(CodeView {
         identity: PdbIdentity { guid, age },
         path,
