@@ -1,12 +1,14 @@
 #!/usr/bin/env bash
-# Makes the databases of real linkers that the examples and recorded cases read, and the images beside them:
+# Makes the databases of real linkers that the examples and recorded cases read, with their images:
 #
 #   examples/make.sh OUT [--store]
 #
-# OUT gets x64.pdb and i386.pdb (clang and lld), gnu_ld.pdb (clang and GNU ld) and damaged.pdb (x64.pdb with four bytes of
-# one module overwritten), each but the last with its .exe. The sources are in examples/source; no Windows SDK is needed.
-# With --store the databases are copied to where programs read them: crates/pdb_symbolizer/data, crates/recorded_cases/data and
-# crates/example_calls/data. GNU ld writes the time into its own, so that each one made differs in that.
+# OUT gets x64.pdb and i386.pdb (clang and lld), gnu_ld.pdb (clang and GNU ld) and damaged.pdb
+# (x64.pdb with four bytes of one module overwritten), each but the last with its .exe. The sources
+# are in examples/source; no Windows SDK is needed. lld's own, of 76 and 80 KB, are laid out in pages
+# of 1,024 bytes (repage.py), which takes 21 and 22 KB. With --store the databases are copied to
+# where programs read them: crates/pdb_symbolizer/data, crates/recorded_cases/data and
+# crates/example_calls/data. GNU ld writes the time into its own, so each one made differs in that.
 #
 # The stored ones were made on Debian 12 by clang-19 and lld-19 (19.1.7) and binutils-mingw-w64-x86-64 (2.40+10.4):
 #   apt-get install clang-19 lld-19 binutils-mingw-w64-x86-64
@@ -23,7 +25,8 @@ mkdir -p "$work"
 cp "$here"/source/* "$work"
 cd "$work"
 
-# With these a database has no path of this machine: names of files are relative, and lld puts C:\src before them.
+# With these a database has no path of this machine: names of files are relative, and lld puts
+# C:\src before them.
 plain="-O2 -fno-unroll-loops -fno-vectorize -ffreestanding -fno-stack-protector -mno-stack-arg-probe"
 debug="-g -gcodeview -gno-codeview-command-line -fdebug-compilation-dir=."
 
@@ -40,7 +43,8 @@ with_lld() { # NAME TARGET
     compile "$2" plain.c
     lld-link-19 /nologo /Brepro /debug /nodefaultlib /entry:start /subsystem:console '/pdbsourcepath:C:\src' \
         "/pdbaltpath:$1.pdb" "/pdb:$1.pdb" "/out:$1.exe" main.obj archive.obj plain.obj
-    cp "$1.pdb" "$1.exe" "$out"
+    python3 "$here/repage.py" "$1.pdb" 1024 "$out/$1.pdb"
+    cp "$1.exe" "$out"
 }
 
 with_gnu_ld() { # NAME TARGET
@@ -51,7 +55,7 @@ with_gnu_ld() { # NAME TARGET
     MALLOC_MMAP_THRESHOLD_=1 MALLOC_MMAP_MAX_=1000000 x86_64-w64-mingw32-ld --no-insert-timestamp \
         -e start --subsystem console "--pdb=$1.pdb" -o "$1.exe" weigh.obj tools.obj plain.obj
     cp "$1.pdb" "$1.exe" "$out"
-    # The same code with DWARF, for compare.py.
+    # That code with DWARF, for compare.py.
     for file in weigh.c tools.c plain.c; do
         compile "$2" "$file" -gdwarf-4 -fdebug-compilation-dir=. -fno-inline
     done
