@@ -13,7 +13,8 @@ use Rattle.pdb_arguments.specs.Task.{Entered, IsFaultOf, IsOfTask, IsTask, IsTol
 pub memory_told : (kind : ErrorKind) (fault : WordsFault) → kind ≡ kinds.OutOfMemory → IsToldOf kind fault → fault ≡ faults.OutOfMemory
 memory_told kind faults.NotAnAddress is h = absurd h
 memory_told kind (faults.Words text) is h = absurd (h.0 is)
-memory_told kind (faults.Help text) is h = cc
+memory_told kind (faults.Help text) is (inl h) = cc
+memory_told kind (faults.Help text) is (inr h) = cc
 memory_told kind faults.OutOfMemory is h = refl
 
 other_names : codes "frames" ≡ codes "sizes" → ⊥

@@ -21,9 +21,15 @@ frames_app = with_rule (new_app (codes "frames")) (needed (codes "FILE"))
 abbrev pub sizes_app : App
 sizes_app = with_rule (with_rule (with_rule (new_app (codes "sizes")) (needed (codes "FILE"))) (needed (codes "START"))) (needed (codes "END"))
 
--- a subcommand is required, and no word is the program's name
+-- a subcommand is required, no argument is the program's name, and there is a version to ask for
 abbrev pub bare_app : App
-bare_app = let app = new_app (codes "pdb_symbolizer") in record app { top = record app.top { no_binary_name = true; subcommand_required = true } }
+bare_app = let app = new_app (codes "pdb_symbolizer") in record app {
+  top = record app.top {
+    no_binary_name = true;
+    subcommand_required = true;
+    has_version = true;
+  };
+}
 
 -- one of the two subcommands
 abbrev pub program_app : App
@@ -58,11 +64,12 @@ abbrev pub LacksTask : Option Entered → Type 0
 LacksTask None = ⊤
 LacksTask (Some entered) = (first_of (codes "FILE") entered.1 ≡ None) ⊎ ((entered.0 ≢ codes "frames") × (entered.0 ≢ codes "sizes"))
 
--- what is told of an error in reading the words: help is told as such
+-- what is reported of an error in reading the arguments: help and the version as such
 abbrev pub IsToldOf : ErrorKind → WordsFault → Type 0
 IsToldOf kind faults.NotAnAddress = ⊥
-IsToldOf kind (faults.Words text) = (kind ≢ kinds.OutOfMemory) × (kind ≢ kinds.DisplayHelp)
-IsToldOf kind (faults.Help text) = kind ≡ kinds.DisplayHelp
+IsToldOf kind (faults.Words text) = (kind ≢ kinds.OutOfMemory)
+    × ((kind ≢ kinds.DisplayHelp) × (kind ≢ kinds.DisplayVersion))
+IsToldOf kind (faults.Help text) = (kind ≡ kinds.DisplayHelp) ⊎ (kind ≡ kinds.DisplayVersion)
 IsToldOf kind faults.OutOfMemory = ⊤
 
 -- what is told of what was entered

@@ -8,8 +8,11 @@ ghost use Rattle.pdb_arguments.specs.Task.{program_app, frames_app, sizes_app, b
 use clap::{Arg, Command};
 use std::alloc::{AllocError, Global};
 
+/// The program's version, as the file VERSION has it.
+const VERSION: &str = "0.1.0";
+
 const PROGRAM_ABOUT: &str =
-    "Tells the functions, source files and lines at addresses of a Windows program, by its program database (PDB).";
+    "Reports functions, source files and lines at addresses of a Windows program, by its database (PDB).";
 
 const PROGRAM_EXAMPLES: &str = "\
 Examples:
@@ -17,13 +20,13 @@ Examples:
   pdb_symbolizer sizes program.pdb 1000 2000
 
 `pdb_symbolizer help frames` and `pdb_symbolizer help sizes` say what is read and written.
-The exit status is 0; 1 after a fault, which is told on standard error; 2 for wrong words.";
+The exit status is 0; 1 after a fault, which is reported on standard error; 2 for wrong arguments.";
 
-const FRAMES_ABOUT: &str = "Tells the functions at each address that is read from standard input";
+const FRAMES_ABOUT: &str = "Reports the functions at each address that is read from standard input";
 
 const FRAMES_EXAMPLE: &str = "\
 Standard input has one address a line: image-relative (an RVA), in hexadecimal, one to eight
-digits, with or without 0x in front. For each line the address is written, and below it one line
+digits, with or without the prefix 0x. For each line the address is written, and below it one line
 for each function there, NAME at FILE:LINE, from the innermost inlined call outwards. ?? stands
 for what isn't known, unreadable for what is damaged, and not an address for any other line.
 
@@ -33,10 +36,10 @@ Example:
 const SIZES_ABOUT: &str = "Counts the addresses of a range that each function owns";
 
 const SIZES_EXAMPLE: &str = "\
-Addresses are image-relative (RVAs), in hexadecimal, one to eight digits, with or without 0x in
-front. For each function that owns some, one line is written: the address where it starts, how
-many of the range are its own (in decimal), and its name. The last line is none and the count of
-those that no function owns.
+Addresses are image-relative (RVAs), in hexadecimal, one to eight digits, with or without the
+prefix 0x. For each function that owns some, one line is written: the address where it starts,
+how many of the range are its own (in decimal), and its name. The last line is none and the count
+of those that no function owns.
 
 Example, the addresses 1000 to 1fff:
   pdb_symbolizer sizes program.pdb 1000 2000";
@@ -46,7 +49,7 @@ const FILE_HELP: &str = "The program database: a .pdb file, in a big MSF contain
 const START_HELP: &str = "The range's first address, in hexadecimal, such as 1000 or 0x1000";
 
 const END_HELP: &str =
-    "The address behind the range's last, which isn't counted, such as 2000 or 0x2000";
+    "The address after the range's last, which isn't counted, such as 2000 or 0x2000";
 
 /// A required word, with its help.
 fn needed_word<'a>(alloc: Global, name: &'a str, help: &'a str) -> Arg<'a>
@@ -86,7 +89,7 @@ fn sizes_command<'a>(alloc: Global) -> Result<Command<'a>, AllocError>
     Ok(with_end)
 }
 
-/// The program's command, which requires a subcommand and has none yet. Its name is told in usage, and is
+/// The program's command, which requires a subcommand and has none yet. Its name stands in usage, and is
 /// no word.
 fn bare_command<'a>(alloc: Global) -> Result<Command<'a>, AllocError>
     ensures app { IfOk result (λ c. app_of c ≡ bare_app) }
@@ -95,6 +98,7 @@ fn bare_command<'a>(alloc: Global) -> Result<Command<'a>, AllocError>
     described(alloc, "pdb_symbolizer", PROGRAM_ABOUT, PROGRAM_EXAMPLES)
         .no_binary_name(true)
         .subcommand_required(true)
+        .version(VERSION)
         .bin_name("pdb_symbolizer")
 }
 

@@ -17,7 +17,7 @@ fn told(alloc: Global, error: &Error) -> WordsFault
 {
     match (error.kind(), error.to_string(alloc)) {
         (ErrorKind::OutOfMemory, _) | (_, Err(_)) => WordsFault::OutOfMemory,
-        (ErrorKind::DisplayHelp, Ok(text)) => WordsFault::Help(text),
+        (ErrorKind::DisplayHelp | ErrorKind::DisplayVersion, Ok(text)) => WordsFault::Help(text),
         (_, Ok(text)) => WordsFault::Words(text),
     }
 }
@@ -91,7 +91,7 @@ fn task_of(alloc: Global, matches: &ArgMatches<'_>) -> Result<Task, WordsFault>
 /// The task that the words behind the program's name ask for.
 ///
 /// # Errors
-/// `Help` where they ask for help, `Words` where they are no command, `NotAnAddress` where they are those
+/// `Help` where they ask for help or the version, `Words` where they are no command, `NotAnAddress` where they are those
 /// of `sizes` and START or END is no address; `OutOfMemory`.
 pub fn read_words(alloc: Global, words: &[String]) -> Result<Task, WordsFault>
     ensures task { IfOk result (λ task. IsTaken (map string_bytes words.now) × IsTask task (entered_by (map string_bytes words.now))) }

@@ -31,7 +31,7 @@ pub enum WordsFault {
     /// The words are no command, for the cause in this text.
     #[error("{0}")]
     Words(String),
-    /// The words ask for help, which is this text.
+    /// The arguments ask for help or the version, which is this text.
     #[error("{0}")]
     Help(String),
     /// Out of memory.

@@ -45,7 +45,7 @@ const SIZES_HELP: &[&str] = &[
     "Usage: pdb_symbolizer sizes <FILE> <START> <END>",
     "<FILE>   The program database",
     "<START>  The range's first address, in hexadecimal",
-    "<END>    The address behind the range's last",
+    "<END>    The address after the range's last",
     "pdb_symbolizer sizes program.pdb 1000 2000",
 ];
 
@@ -60,11 +60,14 @@ const FRAMES_HELP: &[&str] = &[
 /// What help on the program has.
 const HELP: &[&str] = &[
     "Usage: pdb_symbolizer <COMMAND>",
-    "frames  Tells",
+    "frames  Reports",
     "sizes   Counts",
 ];
 
-/// Words, each behind a space, and what has to come of them.
+/// What `--version` has.
+const VERSION: &[&str] = &["pdb_symbolizer 0."];
+
+/// Arguments, each after a space, and what has to come of them.
 const ROWS: &[(&str, Wanted)] = &[
     ("sizes F 0x10 20", Wanted::Sizes("F", 16, 32)),
     (
@@ -89,6 +92,8 @@ const ROWS: &[(&str, Wanted)] = &[
     ("--help", Wanted::Help(HELP)),
     ("-h", Wanted::Help(HELP)),
     ("help", Wanted::Help(HELP)),
+    ("--version", Wanted::Help(VERSION)),
+    ("-V", Wanted::Help(VERSION)),
     ("help sizes", Wanted::Help(SIZES_HELP)),
     ("frames --help", Wanted::Help(FRAMES_HELP)),
 ];
