@@ -1,7 +1,8 @@
 #!/usr/bin/env bash
-# The command that passes all tests: `rt ci` (every proof, must-fail edit, test and program), then each request for memory of
-# the proved programs refused in turn (tests/refused_requests), and the commands of README.md, CONTRIBUTING.md and
-# docs/GUIDE.md as they stand (tests/commands.sh). It fails where one fails; the last line counts all.
+# The command that passes all tests: `rt ci` (every proof, must-fail edit, test and program), then
+# each request for memory of the proved programs refused in turn (tests/refused_requests), the
+# commands of README.md, docs/GUIDE.md and CONTRIBUTING.md as they stand (tests/commands.sh), and the
+# manual page (tests/manual.sh). It fails where one fails; the last line counts all.
 set -u
 cd "$(dirname "$0")"
 log=$(mktemp)
@@ -11,7 +12,8 @@ passed=0
 failed=0
 status=0
 
-# Runs a command, and counts what its last line says; one that fails and says nothing of it is one failure.
+# Runs a command, and counts what its last line says; one that fails and says nothing of it is one
+# failure.
 count() {
     local ended=0 said
     "$@" 2>&1 | tee "$log"
@@ -34,6 +36,7 @@ count() {
 count rt ci
 count python3 tests/refused_requests/sweep.py
 count tests/commands.sh
+count tests/manual.sh
 tests/version.sh || { failed=$((failed + 1)); status=1; }
 echo "$passed passed, $failed failed"
 exit "$status"

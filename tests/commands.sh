@@ -1,14 +1,17 @@
 #!/usr/bin/env bash
-# Runs the commands of README.md, CONTRIBUTING.md and docs/GUIDE.md as they stand, and compares what they print:
+# Runs the commands of README.md, docs/GUIDE.md and CONTRIBUTING.md as they stand, and compares what
+# they print:
 #
 #   tests/commands.sh [--write] [--slow] [PROGRAM]
 #
-# PROGRAM is the built pdb_symbolizer; if left out, the proved one, crates/pdb_symbolizer/out/pdb_symbolizer. A block of a
-# document that begins with `    $ ` is a transcript: each such line is a command, and the lines below it are what it prints, on
-# standard error too. A command with nothing below it has to end with status 0. Sessions run in a new folder, with
-# pdb_symbolizer on the path and its data in data/. What compiles, makes files or takes a minute (`rt try`, examples/, tests/,
-# install) runs with --slow alone, in a copy of the repository; what proves or measures isn't run. Each block ```rust has to stand
-# in crates/example_calls. With --write what came is put into the documents. The last line is `N passed, M failed`.
+# PROGRAM is the built pdb_symbolizer; if left out, the proved one, crates/pdb_symbolizer/out/pdb_symbolizer.
+# A block of a document that begins with `    $ ` is a transcript: each such line is a command, and
+# the lines below it are what it prints, on standard error too. A command with nothing below it has
+# to end with status 0. Each transcript runs in a new folder, with pdb_symbolizer on the path and its
+# data in data/; what compiles or copies runs in a copy of the repository. What proves or measures
+# isn't run: the gate and the stored run do that. CONTRIBUTING's command that tries a thousand files
+# runs with --slow alone. Each block ```rust has to stand in crates/example_calls. With --write what
+# came is put into the documents. The last line is `N passed, M failed`.
 set -eu
 top=$(cd "$(dirname "$0")/.." && pwd)
 exec python3 - "$top" "$@" <<'P'
@@ -51,7 +54,7 @@ def copied(to):
     return to
 
 
-def run_transcript(lines, room):
+def run_transcript(lines, room, name):
     """The transcript as it runs, or why it is left out."""
     commands = []
     for line in lines:
@@ -62,7 +65,7 @@ def run_transcript(lines, room):
     if any(LONG.match(it) for it, _ in commands):
         return None, "it takes too long"
     slow = any(SLOW.match(it) for it, _ in commands)
-    if slow and "--slow" not in flags:
+    if slow and name == "CONTRIBUTING.md" and "--slow" not in flags:
         return None, "without --slow"
     os.makedirs(f"{room}/bin")
     os.symlink(program, f"{room}/bin/pdb_symbolizer")
@@ -78,9 +81,9 @@ def run_transcript(lines, room):
             came.append((command, wanted, [], 0))
             continue
         path = f"{room}/bin:{os.environ['PATH']}"
-        ran = subprocess.run(["bash", "-c", command], cwd=folder, env={**os.environ, "PATH": path, "HOME": room},
-                             stdin=subprocess.DEVNULL,
-                             stdout=subprocess.PIPE, stderr=subprocess.STDOUT)
+        how = {"stdin": subprocess.DEVNULL, "stdout": subprocess.PIPE, "stderr": subprocess.STDOUT}
+        how["env"] = {**os.environ, "PATH": path, "HOME": room}
+        ran = subprocess.run(["bash", "-c", command], cwd=folder, **how)
         text = ran.stdout.decode(errors="replace")
         came.append((command, wanted, text.splitlines(), ran.returncode))
     return came, None
@@ -93,7 +96,7 @@ def check(name):
     changed = []
     for start, end in transcripts(lines):
         with tempfile.TemporaryDirectory() as room:
-            came, why = run_transcript(lines[start:end], room)
+            came, why = run_transcript(lines[start:end], room, name)
         if came is None:
             print(f"{name}:{start + 1}: not run, {why}: {lines[start][6:]}")
             continue
@@ -104,7 +107,8 @@ def check(name):
             silent = not wanted and "--write" not in flags or command.startswith("cd ")
             if got != wanted and not silent or not wanted and status:
                 bad += 1
-                print(f"{name}:{start + 1}: $ {command}\n  wanted {wanted}\n  came {got}, status {status}")
+                print(f"{name}:{start + 1}: $ {command}\n  wanted {wanted}")
+                print(f"  came {got}, status {status}")
             fresh += [f"    {it}".rstrip() for it in (wanted if silent else got)]
         changed.append((start, end, fresh))
     if "--write" in flags:
@@ -127,7 +131,8 @@ def copies_differ():
     for name in os.listdir(f"{top}/crates/pdb_symbolizer/data"):
         others = [f"recorded_cases/data/real_{name}", f"example_calls/data/{name}"]
         for other in others:
-            if os.path.exists(f"{top}/crates/{other}") and read(other) != read(f"pdb_symbolizer/data/{name}"):
+            there = os.path.exists(f"{top}/crates/{other}")
+            if there and read(other) != read(f"pdb_symbolizer/data/{name}"):
                 yield other
 
 
@@ -135,7 +140,7 @@ total = wrong = 0
 for other in copies_differ():
     wrong += 1
     print(f"crates/{other} is another database than that of crates/pdb_symbolizer/data")
-for name in ("README.md", "CONTRIBUTING.md", "docs/GUIDE.md"):
+for name in ("README.md", "docs/GUIDE.md", "CONTRIBUTING.md"):
     if os.path.exists(f"{top}/{name}"):
         count, bad = check(name)
         for piece in unknown_code(name):

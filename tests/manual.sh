@@ -1,0 +1,80 @@
+#!/usr/bin/env bash
+# Checks that docs/pdb_symbolizer.1 is the manual page of the program's own help:
+#
+#   tests/manual.sh [--write] [PROGRAM]
+#
+# PROGRAM is the built pdb_symbolizer; if left out, the proved one. With --write the page is made
+# anew. The last line is `N passed, M failed`.
+set -eu
+top=$(cd "$(dirname "$0")/.." && pwd)
+exec python3 - "$top" "$@" <<'P'
+import os, re, subprocess, sys
+
+top, *given = sys.argv[1:]
+named = [it for it in given if not it.startswith("--")]
+program = (named or [f"{top}/crates/pdb_symbolizer/out/pdb_symbolizer"])[0]
+if not os.access(program, os.X_OK):
+    sys.exit(f"no program at {program}: build it by rt run in crates/pdb_symbolizer, or name one")
+page = f"{top}/docs/pdb_symbolizer.1"
+
+
+def help_of(*words):
+    ran = subprocess.run([program, "help", *words], capture_output=True, text=True, check=True)
+    return ran.stdout.rstrip("\n").split("\n")
+
+
+def roff(text):
+    text = text.replace("\\", "\\e").replace("-", "\\-")
+    return f"\\&{text}" if text[:1] in (".", "'") else text
+
+
+def paragraphs(lines):
+    """Lines of a help text as roff: rows of a list by `.TP`, commands as they stand, prose."""
+    made = []
+    for at, line in enumerate(lines):
+        row = re.fullmatch(r"  ?\s*(\S.*?)\s{2,}(\S.*)", line)
+        if not line:
+            made.append(".PP")
+        elif row:
+            made += [".TP", f".B {roff(row[1])}", roff(row[2])]
+        elif line.startswith("  "):
+            made += [".PP", ".EX", f"    {roff(line.strip())}", ".EE"]
+        else:
+            made.append(roff(line))
+    return made
+
+
+def command(name):
+    """The section of a command: what it does, its usage, its arguments, what it reads and writes."""
+    about, _, usage, *rest = help_of(name)
+    usage = usage.removeprefix("Usage: ").removesuffix(" [OPTIONS]")
+    return [f".SS {roff(usage)}", f"{roff(about)}.", *paragraphs(rest)]
+
+
+def whole():
+    about, _, usage, *rest = help_of()
+    version = open(f"{top}/VERSION").read().strip()
+    at = rest.index("Examples:")
+    names = [it.split()[0] for it in rest if re.match(r"  [a-z]+ {2,}[A-Z]", it)]
+    names = [it for it in names if it != "help"]
+    made = [f'.TH PDB_SYMBOLIZER 1 "" "pdb_symbolizer {version}"']
+    made += [".SH NAME", "pdb_symbolizer \\- functions and lines by a program database (PDB)"]
+    made += [".SH SYNOPSIS", f".B {roff(usage.removeprefix('Usage: '))}"]
+    made += [".SH DESCRIPTION", roff(about), ".SH COMMANDS"]
+    for name in names:
+        made += command(name)
+    made += [".SH OPTIONS", *paragraphs(rest[rest.index("Options:") + 1 : at - 1])]
+    made += [".SH EXAMPLES", *paragraphs(rest[at + 1 :])]
+    lines = [it for at, it in enumerate(made) if it != ".PP" or made[at + 1 : at + 2] not in ([".PP"], [])]
+    return "\n".join(lines) + "\n"
+
+
+text = whole()
+if "--write" in given:
+    open(page, "w").write(text)
+was = open(page).read() if os.path.exists(page) else ""
+if was != text:
+    print("docs/pdb_symbolizer.1 isn't what the help texts make: tests/manual.sh --write")
+print("1 passed, 0 failed" if was == text else "0 passed, 1 failed")
+sys.exit(was != text)
+P
