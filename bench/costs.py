@@ -1,0 +1,327 @@
+#!/usr/bin/env python3
+"""Makes files that are built to cost much, measures the program on each, and prints a table.
+
+    bench/costs.py PROGRAM [--only NAME] [--limit SECONDS]
+
+PROGRAM is the built pdb_symbolizer. Each case is a function below: it makes a file of about so many
+bytes, and addresses to ask. Times are processor seconds, memory the most that the process held."""
+import os
+import resource
+import struct
+import subprocess
+import sys
+import tempfile
+
+MAGIC = b"Microsoft C/C++ MSF 7.00\r\n\x1aDS\0\0\0"
+PAGE = 0x1000
+NO_STREAM = 0xFFFF
+CODE = 0x60000020
+MODULE_STREAMS = 8  # the first stream of a module
+
+
+def u16(*numbers):
+    return struct.pack(f"<{len(numbers)}H", *numbers)
+
+
+def u32(*numbers):
+    return struct.pack(f"<{len(numbers)}I", *numbers)
+
+
+def aligned(data):
+    return data + b"\0" * (-len(data) % 4)
+
+
+def pages(size):
+    return -(-size // PAGE)
+
+
+def container(streams, aliases={}):
+    """An MSF container. A stream of `aliases` has another's pages, all but the first backwards."""
+    count, numbers = 3, {}
+    for at, data in enumerate(streams):
+        if at not in aliases:
+            numbers[at] = list(range(count, count + pages(len(data))))
+            count += len(numbers[at])
+    for at, other in aliases.items():
+        numbers[at] = numbers[other][:1] + numbers[other][:0:-1]
+    sizes = [len(streams[aliases.get(at, at)]) for at in range(len(streams))]
+    listed = [n for at in range(len(streams)) for n in numbers[at]]
+    directory = u32(len(streams), *sizes, *listed)
+    directory_pages = list(range(count, count + pages(len(directory))))
+    count += len(directory_pages)
+    page_list = u32(*directory_pages)
+    list_pages = list(range(count, count + pages(len(page_list))))
+    count += len(list_pages)
+    header = MAGIC + u32(PAGE, 1, count, len(directory), 0, *list_pages)
+    made = bytearray(count * PAGE)
+    made[: len(header)] = header
+    written = [(numbers[at], data) for at, data in enumerate(streams) if at not in aliases]
+    for where, data in [*written, (directory_pages, directory), (list_pages, page_list)]:
+        for at, number in enumerate(where):
+            part = data[at * PAGE : at * PAGE + PAGE]
+            made[number * PAGE : number * PAGE + len(part)] = part
+    return bytes(made)
+
+
+def table(records):
+    """A table of types or ids."""
+    body = b"".join(u16(len(it)) + it for it in records)
+    count = 0x1000 + len(records)
+    header = u32(20040203, 56, 0x1000, count, len(body)) + u16(NO_STREAM, NO_STREAM)
+    return header + u32(4, 0x3FFFF, 0, 0, 0, 0, 0, 0) + body
+
+
+def function_id(name):
+    """Types and ids of one function: its argument list, its procedure, its id."""
+    types = [u16(0x1201) + u32(0), u16(0x1008) + u32(3) + u16(0, 0) + u32(0x1000)]
+    return types, [u16(0x1601) + u32(0, 0x1001) + name + b"\0"]
+
+
+def module_entry(stream, symbols, lines):
+    head = u32(0) + bytes(28) + u16(0, stream) + u32(symbols, 0, lines) + u16(1, 0) + u32(0, 0, 0)
+    return aligned(head + b"a.obj\0a.obj\0")
+
+
+def contribution(offset, size, module):
+    return u16(1, 0) + u32(offset, size, CODE) + u16(module, 0) + u32(0, 0)
+
+
+def database(modules, names=b"\0", contributions=None, records=b"", name=b"g", entries=None):
+    """The streams of a database; a module is its symbols and its C13 data."""
+    types, ids = function_id(name)
+    contributions = contributions or [contribution(0, 0x7FFEFFFF, 0)]
+    entries = entries or [
+        module_entry(MODULE_STREAMS + at, len(symbols), len(lines))
+        for at, (symbols, lines) in enumerate(modules)
+    ]
+    section = b".text\0\0\0" + u32(0x7FFF0000, 0x1000, 0x7FFF0000, 0x400, 0, 0, 0, CODE)
+    optional = u16(*[6 if at == 5 else NO_STREAM for at in range(11)])
+    listed = b"".join(entries)
+    covered = u32(0xEFFE0000 + 19970605) + b"".join(contributions)
+    head = u32(0xFFFFFFFF, 19990903, 1) + u16(NO_STREAM, 0, NO_STREAM, 0, 5, 0)
+    head += u32(len(listed), len(covered), 0, 0, 0, 0, len(optional), 0) + u16(0, 0x8664) + u32(0)
+    information = u32(20000404, 1, 1) + bytes(16) + u32(7) + b"/names\0" + u32(1, 2, 1, 1, 0, 0, 7)
+    strings = u32(0xEFFEEFFE, 1, len(names)) + names
+    streams = [b"", information, table(types), head + listed + covered + optional, table(ids)]
+    streams += [records, section, strings]
+    return streams + [symbols + lines + u32(0) for symbols, lines in modules]
+
+
+def record(kind, data):
+    body = aligned(u16(0, kind) + data)
+    return u16(len(body) - 2) + body[2:]
+
+
+def procedure(offset, length, end, name=b"f"):
+    return record(0x1110, u32(0, end, 0, length, 0, 0, 0, offset) + u16(1) + b"\0" + name + b"\0")
+
+
+END = record(6, b"")
+
+
+def procedures(count):
+    """That many procedures of 16 bytes side by side, from 0x100 on."""
+    made, at = [u32(4)], 4
+    size = len(procedure(0, 0, 0)) + len(END)
+    for number in range(count):
+        made += [procedure(0x100 + 16 * number, 16, at + size - len(END)), END]
+        at += size
+    return b"".join(made)
+
+
+def compressed(number):
+    if number < 0x80:
+        return bytes([number])
+    if number < 0x4000:
+        return bytes([0x80 | number >> 8, number & 255])
+    return struct.pack(">I", 0xC0000000 | number)
+
+
+def code(length, offset):
+    """The annotation that makes a row of this length, so far on from the last one's start."""
+    return compressed(12) + compressed(length) + compressed(offset)
+
+
+def nested_sites(depth, annotations, length=0x20, inlinee=0x1000):
+    """The procedure f at 0x10 with so many sites, each in the one before."""
+    first = procedure(0x10, length, 0)
+    site = lambda end: record(0x114D, u32(0, end, inlinee) + annotations)
+    end = 4 + len(first) + depth * len(site(0))
+    return u32(4) + procedure(0x10, length, end) + site(end) * depth + END
+
+
+def subsection(kind, data):
+    return aligned(u32(kind, len(data)) + data)
+
+
+CHECKSUMS = subsection(0xF4, aligned(u32(1) + b"\0\0"))
+INLINEES = subsection(0xF6, u32(0) + u32(0x1000, 0, 3))
+
+
+def row_lines(count):
+    """One subsection of that many rows before 0x100."""
+    rows = b"".join(u32(number, 0x80000005) for number in range(count))
+    block = u32(0, count, 12 + len(rows)) + rows
+    return CHECKSUMS + subsection(0xF2, u32(0) + u16(1, 0) + u32(0x10) + block)
+
+
+def spread(count, number, step=16, first=0x1100):
+    return [first + step * (at * count // number) for at in range(number)]
+
+
+# ---- the cases: what is made of about so many bytes, and what is asked
+
+
+def file_names(size):
+    """a table of names without an end, in which the files of 1,000 nested calls begin"""
+    symbols = nested_sites(1000, code(16, 0))
+    streams = database([(symbols, CHECKSUMS + INLINEES)], names=b"\0" + b"a" * size)
+    return container(streams), spread(16, 1000, 1, 0x1010)
+
+
+def rows_of_calls(size):
+    """nested calls of 16,000 rows each, of which the last alone covers the address"""
+    rows = code(1, 0) + b"\x0b\x02" * 16000 + code(0x100000, 1)
+    depth = max(size // len(rows), 1)
+    symbols = nested_sites(depth, rows, length=0x200000)
+    streams = database([(symbols, CHECKSUMS + INLINEES)])
+    return container(streams), spread(1000, 1000, 1, 0x1010 + 20000)
+
+
+def rows_of_functions(size):
+    """procedures that share one long subsection of lines"""
+    count = size // 60
+    streams = database([(procedures(count), row_lines(count))], names=b"\0a.c\0")
+    return container(streams), spread(count, 1000)
+
+
+def rows_of_publics(size):
+    """public symbols that share one long subsection of lines"""
+    count = size // 28
+    symbol = lambda at: record(0x110E, u32(2, 0x100 + 16 * at) + u16(1) + b"p\0")
+    records = b"".join(symbol(at) for at in range(count))
+    streams = database([(u32(4), row_lines(count))], names=b"\0a.c\0", records=records)
+    return container(streams), spread(count, 1000)
+
+
+def sites_of_thunks(size):
+    """thunks that each hold all inline sites of the module"""
+    count = size // 52
+    thunk = lambda at, end: record(0x1102, u32(0, end, 0, 0x100 + 16 * at) + u16(1, 16) + b"\0t\0")
+    site = lambda end: record(0x114D, u32(0, end, 0x1000) + code(1, 0))
+    first = 4 + count * len(thunk(0, 0))
+    end = first + count * len(site(0))
+    made = [u32(4), *(thunk(at, end) for at in range(count))]
+    made += [site(first + at * len(site(0))) for at in range(1, count + 1)]
+    streams = database([(b"".join(made), CHECKSUMS + INLINEES)], names=b"\0b.h\0")
+    return container(streams), spread(count, 1000)
+
+
+def shared_streams(size):
+    """modules that all name one stream"""
+    count = min(size // 120, 65535)
+    symbols = procedures(count)
+    entries = [module_entry(MODULE_STREAMS, len(symbols), 0)] * count
+    covered = [contribution(0x100 + 16 * at, 16, at) for at in range(count)]
+    streams = database([(symbols, b"")], contributions=covered, entries=entries)
+    return container(streams), spread(count, 1000)
+
+
+def stated_directory(size):
+    """a directory that is stated as 1,000 MB, all of it one page"""
+    stated = 1000 << 20
+    lists = pages(4 * pages(stated))
+    header = MAGIC + u32(PAGE, 1, 2, stated, 0, *([1] * lists))
+    return header.ljust(PAGE, b"\0") + u32(*([1] * 1024)), [0x1014]
+
+
+def streams_of_same_pages(size):
+    """modules whose streams list the same 4 MB of pages backwards"""
+    count = max((size - (4 << 20)) // 4096, 1)
+    symbols = u32(4) + bytes((4 << 20) - 8)
+    entries = [module_entry(MODULE_STREAMS + at, 4, 0) for at in range(count + 1)]
+    streams = database([(symbols, b"")], entries=entries) + [b""] * count
+    aliases = {MODULE_STREAMS + 1 + at: MODULE_STREAMS for at in range(count)}
+    return container(streams, aliases), [0x1014]
+
+
+def names_of_imports(size):
+    """inlined calls whose ids name a module of a long name, which isn't there"""
+    count = size // 2 // 64
+    start = lambda at: struct.pack(">I", 0xC0000000 | 16 * at)
+    annotations = lambda at: compressed(12) + compressed(16) + start(at)
+    site = lambda at, end: record(0x114D, u32(0, end, 0x80000000 + at) + annotations(at))
+    first = 4 + len(procedure(0, 0, 0))
+    end = first + count * len(site(0, 0))
+    made = [u32(4), procedure(0x10, 16 * count, end)]
+    made += [site(at, first + (at + 1) * len(site(0, 0))) for at in range(count)]
+    ids = b"".join(u32(0x80000000 + at, 0, 3) for at in range(count))
+    lines = CHECKSUMS + subsection(0xF6, u32(0) + ids)
+    lines += subsection(0xF7, u32(1, count, *(0x80001000 + at for at in range(count))))
+    streams = database([(b"".join(made) + END, lines)], names=b"\0" + b"A" * (size // 2) + b"\0")
+    return container(streams), spread(count, 1000, 16, 0x1010)
+
+
+def long_answers(size):
+    """nested calls of one function, whose name is long: an answer of 60 MB, twice"""
+    streams = database([(nested_sites(1000, code(16, 0)), CHECKSUMS + INLINEES)], name=b"g" * 60000)
+    return container(streams), [0x1014, 0x1013]
+
+
+def long_tail(size):
+    """a small database with a tail of 2,000 MB"""
+    return container(database([(procedures(16), b"")])), [0x1100]
+
+
+CASES = [
+    (file_names, (1, 10)),
+    (rows_of_calls, (1, 10)),
+    (rows_of_functions, (1,)),
+    (rows_of_publics, (1,)),
+    (sites_of_thunks, (1,)),
+    (shared_streams, (1,)),
+    (stated_directory, (1,)),
+    (streams_of_same_pages, (6,)),
+    (names_of_imports, (1, 10)),
+    (long_answers, (1,)),
+    (long_tail, (1,)),
+]
+
+
+def measured(program, file, addresses, limit):
+    """Status, processor seconds and megabytes of one run."""
+    asked = "".join(f"{it:x}\n" for it in addresses).encode()
+    before = lambda: resource.setrlimit(resource.RLIMIT_CPU, (limit, limit))
+    how = {"stdin": subprocess.PIPE, "stdout": subprocess.DEVNULL, "stderr": subprocess.PIPE}
+    ran = subprocess.Popen([program, "frames", file], preexec_fn=before, **how)
+    ran.stdin.write(asked)
+    ran.stdin.close()
+    said = ran.stderr.read().decode().strip()
+    _, status, used = os.wait4(ran.pid, 0)
+    ended = said or ("" if status == 0 else f"status {status}")
+    return ended, used.ru_utime + used.ru_stime, used.ru_maxrss / 1024
+
+
+def main():
+    words = sys.argv[1:]
+    option = lambda name, default: words[words.index(name) + 1] if name in words else default
+    only, limit = option("--only", None), int(option("--limit", "120"))
+    print("| file | file, MB | addresses | seconds | memory, MB | ended |")
+    print("|---|---|---|---|---|---|")
+    for case, sizes in CASES:
+        if only not in (None, case.__name__):
+            continue
+        for size in sizes:
+            with tempfile.NamedTemporaryFile(suffix=".pdb") as file:
+                data, addresses = case(size * 1_000_000)
+                file.write(data)
+                file.flush()
+                if case is long_tail:
+                    file.truncate(2_000_000_000)
+                ended, seconds, memory = measured(words[0], file.name, addresses, limit)
+            row = [case.__doc__, f"{len(data) / 1e6:.2f}", f"{len(addresses):,}"]
+            row += [f"{seconds:.2f}", f"{memory:.0f}", ended]
+            print("|", " | ".join(row), "|", flush=True)
+
+
+main()
