@@ -58,7 +58,7 @@ def ours(program, database, addresses):
     for part in re.split(r"(?m)^0x[0-9a-f]{8}\n", text)[1:]:
         frames = []
         for line in part.splitlines():
-            found = re.fullmatch(r"  (.*) at (.*):(\d+|\?\?)", line)
+            found = re.fullmatch(r"  (.*) at (.*):(\d+|\?\?) @.*", line)
             frames.append((bare(found[1]), path(found[2]), found[3]) if found else (line.strip(), "", ""))
         yield frames
 

@@ -23,7 +23,7 @@ seed = int(words[2]) if len(words) > 2 else 1
 MAGIC = b"Microsoft C/C++ MSF 7.00\r\n\x1aDS\0\0\0"
 FAULT = re.compile(rb"fault: [A-Za-z]+(\(.*\))?\n")
 # names are written as they are stored, also with a newline in them
-ANSWER = re.compile(r"(?s)  (\?\?|unreadable|.* at .*:(\d+|\?\?))\n")
+ANSWER = re.compile(r"(?s)  (\?\?|unreadable|.* at .*:(\d+|\?\?) @(0x[0-9a-f]{8}\+(\d+|\?\?)|\?\?))\n")
 SIZES = re.compile(r"(?s)(0x[0-9a-f]{8} \d+ .*\n)?none (\d+)\n")
 SPAN = (0x1000, 0x1200)
 ADDRESSES = [*range(0x1000, 0x1200, 3), 0, 0xFFFFFFFF]

@@ -10,7 +10,8 @@
 use anyhow::{Context as _, Result, bail};
 use pdb_addr2line::pdb::{PDB, TypeIndex};
 use pdb_addr2line::{
-    Context, ContextPdbData, Frame, Function, ModuleProvider, TypeFormatter, TypeFormatterFlags,
+    Context, ContextPdbData, Frame, FrameRow, Function, ModuleProvider, TypeFormatter,
+    TypeFormatterFlags,
 };
 use pdb_report::{Symbolizer, Watched, parse_address, run_sizes};
 use std::alloc::Global;
@@ -98,6 +99,16 @@ fn tell_frame(rt: &impl Print, frame: &Frame<'_>) -> Result<()> {
     let file = frame.file.as_deref().unwrap_or("??");
     let line = frame.line.unwrap_or(0);
     println!(rt; "  {name}, {file}, line {line}")?;
+    tell_row(rt, frame.row)
+}
+
+/// Prints the row that a line comes from, if it is known.
+fn tell_row(rt: &impl Print, row: Option<FrameRow>) -> Result<()> {
+    if let Some(row) = row {
+        let start = row.start_rva;
+        let length = row.length.unwrap_or(0);
+        println!(rt; "    whose code is {length} bytes at {start:#x}")?;
+    }
     Ok(())
 }
 

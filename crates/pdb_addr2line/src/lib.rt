@@ -33,8 +33,8 @@ pub mod pdb;
 mod pdb_data;
 
 pub use pdb_context::{
-    Context, Frame, Function, FunctionFrames, FunctionIter, ModuleSectionContribution, SharedFrame,
-    SharedFunctionFrames, TextWriter, TypeFormatter, maybe_owned,
+    Context, Frame, FrameRow, Function, FunctionFrames, FunctionIter, ModuleSectionContribution,
+    SharedFrame, SharedFunctionFrames, TextWriter, TypeFormatter, maybe_owned,
 };
 pub use pdb_data::ContextPdbData;
 pub use pdb_loading::{KeptModules, Tables, read_tables};

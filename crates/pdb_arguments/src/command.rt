@@ -27,8 +27,9 @@ const FRAMES_ABOUT: &str = "Reports the functions at each address that is read f
 const FRAMES_EXAMPLE: &str = "\
 Standard input has one address a line: image-relative (an RVA), in hexadecimal, one to eight
 digits, with or without the prefix 0x. For each line the address is written, and below it one line
-for each function there, NAME at FILE:LINE, from the innermost inlined call outwards. ?? stands
-for what isn't known, unreadable for what is damaged, and not an address for any other line.
+for each function there, NAME at FILE:LINE @START+LENGTH, from the innermost inlined call outwards:
+the line's code starts at START and has LENGTH bytes (in decimal). ?? stands for what isn't known,
+unreadable for what is damaged, and not an address for any other line.
 
 Example:
   echo 1018 | pdb_symbolizer frames program.pdb";

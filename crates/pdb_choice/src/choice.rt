@@ -1,6 +1,7 @@
 //! What is chosen at a place.
 
 ghost use Rattle.std.specs.Prelude.{◌≡◌, option_copied, option_map};
+ghost use Rattle.pdb_addresses.specs.Addresses.{outer_of_place};
 ghost use Rattle.pdb_choice.specs.Choice.{chosen as chosen_at, start_of, start_address, length_of, end_behind, function_end};
 ghost use Rattle.pdb_known_modules.specs.Modules.{procedure_if_numbered, procedures_in};
 ghost use Rattle.pdb_module_data.specs.Procedures.{over};
@@ -45,6 +46,16 @@ pub fn choose<'c, 'a, I: ModuleTables>(
     }
 }
 
+/// The RVA of a place, if it has one.
+pub fn rva_of(parts: &ContextParts<'_, '_>, place: PdbInternalSectionOffset) -> Option<u32>
+    ensures { result ≡ outer_of_place parts.now.map place.section place.offset }
+{
+    match place.to_rva(parts.address_map) {
+        None => None,
+        Some(address) => Some(address.0),
+    }
+}
+
 impl<'c, 'a> Chosen<'c, 'a> {
     /// Where it begins.
     pub fn start(self) -> PdbInternalSectionOffset
@@ -60,10 +71,7 @@ impl<'c, 'a> Chosen<'c, 'a> {
     pub fn start_rva(self, parts: &ContextParts<'_, '_>) -> Option<u32>
         ensures { result ≡ start_address parts.now (chosen_seen self.entry) }
     {
-        match self.start().to_rva(parts.address_map) {
-            None => None,
-            Some(start) => Some(start.0),
-        }
+        rva_of(parts, self.start())
     }
 
     /// How many bytes it has, if that is known: a public entry goes on to the next one of its section.

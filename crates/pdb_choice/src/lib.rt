@@ -8,7 +8,7 @@ pub mod laws;
 mod parts;
 mod runs;
 
-pub use choice::{Chosen, choose};
+pub use choice::{Chosen, choose, rva_of};
 pub use failures::{failing_in, unsuccessful};
 pub use parts::{ContextParts, is_decorated};
 pub use pdb_resolving::{Failures, Part, number_of};

@@ -11,4 +11,6 @@ pub use functions::FunctionIter;
 pub use pdb_answers::{
     ContextParts, ModuleSectionContribution, TextWriter, TypeFormatter, maybe_owned,
 };
-pub use pdb_functions::{Frame, Function, FunctionFrames, SharedFrame, SharedFunctionFrames};
+pub use pdb_functions::{
+    Frame, FrameRow, Function, FunctionFrames, SharedFrame, SharedFunctionFrames,
+};

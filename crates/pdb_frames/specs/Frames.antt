@@ -14,6 +14,9 @@ use Rattle.pdb_names.specs.Env.{Env}
 use Rattle.pdb_names.specs.Ids.{id_text}
 use Rattle.pdb_names.specs.Names.{if_made}
 use Rattle.pdb_functions.specs.Frames.{Frame, FunctionFrames}
+use Rattle.pdb_functions.specs.declared.frames.FrameRow.{FrameRow}
+use Rattle.pdb_addresses.specs.Addresses.{outer_of_place}
+use Rattle.pdb_module_data.specs.declared.inlined_calls.CodeSpan.{CodeSpan}
 use Rattle.pdb_functions.specs.FunctionOrder.{Function}
 use Rattle.pdb_known_modules.specs.Modules.{ModuleData, ExtendedModule, module_data, procedures_in, extended_of, procedure_calls}
 use Rattle.pdb_choice.specs.Choice.{Parts, Chosen, Proc, Public, chosen, start_of, start_address, length_of, end_behind, function_end, place_of, held_at}
@@ -22,15 +25,42 @@ use Rattle.pdb_frames.specs.Scopes.{Scope}
 
 -- ---- frames
 
+-- the row whose code begins at a place, by its length, if that place has an image address
+abbrev pub frame_row : Parts → PdbInternalSectionOffset → Option ℕ → Option FrameRow
+frame_row p place length =
+    option_map (λ a. record { start_rva = a; length = length })
+    (outer_of_place p.map place.section place.offset)
+
+-- the row of an inlined call
+abbrev pub call_row : Parts → Option CodeSpan → Option FrameRow
+call_row p code = option_and_then (λ c. frame_row p c.offset (Some c.length)) code
+
+-- where a line row begins in a section
+abbrev pub row_start : ℕ → LineRow → PdbInternalSectionOffset
+row_start section row = record { offset = row.start; section = section }
+
+-- the row of a function that begins in a section
+abbrev pub function_frame_row : Parts → ℕ → Option LineRow → Option FrameRow
+function_frame_row p section row =
+    option_and_then (λ r. frame_row p (row_start section r) r.length) row
+
 -- the frame of an inlined call
 abbrev pub call_frame : Parts → Env → Program → InlinedCall → Frame
-call_frame p env program call =
-    record { function = if_made (id_text env (call.inlinee).0); file = option_and_then (λ file. file_text program p.names file.0) call.file; line = call.line }
+call_frame p env program call = record {
+  function = if_made (id_text env (call.inlinee).0);
+  file = option_and_then (λ file. file_text program p.names file.0) call.file;
+  line = call.line;
+  row = call_row p call.row;
+}
 
--- the frame of a function by its row
-abbrev pub function_frame : Parts → Program → Option (List ℕ) → Option LineRow → Frame
-function_frame p program name row =
-    record { function = name; file = option_and_then (λ r. file_text program p.names (r.file_index).0) row; line = option_map (λ r. r.line_start) row }
+-- the frame of a function that begins in a section, by its row
+abbrev pub function_frame : Parts → Program → Option (List ℕ) → ℕ → Option LineRow → Frame
+function_frame p program name section row = record {
+  function = name;
+  file = option_and_then (λ r. file_text program p.names (r.file_index).0) row;
+  line = option_map (λ r. r.line_start) row;
+  row = function_frame_row p section row;
+}
 
 -- the inlined calls over a place in a chosen function, innermost first; none in a public entry
 abbrev pub calls_in : ModuleStream → (ℕ → Option InlinedFunction) → Chosen → PdbInternalSectionOffset → Result (List InlinedCall) Fault
@@ -51,11 +81,12 @@ unfoldable pub frames_in_data : Parts → Env → ModuleData → Chosen → PdbI
 frames_in_data p env known c place = do
   extended ← lifted (extended_of known.stream)
   found ← row_and_calls known.stream extended c place
-  Ok (map (call_frame p env extended.program) found.1 ++ function_frame p extended.program (name_of p env c) found.0 ∷ [])
+  Ok (map (call_frame p env extended.program) found.1 ++ function_frame p extended.program (name_of p env c) (start_of c).section found.0 ∷ [])
 
--- the same where the module may have no data: then the function alone, without file and line
+-- the same where the module may have no data: then the function alone, without file, line and row
 abbrev pub frames_in : Parts → Env → Option ModuleData → Chosen → PdbInternalSectionOffset → Result (List Frame) Fault
-frames_in p env None c place = Ok (record { function = name_of p env c; file = None; line = None } ∷ [])
+frames_in p env None c place =
+    Ok (record { function = name_of p env c; file = None; line = None; row = None } ∷ [])
 frames_in p env (Some known) c place = frames_in_data p env known c place
 
 -- frames of a chosen function that begins at an image address

@@ -10,21 +10,21 @@ ghost use Rattle.pdb_module_data.specs.InlinePieces.{StandForSites};
 ghost use Rattle.pdb_resolving.specs.Fault.{Answers};
 ghost use Rattle.pdb_names.specs.Printing.{env_of};
 ghost use Rattle.pdb_choice.specs.Choice as choice;
-ghost use Rattle.pdb_frames.specs.Frames.{frames_in as frames_of_module, frames_in_data as frames_of_data, row_and_calls, call_frame as frame_of_call, function_frame as frame_of_function};
+ghost use Rattle.pdb_frames.specs.Frames.{frames_in as frames_of_module, frames_in_data as frames_of_data, row_and_calls, frame_row as frame_row_of, call_row as call_row_of, function_frame_row, call_frame as frame_of_call, function_frame as frame_of_function};
 ghost use Rattle.pdb_known_modules.specs.Modules.{extended_of};
 ghost use Rattle.pdb_choice.specs.Seen.{chosen_seen};
 ghost use Rattle.pdb_known_modules.specs.Seen.{extended_seen};
 
 use crate::chosen_name::name_of;
 use pdb_addresses::PdbInternalSectionOffset;
-use pdb_choice::{Chosen, ContextParts};
-use pdb_functions::SharedFrame;
+use pdb_choice::{Chosen, ContextParts, rva_of};
+use pdb_functions::{FrameRow, SharedFrame};
 use pdb_indices::FileIndex;
 use pdb_known_modules::{
     BasicModuleInfo, ExtendedModuleInfo, ExtendedProcedureInfo, read_extended,
     read_extended_procedure,
 };
-use pdb_module_data::{FunctionRows, InlinedCall, LineRow, Procedure, file_name};
+use pdb_module_data::{CodeSpan, FunctionRows, InlinedCall, LineRow, Procedure, file_name};
 use pdb_names::Namer;
 use pdb_resolving::{ModuleProvider, ModuleTables, Result};
 use std::alloc::{AllocError, Global};
@@ -129,6 +129,41 @@ fn file_of<'a>(
     }
 }
 
+/// The row whose code begins at a place, if that has an RVA.
+fn frame_row(
+    parts: &ContextParts<'_, '_>,
+    place: PdbInternalSectionOffset,
+    length: Option<u32>,
+) -> Option<FrameRow>
+    ensures { result ≡ frame_row_of parts.now place length }
+{
+    match rva_of(parts, place) {
+        None => None,
+        Some(start_rva) => Some(FrameRow { start_rva, length }),
+    }
+}
+
+/// The row of an inlined call, if that has code at the place, whose start has an RVA.
+fn call_row(parts: &ContextParts<'_, '_>, code: Option<CodeSpan>) -> Option<FrameRow>
+    ensures { result ≡ call_row_of parts.now code }
+{
+    match code {
+        None => None,
+        Some(code) => frame_row(parts, code.offset, Some(code.length)),
+    }
+}
+
+/// The row of a function that begins in a section, if the row's start has an RVA.
+fn function_row_in(parts: &ContextParts<'_, '_>, section: u16, row: LineRow) -> Option<FrameRow>
+    ensures { result ≡ function_frame_row parts.now section (Some row) }
+{
+    let start = PdbInternalSectionOffset {
+        offset: row.start,
+        section,
+    };
+    frame_row(parts, start, row.length)
+}
+
 /// The frame of an inlined call.
 fn call_frame<'a, P: ModuleProvider>(
     alloc: Global,
@@ -147,6 +182,7 @@ fn call_frame<'a, P: ModuleProvider>(
         function,
         file,
         line: call.line,
+        row: call_row(parts, call.row),
     })
 }
 
@@ -170,21 +206,23 @@ fn call_frames<'a, P: ModuleProvider>(
     Ok(frames)
 }
 
-/// The frame of a function with a name, by its line row.
+/// The frame of a function with a name that begins in a section, by its line row.
 fn function_frame<'a>(
     alloc: Global,
     parts: &ContextParts<'a, '_>,
     extended: &ExtendedModuleInfo<'_>,
     function: Option<ArcStr>,
+    section: u16,
     row: Option<LineRow>,
 ) -> std::result::Result<SharedFrame<'a>, AllocError>
-    ensures { IfOk result (λ f. f ≡ frame_of_function parts.now (extended_seen extended.now).program (option_map arc_str_bytes function) row) }
+    ensures { IfOk result (λ f. f ≡ frame_of_function parts.now (extended_seen extended.now).program (option_map arc_str_bytes function) section row) }
 {
     match row {
         None => Ok(SharedFrame {
             function,
             file: None,
             line: None,
+            row: None,
         }),
         Some(row) => {
             let file = file_of(alloc, parts, extended, Some(row.file_index))?;
@@ -192,6 +230,7 @@ fn function_frame<'a>(
                 function,
                 file,
                 line: Some(row.line_start),
+                row: function_row_in(parts, section, row),
             })
         }
     }
@@ -224,7 +263,8 @@ fn frames_by<'a, 'm, P: ModuleProvider>(
         calls.as_slice(),
     )?;
     let function = name_of(alloc, parts, namer, module_index, chosen)?;
-    let frame = function_frame(alloc, parts, extended, function, row)?;
+    let section = chosen.start().section;
+    let frame = function_frame(alloc, parts, extended, function, section, row)?;
     frames.push(frame)?;
     Ok(frames)
 }
@@ -269,7 +309,7 @@ fn frames_in_data<'a, P: ModuleProvider>(
     )
 }
 
-/// The same where the module may have no data: then the function alone, without file and line.
+/// The same where the module may have no data: then the function alone, without file, line and row.
 pub fn frames_in<'a, P: ModuleProvider>(
     alloc: Global,
     parts: &ContextParts<'a, '_>,
@@ -290,6 +330,7 @@ pub fn frames_in<'a, P: ModuleProvider>(
                 function,
                 file: None,
                 line: None,
+                row: None,
             })?;
             Ok(frames)
         }

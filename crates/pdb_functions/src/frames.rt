@@ -8,6 +8,20 @@ use std::alloc::{AllocError, Global};
 use std::borrow::CowStr;
 use std::marker::Model;
 
+/// The line row that a frame's line comes from: where its code begins, and how many bytes it has.
+///
+/// A function without line data of its own takes a row of an earlier function: then `start_rva`
+/// lies before the function's.
+#[derive(Clone, Copy, Debug, PartialEq, Eq)]
+pub struct FrameRow {
+    /// The RVA at which its code begins.
+    pub start_rva: u32,
+    /// How many bytes of code it has. A function's row goes on to the next entry of its line data
+    /// in the order of the file, the last one to the end of what they cover; `None` where that lies
+    /// before the row. An inlined call's is always known.
+    pub length: Option<u32>,
+}
+
 /// A frame: a function, or an inlined call in one, with the file and line of an address in it.
 #[derive(Debug, Drop)]
 pub struct Frame<'a> {
@@ -17,6 +31,8 @@ pub struct Frame<'a> {
     pub file: Option<CowStr<'a>>,
     /// The line, counted from 1, if it is known.
     pub line: Option<u32>,
+    /// The row that the line comes from, if its start has an RVA.
+    pub row: Option<FrameRow>,
 }
 
 impl<'a> Model for Frame<'a> {
@@ -26,7 +42,7 @@ impl<'a> Model for Frame<'a> {
 
     ghost Value = { answers.Frame };
 
-    ghost view = { λ f. record { function = option_map string_bytes f.function; file = option_map cow_str_bytes f.file; line = f.line } };
+    ghost view = { λ f. record { function = option_map string_bytes f.function; file = option_map cow_str_bytes f.file; line = f.line; row = f.row } };
 }
 
 /// A function with the frames at an address in it.
@@ -76,6 +92,7 @@ impl<'a> Frame<'a> {
             function,
             file,
             line: self.line,
+            row: self.row,
         })
     }
 }

@@ -13,7 +13,7 @@ mod sizes;
 mod table;
 mod text;
 
-pub use frames::{Frame, FunctionFrames};
+pub use frames::{Frame, FrameRow, FunctionFrames};
 pub use function::Function;
 pub use function_runs::FunctionRuns;
 pub use shared_frames::{SharedFrame, SharedFunctionFrames, owned_name};

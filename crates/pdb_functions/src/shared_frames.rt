@@ -3,7 +3,7 @@
 ghost use Rattle.std.specs.Prelude.{◌≡◌, IfOk, option_map, string_bytes};
 ghost use Rattle.std.specs.Arc.{arc_str_bytes};
 
-use crate::frames::{Frame, FunctionFrames, clone_file};
+use crate::frames::{Frame, FrameRow, FunctionFrames, clone_file};
 use std::alloc::{AllocError, Global};
 use std::borrow::CowStr;
 use std::marker::Model;
@@ -18,6 +18,8 @@ pub struct SharedFrame<'a> {
     pub file: Option<CowStr<'a>>,
     /// The line, counted from 1, if it is known.
     pub line: Option<u32>,
+    /// The row that the line comes from, if its start has an RVA.
+    pub row: Option<FrameRow>,
 }
 
 impl<'a> Model for SharedFrame<'a> {
@@ -28,7 +30,7 @@ impl<'a> Model for SharedFrame<'a> {
 
     ghost Value = { answers.Frame };
 
-    ghost view = { λ f. record { function = option_map arc_str_bytes f.function; file = option_map cow_str_bytes f.file; line = f.line } };
+    ghost view = { λ f. record { function = option_map arc_str_bytes f.function; file = option_map cow_str_bytes f.file; line = f.line; row = f.row } };
 }
 
 /// A function with the frames at an address in it, whose names are shared.
@@ -74,6 +76,7 @@ impl<'a> SharedFrame<'a> {
             function,
             file,
             line: self.line,
+            row: self.row,
         })
     }
 }

@@ -13,7 +13,12 @@ use Rattle.pdb_module_data.specs.declared.function_rows.LineRow.{LineRow}
 
 -- what is kept of a row: all that an answer needs
 abbrev pub row_of : LineInfo → LineRow
-row_of row = record { start = (row.offset).offset; file_index = row.file_index; line_start = row.line_start }
+row_of row = record {
+  start = (row.offset).offset;
+  length = row.length;
+  file_index = row.file_index;
+  line_start = row.line_start;
+}
 
 -- the row with the greater start, of equals the later one
 abbrev pub later_row : Option LineRow → Option LineRow → Option LineRow

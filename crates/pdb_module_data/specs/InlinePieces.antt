@@ -9,6 +9,7 @@ use Rattle.pdb_symbols.specs.Forms.{InlineSiteForm}
 use Rattle.pdb_pieces.specs.declared.span.Span.{Span}
 use Rattle.pdb_pieces.specs.Spans.{best, place_number}
 use Rattle.pdb_module_data.specs.declared.call_rows.CallRow.{CallRow}
+use Rattle.pdb_module_data.specs.declared.inlined_calls.CodeSpan.{CodeSpan}
 use Rattle.pdb_module_data.specs.declared.inlined_calls.InlinedCall.{InlinedCall}
 use Rattle.pdb_module_data.specs.Forest.{Site}
 use Rattle.pdb_module_data.specs.InlinedCalls.{deepest, has_length}
@@ -67,11 +68,22 @@ AreShortSites rows (site ∷ sites) = AreShortRows (kept_rows (rows site.call)) 
 abbrev pub covers_kept : PdbInternalSectionOffset → CallRow → Bool
 covers_kept place row = ((row.offset).section == place.section) && nat_le (row.offset).offset place.offset && nat_lt place.offset ((row.offset).offset + row.length) && nat_lt place.offset (2 ^ 32)
 
+-- a row's code, by what is kept of it
+abbrev pub kept_code : CallRow → CodeSpan
+kept_code row = record { offset = row.offset; length = row.length }
+
 -- a call by the row that is over a place, else by its first row
 abbrev pub call_by_kept : IdIndex → Option CallRow → List CallRow → InlinedCall
-call_by_kept id (Some row) rows = record { inlinee = id; file = Some row.file_index; line = Some row.line_start }
-call_by_kept id None [] = record { inlinee = id; file = None; line = None }
-call_by_kept id None (first ∷ rows) = record { inlinee = id; file = Some first.file_index; line = None }
+call_by_kept id (Some row) rows =
+    record {
+      inlinee = id;
+      file = Some row.file_index;
+      line = Some row.line_start;
+      row = Some (kept_code row);
+    }
+call_by_kept id None [] = record { inlinee = id; file = None; line = None; row = None }
+call_by_kept id None (first ∷ rows) =
+    record { inlinee = id; file = Some first.file_index; line = None; row = None }
 
 -- the sites of a procedure, what is kept of their rows, where those of each start, and pieces for a search among them
 pub record Ranges : Type 0 where

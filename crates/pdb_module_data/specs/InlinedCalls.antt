@@ -13,6 +13,7 @@ use Rattle.std.specs.BTreeMap.{get}
 use Rattle.std.specs.Ordering.{nat_cmp}
 use Rattle.pdb_container.specs.Fault.{Fault, ◌>>=◌}
 use Rattle.pdb_container.specs.Listing.{Listing, whole}
+use Rattle.pdb_module_data.specs.declared.inlined_calls.CodeSpan.{CodeSpan}
 use Rattle.pdb_module_data.specs.declared.inlined_calls.InlinedCall.{InlinedCall}
 use Rattle.pdb_inlinees.specs.InlinedRows.{inlined_rows, covers}
 use Rattle.pdb_module_data.specs.Forest.{Site}
@@ -114,13 +115,24 @@ chain sites number = chain_from sites (suc number) (Some number)
 abbrev pub has_length : LineInfo → Bool
 has_length row = nat_lt 0 (unwrap_or row.length 0)
 
+-- the code of a row
+abbrev pub code_of : LineInfo → CodeSpan
+code_of row = record { offset = row.offset; length = unwrap_or row.length 0 }
+
 -- a call by its first row over the place, else by its first row that has a length
 abbrev pub call_by : IdIndex → Option LineInfo → Option LineInfo → InlinedCall
-call_by id (Some row) long = record { inlinee = id; file = Some row.file_index; line = Some row.line_start }
-call_by id None long = record { inlinee = id; file = option_map (λ row. row.file_index) long; line = None }
+call_by id (Some row) long =
+    record {
+      inlinee = id;
+      file = Some row.file_index;
+      line = Some row.line_start;
+      row = Some (code_of row);
+    }
+call_by id None long =
+    record { inlinee = id; file = option_map (λ row. row.file_index) long; line = None; row = None }
 
--- a call over a place: file and line of its first row over the place; else the file of its first row that has a length, and
--- no line
+-- a call over a place: file, line and code of its first row over the place; else the file of its
+-- first row that has a length, no line and no code
 abbrev pub call_over : (InlineSiteForm → List LineInfo) → PdbInternalSectionOffset → InlineSiteForm → InlinedCall
 call_over rows place call = call_by call.inlinee (find (λ row. covers row place) (rows call)) (find has_length (rows call))
 

@@ -6,7 +6,7 @@ ghost use Rattle.pdb_module_data.specs.InlinedCalls.{given_by, call_rows};
 ghost use Rattle.pdb_module_data.specs.InlinePieces.{kept_rows as kept_of_rows, site_row_span, call_by_kept, covers_kept, AreShortRows, IsShortRow};
 
 use crate::inline_sites::Site;
-use crate::inlined_calls::InlinedCall;
+use crate::inlined_calls::{CodeSpan, InlinedCall};
 use crate::inlinees::Inlinees;
 use pdb_addresses::PdbInternalSectionOffset;
 use pdb_container::FallibleIterator;
@@ -123,6 +123,10 @@ pub fn call_over(inlinee: IdIndex, rows: &[CallRow], place: PdbInternalSectionOf
             inlinee,
             file: Some(row.file_index),
             line: Some(row.line_start),
+            row: Some(CodeSpan {
+                offset: row.offset,
+                length: row.length,
+            }),
         },
         None => InlinedCall {
             inlinee,
@@ -131,6 +135,7 @@ pub fn call_over(inlinee: IdIndex, rows: &[CallRow], place: PdbInternalSectionOf
                 Some(row) => Some(row.file_index),
             },
             line: None,
+            row: None,
         },
     }
 }

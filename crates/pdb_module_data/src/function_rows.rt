@@ -16,11 +16,15 @@ use std::marker::Model;
 /// How many rows most functions have, so that the list of them isn't moved as it grows.
 const USUAL_ROWS: usize = 16;
 
-/// What is kept of a line row of a function: where its code begins, and its file and line.
+/// What is kept of a line row of a function: where its code begins, how many bytes it has, and its
+/// file and line.
 #[derive(Clone, Copy, Debug, PartialEq, Eq)]
 pub struct LineRow {
     /// Where the code begins: an offset in the function's section, in bytes.
     pub start: u32,
+    /// How many bytes of code there are: up to the next entry of the `DEBUG_S_LINES` in the file's
+    /// order, or else to its end. `None` where that lies before the row.
+    pub length: Option<u32>,
     /// The file, by its place among the module's checksums, in bytes.
     pub file_index: FileIndex,
     /// The line, counted from 1.
@@ -168,6 +172,7 @@ fn read_rows(
     while let Some(row) = remaining.next()? {
         rows.push(LineRow {
             start: row.offset.offset,
+            length: row.length,
             file_index: row.file_index,
             line_start: row.line_start,
         })?;

@@ -13,8 +13,17 @@ use pdb_addresses::PdbInternalSectionOffset;
 use pdb_indices::{FileIndex, IdIndex};
 use std::alloc::{AllocError, Global};
 
-/// An inlined call over a place: the function's id in the IPI, and file and line of its first row over the place; else the
-/// file of its first row that has a length, and no line.
+/// The code of a row of an inlined call.
+#[derive(Clone, Copy, Debug, PartialEq, Eq)]
+pub struct CodeSpan {
+    /// Where it begins: a section's number, counted from 1, and an offset in bytes.
+    pub offset: PdbInternalSectionOffset,
+    /// How many bytes it has, at least 1.
+    pub length: u32,
+}
+
+/// An inlined call over a place: the function's id in the IPI, and file, line and code of its first
+/// row over the place; else the file of its first row that has a length, no line and no code.
 #[derive(Clone, Copy, Debug, PartialEq, Eq)]
 pub struct InlinedCall {
     /// The id of the inlined function, which may lead into another module.
@@ -23,6 +32,8 @@ pub struct InlinedCall {
     pub file: Option<FileIndex>,
     /// The line, counted from 1.
     pub line: Option<u32>,
+    /// The code of its first row over the place.
+    pub row: Option<CodeSpan>,
 }
 
 /// What is kept of the rows of the site of a number, by where those of each site start.

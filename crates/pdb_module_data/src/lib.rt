@@ -19,7 +19,7 @@ pub use function_line::file_name;
 pub use function_rows::{FunctionRows, LineRow};
 pub use inline_ranges::InlineRanges;
 pub use inline_sites::{InlineSites, Site, SitesError};
-pub use inlined_calls::InlinedCall;
+pub use inlined_calls::{CodeSpan, InlinedCall};
 pub use inlinees::Inlinees;
 pub use pdb_pieces::Pieces;
 pub use procedure_list::Procedures;

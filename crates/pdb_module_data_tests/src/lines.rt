@@ -37,13 +37,16 @@ const TWO_BLOCKS: &[u32] = &[
 /// The same code in a block that says that it has 8 bytes, which is less than its header.
 const SHORT_BLOCK: &[u32] = &[0xf2, 24, 0x10, 1, 0x20, 0, 0, 8];
 
-/// The file and line at an offset in the function that begins at a place, by these line data.
-fn line_of(
+/// A row: its file, its line and its length.
+type Row = (u32, u32, Option<u32>);
+
+/// The row at an offset in the function that begins at a place, by these line data.
+fn row_of(
     alloc: Global,
     line_data: &[u32],
     start: (u16, u32),
     offset: u32,
-) -> Result<Result<Option<(u32, u32)>, Error>, Fail> {
+) -> Result<Result<Option<Row>, Error>, Fail> {
     let mut bytes = Vec::new(alloc);
     push_u32(&mut bytes, line_data)?;
     let program = LineProgram::parse(alloc, &bytes)?;
@@ -54,22 +57,23 @@ fn line_of(
     match FunctionRows::read(alloc, &program, start) {
         Ok(rows) => {
             let row = rows.at(offset);
-            Ok(Ok(row.map(|row| (row.file_index.0, row.line_start))))
+            Ok(Ok(row.map(|row| { (row.file_index.0, row.line_start, row.length) })))
         }
         Err(error) => Ok(Err(error)),
     }
 }
 
-/// Line data, where a function begins, an offset in it, and the file and line there.
-const LINES: &[(&[u32], (u16, u32), u32, Result<Option<(u32, u32)>, Error>)] = &[
-    // By their starts and not by their order in the file; of equal starts the last.
-    (TWO_BLOCKS, (1, 0x10), 0x14, Ok(Some((0x18, 5)))),
-    (TWO_BLOCKS, (1, 0x10), 0x1c, Ok(Some((0, 7)))),
+/// Line data, where a function begins, an offset in it, and the row there.
+const LINES: &[(&[u32], (u16, u32), u32, Result<Option<Row>, Error>)] = &[
+    // By their starts and not by their order in the file; of equal starts the last. Line 5 goes on
+    // to the end of the code, and behind line 7 the file has an entry that lies before it.
+    (TWO_BLOCKS, (1, 0x10), 0x14, Ok(Some((0x18, 5, Some(0x20))))),
+    (TWO_BLOCKS, (1, 0x10), 0x1c, Ok(Some((0, 7, None)))),
     // Before the first row, and before the first subsection.
     (TWO_BLOCKS, (1, 0x10), 0xf, Ok(None)),
     (TWO_BLOCKS, (1, 8), 0x14, Ok(None)),
     // A subsection that begins elsewhere: an earlier one of the section serves, one of another section doesn't.
-    (TWO_BLOCKS, (1, 0x40), 0x44, Ok(Some((0, 7)))),
+    (TWO_BLOCKS, (1, 0x40), 0x44, Ok(Some((0, 7, None)))),
     (TWO_BLOCKS, (2, 0x10), 0x14, Ok(None)),
     (SHORT_BLOCK, (1, 0x10), 0x14, Err(Error::UnexpectedEof)),
     (SHORT_BLOCK, (1, 8), 0x14, Ok(None)),
@@ -78,7 +82,7 @@ const LINES: &[(&[u32], (u16, u32), u32, Result<Option<(u32, u32)>, Error>)] = &
 #[test]
 fn lines_of_functions(rt: HostRuntime) -> Result<(), Fail> {
     for (line_data, start, offset, wanted) in LINES {
-        let found = line_of(rt.alloc(), line_data, *start, *offset)?;
+        let found = row_of(rt.alloc(), line_data, *start, *offset)?;
         assert_eq!(rt; found, *wanted);
     }
     Ok(())

@@ -19,8 +19,8 @@ const INLINEES: &[u8] =
 /// A site: its id, the number of the site that it lies in, and its depth.
 type Seen = (u32, Option<usize>, usize);
 
-/// A call: its id, its file and its line.
-type Call = (u32, Option<u32>, Option<u32>);
+/// A call: its id, its file, its line, and its code: where that begins and how many bytes it has.
+type Call = (u32, Option<u32>, Option<u32>, Option<(u32, u32)>);
 
 /// Why sites can't be read: a symbol's error, or none.
 type Refused = Option<Error>;
@@ -75,7 +75,11 @@ fn seen(alloc: Global, calls: &[InlinedCall]) -> Result<Vec<Call>, Fail> {
             None => None,
             Some(file) => Some(file.0),
         };
-        seen.push((call.inlinee.0, file, call.line))?;
+        let code = match call.row {
+            None => None,
+            Some(code) => Some((code.offset.offset, code.length)),
+        };
+        seen.push((call.inlinee.0, file, call.line, code))?;
     }
     Ok(seen)
 }
@@ -193,17 +197,31 @@ const CALLS: &[(&[Described], u32, &[Call])] = &[
     (
         NESTED,
         0x109,
-        &[(2, Some(0x22), Some(20)), (1, Some(0x11), None)],
+        &[
+            (2, Some(0x22), Some(20), Some((0x108, 4))),
+            (1, Some(0x11), None, None),
+        ],
     ),
-    (NESTED, 0x101, &[(1, Some(0x11), Some(10))]),
+    (
+        NESTED,
+        0x101,
+        &[(1, Some(0x11), Some(10), Some((0x100, 4)))],
+    ),
     (NESTED, 0x104, &[]),
     // Of two as deep the first.
-    (SIBLINGS, 0x105, &[(1, Some(0x11), Some(10))]),
+    (
+        SIBLINGS,
+        0x105,
+        &[(1, Some(0x11), Some(10), Some((0x100, 16)))],
+    ),
     // A function without an inlinee has no rows.
     (
         &[AROUND, Site(0x90, 3, 4, 0), Site(0x80, 2, 4, 0), End, End],
         0x101,
-        &[(2, Some(0x22), Some(20)), (3, None, None)],
+        &[
+            (2, Some(0x22), Some(20), Some((0x100, 4))),
+            (3, None, None, None),
+        ],
     ),
     // A row without length, or of length 0, covers nothing.
     (
@@ -215,7 +233,7 @@ const CALLS: &[(&[Described], u32, &[Call])] = &[
             End,
         ],
         0x101,
-        &[(1, Some(0x11), Some(10))],
+        &[(1, Some(0x11), Some(10), Some((0x100, 8)))],
     ),
     (&[AROUND, Site(0x60, 1, 0, 4), End], 0x104, &[]),
 ];

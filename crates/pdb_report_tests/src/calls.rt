@@ -21,7 +21,7 @@ fn is_answered(alloc: Global) -> Result<bool, Fail> {
     open(alloc)?;
     let (report, outcome) = run_over(alloc, F.made(alloc)?, b"1014\n".as_slice());
     outcome?;
-    Ok(report.as_slice() == b"0x00001014\n  f at a.c:5\n".as_slice())
+    Ok(report.as_slice() == b"0x00001014\n  f at a.c:5 @0x00001010+8\n".as_slice())
 }
 
 /// Whether the addresses of a range are counted.

@@ -8,7 +8,7 @@ use std::io::{self, Read};
 use std::test::Fail;
 
 /// The answer to the line 1014 by file F.
-const ANSWER: &[u8] = b"0x00001014\n  f at a.c:5\n";
+const ANSWER: &[u8] = b"0x00001014\n  f at a.c:5 @0x00001010+8\n";
 
 /// Gives the same bytes at each call, so many times, and then its end.
 #[derive(Drop)]

@@ -27,7 +27,7 @@ const ODD_INPUT: Row = Row {
         b"0x00001050\n  ??\n",
         b"not an address\n",
         b"not an address\n",
-        b"0x00001014\n  f at a.c:5\n",
+        b"0x00001014\n  f at a.c:5 @0x00001010+8\n",
     ],
 };
 
@@ -35,7 +35,9 @@ const NESTED_SITES: Row = Row {
     file: File::NestedSites,
     input: b"1019\n",
     range: None,
-    texts: &[b"0x00001019\n  h() at c.h:9\n  g() at b.h:??\n  f at a.c:7\n"],
+    texts: &[
+        b"0x00001019\n  h() at c.h:9 @0x00001018+4\n  g() at b.h:?? @??\n  f at a.c:7 @0x00001018+24\n",
+    ],
 };
 
 const PART_OF_A_FUNCTION: Row = Row {
@@ -50,7 +52,10 @@ const CUT_LINE: Row = Row {
     file: F,
     input: b"1014\n10",
     range: None,
-    texts: &[b"0x00001014\n  f at a.c:5\n", b"0x00000010\n  ??\n"],
+    texts: &[
+        b"0x00001014\n  f at a.c:5 @0x00001010+8\n",
+        b"0x00000010\n  ??\n",
+    ],
 };
 
 /// How a reader or a writer fails at each place, if it does.

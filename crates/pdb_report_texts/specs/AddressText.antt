@@ -4,6 +4,7 @@ use Rattle.std.specs.List.{flat_map}
 use Rattle.std.specs.Fmt.{decimal, digits, padded_integral, format_spec}
 use Rattle.pdb_resolving.specs.Fault.{Fault}
 use Rattle.pdb_functions.specs.Frames.{Frame, FunctionFrames}
+use Rattle.pdb_functions.specs.declared.frames.FrameRow.{FrameRow}
 use Rattle.pdb_engine.specs.Address.{address_of}
 
 -- a text that may be missing
@@ -11,14 +12,28 @@ abbrev pub text_or : Option (List ℕ) → List ℕ
 text_or None = codes "??"
 text_or (Some text) = text
 
--- a line that may be missing, in decimal
+-- a number that may be missing, in decimal
 abbrev pub number_text : Option ℕ → List ℕ
 number_text None = codes "??"
 number_text (Some n) = decimal n
 
+-- an address's eight lower-case hexadecimal digits, as `{:08x}` prints them: filled up with zeros in
+-- front
+abbrev pub eight_digits : ℕ → List ℕ
+eight_digits a = padded_integral (format_spec 32 0 4 8 (2 ^ 64 - 1)) false [] (digits 16 false a)
+
+-- a row: where it begins, and how many bytes it has; or that there is none
+abbrev pub row_text : Option FrameRow → List ℕ
+row_text None = codes " @??"
+row_text (Some row) =
+    codes " @0x" ++ eight_digits row.start_rva ++ codes "+" ++ number_text row.length
+
 -- a frame's line
 abbrev pub frame_text : Frame → List ℕ
-frame_text f = codes "  " ++ text_or f.function ++ codes " at " ++ text_or f.file ++ codes ":" ++ number_text f.line ++ 10 ∷ []
+frame_text f =
+    codes "  " ++ text_or f.function
+    ++ codes " at " ++ text_or f.file ++ codes ":" ++ number_text f.line
+    ++ row_text f.row ++ 10 ∷ []
 
 -- the lines of an answer: one for each frame, or what is written for nothing, and for what can't be read
 unfoldable pub answer_text : Result (Option FunctionFrames) Fault → List ℕ
@@ -29,10 +44,6 @@ answer_text (Err e) = codes "  unreadable\n"
 -- the answers for addresses
 abbrev pub Answers : Type 0
 Answers = ℕ → Result (Option FunctionFrames) Fault
-
--- an address's eight lower-case hexadecimal digits, as `{:08x}` prints them: filled up with zeros in front
-abbrev pub eight_digits : ℕ → List ℕ
-eight_digits a = padded_integral (format_spec 32 0 4 8 (2 ^ 64 - 1)) false [] (digits 16 false a)
 
 -- what is written for a line that is an address, or none, by the answers
 abbrev pub text_at : Answers → Option ℕ → List ℕ

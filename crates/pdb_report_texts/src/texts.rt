@@ -3,12 +3,12 @@
 ghost use Rattle.std.specs.Prelude.{◌≡◌, ◌++◌, ◌∷◌, [], OnOk, Ok, Err, string_bytes, option_map, codes};
 ghost use Rattle.std.specs.List.{flat_map};
 ghost use Rattle.pdb_resolving.specs.Fault.{Fault};
-ghost use Rattle.pdb_report_texts.specs.AddressText.{eight_digits, frame_text, answer_text, number_text, text_or};
+ghost use Rattle.pdb_report_texts.specs.AddressText.{eight_digits, frame_text, answer_text, number_text, row_text, text_or};
 ghost use Rattle.std.specs.Cow.{cow_str_bytes};
 ghost use Rattle.std.specs.Arc.{arc_str_bytes};
 
 use itoa::Buffer;
-use pdb_functions::{SharedFrame, SharedFunctionFrames};
+use pdb_functions::{FrameRow, SharedFrame, SharedFunctionFrames};
 use std::alloc::AllocError;
 use std::borrow::CowStr;
 use std::sync::ArcStr;
@@ -22,19 +22,42 @@ fn append_frame(text: &mut String, frame: &SharedFrame<'_>) -> Result<(), AllocE
     text.push_str(" at ")?;
     text.push_str(file_or_unknown(&frame.file))?;
     text.push_str(":")?;
-    append_line_number(text, frame.line)?;
+    append_number(text, frame.line)?;
+    append_row(text, frame.row)?;
     text.push_str("\n")
 }
 
-/// Appends the number of a line, or two question marks.
-fn append_line_number(text: &mut String, line: Option<u32>) -> Result<(), AllocError>
-    ensures { OnOk result (string_bytes text.new ≡ string_bytes text.old ++ number_text line) }
+/// Appends a number, or two question marks.
+fn append_number(text: &mut String, number: Option<u32>) -> Result<(), AllocError>
+    ensures { OnOk result (string_bytes text.new ≡ string_bytes text.old ++ number_text number) }
 {
-    match line {
+    match number {
         None => text.push_str("??"),
-        Some(line) => {
+        Some(number) => {
             let mut buffer = Buffer::new();
-            text.push_str(buffer.format(line))
+            text.push_str(buffer.format(number))
+        }
+    }
+}
+
+/// Appends the eight digits of an address.
+fn append_digits(text: &mut String, address: u32) -> Result<(), AllocError>
+    ensures { OnOk result (string_bytes text.new ≡ string_bytes text.old ++ eight_digits address) }
+{
+    write!(text, "{address:08x}")
+}
+
+/// Appends a row: where it begins, and how many bytes it has; or that there is none.
+fn append_row(text: &mut String, row: Option<FrameRow>) -> Result<(), AllocError>
+    ensures { OnOk result (string_bytes text.new ≡ string_bytes text.old ++ row_text row) }
+{
+    match row {
+        None => text.push_str(" @??"),
+        Some(row) => {
+            text.push_str(" @0x")?;
+            append_digits(text, row.start_rva)?;
+            text.push_str("+")?;
+            append_number(text, row.length)
         }
     }
 }
