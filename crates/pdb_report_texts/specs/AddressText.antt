@@ -17,8 +17,7 @@ abbrev pub number_text : Option ℕ → List ℕ
 number_text None = codes "??"
 number_text (Some n) = decimal n
 
--- an address's eight lower-case hexadecimal digits, as `{:08x}` prints them: filled up with zeros in
--- front
+-- an address's eight lower-case hexadecimal digits, as `{:08x}` prints them: filled up with zeros
 abbrev pub eight_digits : ℕ → List ℕ
 eight_digits a = padded_integral (format_spec 32 0 4 8 (2 ^ 64 - 1)) false [] (digits 16 false a)
 

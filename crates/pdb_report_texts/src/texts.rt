@@ -3,7 +3,8 @@
 ghost use Rattle.std.specs.Prelude.{◌≡◌, ◌++◌, ◌∷◌, [], OnOk, Ok, Err, string_bytes, option_map, codes};
 ghost use Rattle.std.specs.List.{flat_map};
 ghost use Rattle.pdb_resolving.specs.Fault.{Fault};
-ghost use Rattle.pdb_report_texts.specs.AddressText.{eight_digits, frame_text, answer_text, number_text, row_text, text_or};
+ghost use Rattle.pdb_report_texts.specs.AddressText.{answer_text, eight_digits, frame_text};
+ghost use Rattle.pdb_report_texts.specs.AddressText.{number_text, row_text, text_or};
 ghost use Rattle.std.specs.Cow.{cow_str_bytes};
 ghost use Rattle.std.specs.Arc.{arc_str_bytes};
 
@@ -42,7 +43,8 @@ fn append_number(text: &mut String, number: Option<u32>) -> Result<(), AllocErro
 
 /// Appends the eight digits of an address.
 fn append_digits(text: &mut String, address: u32) -> Result<(), AllocError>
-    ensures { OnOk result (string_bytes text.new ≡ string_bytes text.old ++ eight_digits address) }
+    ensures { OnOk result (string_bytes text.new ≡
+        string_bytes text.old ++ eight_digits address) }
 {
     write!(text, "{address:08x}")
 }
