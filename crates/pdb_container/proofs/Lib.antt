@@ -1,6 +1,7 @@
 pub mod Alike
 pub mod Bytes
 pub mod DirectorySteps
+pub mod DistinctPages
 pub mod Entries
 pub mod First
 pub mod Limits
@@ -8,6 +9,8 @@ pub mod Listings
 pub mod Literal
 pub mod Names
 pub mod Outside
+pub mod PageSize
+pub mod PagedNumbers
 pub mod Paging
 pub mod Slices
 pub mod Starts

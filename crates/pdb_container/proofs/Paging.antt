@@ -58,6 +58,10 @@ page_places_at size pages i count whole pos le = rw (take_all i pages whole) (pa
 pub pages_enough : (size pages : ℕ) → 0 < pages → size ≤ div_ceil size pages * pages
 pages_enough size pages pos = grind (arith, common_steps)
 
+-- and no page more is
+pub pages_full : (size pages : ℕ) → 0 < pages → div_ceil size pages * pages < size + pages
+pages_full size pages pos = grind (arith, common_steps)
+
 -- ---- how many bytes are read
 
 at_len : (file places v : List ℕ) → bytes_at file places ≡ Ok v → length v ≡ length places

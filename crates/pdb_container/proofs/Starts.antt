@@ -1,40 +1,59 @@
 -- How many pages stand before a stream's own.
-use Rattle.std.proofs.Common.{◌≡◌, ◌≢◌, ℕ, ◌+◌, ◌<◌, ◌≤◌, List, [], ◌∷◌, ◌++◌, length, get_or, take, drop, Ok, Err, refl, ap, ◌∙◌, arith}
-use Rattle.std.specs.List.{range_with_len, sum_by}
-use Rattle.std.proofs.lemmas.List.{length-map, length-take-le, take-take}
-use Rattle.std.proofs.lemmas.List.FromFn.{map-range_with_len_more, length-range_with_len, get_or-map-range_with_len}
+use Rattle.std.proofs.Common.{◌≡◌, ◌≢◌, ℕ, zero, suc, ◌+◌, ◌-◌, ◌*◌, ◌<◌, ◌≤◌, min, List, [], ◌∷◌, ◌++◌, length, get_or, take, drop, Ok, Err, refl, sym, ap, ◌∙◌, arith}
+use Rattle.std.specs.List.{sum_by}
+use Rattle.std.proofs.lemmas.List.{length-drop, get_or-drop}
+use Rattle.std.proofs.lemmas.List.FromFn.{map-range_with_len_more, length-map-range_with_len, get_or-map-range_with_len}
+use Rattle.std.proofs.lemmas.List.Sums.{sum_by_more}
 use Rattle.std.proofs.lemmas.Bool.{le-leb, lt-leb, le-ltb, lt-ltb, ne_eqb}
 use Rattle.pdb_container.specs.Fault.{UnexpectedEof, StreamNotFound, ◌>>=◌}
 use Rattle.pdb_container.specs.Container.{absent, page_count, pages_in, stream_pages_in}
-use Rattle.pdb_container.specs.Directory.{starts_from, starts_in}
+use Rattle.pdb_container.specs.Directory.{counted_in, starts_from}
 
 -- no stream has no start
 pub starts_none : (page_size : ℕ) (sizes : List ℕ) → starts_from page_size sizes 0 ≡ []
 unfolding starts_from
 starts_none page_size sizes = refl
 
--- one stream more begins behind the pages of those before it
-pub starts_more : (page_size : ℕ) (sizes : List ℕ) (i : ℕ) → starts_from page_size sizes (i + 1) ≡ starts_from page_size sizes i ++ sum_by (page_count page_size) (take i sizes) ∷ []
+-- one start more
+pub starts_more : (page_size : ℕ) (sizes : List ℕ) (k : ℕ) → starts_from page_size sizes (k + 1) ≡ starts_from page_size sizes k ++ sum_by (page_count page_size) (take (256 * k) sizes) ∷ []
 unfolding starts_from
-starts_more page_size sizes i = map-range_with_len_more (λ k. sum_by (page_count page_size) (take k sizes)) 0 i i (omega arith)
+starts_more page_size sizes k = map-range_with_len_more (λ i. sum_by (page_count page_size) (take (256 * i) sizes)) 0 k k (omega arith)
 
-from_len : (page_size : ℕ) (sizes : List ℕ) (n : ℕ) → length (starts_from page_size sizes n) ≡ n
+-- so many starts
+pub starts_len : (page_size : ℕ) (sizes : List ℕ) (n : ℕ) → length (starts_from page_size sizes n) ≡ n
 unfolding starts_from
-from_len page_size sizes n = length-map (range_with_len 0 n) (λ i. sum_by (page_count page_size) (take i sizes)) ∙ length-range_with_len 0 n
+starts_len page_size sizes n = length-map-range_with_len (λ i. sum_by (page_count page_size) (take (256 * i) sizes)) 0 n
 
-from_at : (page_size : ℕ) (sizes : List ℕ) (n i d : ℕ) → i < n → get_or (starts_from page_size sizes n) i d ≡ sum_by (page_count page_size) (take i sizes)
+-- each start is that of the first of 256 streams
+pub start_at : (page_size : ℕ) (sizes : List ℕ) (n k d : ℕ) → k < n → get_or (starts_from page_size sizes n) k d ≡ sum_by (page_count page_size) (take (256 * k) sizes)
 unfolding starts_from
-from_at page_size sizes n i d lt = get_or-map-range_with_len (λ k. sum_by (page_count page_size) (take k sizes)) 0 n i i d lt (omega arith)
+start_at page_size sizes n k d lt = get_or-map-range_with_len (λ i. sum_by (page_count page_size) (take (256 * i) sizes)) 0 n k k d lt (omega arith)
 
--- each stream that is counted and has a size has a start
-pub starts_there : (page_size count : ℕ) (sizes : List ℕ) → count ≤ length sizes → length (starts_from page_size (take count sizes) (length (take count sizes))) ≡ count
-starts_there page_size count sizes le = from_len page_size (take count sizes) (length (take count sizes)) ∙ length-take-le count sizes le
+-- a bound on each number holds with one more
+pub few_more : (xs : List ℕ) (x m k : ℕ) → ((j : ℕ) → get_or xs j 0 ≤ m) → x ≤ m → get_or (xs ++ x ∷ []) k 0 ≤ m
+few_more [] x m zero h le = le
+few_more [] x m (suc k) h le = omega arith
+few_more (y ∷ xs) x m zero h le = h 0
+few_more (y ∷ xs) x m (suc k) h le = few_more xs x m k (λ j. h (suc j)) le
 
--- and it stands behind the pages of the streams before it
-pub start_at : (page_size count i d : ℕ) (sizes : List ℕ) → i < count → count ≤ length sizes → get_or (starts_from page_size (take count sizes) (length (take count sizes))) i d ≡ sum_by (page_count page_size) (take i sizes)
-start_at page_size count i d sizes lt le =
-    from_at page_size (take count sizes) (length (take count sizes)) i d (omega (arith, length-take-le count sizes le))
-    ∙ ap (λ xs. sum_by (page_count page_size) xs) (take-take i count sizes (omega arith))
+behind : (x : ℕ) (xs : List ℕ) (n d : ℕ) → get_or (x ∷ xs) (1 + n) d ≡ get_or xs n d
+behind x xs n d = let e : 1 + n ≡ suc n = omega arith in rw e refl
+
+-- how many streams are counted and have sizes, where there is a count
+pub counted_at : (all : List ℕ) (d : ℕ) → 0 < length all → counted_in all ≡ min (get_or all 0 d) (length all - 1)
+counted_at [] d h = absurd (omega arith)
+counted_at (count ∷ sizes) d h = let e : suc (length sizes) - 1 ≡ length sizes = omega arith in rw e refl
+
+-- where there is no number there are none
+pub counted_none : (all : List ℕ) → length all ≡ 0 → counted_in all ≡ 0
+counted_none [] h = refl
+counted_none (count ∷ sizes) h = absurd (omega arith)
+
+-- one stream's pages more
+pub pages_more : (page_size : ℕ) (all : List ℕ) (i d : ℕ) → i + 1 < length all
+    → sum_by (page_count page_size) (take (i + 1) (drop 1 all)) ≡ sum_by (page_count page_size) (take i (drop 1 all)) + page_count page_size (get_or all (1 + i) d)
+pages_more page_size all i d lt =
+    sum_by_more (page_count page_size) (drop 1 all) i d (omega (arith, length-drop 1 all)) ∙ ap (λ n. sum_by (page_count page_size) (take i (drop 1 all)) + page_count page_size n) (get_or-drop 1 all i d)
 
 -- ---- the place of a stream, by the ways that its search ends
 
@@ -45,32 +64,48 @@ place_none page_size used n [] h = refl
 place_none page_size used n (count ∷ numbers) h = absurd (omega arith)
 
 -- a number that isn't counted
-pub place_uncounted : (page_size used n count : ℕ) (all numbers : List ℕ) → all ≡ count ∷ numbers → count ≤ n → stream_pages_in page_size used n all ≡ Err (StreamNotFound n)
+pub place_uncounted : (page_size used n : ℕ) (all : List ℕ) → 0 < length all → get_or all 0 0 ≤ n → stream_pages_in page_size used n all ≡ Err (StreamNotFound n)
 unfolding stream_pages_in
-place_uncounted page_size used n count all numbers h le = rw (h, le-leb count n le) refl
+place_uncounted page_size used n [] h le = absurd (omega arith)
+place_uncounted page_size used n (count ∷ numbers) h le = rw (le-leb count n le) refl
 
 -- sizes that aren't all there
-pub place_short : (page_size used n count : ℕ) (all numbers : List ℕ) → all ≡ count ∷ numbers → n < count → length numbers < count → stream_pages_in page_size used n all ≡ Err UnexpectedEof
+pub place_short : (page_size used n : ℕ) (all : List ℕ) → 0 < length all → n < get_or all 0 0 → length all - 1 < get_or all 0 0 → stream_pages_in page_size used n all ≡ Err UnexpectedEof
 unfolding stream_pages_in
-place_short page_size used n count all numbers h lt short = rw (h, lt-leb count n lt, lt-ltb (length numbers) count short) refl
+place_short page_size used n [] h lt short = absurd (omega arith)
+place_short page_size used n (count ∷ numbers) h lt short =
+    let e : length numbers < count = omega arith in
+    rw (lt-leb count n lt, lt-ltb (length numbers) count e) refl
 
 -- a stream that isn't there
-pub place_absent : (page_size used n count : ℕ) (all numbers : List ℕ) → all ≡ count ∷ numbers → n < count → count ≤ length numbers → get_or numbers n 0 ≡ absent
+pub place_absent : (page_size used n : ℕ) (all : List ℕ) → 0 < length all → n < get_or all 0 0 → get_or all 0 0 ≤ length all - 1 → get_or all (1 + n) 0 ≡ absent
     → stream_pages_in page_size used n all ≡ Err (StreamNotFound n)
 unfolding stream_pages_in
-place_absent page_size used n count all numbers h lt le missing = rw (h, lt-leb count n lt, le-ltb (length numbers) count le, missing) refl
+place_absent page_size used n [] h lt le missing = absurd (omega arith)
+place_absent page_size used n (count ∷ numbers) h lt le missing =
+    let e : count ≤ length numbers = omega arith in
+    rw (lt-leb count n lt, le-ltb (length numbers) count e, sym (behind count numbers n 0) ∙ missing) refl
 
-place_there : (page_size used n count : ℕ) (all numbers : List ℕ) → all ≡ count ∷ numbers → n < count → count ≤ length numbers → get_or numbers n 0 ≢ absent
-    → stream_pages_in page_size used n all
+pages_taken : (used n : ℕ) (numbers : List ℕ) → pages_in used n (take n numbers) ≡ pages_in used n numbers
+pages_taken used zero numbers = refl
+pages_taken used (suc n) [] = refl
+pages_taken used (suc n) (page ∷ numbers) = rw (pages_taken used n numbers) refl
+
+place_there : (page_size used n count : ℕ) (numbers : List ℕ) → n < count → count ≤ length numbers → get_or numbers n 0 ≢ absent
+    → stream_pages_in page_size used n (count ∷ numbers)
     ≡ (pages_in used (page_count page_size (get_or numbers n 0)) (drop (count + sum_by (page_count page_size) (take n numbers)) numbers) >>= λ pages. Ok (get_or numbers n 0, pages))
 unfolding stream_pages_in
-place_there page_size used n count all numbers h lt le present = rw (h, lt-leb count n lt, le-ltb (length numbers) count le, ne_eqb (get_or numbers n 0) absent present) refl
+place_there page_size used n count numbers lt le present = rw (lt-leb count n lt, le-ltb (length numbers) count le, ne_eqb (get_or numbers n 0) absent present) refl
 
--- one that is there, by the numbers from its own on
-pub place_read : (page_size used n count start pages : ℕ) (all numbers own starts : List ℕ) → all ≡ count ∷ numbers → n < count → count ≤ length numbers → get_or numbers n 0 ≢ absent
-    → starts ≡ starts_in page_size all → start ≡ get_or starts n start → own ≡ drop (count + start) numbers → pages ≡ page_count page_size (get_or numbers n 0)
-    → stream_pages_in page_size used n all ≡ (pages_in used pages own >>= λ found. Ok (get_or numbers n 0, found))
-place_read page_size used n count start pages all numbers own starts h lt le present kept from behind enough =
-    let before : start ≡ sum_by (page_count page_size) (take n numbers) = from ∙ ap (λ xs. get_or xs n start) (kept ∙ ap (starts_in page_size) h) ∙ start_at page_size count n start numbers lt le in
-    let there : own ≡ drop (count + sum_by (page_count page_size) (take n numbers)) numbers = behind ∙ ap (λ k. drop (count + k) numbers) before in
-    rw (there, enough) (place_there page_size used n count all numbers h lt le present)
+-- one that is there, by its own numbers
+pub place_read : (page_size used n size from pages : ℕ) (all own : List ℕ) → 0 < length all → n < get_or all 0 0 → get_or all 0 0 ≤ length all - 1
+    → size ≡ get_or all (1 + n) 0 → size ≢ absent → pages ≡ page_count page_size size
+    → from ≡ 1 + get_or all 0 0 + sum_by (page_count page_size) (take n (drop 1 all)) → own ≡ take pages (drop from all)
+    → stream_pages_in page_size used n all ≡ (pages_in used pages own >>= λ found. Ok (size, found))
+place_read page_size used n size from pages [] own h lt le is present enough begins has = absurd (omega arith)
+place_read page_size used n size from pages (count ∷ numbers) own h lt le is present enough begins has =
+    let there : size ≡ get_or numbers n 0 = is ∙ behind count numbers n 0 in
+    let e : from ≡ suc (count + sum_by (page_count page_size) (take n numbers)) = omega arith in
+    let mine : own ≡ take pages (drop (count + sum_by (page_count page_size) (take n numbers)) numbers) = rw e at has in
+    let found = place_there page_size used n count numbers lt (omega arith) (rw there at present) in
+    rw (mine, pages_taken used pages (drop (count + sum_by (page_count page_size) (take n numbers)) numbers), enough, there) found

@@ -10,6 +10,7 @@ pub mod Header
 pub mod Listing
 pub mod StringTable
 pub mod Paged
+pub mod PagedNumbers
 pub mod Pages
 pub mod Places
 pub mod RawString

@@ -1,38 +1,49 @@
 //! The MSF directory: how many streams there are, their sizes, and where their page numbers stand.
 
-ghost use Rattle.std.specs.Prelude.{◌≡◌, ◌+◌, ◌*◌, ◌<◌, ◌≤◌, ◌^◌, ℕ, List, length, vec_len, take, drop, slice_index, IfOk, Ok};
+ghost use Rattle.std.specs.Prelude.{◌≡◌, ◌+◌, ◌-◌, ◌*◌, ◌<◌, ◌≤◌, ◌^◌, ℕ, length, vec_len};
+ghost use Rattle.std.specs.Prelude.{take, drop, slice_index, IfOk, Ok};
 ghost use Rattle.std.specs.List.{sum_by};
 ghost use Rattle.pdb_container.specs.Container.{page_count, pages_in, stream_pages_in};
-ghost use Rattle.pdb_container.specs.Directory.{starts_from, starts_in, directory_seen, with_starts};
+ghost use Rattle.pdb_container.specs.Directory.{counted_in, starts_in, HasStarts};
 ghost use Rattle.pdb_container.specs.Fault.{Gives};
 
 use crate::error::{Error, Result};
+use crate::paged_numbers::PagedNumbers;
 use std::alloc::Global;
 
 /// The size of a stream that is not there.
 const ABSENT: u32 = 0xffff_ffff;
 
-/// An MSF directory: its numbers, and for each stream that has a size how many page numbers stand before its own.
+/// How many streams have one start together.
+const GROUP: usize = 256;
+
+/// An MSF directory: its numbers, and for the first of each 256 streams that have a size how many
+/// page numbers stand before its own.
 #[derive(Drop)]
 pub struct Directory {
-    numbers: Vec<u32>,
+    numbers: PagedNumbers,
     starts: Vec<usize>,
 }
 
 impl Directory {
-    /// A directory of these numbers. Memory is taken for the sizes that are there, whatever the count says.
-    pub fn new(alloc: Global, page_size: u32, numbers: Vec<u32>) -> Result<Directory>
+    /// A directory of these numbers. Memory is taken for the sizes that are there, whatever the
+    /// count says: 8 bytes for 256 of them.
+    pub fn new(alloc: Global, page_size: u32, numbers: PagedNumbers) -> Result<Directory>
         requires { 0 < page_size }
-        ensures { Gives directory_seen ⊥ result (Ok (with_starts page_size numbers.items)) }
+        ensures numbers { Gives (λ d. d.numbers) ⊥ result (Ok numbers) }
+        ensures starts { IfOk result (λ d. HasStarts page_size d) }
     {
-        match starts_of(alloc, page_size, numbers.as_slice()) {
+        match starts_of(alloc, page_size, &numbers) {
             Ok(starts) => Ok(Directory { numbers, starts }),
             Err(fault) => Err(fault),
         }
     }
 
-    /// The size in bytes and the pages of a stream. `StreamNotFound`, `UnexpectedEof`, `PageReferenceOutOfRange`.
-    #[tactic(auto, using(crate::proofs::Paging::pages_enough, crate::proofs::Starts::starts_there))]
+    /// The size in bytes and the pages of a stream.
+    ///
+    /// # Errors
+    /// `StreamNotFound`, `UnexpectedEof`, `PageReferenceOutOfRange`; `OutOfMemory`.
+    #[tactic(auto, using(crate::proofs::Paging::pages_enough, crate::proofs::Starts::counted_at))]
     pub fn place_of(
         &self,
         alloc: Global,
@@ -41,77 +52,101 @@ impl Directory {
         number: u32,
     ) -> Result<(u32, Vec<u32>)>
         requires size { 0 < page_size }
-        requires starts { self.now.starts.items ≡ starts_in page_size self.now.numbers.items }
-        ensures exact { Gives (λ found. (found.0, found.1.items)) ⊥ result (stream_pages_in page_size used number self.now.numbers.items) }
+        requires starts { HasStarts page_size self.now }
+        ensures exact { Gives (λ found. (found.0, found.1.items)) ⊥ result (stream_pages_in page_size used number self.now.numbers) }
         ensures enough { IfOk result (λ found. found.0 ≤ vec_len found.1 * page_size) }
         ensures few { IfOk result (λ found. vec_len found.1 < 2 ^ 32) }
     {
-        let Some((count, numbers)) = self.numbers.as_slice().split_first() else {
+        let numbers = &self.numbers;
+        if numbers.len() == 0 {
             return Err(Error::UnexpectedEof);
-        };
-        if *count <= number {
+        }
+        let count = numbers.at(0);
+        if count <= number {
             return Err(Error::StreamNotFound(number));
         }
-        if numbers.len() < *count as usize {
+        if numbers.len() - 1 < count as usize {
             return Err(Error::UnexpectedEof);
         }
-        let size = numbers[number as usize];
+        let size = numbers.at(1 + number as usize);
         if size == ABSENT {
             return Err(Error::StreamNotFound(number));
         }
-        let own = numbers_from(numbers, *count, self.starts[number as usize]);
-        match pages_of(alloc, used, pages_for(page_size, size) as usize, own) {
+        let from = 1 + count as usize + self.pages_before(page_size, number);
+        let pages = pages_for(page_size, size) as usize;
+        let own = numbers.copied(alloc, from, pages)?;
+        match pages_of(alloc, used, pages, own.as_slice()) {
             Ok(pages) => Ok((size, pages)),
             Err(fault) => Err(fault),
         }
     }
-}
 
-/// For each stream that the directory counts and has a size of, how many pages the streams before it have.
-fn starts_of(alloc: Global, page_size: u32, numbers: &[u32]) -> Result<Vec<usize>>
-    requires { 0 < page_size }
-    ensures { Gives (λ v. v.items) ⊥ result (Ok (starts_in page_size numbers.now)) }
-{
-    match numbers.split_first() {
-        None => Ok(Vec::new(alloc)),
-        Some((count, sizes)) => starts_by_size(alloc, page_size, first_numbers(sizes, *count)),
+    /// How many pages the streams before the one with that number have: the start of its 256, and
+    /// the pages of those of them that come before it.
+    #[tactic(auto, using(crate::proofs::Starts::starts_len, crate::proofs::Starts::start_at, crate::proofs::Starts::counted_at, crate::proofs::Starts::counted_none))]
+    fn pages_before(&self, page_size: u32, number: u32) -> usize
+        requires size { 0 < page_size }
+        requires starts { HasStarts page_size self.now }
+        requires counted { number < counted_in self.now.numbers }
+        ensures sum { result
+            ≡ sum_by (page_count page_size) (take number (drop 1 self.now.numbers)) }
+        ensures bound { result < 2 ^ 63 }
+    {
+        let number = number as usize;
+        let first = number / GROUP * GROUP;
+        self.starts[number / GROUP] + pages_between(page_size, &self.numbers, first, number)
     }
 }
 
-/// At most so many numbers from the front.
-fn first_numbers(numbers: &[u32], count: u32) -> &[u32]
-    ensures first { result.now ≡ take count numbers.now }
+/// How many streams the directory both counts and has sizes of.
+#[tactic(auto, using(crate::proofs::Starts::counted_at, crate::proofs::Starts::counted_none))]
+fn counted(numbers: &PagedNumbers) -> usize
+    ensures count { result ≡ counted_in numbers.now }
+    ensures few { result < 2 ^ 30 }
+    ensures there { 0 < result → result < length numbers.now }
 {
-    &numbers[..numbers.len().min(count as usize)]
+    if numbers.len() == 0 {
+        return 0;
+    }
+    (numbers.at(0) as usize).min(numbers.len() - 1)
 }
 
-/// How many pages the streams before each have.
+/// For the first of each 256 streams that the directory counts and has a size of, how many pages the
+/// streams before it have.
 #[tactic(auto, using(crate::proofs::Starts::starts_none, crate::proofs::Starts::starts_more))]
-fn starts_by_size(alloc: Global, page_size: u32, sizes: &[u32]) -> Result<Vec<usize>>
-    requires size { 0 < page_size }
-    requires few { length sizes.now < 2 ^ 32 }
-    ensures { Gives (λ v. v.items) ⊥ result (Ok (starts_from page_size sizes.now (length sizes.now))) }
+fn starts_of(alloc: Global, page_size: u32, numbers: &PagedNumbers) -> Result<Vec<usize>>
+    requires { 0 < page_size }
+    ensures exact { Gives (λ v. v.items) ⊥ result (Ok (starts_in page_size numbers.now)) }
+    ensures few { IfOk result (λ v. (k : ℕ) → slice_index v.items k ≤ 2 ^ 62) }
 {
-    let mut starts = Vec::with_capacity(alloc, sizes.len())?;
+    let count = counted(numbers);
+    let groups = count.div_ceil(GROUP);
+    let mut starts = Vec::with_capacity(alloc, groups)?;
     let mut before = 0;
-    for size in sizes {
+    for group in 0..groups {
         starts.push(before)?;
-        before += pages_for(page_size, *size) as usize;
+        let first = group * GROUP;
+        before += pages_between(page_size, numbers, first, (first + GROUP).min(count));
     }
     Ok(starts)
 }
 
-/// The page numbers from those of a stream on, behind the sizes and as many numbers as stand before its own.
-fn numbers_from(numbers: &[u32], count: u32, before: usize) -> &[u32]
-    requires { count ≤ length numbers.now }
-    ensures { result.now ≡ drop (count + before) numbers.now }
+/// How many pages the streams from number `from` up to but not including `to` have, by their sizes.
+#[tactic(auto, using(crate::proofs::Starts::pages_more))]
+fn pages_between(page_size: u32, numbers: &PagedNumbers, from: usize, to: usize) -> usize
+    requires size { 0 < page_size }
+    requires order { from ≤ to }
+    requires there { to < length numbers.now }
+    requires few { to < 2 ^ 32 }
+    ensures sum { sum_by (page_count page_size) (take from (drop 1 numbers.now)) + result
+        ≡ sum_by (page_count page_size) (take to (drop 1 numbers.now)) }
+    ensures bound { result ≤ (to - from) * 2 ^ 32 }
 {
-    let count = count as usize;
-    if before <= numbers.len() - count {
-        &numbers[count + before..]
-    } else {
-        &[]
+    let mut pages = 0;
+    for i in from..to {
+        pages += pages_for(page_size, numbers.at(1 + i)) as usize;
     }
+    pages
 }
 
 fn pages_for(page_size: u32, size: u32) -> u32

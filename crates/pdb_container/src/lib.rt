@@ -4,6 +4,7 @@
 
 mod buffer;
 mod directory;
+mod distinct_pages;
 mod entry_list;
 mod error;
 mod fallible_iterator;
@@ -12,6 +13,7 @@ pub mod laws;
 mod msf;
 mod numbers;
 mod page_list;
+mod paged_numbers;
 mod raw_string;
 mod source;
 mod string_table;

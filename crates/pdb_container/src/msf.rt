@@ -1,6 +1,7 @@
 //! MSF streams: the header, and the pages in which each stream lies.
 
-ghost use Rattle.std.specs.Prelude.{◌≡◌, ◌*◌, ◌<◌, ◌≤◌, ◌^◌, length, vec_len, take, drop, Some, Ok, IfOk, IfErr, IsOk, ◌⊎◌};
+ghost use Rattle.std.specs.Prelude.{◌≡◌, ◌+◌, ◌*◌, ◌%◌, ◌<◌, ◌≤◌, ◌^◌, ◌⊎◌, length, vec_len};
+ghost use Rattle.std.specs.Prelude.{take, drop, Some, Ok, IfOk, IfErr, IsOk};
 ghost use Rattle.std.specs.Int.{div_ceil};
 ghost use Rattle.pdb_container.specs.Container.{words, pages_in, header_in, front_in, behind_header as behind, layout_of, directory_of, stream_in, stream, at_most, list_count as lists_for};
 ghost use Rattle.pdb_container.specs.Directory.{IsKept};
@@ -12,10 +13,12 @@ ghost use Rattle.pdb_container.specs.Fault.{error_of, fault_of, IoError, ◌>>=�
 ghost use Rattle.pdb_container.specs.Places.{bytes_at, page_places, IsPaged};
 
 use crate::directory::{Directory, pages_of};
+use crate::distinct_pages::pages_to_read;
 use crate::error::{Error, Result};
 use crate::front::may_be_container;
 use crate::numbers::word_at;
 use crate::page_list::PageList;
+use crate::paged_numbers::PagedNumbers;
 use crate::source::{ReadView, Source, SourceSlice};
 use std::alloc::Global;
 use std::io;
@@ -152,17 +155,43 @@ fn directory_pages<S: Source>(source: &mut S, alloc: Global, header: &Header) ->
     }
 }
 
+/// The numbers that the first `size` bytes of the pages spell. Each page is read once, however often
+/// the list names it.
+#[tactic(auto, using(crate::proofs::PagedNumbers::read_words))]
+fn read_paged<S: Source>(
+    source: &mut S,
+    alloc: Global,
+    page_size: u32,
+    pages: &[u32],
+    size: usize,
+) -> Result<PagedNumbers>
+    requires page_size { (0 < page_size) × (page_size ≤ 0x800000) }
+    requires by_four { page_size % 4 ≡ 0 }
+    requires enough { size ≤ length pages.now * page_size }
+    requires full { length pages.now * page_size < size + page_size }
+    requires few { size < 2 ^ 32 }
+    ensures answer { AnswersFrom S.bytes S.failures source.old source.new (λ n. n) result
+        (and_then (bytes_at (S.bytes source.old) (page_places page_size pages.now size))
+        (λ bytes. Ok (words bytes))) }
+{
+    let read = pages_to_read(alloc, page_size, pages, size)?;
+    match read_pages(source, alloc, page_size, read.pages.as_slice(), read.size) {
+        Ok(bytes) => Ok(PagedNumbers::new(page_size, read.places, bytes, size / 4)),
+        Err(fault) => Err(fault),
+    }
+}
+
 /// The directory's numbers.
-#[tactic(auto, using(crate::proofs::Paging::pages_enough))]
-fn read_numbers<S: Source>(source: &mut S, alloc: Global, header: &Header) -> Result<Vec<u32>>
+#[tactic(auto, using(crate::proofs::Paging::pages_enough, crate::proofs::Paging::pages_full))]
+fn read_numbers<S: Source>(source: &mut S, alloc: Global, header: &Header) -> Result<PagedNumbers>
     requires { IsSound (layout header.now) }
-    ensures answer { AnswersFrom S.bytes S.failures source.old source.new (λ v. v.items) result
+    ensures answer { AnswersFrom S.bytes S.failures source.old source.new (λ n. n) result
         (directory_of (layout header.now) (S.bytes source.old)) }
 {
     match directory_pages(source, alloc, header) {
         Ok(pages) => {
             let size = header.directory_size as usize;
-            read_words(source, alloc, header.page_size, pages.as_slice(), size)
+            read_paged(source, alloc, header.page_size, pages.as_slice(), size)
         }
         Err(fault) => Err(fault),
     }
@@ -262,7 +291,7 @@ fn cut(limit: Option<usize>, size: usize) -> usize
     }
 }
 
-#[tactic(auto, using(crate::proofs::Paging::pages_enough, crate::proofs::Outside::outside_alone), unfolding(crate::specs::Container::header_in))]
+#[tactic(auto, using(crate::proofs::Paging::pages_enough, crate::proofs::PageSize::by_four, crate::proofs::Outside::outside_alone), unfolding(crate::specs::Container::header_in))]
 fn header_of(alloc: Global, front: &[u8]) -> Result<Header>
     requires { length front.now ≡ 4096 }
     ensures exact { Gives layout ⊥ result (header_in front.now) }

@@ -7,7 +7,7 @@ use Rattle.pdb_container.proofs.msf.read_numbers.Goals as goal
 pub returns-in-Ok : goal.returns-in-Ok
 returns-in-Ok g c =
     let pages = c.in-Ok.ensures.answer in
-    let numbers = c.read_words.ensures.answer in
+    let numbers = c.read_paged.ensures.answer in
     record {
       answer = record {
         same = numbers.same ∙ pages.same;
