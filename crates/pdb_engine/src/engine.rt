@@ -11,13 +11,16 @@ ghost use Rattle.pdb_engine.specs.InputFaults.{OnRead, OnWrite, OnTooLong, IsOfW
 use crate::answers::Answers;
 use crate::fault::{InputFault, read_fault, write_fault};
 use crate::line_start::LineStart;
-use crate::requests::{Request, answer_ahead, append_answer, split};
+use crate::requests::{Request, answer_ahead, append_answer, clear_room, split};
 use crate::watched::Watched;
 use std::alloc::Global;
 use std::io::{ErrorKind, Read, Write};
 
 /// How many bytes a read asks for, and from how many on gathered answers are written before the next one.
 const CHUNK_SIZE: usize = 65_536;
+
+/// From how many bytes on the room of what was written is given back.
+const LONG_ROOM: usize = 1_048_576;
 
 /// The start of a line, and room for what a read takes and for texts, kept from read to read.
 #[derive(Drop)]
@@ -251,7 +254,7 @@ fn write_answers<A: Answers, W: Write>(
     for request in requests {
         gather_answer(alloc, answers, writer, &mut pending, request, texts)?;
     }
-    write_pending(writer, &mut pending)
+    write_pending(alloc, writer, &mut pending)
 }
 
 /// Puts the answer to a line behind what is pending, and writes that once it is long.
@@ -277,31 +280,35 @@ fn gather_answer<A: Answers, W: Write>(
     ensures part { OnErr result (WritesFront W.contents writer.old writer.new (pending.old.items ++ A.text answers.old request.now.line)) }
 {
     let Ok(()) = append_answer(alloc, answers, request, texts, pending) else {
-        return Err(write_last(writer, pending));
+        return Err(write_last(alloc, writer, pending));
     };
     if pending.len() < CHUNK_SIZE {
         return Ok(());
     }
-    write_pending(writer, pending)
+    write_pending(alloc, writer, pending)
 }
 
 /// Writes what is pending where memory ran out, and returns that fault, or the write's own.
-fn write_last<W: Write>(writer: &mut Watched<W>, pending: &mut Vec<u8>) -> InputFault
+fn write_last<W: Write>(alloc: Global, writer: &mut Watched<W>, pending: &mut Vec<u8>) -> InputFault
     ensures kind { IsOfWriting result }
     ensures fails { OnWrite result (λ kind. CountsFailure writer.old writer.new kind) }
     ensures part { (more : List ℕ) → WritesFront W.contents writer.old writer.new (pending.old.items ++ more) }
 {
-    match write_pending(writer, pending) {
+    match write_pending(alloc, writer, pending) {
         Ok(()) => InputFault::OutOfMemory,
         Err(fault) => fault,
     }
 }
 
-/// Writes what is pending.
+/// Writes what is pending, and gives its room back where that is long.
 ///
 /// # Errors
 /// `Write` where a write failed, and `OutOfMemory`.
-fn write_pending<W: Write>(writer: &mut Watched<W>, pending: &mut Vec<u8>) -> Result<(), InputFault>
+fn write_pending<W: Write>(
+    alloc: Global,
+    writer: &mut Watched<W>,
+    pending: &mut Vec<u8>,
+) -> Result<(), InputFault>
     ensures ok { OnOk result (Writes W.contents writer.old writer.new pending.old.items) }
     ensures none_pending { OnOk result (pending.new.items ≡ []) }
     ensures quiet { OnOk result (IsQuiet writer.old writer.new) }
@@ -311,7 +318,7 @@ fn write_pending<W: Write>(writer: &mut Watched<W>, pending: &mut Vec<u8>) -> Re
 {
     match write_all(writer, pending) {
         Ok(()) => {
-            pending.clear();
+            clear_room(alloc, pending, LONG_ROOM);
             Ok(())
         }
         Err(kind) => Err(write_fault(kind)),

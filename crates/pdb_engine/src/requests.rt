@@ -25,6 +25,17 @@ pub struct Request {
     pub made: Option<Made>,
 }
 
+/// Removes all bytes. Their room is given back where they were at least `long`.
+pub fn clear_room(alloc: Global, bytes: &mut Vec<u8>, long: usize)
+    ensures { bytes.new.items ≡ [] }
+{
+    if bytes.len() < long {
+        bytes.clear();
+    } else {
+        *bytes = Vec::new(alloc);
+    }
+}
+
 /// When a line is answered: those of lesser places first, and those of one place in their order.
 #[derive(Clone, Copy, PartialEq, Eq, PartialOrd, Ord)]
 struct Turn {
@@ -159,7 +170,7 @@ pub fn answer_ahead<A: Answers>(
     ensures answered { AreAnswered (A.text answers.old) texts.new.items requests.new.items }
     ensures same { A.text answers.new ≡ A.text answers.old }
 {
-    texts.clear();
+    clear_room(alloc, texts, AHEAD_SIZE);
     let mut turns = turns(alloc, answers, requests)?;
     if turns.is_sorted() {
         return Ok(());
