@@ -6,17 +6,21 @@ use Rattle.pdb_addresses.specs.Omap.{AreSourcesInOrder, are_sources_in_order, tr
 use Rattle.pdb_addresses.specs.Places.{Place}
 use Rattle.pdb_addresses.specs.Sections.{place, address}
 
--- the sections of both spaces, and the ways between them
+-- an address map: the sections of both spaces, and the maps between them
 pub record Map : Type 0 where
   pub internal : List ImageSectionHeader
   pub image : List ImageSectionHeader
   pub to_internal : Option (List OMAPRecord)
   pub to_image : Option (List OMAPRecord)
 
--- With original sections these are the internal ones. Without them both lists are the image's, and no map is used.
-abbrev pub map_of : Option (List ImageSectionHeader) → List ImageSectionHeader → Option (List OMAPRecord) → Option (List OMAPRecord) → Map
-map_of None image to_internal to_image = record { internal = image; image = image; to_internal = None; to_image = None }
-map_of (Some original) image to_internal to_image = record { internal = original; image = image; to_internal = to_internal; to_image = to_image }
+-- With original sections these are the internal ones. Without them both lists are the image's, and
+-- no map is used.
+abbrev pub map_of : Option (List ImageSectionHeader) → List ImageSectionHeader
+    → Option (List OMAPRecord) → Option (List OMAPRecord) → Map
+map_of None image to_internal to_image =
+    record { internal = image; image = image; to_internal = None; to_image = None }
+map_of (Some original) image to_internal to_image =
+    record { internal = original; image = image; to_internal = to_internal; to_image = to_image }
 
 -- a map, if there is one, has no source below the one before it
 abbrev pub IsInOrder : Option (List OMAPRecord) → Type 0

@@ -1,5 +1,7 @@
 -- Where a walk over a map stands, and its steps.
-use Rattle.std.specs.Prelude.{◌≡◌, ℕ, ◌+◌, ◌-◌, ◌^◌, ◌≤◌, min, List, [], ◌∷◌, length, nat_lt, Option, None, Some, option_map, option_and_then, slice_get, if◌then◌else◌}
+use Rattle.std.specs.Prelude.{◌≡◌, ℕ, ◌+◌, ◌-◌, ◌^◌, ◌≤◌, min, List, [], ◌∷◌, length, nat_lt}
+use Rattle.std.specs.Prelude.{Option, None, Some, option_map, option_and_then, slice_get}
+use Rattle.std.specs.Prelude.{if◌then◌else◌}
 use Rattle.std.specs.List.{AllWithin}
 use Rattle.std.specs.declared.ops.Range.{Range}
 use Rattle.pdb_addresses.specs.declared.omap.OMAPRecord.{OMAPRecord}
@@ -7,18 +9,20 @@ use Rattle.pdb_addresses.specs.Addresses.{IsInOrder}
 use Rattle.pdb_addresses.specs.Omap.{source, record_at, sent_by}
 use Rattle.pdb_addresses.specs.Ranges.{TranslatedRun, below}
 
--- so many records have their sources at most the address, and the others at or past it
+-- that many records have their sources at most the address, and the others at or past it
 pub record IsAtIn (records : List OMAPRecord) (number address : ℕ) : Type 0 where
   pub within : number ≤ length records
   pub before : AllWithin (λ r. source r ≤ address) records 0 number
   pub behind : AllWithin (λ r. address ≤ source r) records number (length records)
 
--- so many records of a map have their sources at most the address, and the others at or past it; without a map none
+-- that many records of a map have their sources at most the address, and the others at or past it;
+-- without a map none
 abbrev pub IsAt : Option (List OMAPRecord) → ℕ → ℕ → Type 0
 IsAt None number address = number ≡ 0
 IsAt (Some records) number address = IsAtIn records number address
 
--- so many records have their sources at most the address, the others at or past it, and the sources don't fall
+-- that many records have their sources at most the address, the others at or past it, and the
+-- sources don't fall
 pub record IsSteady (omap : Option (List OMAPRecord)) (number address : ℕ) : Type 0 where
   pub ordered : IsInOrder omap
   pub at : IsAt omap number address
@@ -37,25 +41,31 @@ next_source (Some records) number = option_map source (slice_get records number)
 abbrev pub source_before : Option (List OMAPRecord) → ℕ → ℕ → Option ℕ
 source_before omap number end = option_and_then (below end) (next_source omap number)
 
--- what an address becomes by the record of a number
+-- what an address becomes by the record with that index
 abbrev pub sent_by_number : Option (List OMAPRecord) → ℕ → ℕ → Option ℕ
 sent_by_number None number address = Some address
-sent_by_number (Some records) number address = option_and_then (sent_by address) (record_at records number)
+sent_by_number (Some records) number address =
+    option_and_then (sent_by address) (record_at records number)
 
--- so many addresses from one on, those below a bound, if there are any
+-- the addresses from one on and below a bound, if there are any
 abbrev pub cut_run : ℕ → ℕ → ℕ → Option (Range ℕ)
-cut_run bound count start = if nat_lt start (min (start + count) bound) then Some (record { start = start; end = min (start + count) bound }) else None
+cut_run bound count start =
+    if nat_lt start (min (start + count) bound)
+    then Some (record { start = start; end = min (start + count) bound })
+    else None
 
--- what addresses from one on and before another become by the record of a number
+-- what the addresses from one on and before another become by the record with that index
 abbrev pub run_between : Option (List OMAPRecord) → ℕ → ℕ → ℕ → Option (Range ℕ)
-run_between omap number from stop = option_and_then (cut_run (2 ^ 32 - 1) (stop - from)) (sent_by_number omap number from)
+run_between omap number from stop = option_and_then (cut_run (2 ^ 32 - 1) (stop - from))
+    (sent_by_number omap number from)
 
--- a run in front of others, if there is one
+-- a run before others, if there is one
 abbrev pub run_in_front : ℕ → Option (Range ℕ) → List TranslatedRun → List TranslatedRun
 run_in_front number None others = others
-run_in_front number (Some r) others = record { number = number; start = r.start; end = r.end } ∷ others
+run_in_front number (Some r) others =
+    record { number = number; start = r.start; end = r.end } ∷ others
 
--- the next run, and what comes behind it
+-- the next run, and what comes after it
 abbrev pub GivesRun : List TranslatedRun → Option (Range ℕ) → List TranslatedRun → Type 0
 GivesRun due None left = (due ≡ []) × (left ≡ [])
 GivesRun due (Some r) left = (number : ℕ) × (due ≡ run_in_front number (Some r) left)

@@ -1,6 +1,8 @@
--- OMAPs, which tell where a tool has moved an image's code: lists of a source and a target.
--- The layout is that of the pdb crate's OMAP records, which the Windows debugging interface has too.
-use Rattle.std.specs.Prelude.{ℕ, zero, suc, ◌+◌, ◌-◌, ◌%◌, Bool, true, not, ◌&&◌, List, [], ◌∷◌, length, nat_le, ◌==◌, Option, None, Some, if◌then◌else◌, slice_get, option_and_then, option_map, Result, Ok, codes}
+-- OMAPs, which say where a tool has moved an image's code: lists of a source and a target. The
+-- layout is that of the pdb crate's OMAP records, which the Windows debugging interface has too.
+use Rattle.std.specs.Prelude.{ℕ, zero, suc, ◌+◌, ◌-◌, ◌%◌, Bool, true, not, ◌&&◌, List, [], ◌∷◌}
+use Rattle.std.specs.Prelude.{length, nat_le, ◌==◌, Option, None, Some, if◌then◌else◌, slice_get}
+use Rattle.std.specs.Prelude.{option_and_then, option_map, Result, Ok, codes}
 use Rattle.std.specs.Borrow.{Bor}
 use Rattle.std.specs.Int.{w32}
 use Rattle.std.specs.List.Sorted.{IsNonDecreasingBy}
@@ -39,27 +41,32 @@ rise_from low (r ∷ records) = nat_le low r.source_address && rise_from r.sourc
 abbrev pub are_sources_in_order : List OMAPRecord → Bool
 are_sources_in_order records = rise_from 0 records
 
--- the number of a record that is there or isn't, behind so many others
+-- the index of a record that is there or isn't, after that many others
 abbrev pub record_number : ℕ → ℕ → ℕ
 record_number first zero = first
 record_number first (suc n) = suc (suc n)
 
--- The number of the last record with source at most an address, counted from 1; 0 where there is none.
+-- The number of the last record with source at most an address, counted from 1; 0 where there is
+-- none.
 abbrev pub last_number : List OMAPRecord → ℕ → ℕ
 last_number [] address = 0
-last_number (r ∷ records) address = record_number (if nat_le r.source_address address then 1 else 0) (last_number records address)
+last_number (r ∷ records) address = record_number (if nat_le r.source_address address then 1 else 0)
+    (last_number records address)
 
--- the record of a number, counted from 1
+-- the record with that index, counted from 1
 abbrev pub record_at : List OMAPRecord → ℕ → Option OMAPRecord
 record_at records number = if number == 0 then None else slice_get records (number - 1)
 
 -- where a record sends an address at or past its source: target 0 sends it nowhere
 abbrev pub sent_by : ℕ → OMAPRecord → Option ℕ
-sent_by address r = if r.target_address == 0 then None else in_32_bits (r.target_address + (address - r.source_address))
+sent_by address r =
+    if r.target_address == 0 then None
+    else in_32_bits (r.target_address + (address - r.source_address))
 
 -- where a map sends an address: by the last record with source at most it
 abbrev pub sent : List OMAPRecord → ℕ → Option ℕ
-sent records address = option_and_then (sent_by address) (record_at records (last_number records address))
+sent records address = option_and_then (sent_by address)
+    (record_at records (last_number records address))
 
 -- A direction without a map keeps the number; one whose map is empty sends nothing anywhere.
 abbrev pub translated : Option (List OMAPRecord) → ℕ → Option ℕ

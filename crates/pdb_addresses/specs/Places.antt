@@ -3,7 +3,9 @@ use Rattle.std.specs.Prelude.{ℕ, ◌==◌, Option, None, Some, if◌then◌els
 use Rattle.std.specs.declared.cmp.Ordering.{Ordering}
 use Rattle.std.specs.Ordering.{nat_cmp}
 use Rattle.pdb_addresses.specs.declared.section_offset.SectionOffset.{SectionOffset}
-use Rattle.pdb_addresses.specs.declared.internal_section_offset.PdbInternalSectionOffset.{PdbInternalSectionOffset}
+use Rattle.pdb_addresses.specs.declared.internal_section_offset.PdbInternalSectionOffset.{
+  PdbInternalSectionOffset,
+}
 
 -- a section's number, counted from 1, and an offset in it
 pub record Place : Type 0 where
@@ -12,7 +14,9 @@ pub record Place : Type 0 where
 
 -- places in one section compare by their offsets, places in two sections not at all
 abbrev pub compared : ℕ → ℕ → ℕ → ℕ → Option Ordering
-compared section offset section' offset' = if section == section' then Some (nat_cmp offset offset') else None
+compared section offset section' offset' =
+    if section == section' then Some (nat_cmp offset offset')
+    else None
 
 -- a place as one of the image
 abbrev pub image_place : Place → SectionOffset

@@ -1,4 +1,4 @@
--- What is kept of sections, in any order, so that what concerns an address is found by halving.
+-- What is stored of sections, in any order, so that binary search finds what concerns an address.
 use Rattle.std.specs.Prelude.{◌≡◌, ℕ, ◌+◌, max, List, [], ◌∷◌}
 use Rattle.std.specs.List.Sorted.{IsPermutation, IsNonDecreasing}
 use Rattle.pdb_addresses.specs.declared.sections.ImageSectionHeader.{ImageSectionHeader}
@@ -18,7 +18,8 @@ pub record AreInOrder (numbers ascending : List ℕ) : Type 0 where
   pub same : IsPermutation numbers ascending
   pub rise : IsNonDecreasing ascending
 
--- what is kept of sections: the greatest end up to each one, and where all start and end, in ascending order
+-- what is stored of sections: the greatest end up to each one, and where all start and end, in
+-- ascending order
 pub record AreKept (sections : List ImageSectionHeader) (greatest ascending : List ℕ) : Type 0 where
   pub ends : greatest ≡ greatest_ends 0 sections
   pub bounds : AreInOrder (bounds sections) ascending

@@ -1,5 +1,6 @@
 -- How far the place of an address goes on.
-use Rattle.std.specs.Prelude.{ℕ, ◌+◌, ◌-◌, min, List, [], ◌∷◌, nat_lt, Option, None, Some, if◌then◌else◌}
+use Rattle.std.specs.Prelude.{ℕ, ◌+◌, ◌-◌, min, List, [], ◌∷◌, nat_lt, Option, None, Some}
+use Rattle.std.specs.Prelude.{if◌then◌else◌}
 use Rattle.pdb_addresses.specs.declared.sections.ImageSectionHeader.{ImageSectionHeader}
 use Rattle.pdb_addresses.specs.Places.{Place}
 
@@ -17,7 +18,7 @@ abbrev pub up_to_next : List ℕ → ℕ → ℕ → ℕ
 up_to_next [] address limit = limit
 up_to_next (b ∷ others) address limit = nearer address b (up_to_next others address limit)
 
--- a place so many bytes on in its section; none stays none
+-- the place that many bytes further in its section; none stays none
 abbrev pub place_on : ℕ → Option Place → Option Place
 place_on k None = None
 place_on k (Some p) = Some (record { section = p.section; offset = p.offset + k })

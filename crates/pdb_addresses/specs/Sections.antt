@@ -1,6 +1,8 @@
 -- Section headers, the places of addresses, and the addresses of places.
 -- A header's layout is IMAGE_SECTION_HEADER of the PE format, as the pdb crate reads it.
-use Rattle.std.specs.Prelude.{ℕ, ◌+◌, ◌-◌, Bool, not, List, [], ◌∷◌, nat_lt, nat_le, ◌==◌, Option, None, Some, if◌then◌else◌, slice_get, position, take, Result, Ok, bit_and}
+use Rattle.std.specs.Prelude.{ℕ, ◌+◌, ◌-◌, Bool, not, List, [], ◌∷◌, nat_lt, nat_le, ◌==◌, Option}
+use Rattle.std.specs.Prelude.{None, Some, if◌then◌else◌, slice_get, position, take, Result, Ok}
+use Rattle.std.specs.Prelude.{bit_and}
 use Rattle.pdb_container.specs.Container.{half_at, word_at}
 use Rattle.pdb_container.specs.Fault.{Fault, ◌>>=◌}
 use Rattle.pdb_container.specs.Fields.{Reader, bytes_of, entries}
@@ -47,21 +49,24 @@ text_before_nul bytes = text_to bytes (position (λ byte. byte == 0) bytes)
 abbrev pub may_execute : SectionCharacteristics → Bool
 may_execute c = not (bit_and c.0 0x20000000 == 0)
 
--- the section of a number, counted from 1
+-- the section with that index, counted from 1
 abbrev pub section_at : List ImageSectionHeader → ℕ → Option ImageSectionHeader
 section_at sections number = if number == 0 then None else slice_get sections (number - 1)
 
--- an offset in the section of a number, if it is a place's: numbers past 65535 have none
+-- the place of an offset in the section with that index; none for an index past 65535
 abbrev pub place_in : ℕ → ℕ → Option Place
-place_in number offset = if nat_le number 65535 then Some (record { section = number; offset = offset }) else None
+place_in number offset =
+    if nat_le number 65535 then Some (record { section = number; offset = offset })
+    else None
 
--- The place of an address among the sections from a number on: they are walked while their virtual address is at
--- most the address, and the first that holds it has it.
+-- The place of an address among the sections from a number on: they are walked while their virtual
+-- address is at most the address, and the first that holds it has it.
 abbrev pub place_from : ℕ → List ImageSectionHeader → ℕ → Option Place
 place_from number [] address = None
 place_from number (s ∷ sections) address =
     if nat_lt address s.virtual_address then None
-    else (if nat_lt (address - s.virtual_address) s.virtual_size then place_in number (address - s.virtual_address)
+    else (if nat_lt (address - s.virtual_address) s.virtual_size
+    then place_in number (address - s.virtual_address)
     else place_from (number + 1) sections address)
 
 -- the place of an address

@@ -1,8 +1,10 @@
-//! The sections of an image and of the space in which its database was written, and the ways between them.
+//! The sections of an image and of the space in which its database was written, and the maps
+//! between the two spaces.
 
 ghost use Rattle.std.specs.Prelude.{◌≡◌, option_map, IfOk};
 ghost use Rattle.std.specs.Bool.{Decides};
-ghost use Rattle.pdb_addresses.specs.Addresses.{map_of, IsInOrder, IsOrdered, is_in_order as in_order, is_ordered, inner, outer};
+ghost use Rattle.pdb_addresses.specs.Addresses.{map_of, IsInOrder, IsOrdered};
+ghost use Rattle.pdb_addresses.specs.Addresses.{is_in_order as in_order, is_ordered, inner, outer};
 ghost use Rattle.pdb_addresses.specs.Omap.{translated, records_of};
 
 use crate::omap::{OMAPRecord, are_sources_in_order, lookup};
@@ -11,8 +13,8 @@ use crate::sections::ImageSectionHeader;
 use std::alloc::{AllocError, Global};
 use std::marker::{Model, PhantomData};
 
-/// The way from the addresses of an image to those of its database, and back. The two differ where a tool has moved the
-/// image's code after the database was written.
+/// An address map: translates addresses of an image to those of its database, and back. The two
+/// differ where a tool has moved the image's code after the database was written.
 #[derive(Debug, Drop)]
 pub struct AddressMap<'s> {
     original_sections: Option<SectionList>,
@@ -28,13 +30,18 @@ impl<'s> Model for AddressMap<'s> {
 
     ghost Value = { Map };
 
-    ghost view = { λ m. map_of m.original_sections m.image_sections (option_map (λ v. v.items) m.to_original) (option_map (λ v. v.items) m.to_image) };
+    ghost view = { λ m. map_of m.original_sections m.image_sections
+        (option_map (λ v. v.items) m.to_original) (option_map (λ v. v.items) m.to_image) };
 }
 
 impl<'s> AddressMap<'s> {
-    /// A map of these parts. `original_sections` are those of the space in which the database was written; without them
-    /// that space is the image's, and the other two aren't used. `to_original` leads from addresses of the image into
-    /// that space, `to_image` from there to the image; without one of them addresses keep their numbers that way.
+    /// An address map made of these parts. `original_sections` are those of the space in which the
+    /// database was written. Without them that space is the image's, and the other two aren't used.
+    /// `to_original` maps addresses of the image into that space, and `to_image` maps them back.
+    /// Without one of them addresses keep their numbers in that direction.
+    ///
+    /// # Errors
+    /// `AllocError` when memory runs out.
     pub fn new(
         alloc: Global,
         original_sections: Option<Vec<ImageSectionHeader>>,
@@ -42,7 +49,9 @@ impl<'s> AddressMap<'s> {
         to_original: Option<Vec<OMAPRecord>>,
         to_image: Option<Vec<OMAPRecord>>,
     ) -> Result<AddressMap<'s>, AllocError>
-        ensures { IfOk result (λ m. m ≡ map_of (option_map (λ v. v.items) original_sections) image_sections.items (option_map (λ v. v.items) to_original) (option_map (λ v. v.items) to_image)) }
+        ensures { IfOk result
+            (λ m. m ≡ map_of (option_map (λ v. v.items) original_sections) image_sections.items
+            (option_map (λ v. v.items) to_original) (option_map (λ v. v.items) to_image)) }
     {
         Ok(AddressMap {
             original_sections: list_if_there(alloc, original_sections)?,
@@ -53,7 +62,8 @@ impl<'s> AddressMap<'s> {
         })
     }
 
-    /// Whether translations may be asked for: whether no source of either map lies below the one before it.
+    /// Whether translations may be asked for: whether no source of either map lies below the one
+    /// before it.
     pub fn is_ordered(&self) -> bool
         ensures value { result ≡ is_ordered self.now }
         ensures meaning { Decides result (IsOrdered self.now) }

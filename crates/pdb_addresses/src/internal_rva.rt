@@ -2,7 +2,8 @@
 
 ghost use Rattle.std.specs.Prelude.{◌≡◌, ◌+◌, ◌-◌, ◌%◌, ◌^◌, min, option_map};
 ghost use Rattle.pdb_addresses.specs.Addresses.{IsOrdered, outer, outer_place};
-ghost use Rattle.pdb_addresses.specs.Numbers.{in_32_bits, distance, distance_around, image_address, internal_address};
+ghost use Rattle.pdb_addresses.specs.Numbers.{in_32_bits, distance, distance_around, image_address};
+ghost use Rattle.pdb_addresses.specs.Numbers.{internal_address};
 ghost use Rattle.pdb_addresses.specs.Places.{image_place, internal_place as in_internal_space};
 ghost use Rattle.pdb_addresses.specs.Sections.{place as place_of};
 
@@ -12,8 +13,8 @@ use crate::rva::Rva;
 use crate::section_list::internal;
 use crate::section_offset::SectionOffset;
 
-/// An internal RVA: an address in the space in which the database was written, in bytes from the image's start. It is
-/// that of the image where no tool has moved the image's code since.
+/// An internal RVA: an address in the space in which the database was written, in bytes from the
+/// image's start. It is that of the image where no tool has moved the image's code since.
 #[derive(Clone, Copy, Debug, Default, PartialEq, Eq, PartialOrd, Ord, Hash)]
 pub struct PdbInternalRva(pub u32);
 
@@ -26,7 +27,8 @@ impl PdbInternalRva {
         map.outer(self.0).map(Rva)
     }
 
-    /// The image's place of its address in the image; `None` where there is no such address, or no section holds it.
+    /// The image's place of its address in the image; `None` where there is no such address, or no
+    /// section holds it.
     pub fn to_section_offset(self, map: &AddressMap<'_>) -> Option<SectionOffset>
         requires { IsOrdered map.now }
         ensures { result ≡ option_map image_place (outer_place map.now self.0) }
@@ -42,21 +44,21 @@ impl PdbInternalRva {
         internal(map.internal_sections().place(self.0))
     }
 
-    /// The address so many bytes on; `None` past 32 bits.
+    /// The address that many bytes further; `None` past 32 bits.
     pub fn checked_add(self, offset: u32) -> Option<PdbInternalRva>
         ensures { result ≡ option_map internal_address (in_32_bits (self.0 + offset)) }
     {
         self.0.checked_add(offset).map(PdbInternalRva)
     }
 
-    /// The address so many bytes on, at most 0xffffffff.
+    /// The address that many bytes further, at most 0xffffffff.
     pub fn saturating_add(self, offset: u32) -> PdbInternalRva
         ensures { result ≡ internal_address (min (self.0 + offset) (2 ^ 32 - 1)) }
     {
         PdbInternalRva(self.0.saturating_add(offset))
     }
 
-    /// The address so many bytes on, going on from 0 past 0xffffffff.
+    /// The address that many bytes further, which continues from 0 past 0xffffffff.
     pub fn wrapping_add(self, offset: u32) -> PdbInternalRva
         ensures { result ≡ internal_address ((self.0 + offset) % 2 ^ 32) }
     {

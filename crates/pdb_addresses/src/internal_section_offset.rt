@@ -12,8 +12,8 @@ use crate::rva::Rva;
 use crate::section_offset::SectionOffset;
 use std::cmp::Ordering;
 
-/// An internal section offset: a place in the space in which the database was written, as a section's number, counted
-/// from 1, and an offset in it in bytes.
+/// An internal section offset: a place in the space in which the database was written, as a
+/// section's number, counted from 1, and an offset in it in bytes.
 #[derive(Clone, Copy, Debug, Default, PartialEq, Eq, Hash)]
 pub struct PdbInternalSectionOffset {
     /// In bytes from the section's start.
@@ -41,26 +41,28 @@ impl PartialOrd for PdbInternalSectionOffset {
 }
 
 impl PdbInternalSectionOffset {
-    /// The address in the image of its internal address; `None` where there is no such address, or the map sends it
-    /// nowhere.
+    /// The address in the image of its internal address; `None` where there is no such address, or
+    /// the map sends it nowhere.
     pub fn to_rva(self, map: &AddressMap<'_>) -> Option<Rva>
         requires { IsOrdered map.now }
-        ensures { result ≡ option_map image_address (outer_of_place map.now self.section self.offset) }
+        ensures { result ≡ option_map image_address
+            (outer_of_place map.now self.section self.offset) }
     {
         self.to_internal_rva(map)?.to_rva(map)
     }
 
     /// Its internal address; `None` past 32 bits, and for a section that isn't there.
     pub fn to_internal_rva(self, map: &AddressMap<'_>) -> Option<PdbInternalRva>
-        ensures { result ≡ option_map internal_address (address_of map.now.internal self.section self.offset) }
+        ensures { result ≡ option_map internal_address
+            (address_of map.now.internal self.section self.offset) }
     {
         map.internal_sections()
             .address(self.section, self.offset)
             .map(PdbInternalRva)
     }
 
-    /// The image's place of its address; `None` where there is no such address, the map sends it nowhere, or no section
-    /// holds what it becomes.
+    /// The image's place of its address; `None` where there is no such address, the map sends it
+    /// nowhere, or no section holds what it becomes.
     pub fn to_section_offset(self, map: &AddressMap<'_>) -> Option<SectionOffset>
         requires { IsOrdered map.now }
         ensures { result ≡ option_map image_place (place_outside map.now self.section self.offset) }
@@ -68,7 +70,7 @@ impl PdbInternalSectionOffset {
         self.to_internal_rva(map)?.to_section_offset(map)
     }
 
-    /// The place so many bytes on, in the same section; `None` past 32 bits.
+    /// The place that many bytes further in the same section; `None` past 32 bits.
     pub fn checked_add(self, offset: u32) -> Option<PdbInternalSectionOffset>
         ensures { result ≡ option_map (internal_place_at self) (in_32_bits (self.offset + offset)) }
     {
@@ -76,7 +78,7 @@ impl PdbInternalSectionOffset {
         Some(PdbInternalSectionOffset { offset, ..self })
     }
 
-    /// The place so many bytes on, in the same section, at most 0xffffffff.
+    /// The place that many bytes further in the same section, at most 0xffffffff.
     pub fn saturating_add(self, offset: u32) -> PdbInternalSectionOffset
         ensures { result ≡ internal_place_at self (min (self.offset + offset) (2 ^ 32 - 1)) }
     {
@@ -86,7 +88,8 @@ impl PdbInternalSectionOffset {
         }
     }
 
-    /// The place so many bytes on, in the same section, going on from 0 past 0xffffffff.
+    /// The place that many bytes further in the same section, which continues from 0 past
+    /// 0xffffffff.
     pub fn wrapping_add(self, offset: u32) -> PdbInternalSectionOffset
         ensures { result ≡ internal_place_at self ((self.offset + offset) % 2 ^ 32) }
     {

@@ -10,10 +10,18 @@ ghost use Rattle.pdb_addresses.specs.Ranges.{runs};
 ghost use Rattle.pdb_addresses.specs.Sections.{place, address};
 ghost use Rattle.pdb_addresses.specs.declared.omap.OMAPRecord.{OMAPRecord as Record};
 ghost use Rattle.pdb_addresses.specs.declared.rva.Rva.{Rva as ImageAddress};
-ghost use Rattle.pdb_addresses.specs.declared.internal_rva.PdbInternalRva.{PdbInternalRva as InternalAddress};
-ghost use Rattle.pdb_addresses.specs.declared.section_offset.SectionOffset.{SectionOffset as ImagePlace};
-ghost use Rattle.pdb_addresses.specs.declared.internal_section_offset.PdbInternalSectionOffset.{PdbInternalSectionOffset as InternalPlace};
-ghost use Rattle.pdb_addresses.specs.declared.sections.ImageSectionHeader.{ImageSectionHeader as Header};
+ghost use Rattle.pdb_addresses.specs.declared.internal_rva.PdbInternalRva.{
+  PdbInternalRva as InternalAddress,
+};
+ghost use Rattle.pdb_addresses.specs.declared.section_offset.SectionOffset.{
+  SectionOffset as ImagePlace,
+};
+ghost use Rattle.pdb_addresses.specs.declared.internal_section_offset.PdbInternalSectionOffset.{
+  PdbInternalSectionOffset as InternalPlace,
+};
+ghost use Rattle.pdb_addresses.specs.declared.sections.ImageSectionHeader.{
+  ImageSectionHeader as Header,
+};
 
 use crate::internal_rva::PdbInternalRva;
 use crate::internal_section_offset::PdbInternalSectionOffset;
@@ -21,13 +29,14 @@ use crate::rva::Rva;
 use crate::section_offset::SectionOffset;
 use std::hash::Hash;
 
-/// Where there is no map in a direction, addresses keep their numbers that way.
+/// Where there is no map in a direction, addresses keep their numbers in that direction.
 pub fn without_maps()
     ensures inward { (m : Map) (a : ℕ) → m.to_internal ≡ None → inner m a ≡ Some a }
     ensures outward { (m : Map) (a : ℕ) → m.to_image ≡ None → outer m a ≡ Some a }
 {}
 
-/// Whether a map is ordered is computed, and true exactly where no source of either way lies below the one before it.
+/// Whether a map is ordered is computed: true exactly where in both directions no source lies below
+/// the one before it.
 #[tactic(auto, using(crate::proofs::Ordered::ordered_decided))]
 pub fn ordered_maps()
     ensures { (m : Map) → Decides (is_ordered m) (IsOrdered m) }
@@ -35,29 +44,49 @@ pub fn ordered_maps()
 
 /// The place of an address has that address, in every list of sections.
 pub fn place_and_back()
-    ensures { (sections : List Header) (a : ℕ) (p : Place) → a < 2 ^ 32 → place sections a ≡ Some p → address sections p.section p.offset ≡ Some a }
+    ensures { (sections : List Header) (a : ℕ) (p : Place) → a < 2 ^ 32 → place sections a ≡ Some p
+        → address sections p.section p.offset ≡ Some a }
 {}
 
-/// The ranges that a range becomes, laid end to end, are what its addresses become one by one, in order, without those
-/// that become nothing or 0xffffffff; and no two neighbors among them came by one record. It holds of every map, and
-/// where there is none.
+/// The ranges that a range becomes, laid end to end, are what its addresses become one by one, in
+/// order, without those that become nothing or 0xffffffff; and no two neighbors among them came by
+/// one record. It holds of every map, and where there is none.
 pub fn ranges_laid_end_to_end()
-    ensures one_by_one { (omap : Option (List Record)) (start end : ℕ) → laid_out (runs omap start end) ≡ one_by_one omap start end }
-    ensures parted { (omap : Option (List Record)) (start end : ℕ) → AreParted (runs omap start end) }
+    ensures one_by_one { (omap : Option (List Record)) (start end : ℕ)
+        → laid_out (runs omap start end) ≡ one_by_one omap start end }
+    ensures parted { (omap : Option (List Record)) (start end : ℕ)
+        → AreParted (runs omap start end) }
 {}
 
-/// Two places compare as equal exactly where they are equal, and don't compare exactly where their sections differ.
+/// Two places compare as equal exactly where they are equal, and don't compare exactly where their
+/// sections differ.
 pub fn compared_places()
-    ensures image_equal { (a b : ImagePlace) → (⟦<SectionOffset as PartialOrd>⟧.partial_cmp a b ≡ Some Equal) ↔ (a ≡ b) }
-    ensures image_none { (a b : ImagePlace) → (⟦<SectionOffset as PartialOrd>⟧.partial_cmp a b ≡ None) ↔ (a.section ≢ b.section) }
-    ensures internal_equal { (a b : InternalPlace) → (⟦<PdbInternalSectionOffset as PartialOrd>⟧.partial_cmp a b ≡ Some Equal) ↔ (a ≡ b) }
-    ensures internal_none { (a b : InternalPlace) → (⟦<PdbInternalSectionOffset as PartialOrd>⟧.partial_cmp a b ≡ None) ↔ (a.section ≢ b.section) }
+    ensures image_equal { (a b : ImagePlace)
+        → (⟦<SectionOffset as PartialOrd>⟧.partial_cmp a b ≡ Some Equal) ↔ (a ≡ b) }
+    ensures image_none { (a b : ImagePlace)
+        → (⟦<SectionOffset as PartialOrd>⟧.partial_cmp a b ≡ None) ↔ (a.section ≢ b.section) }
+    ensures internal_equal { (a b : InternalPlace)
+        → (⟦<PdbInternalSectionOffset as PartialOrd>⟧.partial_cmp a b ≡ Some Equal) ↔ (a ≡ b) }
+    ensures internal_none { (a b : InternalPlace)
+        → (⟦<PdbInternalSectionOffset as PartialOrd>⟧.partial_cmp a b ≡ None)
+        ↔ (a.section ≢ b.section) }
 {}
 
-/// `==` of addresses and places returns true exactly for one and the same value, and equal values hash alike.
+/// `==` of addresses and places returns true exactly for one and the same value, and equal values
+/// hash alike.
 pub fn equal_hash_alike()
-    ensures image_address { (a b : ImageAddress) → ((⟦<Rva as PartialEq>⟧.eq a b ≡ true) ↔ (a ≡ b)) × (a ≡ b → ⟦<Rva as Hash>⟧.hash_input a ≡ ⟦<Rva as Hash>⟧.hash_input b) }
-    ensures internal_address { (a b : InternalAddress) → ((⟦<PdbInternalRva as PartialEq>⟧.eq a b ≡ true) ↔ (a ≡ b)) × (a ≡ b → ⟦<PdbInternalRva as Hash>⟧.hash_input a ≡ ⟦<PdbInternalRva as Hash>⟧.hash_input b) }
-    ensures image_place { (a b : ImagePlace) → ((⟦<SectionOffset as PartialEq>⟧.eq a b ≡ true) ↔ (a ≡ b)) × (a ≡ b → ⟦<SectionOffset as Hash>⟧.hash_input a ≡ ⟦<SectionOffset as Hash>⟧.hash_input b) }
-    ensures internal_place { (a b : InternalPlace) → ((⟦<PdbInternalSectionOffset as PartialEq>⟧.eq a b ≡ true) ↔ (a ≡ b)) × (a ≡ b → ⟦<PdbInternalSectionOffset as Hash>⟧.hash_input a ≡ ⟦<PdbInternalSectionOffset as Hash>⟧.hash_input b) }
+    ensures image_address { (a b : ImageAddress) → ((⟦<Rva as PartialEq>⟧.eq a b ≡ true) ↔ (a ≡ b))
+        × (a ≡ b → ⟦<Rva as Hash>⟧.hash_input a ≡ ⟦<Rva as Hash>⟧.hash_input b) }
+    ensures internal_address { (a b : InternalAddress)
+        → ((⟦<PdbInternalRva as PartialEq>⟧.eq a b ≡ true) ↔ (a ≡ b))
+        × (a ≡ b → ⟦<PdbInternalRva as Hash>⟧.hash_input a
+        ≡ ⟦<PdbInternalRva as Hash>⟧.hash_input b) }
+    ensures image_place { (a b : ImagePlace)
+        → ((⟦<SectionOffset as PartialEq>⟧.eq a b ≡ true) ↔ (a ≡ b))
+        × (a ≡ b → ⟦<SectionOffset as Hash>⟧.hash_input a
+        ≡ ⟦<SectionOffset as Hash>⟧.hash_input b) }
+    ensures internal_place { (a b : InternalPlace)
+        → ((⟦<PdbInternalSectionOffset as PartialEq>⟧.eq a b ≡ true) ↔ (a ≡ b))
+        × (a ≡ b → ⟦<PdbInternalSectionOffset as Hash>⟧.hash_input a
+        ≡ ⟦<PdbInternalSectionOffset as Hash>⟧.hash_input b) }
 {}

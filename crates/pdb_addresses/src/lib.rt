@@ -1,5 +1,5 @@
-//! RVAs: the addresses of an image, and those of the space in which its database was written; section headers, as the
-//! PE format has them, and OMAPs, as the pdb crate reads them.
+//! RVAs: the addresses of an image, and those of the space in which its database was written;
+//! section headers, as the PE format has them, and OMAPs, as the pdb crate reads them.
 #![tactic(auto)]
 
 mod address_map;

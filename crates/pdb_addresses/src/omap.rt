@@ -1,20 +1,23 @@
-//! OMAPs: maps that tell where a tool has moved an image's code.
+//! OMAPs: maps that say where a tool has moved an image's code.
 
 ghost use Rattle.std.specs.Prelude.{◌≡◌, ◌≤◌, ◌<◌, length};
 ghost use Rattle.std.specs.List.{AllWithin};
 ghost use Rattle.pdb_container.specs.Fault.{Gives};
-ghost use Rattle.pdb_addresses.specs.Omap.{AreSourcesInOrder, are_sources_in_order as in_order, omap_of, last_number as number_of_last, sent_by as sent_by_record, sent};
+ghost use Rattle.pdb_addresses.specs.Omap.{AreSourcesInOrder, are_sources_in_order as in_order};
+ghost use Rattle.pdb_addresses.specs.Omap.{omap_of, last_number as number_of_last};
+ghost use Rattle.pdb_addresses.specs.Omap.{sent_by as sent_by_record, sent};
 
 use pdb_container::{Error, FromBuffer, ParseBuffer, Result, parse_entries};
 use std::alloc::Global;
 
-/// An OMAP record, of a map between image and internal addresses: from its source on, and up to the next record's,
-/// addresses lie as far past its target as they lie past its source.
+/// An OMAP record, of a map between image and internal addresses: from its source on, and up to the
+/// next record's, addresses lie as far past its target as they lie past its source.
 #[derive(Clone, Copy, Debug, Default, PartialEq, Eq)]
 pub struct OMAPRecord {
     /// The source: the first address that goes by the record.
     pub source_address: u32,
-    /// The target: what that address becomes; 0 where addresses that go by the record become nothing.
+    /// The target: what that address becomes; 0 where addresses that go by the record become
+    /// nothing.
     pub target_address: u32,
 }
 
@@ -33,7 +36,10 @@ impl FromBuffer for OMAPRecord {
     }
 }
 
-/// The records of a stream. `InvalidStreamLength` where it isn't made of whole ones.
+/// The OMAP records of a stream, eight bytes each.
+///
+/// # Errors
+/// `InvalidStreamLength` where the stream isn't made of whole records, `OutOfMemory`.
 #[tactic(auto, unfolding(crate::specs::Omap::omap_of))]
 pub fn parse_omap(alloc: Global, bytes: &[u8]) -> Result<Vec<OMAPRecord>>
     ensures { Gives (λ v. v.items) ⊥ result (omap_of bytes.now) }
@@ -57,13 +63,15 @@ pub(crate) fn are_sources_in_order(records: &[OMAPRecord]) -> bool
     true
 }
 
-/// The number of the last record with source at most an address, counted from 1; 0 where there is none. It halves.
+/// The number of the last record with source at most an address, counted from 1; 0 where there is
+/// none. It is a binary search.
 pub(crate) fn last_number(records: &[OMAPRecord], address: u32) -> usize
     requires { AreSourcesInOrder records.now }
     ensures number { result ≡ number_of_last records.now address }
     ensures bound { result ≤ length records.now }
     ensures low { AllWithin (λ r. r.source_address ≤ address) records.now 0 result }
-    ensures high { AllWithin (λ r. address < r.source_address) records.now result (length records.now) }
+    ensures high { AllWithin (λ r. address < r.source_address) records.now result
+        (length records.now) }
 {
     records.partition_point(|record| record.source_address <= address)
 }

@@ -1,10 +1,14 @@
 //! Ranges of addresses, and what they become.
 
-ghost use Rattle.std.specs.Prelude.{◌≡◌, ◌+◌, ◌-◌, ◌<◌, ◌≤◌, length, option_map, option_and_then, slice_get};
+ghost use Rattle.std.specs.Prelude.{◌≡◌, ◌+◌, ◌-◌, ◌<◌, ◌≤◌, length, option_map, option_and_then};
+ghost use Rattle.std.specs.Prelude.{slice_get};
 ghost use Rattle.std.specs.Iterator.{at_most};
 ghost use Rattle.pdb_addresses.specs.Addresses.{IsInOrder, IsOrdered};
-ghost use Rattle.pdb_addresses.specs.Cursor.{IsAt, IsAtIn, left_of, next_source as next_source_of, source_before as source_before_of, sent_by_number, run_between as run_between_of, run_in_front, GivesRun};
-ghost use Rattle.pdb_addresses.specs.Omap.{source, record_at, records_of, sent_by as sent_by_record};
+ghost use Rattle.pdb_addresses.specs.Cursor.{IsAt, IsAtIn, left_of, next_source as next_source_of};
+ghost use Rattle.pdb_addresses.specs.Cursor.{source_before as source_before_of, sent_by_number};
+ghost use Rattle.pdb_addresses.specs.Cursor.{run_between as run_between_of, run_in_front, GivesRun};
+ghost use Rattle.pdb_addresses.specs.Omap.{source, record_at, records_of};
+ghost use Rattle.pdb_addresses.specs.Omap.{sent_by as sent_by_record};
 ghost use Rattle.pdb_addresses.specs.Ranges.{runs, image_ranges, internal_ranges, GivesNext};
 
 use crate::address_map::AddressMap;
@@ -14,7 +18,7 @@ use crate::rva::Rva;
 use std::marker::Model;
 use std::ops::Range;
 
-/// Where a walk over a map stands: so many records lie behind it, and the next address is this one.
+/// Where a walk over a map stands: `number` records were passed, and `address` comes next.
 #[derive(Clone, Copy, Debug)]
 pub(crate) struct Cursor {
     number: usize,
@@ -34,7 +38,7 @@ fn cursor_at(omap: Option<&[OMAPRecord]>, address: u32) -> Cursor
     Cursor { number, address }
 }
 
-/// The source of the record behind the cursor.
+/// The source of the record after the cursor.
 fn next_source(omap: Option<&[OMAPRecord]>, number: usize) -> Option<u32>
     ensures { result ≡ next_source_of (records_of omap.entry) number }
 {
@@ -63,7 +67,7 @@ fn source_at(records: &[OMAPRecord], number: usize) -> Option<u32>
     }
 }
 
-/// What an address becomes by the record of a number, counted from 1.
+/// What an address becomes by the record with that index, counted from 1.
 fn sent(omap: Option<&[OMAPRecord]>, at: Cursor) -> Option<u32>
     requires { IsAt (records_of omap) at.number at.address }
     ensures { result ≡ sent_by_number (records_of omap.entry) at.number at.address }
@@ -77,7 +81,8 @@ fn sent(omap: Option<&[OMAPRecord]>, at: Cursor) -> Option<u32>
 #[tactic(auto, using(crate::proofs::OmapLemmas::no_first, crate::proofs::OmapLemmas::record_before))]
 fn sent_in(records: &[OMAPRecord], at: Cursor) -> Option<u32>
     requires { IsAtIn records.now at.number at.address }
-    ensures { result ≡ option_and_then (sent_by_record at.address) (record_at records.now at.number) }
+    ensures { result ≡ option_and_then (sent_by_record at.address)
+        (record_at records.now at.number) }
 {
     if at.number == 0 {
         return None;
@@ -104,8 +109,10 @@ fn step(omap: Option<&[OMAPRecord]>, at: Cursor, end: u32) -> (Option<Range<u32>
     requires some { at.address < end }
     ensures at { IsAt (records_of omap.entry) result.1.number result.1.address }
     ensures bound { result.1.address ≤ end }
-    ensures runs { runs (records_of omap.entry) at.address end ≡ run_in_front at.number result.0 (runs (records_of omap.entry) result.1.address end) }
-    ensures on { left_of (records_of omap.entry) result.1.number + (end - result.1.address) < left_of (records_of omap.entry) at.number + (end - at.address) }
+    ensures runs { runs (records_of omap.entry) at.address end
+        ≡ run_in_front at.number result.0 (runs (records_of omap.entry) result.1.address end) }
+    ensures on { left_of (records_of omap.entry) result.1.number + (end - result.1.address)
+        < left_of (records_of omap.entry) at.number + (end - at.address) }
 {
     match source_before(omap, at.number, end) {
         Some(source) => {
@@ -130,7 +137,8 @@ fn find(omap: Option<&[OMAPRecord]>, at: Cursor, end: u32) -> (Option<Range<u32>
     requires order { IsInOrder (records_of omap) }
     requires at { IsAt (records_of omap) at.number at.address }
     ensures at { IsAt (records_of omap.entry) result.1.number result.1.address }
-    ensures gives { GivesRun (runs (records_of omap.entry) at.address end) result.0 (runs (records_of omap.entry) result.1.address end) }
+    ensures gives { GivesRun (runs (records_of omap.entry) at.address end) result.0
+        (runs (records_of omap.entry) result.1.address end) }
 {
     let mut cursor = at;
     while cursor.address < end {
@@ -186,8 +194,9 @@ impl<'t> RangeIter<'t> {
     }
 }
 
-/// What a range of internal RVAs becomes in the image, in the order of the range: one range for all addresses that go
-/// by one record. Addresses that become nothing are left out, and those that become 0xffffffff.
+/// What a range of internal RVAs becomes in the image, in the order of the range: one range for all
+/// addresses that go by one record. Addresses that become nothing are left out, and those that
+/// become 0xffffffff.
 #[derive(Debug, Drop)]
 pub struct RvaRangeIter<'t>(RangeIter<'t>);
 
@@ -215,15 +224,18 @@ impl<'t> Iterator for RvaRangeIter<'t> {
     }
 }
 
-/// What a range of RVAs becomes among the internal ones, in the order of the range: one range for all addresses that go
-/// by one record. Addresses that become nothing are left out, and those that become 0xffffffff.
+/// What a range of RVAs becomes among the internal ones, in the order of the range: one range for
+/// all addresses that go by one record. Addresses that become nothing are left out, and those that
+/// become 0xffffffff.
 #[derive(Debug, Drop)]
 pub struct PdbInternalRvaRangeIter<'t>(RangeIter<'t>);
 
 impl<'t> Model for PdbInternalRvaRangeIter<'t> {
     ghost use Rattle.std.specs.Prelude.{List, map};
     ghost use Rattle.std.specs.declared.ops.Range.{Range as Between};
-    ghost use Rattle.pdb_addresses.specs.declared.internal_rva.PdbInternalRva.{PdbInternalRva as Address};
+    ghost use Rattle.pdb_addresses.specs.declared.internal_rva.PdbInternalRva.{
+      PdbInternalRva as Address,
+    };
     ghost use Rattle.pdb_addresses.specs.Ranges.{internal_range};
 
     ghost Value = { List (Between Address) };

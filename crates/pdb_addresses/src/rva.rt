@@ -2,7 +2,8 @@
 
 ghost use Rattle.std.specs.Prelude.{◌≡◌, ◌+◌, ◌-◌, ◌%◌, ◌^◌, min, option_map};
 ghost use Rattle.pdb_addresses.specs.Addresses.{IsOrdered, inner, inner_place};
-ghost use Rattle.pdb_addresses.specs.Numbers.{in_32_bits, distance, distance_around, image_address, internal_address};
+ghost use Rattle.pdb_addresses.specs.Numbers.{in_32_bits, distance, distance_around, image_address};
+ghost use Rattle.pdb_addresses.specs.Numbers.{internal_address};
 ghost use Rattle.pdb_addresses.specs.Places.{image_place, internal_place as in_internal_space};
 ghost use Rattle.pdb_addresses.specs.Sections.{place as place_of};
 
@@ -31,7 +32,8 @@ impl Rva {
         map.image_sections().place(self.0)
     }
 
-    /// The internal place of its internal address; `None` where there is no such address, or no section holds it.
+    /// The internal place of its internal address; `None` where there is no such address, or no
+    /// section holds it.
     pub fn to_internal_offset(self, map: &AddressMap<'_>) -> Option<PdbInternalSectionOffset>
         requires { IsOrdered map.now }
         ensures { result ≡ option_map in_internal_space (inner_place map.now self.0) }
@@ -39,21 +41,21 @@ impl Rva {
         self.to_internal_rva(map)?.to_internal_offset(map)
     }
 
-    /// The address so many bytes on; `None` past 32 bits.
+    /// The address that many bytes further; `None` past 32 bits.
     pub fn checked_add(self, offset: u32) -> Option<Rva>
         ensures { result ≡ option_map image_address (in_32_bits (self.0 + offset)) }
     {
         self.0.checked_add(offset).map(Rva)
     }
 
-    /// The address so many bytes on, at most 0xffffffff.
+    /// The address that many bytes further, at most 0xffffffff.
     pub fn saturating_add(self, offset: u32) -> Rva
         ensures { result ≡ image_address (min (self.0 + offset) (2 ^ 32 - 1)) }
     {
         Rva(self.0.saturating_add(offset))
     }
 
-    /// The address so many bytes on, going on from 0 past 0xffffffff.
+    /// The address that many bytes further, which continues from 0 past 0xffffffff.
     pub fn wrapping_add(self, offset: u32) -> Rva
         ensures { result ≡ image_address ((self.0 + offset) % 2 ^ 32) }
     {

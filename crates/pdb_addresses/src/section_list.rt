@@ -3,7 +3,8 @@
 ghost use Rattle.std.specs.Prelude.{◌≡◌, ◌+◌, ◌<◌, ◌≤◌, ◌^◌, length, option_map, IfOk};
 ghost use Rattle.std.specs.List.{AllWithin};
 ghost use Rattle.std.specs.List.Sorted.{IsNonDecreasing};
-ghost use Rattle.pdb_addresses.specs.SectionOrder.{end_of as end_of_section, greatest_ends as greatest_ends_from, AreInOrder};
+ghost use Rattle.pdb_addresses.specs.SectionOrder.{end_of as end_of_section};
+ghost use Rattle.pdb_addresses.specs.SectionOrder.{greatest_ends as greatest_ends_from, AreInOrder};
 ghost use Rattle.pdb_addresses.specs.Places.{image_place, as_internal};
 ghost use Rattle.pdb_addresses.specs.SectionRun.{bounds, nearer as nearer_of, up_to_next};
 ghost use Rattle.pdb_addresses.specs.Sections.{place_in, place as place_of, address as address_of};
@@ -14,8 +15,9 @@ use crate::sections::ImageSectionHeader;
 use std::alloc::{AllocError, Global};
 use std::marker::Model;
 
-/// The sections of a space, in any order, and what is kept of them so that what concerns an address is found by halving:
-/// the greatest end of the sections up to each one, and where sections start and end, in ascending order.
+/// The sections of a space, in any order. Two lists are stored beside them, so that binary search
+/// finds what concerns an address: the greatest end of the sections up to each one, and where
+/// sections start and end, in ascending order.
 #[derive(Debug, Drop)]
 pub(crate) struct SectionList {
     headers: Vec<ImageSectionHeader>,
@@ -26,7 +28,9 @@ pub(crate) struct SectionList {
 impl Model for SectionList {
     ghost use Rattle.std.specs.Prelude.{List};
     ghost use Rattle.pdb_addresses.specs.SectionOrder.{AreKept};
-    ghost use Rattle.pdb_addresses.specs.declared.sections.ImageSectionHeader.{ImageSectionHeader as Header};
+    ghost use Rattle.pdb_addresses.specs.declared.sections.ImageSectionHeader.{
+      ImageSectionHeader as Header,
+    };
 
     ghost Value = { List Header };
 
@@ -58,16 +62,16 @@ impl SectionList {
         self.headers.as_slice()
     }
 
-    /// The place of an address: that of the first section that holds it, all before it and itself beginning at or below
-    /// it. `None` without such a section, and past section 65535.
+    /// The place of an address: that of the first section that holds it, all before it and itself
+    /// beginning at or below it. `None` without such a section, and past section 65535.
     pub(crate) fn place(&self, address: u32) -> Option<SectionOffset>
         ensures { result ≡ option_map image_place (place_of self.now address) }
     {
         place_among(&self.headers, &self.ends, address)
     }
 
-    /// The place of an address, and the lesser of `limit` and the distance to the next start or end of a section past
-    /// it.
+    /// The place of an address, and the lesser of `limit` and the distance to the next start or end
+    /// of a section past it.
     #[tactic(auto, using(crate::proofs::RunSteps::next_in_order))]
     pub(crate) fn run(&self, address: u32, limit: u32) -> (Option<SectionOffset>, u32)
         ensures place { result.0 ≡ option_map image_place (place_of self.now address) }
@@ -79,7 +83,8 @@ impl SectionList {
         )
     }
 
-    /// The address of an offset in the section of a number. `None` past 32 bits, and for a section that isn't there.
+    /// The address of an offset in the section with that index. `None` past 32 bits, and for a
+    /// section that isn't there.
     pub(crate) fn address(&self, section: u16, offset: u32) -> Option<u32>
         ensures { result ≡ address_of self.now section offset }
     {
@@ -135,7 +140,7 @@ fn bounds_in_order(alloc: Global, sections: &[ImageSectionHeader]) -> Result<Vec
     Ok(bounds)
 }
 
-/// How many numbers, which don't fall, lie at or below an address. It halves.
+/// How many numbers, which don't fall, lie at or below an address. It is a binary search.
 fn passed(numbers: &[u64], address: u32) -> usize
     requires { IsNonDecreasing numbers.now }
     ensures bound { result ≤ length numbers.now }
@@ -145,8 +150,9 @@ fn passed(numbers: &[u64], address: u32) -> usize
     numbers.partition_point(|number| *number <= u64::from(address))
 }
 
-/// The place of an address. No section before the first one whose greatest end lies past the address holds it, and that
-/// one ends there: it holds the address exactly if it begins at or below it.
+/// The place of an address. No section before the first one whose greatest end lies past the
+/// address holds it, and that one ends there: it holds the address exactly if it begins at or below
+/// it.
 fn place_among(sections: &[ImageSectionHeader], ends: &[u64], address: u32) -> Option<SectionOffset>
     requires { ends.now ≡ greatest_ends_from 0 sections.now }
     ensures { result ≡ option_map image_place (place_of sections.now address) }
@@ -161,7 +167,8 @@ fn place_among(sections: &[ImageSectionHeader], ends: &[u64], address: u32) -> O
     }
 }
 
-/// The place at an offset of the section with that index, counted from 0; `None` past section 65535.
+/// The place at an offset of the section with that index, counted from 0; `None` past section
+/// 65535.
 fn numbered(index: usize, offset: u32) -> Option<SectionOffset>
     ensures { result ≡ option_map image_place (place_in (index + 1) offset) }
 {
@@ -172,7 +179,8 @@ fn numbered(index: usize, offset: u32) -> Option<SectionOffset>
     Some(SectionOffset { offset, section })
 }
 
-/// The lesser of `limit` and the distance to the first of some bounds, which don't fall, past an address.
+/// The lesser of `limit` and the distance to the first of some bounds, which don't fall, past an
+/// address.
 #[tactic(auto, using(crate::proofs::RunSteps::none_past, crate::proofs::RunSteps::first_past))]
 fn run_length(bounds: &[u64], address: u32, limit: u32) -> u32
     requires { IsNonDecreasing bounds.now }
@@ -196,7 +204,8 @@ fn nearer(address: u32, bound: u64, far: u32) -> u32
     }
 }
 
-/// The address of an offset in the section of a number. `None` past 32 bits, and for a section that isn't there.
+/// The address of an offset in the section with that index. `None` past 32 bits, and for a section
+/// that isn't there.
 fn address(sections: &[ImageSectionHeader], section: u16, offset: u32) -> Option<u32>
     ensures { result ≡ address_of sections.now section offset }
 {

@@ -12,8 +12,8 @@ use crate::internal_section_offset::PdbInternalSectionOffset;
 use crate::rva::Rva;
 use std::cmp::Ordering;
 
-/// A section offset: a place in the image as it was loaded, as a section's number, counted from 1, and an offset in it
-/// in bytes.
+/// A section offset: a place in the image as it was loaded, as a section's number, counted from 1,
+/// and an offset in it in bytes.
 #[derive(Clone, Copy, Debug, Default, PartialEq, Eq, Hash)]
 pub struct SectionOffset {
     /// In bytes from the section's start.
@@ -43,31 +43,35 @@ impl PartialOrd for SectionOffset {
 impl SectionOffset {
     /// Its address in the image; `None` past 32 bits, and for a section that isn't there.
     pub fn to_rva(self, map: &AddressMap<'_>) -> Option<Rva>
-        ensures { result ≡ option_map image_address (address_of map.now.image self.section self.offset) }
+        ensures { result ≡ option_map image_address
+            (address_of map.now.image self.section self.offset) }
     {
         map.image_sections()
             .address(self.section, self.offset)
             .map(Rva)
     }
 
-    /// The internal address of its address; `None` where there is no such address, or the map sends it nowhere.
+    /// The internal address of its address; `None` where there is no such address, or the map sends
+    /// it nowhere.
     pub fn to_internal_rva(self, map: &AddressMap<'_>) -> Option<PdbInternalRva>
         requires { IsOrdered map.now }
-        ensures { result ≡ option_map internal_address (inner_of_place map.now self.section self.offset) }
+        ensures { result ≡ option_map internal_address
+            (inner_of_place map.now self.section self.offset) }
     {
         self.to_rva(map)?.to_internal_rva(map)
     }
 
-    /// The internal place of its address; `None` where there is no such address, the map sends it nowhere, or no
-    /// section holds what it becomes.
+    /// The internal place of its address; `None` where there is no such address, the map sends it
+    /// nowhere, or no section holds what it becomes.
     pub fn to_internal_offset(self, map: &AddressMap<'_>) -> Option<PdbInternalSectionOffset>
         requires { IsOrdered map.now }
-        ensures { result ≡ option_map internal_place (place_inside map.now self.section self.offset) }
+        ensures { result ≡ option_map internal_place
+            (place_inside map.now self.section self.offset) }
     {
         self.to_rva(map)?.to_internal_offset(map)
     }
 
-    /// The place so many bytes on, in the same section; `None` past 32 bits.
+    /// The place that many bytes further in the same section; `None` past 32 bits.
     pub fn checked_add(self, offset: u32) -> Option<SectionOffset>
         ensures { result ≡ option_map (image_place_at self) (in_32_bits (self.offset + offset)) }
     {
@@ -75,7 +79,7 @@ impl SectionOffset {
         Some(SectionOffset { offset, ..self })
     }
 
-    /// The place so many bytes on, in the same section, at most 0xffffffff.
+    /// The place that many bytes further in the same section, at most 0xffffffff.
     pub fn saturating_add(self, offset: u32) -> SectionOffset
         ensures { result ≡ image_place_at self (min (self.offset + offset) (2 ^ 32 - 1)) }
     {
@@ -85,7 +89,8 @@ impl SectionOffset {
         }
     }
 
-    /// The place so many bytes on, in the same section, going on from 0 past 0xffffffff.
+    /// The place that many bytes further in the same section, which continues from 0 past
+    /// 0xffffffff.
     pub fn wrapping_add(self, offset: u32) -> SectionOffset
         ensures { result ≡ image_place_at self ((self.offset + offset) % 2 ^ 32) }
     {

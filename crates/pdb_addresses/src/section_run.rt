@@ -11,9 +11,10 @@ use crate::internal_section_offset::PdbInternalSectionOffset;
 use crate::section_list::internal;
 
 impl<'s> AddressMap<'s> {
-    /// The place of an internal address, and over how many addresses from it on places go on as they begin: one by one
-    /// in the same section, or none at all. The count, in bytes, ends at the next start or end of an internal section
-    /// past the address, and is at most `limit`, which is at least 1 and leads no further than to the end of 32 bits.
+    /// The place of an internal address, and over how many addresses from it on places go on as
+    /// they begin: one by one in the same section, or none at all. The count, in bytes, ends at the
+    /// next start or end of an internal section past the address, and is at most `limit`, which is
+    /// at least 1 and leads no further than to the end of 32 bits.
     #[tactic(auto, using(crate::proofs::PlaceSteps::place_inside, crate::proofs::RunSteps::run_is_some, crate::proofs::RunSteps::places_go_on))]
     pub fn section_run(
         &self,
@@ -22,10 +23,12 @@ impl<'s> AddressMap<'s> {
     ) -> (Option<PdbInternalSectionOffset>, u32)
         requires some { 1 ≤ limit }
         requires within { address.0 + limit ≤ 2 ^ 32 }
-        ensures place { result.0 ≡ option_map in_internal_space (place_of self.now.internal address.0) }
+        ensures place { result.0 ≡ option_map in_internal_space
+            (place_of self.now.internal address.0) }
         ensures count { result.1 ≡ up_to_next (bounds self.now.internal) address.0 limit }
         ensures some { 1 ≤ result.1 }
-        ensures along { (k : ℕ) → k < result.1 → place_of self.now.internal (address.0 + k) ≡ place_on k (place_of self.now.internal address.0) }
+        ensures along { (k : ℕ) → k < result.1 → place_of self.now.internal (address.0 + k)
+            ≡ place_on k (place_of self.now.internal address.0) }
     {
         let (place, count) = self.internal_sections().run(address.0, limit);
         (internal(place), count)

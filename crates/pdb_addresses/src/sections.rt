@@ -3,7 +3,8 @@
 ghost use Rattle.std.specs.Prelude.{◌≡◌, ◌≤◌, [], length};
 ghost use Rattle.std.specs.Str.{IsUtf8};
 ghost use Rattle.pdb_container.specs.Fault.{Gives};
-ghost use Rattle.pdb_addresses.specs.Sections.{header_in as header_of, section_headers_of, text_before_nul, may_execute};
+ghost use Rattle.pdb_addresses.specs.Sections.{header_in as header_of, section_headers_of};
+ghost use Rattle.pdb_addresses.specs.Sections.{text_before_nul, may_execute};
 
 use pdb_container::{FromBuffer, ParseBuffer, Result, half_at, nul_in, parse_entries, word_at};
 use std::alloc::Global;
@@ -82,7 +83,8 @@ fn header_in(bytes: &[u8]) -> ImageSectionHeader
 impl ImageSectionHeader {
     /// The name: the bytes before the first NUL, and nothing where they aren't UTF-8.
     pub fn name(&self) -> &str
-        ensures text { IsUtf8 (text_before_nul self.now.name) → result.now ≡ text_before_nul self.now.name }
+        ensures text { IsUtf8 (text_before_nul self.now.name)
+            → result.now ≡ text_before_nul self.now.name }
         ensures other { (IsUtf8 (text_before_nul self.now.name) → ⊥) → result.now ≡ [] }
     {
         match std::str::from_utf8(before_nul(&self.name)) {
@@ -102,7 +104,10 @@ fn before_nul(bytes: &[u8]) -> &[u8]
     }
 }
 
-/// The section headers of a stream, to its end; `UnexpectedEof` where the last one is cut.
+/// The section headers of a stream, to its end.
+///
+/// # Errors
+/// `UnexpectedEof` where the last one is cut, `OutOfMemory`.
 pub fn parse_section_headers(alloc: Global, bytes: &[u8]) -> Result<Vec<ImageSectionHeader>>
     ensures { Gives (λ v. v.items) ⊥ result (section_headers_of bytes.now) }
 {

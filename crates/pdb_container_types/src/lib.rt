@@ -1,4 +1,5 @@
-//! What a program database is made of: its container, the records of types and ids, and the addresses of its image.
+//! What a program database is made of: its container, the records of types and ids, and the
+//! addresses of its image.
 #![tactic(auto)]
 
 pub use pdb_addresses::{

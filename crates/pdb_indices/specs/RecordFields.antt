@@ -1,6 +1,8 @@
--- Fields of records: each is a value and the bytes behind it, or the fault of what is missing.
--- Numeric leaves and names are those of microsoft-pdb's cvinfo.h and of LLVM's CodeView Type Records.
-use Rattle.std.specs.Prelude.{ℕ, ◌||◌, List, Option, Some, None, Ok, Err, nat_lt, ◌==◌, if◌then◌else◌, Result, zero, suc, [], ◌∷◌}
+-- Fields of records: each is a value and the bytes after it, or the fault of what is missing.
+-- Numeric leaves and names are those of microsoft-pdb's cvinfo.h and of LLVM's CodeView Type
+-- Records.
+use Rattle.std.specs.Prelude.{ℕ, ◌||◌, List, Option, Some, None, Ok, Err, nat_lt, ◌==◌}
+use Rattle.std.specs.Prelude.{if◌then◌else◌, Result, zero, suc, [], ◌∷◌}
 use Rattle.std.specs.Int.{w8, w16, w32, w64}
 use Rattle.pdb_container.specs.declared.error.Error.{Error}
 use Rattle.pdb_container.specs.Fault.{Fault, UnexpectedNumericPrefix, ◌>>=◌, Gives}
@@ -11,7 +13,8 @@ use Rattle.pdb_indices.specs.declared.variant.Variant.{Variant}
 use Rattle.pdb_indices.specs.declared.variant.Variant.TheVariants as variants
 
 -- A call returned what reading gives and advanced past it, unless memory was short.
-abbrev pub GivesFront : {X Y : Type 0} → (X → Y) → Result X Error → List ℕ → Result (Y × List ℕ) Fault → Type 0
+abbrev pub GivesFront : {X Y : Type 0} → (X → Y) → Result X Error → List ℕ
+    → Result (Y × List ℕ) Fault → Type 0
 GivesFront view result new read = Gives (λ x. (view x, new)) ⊥ result read
 
 -- ---- indices
@@ -42,7 +45,7 @@ optional_id_index_at bytes = do
 
 -- ---- numbers that say their own width
 
--- an unsigned number by its prefix: the prefix itself below 0x8000, or what stands behind it
+-- an unsigned number by its prefix: the prefix itself below 0x8000, or what follows it
 abbrev pub numeric_behind : ℕ → Reader ℕ
 numeric_behind prefix bytes =
     if nat_lt prefix 0x8000 then Ok (prefix, bytes)
@@ -58,11 +61,13 @@ numeric_at bytes = do
   prefix ← number_at w16 bytes
   numeric_behind prefix.0 prefix.1
 
--- a field that was read, made a value of another kind
-abbrev pub as_value : {A B : Type 0} → (A → B) → Result (A × List ℕ) Fault → Result (B × List ℕ) Fault
+-- a field that was read, converted to another kind of value
+abbrev pub as_value : {A B : Type 0} → (A → B) → Result (A × List ℕ) Fault
+    → Result (B × List ℕ) Fault
 as_value make read = read >>= λ x. Ok (make x.0, x.1)
 
--- a number with its width by its prefix, signed or not: the prefix itself below 0x8000, or what stands behind it
+-- a number with its width by its prefix, signed or not: the prefix itself below 0x8000, or what
+-- follows it
 abbrev pub variant_behind : ℕ → Reader Variant
 variant_behind prefix bytes =
     if nat_lt prefix 0x8000 then Ok (variants.U16 prefix, bytes)
@@ -89,7 +94,7 @@ name_at leaf bytes = if nat_lt 0x1500 leaf then c_string_at bytes else pascal_st
 
 -- ---- lists
 
--- so many values, one behind the other
+-- that many values, one after another
 unfoldable pub many_at : {A : Type 0} → Reader A → ℕ → Reader (List A)
 many_at one zero bytes = Ok ([], bytes)
 many_at one (suc n) bytes = do

@@ -3,7 +3,7 @@
 ghost use Rattle.std.specs.Prelude.{◌≡◌, ◌<◌, ◌^◌, ℕ};
 ghost use Rattle.pdb_indices.specs.Index.{is_cross_module};
 
-/// An index of the TPI (types) or the IPI (ids): a number of 32 bits, which tells types and ids apart by its own type.
+/// An index of the TPI (types) or the IPI (ids), 32 bits wide. Each of the two has its own type.
 pub trait ItemIndex: Copy + Default + PartialEq + PartialOrd + From<u32> + Into<u32> {
     /// The index as a number.
     ghost number: { Self → ℕ };
@@ -15,16 +15,16 @@ pub trait ItemIndex: Copy + Default + PartialEq + PartialOrd + From<u32> + Into<
     fn is_cross_module(self) -> bool
         ensures { result ≡ is_cross_module (number self) };
 
-    /// A number made an index and a number again is the same number.
+    /// Converting a number to an index and back gives the same number.
     ghost there_and_back: { (n : ℕ) → n < 2 ^ 32 → number (index n) ≡ n };
 
-    /// An index made a number and an index again is the same index.
+    /// Converting an index to a number and back gives the same index.
     ghost back_and_there: { (x : Self) → index (number x) ≡ x };
 
-    /// `from` gives the number's index.
+    /// `from` returns the number's index.
     ghost from_number: { (n : ℕ) (x : Self) → n < 2 ^ 32 → Self.From.from_gives n x → x ≡ index n };
 
-    /// `into` gives the index's number.
+    /// `into` returns the index's number.
     ghost to_number: { (x : Self) (n : ℕ) → Self.Into.converts x n → n ≡ number x };
 }
 
@@ -110,7 +110,8 @@ impl ItemIndex for IdIndex {
     ghost to_number = { id_index_into };
 }
 
-/// A cross-module index: an index as one module names it, which leads into another module where bit 31 is set.
+/// A cross-module index: an index as one module names it. Where bit 31 is set, it leads into
+/// another module.
 #[derive(Clone, Copy, Debug, Default, PartialEq, Eq, PartialOrd, Ord, Hash)]
 pub struct Local<I>(pub I);
 

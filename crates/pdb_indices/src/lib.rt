@@ -1,5 +1,6 @@
-//! Indices of types and ids, numeric leaves, and the fields of CodeView records: what all readers of records stand on.
-//! The layouts are those of microsoft-pdb's cvinfo.h and of LLVM's CodeView Type Records.
+//! Indices of types and ids, numeric leaves, and the fields of CodeView records: what all readers
+//! of records stand on. The layouts are those of microsoft-pdb's cvinfo.h and of LLVM's CodeView
+//! Type Records.
 #![tactic(auto)]
 
 mod index;

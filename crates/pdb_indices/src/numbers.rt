@@ -1,6 +1,7 @@
 //! File indices and symbol indices.
 
-/// A file index: the place of a file's entry among its module's checksums (`DEBUG_S_FILECHKSMS`), in bytes.
+/// A file index: the place of a file's entry among its module's checksums (`DEBUG_S_FILECHKSMS`),
+/// in bytes.
 #[derive(Clone, Copy, Debug, Default, PartialEq, Eq, PartialOrd, Ord, Hash)]
 pub struct FileIndex(pub u32);
 

@@ -1,9 +1,11 @@
-//! Fields of CodeView records: indices, names, and values one behind the other.
+//! Fields of CodeView records: indices, names, and values one after another.
 
 ghost use Rattle.std.specs.Prelude.{◌≡◌};
 ghost use Rattle.pdb_container.specs.Buffer.{rest, ParsesFront};
 ghost use Rattle.pdb_container.specs.RawString.{raw_bytes};
-ghost use Rattle.pdb_indices.specs.RecordFields.{GivesFront, type_index_at, id_index_at, optional_type_index_at, optional_id_index_at, name_at, many_at};
+ghost use Rattle.pdb_indices.specs.RecordFields.{GivesFront, type_index_at, id_index_at};
+ghost use Rattle.pdb_indices.specs.RecordFields.{optional_type_index_at, optional_id_index_at};
+ghost use Rattle.pdb_indices.specs.RecordFields.{name_at, many_at};
 
 use crate::index::{IdIndex, TypeIndex};
 use pdb_container::{FromBuffer, ParseBuffer, RawString, Result};
@@ -28,9 +30,13 @@ impl FromBuffer for IdIndex {
 }
 
 /// A type index, or none where the number is 0 or 0xffff.
+///
+/// # Errors
+/// `UnexpectedEof` where fewer than four bytes are left.
 #[tactic(auto, unfolding(crate::specs::RecordFields::optional_type_index_at))]
 pub fn parse_optional_type_index(buffer: &mut ParseBuffer<'_>) -> Result<Option<TypeIndex>>
-    ensures { ParsesFront (λ x. x) result (rest buffer.new) (optional_type_index_at (rest buffer.old)) }
+    ensures { ParsesFront (λ x. x) result (rest buffer.new)
+        (optional_type_index_at (rest buffer.old)) }
 {
     let number = buffer.parse_u32()?;
     if number == 0 || number == 0xffff {
@@ -40,9 +46,13 @@ pub fn parse_optional_type_index(buffer: &mut ParseBuffer<'_>) -> Result<Option<
 }
 
 /// An id index, or none where the number is 0 or 0xffff.
+///
+/// # Errors
+/// `UnexpectedEof` where fewer than four bytes are left.
 #[tactic(auto, unfolding(crate::specs::RecordFields::optional_id_index_at))]
 pub fn parse_optional_id_index(buffer: &mut ParseBuffer<'_>) -> Result<Option<IdIndex>>
-    ensures { ParsesFront (λ x. x) result (rest buffer.new) (optional_id_index_at (rest buffer.old)) }
+    ensures { ParsesFront (λ x. x) result (rest buffer.new)
+        (optional_id_index_at (rest buffer.old)) }
 {
     let number = buffer.parse_u32()?;
     if number == 0 || number == 0xffff {
@@ -52,6 +62,9 @@ pub fn parse_optional_id_index(buffer: &mut ParseBuffer<'_>) -> Result<Option<Id
 }
 
 /// A name in a record with that leaf: a C string above 0x1500, else a Pascal string.
+///
+/// # Errors
+/// `UnexpectedEof` where the C string has no NUL, or bytes of the Pascal string are missing.
 #[tactic(auto, unfolding(crate::specs::RecordFields::name_at))]
 pub fn parse_name<'t>(buffer: &mut ParseBuffer<'t>, leaf: u16) -> Result<RawString<'t>>
     ensures { ParsesFront raw_bytes result (rest buffer.new) (name_at leaf (rest buffer.old)) }
@@ -63,14 +76,18 @@ pub fn parse_name<'t>(buffer: &mut ParseBuffer<'t>, leaf: u16) -> Result<RawStri
     }
 }
 
-/// So many values, one behind the other. The room for them grows with what is read, and not with what is promised.
+/// That many values, one after another. Memory for them grows with what is read, not with `count`.
+///
+/// # Errors
+/// The error of the first value that can't be read, or `OutOfMemory`.
 #[tactic(auto, using(crate::proofs::Many::many_start, crate::proofs::Many::many_more, crate::proofs::Many::many_fail, crate::proofs::Many::many_done))]
 pub fn parse_many<T: FromBuffer + Drop>(
     alloc: Global,
     buffer: &mut ParseBuffer<'_>,
     count: u32,
 ) -> Result<Vec<T>>
-    ensures { GivesFront (λ v. v.items) result (rest buffer.new) (many_at T.read count (rest buffer.old)) }
+    ensures { GivesFront (λ v. v.items) result (rest buffer.new)
+        (many_at T.read count (rest buffer.old)) }
 {
     let mut values = Vec::new(alloc);
     for _ in 0..count {

@@ -27,7 +27,11 @@ pub enum Variant {
     I64(i64),
 }
 
-/// A numeric leaf that is no negative number. `UnexpectedNumericPrefix`, `UnexpectedEof`.
+/// A numeric leaf that is not signed.
+///
+/// # Errors
+/// `UnexpectedNumericPrefix` at another prefix from 0x8000 on, a signed one too; `UnexpectedEof`
+/// where bytes are missing.
 #[tactic(auto, unfolding(crate::specs::RecordFields::numeric_at))]
 pub fn parse_numeric(buffer: &mut ParseBuffer<'_>) -> Result<u64>
     ensures { ParsesFront (λ x. x) result (rest buffer.new) (numeric_at (rest buffer.old)) }
@@ -43,7 +47,11 @@ pub fn parse_numeric(buffer: &mut ParseBuffer<'_>) -> Result<u64>
     }
 }
 
-/// A numeric leaf as it is stored. `UnexpectedNumericPrefix`, `UnexpectedEof`.
+/// A numeric leaf as it is stored.
+///
+/// # Errors
+/// `UnexpectedNumericPrefix` at an unknown prefix from 0x8000 on; `UnexpectedEof` where bytes are
+/// missing.
 #[tactic(auto, unfolding(crate::specs::RecordFields::variant_at))]
 pub fn parse_variant(buffer: &mut ParseBuffer<'_>) -> Result<Variant>
     ensures { ParsesFront (λ x. x) result (rest buffer.new) (variant_at (rest buffer.old)) }

@@ -7,4 +7,6 @@ use Rattle.pdb_records.specs.TypeLeaves.{type_form_of}
 
 -- what a type is: below 0x1000 by its index alone, and else by its record
 abbrev pub type_of_item : ℕ → List ℕ → Result TypeForm Fault
-type_of_item index record_bytes = if nat_lt index 0x1000 then type_of_primitive index else type_form_of record_bytes
+type_of_item index record_bytes =
+    if nat_lt index 0x1000 then type_of_primitive index
+    else type_form_of record_bytes

@@ -1,8 +1,11 @@
--- Tables of types (TPI, stream 2) and of ids (IPI, stream 4): the header, the list of items, and the item of an index.
--- The layout is that of LLVM's The PDB TPI and IPI Streams.
-use Rattle.std.specs.Prelude.{ℕ, zero, suc, ◌+◌, ◌-◌, ◌^◌, List, [], ◌∷◌, length, drop, nat_lt, nat_le, if◌then◌else◌, Option, Some, None, Result, Ok, Err, codes, slice_get}
+-- Tables of types (TPI, stream 2) and of ids (IPI, stream 4): the header, the list of items, and
+-- the item with an index. The layout is that of LLVM's The PDB TPI and IPI Streams.
+use Rattle.std.specs.Prelude.{ℕ, zero, suc, ◌+◌, ◌-◌, ◌^◌, List, [], ◌∷◌, length, drop, nat_lt}
+use Rattle.std.specs.Prelude.{nat_le, if◌then◌else◌, Option, Some, None, Result, Ok, Err, codes}
+use Rattle.std.specs.Prelude.{slice_get}
 use Rattle.std.specs.Int.{w16, w32}
-use Rattle.pdb_container.specs.Fault.{Fault, UnexpectedEof, InvalidTypeInformationHeader, TypeTooShort, TypeNotFound, ◌>>=◌, refuse}
+use Rattle.pdb_container.specs.Fault.{Fault, UnexpectedEof, InvalidTypeInformationHeader}
+use Rattle.pdb_container.specs.Fault.{TypeTooShort, TypeNotFound, ◌>>=◌, refuse}
 use Rattle.pdb_container.specs.Fields.{Reader, number_at, bytes_of}
 use Rattle.pdb_container.specs.Listing.{Listing, before, ending}
 use Rattle.pdb_items.specs.declared.header.Header.{Header}
@@ -17,16 +20,23 @@ header_at bytes = do
   minimum ← number_at w32 size.1
   maximum ← number_at w32 minimum.1
   others ← bytes_of 40 maximum.1
-  Ok (record { header_size = size.0; minimum_index = minimum.0; maximum_index = maximum.0 }, others.1)
+  Ok (
+    record { header_size = size.0; minimum_index = minimum.0; maximum_index = maximum.0 },
+    others.1,
+  )
 
--- a header that fits a stream of so many bytes
+-- a header that fits a stream of that many bytes
 unfoldable pub fitting_header : ℕ → Header → Result Header Fault
 fitting_header count h = do
-  not_small ← refuse (nat_lt h.header_size 56) (InvalidTypeInformationHeader (codes "header size is impossibly small"))
-  not_large ← refuse (nat_lt 1024 h.header_size) (InvalidTypeInformationHeader (codes "header size is unreasonably large"))
+  not_small ← refuse (nat_lt h.header_size 56)
+      (InvalidTypeInformationHeader (codes "header size is impossibly small"))
+  not_large ← refuse (nat_lt 1024 h.header_size)
+      (InvalidTypeInformationHeader (codes "header size is unreasonably large"))
   there ← refuse (nat_lt count h.header_size) UnexpectedEof
-  minimum ← refuse (nat_lt h.minimum_index 4096) (InvalidTypeInformationHeader (codes "minimum type index is < 4096"))
-  ordered ← refuse (nat_lt h.maximum_index h.minimum_index) (InvalidTypeInformationHeader (codes "maximum type index is < minimum type index"))
+  minimum ← refuse (nat_lt h.minimum_index 4096)
+      (InvalidTypeInformationHeader (codes "minimum type index is < 4096"))
+  ordered ← refuse (nat_lt h.maximum_index h.minimum_index)
+      (InvalidTypeInformationHeader (codes "maximum type index is < minimum type index"))
   Ok h
 
 -- the header of a stream; an empty stream is a table without indices
@@ -46,7 +56,7 @@ pub record Table : Type 0 where
 abbrev pub table_in : Header → List ℕ → Table
 table_in h items = record { minimum = h.minimum_index; maximum = h.maximum_index; bytes = items }
 
--- a stream as a table: the items lie behind the header, to the stream's end
+-- a stream as a table: the items follow the header, to the stream's end
 unfoldable pub table_of : List ℕ → Result Table Fault
 table_of bytes = do
   h ← item_header_of bytes
@@ -54,19 +64,21 @@ table_of bytes = do
 
 -- ---- the list of items
 
--- an item: a length in two bytes, at least 2, and so many bytes
+-- an item: a length in two bytes, at least 2, and that many bytes
 unfoldable pub piece_at : Reader (List ℕ)
 piece_at bytes = do
   size ← number_at w16 bytes
   long ← refuse (nat_lt size.0 2) TypeTooShort
   bytes_of size.0 size.1
 
--- an item that was read, before the others in the bytes behind it; or the fault at which the list ends
-abbrev pub followed : (List ℕ → Listing (List ℕ)) → Result (List ℕ × List ℕ) Fault → Listing (List ℕ)
+-- an item that was read, before the others in the bytes after it; or the fault at which the list
+-- ends
+abbrev pub followed : (List ℕ → Listing (List ℕ)) → Result (List ℕ × List ℕ) Fault
+    → Listing (List ℕ)
 followed others (Ok read) = before read.0 (others read.1)
 followed others (Err e) = ending (Some e)
 
--- the items that the bytes hold, one behind the other, where so many indices are left for them
+-- the items that the bytes hold, one after another, where that many indices are left for them
 unfoldable pub items_within : ℕ → List ℕ → Listing (List ℕ)
 items_within room [] = ending None
 items_within zero (b ∷ bytes) = ending (Some (InvalidTypeInformationHeader (codes "maximum")))
@@ -80,7 +92,7 @@ items_from index bytes = items_within (2 ^ 32 - 1 - index) bytes
 abbrev pub items_of : Table → Listing (List ℕ)
 items_of t = items_from t.minimum t.bytes
 
--- ---- the item of an index
+-- ---- the item with an index
 
 -- an item that may be there, or else the end
 abbrev pub item_or_end : Option (List ℕ) → Option Fault → Result (Option (List ℕ)) Fault
@@ -98,10 +110,13 @@ found_or_fault index (Ok (Some item)) = Ok item
 found_or_fault index (Ok None) = Err (TypeNotFound index)
 found_or_fault index (Err e) = Err e
 
--- The bytes of the item of an index, by the whole list. Indices below the table's have an empty item.
+-- The bytes of the item with that index, by the whole list. Indices below the table's have an empty
+-- item.
 unfoldable pub item_at : Table → ℕ → Result (List ℕ) Fault
 item_at t index =
-    if nat_le t.maximum index then Err (TypeNotFound index) else (if nat_lt index t.minimum then Ok [] else found_or_fault index (item_number (items_of t) (index - t.minimum)))
+    if nat_le t.maximum index then Err (TypeNotFound index)
+    else (if nat_lt index t.minimum then Ok []
+    else found_or_fault index (item_number (items_of t) (index - t.minimum)))
 
 -- the first index past the list
 abbrev pub past_list : Table → ℕ

@@ -1,5 +1,6 @@
 -- What is known of an iterator and of a finder, and what they return.
-use Rattle.std.specs.Prelude.{ℕ, ◌+◌, ◌-◌, ◌*◌, ◌^◌, List, min, Bool, true, false, nat_lt, ◌==◌, ◌||◌, if◌then◌else◌, Option, Some, None, Result, Ok, Err}
+use Rattle.std.specs.Prelude.{ℕ, ◌+◌, ◌-◌, ◌*◌, ◌^◌, List, min, Bool, true, false, nat_lt, ◌==◌}
+use Rattle.std.specs.Prelude.{◌||◌, if◌then◌else◌, Option, Some, None, Result, Ok, Err}
 use Rattle.pdb_container.specs.Fault.{Fault, TypeNotIndexed}
 use Rattle.pdb_items.specs.Items.{Table, item_number, items_of, item_at, past_list}
 use Rattle.pdb_items.specs.declared.item_iter.Progress.{Progress}
@@ -7,47 +8,53 @@ use Rattle.pdb_items.specs.declared.item_iter.Progress.TheVariants as progress
 
 -- ---- an iterator
 
--- a table that is gone over: the index of the next item, and whether an end was returned
+-- an iteration over a table: the index of the next item, and whether an end was returned
 pub record ItemIteration : Type 0 where
   pub table : Table
   pub index : ℕ
   pub progress : Progress
 
--- a table of which nothing has been gone over
+-- an iteration that begins
 abbrev pub fresh_iteration : Table → ItemIteration
 fresh_iteration t = record { table = t; index = t.minimum; progress = progress.Reading }
 
--- what is returned at an index, by how far a table was gone over; after an end nothing
+-- what is returned at an index, by how far the iteration has come; after an end nothing
 abbrev pub answer_in_progress : Progress → Table → ℕ → Result (Option (List ℕ)) Fault
 answer_in_progress progress.Reading t index = item_number (items_of t) (index - t.minimum)
 answer_in_progress progress.Ended t index = Ok None
 answer_in_progress progress.Failed t index = Ok None
 
--- what an iterator returns next: an item, the end, or the fault at which the list ends; after an end nothing
+-- what an iterator returns next: an item, the end, or the fault at which the list ends; after an
+-- end nothing
 abbrev pub next_answer : ItemIteration → Result (Option (List ℕ)) Fault
 next_answer it = answer_in_progress it.progress it.table it.index
 
--- the progress behind an end, where there was none before
+-- the progress after an end, where there was none before
 abbrev pub at_end : Progress → Progress
 at_end progress.Reading = progress.Ended
 at_end progress.Ended = progress.Ended
 at_end progress.Failed = progress.Failed
 
--- the index of the next item, behind what was returned
+-- the index of the next item, after what was returned
 abbrev pub index_behind : ℕ → Result (Option (List ℕ)) Fault → ℕ
 index_behind index (Ok (Some item)) = index + 1
 index_behind index (Ok None) = index
 index_behind index (Err e) = index
 
--- the progress behind what was returned
+-- the progress after what was returned
 abbrev pub progress_behind : Progress → Result (Option (List ℕ)) Fault → Progress
 progress_behind p (Ok (Some item)) = p
 progress_behind p (Ok None) = at_end p
 progress_behind p (Err e) = progress.Failed
 
--- what is known behind what was returned
+-- what is known after what was returned
 abbrev pub iteration_behind : ItemIteration → Result (Option (List ℕ)) Fault → ItemIteration
-iteration_behind it answer = record { table = it.table; index = index_behind it.index answer; progress = progress_behind it.progress answer }
+iteration_behind it answer =
+    record {
+      table = it.table;
+      index = index_behind it.index answer;
+      progress = progress_behind it.progress answer;
+    }
 
 -- nothing more is returned
 abbrev pub HasEnded : Progress → Type 0
@@ -67,7 +74,8 @@ answered_end it = if ended_well it.progress then Some (past_list it.table) else 
 
 -- ---- a finder
 
--- a table, how many of its blocks of eight indices are known, and whether the end of its list is known
+-- a table, how many of its blocks of eight indices are known, and whether the end of its list is
+-- known
 pub record Finding : Type 0 where
   pub table : Table
   pub blocks : ℕ
@@ -77,7 +85,8 @@ pub record Finding : Type 0 where
 abbrev pub fresh_finding : Table → Finding
 fresh_finding t = record { table = t; blocks = 1; is_end_known = false }
 
--- the first index past the known blocks; below it lie these blocks and all indices below the table's
+-- the first index past the known blocks; below it lie these blocks and all indices below the
+-- table's
 abbrev pub first_unknown : Finding → ℕ
 first_unknown f = f.table.minimum + 8 * f.blocks
 
@@ -97,6 +106,8 @@ shown it f = record {
   is_end_known = f.is_end_known || ended_well it.progress;
 }
 
--- the bytes of the item of an index, or the fault
+-- the bytes of the item with that index, or the fault
 unfoldable pub find_in : Finding → ℕ → Result (List ℕ) Fault
-find_in f index = if nat_lt index (first_unknown f) then item_at f.table index else Err (TypeNotIndexed index (first_unknown f))
+find_in f index =
+    if nat_lt index (first_unknown f) then item_at f.table index
+    else Err (TypeNotIndexed index (first_unknown f))

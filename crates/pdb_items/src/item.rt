@@ -19,8 +19,8 @@ use std::alloc::Global;
 /// The first index of a type that has a record.
 const FIRST_RECORD: u32 = 0x1000;
 
-/// An item of the TPI or the IPI, a type or an id: its index, and its record, which begins with the leaf. An index
-/// below the table's has no bytes.
+/// An item of the TPI or the IPI, a type or an id: its index, and its record, which begins with the
+/// leaf. An index below the table's has no bytes.
 #[derive(Clone, Copy, Debug)]
 pub struct Item<'t, I> {
     pub(crate) index: I,
@@ -56,7 +56,10 @@ impl<'t, I: ItemIndex> Item<'t, I> {
         self.bytes
     }
 
-    /// The leaf (`LF_*`), which says what form the item has; `UnexpectedEof` where its two bytes are missing.
+    /// The leaf (`LF_*`), which says what form the item has.
+    ///
+    /// # Errors
+    /// `UnexpectedEof` where its two bytes are missing.
     pub fn raw_kind(&self) -> Result<u16>
         ensures { Parses (λ leaf. leaf) result (peeked (number_at w16) (item_bytes self.now)) }
     {
@@ -68,8 +71,8 @@ impl<'t> Item<'t, TypeIndex> {
     /// What the type is: below index 0x1000 by the index alone, and else by the record.
     ///
     /// # Errors
-    /// `TypeNotFound` below 0x1000, `UnimplementedTypeKind` for a leaf without a form, `UnexpectedEof` and others for a
-    /// record that can't be read; `OutOfMemory`.
+    /// `TypeNotFound` below 0x1000, `UnimplementedTypeKind` for a leaf without a form,
+    /// `UnexpectedEof` and others for a record that can't be read; `OutOfMemory`.
     pub fn parse(&self, alloc: Global) -> Result<TypeData<'t>>
         ensures { Gives shape ⊥ result (type_of_item self.now.index.0 (item_bytes self.now)) }
     {
@@ -86,8 +89,8 @@ impl<'t> Item<'t, IdIndex> {
     /// What the id is, by its record.
     ///
     /// # Errors
-    /// `UnimplementedTypeKind` for a leaf without a form, `UnexpectedEof` for a record that can't be read;
-    /// `OutOfMemory`.
+    /// `UnimplementedTypeKind` for a leaf without a form, `UnexpectedEof` for a record that can't
+    /// be read; `OutOfMemory`.
     pub fn parse(&self, alloc: Global) -> Result<IdData<'t>>
         ensures { Gives id_shape ⊥ result (id_form_of (item_bytes self.now)) }
     {

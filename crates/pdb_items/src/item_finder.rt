@@ -1,10 +1,12 @@
 //! Finders: items of the TPI or the IPI by their indices.
 
-ghost use Rattle.std.specs.Prelude.{◌≡◌, ◌+◌, ◌-◌, ◌*◌, ◌<◌, ◌≤◌, ◌^◌, length, drop, option_map, is_some, ◌||◌, IfOk, IsOkUnless};
+ghost use Rattle.std.specs.Prelude.{◌≡◌, ◌+◌, ◌-◌, ◌*◌, ◌<◌, ◌≤◌, ◌^◌, length, drop, option_map};
+ghost use Rattle.std.specs.Prelude.{is_some, ◌||◌, IfOk, IsOkUnless};
 ghost use Rattle.pdb_container.specs.Fault.{Parses};
 ghost use Rattle.pdb_items.specs.Item.{item_bytes};
 ghost use Rattle.pdb_items.specs.Items.{table_in, items_of, item_number, found_or_fault};
-ghost use Rattle.pdb_items.specs.IteratorAndFinder.{fresh_finding, first_unknown, last_known, known_end, shown, find_in};
+ghost use Rattle.pdb_items.specs.IteratorAndFinder.{fresh_finding, first_unknown, last_known};
+ghost use Rattle.pdb_items.specs.IteratorAndFinder.{known_end, shown, find_in};
 ghost use Rattle.pdb_items.specs.KeptPlaces.{IsPlaceAt, IsEnd, seen};
 
 use crate::header::Header;
@@ -16,8 +18,8 @@ use pdb_indices::ItemIndex;
 use std::alloc::Global;
 use std::marker::{Model, PhantomData};
 
-/// A finder of items by their indices. It knows the places of blocks of eight indices, of the first at once and of each
-/// further one from an iterator that is shown to it as it goes over the table.
+/// A finder of items by their indices. It knows the places of blocks of eight indices, of the first
+/// at once and of each further one from an iterator that is shown to it as it goes over the table.
 #[derive(Drop)]
 pub struct ItemFinder<'t, I> {
     header: Header,
@@ -36,9 +38,14 @@ impl<'t, I> Model for ItemFinder<'t, I> {
 
     ghost Value = { Finding };
 
-    ghost view = { λ f. record { table = table_in f.header f.items.now; blocks = f.blocks; is_end_known = is_some f.end } };
+    ghost view = { λ f. record {
+      table = table_in f.header f.items.now;
+      blocks = f.blocks;
+      is_end_known = is_some f.end;
+    } };
 
-    ghost invariant = { λ f. IsKeptOfTable (table_in f.header f.items.now) f.places.items f.blocks f.end };
+    ghost invariant = { λ f. IsKeptOfTable (table_in f.header f.items.now) f.places.items
+        f.blocks f.end };
 }
 
 impl<'t, I: ItemIndex> ItemFinder<'t, I> {
@@ -67,7 +74,8 @@ impl<'t, I: ItemIndex> ItemFinder<'t, I> {
         I::from(last.min(u64::from(u32::MAX)) as u32)
     }
 
-    /// The first index past the list, once an iterator was shown that had returned `None` at a good end.
+    /// The first index past the list, once an iterator was shown that had returned `None` at a good
+    /// end.
     pub fn end_index(&self) -> Option<I>
         ensures { result ≡ option_map I.index (known_end self.now) }
     {
@@ -77,8 +85,9 @@ impl<'t, I: ItemIndex> ItemFinder<'t, I> {
         }
     }
 
-    /// Learns from an iterator of the same table: the place of the block behind the known ones, where the iterator
-    /// stands at its first index, and the end of the list, where it returned that.
+    /// Learns from an iterator over the same table. If the iterator stands at the first unknown
+    /// index, the finder stores the place of that block. If the iterator has returned the end of
+    /// the list, it stores that.
     pub fn update(&mut self, iterator: &ItemIter<'_, I>)
         requires { iterator.now.table ≡ self.old.table }
         ensures { self.new ≡ shown iterator.now self.old }
@@ -89,11 +98,11 @@ impl<'t, I: ItemIndex> ItemFinder<'t, I> {
         self.add_end(iterator.end());
     }
 
-    /// The item (a type or an id) of an index.
+    /// The item (a type or an id) with that index.
     ///
     /// # Errors
-    /// `TypeNotIndexed` past the known blocks, `TypeNotFound` at or past the table's maximum and past a good end of its
-    /// list, and past a bad end the list's own fault.
+    /// `TypeNotIndexed` past the known blocks, `TypeNotFound` at or past the table's maximum and
+    /// past a good end of its list, and past a bad end the list's own fault.
     pub fn find(&self, index: I) -> Result<Item<'t, I>>
         ensures item { Parses item_bytes result (find_in self.now (I.number index)) }
         ensures index { IfOk result (λ item. item.index ≡ index) }
@@ -102,7 +111,7 @@ impl<'t, I: ItemIndex> ItemFinder<'t, I> {
         find_counting(self, index, &mut lengths)
     }
 
-    /// The bytes of the item of an index.
+    /// The bytes of the item with that index.
     #[tactic(auto, unfolding(crate::specs::IteratorAndFinder::find_in, crate::specs::Items::item_at))]
     fn piece_of(&self, index: u32, lengths: &mut u32) -> Result<&'t [u8]>
         requires none { lengths.old ≡ 0 }
@@ -122,13 +131,16 @@ impl<'t, I: ItemIndex> ItemFinder<'t, I> {
         self.known_item(index, lengths)
     }
 
-    /// The bytes of an index of the known blocks; `TypeNotFound` past a good end, past a bad one its fault.
+    /// The bytes of an index of the known blocks; `TypeNotFound` past a good end, past a bad one
+    /// its fault.
     fn known_item(&self, index: u32, lengths: &mut u32) -> Result<&'t [u8]>
         requires low { self.now.table.minimum ≤ index }
         requires known { index < first_unknown self.now }
         requires none { lengths.old ≡ 0 }
         ensures few { lengths.new ≤ 8 }
-        ensures item { Parses (λ piece. piece.now) result (found_or_fault index (item_number (items_of self.now.table) (index - self.now.table.minimum))) }
+        ensures item { Parses (λ piece. piece.now) result
+            (found_or_fault index
+            (item_number (items_of self.now.table) (index - self.now.table.minimum))) }
     {
         match self.known_piece(index, lengths) {
             Ok(Some(piece)) => Ok(piece),
@@ -144,7 +156,8 @@ impl<'t, I: ItemIndex> ItemFinder<'t, I> {
         requires known { index < first_unknown self.now }
         requires none { lengths.old ≡ 0 }
         ensures few { lengths.new ≤ 8 }
-        ensures item { Parses (seen (λ piece. piece.now)) result (item_number (items_of self.now.table) (index - self.now.table.minimum)) }
+        ensures item { Parses (seen (λ piece. piece.now)) result
+            (item_number (items_of self.now.table) (index - self.now.table.minimum)) }
     {
         let number = index - self.header.minimum_index;
         let skip = number % 8;
@@ -160,7 +173,7 @@ impl<'t, I: ItemIndex> ItemFinder<'t, I> {
         u64::from(self.header.minimum_index) + 8 * self.blocks as u64
     }
 
-    /// Keeps the place of the block behind the known ones.
+    /// Stores the place of the block after the known ones.
     #[tactic(auto, using(crate::proofs::Blocks::kept_more, crate::proofs::Blocks::room_left))]
     fn add_block(&mut self, place: usize)
         requires { IsPlaceAt self.old.table (first_unknown self.old) place }
@@ -170,10 +183,11 @@ impl<'t, I: ItemIndex> ItemFinder<'t, I> {
         self.blocks += 1;
     }
 
-    /// Keeps the end of the list, if it is given.
+    /// Stores the end of the list, if it is given.
     fn add_end(&mut self, end: Option<u32>)
         requires { IsEnd self.old.table end }
-        ensures { self.new ≡ record self.old { is_end_known = self.old.is_end_known || is_some end } }
+        ensures { self.new
+            ≡ record self.old { is_end_known = self.old.is_end_known || is_some end } }
     {
         if let Some(index) = end {
             self.end = Some(index);
@@ -181,8 +195,8 @@ impl<'t, I: ItemIndex> ItemFinder<'t, I> {
     }
 }
 
-/// The item of an index, as `ItemFinder::find` answers it. Counts the lengths of items that it reads:
-/// eight at most.
+/// The item with that index, as `ItemFinder::find` returns it. Counts the lengths of items that it
+/// reads: eight at most.
 ///
 /// # Errors
 /// Those of `ItemFinder::find`.

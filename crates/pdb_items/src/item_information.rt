@@ -55,14 +55,16 @@ impl<'s, I> Model for ItemInformation<'s, I> {
 
     ghost view = { λ t. table_in t.header (drop t.header.header_size t.stream) };
 
-    ghost invariant = { λ t. (t.header.header_size ≤ length t.stream) × (t.header.minimum_index ≤ t.header.maximum_index) };
+    ghost invariant = { λ t. (t.header.header_size ≤ length t.stream)
+        × (t.header.minimum_index ≤ t.header.maximum_index) };
 }
 
 impl<'s, I: ItemIndex> ItemInformation<'s, I> {
     /// The table that a stream holds; an empty stream is a table without indices.
     ///
     /// # Errors
-    /// `UnexpectedEof` where the header isn't there, `InvalidTypeInformationHeader` where it contradicts itself.
+    /// `UnexpectedEof` where the header isn't there, `InvalidTypeInformationHeader` where it
+    /// contradicts itself.
     #[tactic(auto, unfolding(crate::specs::Items::table_of))]
     pub fn parse(stream: Stream<'s>) -> Result<ItemInformation<'s, I>>
         ensures { Parses (λ t. t) result (table_of stream.entry) }
@@ -113,7 +115,7 @@ impl<'s, I: ItemIndex> ItemInformation<'s, I> {
     /// A finder of the items by their indices, with room for all that it will know.
     ///
     /// # Errors
-    /// `OutOfMemory` alone.
+    /// `OutOfMemory`, and no other.
     pub fn finder(&self, alloc: Global) -> Result<ItemFinder<'_, I>>
         ensures fresh { IfOk result (λ f. f ≡ fresh_finding self.now) }
         ensures memory { IsOkUnless result Error.OutOfMemory }
@@ -121,7 +123,7 @@ impl<'s, I: ItemIndex> ItemInformation<'s, I> {
         ItemFinder::over(alloc, self.header, self.items())
     }
 
-    /// The bytes behind the header.
+    /// The bytes after the header.
     fn items(&self) -> &[u8]
         ensures { result.now ≡ self.now.bytes }
     {

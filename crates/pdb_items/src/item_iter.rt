@@ -6,7 +6,8 @@ ghost use Rattle.pdb_container.specs.Buffer.{rest};
 ghost use Rattle.pdb_items.specs.Item.{found_bytes, HasIndex};
 ghost use Rattle.pdb_items.specs.Items.{table_in};
 ghost use Rattle.pdb_items.specs.KeptPlaces.{IsPlaceAt};
-ghost use Rattle.pdb_items.specs.IteratorAndFinder.{fresh_iteration, answered_end, HasEnded, next_answer, iteration_behind};
+ghost use Rattle.pdb_items.specs.IteratorAndFinder.{fresh_iteration, answered_end, HasEnded};
+ghost use Rattle.pdb_items.specs.IteratorAndFinder.{next_answer, iteration_behind};
 
 use crate::header::Header;
 use crate::item::Item;
@@ -26,7 +27,8 @@ pub enum Progress {
     Failed,
 }
 
-/// An iterator over the items of a table in their order. Where the list ends badly its fault is returned once.
+/// An iterator over the items of a table in their order. Where the list ends badly its fault is
+/// returned once.
 #[derive(Drop)]
 pub struct ItemIter<'t, I> {
     header: Header,
@@ -45,9 +47,14 @@ impl<'t, I> Model for ItemIter<'t, I> {
 
     ghost Value = { ItemIteration };
 
-    ghost view = { λ it. record { table = table_in it.header it.buffer.bytes; index = it.index; progress = it.progress } };
+    ghost view = { λ it. record {
+      table = table_in it.header it.buffer.bytes;
+      index = it.index;
+      progress = it.progress;
+    } };
 
-    ghost invariant = { λ it. IsBefore (table_in it.header it.buffer.bytes) it.index (rest it.buffer)
+    ghost invariant = { λ it. IsBefore (table_in it.header it.buffer.bytes) it.index
+        (rest it.buffer)
         × IsRightEnd (ended_well it.progress) it.index (table_in it.header it.buffer.bytes) };
 }
 

@@ -1,4 +1,4 @@
-//! Items, one behind the other.
+//! Items, one after another.
 
 ghost use Rattle.std.specs.Prelude.{◌≡◌, ◌+◌, ◌-◌, ◌^◌, ◌<◌, ◌≤◌, length, drop};
 ghost use Rattle.pdb_container.specs.Buffer.{rest, ReadsInSteps};
@@ -8,8 +8,8 @@ ghost use Rattle.pdb_items.specs.KeptPlaces.{Steps, seen};
 
 use pdb_container::{Error, ParseBuffer, Result};
 
-/// The item at the buffer's place, without its length; the place may have moved where it is refused. Counts the length
-/// that it reads.
+/// The item at the buffer's place, without its length; the place may have moved where it is
+/// refused. Counts the length that it reads.
 #[tactic(auto, unfolding(crate::specs::Items::piece_at))]
 fn parse_piece<'b>(buffer: &mut ParseBuffer<'b>, lengths: &mut u32) -> Result<&'b [u8]>
     requires { lengths.old < 2 ^ 32 - 1 }
@@ -24,8 +24,8 @@ fn parse_piece<'b>(buffer: &mut ParseBuffer<'b>, lengths: &mut u32) -> Result<&'
     buffer.take(usize::from(size))
 }
 
-/// The item at the buffer's place, which would get this index; `None` at the end. At an end the place stays. Counts a
-/// length that it reads.
+/// The item at the buffer's place, which would get this index; `None` at the end. At an end the
+/// place stays. Counts a length that it reads.
 #[tactic(auto, using(crate::proofs::Pieces::items_end, crate::proofs::Pieces::items_full, crate::proofs::Pieces::items_next, crate::proofs::Pieces::items_fail, crate::proofs::Pieces::piece_takes))]
 pub fn next_piece<'b>(
     buffer: &mut ParseBuffer<'b>,
@@ -52,7 +52,8 @@ pub fn next_piece<'b>(
     }
 }
 
-/// The item so many items behind the first, whose index is `first`. Counts the lengths that it reads: eight at most.
+/// The item `skip` items after the first one, whose index is `first`. Counts the lengths that it
+/// reads, at most eight.
 #[tactic(auto, using(crate::proofs::Walks::walk_start, crate::proofs::Walks::walk_more, crate::proofs::Walks::walk_end, crate::proofs::Walks::walk_fault, crate::proofs::Walks::walk_last))]
 pub fn walk<'b>(
     bytes: &'b [u8],
@@ -63,7 +64,8 @@ pub fn walk<'b>(
     requires fits { first + skip < 2 ^ 32 }
     requires short { skip < 8 }
     requires none { lengths.old ≡ 0 }
-    ensures item { Parses (seen (λ piece. piece.now)) result (item_number (items_from first bytes.now) skip) }
+    ensures item { Parses (seen (λ piece. piece.now)) result
+        (item_number (items_from first bytes.now) skip) }
     ensures few { lengths.new ≤ 8 }
 {
     let mut buffer = ParseBuffer::from(bytes);
@@ -77,7 +79,7 @@ pub fn walk<'b>(
     next_piece(&mut buffer, first + skip, lengths)
 }
 
-/// The bytes behind a place.
+/// The bytes from a place on.
 pub fn behind(bytes: &[u8], place: usize) -> &[u8]
     requires { place ≤ length bytes.now }
     ensures { result.now ≡ drop place bytes.now }

@@ -12,8 +12,11 @@ use crate::item_iter::ItemIter;
 use pdb_container::Result;
 use pdb_indices::ItemIndex;
 
-/// An index that a finder knows has one answer, by the whole table, whatever is shown to the finder in between; and
-/// what is shown is known then.
+/// An index that a finder knows has one answer, by the whole table, whatever is shown to the finder
+/// in between. What was shown is known from then on.
+///
+/// # Errors
+/// Both answers are the fault that the table has at that index.
 #[tactic(auto, unfolding(crate::specs::IteratorAndFinder::find_in))]
 pub fn one_answer<'t, I: ItemIndex>(
     finder: &mut ItemFinder<'t, I>,
@@ -31,8 +34,8 @@ pub fn one_answer<'t, I: ItemIndex>(
     (before, finder.find(index))
 }
 
-/// Finders of two tables, each shown an iterator of its own table, know what that one told, and stay finders of these
-/// tables.
+/// Two finders, each shown an iterator over its own table, know what that iterator showed. Each
+/// still belongs to its table.
 pub fn two_finders<'s, 't, I: ItemIndex>(
     first: &mut ItemFinder<'s, I>,
     of_first: &ItemIter<'_, I>,

@@ -1,5 +1,5 @@
-//! Tables of types (TPI, stream 2) and of ids (IPI, stream 4): their items in order, and by their indices. The layout
-//! is that of LLVM's The PDB TPI and IPI Streams.
+//! Tables of types (TPI, stream 2) and of ids (IPI, stream 4): their items in order, and by their
+//! indices. The layout is that of LLVM's The PDB TPI and IPI Streams.
 #![tactic(auto)]
 
 mod header;

@@ -1,5 +1,6 @@
--- Attributes of types, members and pointers: bits of a number, the lowest counted as bit 0.
--- The bits are those of CV_prop_t, CV_fldattr_t, CV_funcattr_t and lfPointer in microsoft-pdb's cvinfo.h.
+-- Attributes of types, members and pointers: bits of a number, the lowest counted as bit 0. The
+-- bits are those of CV_prop_t, CV_fldattr_t, CV_funcattr_t and lfPointer in microsoft-pdb's
+-- cvinfo.h.
 use Rattle.std.specs.Prelude.{ℕ, ◌/◌, ◌%◌, ◌^◌, Bool, ◌||◌, ◌&&◌, ◌==◌, nat_le, if◌then◌else◌}
 use Rattle.pdb_records.specs.declared.type_attributes.TypeProperties.{TypeProperties}
 use Rattle.pdb_records.specs.declared.type_attributes.FieldAttributes.{FieldAttributes}
@@ -93,4 +94,6 @@ size_of_kind kind = if kind == 0xa || kind == 0xb then 4 else (if kind == 0xc th
 
 -- the size in bytes
 abbrev pub size_of_pointer : PointerAttributes → ℕ
-size_of_pointer a = if a.0 / 2 ^ 13 % 64 == 0 then size_of_kind (kind_number a) else a.0 / 2 ^ 13 % 64
+size_of_pointer a =
+    if a.0 / 2 ^ 13 % 64 == 0 then size_of_kind (kind_number a)
+    else a.0 / 2 ^ 13 % 64

@@ -1,4 +1,5 @@
--- What a record says, with the bytes of its names and the elements of its lists in place of where they lie.
+-- What a record says, with the bytes of its names and the elements of its lists in place of where
+-- they lie.
 use Rattle.std.specs.Prelude.{ℕ, List, Option}
 use Rattle.pdb_indices.specs.declared.index.TypeIndex.{TypeIndex}
 use Rattle.pdb_records.specs.declared.primitive.PrimitiveType.{PrimitiveType}
@@ -9,14 +10,17 @@ use Rattle.pdb_records.specs.declared.type_data.ClassKind.{ClassKind}
 use Rattle.pdb_records.specs.declared.type_data.MemberFunctionType.{MemberFunctionType}
 use Rattle.pdb_records.specs.declared.type_data.BaseClassType.{BaseClassType}
 use Rattle.pdb_records.specs.declared.type_data.VirtualBaseClassType.{VirtualBaseClassType}
-use Rattle.pdb_records.specs.declared.type_data.VirtualFunctionTablePointerType.{VirtualFunctionTablePointerType}
+use Rattle.pdb_records.specs.declared.type_data.VirtualFunctionTablePointerType.{
+  VirtualFunctionTablePointerType,
+}
 use Rattle.pdb_records.specs.declared.type_data.ProcedureType.{ProcedureType}
 use Rattle.pdb_records.specs.declared.type_data.PointerType.{PointerType}
 use Rattle.pdb_records.specs.declared.type_data.ModifierType.{ModifierType}
 use Rattle.pdb_records.specs.declared.type_data.BitfieldType.{BitfieldType}
 use Rattle.pdb_records.specs.declared.type_data.MethodListEntry.{MethodListEntry}
 
--- a class, struct or interface (LF_CLASS, LF_STRUCTURE, LF_INTERFACE, LF_STRUCTURE19); its size in bytes
+-- a class, struct or interface (LF_CLASS, LF_STRUCTURE, LF_INTERFACE, LF_STRUCTURE19); its size in
+-- bytes
 pub record ClassForm : Type 0 where
   pub kind : ClassKind
   pub count : ℕ
@@ -41,7 +45,8 @@ pub record OverloadedMethodForm : Type 0 where
   pub method_list : TypeIndex
   pub name : List ℕ
 
--- a method that is alone of its name (LF_ONEMETHOD); with its offset in the virtual table, if it introduces one
+-- a method that is alone of its name (LF_ONEMETHOD); with its offset in the virtual table, if it
+-- introduces one
 pub record MethodForm : Type 0 where
   pub attributes : FieldAttributes
   pub method_type : TypeIndex

@@ -1,4 +1,5 @@
--- What a record of an id says, with the bytes of its name and the elements of its list in place of where they lie.
+-- What a record of an id says, with the bytes of its name and the elements of its list in place of
+-- where they lie.
 use Rattle.std.specs.Prelude.{ℕ, List, Option}
 use Rattle.pdb_indices.specs.declared.index.TypeIndex.{TypeIndex}
 use Rattle.pdb_indices.specs.declared.index.IdIndex.{IdIndex}
@@ -38,11 +39,13 @@ pub data IdForm : Type 0 where
 
 -- what a function's value says
 abbrev pub function_form : FunctionId → FunctionForm
-function_form t = record { scope = t.scope; function_type = t.function_type; name = raw_bytes t.name }
+function_form t =
+    record { scope = t.scope; function_type = t.function_type; name = raw_bytes t.name }
 
 -- what a method's value says
 abbrev pub member_function_form : MemberFunctionId → MemberFunctionForm
-member_function_form t = record { parent = t.parent; function_type = t.function_type; name = raw_bytes t.name }
+member_function_form t =
+    record { parent = t.parent; function_type = t.function_type; name = raw_bytes t.name }
 
 -- what a text's value says
 abbrev pub string_form : StringId → StringForm

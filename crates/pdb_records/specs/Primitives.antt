@@ -1,5 +1,6 @@
--- Primitive types, which have no record: the low byte of their index says the kind, the bits above how a pointer to it
--- is held. The numbers are TYPE_ENUM_e of microsoft-pdb's cvinfo.h, which LLVM's The PDB TPI and IPI Streams describes.
+-- Primitive types, which have no record: the low byte of their index says the kind, the bits above
+-- how a pointer to it is held. The numbers are TYPE_ENUM_e of microsoft-pdb's cvinfo.h, which
+-- LLVM's The PDB TPI and IPI Streams describes.
 use Rattle.std.specs.Prelude.{ℕ, ◌/◌, ◌%◌, Option, Some, None, Result, Ok, Err, ◌==◌, if◌then◌else◌}
 use Rattle.pdb_container.specs.Fault.{Fault, TypeNotFound, ◌>>=◌}
 use Rattle.pdb_records.specs.declared.primitive.PrimitiveKind.{PrimitiveKind}
@@ -63,7 +64,7 @@ real_kind_numbered n =
     else (if n == 0x53 then Some kinds.Complex128
     else sized_kind_numbered n))))))))))))))
 
--- kinds of no type, of nothing, of results, and of whole numbers named by words
+-- kinds of no type, of nothing, of results, and of whole numbers with names such as long
 unfoldable pub older_kind_numbered : ℕ → Option PrimitiveKind
 older_kind_numbered n =
     if n == 0x00 then Some kinds.NoType
@@ -82,15 +83,18 @@ older_kind_numbered n =
     else real_kind_numbered n))))))))))))
 
 -- a primitive type by its pointer and its kind, which both have to be known
-abbrev pub primitive_from : ℕ → Option (Option Indirection) → Option PrimitiveKind → Result PrimitiveType Fault
+abbrev pub primitive_from : ℕ → Option (Option Indirection) → Option PrimitiveKind
+    → Result PrimitiveType Fault
 primitive_from index None kind = Err (TypeNotFound index)
 primitive_from index (Some pointer) None = Err (TypeNotFound index)
 primitive_from index (Some pointer) (Some kind) = Ok record { kind = kind; indirection = pointer }
 
--- the primitive type of an index: how it is held by the bits above the low byte, its kind by the low byte
+-- the primitive type with that index: how it is held by the bits above the low byte, its kind by
+-- the low byte
 unfoldable pub primitive_of : ℕ → Result PrimitiveType Fault
-primitive_of index = primitive_from index (pointer_numbered (index / 256)) (older_kind_numbered (index % 256))
+primitive_of index = primitive_from index (pointer_numbered (index / 256))
+    (older_kind_numbered (index % 256))
 
--- the primitive type of an index, as what a type's record says
+-- the primitive type with that index, as what a type's record says
 abbrev pub type_of_primitive : ℕ → Result TypeForm Fault
 type_of_primitive index = primitive_of index >>= λ t. Ok (forms.Plain (forms.Primitive t))

@@ -42,23 +42,38 @@ class_form t =
 
 -- what a member's value says
 abbrev pub member_form : MemberType → forms.MemberForm
-member_form t = record { attributes = t.attributes; field_type = t.field_type; offset = t.offset; name = raw_bytes t.name }
+member_form t =
+    record {
+      attributes = t.attributes;
+      field_type = t.field_type;
+      offset = t.offset;
+      name = raw_bytes t.name;
+    }
 
 -- what the value of methods of one name says
 abbrev pub overloaded_method_form : OverloadedMethodType → forms.OverloadedMethodForm
-overloaded_method_form t = record { count = t.count; method_list = t.method_list; name = raw_bytes t.name }
+overloaded_method_form t =
+    record { count = t.count; method_list = t.method_list; name = raw_bytes t.name }
 
 -- what a method's value says
 abbrev pub method_form : MethodType → forms.MethodForm
-method_form t = record { attributes = t.attributes; method_type = t.method_type; vtable_offset = t.vtable_offset; name = raw_bytes t.name }
+method_form t =
+    record {
+      attributes = t.attributes;
+      method_type = t.method_type;
+      vtable_offset = t.vtable_offset;
+      name = raw_bytes t.name;
+    }
 
 -- what the value of a member that all objects share says
 abbrev pub static_member_form : StaticMemberType → forms.StaticMemberForm
-static_member_form t = record { attributes = t.attributes; field_type = t.field_type; name = raw_bytes t.name }
+static_member_form t =
+    record { attributes = t.attributes; field_type = t.field_type; name = raw_bytes t.name }
 
 -- what the value of a type named inside another one says
 abbrev pub nested_form : NestedType → forms.NestedForm
-nested_form t = record { attributes = t.attributes; nested_type = t.nested_type; name = raw_bytes t.name }
+nested_form t =
+    record { attributes = t.attributes; nested_type = t.nested_type; name = raw_bytes t.name }
 
 -- what an enumeration's value says
 abbrev pub enumeration_form : EnumerationType → forms.EnumerationForm
@@ -78,7 +93,13 @@ enumerate_form t = record { attributes = t.attributes; value = t.value; name = r
 
 -- what an array's value says
 abbrev pub array_form : ArrayType → forms.ArrayForm
-array_form t = record { element_type = t.element_type; indexing_type = t.indexing_type; stride = t.stride; dimensions = t.dimensions.items }
+array_form t =
+    record {
+      element_type = t.element_type;
+      indexing_type = t.indexing_type;
+      stride = t.stride;
+      dimensions = t.dimensions.items;
+    }
 
 -- what a union's value says
 abbrev pub union_form : UnionType → forms.UnionForm
@@ -92,7 +113,7 @@ union_form t =
       unique_name = option_map raw_bytes t.unique_name;
     }
 
--- one level of a type: lists of members aside
+-- one level of a type, except lists of members
 abbrev pub plain_level : {A B : Type 0} → TypeData-F A B → PlainForm
 plain_level (open_data.Primitive t) = forms.Primitive t
 plain_level (open_data.Class t) = forms.Class (class_form t)
@@ -123,7 +144,8 @@ plain_shape t = plain_level (out-TypeData t)
 
 -- what the value of a list of members says
 abbrev pub field_list_shape : field_list.FieldList → TypeForm
-field_list_shape t = forms.FieldList (map plain_shape (field_list.out-FieldList t).fields.items) (field_list.out-FieldList t).continuation
+field_list_shape t = forms.FieldList (map plain_shape (field_list.out-FieldList t).fields.items)
+    (field_list.out-FieldList t).continuation
 
 -- what a type's value says, opened by one level
 abbrev pub level : TypeData-F TypeData field_list.FieldList → TypeForm

@@ -45,11 +45,11 @@ pub struct MemberFunctionId<'t> {
 /// Build information (`LF_BUILDINFO`): how a module was built.
 #[derive(Debug, Drop)]
 pub struct BuildInfoId {
-    /// The ids of texts: the folder, the tool, its source, its database and its words.
+    /// The ids of texts: the folder, the tool, its source, its database and its arguments.
     pub arguments: Vec<IdIndex>,
 }
 
-/// A list of strings (`LF_SUBSTR_LIST`): the parts of a text, one behind the other.
+/// A list of strings (`LF_SUBSTR_LIST`): the parts of a text, one after another.
 #[derive(Debug, Drop)]
 pub struct StringListId {
     /// The indices of the parts.

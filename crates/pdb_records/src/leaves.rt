@@ -1,5 +1,5 @@
-//! Leaves (`LF_*`, LEAF_ENUM_e of microsoft-pdb's cvinfo.h): the numbers that say what a record is. Names that end in
-//! `_ST` are those of older records, with Pascal strings.
+//! Leaves (`LF_*`, LEAF_ENUM_e of microsoft-pdb's cvinfo.h): the numbers that say what a record is.
+//! Names that end in `_ST` are those of older records, with Pascal strings.
 
 /// A base class.
 pub const LF_BCLASS: u16 = 0x1400;

@@ -1,5 +1,5 @@
-//! CodeView records of types and ids, by their leaves (`LF_*`). The layouts are those of microsoft-pdb's cvinfo.h and
-//! of LLVM's CodeView Type Records, as the pdb crate reads them.
+//! CodeView records of types and ids, by their leaves (`LF_*`). The layouts are those of
+//! microsoft-pdb's cvinfo.h and of LLVM's CodeView Type Records, as the pdb crate reads them.
 #![tactic(auto)]
 
 mod id_data;

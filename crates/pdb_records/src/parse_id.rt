@@ -5,7 +5,12 @@ ghost use Rattle.pdb_container.specs.Buffer.{rest, ParsesFront};
 ghost use Rattle.pdb_container.specs.Fault.{Gives};
 ghost use Rattle.pdb_records.specs.IdForms as forms;
 ghost use Rattle.pdb_records.specs.IdForms.{id_shape};
-ghost use Rattle.pdb_records.specs.IdRecords.{optional_id as id_or_none, two_words_at, source_in as source_of, module_source_in as module_source_of, function_id_at, member_function_id_at, build_info_at, string_list_at, string_at, source_at, module_source_at, id_form_behind, id_form_of};
+ghost use Rattle.pdb_records.specs.IdRecords.{optional_id as id_or_none, two_words_at};
+ghost use Rattle.pdb_records.specs.IdRecords.{source_in as source_of};
+ghost use Rattle.pdb_records.specs.IdRecords.{module_source_in as module_source_of, function_id_at};
+ghost use Rattle.pdb_records.specs.IdRecords.{member_function_id_at, build_info_at, string_list_at};
+ghost use Rattle.pdb_records.specs.IdRecords.{string_at, source_at, module_source_at};
+ghost use Rattle.pdb_records.specs.IdRecords.{id_form_behind, id_form_of};
 ghost use Rattle.pdb_indices.specs.RecordFields.{GivesFront, as_value};
 
 use crate::id_data::{
@@ -37,7 +42,8 @@ fn parse_two_words(buffer: &mut ParseBuffer<'_>) -> Result<(u32, u32)>
 
 #[tactic(auto, unfolding(crate::specs::IdRecords::function_id_at))]
 fn parse_function<'t>(buffer: &mut ParseBuffer<'t>, leaf: u16) -> Result<IdData<'t>>
-    ensures { ParsesFront id_shape result (rest buffer.new) (as_value forms.Function (function_id_at leaf (rest buffer.old))) }
+    ensures { ParsesFront id_shape result (rest buffer.new)
+        (as_value forms.Function (function_id_at leaf (rest buffer.old))) }
 {
     let (scope, function_type) = parse_two_words(buffer)?;
     let name = parse_name(buffer, leaf)?;
@@ -50,7 +56,8 @@ fn parse_function<'t>(buffer: &mut ParseBuffer<'t>, leaf: u16) -> Result<IdData<
 
 #[tactic(auto, unfolding(crate::specs::IdRecords::member_function_id_at))]
 fn parse_member_function<'t>(buffer: &mut ParseBuffer<'t>, leaf: u16) -> Result<IdData<'t>>
-    ensures { ParsesFront id_shape result (rest buffer.new) (as_value forms.MemberFunction (member_function_id_at leaf (rest buffer.old))) }
+    ensures { ParsesFront id_shape result (rest buffer.new)
+        (as_value forms.MemberFunction (member_function_id_at leaf (rest buffer.old))) }
 {
     let (parent, function_type) = parse_two_words(buffer)?;
     let name = parse_name(buffer, leaf)?;
@@ -63,7 +70,8 @@ fn parse_member_function<'t>(buffer: &mut ParseBuffer<'t>, leaf: u16) -> Result<
 
 #[tactic(auto, unfolding(crate::specs::IdRecords::build_info_at))]
 fn parse_build_info<'t>(alloc: Global, buffer: &mut ParseBuffer<'t>) -> Result<IdData<'t>>
-    ensures { GivesFront id_shape result (rest buffer.new) (as_value forms.BuildInfo (build_info_at (rest buffer.old))) }
+    ensures { GivesFront id_shape result (rest buffer.new)
+        (as_value forms.BuildInfo (build_info_at (rest buffer.old))) }
 {
     let count = buffer.parse_u16()?;
     let arguments = parse_many::<IdIndex>(alloc, buffer, u32::from(count))?;
@@ -72,7 +80,8 @@ fn parse_build_info<'t>(alloc: Global, buffer: &mut ParseBuffer<'t>) -> Result<I
 
 #[tactic(auto, unfolding(crate::specs::IdRecords::string_list_at))]
 fn parse_string_list<'t>(alloc: Global, buffer: &mut ParseBuffer<'t>) -> Result<IdData<'t>>
-    ensures { GivesFront id_shape result (rest buffer.new) (as_value forms.StringList (string_list_at (rest buffer.old))) }
+    ensures { GivesFront id_shape result (rest buffer.new)
+        (as_value forms.StringList (string_list_at (rest buffer.old))) }
 {
     let count = buffer.parse_u32()?;
     let substrings = parse_many::<TypeIndex>(alloc, buffer, count)?;
@@ -81,7 +90,8 @@ fn parse_string_list<'t>(alloc: Global, buffer: &mut ParseBuffer<'t>) -> Result<
 
 #[tactic(auto, unfolding(crate::specs::IdRecords::string_at))]
 fn parse_string<'t>(buffer: &mut ParseBuffer<'t>, leaf: u16) -> Result<IdData<'t>>
-    ensures { ParsesFront id_shape result (rest buffer.new) (as_value forms.String (string_at leaf (rest buffer.old))) }
+    ensures { ParsesFront id_shape result (rest buffer.new)
+        (as_value forms.String (string_at leaf (rest buffer.old))) }
 {
     let substrings = buffer.parse_u32()?;
     let name = parse_name(buffer, leaf)?;
@@ -93,7 +103,8 @@ fn parse_string<'t>(buffer: &mut ParseBuffer<'t>, leaf: u16) -> Result<IdData<'t
 
 #[tactic(auto, unfolding(crate::specs::IdRecords::source_at))]
 fn parse_source<'t>(buffer: &mut ParseBuffer<'t>) -> Result<IdData<'t>>
-    ensures { ParsesFront id_shape result (rest buffer.new) (as_value forms.UserDefinedTypeSource (source_at (rest buffer.old))) }
+    ensures { ParsesFront id_shape result (rest buffer.new)
+        (as_value forms.UserDefinedTypeSource (source_at (rest buffer.old))) }
 {
     Ok(IdData::UserDefinedTypeSource(source_in(buffer.take(12)?)))
 }
@@ -112,7 +123,8 @@ fn source_in(bytes: &[u8]) -> UserDefinedTypeSourceId
 
 #[tactic(auto, unfolding(crate::specs::IdRecords::module_source_at))]
 fn parse_module_source<'t>(buffer: &mut ParseBuffer<'t>) -> Result<IdData<'t>>
-    ensures { ParsesFront id_shape result (rest buffer.new) (as_value forms.UserDefinedTypeSource (module_source_at (rest buffer.old))) }
+    ensures { ParsesFront id_shape result (rest buffer.new)
+        (as_value forms.UserDefinedTypeSource (module_source_at (rest buffer.old))) }
 {
     let front = buffer.take(14)?;
     Ok(IdData::UserDefinedTypeSource(module_source_in(front)))
@@ -131,7 +143,7 @@ fn module_source_in(bytes: &[u8]) -> UserDefinedTypeSourceId
     }
 }
 
-/// What stands behind a leaf at a record's beginning.
+/// What follows the leaf at the beginning of a record.
 #[tactic(auto, unfolding(crate::specs::IdRecords::id_form_behind))]
 fn parse_behind<'t>(alloc: Global, buffer: &mut ParseBuffer<'t>, leaf: u16) -> Result<IdData<'t>>
     ensures { Gives id_shape ⊥ result (id_form_behind leaf (rest buffer.old)) }
@@ -151,7 +163,8 @@ fn parse_behind<'t>(alloc: Global, buffer: &mut ParseBuffer<'t>, leaf: u16) -> R
 /// What the bytes of an id's record say, which begin with its leaf.
 ///
 /// # Errors
-/// `UnexpectedEof` where bytes are missing, `UnimplementedTypeKind` at a leaf of no id, `OutOfMemory`.
+/// `UnexpectedEof` where bytes are missing, `UnimplementedTypeKind` at a leaf of no id,
+/// `OutOfMemory`.
 #[tactic(auto, unfolding(crate::specs::IdRecords::id_form_of))]
 pub fn parse_id_data(alloc: Global, bytes: &[u8]) -> Result<IdData<'_>>
     ensures { Gives id_shape ⊥ result (id_form_of bytes.now) }

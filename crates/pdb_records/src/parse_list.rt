@@ -8,7 +8,9 @@ ghost use Rattle.pdb_indices.specs.RecordFields.{GivesFront, as_value};
 ghost use Rattle.pdb_records.specs.Forms as forms;
 ghost use Rattle.pdb_records.specs.Forms.{Plain};
 ghost use Rattle.pdb_records.specs.Shapes.{shape, plain_shape};
-ghost use Rattle.pdb_records.specs.TypeRecords.{argument_list_at, method_list_entry_at, method_list_at, dimension_at, dimensions_at, stride_at, array_at};
+ghost use Rattle.pdb_records.specs.TypeRecords.{argument_list_at, method_list_entry_at};
+ghost use Rattle.pdb_records.specs.TypeRecords.{method_list_at, dimension_at, dimensions_at};
+ghost use Rattle.pdb_records.specs.TypeRecords.{stride_at, array_at};
 
 use crate::parse_member::parse_vtable_offset;
 use crate::parse_type::parse_two_types;
@@ -18,10 +20,11 @@ use pdb_container::{Error, ParseBuffer, Result, half_at, word_at};
 use pdb_indices::{TypeIndex, parse_many, parse_numeric};
 use std::alloc::Global;
 
-/// `LF_ARGLIST`, behind its leaf. `UnexpectedEof`, `OutOfMemory`.
+/// `LF_ARGLIST`, after its leaf. `UnexpectedEof`, `OutOfMemory`.
 #[tactic(auto, unfolding(crate::specs::TypeRecords::argument_list_at))]
 pub fn parse_argument_list<'t>(alloc: Global, buffer: &mut ParseBuffer<'t>) -> Result<TypeData<'t>>
-    ensures form { GivesFront plain_shape result (rest buffer.new) (as_value forms.ArgumentList (argument_list_at (rest buffer.old))) }
+    ensures form { GivesFront plain_shape result (rest buffer.new)
+        (as_value forms.ArgumentList (argument_list_at (rest buffer.old))) }
     ensures plain { IfOk result (λ t. shape t ≡ Plain (plain_shape t)) }
 {
     let count = buffer.parse_u32()?;
@@ -31,7 +34,8 @@ pub fn parse_argument_list<'t>(alloc: Global, buffer: &mut ParseBuffer<'t>) -> R
 
 #[tactic(auto, unfolding(crate::specs::TypeRecords::method_list_entry_at))]
 fn parse_method_list_entry(buffer: &mut ParseBuffer<'_>) -> Result<MethodListEntry>
-    ensures { ParsesFront (λ x. x) result (rest buffer.new) (method_list_entry_at (rest buffer.old)) }
+    ensures { ParsesFront (λ x. x) result (rest buffer.new)
+        (method_list_entry_at (rest buffer.old)) }
 {
     let front = buffer.take(8)?;
     let attributes = FieldAttributes::new(half_at(front, 0));
@@ -58,10 +62,11 @@ fn parse_methods(alloc: Global, bytes: &[u8]) -> Result<Vec<MethodListEntry>>
     Ok(methods)
 }
 
-/// `LF_METHODLIST`, behind its leaf. `UnexpectedEof`, `OutOfMemory`.
+/// `LF_METHODLIST`, after its leaf. `UnexpectedEof`, `OutOfMemory`.
 #[tactic(auto, unfolding(crate::specs::TypeRecords::method_list_at))]
 pub fn parse_method_list<'t>(alloc: Global, buffer: &mut ParseBuffer<'t>) -> Result<TypeData<'t>>
-    ensures form { GivesFront plain_shape result (rest buffer.new) (as_value forms.MethodList (method_list_at (rest buffer.old))) }
+    ensures form { GivesFront plain_shape result (rest buffer.new)
+        (as_value forms.MethodList (method_list_at (rest buffer.old))) }
     ensures plain { IfOk result (λ t. shape t ≡ Plain (plain_shape t)) }
 {
     let bytes = buffer.take(buffer.len())?;
@@ -81,10 +86,11 @@ fn parse_dimension(buffer: &mut ParseBuffer<'_>) -> Result<u32>
     Ok(size as u32)
 }
 
-/// The sizes of an array, one at least, and the zero byte behind them.
+/// The sizes of an array, at least one, and the zero byte after them.
 #[tactic(auto, using(crate::proofs::Dimensions::dimensions_start, crate::proofs::Dimensions::dimensions_more, crate::proofs::Dimensions::dimensions_end, crate::proofs::Dimensions::dimensions_fail, crate::proofs::Dimensions::dimensions_unended, crate::proofs::Dimensions::dimensions_missing))]
 fn parse_dimensions(alloc: Global, buffer: &mut ParseBuffer<'_>) -> Result<Vec<u32>>
-    ensures dimensions { GivesFront (λ v. v.items) result (rest buffer.new) (dimensions_at (rest buffer.old)) }
+    ensures dimensions { GivesFront (λ v. v.items) result (rest buffer.new)
+        (dimensions_at (rest buffer.old)) }
     ensures some { IfOk result (λ v. 0 < length v.items) }
 {
     let mut dimensions = Vec::new(alloc);
@@ -101,7 +107,8 @@ fn parse_dimensions(alloc: Global, buffer: &mut ParseBuffer<'_>) -> Result<Vec<u
 
 #[tactic(auto, unfolding(crate::specs::TypeRecords::stride_at))]
 fn parse_stride(buffer: &mut ParseBuffer<'_>, is_strided: bool) -> Result<Option<u32>>
-    ensures { ParsesFront (λ x. x) result (rest buffer.new) (stride_at is_strided (rest buffer.old)) }
+    ensures { ParsesFront (λ x. x) result (rest buffer.new)
+        (stride_at is_strided (rest buffer.old)) }
 {
     if !is_strided {
         return Ok(None);
@@ -109,7 +116,7 @@ fn parse_stride(buffer: &mut ParseBuffer<'_>, is_strided: bool) -> Result<Option
     Ok(Some(buffer.parse_u32()?))
 }
 
-/// `LF_ARRAY` or `LF_STRIDED_ARRAY`, behind its leaf. `UnexpectedEof`, `UnexpectedNumericPrefix`,
+/// `LF_ARRAY` or `LF_STRIDED_ARRAY`, after its leaf. `UnexpectedEof`, `UnexpectedNumericPrefix`,
 /// `UnimplementedFeature` past 32 bits, `OutOfMemory`.
 #[tactic(auto, unfolding(crate::specs::TypeRecords::array_at))]
 pub fn parse_array<'t>(
@@ -117,7 +124,8 @@ pub fn parse_array<'t>(
     buffer: &mut ParseBuffer<'t>,
     is_strided: bool,
 ) -> Result<TypeData<'t>>
-    ensures form { GivesFront plain_shape result (rest buffer.new) (as_value forms.Array (array_at is_strided (rest buffer.old))) }
+    ensures form { GivesFront plain_shape result (rest buffer.new)
+        (as_value forms.Array (array_at is_strided (rest buffer.old))) }
     ensures plain { IfOk result (λ t. shape t ≡ Plain (plain_shape t)) }
 {
     let (element_type, indexing_type) = parse_two_types(buffer)?;

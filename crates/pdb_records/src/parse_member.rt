@@ -1,5 +1,5 @@
-//! Records of members, behind their leaves. Each is refused with `UnexpectedEof` where bytes are missing, and with
-//! `UnexpectedNumericPrefix` where a numeric leaf begins no number.
+//! Records of members, after their leaves. Each is refused with `UnexpectedEof` where bytes are
+//! missing, and with `UnexpectedNumericPrefix` where a numeric leaf begins no number.
 
 ghost use Rattle.std.specs.Prelude.{◌≡◌, IfOk};
 ghost use Rattle.pdb_container.specs.Buffer.{rest, ParsesFront};
@@ -7,7 +7,10 @@ ghost use Rattle.pdb_indices.specs.RecordFields.{as_value};
 ghost use Rattle.pdb_records.specs.Forms as forms;
 ghost use Rattle.pdb_records.specs.Forms.{Plain};
 ghost use Rattle.pdb_records.specs.Shapes.{shape, plain_shape};
-ghost use Rattle.pdb_records.specs.TypeRecords.{enumerate_at, member_at, static_member_at, overloaded_method_at, vtable_offset_at, method_at, nested_at, base_class_at, virtual_base_class_at, virtual_function_table_pointer_at};
+ghost use Rattle.pdb_records.specs.TypeRecords.{enumerate_at, member_at, static_member_at};
+ghost use Rattle.pdb_records.specs.TypeRecords.{overloaded_method_at, vtable_offset_at, method_at};
+ghost use Rattle.pdb_records.specs.TypeRecords.{nested_at, base_class_at, virtual_base_class_at};
+ghost use Rattle.pdb_records.specs.TypeRecords.{virtual_function_table_pointer_at};
 
 use crate::parse_type::parse_half_and_type;
 use crate::type_attributes::FieldAttributes;
@@ -22,7 +25,8 @@ use pdb_indices::{TypeIndex, parse_name, parse_numeric, parse_variant};
 /// `LF_ENUMERATE`: a value of an enumeration.
 #[tactic(auto, unfolding(crate::specs::TypeRecords::enumerate_at))]
 pub fn parse_enumerate<'t>(buffer: &mut ParseBuffer<'t>, leaf: u16) -> Result<TypeData<'t>>
-    ensures form { ParsesFront plain_shape result (rest buffer.new) (as_value forms.Enumerate (enumerate_at leaf (rest buffer.old))) }
+    ensures form { ParsesFront plain_shape result (rest buffer.new)
+        (as_value forms.Enumerate (enumerate_at leaf (rest buffer.old))) }
     ensures plain { IfOk result (λ t. shape t ≡ Plain (plain_shape t)) }
 {
     let attributes = FieldAttributes::new(buffer.parse_u16()?);
@@ -38,7 +42,8 @@ pub fn parse_enumerate<'t>(buffer: &mut ParseBuffer<'t>, leaf: u16) -> Result<Ty
 /// `LF_MEMBER`: a data member.
 #[tactic(auto, unfolding(crate::specs::TypeRecords::member_at))]
 pub fn parse_data_member<'t>(buffer: &mut ParseBuffer<'t>, leaf: u16) -> Result<TypeData<'t>>
-    ensures form { ParsesFront plain_shape result (rest buffer.new) (as_value forms.Member (member_at leaf (rest buffer.old))) }
+    ensures form { ParsesFront plain_shape result (rest buffer.new)
+        (as_value forms.Member (member_at leaf (rest buffer.old))) }
     ensures plain { IfOk result (λ t. shape t ≡ Plain (plain_shape t)) }
 {
     let (bits, field_type) = parse_half_and_type(buffer)?;
@@ -56,7 +61,8 @@ pub fn parse_data_member<'t>(buffer: &mut ParseBuffer<'t>, leaf: u16) -> Result<
 /// `LF_STMEMBER`: a static data member.
 #[tactic(auto, unfolding(crate::specs::TypeRecords::static_member_at))]
 pub fn parse_static_member<'t>(buffer: &mut ParseBuffer<'t>, leaf: u16) -> Result<TypeData<'t>>
-    ensures form { ParsesFront plain_shape result (rest buffer.new) (as_value forms.StaticMember (static_member_at leaf (rest buffer.old))) }
+    ensures form { ParsesFront plain_shape result (rest buffer.new)
+        (as_value forms.StaticMember (static_member_at leaf (rest buffer.old))) }
     ensures plain { IfOk result (λ t. shape t ≡ Plain (plain_shape t)) }
 {
     let (bits, field_type) = parse_half_and_type(buffer)?;
@@ -72,7 +78,8 @@ pub fn parse_static_member<'t>(buffer: &mut ParseBuffer<'t>, leaf: u16) -> Resul
 /// `LF_METHOD`: methods of one name.
 #[tactic(auto, unfolding(crate::specs::TypeRecords::overloaded_method_at))]
 pub fn parse_overloaded_method<'t>(buffer: &mut ParseBuffer<'t>, leaf: u16) -> Result<TypeData<'t>>
-    ensures form { ParsesFront plain_shape result (rest buffer.new) (as_value forms.OverloadedMethod (overloaded_method_at leaf (rest buffer.old))) }
+    ensures form { ParsesFront plain_shape result (rest buffer.new)
+        (as_value forms.OverloadedMethod (overloaded_method_at leaf (rest buffer.old))) }
     ensures plain { IfOk result (λ t. shape t ≡ Plain (plain_shape t)) }
 {
     let (count, method_list) = parse_half_and_type(buffer)?;
@@ -90,7 +97,8 @@ pub fn parse_vtable_offset(
     buffer: &mut ParseBuffer<'_>,
     attributes: FieldAttributes,
 ) -> Result<Option<u32>>
-    ensures { ParsesFront (λ x. x) result (rest buffer.new) (vtable_offset_at attributes (rest buffer.old)) }
+    ensures { ParsesFront (λ x. x) result (rest buffer.new)
+        (vtable_offset_at attributes (rest buffer.old)) }
 {
     if !attributes.is_intro_virtual() {
         return Ok(None);
@@ -101,7 +109,8 @@ pub fn parse_vtable_offset(
 /// `LF_ONEMETHOD`: a method that is alone of its name.
 #[tactic(auto, unfolding(crate::specs::TypeRecords::method_at))]
 pub fn parse_method<'t>(buffer: &mut ParseBuffer<'t>, leaf: u16) -> Result<TypeData<'t>>
-    ensures form { ParsesFront plain_shape result (rest buffer.new) (as_value forms.Method (method_at leaf (rest buffer.old))) }
+    ensures form { ParsesFront plain_shape result (rest buffer.new)
+        (as_value forms.Method (method_at leaf (rest buffer.old))) }
     ensures plain { IfOk result (λ t. shape t ≡ Plain (plain_shape t)) }
 {
     let (bits, method_type) = parse_half_and_type(buffer)?;
@@ -119,7 +128,8 @@ pub fn parse_method<'t>(buffer: &mut ParseBuffer<'t>, leaf: u16) -> Result<TypeD
 /// `LF_NESTTYPE`, `LF_NESTTYPEEX`: a nested type.
 #[tactic(auto, unfolding(crate::specs::TypeRecords::nested_at))]
 pub fn parse_nested<'t>(buffer: &mut ParseBuffer<'t>, leaf: u16) -> Result<TypeData<'t>>
-    ensures form { ParsesFront plain_shape result (rest buffer.new) (as_value forms.Nested (nested_at leaf (rest buffer.old))) }
+    ensures form { ParsesFront plain_shape result (rest buffer.new)
+        (as_value forms.Nested (nested_at leaf (rest buffer.old))) }
     ensures plain { IfOk result (λ t. shape t ≡ Plain (plain_shape t)) }
 {
     let (bits, nested_type) = parse_half_and_type(buffer)?;
@@ -135,7 +145,8 @@ pub fn parse_nested<'t>(buffer: &mut ParseBuffer<'t>, leaf: u16) -> Result<TypeD
 /// `LF_BCLASS`, `LF_BINTERFACE`: a base class.
 #[tactic(auto, unfolding(crate::specs::TypeRecords::base_class_at))]
 pub fn parse_base_class<'t>(buffer: &mut ParseBuffer<'t>, kind: ClassKind) -> Result<TypeData<'t>>
-    ensures form { ParsesFront plain_shape result (rest buffer.new) (as_value forms.BaseClass (base_class_at kind (rest buffer.old))) }
+    ensures form { ParsesFront plain_shape result (rest buffer.new)
+        (as_value forms.BaseClass (base_class_at kind (rest buffer.old))) }
     ensures plain { IfOk result (λ t. shape t ≡ Plain (plain_shape t)) }
 {
     let (bits, base_class) = parse_half_and_type(buffer)?;
@@ -155,7 +166,8 @@ pub fn parse_virtual_base_class<'t>(
     buffer: &mut ParseBuffer<'t>,
     direct: bool,
 ) -> Result<TypeData<'t>>
-    ensures form { ParsesFront plain_shape result (rest buffer.new) (as_value forms.VirtualBaseClass (virtual_base_class_at direct (rest buffer.old))) }
+    ensures form { ParsesFront plain_shape result (rest buffer.new)
+        (as_value forms.VirtualBaseClass (virtual_base_class_at direct (rest buffer.old))) }
     ensures plain { IfOk result (λ t. shape t ≡ Plain (plain_shape t)) }
 {
     let front = buffer.take(10)?;
@@ -176,7 +188,9 @@ pub fn parse_virtual_base_class<'t>(
 pub fn parse_virtual_function_table_pointer<'t>(
     buffer: &mut ParseBuffer<'t>,
 ) -> Result<TypeData<'t>>
-    ensures form { ParsesFront plain_shape result (rest buffer.new) (as_value forms.VirtualFunctionTablePointer (virtual_function_table_pointer_at (rest buffer.old))) }
+    ensures form { ParsesFront plain_shape result (rest buffer.new)
+        (as_value forms.VirtualFunctionTablePointer
+        (virtual_function_table_pointer_at (rest buffer.old))) }
     ensures plain { IfOk result (λ t. shape t ≡ Plain (plain_shape t)) }
 {
     let (_, table) = parse_half_and_type(buffer)?;

@@ -6,7 +6,9 @@ ghost use Rattle.pdb_container.specs.Fault.{Gives};
 ghost use Rattle.pdb_records.specs.Forms.{Plain};
 ghost use Rattle.pdb_indices.specs.RecordFields.{GivesFront};
 ghost use Rattle.pdb_records.specs.Shapes.{shape, plain_shape, field_list_shape, field_form};
-ghost use Rattle.pdb_records.specs.TypeLeaves.{aggregate_at, type_at, base_at, plain_at, continuation_at, field_behind, field_at, field_list_of, type_form_behind, type_form_of};
+ghost use Rattle.pdb_records.specs.TypeLeaves.{aggregate_at, type_at, base_at, plain_at};
+ghost use Rattle.pdb_records.specs.TypeLeaves.{continuation_at, field_behind, field_at};
+ghost use Rattle.pdb_records.specs.TypeLeaves.{field_list_of, type_form_behind, type_form_of};
 
 use crate::leaves::*;
 use crate::parse_list::{parse_argument_list, parse_array, parse_method_list};
@@ -27,7 +29,8 @@ use std::alloc::Global;
 /// A type with members. `UnimplementedTypeKind` at another leaf.
 #[tactic(auto, unfolding(crate::specs::TypeLeaves::aggregate_at))]
 fn parse_aggregate<'t>(buffer: &mut ParseBuffer<'t>, leaf: u16) -> Result<TypeData<'t>>
-    ensures form { ParsesFront plain_shape result (rest buffer.new) (aggregate_at leaf (rest buffer.old)) }
+    ensures form { ParsesFront plain_shape result (rest buffer.new)
+        (aggregate_at leaf (rest buffer.old)) }
     ensures plain { IfOk result (λ t. shape t ≡ Plain (plain_shape t)) }
 {
     match leaf {
@@ -44,7 +47,8 @@ fn parse_aggregate<'t>(buffer: &mut ParseBuffer<'t>, leaf: u16) -> Result<TypeDa
 /// A type that is no list of members. `UnimplementedTypeKind` at another leaf.
 #[tactic(auto, unfolding(crate::specs::TypeLeaves::type_at))]
 fn parse_type<'t>(alloc: Global, buffer: &mut ParseBuffer<'t>, leaf: u16) -> Result<TypeData<'t>>
-    ensures form { GivesFront plain_shape result (rest buffer.new) (type_at leaf (rest buffer.old)) }
+    ensures form { GivesFront plain_shape result (rest buffer.new)
+        (type_at leaf (rest buffer.old)) }
     ensures plain { IfOk result (λ t. shape t ≡ Plain (plain_shape t)) }
 {
     match leaf {
@@ -64,7 +68,8 @@ fn parse_type<'t>(alloc: Global, buffer: &mut ParseBuffer<'t>, leaf: u16) -> Res
 /// What a class inherits, its table of methods, or a type. `UnimplementedTypeKind` at another leaf.
 #[tactic(auto, unfolding(crate::specs::TypeLeaves::base_at))]
 fn parse_base<'t>(alloc: Global, buffer: &mut ParseBuffer<'t>, leaf: u16) -> Result<TypeData<'t>>
-    ensures form { GivesFront plain_shape result (rest buffer.new) (base_at leaf (rest buffer.old)) }
+    ensures form { GivesFront plain_shape result (rest buffer.new)
+        (base_at leaf (rest buffer.old)) }
     ensures plain { IfOk result (λ t. shape t ≡ Plain (plain_shape t)) }
 {
     match leaf {
@@ -80,7 +85,8 @@ fn parse_base<'t>(alloc: Global, buffer: &mut ParseBuffer<'t>, leaf: u16) -> Res
 /// A member, or a type that is no list of members. `UnimplementedTypeKind` at another leaf.
 #[tactic(auto, unfolding(crate::specs::TypeLeaves::plain_at))]
 fn parse_plain<'t>(alloc: Global, buffer: &mut ParseBuffer<'t>, leaf: u16) -> Result<TypeData<'t>>
-    ensures form { GivesFront plain_shape result (rest buffer.new) (plain_at leaf (rest buffer.old)) }
+    ensures form { GivesFront plain_shape result (rest buffer.new)
+        (plain_at leaf (rest buffer.old)) }
     ensures plain { IfOk result (λ t. shape t ≡ Plain (plain_shape t)) }
 {
     match leaf {
@@ -106,7 +112,7 @@ pub(crate) enum FieldEntry<'t> {
     Padding,
 }
 
-/// The index of the list that continues this one, behind its leaf.
+/// The index of the list that continues this one, after its leaf.
 #[tactic(auto, unfolding(crate::specs::TypeLeaves::continuation_at))]
 fn parse_continuation(buffer: &mut ParseBuffer<'_>) -> Result<TypeIndex>
     ensures { ParsesFront (λ x. x) result (rest buffer.new) (continuation_at (rest buffer.old)) }
@@ -115,7 +121,7 @@ fn parse_continuation(buffer: &mut ParseBuffer<'_>) -> Result<TypeIndex>
     buffer.parse()
 }
 
-/// What stands behind a leaf in a list of members.
+/// What follows a leaf in a list of members.
 #[tactic(auto, unfolding(crate::specs::TypeLeaves::field_behind))]
 fn parse_field_behind<'t>(
     alloc: Global,
@@ -130,7 +136,8 @@ fn parse_field_behind<'t>(
     Ok(FieldEntry::Field(parse_plain(alloc, buffer, leaf)?))
 }
 
-/// What stands next in a list of members. A byte from 0xf0 on begins padding, and its low four bits count it.
+/// What stands next in a list of members. A byte from 0xf0 on begins padding, and its low four bits
+/// count it.
 #[tactic(auto, unfolding(crate::specs::TypeLeaves::field_at))]
 fn parse_field<'t>(alloc: Global, buffer: &mut ParseBuffer<'t>) -> Result<FieldEntry<'t>>
     ensures { GivesFront field_form result (rest buffer.new) (field_at (rest buffer.old)) }
@@ -168,7 +175,7 @@ fn parse_field_list<'t>(alloc: Global, buffer: &mut ParseBuffer<'t>) -> Result<F
     })
 }
 
-/// What stands behind a leaf at a record's beginning.
+/// What follows the leaf at the beginning of a record.
 #[tactic(auto, unfolding(crate::specs::TypeLeaves::type_form_behind))]
 fn parse_behind<'t>(alloc: Global, buffer: &mut ParseBuffer<'t>, leaf: u16) -> Result<TypeData<'t>>
     ensures { Gives shape ⊥ result (type_form_behind leaf (rest buffer.old)) }
@@ -182,9 +189,9 @@ fn parse_behind<'t>(alloc: Global, buffer: &mut ParseBuffer<'t>, leaf: u16) -> R
 /// What the bytes of a type's record say, which begin with its leaf.
 ///
 /// # Errors
-/// `UnexpectedEof` where bytes are missing, `UnimplementedTypeKind` at a leaf of no type, `UnexpectedNumericPrefix`,
-/// `UnimplementedFeature` (array sizes past 32 bits, a pointer's unknown kind or mode, a struct of more than 65535
-/// members), `OutOfMemory`.
+/// `UnexpectedEof` where bytes are missing, `UnimplementedTypeKind` at a leaf of no type,
+/// `UnexpectedNumericPrefix`, `UnimplementedFeature` (array sizes past 32 bits, a pointer's unknown
+/// kind or mode, a struct of more than 65535 members), `OutOfMemory`.
 #[tactic(auto, unfolding(crate::specs::TypeLeaves::type_form_of))]
 pub fn parse_type_data(alloc: Global, bytes: &[u8]) -> Result<TypeData<'_>>
     ensures { Gives shape ⊥ result (type_form_of bytes.now) }

@@ -1,5 +1,6 @@
-//! Records of types that are no members, behind their leaves. Each is refused with `UnexpectedEof` where bytes are
-//! missing, and with `UnexpectedNumericPrefix` where a numeric leaf begins no number.
+//! Records of types that are no members, after their leaves. Each is refused with `UnexpectedEof`
+//! where bytes are missing, and with `UnexpectedNumericPrefix` where a numeric leaf begins no
+//! number.
 
 ghost use Rattle.std.specs.Prelude.{◌≡◌, ◌≤◌, length, IfOk, option_map};
 ghost use Rattle.pdb_container.specs.Buffer.{rest, ParsesFront};
@@ -8,7 +9,15 @@ ghost use Rattle.pdb_indices.specs.RecordFields.{as_value};
 ghost use Rattle.pdb_records.specs.Forms as forms;
 ghost use Rattle.pdb_records.specs.Forms.{Plain};
 ghost use Rattle.pdb_records.specs.Shapes.{shape, plain_shape, names_shape};
-ghost use Rattle.pdb_records.specs.TypeRecords.{optional_type as type_or_none, half_and_type_at, two_types_at, modifier_in as modifier_of, procedure_in as procedure_of, member_function_in as member_function_of, modifier_at, pointer_front_at, containing_class_at, pointer_at, procedure_at, member_function_at, bitfield_at, unique_name_at, names_at, size_and_names_at, class_at, field_count_at, newer_struct_at, union_at, enumeration_at};
+ghost use Rattle.pdb_records.specs.TypeRecords.{optional_type as type_or_none, half_and_type_at};
+ghost use Rattle.pdb_records.specs.TypeRecords.{two_types_at, modifier_in as modifier_of};
+ghost use Rattle.pdb_records.specs.TypeRecords.{procedure_in as procedure_of};
+ghost use Rattle.pdb_records.specs.TypeRecords.{member_function_in as member_function_of};
+ghost use Rattle.pdb_records.specs.TypeRecords.{modifier_at, pointer_front_at, containing_class_at};
+ghost use Rattle.pdb_records.specs.TypeRecords.{pointer_at, procedure_at, member_function_at};
+ghost use Rattle.pdb_records.specs.TypeRecords.{bitfield_at, unique_name_at, names_at};
+ghost use Rattle.pdb_records.specs.TypeRecords.{size_and_names_at, class_at, field_count_at};
+ghost use Rattle.pdb_records.specs.TypeRecords.{newer_struct_at, union_at, enumeration_at};
 
 use crate::type_attributes::{FunctionAttributes, PointerAttributes, TypeProperties};
 use crate::type_data::{
@@ -47,7 +56,8 @@ pub fn parse_two_types(buffer: &mut ParseBuffer<'_>) -> Result<(TypeIndex, TypeI
 /// `LF_MODIFIER`: a constant, volatile or unaligned type.
 #[tactic(auto, unfolding(crate::specs::TypeRecords::modifier_at))]
 pub fn parse_modifier<'t>(buffer: &mut ParseBuffer<'t>) -> Result<TypeData<'t>>
-    ensures form { ParsesFront plain_shape result (rest buffer.new) (as_value forms.Modifier (modifier_at (rest buffer.old))) }
+    ensures form { ParsesFront plain_shape result (rest buffer.new)
+        (as_value forms.Modifier (modifier_at (rest buffer.old))) }
     ensures plain { IfOk result (λ t. shape t ≡ Plain (plain_shape t)) }
 {
     Ok(TypeData::Modifier(modifier_in(buffer.take(6)?)))
@@ -85,7 +95,8 @@ fn parse_containing_class(
     buffer: &mut ParseBuffer<'_>,
     attributes: PointerAttributes,
 ) -> Result<Option<TypeIndex>>
-    ensures { ParsesFront (λ x. x) result (rest buffer.new) (containing_class_at attributes (rest buffer.old)) }
+    ensures { ParsesFront (λ x. x) result (rest buffer.new)
+        (containing_class_at attributes (rest buffer.old)) }
 {
     if !attributes.is_to_member() {
         return Ok(None);
@@ -93,10 +104,12 @@ fn parse_containing_class(
     Ok(Some(buffer.parse()?))
 }
 
-/// `LF_POINTER`: a pointer or a reference. `UnimplementedFeature` where its kind or mode is unknown.
+/// `LF_POINTER`: a pointer or a reference. `UnimplementedFeature` where its kind or mode is
+/// unknown.
 #[tactic(auto, unfolding(crate::specs::TypeRecords::pointer_at))]
 pub fn parse_pointer<'t>(buffer: &mut ParseBuffer<'t>) -> Result<TypeData<'t>>
-    ensures form { ParsesFront plain_shape result (rest buffer.new) (as_value forms.Pointer (pointer_at (rest buffer.old))) }
+    ensures form { ParsesFront plain_shape result (rest buffer.new)
+        (as_value forms.Pointer (pointer_at (rest buffer.old))) }
     ensures plain { IfOk result (λ t. shape t ≡ Plain (plain_shape t)) }
 {
     let (underlying_type, attributes) = parse_pointer_front(buffer)?;
@@ -111,7 +124,8 @@ pub fn parse_pointer<'t>(buffer: &mut ParseBuffer<'t>) -> Result<TypeData<'t>>
 /// `LF_PROCEDURE`: the type of a function that is no method.
 #[tactic(auto, unfolding(crate::specs::TypeRecords::procedure_at))]
 pub fn parse_procedure<'t>(buffer: &mut ParseBuffer<'t>) -> Result<TypeData<'t>>
-    ensures form { ParsesFront plain_shape result (rest buffer.new) (as_value forms.Procedure (procedure_at (rest buffer.old))) }
+    ensures form { ParsesFront plain_shape result (rest buffer.new)
+        (as_value forms.Procedure (procedure_at (rest buffer.old))) }
     ensures plain { IfOk result (λ t. shape t ≡ Plain (plain_shape t)) }
 {
     Ok(TypeData::Procedure(procedure_in(buffer.take(12)?)))
@@ -133,7 +147,8 @@ fn procedure_in(bytes: &[u8]) -> ProcedureType
 /// `LF_MFUNCTION`: the type of a method.
 #[tactic(auto, unfolding(crate::specs::TypeRecords::member_function_at))]
 pub fn parse_member_function<'t>(buffer: &mut ParseBuffer<'t>) -> Result<TypeData<'t>>
-    ensures form { ParsesFront plain_shape result (rest buffer.new) (as_value forms.MemberFunction (member_function_at (rest buffer.old))) }
+    ensures form { ParsesFront plain_shape result (rest buffer.new)
+        (as_value forms.MemberFunction (member_function_at (rest buffer.old))) }
     ensures plain { IfOk result (λ t. shape t ≡ Plain (plain_shape t)) }
 {
     Ok(TypeData::MemberFunction(member_function_in(buffer.take(24)?)))
@@ -158,7 +173,8 @@ fn member_function_in(bytes: &[u8]) -> MemberFunctionType
 /// `LF_BITFIELD`: some bits of a number.
 #[tactic(auto, unfolding(crate::specs::TypeRecords::bitfield_at))]
 pub fn parse_bitfield<'t>(buffer: &mut ParseBuffer<'t>) -> Result<TypeData<'t>>
-    ensures form { ParsesFront plain_shape result (rest buffer.new) (as_value forms.Bitfield (bitfield_at (rest buffer.old))) }
+    ensures form { ParsesFront plain_shape result (rest buffer.new)
+        (as_value forms.Bitfield (bitfield_at (rest buffer.old))) }
     ensures plain { IfOk result (λ t. shape t ≡ Plain (plain_shape t)) }
 {
     let front = buffer.take(6)?;
@@ -176,7 +192,8 @@ fn parse_unique_name<'t>(
     leaf: u16,
     properties: TypeProperties,
 ) -> Result<Option<RawString<'t>>>
-    ensures { ParsesFront (option_map raw_bytes) result (rest buffer.new) (unique_name_at leaf properties (rest buffer.old)) }
+    ensures { ParsesFront (option_map raw_bytes) result (rest buffer.new)
+        (unique_name_at leaf properties (rest buffer.old)) }
 {
     if !properties.has_unique_name() {
         return Ok(None);
@@ -191,7 +208,8 @@ fn parse_names<'t>(
     leaf: u16,
     properties: TypeProperties,
 ) -> Result<(RawString<'t>, Option<RawString<'t>>)>
-    ensures { ParsesFront names_shape result (rest buffer.new) (names_at leaf properties (rest buffer.old)) }
+    ensures { ParsesFront names_shape result (rest buffer.new)
+        (names_at leaf properties (rest buffer.old)) }
 {
     let name = parse_name(buffer, leaf)?;
     let unique_name = parse_unique_name(buffer, leaf, properties)?;
@@ -205,7 +223,8 @@ fn parse_size_and_names<'t>(
     leaf: u16,
     properties: TypeProperties,
 ) -> Result<(u64, (RawString<'t>, Option<RawString<'t>>))>
-    ensures { ParsesFront (λ x. (x.0, names_shape x.1)) result (rest buffer.new) (size_and_names_at leaf properties (rest buffer.old)) }
+    ensures { ParsesFront (λ x. (x.0, names_shape x.1)) result (rest buffer.new)
+        (size_and_names_at leaf properties (rest buffer.old)) }
 {
     let size = parse_numeric(buffer)?;
     let names = parse_names(buffer, leaf, properties)?;
@@ -219,7 +238,8 @@ pub fn parse_class<'t>(
     leaf: u16,
     kind: ClassKind,
 ) -> Result<TypeData<'t>>
-    ensures form { ParsesFront plain_shape result (rest buffer.new) (as_value forms.Class (class_at leaf kind (rest buffer.old))) }
+    ensures form { ParsesFront plain_shape result (rest buffer.new)
+        (as_value forms.Class (class_at leaf kind (rest buffer.old))) }
     ensures plain { IfOk result (λ t. shape t ≡ Plain (plain_shape t)) }
 {
     let front = buffer.take(16)?;
@@ -250,10 +270,12 @@ fn parse_field_count(buffer: &mut ParseBuffer<'_>) -> Result<u16>
     Ok(count as u16)
 }
 
-/// `LF_STRUCTURE19`: a struct as newer compilers write it. `UnimplementedFeature` past 65535 members.
+/// `LF_STRUCTURE19`: a struct as newer compilers write it. `UnimplementedFeature` past 65535
+/// members.
 #[tactic(auto, unfolding(crate::specs::TypeRecords::newer_struct_at))]
 pub fn parse_newer_struct<'t>(buffer: &mut ParseBuffer<'t>, leaf: u16) -> Result<TypeData<'t>>
-    ensures form { ParsesFront plain_shape result (rest buffer.new) (as_value forms.Class (newer_struct_at leaf (rest buffer.old))) }
+    ensures form { ParsesFront plain_shape result (rest buffer.new)
+        (as_value forms.Class (newer_struct_at leaf (rest buffer.old))) }
     ensures plain { IfOk result (λ t. shape t ≡ Plain (plain_shape t)) }
 {
     let front = buffer.take(16)?;
@@ -276,7 +298,8 @@ pub fn parse_newer_struct<'t>(buffer: &mut ParseBuffer<'t>, leaf: u16) -> Result
 /// `LF_UNION`, by its leaf.
 #[tactic(auto, unfolding(crate::specs::TypeRecords::union_at))]
 pub fn parse_union<'t>(buffer: &mut ParseBuffer<'t>, leaf: u16) -> Result<TypeData<'t>>
-    ensures form { ParsesFront plain_shape result (rest buffer.new) (as_value forms.Union (union_at leaf (rest buffer.old))) }
+    ensures form { ParsesFront plain_shape result (rest buffer.new)
+        (as_value forms.Union (union_at leaf (rest buffer.old))) }
     ensures plain { IfOk result (λ t. shape t ≡ Plain (plain_shape t)) }
 {
     let front = buffer.take(8)?;
@@ -295,7 +318,8 @@ pub fn parse_union<'t>(buffer: &mut ParseBuffer<'t>, leaf: u16) -> Result<TypeDa
 /// `LF_ENUM`, by its leaf.
 #[tactic(auto, unfolding(crate::specs::TypeRecords::enumeration_at))]
 pub fn parse_enumeration<'t>(buffer: &mut ParseBuffer<'t>, leaf: u16) -> Result<TypeData<'t>>
-    ensures form { ParsesFront plain_shape result (rest buffer.new) (as_value forms.Enumeration (enumeration_at leaf (rest buffer.old))) }
+    ensures form { ParsesFront plain_shape result (rest buffer.new)
+        (as_value forms.Enumeration (enumeration_at leaf (rest buffer.old))) }
     ensures plain { IfOk result (λ t. shape t ≡ Plain (plain_shape t)) }
 {
     let front = buffer.take(12)?;

@@ -1,8 +1,11 @@
-//! Primitive types, which have no record: their index says what they are (TYPE_ENUM_e of microsoft-pdb's cvinfo.h).
+//! Primitive types, which have no record: their index says what they are (TYPE_ENUM_e of
+//! microsoft-pdb's cvinfo.h).
 
 ghost use Rattle.std.specs.Prelude.{◌≡◌};
 ghost use Rattle.pdb_container.specs.Fault.{Parses};
-ghost use Rattle.pdb_records.specs.Primitives.{pointer_numbered, older_kind_numbered, real_kind_numbered, sized_kind_numbered, primitive_of, type_of_primitive};
+ghost use Rattle.pdb_records.specs.Primitives.{pointer_numbered, older_kind_numbered};
+ghost use Rattle.pdb_records.specs.Primitives.{real_kind_numbered, sized_kind_numbered};
+ghost use Rattle.pdb_records.specs.Primitives.{primitive_of, type_of_primitive};
 ghost use Rattle.pdb_records.specs.Shapes.{shape};
 
 use crate::type_data::TypeData;
@@ -146,7 +149,7 @@ fn indirection_numbered(number: u32) -> Option<Option<Indirection>>
     }
 }
 
-/// Kinds of no type, of nothing, of results, and of whole numbers named by words.
+/// Kinds of no type, of nothing, of results, and of whole numbers with names such as `long`.
 #[tactic(auto, unfolding(crate::specs::Primitives::older_kind_numbered))]
 fn older_kind(number: u32) -> Option<PrimitiveKind>
     ensures { result ≡ older_kind_numbered number }
@@ -219,7 +222,8 @@ fn sized_kind(number: u32) -> Option<PrimitiveKind>
     }
 }
 
-/// The primitive type with that index: its low byte says the kind, the bits above how a pointer to it is held.
+/// The primitive type with that index: its low byte says the kind, the bits above how a pointer to
+/// it is held.
 ///
 /// # Errors
 /// `TypeNotFound` where there is none.

@@ -1,7 +1,10 @@
-//! Attributes of types, members and pointers: bits of a number, as microsoft-pdb's cvinfo.h has them.
+//! Attributes of types, members and pointers: bits of a number, as microsoft-pdb's cvinfo.h has
+//! them.
 
 ghost use Rattle.std.specs.Prelude.{◌≡◌};
-ghost use Rattle.pdb_records.specs.Attributes.{is_forward, names_unique, introduces, constructs, kind_of_pointer, mode_of_pointer, points_constant, size_of_pointer, is_known_pointer, is_to_member};
+ghost use Rattle.pdb_records.specs.Attributes.{is_forward, names_unique, introduces, constructs};
+ghost use Rattle.pdb_records.specs.Attributes.{kind_of_pointer, mode_of_pointer, points_constant};
+ghost use Rattle.pdb_records.specs.Attributes.{size_of_pointer, is_known_pointer, is_to_member};
 
 /// Type properties (CV_prop_t) of a class, a union or an enumeration.
 #[derive(Clone, Copy, Debug, Default, PartialEq, Eq, Hash)]
@@ -42,7 +45,8 @@ impl FieldAttributes {
         FieldAttributes(bits)
     }
 
-    /// Whether the method is virtual and the first of its name: it has a place of its own in the table of methods.
+    /// Whether the method is virtual and the first of its name: it has a place of its own in the
+    /// table of methods.
     pub fn is_intro_virtual(self) -> bool
         ensures { result ≡ introduces self }
     {

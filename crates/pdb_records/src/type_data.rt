@@ -59,7 +59,7 @@ pub enum TypeData<'t> {
     MethodList(MethodList),
 }
 
-/// The kind of a class: which word declares it.
+/// The kind of a class: the keyword that declares it.
 #[derive(Clone, Copy, Debug, PartialEq, Eq, Hash)]
 pub enum ClassKind {
     /// `class`: `LF_CLASS`, `LF_BCLASS`.
@@ -70,7 +70,8 @@ pub enum ClassKind {
     Interface,
 }
 
-/// A class, a struct or an interface (`LF_CLASS`, `LF_STRUCTURE`, `LF_INTERFACE`, `LF_STRUCTURE19`).
+/// A class, a struct or an interface (`LF_CLASS`, `LF_STRUCTURE`, `LF_INTERFACE`,
+/// `LF_STRUCTURE19`).
 #[derive(Clone, Copy, Debug, PartialEq, Eq)]
 pub struct ClassType<'t> {
     /// Which of these it is.
@@ -226,13 +227,13 @@ pub struct ProcedureType {
 pub struct PointerType {
     /// The type of what it leads to.
     pub underlying_type: TypeIndex,
-    /// Its kind, mode, size and words.
+    /// Its kind, mode, size and qualifiers.
     pub attributes: PointerAttributes,
     /// The class whose member or method it leads to, where it leads to one.
     pub containing_class: Option<TypeIndex>,
 }
 
-/// A modifier (`LF_MODIFIER`): a type with words added to it.
+/// A modifier (`LF_MODIFIER`): a type with qualifiers added to it.
 #[derive(Clone, Copy, Debug, PartialEq, Eq)]
 pub struct ModifierType {
     /// The type.

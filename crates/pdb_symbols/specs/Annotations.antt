@@ -1,6 +1,7 @@
 -- Binary annotations of inline sites (S_INLINESITE).
 -- The opcodes are BinaryAnnotationOpcode of microsoft-pdb's cvinfo.h, as the pdb crate reads them.
-use Rattle.std.specs.Prelude.{ℕ, ◌/◌, ◌%◌, ◌^◌, nat_le, ◌==◌, Bool, true, false, List, [], ◌∷◌, Option, None, Some, Ok, Err, if◌then◌else◌}
+use Rattle.std.specs.Prelude.{ℕ, ◌/◌, ◌%◌, ◌^◌, nat_le, ◌==◌, Bool, true, false, List, [], ◌∷◌}
+use Rattle.std.specs.Prelude.{Option, None, Some, Ok, Err, if◌then◌else◌}
 use Rattle.pdb_container.specs.Fault.{Fault, UnknownBinaryAnnotation, ◌>>=◌}
 use Rattle.pdb_container.specs.Fields.{Reader}
 use Rattle.pdb_container.specs.Listing.{Listing, ending, before, listing}
@@ -27,23 +28,24 @@ with_operand opcode n =
     else (if opcode == 8 then kinds.ChangeRangeKind n
     else (if opcode == 9 then kinds.ChangeColumnStart n
     else (if opcode == 10 then kinds.ChangeColumnEndDelta (signed_of n)
-    else (if opcode == 11 then kinds.ChangeCodeOffsetAndLineOffset (n % 2 ^ 4) (signed_of (n / 2 ^ 4))
+    else (if opcode == 11 then kinds.ChangeCodeOffsetAndLineOffset (n % 2 ^ 4)
+    (signed_of (n / 2 ^ 4))
     else kinds.ChangeColumnEnd n))))))))))
 
--- a binary annotation of one operand, behind its opcode
+-- a binary annotation of one operand, after its opcode
 unfoldable pub with_operand_at : ℕ → Reader BinaryAnnotation
 with_operand_at opcode bytes = do
   operand ← compressed_at bytes
   Ok (with_operand opcode operand.0, operand.1)
 
--- the binary annotation of two operands, a length and then an offset, behind its opcode
+-- the binary annotation of two operands, a length and then an offset, after its opcode
 unfoldable pub with_length_at : Reader BinaryAnnotation
 with_length_at bytes = do
   length ← compressed_at bytes
   offset ← compressed_at length.1
   Ok (kinds.ChangeCodeLengthAndCodeOffset length.0 offset.0, offset.1)
 
--- what stands behind an opcode that is no end
+-- what follows an opcode that is no end
 unfoldable pub behind_opcode : ℕ → Reader BinaryAnnotation
 behind_opcode opcode bytes =
     if opcode == 12 then with_length_at bytes
@@ -56,7 +58,7 @@ annotation_or_end bytes = do
   opcode ← compressed_at bytes
   if opcode.0 == 0 then Ok (None, opcode.1) else as_value Some (behind_opcode opcode.0 opcode.1)
 
--- what stands before the first end, whatever stands behind it
+-- what stands before the first end, whatever follows it
 abbrev pub until_end : {A : Type 0} → Option Fault → List (Option A) → Listing A
 until_end fault [] = ending fault
 until_end fault (None ∷ others) = ending None
@@ -64,7 +66,8 @@ until_end fault (Some x ∷ others) = before x (until_end fault others)
 
 -- the binary annotations that bytes spell, and how they end
 unfoldable pub annotations_of : List ℕ → Listing BinaryAnnotation
-annotations_of bytes = until_end (listing annotation_or_end bytes).fault (listing annotation_or_end bytes).items
+annotations_of bytes = until_end (listing annotation_or_end bytes).fault
+    (listing annotation_or_end bytes).items
 
 -- whether an annotation gives a row
 abbrev pub is_emitting : BinaryAnnotation → Bool

@@ -3,7 +3,9 @@ use Rattle.std.specs.Prelude.{ℕ, List, Bool, Option}
 use Rattle.pdb_container.specs.RawString.{raw_bytes}
 use Rattle.pdb_indices.specs.declared.index.IdIndex.{IdIndex}
 use Rattle.pdb_indices.specs.declared.index.TypeIndex.{TypeIndex}
-use Rattle.pdb_addresses.specs.declared.internal_section_offset.PdbInternalSectionOffset.{PdbInternalSectionOffset}
+use Rattle.pdb_addresses.specs.declared.internal_section_offset.PdbInternalSectionOffset.{
+  PdbInternalSectionOffset,
+}
 use Rattle.pdb_indices.specs.declared.numbers.SymbolIndex.{SymbolIndex}
 use Rattle.pdb_symbols.specs.Annotations.{annotation_bytes}
 use Rattle.pdb_symbols.specs.declared.inline_site.InlineSiteSymbol.{InlineSiteSymbol}
@@ -69,7 +71,15 @@ pub data SymbolForm : Type 0 where
 
 -- what the value of a public symbol says
 abbrev pub public_form : PublicSymbol → PublicForm
-public_form s = record { code = s.code; function = s.function; managed = s.managed; msil = s.msil; offset = s.offset; name = raw_bytes s.name }
+public_form s =
+    record {
+      code = s.code;
+      function = s.function;
+      managed = s.managed;
+      msil = s.msil;
+      offset = s.offset;
+      name = raw_bytes s.name;
+    }
 
 -- what a procedure's value says
 abbrev pub procedure_form : ProcedureSymbol → ProcedureForm
@@ -91,11 +101,27 @@ procedure_form s =
 
 -- what a thunk's value says
 abbrev pub thunk_form : ThunkSymbol → ThunkForm
-thunk_form s = record { parent = s.parent; end = s.end; next = s.next; offset = s.offset; len = s.len; kind = s.kind; name = raw_bytes s.name }
+thunk_form s =
+    record {
+      parent = s.parent;
+      end = s.end;
+      next = s.next;
+      offset = s.offset;
+      len = s.len;
+      kind = s.kind;
+      name = raw_bytes s.name;
+    }
 
 -- what an inlined call's value says
 abbrev pub inline_site_form : InlineSiteSymbol → InlineSiteForm
-inline_site_form s = record { parent = s.parent; end = s.end; inlinee = s.inlinee; invocations = s.invocations; annotations = annotation_bytes s.annotations }
+inline_site_form s =
+    record {
+      parent = s.parent;
+      end = s.end;
+      inlinee = s.inlinee;
+      invocations = s.invocations;
+      annotations = annotation_bytes s.annotations;
+    }
 
 -- what a symbol's value says
 abbrev pub symbol_form : SymbolData → SymbolForm

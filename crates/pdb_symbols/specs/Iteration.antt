@@ -1,4 +1,4 @@
--- A list of symbols that is gone over.
+-- An iteration over a list of symbols.
 use Rattle.std.specs.Prelude.{ℕ, List, length, Option, None, Some, Result, Ok, Err}
 use Rattle.pdb_container.specs.Fault.{Fault}
 use Rattle.pdb_container.specs.Listing.{Listing}
@@ -13,7 +13,7 @@ pub record SymbolIteration : Type 0 where
 abbrev pub iteration_at : List ℕ → ℕ → SymbolIteration
 iteration_at bytes place = record { bytes = bytes; place = place }
 
--- what is found next, and the place behind it
+-- what is found next, and the place after it
 abbrev pub found_next : SymbolIteration → Result (Option (Symbol × ℕ)) Fault
 found_next it = next it.bytes it.place
 
@@ -23,8 +23,8 @@ symbol_of (Ok (Some found)) = Ok (Some found.0)
 symbol_of (Ok None) = Ok None
 symbol_of (Err e) = Err e
 
--- What is still to come behind a step: from behind the symbol on; behind none and behind a fault from the list's end
--- on.
+-- What is still to come after a step: what follows the symbol; after none and after a fault, what
+-- follows the list's end.
 abbrev pub symbols_behind : List ℕ → Result (Option (Symbol × ℕ)) Fault → SymbolIteration
 symbols_behind bytes (Ok (Some found)) = iteration_at bytes found.1
 symbols_behind bytes (Ok None) = iteration_at bytes (length bytes)

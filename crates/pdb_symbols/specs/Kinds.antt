@@ -20,7 +20,8 @@ is_dpc kind = kind == 0x1155 || kind == 0x1156
 
 -- a procedure: S_GPROC32, S_LPROC32 and their like
 abbrev pub is_procedure : ℕ → Bool
-is_procedure kind = is_global kind || is_dpc kind || kind == 0x110f || kind == 0x100a || kind == 0x1146
+is_procedure kind = is_global kind || is_dpc kind || kind == 0x110f || kind == 0x100a
+    || kind == 0x1146
 
 -- a thunk: S_THUNK32, S_THUNK32_ST
 abbrev pub is_thunk : ℕ → Bool
@@ -34,9 +35,10 @@ is_separated_code kind = kind == 0x1132
 abbrev pub is_inline_site : ℕ → Bool
 is_inline_site kind = kind == 0x114d || kind == 0x115d
 
--- a symbol behind which others lie in it, up to the end that it names
+-- a symbol with others inside it, up to the end that it names
 abbrev pub starts_scope : ℕ → Bool
-starts_scope kind = is_procedure kind || is_thunk kind || is_separated_code kind || is_inline_site kind
+starts_scope kind = is_procedure kind || is_thunk kind || is_separated_code kind
+    || is_inline_site kind
 
 -- the end of such a symbol: S_END, S_INLINESITE_END, S_PROC_ID_END
 abbrev pub ends_scope : ℕ → Bool

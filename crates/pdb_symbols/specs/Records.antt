@@ -1,6 +1,7 @@
--- CodeView symbols by their kinds (S_*): fields in order, and the fault of the first that can't be read.
--- The layouts are those of microsoft-pdb's cvinfo.h and of LLVM's CodeView Symbol Records.
-use Rattle.std.specs.Prelude.{ℕ, List, Option, Some, None, Result, Ok, Err, length, drop, slice_index, nat_lt, ◌==◌, if◌then◌else◌}
+-- CodeView symbols by their kinds (S_*): fields in order, and the fault of the first that can't be
+-- read. The layouts are those of microsoft-pdb's cvinfo.h and of LLVM's CodeView Symbol Records.
+use Rattle.std.specs.Prelude.{ℕ, List, Option, Some, None, Result, Ok, Err, length, drop}
+use Rattle.std.specs.Prelude.{slice_index, nat_lt, ◌==◌, if◌then◌else◌}
 use Rattle.pdb_container.specs.Fault.{Fault, UnexpectedEof, UnimplementedSymbolKind, ◌>>=◌, refuse}
 use Rattle.pdb_container.specs.Container.{half_at, word_at}
 use Rattle.pdb_container.specs.Fields.{Reader, c_string_at, pascal_string_at}
@@ -8,8 +9,10 @@ use Rattle.pdb_indices.specs.Bits.{has_bit}
 use Rattle.pdb_indices.specs.declared.numbers.SymbolIndex.{SymbolIndex}
 use Rattle.pdb_symbols.specs.declared.symbol_data.SeparatedCodeSymbol.{SeparatedCodeSymbol}
 use Rattle.pdb_symbols.specs.Forms as forms
-use Rattle.pdb_symbols.specs.Forms.{PublicForm, ProcedureForm, ThunkForm, InlineSiteForm, SymbolForm}
-use Rattle.pdb_symbols.specs.Kinds.{is_public, is_global, is_dpc, is_procedure, is_thunk, is_separated_code, is_inline_site}
+use Rattle.pdb_symbols.specs.Forms.{PublicForm, ProcedureForm, ThunkForm, InlineSiteForm}
+use Rattle.pdb_symbols.specs.Forms.{SymbolForm}
+use Rattle.pdb_symbols.specs.Kinds.{is_public, is_global, is_dpc, is_procedure, is_thunk}
+use Rattle.pdb_symbols.specs.Kinds.{is_separated_code, is_inline_site}
 use Rattle.pdb_symbols.specs.Symbols.{Symbol, kind_of, payload_of}
 
 -- ---- fields
@@ -22,7 +25,7 @@ index_of n = if n == 0 then None else Some record { 0 = n }
 unfoldable pub symbol_name_at : ℕ → Reader (List ℕ)
 symbol_name_at kind bytes = if nat_lt kind 0x1100 then pascal_string_at bytes else c_string_at bytes
 
--- the name behind so many bytes, which are all there
+-- the name after that many bytes, which are all there
 unfoldable pub name_behind : ℕ → ℕ → List ℕ → Result (List ℕ) Fault
 name_behind kind front bytes = do
   whole ← refuse (nat_lt (length bytes) front) UnexpectedEof
@@ -31,7 +34,8 @@ name_behind kind front bytes = do
 
 -- ---- forms
 
--- what the bytes before a public symbol's name say, by the places of their numbers: flags, and a place
+-- what the bytes before a public symbol's name say, by the places of their numbers: flags, and a
+-- place
 abbrev pub public_in : List ℕ → List ℕ → PublicForm
 public_in bytes name = record {
   code = has_bit (word_at bytes 0) 1;
@@ -48,8 +52,8 @@ public_of kind bytes = do
   name ← name_behind kind 10 bytes
   Ok (public_in bytes name)
 
--- What a procedure's kind and the bytes before its name say, by the places of their numbers: indices, length, debug
--- offsets, type, place, and flags.
+-- What a procedure's kind and the bytes before its name say, by the places of their numbers:
+-- indices, length, debug offsets, type, place, and flags.
 abbrev pub procedure_in : ℕ → List ℕ → List ℕ → ProcedureForm
 procedure_in kind bytes name = record {
   global = is_global kind;
@@ -72,8 +76,8 @@ procedure_symbol_at kind bytes = do
   name ← name_behind kind 35 bytes
   Ok (procedure_in kind bytes name)
 
--- What the bytes before a thunk's name say, by the places of their numbers: indices, a place, the length in bytes, and
--- the kind of thunk.
+-- What the bytes before a thunk's name say, by the places of their numbers: indices, a place, the
+-- length in bytes, and the kind of thunk.
 abbrev pub thunk_in : List ℕ → List ℕ → ThunkForm
 thunk_in bytes name = record {
   parent = index_of (word_at bytes 0);
@@ -91,8 +95,8 @@ thunk_of kind bytes = do
   name ← name_behind kind 21 bytes
   Ok (thunk_in bytes name)
 
--- What separated code says, by the places of its numbers: indices, the length, flags, and two places, of which both
--- offsets stand before both sections.
+-- What separated code says, by the places of its numbers: indices, the length, flags, and two
+-- places, of which both offsets stand before both sections.
 abbrev pub separated_code_in : List ℕ → SeparatedCodeSymbol
 separated_code_in bytes = record {
   parent = index_of (word_at bytes 0);
@@ -117,8 +121,8 @@ inline_site_front kind = if kind == 0x115d then 16 else 12
 abbrev pub invocations_in : ℕ → List ℕ → Option ℕ
 invocations_in kind bytes = if kind == 0x115d then Some (word_at bytes 12) else None
 
--- What an inlined call says, by the places of its numbers: indices, the inlinee, how often it is called, and the
--- annotations, which go to the record's end.
+-- What an inlined call says, by the places of its numbers: indices, the inlinee, how often it is
+-- called, and the annotations, which go to the record's end.
 abbrev pub inline_site_in : ℕ → List ℕ → InlineSiteForm
 inline_site_in kind bytes = record {
   parent = index_of (word_at bytes 0);
@@ -148,7 +152,7 @@ end_form kind =
     else (if kind == 0x114e then Ok forms.InlineSiteEnd
     else Err (UnimplementedSymbolKind kind)))
 
--- what a symbol of a kind says, by the bytes behind the kind
+-- what a symbol of a kind says, by the bytes after the kind
 unfoldable pub form_of : ℕ → List ℕ → Result SymbolForm Fault
 form_of kind bytes =
     if is_public kind then as_form forms.Public (public_of kind bytes)

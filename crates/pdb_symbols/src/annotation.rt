@@ -2,14 +2,16 @@
 
 ghost use Rattle.std.specs.Prelude.{◌≡◌, ◌<◌, ◌≤◌, ◌^◌, length, IfOk};
 ghost use Rattle.pdb_container.specs.Buffer.{rest, ParsesFront};
-ghost use Rattle.pdb_symbols.specs.Annotations.{is_emitting, with_operand, with_operand_at, with_length_at, behind_opcode, annotation_or_end};
+ghost use Rattle.pdb_symbols.specs.Annotations.{is_emitting, with_operand, with_operand_at};
+ghost use Rattle.pdb_symbols.specs.Annotations.{with_length_at, behind_opcode, annotation_or_end};
 ghost use Rattle.pdb_symbols.specs.Numbers.{signed_of, second_at, others_at, compressed_at};
 
 use pdb_container::{Error, ParseBuffer, Result};
 use pdb_indices::FileIndex;
 
-/// A binary annotation: a step of the list that tells where an inlined call's code lies, and of which lines it was
-/// made. Three of them give a row of what all steps up to it say. Offsets and lengths are in bytes.
+/// A binary annotation: a step of the list that says where an inlined call's code lies, and from
+/// which lines it was made. Three kinds of them give a row of what all steps up to it say. Offsets
+/// and lengths are in bytes.
 #[derive(Clone, Copy, Debug, PartialEq, Eq)]
 pub enum BinaryAnnotation {
     /// Opcode 1: the code's offset is this one.
@@ -24,17 +26,20 @@ pub enum BinaryAnnotation {
     ChangeFile(FileIndex),
     /// Opcode 6: the line moves by so much.
     ChangeLineOffset(i32),
-    /// Opcode 7: the last line lies so far behind the first.
+    /// Opcode 7: how many lines after the first one the last one lies.
     ChangeLineEndDelta(u32),
-    /// Opcode 8: the rows are of an expression at 0, of a statement at 1; another number changes nothing.
+    /// Opcode 8: the rows are of an expression at 0, of a statement at 1; another number changes
+    /// nothing.
     ChangeRangeKind(u32),
     /// Opcode 9: the first column is this one.
     ChangeColumnStart(u32),
     /// Opcode 10: the last column moves by so much.
     ChangeColumnEndDelta(i32),
-    /// Opcode 11: the code's offset moves on by the first number and the line by the second; a row begins there.
+    /// Opcode 11: the code's offset moves on by the first number and the line by the second; a row
+    /// begins there.
     ChangeCodeOffsetAndLineOffset(u32, i32),
-    /// Opcode 12: the code's offset moves on by the second number; a row begins there, as long as the first number.
+    /// Opcode 12: the code's offset moves on by the second number; a row begins there, as long as
+    /// the first number.
     ChangeCodeLengthAndCodeOffset(u32, u32),
     /// Opcode 13: the last column is this one.
     ChangeColumnEnd(u32),
@@ -54,20 +59,22 @@ impl BinaryAnnotation {
     }
 }
 
-/// The rest of a number of two bytes, behind the first.
+/// The rest of a number of two bytes, after the first.
 #[tactic(auto, unfolding(crate::specs::Numbers::second_at))]
 fn parse_second(buffer: &mut ParseBuffer<'_>, first: u8) -> Result<u32>
-    ensures value { ParsesFront (λ n. n) result (rest buffer.new) (second_at first (rest buffer.old)) }
+    ensures value { ParsesFront (λ n. n) result (rest buffer.new)
+        (second_at first (rest buffer.old)) }
     ensures taken { length (rest buffer.new) ≤ length (rest buffer.old) }
 {
     let second = buffer.parse_u8()?;
     Ok(u32::from(first % 64) * 256 + u32::from(second))
 }
 
-/// The rest of a number of four bytes, behind the first.
+/// The rest of a number of four bytes, after the first.
 #[tactic(auto, unfolding(crate::specs::Numbers::others_at))]
 fn parse_others(buffer: &mut ParseBuffer<'_>, first: u8) -> Result<u32>
-    ensures value { ParsesFront (λ n. n) result (rest buffer.new) (others_at first (rest buffer.old)) }
+    ensures value { ParsesFront (λ n. n) result (rest buffer.new)
+        (others_at first (rest buffer.old)) }
     ensures taken { length (rest buffer.new) ≤ length (rest buffer.old) }
 {
     let second = buffer.parse_u8()?;
@@ -80,7 +87,8 @@ fn parse_others(buffer: &mut ParseBuffer<'_>, first: u8) -> Result<u32>
 /// A number of one, two or four bytes.
 #[tactic(auto, unfolding(crate::specs::Numbers::compressed_at))]
 fn parse_number(buffer: &mut ParseBuffer<'_>) -> Result<u32>
-    ensures value { ParsesFront (λ n. n) result (rest buffer.new) (compressed_at (rest buffer.old)) }
+    ensures value { ParsesFront (λ n. n) result (rest buffer.new)
+        (compressed_at (rest buffer.old)) }
     ensures taken { IfOk result (λ _. length (rest buffer.new) < length (rest buffer.old)) }
 {
     let first = buffer.parse_u8()?;
@@ -129,7 +137,8 @@ fn with_one(opcode: u32, operand: u32) -> BinaryAnnotation
 /// An annotation of one operand, which is read.
 #[tactic(auto, unfolding(crate::specs::Annotations::with_operand_at))]
 fn parse_with_operand(buffer: &mut ParseBuffer<'_>, opcode: u32) -> Result<BinaryAnnotation>
-    ensures value { ParsesFront (λ a. a) result (rest buffer.new) (with_operand_at opcode (rest buffer.old)) }
+    ensures value { ParsesFront (λ a. a) result (rest buffer.new)
+        (with_operand_at opcode (rest buffer.old)) }
     ensures taken { IfOk result (λ _. length (rest buffer.new) ≤ length (rest buffer.old)) }
 {
     let operand = parse_number(buffer)?;
@@ -139,7 +148,8 @@ fn parse_with_operand(buffer: &mut ParseBuffer<'_>, opcode: u32) -> Result<Binar
 /// The annotation of two operands.
 #[tactic(auto, unfolding(crate::specs::Annotations::with_length_at))]
 fn parse_with_length(buffer: &mut ParseBuffer<'_>) -> Result<BinaryAnnotation>
-    ensures value { ParsesFront (λ a. a) result (rest buffer.new) (with_length_at (rest buffer.old)) }
+    ensures value { ParsesFront (λ a. a) result (rest buffer.new)
+        (with_length_at (rest buffer.old)) }
     ensures taken { IfOk result (λ _. length (rest buffer.new) ≤ length (rest buffer.old)) }
 {
     let length = parse_number(buffer)?;
@@ -147,10 +157,11 @@ fn parse_with_length(buffer: &mut ParseBuffer<'_>) -> Result<BinaryAnnotation>
     Ok(BinaryAnnotation::ChangeCodeLengthAndCodeOffset(length, offset))
 }
 
-/// What stands behind an opcode that is no end.
+/// What follows an opcode that is no end.
 #[tactic(auto, unfolding(crate::specs::Annotations::behind_opcode))]
 fn parse_behind(buffer: &mut ParseBuffer<'_>, opcode: u32) -> Result<BinaryAnnotation>
-    ensures value { ParsesFront (λ a. a) result (rest buffer.new) (behind_opcode opcode (rest buffer.old)) }
+    ensures value { ParsesFront (λ a. a) result (rest buffer.new)
+        (behind_opcode opcode (rest buffer.old)) }
     ensures taken { IfOk result (λ _. length (rest buffer.new) ≤ length (rest buffer.old)) }
 {
     if opcode == 12 {
@@ -165,7 +176,8 @@ fn parse_behind(buffer: &mut ParseBuffer<'_>, opcode: u32) -> Result<BinaryAnnot
 /// An annotation, or the end.
 #[tactic(auto, unfolding(crate::specs::Annotations::annotation_or_end))]
 pub(crate) fn parse_annotation(buffer: &mut ParseBuffer<'_>) -> Result<Option<BinaryAnnotation>>
-    ensures value { ParsesFront (λ a. a) result (rest buffer.new) (annotation_or_end (rest buffer.old)) }
+    ensures value { ParsesFront (λ a. a) result (rest buffer.new)
+        (annotation_or_end (rest buffer.old)) }
     ensures taken { IfOk result (λ _. length (rest buffer.new) < length (rest buffer.old)) }
 {
     let opcode = parse_number(buffer)?;

@@ -34,8 +34,9 @@ impl<'t> BinaryAnnotations<'t> {
     }
 }
 
-/// An iterator over binary annotations. One that can't be read is returned as its fault, `UnexpectedEof`,
-/// `InvalidCompressedAnnotation` or `UnknownBinaryAnnotation`, and none comes behind it.
+/// An iterator over binary annotations. In place of one that can't be read it returns its fault:
+/// `UnexpectedEof`, `InvalidCompressedAnnotation` or `UnknownBinaryAnnotation`. Nothing comes after
+/// a fault.
 #[derive(Debug, Drop)]
 pub struct BinaryAnnotationsIter<'t> {
     buffer: ParseBuffer<'t>,

@@ -3,8 +3,8 @@
 use crate::annotations::BinaryAnnotations;
 use pdb_indices::{IdIndex, SymbolIndex};
 
-/// An inline site (`S_INLINESITE`, `S_INLINESITE2`), which is an inlined call: the symbol around it and the one that
-/// ends it, which function was inlined, and where its code lies.
+/// An inline site (`S_INLINESITE`, `S_INLINESITE2`), which is an inlined call: the symbol around it
+/// and the one that ends it, which function was inlined, and where its code lies.
 #[derive(Clone, Copy, Debug)]
 pub struct InlineSiteSymbol<'t> {
     /// The symbol around it, where one is named.

@@ -1,8 +1,15 @@
-//! Kinds of CodeView symbols (`S_*`, SYM_ENUM_e of microsoft-pdb's cvinfo.h): the numbers that say what a symbol is.
-//! `_ST` marks an older form, whose name is a Pascal string.
+//! Kinds of CodeView symbols (`S_*`, SYM_ENUM_e of microsoft-pdb's cvinfo.h): the numbers that say
+//! what a symbol is. `_ST` marks an older form, whose name is a Pascal string.
 
 ghost use Rattle.std.specs.Prelude.{◌≡◌};
-ghost use Rattle.pdb_symbols.specs.Kinds.{is_padding as is_padding_kind, is_public as is_public_kind, is_global as is_global_kind, is_dpc as is_dpc_kind, is_procedure as is_procedure_kind, is_thunk as is_thunk_kind, is_separated_code as is_separated_code_kind, is_inline_site as is_inline_site_kind, starts_scope as starts_scope_kind, ends_scope as ends_scope_kind, has_form as has_form_kind};
+ghost use Rattle.pdb_symbols.specs.Kinds.{is_padding as is_padding_kind};
+ghost use Rattle.pdb_symbols.specs.Kinds.{is_public as is_public_kind, is_global as is_global_kind};
+ghost use Rattle.pdb_symbols.specs.Kinds.{is_dpc as is_dpc_kind, is_procedure as is_procedure_kind};
+ghost use Rattle.pdb_symbols.specs.Kinds.{is_thunk as is_thunk_kind};
+ghost use Rattle.pdb_symbols.specs.Kinds.{is_separated_code as is_separated_code_kind};
+ghost use Rattle.pdb_symbols.specs.Kinds.{is_inline_site as is_inline_site_kind};
+ghost use Rattle.pdb_symbols.specs.Kinds.{starts_scope as starts_scope_kind};
+ghost use Rattle.pdb_symbols.specs.Kinds.{ends_scope as ends_scope_kind, has_form as has_form_kind};
 
 /// The end of a scope (0x0006).
 pub const S_END: u16 = 0x0006;
@@ -124,8 +131,8 @@ pub fn is_inline_site(kind: u16) -> bool
     kind == S_INLINESITE || kind == S_INLINESITE2
 }
 
-/// Whether the kind is that of a symbol in which others may lie: a procedure, a thunk, separated code or an inline
-/// site.
+/// Whether the kind is that of a symbol in which others may lie: a procedure, a thunk, separated
+/// code or an inline site.
 pub fn starts_scope(kind: u16) -> bool
     ensures { result ≡ starts_scope_kind kind }
 {

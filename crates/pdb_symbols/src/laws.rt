@@ -1,20 +1,25 @@
 //! Laws of the definitions: functions that do nothing, whose contracts are proved.
 
 ghost use Rattle.std.specs.Prelude.{◌≡◌, ℕ, List, Ok, Some};
-ghost use Rattle.pdb_symbols.specs.Symbols.{Symbol as SymbolValue, next, next_by_step, symbol_before, symbols_from, IsFound};
+ghost use Rattle.pdb_symbols.specs.Symbols.{Symbol as SymbolValue, next, next_by_step};
+ghost use Rattle.pdb_symbols.specs.Symbols.{symbol_before, symbols_from, IsFound};
 
-/// From a place on, none is found at the end and past it. Else what stands there counts: a fault is returned, a symbol
-/// is found, and behind what lies between symbols the search goes on.
+/// At the end of the list and past it nothing is found. Else what stands at the place counts: a
+/// fault is returned, a symbol is found, and after what lies between symbols the search goes on.
 pub fn next_by_one_step()
     ensures { (bytes : List ℕ) (place : ℕ) → next bytes place ≡ next_by_step bytes place }
 {}
 
-/// A symbol that is found from a place on stands there or later, within the list, and is found from its index on.
+/// A symbol that is found from a place on stands there or later, within the list, and is found from
+/// its index on.
 pub fn found_symbols()
-    ensures { (bytes : List ℕ) (place : ℕ) (s : SymbolValue) (behind : ℕ) → next bytes place ≡ Ok (Some (s, behind)) → IsFound bytes place s behind }
+    ensures { (bytes : List ℕ) (place : ℕ) (s : SymbolValue) (behind : ℕ)
+        → next bytes place ≡ Ok (Some (s, behind)) → IsFound bytes place s behind }
 {}
 
-/// The symbols from a place on are the first one and those behind it, or end as the search for it does.
+/// The symbols from a place on are the first one and those after it, or end as the search for it
+/// does.
 pub fn symbols_by_one_step()
-    ensures { (bytes : List ℕ) (place : ℕ) → symbols_from bytes place ≡ symbol_before (symbols_from bytes) (next bytes place) }
+    ensures { (bytes : List ℕ) (place : ℕ) → symbols_from bytes place
+        ≡ symbol_before (symbols_from bytes) (next bytes place) }
 {}

@@ -5,8 +5,19 @@ ghost use Rattle.pdb_container.specs.Buffer.{rest, ParsesFront};
 ghost use Rattle.pdb_container.specs.Fault.{Parses};
 ghost use Rattle.pdb_container.specs.RawString.{raw_bytes};
 ghost use Rattle.pdb_symbols.specs.Forms as forms;
-ghost use Rattle.pdb_symbols.specs.Forms.{symbol_form, public_form, procedure_form, thunk_form, inline_site_form};
-ghost use Rattle.pdb_symbols.specs.Records.{index_of, symbol_name_at, name_behind as name_behind_front, inline_site_front, invocations_in as invocations_of, inline_site_in as inline_site_of_front, public_in as public_of_front, procedure_in as procedure_of_front, thunk_in as thunk_of_front, separated_code_in as separated_code_of_front, public_of, procedure_symbol_at, thunk_of, separated_code_of, inline_site_of, as_form, end_form, form_of, symbol_form_of};
+ghost use Rattle.pdb_symbols.specs.Forms.{symbol_form, public_form, procedure_form, thunk_form};
+ghost use Rattle.pdb_symbols.specs.Forms.{inline_site_form};
+ghost use Rattle.pdb_symbols.specs.Records.{index_of, symbol_name_at};
+ghost use Rattle.pdb_symbols.specs.Records.{name_behind as name_behind_front, inline_site_front};
+ghost use Rattle.pdb_symbols.specs.Records.{invocations_in as invocations_of};
+ghost use Rattle.pdb_symbols.specs.Records.{inline_site_in as inline_site_of_front};
+ghost use Rattle.pdb_symbols.specs.Records.{public_in as public_of_front};
+ghost use Rattle.pdb_symbols.specs.Records.{procedure_in as procedure_of_front};
+ghost use Rattle.pdb_symbols.specs.Records.{thunk_in as thunk_of_front};
+ghost use Rattle.pdb_symbols.specs.Records.{separated_code_in as separated_code_of_front};
+ghost use Rattle.pdb_symbols.specs.Records.{public_of, procedure_symbol_at, thunk_of};
+ghost use Rattle.pdb_symbols.specs.Records.{separated_code_of, inline_site_of, as_form, end_form};
+ghost use Rattle.pdb_symbols.specs.Records.{form_of, symbol_form_of};
 
 use crate::annotations::BinaryAnnotations;
 use crate::inline_site::InlineSiteSymbol;
@@ -26,7 +37,8 @@ impl<'t> Symbol<'t> {
     /// What the symbol says, by its kind (`S_*`).
     ///
     /// # Errors
-    /// `UnimplementedSymbolKind` for a kind without a form, `UnexpectedEof` where bytes are missing.
+    /// `UnimplementedSymbolKind` for a kind without a form, `UnexpectedEof` where bytes are
+    /// missing.
     #[tactic(auto, unfolding(crate::specs::Records::symbol_form_of))]
     pub fn parse(&self) -> Result<SymbolData<'t>>
         ensures { Parses symbol_form result (symbol_form_of self.now) }
@@ -35,7 +47,8 @@ impl<'t> Symbol<'t> {
     }
 }
 
-/// What the bytes behind a kind say. Most symbols of a module are of kinds without a form: these are told first.
+/// What the bytes after a kind say. Most symbols of a module are of kinds without a form: these are
+/// sorted out first.
 #[tactic(auto, unfolding(crate::specs::Records::form_of, crate::specs::Records::end_form))]
 fn parse_form(kind: u16, payload: &[u8]) -> Result<SymbolData<'_>>
     ensures { Parses symbol_form result (form_of kind payload.now) }
@@ -84,7 +97,8 @@ fn optional_index(number: u32) -> Option<SymbolIndex>
 /// A name: for kinds below 0x1100 a Pascal string, else a C string.
 #[tactic(auto, unfolding(crate::specs::Records::symbol_name_at))]
 fn parse_name<'t>(kind: u16, buffer: &mut ParseBuffer<'t>) -> Result<RawString<'t>>
-    ensures { ParsesFront raw_bytes result (rest buffer.new) (symbol_name_at kind (rest buffer.old)) }
+    ensures { ParsesFront raw_bytes result (rest buffer.new)
+        (symbol_name_at kind (rest buffer.old)) }
 {
     if kind < 0x1100 {
         buffer.parse_u8_pascal_string()
@@ -93,7 +107,7 @@ fn parse_name<'t>(kind: u16, buffer: &mut ParseBuffer<'t>) -> Result<RawString<'
     }
 }
 
-/// The name behind so many bytes. `UnexpectedEof` where these aren't all there.
+/// The name after `front` bytes. `UnexpectedEof` where these aren't all there.
 #[tactic(auto, unfolding(crate::specs::Records::name_behind))]
 fn name_behind(kind: u16, front: usize, payload: &[u8]) -> Result<RawString<'_>>
     ensures name { Parses raw_bytes result (name_behind_front kind front payload.now) }
@@ -134,7 +148,8 @@ fn public_in<'t>(bytes: &[u8], name: RawString<'t>) -> PublicSymbol<'t>
 
 #[tactic(auto, unfolding(crate::specs::Records::procedure_symbol_at))]
 fn parse_procedure(kind: u16, payload: &[u8]) -> Result<SymbolData<'_>>
-    ensures { Parses symbol_form result (as_form forms.Procedure (procedure_symbol_at kind payload.now)) }
+    ensures { Parses symbol_form result
+        (as_form forms.Procedure (procedure_symbol_at kind payload.now)) }
 {
     let name = name_behind(kind, 35, payload)?;
     Ok(SymbolData::Procedure(procedure_in(kind, payload, name)))
@@ -193,7 +208,8 @@ fn thunk_in<'t>(bytes: &[u8], name: RawString<'t>) -> ThunkSymbol<'t>
 
 #[tactic(auto, unfolding(crate::specs::Records::separated_code_of))]
 fn parse_separated_code(payload: &[u8]) -> Result<SymbolData<'_>>
-    ensures { Parses symbol_form result (as_form forms.SeparatedCode (separated_code_of payload.now)) }
+    ensures { Parses symbol_form result
+        (as_form forms.SeparatedCode (separated_code_of payload.now)) }
 {
     if payload.len() < 28 {
         return Err(Error::UnexpectedEof);
@@ -243,7 +259,8 @@ fn invocations_in(kind: u16, bytes: &[u8]) -> Option<u32>
 
 #[tactic(auto, unfolding(crate::specs::Records::inline_site_of))]
 fn parse_inline_site(kind: u16, payload: &[u8]) -> Result<SymbolData<'_>>
-    ensures { Parses symbol_form result (as_form forms.InlineSite (inline_site_of kind payload.now)) }
+    ensures { Parses symbol_form result
+        (as_form forms.InlineSite (inline_site_of kind payload.now)) }
 {
     if payload.len() < inline_site_size(kind) {
         return Err(Error::UnexpectedEof);

@@ -10,8 +10,8 @@ use pdb_container::{Error, Result, half_at};
 use pdb_indices::SymbolIndex;
 use std::marker::Model;
 
-/// A CodeView symbol: the place of its length in the bytes of its list, and the bytes behind the length, which begin
-/// with its kind.
+/// A CodeView symbol: the place of its length in the bytes of its list, and the bytes after the
+/// length, which begin with its kind.
 #[derive(Debug, Drop)]
 pub struct Symbol<'t> {
     index: SymbolIndex,
@@ -44,15 +44,15 @@ impl<'t> Symbol<'t> {
         u16::from_le_bytes([self.bytes[0], self.bytes[1]])
     }
 
-    /// The record's bytes behind the length: the kind, and what follows it.
+    /// The record's bytes after the length: the kind, and what follows it.
     pub fn raw_bytes(&self) -> &'t [u8]
         ensures { result.now ≡ self.now.bytes }
     {
         self.bytes
     }
 
-    /// Whether it is a procedure, a thunk, separated code or an inline site, by its kind: then other symbols may lie in
-    /// it. It isn't parsed for that, so a walk asks before it parses.
+    /// Whether it is a procedure, a thunk, separated code or an inline site, by its kind: then
+    /// other symbols may lie in it. It isn't parsed for that, so a walk asks before it parses.
     pub fn starts_scope(&self) -> bool
         ensures { result ≡ starts_scope (kind_of self.now) }
     {
@@ -66,7 +66,7 @@ impl<'t> Symbol<'t> {
         kinds::ends_scope(self.raw_kind())
     }
 
-    /// The bytes behind its kind.
+    /// The bytes after its kind.
     pub(crate) fn payload(&self) -> &'t [u8]
         ensures { result.now ≡ payload_of self.now }
     {
@@ -74,7 +74,8 @@ impl<'t> Symbol<'t> {
     }
 }
 
-/// What stands at a place of a list's bytes, and the place behind it. `SymbolTooShort`, `UnexpectedEof`.
+/// What stands at a place of a list's bytes, and the place after it. `SymbolTooShort`,
+/// `UnexpectedEof`.
 #[tactic(auto, using(pdb_container::proofs::Taking::drop_within), unfolding(crate::specs::Symbols::symbol_at))]
 pub(crate) fn parse_symbol(bytes: &[u8], place: usize) -> Result<(Symbol<'_>, usize)>
     requires { length bytes.now < 2 ^ 32 }

@@ -43,8 +43,8 @@ pub struct PublicSymbol<'t> {
     pub name: RawString<'t>,
 }
 
-/// A procedure (`S_GPROC32`, `S_LPROC32` and their like): a function's code. An index 0 for the symbol around it or the
-/// next one is none.
+/// A procedure (`S_GPROC32`, `S_LPROC32` and their like): a function's code. An index 0 for the
+/// symbol around it or the next one is none.
 #[derive(Clone, Copy, Debug, PartialEq, Eq)]
 pub struct ProcedureSymbol<'t> {
     /// Whether other modules see it, by its kind.
@@ -73,8 +73,8 @@ pub struct ProcedureSymbol<'t> {
     pub name: RawString<'t>,
 }
 
-/// A thunk (`S_THUNK32`): a piece of code that leads to another. An index 0 for the symbol around it or the next one is
-/// none.
+/// A thunk (`S_THUNK32`): a piece of code that leads to another. An index 0 for the symbol around
+/// it or the next one is none.
 #[derive(Clone, Copy, Debug, PartialEq, Eq)]
 pub struct ThunkSymbol<'t> {
     /// The symbol around it, where one is named.
@@ -93,7 +93,8 @@ pub struct ThunkSymbol<'t> {
     pub name: RawString<'t>,
 }
 
-/// Separated code (`S_SEPCODE`) of a procedure, which lies apart from it. An index 0 for the symbol around it is none.
+/// Separated code (`S_SEPCODE`) of a procedure, which lies apart from it. An index 0 for the symbol
+/// around it is none.
 #[derive(Clone, Copy, Debug, PartialEq, Eq)]
 pub struct SeparatedCodeSymbol {
     /// The symbol around it, where one is named.
@@ -106,6 +107,7 @@ pub struct SeparatedCodeSymbol {
     pub flags: u32,
     /// Where its code begins: a section's number, counted from 1, and an offset in bytes.
     pub offset: PdbInternalSectionOffset,
-    /// Where the code of its procedure begins: a section's number, counted from 1, and an offset in bytes.
+    /// Where the code of its procedure begins: a section's number, counted from 1, and an offset in
+    /// bytes.
     pub parent_offset: PdbInternalSectionOffset,
 }

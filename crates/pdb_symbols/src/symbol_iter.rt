@@ -3,7 +3,8 @@
 ghost use Rattle.std.specs.Prelude.{◌≡◌, ◌<◌, ◌≤◌, ◌^◌, length};
 ghost use Rattle.pdb_container.specs.Fault.{Parses};
 ghost use Rattle.pdb_container.specs.Listing.{Advances};
-ghost use Rattle.pdb_symbols.specs.Iteration.{iteration_at, found_next, symbol_of, symbols_behind, symbols_left};
+ghost use Rattle.pdb_symbols.specs.Iteration.{iteration_at, found_next, symbol_of, symbols_behind};
+ghost use Rattle.pdb_symbols.specs.Iteration.{symbols_left};
 ghost use Rattle.pdb_symbols.specs.Symbols.{next};
 
 use crate::kinds::is_padding;
@@ -12,8 +13,8 @@ use pdb_container::{Error, FallibleIterator, Result};
 use pdb_indices::SymbolIndex;
 use std::marker::Model;
 
-/// An iterator over the symbols of a list in their order. At the end and behind an error it stands at the list's end,
-/// and returns `None` until it is sent to a place again.
+/// An iterator over the symbols of a list in their order. At the end and after an error it stands
+/// at the list's end, and returns `None` until it is sent to a place again.
 #[derive(Debug, Drop)]
 pub struct SymbolIter<'t> {
     bytes: &'t [u8],
@@ -43,16 +44,16 @@ impl<'t> SymbolIter<'t> {
         }
     }
 
-    /// Goes to a place, in bytes. The next symbol is the first one there or later; at the end, and past it, there is
-    /// none.
+    /// Goes to a place, in bytes. The next symbol is the first one there or later; at the end, and
+    /// past it, there is none.
     pub fn seek(&mut self, index: SymbolIndex)
         ensures { self.new ≡ iteration_at self.old.bytes index.0 }
     {
         self.place = index.0 as usize;
     }
 
-    /// The first symbol at a place or later, as the next symbol once the iterator was sent there: it goes on behind
-    /// that symbol. Where there is none, and after an error, it goes to the list's end, and returns `None` until it is
+    /// The first symbol at a place or later. The iterator then goes on after that symbol. Where
+    /// there is none, and after an error, it goes to the list's end, and returns `None` until it is
     /// sent to a place again.
     ///
     /// # Errors
@@ -77,8 +78,8 @@ impl<'t> FallibleIterator for SymbolIter<'t> {
         × (new ≡ symbols_behind old.bytes (found_next old))
         × Advances (λ s. s) (symbols_left old) result (symbols_left new) };
 
-    /// The next symbol: the first one at the iterator's place or later. Where there is none, and after an error, it
-    /// goes to the list's end.
+    /// The next symbol: the first one at the iterator's place or later. Where there is none, and
+    /// after an error, it goes to the list's end.
     ///
     /// # Errors
     /// `SymbolTooShort` and `UnexpectedEof`.
@@ -101,7 +102,7 @@ impl<'t> FallibleIterator for SymbolIter<'t> {
     }
 }
 
-/// The first symbol at a place or later, and the place behind it. `SymbolTooShort`, `UnexpectedEof`.
+/// The first symbol at a place or later, and the place after it. `SymbolTooShort`, `UnexpectedEof`.
 #[tactic(auto, using(crate::proofs::Lists::next_past, crate::proofs::Lists::next_found, crate::proofs::Lists::next_behind, crate::proofs::Lists::behind_further, crate::proofs::Lists::behind_within))]
 fn next_symbol(bytes: &[u8], start: usize) -> Result<Option<(Symbol<'_>, usize)>>
     requires { length bytes.now < 2 ^ 32 }

@@ -12,5 +12,8 @@ loop-passed-preserved c =
     let s = rw c.in-Ok-Some.field-0-is at c.in-Ok-Some.ensures.item in
     let more : c.loop-passed.passed < c.args.skip = omega arith in
     let count = c.in-Ok-Some.ensures.count in
-    let so_far = c.loop-passed.invariant.1 in
-    (walk_more c.args.first c.args.skip c.loop-passed.passed _ _ _ _ more s.0 c.loop-passed.invariant.0, omega arith)
+    let so_far = c.loop-passed.invariant.1 in (
+      walk_more c.args.first c.args.skip c.loop-passed.passed _ _ _ _ more s.0
+          c.loop-passed.invariant.0,
+      omega arith,
+    )

@@ -6,4 +6,6 @@ use Rattle.pdb_records.proofs.parse_list.parse_dimensions.Given as goal
 
 -- what was read, and what is still read, are the sizes
 abbrev pub invariant-loop : goal.invariant-loop
-invariant-loop l = many_front l.dimensions.items (dimensions_within (l.count - l.counter) (rest l.buffer)) ≡ dimensions_at (rest l.initial.buffer)
+invariant-loop l = many_front l.dimensions.items
+    (dimensions_within (l.count - l.counter) (rest l.buffer))
+    ≡ dimensions_at (rest l.initial.buffer)

@@ -7,4 +7,6 @@ use Rattle.pdb_records.proofs.parse_list.parse_methods.Given as goal
 
 -- what was read, and what is still read, are the entries
 abbrev pub invariant-loop : goal.invariant-loop
-invariant-loop l = entries_front l.methods.items (entries_within method_list_entry_at (length l.bytes - l.counter) (rest l.buffer)) ≡ entries_within method_list_entry_at (length l.bytes) l.bytes
+invariant-loop l = entries_front l.methods.items
+    (entries_within method_list_entry_at (length l.bytes - l.counter) (rest l.buffer))
+    ≡ entries_within method_list_entry_at (length l.bytes) l.bytes

@@ -6,4 +6,5 @@ use Rattle.pdb_records.proofs.parse_record.parse_field_list.Given as goal
 
 -- what was read, and what is still read, are the members
 abbrev pub invariant-loop : goal.invariant-loop
-invariant-loop l = fields_within (l.count - l.counter) (map plain_shape l.fields.items) l.continuation (rest l.buffer) ≡ field_list_of (rest l.initial.buffer)
+invariant-loop l = fields_within (l.count - l.counter) (map plain_shape l.fields.items)
+    l.continuation (rest l.buffer) ≡ field_list_of (rest l.initial.buffer)

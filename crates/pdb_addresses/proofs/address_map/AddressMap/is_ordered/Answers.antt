@@ -7,7 +7,8 @@ pub returns-then-is_in_order-clause-meaning : goal.returns-then-is_in_order-clau
 returns-then-is_in_order-clause-meaning c =
     let first = c.is_in_order.ensures ∙ ap is_in_order c.to_internal.ensures in
     let second = c.is_in_order-then-is_in_order.ensures ∙ ap is_in_order c.to_image.ensures in
-    second_decides c.args.self.now c.is_in_order.result c.is_in_order-then-is_in_order.result first c.if-is_in_order.true second
+    second_decides c.args.self.now c.is_in_order.result c.is_in_order-then-is_in_order.result first
+    c.if-is_in_order.true second
 
 pub returns-else-is_in_order-clause-meaning : goal.returns-else-is_in_order-clause-meaning
 returns-else-is_in_order-clause-meaning c =

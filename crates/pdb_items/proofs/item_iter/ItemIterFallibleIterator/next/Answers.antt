@@ -17,7 +17,8 @@ pub returns-in-Ok-Some-clause-step : goal.returns-in-Ok-Some-clause-step
 returns-in-Ok-Some-clause-step g c =
     let s = rw c.in-Ok-Some.field-0-is at c.in-Ok-Some.ensures.item in
     let e = number_here _ _ _ _ _ c.self.invariant.0 s.0 in
-    rw (← c.self.view_is, c.in-Reading.is, e) (refl, g.met.I.ItemIndex.from_number _ _ (omega arith) c.from-index.ensures, rw s.3 refl)
+    rw (← c.self.view_is, c.in-Reading.is, e)
+    (refl, g.met.I.ItemIndex.from_number _ _ (omega arith) c.from-index.ensures, rw s.3 refl)
 
 pub returns-in-Err-clause-step : goal.returns-in-Err-clause-step
 returns-in-Err-clause-step g c =
