@@ -43,8 +43,9 @@ def once(which, pdb, asked):
 
 
 def written(which, pdb, asked):
-    """What a program writes, without the rows of frames, which the ported crate doesn't tell."""
-    text = subprocess.run([which, "frames", pdb], stdin=open(asked, "rb"), capture_output=True).stdout
+    """What a program writes, without the rows of frames, which the ported crate doesn't report."""
+    command = [which, "frames", pdb]
+    text = subprocess.run(command, stdin=open(asked, "rb"), capture_output=True).stdout
     return re.sub(rb"(?m) @(0x[0-9a-f]{8}\+(\d+|\?\?)|\?\?)$", b"", text)
 
 

@@ -5,9 +5,10 @@
 #
 # OUT, outside the repository, gets the generated sources, their databases and lists of addresses; what is there is used again.
 # PROGRAM is the built pdb_symbolizer, by default the proved one in crates/pdb_symbolizer/out. ORIGINAL, if given, is the ported
-# crate to compare with: a program that is called as `ORIGINAL frames FILE < ADDRESSES` and writes the same report, with or
-# without the rows of frames (` @START+LENGTH`), or the folder of a Cargo workspace that has one, which is built by
-# `cargo build --release`. Without it its columns are left out.
+# crate to compare with: a program that is called as `ORIGINAL frames FILE < ADDRESSES` and writes
+# the same report, with or without the rows of frames (` @START+LENGTH`), or the folder of a Cargo
+# workspace that has one, which is built by `cargo build --release`. Without it its columns are left
+# out.
 # Times are the least of five runs in turn, and ratios are given from three such rounds: a shared machine varies by a third.
 # With --count instructions and cache misses are counted too, by valgrind, which takes some minutes.
 #

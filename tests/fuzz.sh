@@ -22,8 +22,9 @@ count = int(words[1]) if len(words) > 1 else 1000
 seed = int(words[2]) if len(words) > 2 else 1
 MAGIC = b"Microsoft C/C++ MSF 7.00\r\n\x1aDS\0\0\0"
 FAULT = re.compile(rb"fault: [A-Za-z]+(\(.*\))?\n")
+ROW = r"@(0x[0-9a-f]{8}\+(\d+|\?\?)|\?\?)"
 # names are written as they are stored, also with a newline in them
-ANSWER = re.compile(r"(?s)  (\?\?|unreadable|.* at .*:(\d+|\?\?) @(0x[0-9a-f]{8}\+(\d+|\?\?)|\?\?))\n")
+ANSWER = re.compile(r"(?s)  (\?\?|unreadable|.* at .*:(\d+|\?\?) " + ROW + r")\n")
 SIZES = re.compile(r"(?s)(0x[0-9a-f]{8} \d+ .*\n)?none (\d+)\n")
 SPAN = (0x1000, 0x1200)
 ADDRESSES = [*range(0x1000, 0x1200, 3), 0, 0xFFFFFFFF]

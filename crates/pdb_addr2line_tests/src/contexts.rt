@@ -167,7 +167,11 @@ fn copies_of_frames(rt: HostRuntime) -> Result<(), Fail> {
     let text = answer(rt.alloc(), cross_imports(rt.alloc())?, Question::Frames)?;
     assert_eq!(rt;
         text.as_str(),
-        r#"FunctionFrames { start_rva: 4112, end_rva: Some(4144), frames: [Frame { function: Some("g()"), file: Some("b.h"), line: Some(3), row: Some(FrameRow { start_rva: 4112, length: Some(8) }) }, Frame { function: Some("f"), file: Some("a.c"), line: Some(5), row: Some(FrameRow { start_rva: 4112, length: Some(8) }) }] }"#
+        "FunctionFrames { start_rva: 4112, end_rva: Some(4144), frames: [\
+        Frame { function: Some(\"g()\"), file: Some(\"b.h\"), line: Some(3), \
+        row: Some(FrameRow { start_rva: 4112, length: Some(8) }) }, \
+        Frame { function: Some(\"f\"), file: Some(\"a.c\"), line: Some(5), \
+        row: Some(FrameRow { start_rva: 4112, length: Some(8) }) }] }"
     );
     Ok(())
 }
@@ -181,7 +185,11 @@ fn frames_with_shared_names(rt: HostRuntime) -> Result<(), Fail> {
     )?;
     assert_eq!(rt;
         text.as_str(),
-        r#"SharedFunctionFrames { start_rva: 4112, end_rva: Some(4144), frames: [SharedFrame { function: Some("g()"), file: Some("b.h"), line: Some(3), row: Some(FrameRow { start_rva: 4112, length: Some(8) }) }, SharedFrame { function: Some("f"), file: Some("a.c"), line: Some(5), row: Some(FrameRow { start_rva: 4112, length: Some(8) }) }] }"#
+        "SharedFunctionFrames { start_rva: 4112, end_rva: Some(4144), frames: [\
+        SharedFrame { function: Some(\"g()\"), file: Some(\"b.h\"), line: Some(3), \
+        row: Some(FrameRow { start_rva: 4112, length: Some(8) }) }, \
+        SharedFrame { function: Some(\"f\"), file: Some(\"a.c\"), line: Some(5), \
+        row: Some(FrameRow { start_rva: 4112, length: Some(8) }) }] }"
     );
     Ok(())
 }

@@ -54,7 +54,8 @@ call_frame p env program call = record {
 }
 
 -- the frame of a function that begins in a section, by its row
-abbrev pub function_frame : Parts → Program → Option (List ℕ) → ℕ → Option LineRow → Frame
+abbrev pub function_frame :
+    Parts → Program → Option (List ℕ) → ℕ → Option LineRow → Frame
 function_frame p program name section row = record {
   function = name;
   file = option_and_then (λ r. file_text program p.names (r.file_index).0) row;
@@ -81,9 +82,11 @@ unfoldable pub frames_in_data : Parts → Env → ModuleData → Chosen → PdbI
 frames_in_data p env known c place = do
   extended ← lifted (extended_of known.stream)
   found ← row_and_calls known.stream extended c place
-  Ok (map (call_frame p env extended.program) found.1 ++ function_frame p extended.program (name_of p env c) (start_of c).section found.0 ∷ [])
+  Ok (map (call_frame p env extended.program) found.1
+    ++ function_frame p extended.program (name_of p env c) (start_of c).section found.0 ∷ [])
 
--- the same where the module may have no data: then the function alone, without file, line and row
+-- the frames at a place in a chosen function whose module may have no data: then the function alone,
+-- without file, line and row
 abbrev pub frames_in : Parts → Env → Option ModuleData → Chosen → PdbInternalSectionOffset → Result (List Frame) Fault
 frames_in p env None c place =
     Ok (record { function = name_of p env c; file = None; line = None; row = None } ∷ [])

@@ -10,7 +10,11 @@ ghost use Rattle.pdb_module_data.specs.InlinePieces.{StandForSites};
 ghost use Rattle.pdb_resolving.specs.Fault.{Answers};
 ghost use Rattle.pdb_names.specs.Printing.{env_of};
 ghost use Rattle.pdb_choice.specs.Choice as choice;
-ghost use Rattle.pdb_frames.specs.Frames.{frames_in as frames_of_module, frames_in_data as frames_of_data, row_and_calls, frame_row as frame_row_of, call_row as call_row_of, function_frame_row, call_frame as frame_of_call, function_frame as frame_of_function};
+ghost use Rattle.pdb_frames.specs.Frames.{frames_in as frames_of_module, row_and_calls};
+ghost use Rattle.pdb_frames.specs.Frames.{frames_in_data as frames_of_data};
+ghost use Rattle.pdb_frames.specs.Frames.{frame_row as frame_row_of, call_row as call_row_of};
+ghost use Rattle.pdb_frames.specs.Frames.{call_frame as frame_of_call, function_frame_row};
+ghost use Rattle.pdb_frames.specs.Frames.{function_frame as frame_of_function};
 ghost use Rattle.pdb_known_modules.specs.Modules.{extended_of};
 ghost use Rattle.pdb_choice.specs.Seen.{chosen_seen};
 ghost use Rattle.pdb_known_modules.specs.Seen.{extended_seen};
@@ -215,7 +219,8 @@ fn function_frame<'a>(
     section: u16,
     row: Option<LineRow>,
 ) -> std::result::Result<SharedFrame<'a>, AllocError>
-    ensures { IfOk result (λ f. f ≡ frame_of_function parts.now (extended_seen extended.now).program (option_map arc_str_bytes function) section row) }
+    ensures { IfOk result (λ f. f ≡ frame_of_function parts.now (extended_seen extended.now).program
+        (option_map arc_str_bytes function) section row) }
 {
     match row {
         None => Ok(SharedFrame {
@@ -309,7 +314,8 @@ fn frames_in_data<'a, P: ModuleProvider>(
     )
 }
 
-/// The same where the module may have no data: then the function alone, without file, line and row.
+/// The frames at a place in a chosen function whose module may have no data: then the function
+/// alone, without file, line and row.
 pub fn frames_in<'a, P: ModuleProvider>(
     alloc: Global,
     parts: &ContextParts<'a, '_>,

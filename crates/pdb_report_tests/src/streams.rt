@@ -36,7 +36,8 @@ const NESTED_SITES: Row = Row {
     input: b"1019\n",
     range: None,
     texts: &[
-        b"0x00001019\n  h() at c.h:9 @0x00001018+4\n  g() at b.h:?? @??\n  f at a.c:7 @0x00001018+24\n",
+        b"0x00001019\n  h() at c.h:9 @0x00001018+4\n  g() at b.h:?? @??\n  \
+        f at a.c:7 @0x00001018+24\n",
     ],
 };
 
