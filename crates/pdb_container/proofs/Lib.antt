@@ -11,6 +11,7 @@ pub mod Outside
 pub mod Paging
 pub mod Slices
 pub mod Starts
+pub mod Tails
 pub mod Taking
 pub mod Variants
 pub mod Words
