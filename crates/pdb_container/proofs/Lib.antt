@@ -14,6 +14,7 @@ pub mod PagedNumbers
 pub mod Paging
 pub mod Slices
 pub mod Starts
+pub mod Tails
 pub mod Taking
 pub mod Variants
 pub mod Words

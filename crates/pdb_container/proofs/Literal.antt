@@ -27,7 +27,7 @@ chosen_true : (b : Bool) (e : Fault) (x y : List ℕ) → cond b (Ok x) (Err e) 
 chosen_true true e x y h = refl
 chosen_true false e x y h = absurd cc
 
-both_true : (a b : Bool) → (a && b) ≡ true → (a ≡ true) × (b ≡ true)
+pub both_true : (a b : Bool) → (a && b) ≡ true → (a ≡ true) × (b ≡ true)
 both_true true b h = (refl, h)
 both_true false b h = absurd cc
 
@@ -70,7 +70,7 @@ from_paged file pages v size count h =
     get_or-map (λ at. get_or file at 0) places i (omega arith) ∙ ap (λ at. get_or file at 0) (at i in_count) ∙ sym (h.byte i in_count)) in
     rw all (ap (λ (xs : List ℕ). Ok xs) read)
 
-bind_ok : {A B : Type 0} (r : Result A Fault) (f : A → Result B Fault) (y : B) → (r >>= f) ≡ Ok y → (x : A) × (r ≡ Ok x) × (f x ≡ Ok y)
+pub bind_ok : {A B : Type 0} (r : Result A Fault) (f : A → Result B Fault) (y : B) → (r >>= f) ≡ Ok y → (x : A) × (r ≡ Ok x) × (f x ≡ Ok y)
 bind_ok (Ok x) f y h = (x, refl, h)
 bind_ok (Err e) f y h = absurd cc
 

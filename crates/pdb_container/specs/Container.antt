@@ -64,6 +64,10 @@ header_in front = do
   list ← pages_in (word_at front 40) (list_count (word_at front 32) (word_at front 44)) (words (behind_header front))
   Ok (record { page_size = word_at front 32; pages_used = word_at front 40; directory_size = word_at front 44; list_pages = list })
 
+-- the byte at which the pages end that a header counts, from page 0 to the last that may be used
+abbrev pub pages_end : List ℕ → ℕ
+pages_end header = (word_at header 40 + 1) * word_at header 32
+
 -- the first bytes, which have to be there
 unfoldable pub front_in : List ℕ → Result (List ℕ) Fault
 front_in file = if nat_lt (length file) 4096 then Err UnrecognizedFileFormat else Ok (take 4096 file)

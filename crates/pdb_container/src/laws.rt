@@ -1,9 +1,9 @@
 //! Laws of the definitions: functions that do nothing, whose contracts are proved.
 
-ghost use Rattle.std.specs.Prelude.{◌≡◌, ◌↔◌, ℕ, List, Option, Ok, true};
+ghost use Rattle.std.specs.Prelude.{◌≡◌, ◌↔◌, ◌≤◌, ◌++◌, ℕ, List, length, Option, Ok, true};
 ghost use Rattle.std.specs.Ordering.{nat_cmp};
 ghost use Rattle.pdb_container.specs.Alike.{ReadAlike, AreAlike, HaveSameStream, HaveSameStreams};
-ghost use Rattle.pdb_container.specs.Container.{stream};
+ghost use Rattle.pdb_container.specs.Container.{layout_of, pages_end, stream};
 ghost use Rattle.pdb_container.specs.Paged.{IsStream, IsLimited};
 ghost use Rattle.pdb_container.specs.Places.{bytes_at, page_places, IsPaged};
 ghost use Rattle.pdb_container.specs.RawString.{raw_bytes};
@@ -45,6 +45,16 @@ pub fn limited()
 pub fn page_layout()
     ensures at_one_number { (a b : List ℕ) (n : ℕ) → ReadAlike a b n → HaveSameStream a b n }
     ensures at_every_number { (a b : List ℕ) → AreAlike a b → HaveSameStreams a b }
+{}
+
+/// What follows the pages that a header counts is part of no stream: with it and without it a file
+/// opens with the same header or fault, and has the same streams, each with the same bytes or fault.
+pub fn tail_of_no_stream()
+    ensures opens { (file tail : List ℕ) → 4096 ≤ length file
+        → layout_of (file ++ tail) ≡ layout_of file }
+    ensures streams { (file tail : List ℕ) (n : ℕ) (limit : Option ℕ)
+        → 4096 ≤ length file → pages_end file ≤ length file
+        → stream (file ++ tail) n limit ≡ stream file n limit }
 {}
 
 /// Raw strings are equal exactly where their bytes are, and equal ones hash alike.

@@ -22,7 +22,7 @@ pub use buffer::{FromBuffer, ParseBuffer};
 pub use entry_list::parse_entries;
 pub use error::{Error, ModuleFault, Result, kind_name};
 pub use fallible_iterator::FallibleIterator;
-pub use front::may_be_container;
+pub use front::{may_be_container, pages_end};
 pub use msf::{BigMSF, Msf, Stream, open_msf};
 pub use numbers::{half_at, nul_in, padding_behind, word_at};
 pub use page_list::PageList;

@@ -2,5 +2,5 @@ pub mod Consumed
 pub mod HeldSteps
 pub mod KeptSteps
 pub mod OpenFiles
-pub mod OtherFronts
 pub mod SharedStreams
+pub mod StreamsRead

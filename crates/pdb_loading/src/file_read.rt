@@ -1,59 +1,86 @@
-//! Reading a file: no more of it than shows that it is no container.
+//! Reading a file: no more of it than shows that it is no container, or than its pages reach.
 
-ghost use Rattle.std.specs.Prelude.{◌≡◌, ◌<◌, ◌≤◌, List, [], IfOk, IfSome, IfErr, OnErr, OnOk, length, vec_len, take, nat_eq, false};
+ghost use Rattle.std.specs.Prelude.{◌≡◌, ◌<◌, ◌≤◌, max, IfOk, IfSome, OnOk, length, vec_len, take, nat_eq, false};
 ghost use Rattle.std.specs.List.{starts_with};
-ghost use Rattle.std.specs.Io.{ReadsAtMost};
-ghost use Rattle.std.specs.Io.KnownBytes.{Consumes, IsAtEnd, Keeps};
-ghost use Rattle.pdb_container.specs.Container.{magic};
+ghost use Rattle.std.specs.Io.{ReadsAtMost, StartsWith, appended_bytes};
+ghost use Rattle.std.specs.Io.KnownBytes.{Consumes, IsAtEnd};
+ghost use Rattle.pdb_container.specs.Container.{magic, pages_end as end_in};
 ghost use Rattle.pdb_loading.specs.FileRead.{IsRead};
 
-use pdb_container::may_be_container;
+use pdb_container::{may_be_container, pages_end};
 use std::alloc::Global;
 use std::io::{self, ErrorKind, Read};
 
 /// How many bytes show whether a file may be a container.
-const FRONT: usize = 32;
+const FRONT: u64 = 32;
+
+/// How many bytes the header and its list of pages lie in.
+const HEADER_VIEW: u64 = 4096;
+
+/// How many bytes are asked for at once.
+const AT_ONCE: usize = 16_384;
 
 /// How often a read is tried again where a signal interrupts it.
 const TRIES: u32 = u32::MAX;
 
-/// The bytes of a file from where its reader stands, or the first 32 of a file that is longer and doesn't begin as a
-/// big MSF container does: no more is read of that, however long it is.
+/// The bytes of a file from where its reader stands: of a big MSF container no more than its first
+/// 4096 and the pages that its header counts; the first 32 of a file that is longer and doesn't
+/// begin as one does. No more is read, however long the file is.
 ///
 /// # Errors
 /// As the reader's; a read that a signal interrupts is tried again.
-#[tactic(auto, using(crate::proofs::Consumed::front_read, crate::proofs::Consumed::rest_read, crate::proofs::Consumed::rest_taken, crate::proofs::Consumed::still_begins))]
+#[tactic(auto, using(crate::proofs::Consumed::front_read, crate::proofs::Consumed::pages_read, crate::proofs::Consumed::rest_taken, crate::proofs::Consumed::still_begins))]
 pub fn read_file<R: Read>(alloc: Global, file: &mut R) -> io::Result<Vec<u8>>
     ensures taken { IfOk result (λ v. Consumes (R.remaining file.old) (R.remaining file.new) v.items) }
     ensures read { IfOk result (λ v. IfSome (R.remaining file.old) (λ all. IsRead all v.items)) }
     ensures front { IfOk result (λ v. starts_with nat_eq v.items magic ≡ false → vec_len v ≤ 32) }
+    ensures bound { IfOk result (λ v. vec_len v ≤ max 4096 (end_in v.items)) }
 {
-    let mut bytes = read_front(alloc, file)?;
+    let mut bytes = Vec::new(alloc);
+    read_on(file, &mut bytes, FRONT)?;
     if !may_be_container(&bytes) {
         return Ok(bytes);
     }
-    file.read_to_end(&mut bytes)?;
+    read_container(file, &mut bytes)?;
     Ok(bytes)
 }
 
-/// The first 32 bytes, or all where there are fewer.
-#[tactic(auto, using(crate::proofs::Consumed::none_yet, crate::proofs::Consumed::one_more))]
-fn read_front<R: Read>(alloc: Global, file: &mut R) -> io::Result<Vec<u8>>
-    ensures taken { IfOk result (λ v. Consumes (R.remaining file.old) (R.remaining file.new) v.items) }
-    ensures end { IfOk result (λ v. vec_len v < 32 → IsAtEnd (R.remaining file.new)) }
-    ensures len { IfOk result (λ v. vec_len v ≤ 32) }
+/// Reads the rest of a header that begins as a container's does, and then the pages that it counts.
+fn read_container<R: Read>(file: &mut R, bytes: &mut Vec<u8>) -> io::Result<()>
+    requires { vec_len bytes.old ≤ 4096 }
+    ensures begun { StartsWith bytes.new.items bytes.old.items }
+    ensures taken { OnOk result (Consumes (R.remaining file.old) (R.remaining file.new)
+        (appended_bytes bytes.old.items bytes.new.items)) }
+    ensures end { OnOk result (vec_len bytes.new < max 4096 (end_in bytes.new.items)
+        → IsAtEnd (R.remaining file.new)) }
+    ensures bound { OnOk result (vec_len bytes.new ≤ max 4096 (end_in bytes.new.items)) }
 {
-    let mut front = Vec::with_capacity(alloc, FRONT)?;
-    while front.len() < FRONT {
-        let mut buffer = [0u8; FRONT];
-        let room = FRONT - front.len();
+    read_on(file, bytes, HEADER_VIEW)?;
+    if (bytes.len() as u64) < HEADER_VIEW {
+        return Ok(());
+    }
+    let end = pages_end(bytes);
+    read_on(file, bytes, end)
+}
+
+/// Reads on after other bytes, until there are so many or the reader is at its end.
+fn read_on<R: Read>(file: &mut R, bytes: &mut Vec<u8>, end: u64) -> io::Result<()>
+    ensures begun { StartsWith bytes.new.items bytes.old.items }
+    ensures taken { OnOk result (Consumes (R.remaining file.old) (R.remaining file.new)
+        (appended_bytes bytes.old.items bytes.new.items)) }
+    ensures end { OnOk result (vec_len bytes.new < end → IsAtEnd (R.remaining file.new)) }
+    ensures bound { vec_len bytes.new ≤ max end (vec_len bytes.old) }
+{
+    let mut buffer = [0u8; AT_ONCE];
+    while (bytes.len() as u64) < end {
+        let room = (end - bytes.len() as u64).min(AT_ONCE as u64) as usize;
         let count = read_some(file, &mut buffer[..room])?;
         if count == 0 {
-            return Ok(front);
+            return Ok(());
         }
-        front.extend_from_slice(&buffer[..count])?;
+        bytes.extend_from_slice(&buffer[..count])?;
     }
-    Ok(front)
+    Ok(())
 }
 
 /// Reads once, and again where a signal interrupted it.

@@ -1,33 +1,25 @@
--- Files of which no more than a front is read.
-use Rattle.std.proofs.Common.{◌≡◌, ℕ, List, ◌++◌, refl, sym, ap, ◌∙◌}
-use Rattle.std.specs.Prelude.{nat_eq, false, None, Some}
-use Rattle.std.specs.List.{starts_with}
-use Rattle.pdb_container.specs.Fault as container
-use Rattle.pdb_container.specs.Container.{magic}
+-- Files of which a prefix alone is read.
+use Rattle.std.proofs.Common.{◌≡◌, ℕ, List, refl, ap, subst}
 use Rattle.pdb_loading.specs.FileRead.{IsRead}
-use Rattle.pdb_loading.specs.FileRead.IsRead.{all, front}
-use Rattle.pdb_loading.proofs.OtherFronts.{other_front, front_tells}
-use Rattle.pdb_report_texts.specs.Faults.{Pdb}
-use Rattle.pdb_report.specs.Loading.{loaded, load_fault}
-use Rattle.pdb_resolving.specs.Fault as answers
-use Rattle.pdb_symbols_modules.specs.Shared.{shared}
-use Rattle.pdb_symbols_modules.specs.Streams.{streams}
-
--- a file that begins otherwise than a container is not recognised
-pub not_recognised : (file : List ℕ) → starts_with nat_eq file magic ≡ false → load_fault (streams file) ≡ Some (Pdb (answers.PdbError container.UnrecognizedFileFormat))
-unfolding loaded shared streams
-not_recognised file other = rw (other_front file other) refl
+use Rattle.pdb_loading.proofs.StreamsRead.{streams_read}
+use Rattle.pdb_report.specs.Loading.{load_fault}
+use Rattle.pdb_report.specs.SameReports.{HaveSameReports}
+use Rattle.pdb_symbols_modules.specs.Streams.{Streams, streams}
 
 -- what was read has the file's loading fault
 pub alike : (file bytes : List ℕ) → IsRead file bytes → load_fault (streams bytes) ≡ load_fault (streams file)
-alike file bytes (all same) = ap (λ xs. load_fault (streams xs)) same
-alike file bytes (front rest is long other) =
-    not_recognised bytes other ∙ sym (not_recognised (bytes ++ rest) (front_tells bytes rest long other)) ∙ sym (ap (λ xs. load_fault (streams xs)) is)
+alike file bytes read = ap load_fault (streams_read file bytes read)
 
--- and is all of it where that has none
-pub whole : (file bytes : List ℕ) → IsRead file bytes → load_fault (streams file) ≡ None → bytes ≡ file
-whole file bytes (all same) none = same
-whole file bytes (front rest is long other) none =
-    let refused = not_recognised bytes other in
-    let same = alike file bytes (front rest is long other) in
-    absurd cc
+own_reports : (s : Streams) → HaveSameReports s s
+own_reports s = record {
+  fault = refl;
+  answers = λ x. refl;
+  functions = λ x. refl;
+  lists = refl;
+  inputs = λ input. refl;
+  ranges = λ start end text. (λ r. r, λ r. r);
+}
+
+-- and its reports
+pub same_reports : (file bytes : List ℕ) → IsRead file bytes → HaveSameReports (streams bytes) (streams file)
+same_reports file bytes read = subst (λ s. HaveSameReports (streams bytes) s) (streams_read file bytes read) (own_reports (streams bytes))

@@ -1,6 +1,6 @@
 //! Laws of the definitions: functions that do nothing, whose contracts are proved.
 
-ghost use Rattle.std.specs.Prelude.{◌≡◌, ◌+◌, ◌-◌, ◌<◌, ◌≤◌, ◌^◌, ℕ, List, None};
+ghost use Rattle.std.specs.Prelude.{◌≡◌, ◌+◌, ◌-◌, ◌<◌, ◌≤◌, ◌^◌, ℕ, List};
 ghost use Rattle.pdb_container.specs.Alike.{OpenAlike, ReadAlike};
 ghost use Rattle.pdb_loading.specs.FileRead.{IsRead};
 ghost use Rattle.pdb_functions.specs.FunctionOrder.{Function as FunctionValue};
@@ -13,11 +13,14 @@ ghost use Rattle.pdb_functions.specs.Counts.{count_of_none};
 ghost use Rattle.pdb_functions.specs.Table.{count_in, sum_of};
 ghost use Rattle.pdb_symbols_modules.specs.Streams.{Streams, streams};
 
-/// What was read of a file has the loading fault that the whole file has; and where the file has none, it is the whole
-/// file. So a report on what was read is the report on the file.
+/// What was read of a file has the streams that the whole file has, each with the same bytes or
+/// fault; so it has the same loading fault or none, and the same answers and reports. What wasn't
+/// read is part of no stream.
 pub fn files_that_were_read()
     ensures alike { (file bytes : List ℕ) → IsRead file bytes → load_fault (streams bytes) ≡ load_fault (streams file) }
-    ensures whole { (file bytes : List ℕ) → IsRead file bytes → load_fault (streams file) ≡ None → bytes ≡ file }
+    ensures streams { (file bytes : List ℕ) → IsRead file bytes → streams bytes ≡ streams file }
+    ensures reports { (file bytes : List ℕ) → IsRead file bytes
+        → HaveSameReports (streams bytes) (streams file) }
 {}
 
 /// The counts of a file's report on a range, with the count of nothing, add up to the number of the range's addresses. What the

@@ -19,7 +19,7 @@
 //! | write the answers to lines of addresses | [`run_frames`]; [`run_frames_ending`] in a process that ends behind it |
 //! | write how many addresses of a range each function has | [`run_sizes`] |
 //! | read an address, as a line of input has it | [`parse_address`] |
-//! | read a file, but only its front where that is no container's | [`read_file`] |
+//! | read a file's pages, or the first 32 bytes of what is no container | [`read_file`] |
 //! | have the failures of a reader or a writer counted | [`Watched`] |
 //! | tell how a run ended, and with which status | [`finish_run`] |
 //! | see what is proved of whole files | [`laws`] |

@@ -32,12 +32,16 @@ fn is_counted(alloc: Global) -> Result<bool, Fail> {
     Ok(report.as_slice() == b"0x00001010 24 f\nnone 0\n".as_slice())
 }
 
-/// Whether a file is read whole, and an endless one that is no container only to its 32nd byte.
+/// Whether a file is read whole, one with an endless tail only to the end of its pages, and an
+/// endless one that is no container only to its 32nd byte.
 fn are_files_read(alloc: Global) -> Result<bool, Fail> {
     let file = F.made(alloc)?;
     let whole = read_file(alloc, &mut file.as_slice())?;
+    let pages = read_file(alloc, &mut file.as_slice().chain(io::repeat(0)))?;
     let front = read_file(alloc, &mut io::repeat(7))?;
-    Ok(whole.as_slice() == file.as_slice() && front.as_slice() == [7u8; 32].as_slice())
+    Ok(whole.as_slice() == file.as_slice()
+        && pages.as_slice().starts_with(file.as_slice())
+        && front.as_slice() == [7u8; 32].as_slice())
 }
 
 /// Whether three bytes are read and written.

@@ -58,7 +58,7 @@ fn main(rt: HostRuntime) -> ExitCode {
     ExitCode::from(finish_run(outcome, &mut errors))
 }
 
-/// The bytes of a file, or its front where that shows that it is no container.
+/// The bytes of a file as far as its pages reach, or its first 32 where it is no container.
 fn bytes_of(rt: &(impl fs::Files + AllocGlobal), file: &str) -> io::Result<Vec<u8>> {
     let mut reader = fs::open(rt, file)?;
     read_file(rt.alloc(), &mut reader)
