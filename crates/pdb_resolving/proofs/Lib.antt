@@ -6,3 +6,4 @@ pub mod Lifting
 pub mod ModuleSteps
 pub mod ResolveAlike
 pub mod Steps
+pub mod UnendedNames

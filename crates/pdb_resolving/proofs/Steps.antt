@@ -12,22 +12,38 @@ use Rattle.pdb_symbols_modules.specs.Modules.{Module}
 use Rattle.pdb_resolving.specs.declared.stop.Stop.{Stop}
 use Rattle.pdb_resolving.specs.declared.module_names.ModuleNames.{ModuleNames}
 use Rattle.pdb_resolving.specs.Cause.{Cause, Finds, of_no_table}
-use Rattle.pdb_resolving.specs.Fault.{CantResolveCrossModuleRefWithoutStringTable, ModuleNameNotFound, lifted}
+use Rattle.pdb_resolving.specs.Fault.{Fault, CantResolveCrossModuleRefWithoutStringTable, ModuleNameNotFound, lifted}
 use Rattle.pdb_resolving.specs.KeptTables.{AreNames, numbered, export_of, resolved_by_steps}
 use Rattle.pdb_resolving.specs.Resolving.{Modules, imports_of, last_named, resolved_elsewhere}
 
+-- steps from what is there on
+behind : {A B : Type 0} (read : Result A Cause) (f g : A → Result B Cause)
+    → ((x : A) → f x ≡ g x) → (read >>= f) ≡ (read >>= g)
+behind (Ok x) f g same = same x
+behind (Err e) f g same = refl
+
 -- two steps as one
-regroup : {N A B C : Type 0} (names : Result N Cause) (m : Result A Cause) (f : A → Result B Cause) (k : N → B → Result C Cause)
-    → (names >>= (λ n. (m >>= f) >>= k n)) ≡ (names >>= (λ n. m >>= (λ x. f x >>= k n)))
-regroup (Ok n) (Ok x) f k = refl
-regroup (Ok n) (Err e) f k = refl
-regroup (Err e) m f k = refl
+regroup : {A B C : Type 0} (read : Result A Cause) (f : A → Result B Cause)
+    (g h : B → Result C Cause) → ((x : B) → g x ≡ h x)
+    → ((read >>= f) >>= g) ≡ (read >>= (λ x. f x >>= h))
+regroup (Ok x) f g h same = behind (f x) g h same
+regroup (Err e) f g h same = refl
+
+-- the same of two that read no table
+regroup_no_table : {A B C : Type 0} (read : Result A Fault) (f : A → Result B Fault)
+    (g : B → Result C Cause)
+    → (of_no_table (read >>= f) >>= g) ≡ (of_no_table read >>= (λ x. of_no_table (f x) >>= g))
+regroup_no_table (Ok x) f g = refl
+regroup_no_table (Err e) f g = refl
 
 same_steps : (modules : Modules) (asking index : ℕ) → resolved_by_steps modules asking index ≡ resolved_elsewhere modules asking index
 unfolding resolved_by_steps resolved_elsewhere
 same_steps modules asking index =
-    regroup (of_no_table (ok_or modules.names CantResolveCrossModuleRefWithoutStringTable)) (imports_of modules asking) (λ imports. of_no_table (lifted (imported imports index)))
-    (λ names target. of_no_table (lifted (text_in names target.name)) >>= (λ name. of_no_table (numbered name modules.entries) >>= (λ number. export_of modules number target.local)))
+    behind (of_no_table (ok_or modules.names CantResolveCrossModuleRefWithoutStringTable)) _ _ λ names.
+    regroup (imports_of modules asking)
+    (λ imports. of_no_table (lifted (imported imports index))) _ _ λ target.
+    regroup_no_table (lifted (text_in names target.name))
+    (λ name. numbered name modules.entries) (λ number. export_of modules number target.local)
 
 -- what the steps answer is the answer
 pub by_steps : (modules : Modules) (asking index : ℕ) (result : Result ℕ Stop)

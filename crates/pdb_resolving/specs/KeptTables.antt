@@ -1,11 +1,11 @@
 -- What is kept of the modules among which indices are resolved: the tables that were read, and the numbers of modules by their names.
-use Rattle.std.specs.Prelude.{◌≡◌, ℕ, List, Some, Result, Ok, String}
+use Rattle.std.specs.Prelude.{◌≡◌, ℕ, ◌≤◌, List, Some, Result, Ok, Err, String, string_bytes}
 use Rattle.std.specs.declared.alloc.Global.{Global}
 use Rattle.std.specs.BTreeMap.{BTreeMap, get, get_by_text}
 use Rattle.std.specs.Option.{ok_or}
 use Rattle.std.specs.Ordering.{nat_cmp}
 use Rattle.std.specs.Str.{str_to_ascii_lowercase}
-use Rattle.pdb_container.specs.Fault.{◌>>=◌}
+use Rattle.pdb_container.specs.Fault.{◌>>=◌, UnexpectedEof}
 use Rattle.pdb_container.specs.StringTable.{text_in}
 use Rattle.pdb_subsections.specs.declared.exports.CrossModuleExport.{CrossModuleExport}
 use Rattle.pdb_subsections.specs.declared.exports.CrossModuleExport.TheVariants as forms
@@ -13,8 +13,11 @@ use Rattle.pdb_subsections.specs.Exports.{Entry, first_export}
 use Rattle.pdb_subsections.specs.Imports.{Imported, imported}
 use Rattle.pdb_symbols_modules.specs.Modules.{Module}
 use Rattle.pdb_resolving.specs.declared.module_names.ModuleNames.{ModuleNames}
+use Rattle.pdb_resolving.specs.declared.named_modules.MissingName.{MissingName}
+use Rattle.pdb_resolving.specs.declared.named_modules.NamedModules.{NamedModules}
 use Rattle.pdb_resolving.specs.Cause.{Cause, of_no_table}
 use Rattle.pdb_resolving.specs.Fault.{Fault, CantResolveCrossModuleRefWithoutStringTable, ModuleNameNotFound, LocalIndexNotInExports, lifted}
+use Rattle.pdb_resolving.specs.Fault.{PdbError}
 use Rattle.pdb_resolving.specs.Resolving.{Modules, last_named, imports_of, exports_of}
 
 -- Each table that is kept is what reading gives of its module.
@@ -50,6 +53,20 @@ import_of modules asking index = do
 abbrev pub numbered : List ℕ → List Module → Result ℕ Fault
 numbered name entries = ok_or (last_named name entries) (ModuleNameNotFound (str_to_ascii_lowercase name))
 
+-- the number of the last module of the name at a place among the names
+abbrev pub named_at : List ℕ → List Module → ℕ → Result ℕ Fault
+named_at names entries place = lifted (text_in names place) >>= λ name. numbered name entries
+
+-- What is stored by the places of names is so: a module's number; that from a place on no name
+-- ends; a name that no module has.
+pub record AreNamed (names : List ℕ) (entries : List Module) (named : NamedModules) : Type 0 where
+  pub number : (place n : ℕ) → get nat_cmp named.numbers place ≡ Some n
+      → named_at names entries place ≡ Ok n
+  pub unended : (first place : ℕ) → named.unended ≡ Some first → first ≤ place
+      → named_at names entries place ≡ Err (PdbError UnexpectedEof)
+  pub missing : (m : MissingName) → named.missing ≡ Some m
+      → named_at names entries m.place ≡ Err (ModuleNameNotFound (string_bytes m.name))
+
 -- what a module exports first under an index as it names it
 abbrev pub export_of : Modules → ℕ → ℕ → Result ℕ Cause
 export_of modules number local = do
@@ -61,6 +78,5 @@ unfoldable pub resolved_by_steps : Modules → ℕ → ℕ → Result ℕ Cause
 resolved_by_steps modules asking index = do
   names ← of_no_table (ok_or modules.names CantResolveCrossModuleRefWithoutStringTable)
   target ← import_of modules asking index
-  name ← of_no_table (lifted (text_in names target.name))
-  number ← of_no_table (numbered name modules.entries)
+  number ← of_no_table (named_at names modules.entries target.name)
   export_of modules number target.local

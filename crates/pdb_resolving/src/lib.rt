@@ -11,6 +11,7 @@ mod kept_tables;
 pub mod laws;
 mod module_exports;
 mod module_names;
+mod named_modules;
 mod provider;
 mod resolver;
 pub mod stop;

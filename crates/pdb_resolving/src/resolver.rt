@@ -1,12 +1,14 @@
 //! Indices that lead into another module.
 
-ghost use Rattle.std.specs.Prelude.{◌≡◌, option_map, OnErr, OnOk};
+ghost use Rattle.std.specs.Prelude.{◌≡◌, option_map, OnErr, OnOk, Some};
 ghost use Rattle.std.specs.Option.{ok_or};
 ghost use Rattle.pdb_subsections.specs.Exports.{first_export};
 ghost use Rattle.pdb_subsections.specs.Imports.{imported as import_by, reference};
 ghost use Rattle.pdb_resolving.specs.Cause.{Finds, of_no_table};
 ghost use Rattle.pdb_resolving.specs.Fault.{Answers, lifted, LocalIndexNotInExports};
-ghost use Rattle.pdb_resolving.specs.KeptTables.{export_of as module_export, import_of as module_import, numbered, resolved_by_steps};
+ghost use Rattle.pdb_resolving.specs.KeptTables.{export_of as module_export};
+ghost use Rattle.pdb_resolving.specs.KeptTables.{import_of as module_import};
+ghost use Rattle.pdb_resolving.specs.KeptTables.{named_at, resolved_by_steps};
 ghost use Rattle.pdb_resolving.specs.Resolving.{resolve, none_failed, modules_by, with_failed};
 
 use crate::error::{Error, Result};
@@ -14,10 +16,11 @@ use crate::failed_parts::FailedParts;
 use crate::kept_tables::{KeptExports, KeptImports, keep_exports, keep_imports};
 use crate::module_exports::ModuleExports;
 use crate::module_names::ModuleNames;
+use crate::named_modules::NamedModules;
 use crate::provider::ModuleProvider;
 use crate::stop::{self, Stop};
 use crate::table::Table;
-use pdb_container::StringTable;
+use pdb_container::{StringRef, StringTable};
 use pdb_indices::{ItemIndex, Local, TypeIndex};
 use pdb_symbols_modules::{CrossModuleImports, CrossModuleRef, Module, ModuleRef};
 use std::alloc::{AllocError, Global};
@@ -33,6 +36,8 @@ pub struct Resolver<'a, 's, P: ModuleProvider> {
     string_table: Option<&'a StringTable<'s>>,
     /// The numbers of the modules by their names.
     names: ModuleNames,
+    /// The modules that names of the string table lead to.
+    named: NamedModules,
     /// The imports that were read.
     imports: KeptImports<'a>,
     /// The exports that were read.
@@ -44,8 +49,8 @@ pub struct Resolver<'a, 's, P: ModuleProvider> {
 }
 
 impl<'a, 's, P: ModuleProvider> Model for Resolver<'a, 's, P> {
-    ghost use Rattle.std.specs.Prelude.{option_map};
-    ghost use Rattle.pdb_resolving.specs.KeptTables.{AreNames, AreRead};
+    ghost use Rattle.std.specs.Prelude.{option_map, IfSome};
+    ghost use Rattle.pdb_resolving.specs.KeptTables.{AreNamed, AreNames, AreRead};
     ghost use Rattle.pdb_resolving.specs.Resolving.{exports_read, imports_read, Kept};
 
     ghost Value = { Kept P };
@@ -53,7 +58,11 @@ impl<'a, 's, P: ModuleProvider> Model for Resolver<'a, 's, P> {
     ghost view = { λ r. record { provider = r.provider.now; entries = r.modules.items; names = option_map (λ t. t.now) r.string_table; failed = record { imports = r.failed_imports; exports = r.failed_exports } } };
 
     // What is kept is what reading gives, so that it shows nowhere.
-    ghost invariant = { λ r. AreNames r.modules.items r.names × AreRead (imports_read (P.provided r.provider.now) r.modules.items) r.imports × AreRead (exports_read (P.provided r.provider.now) r.modules.items) r.exports };
+    ghost invariant = { λ r. AreNames r.modules.items r.names
+        × IfSome (option_map (λ t. t.now) r.string_table)
+        (λ names. AreNamed names r.modules.items r.named)
+        × AreRead (imports_read (P.provided r.provider.now) r.modules.items) r.imports
+        × AreRead (exports_read (P.provided r.provider.now) r.modules.items) r.exports };
 }
 
 impl<'a, 's, P: ModuleProvider> Resolver<'a, 's, P> {
@@ -72,6 +81,7 @@ impl<'a, 's, P: ModuleProvider> Resolver<'a, 's, P> {
             modules,
             string_table,
             names: ModuleNames::new(),
+            named: NamedModules::new(alloc),
             imports: BTreeMap::new(alloc),
             exports: BTreeMap::new(alloc),
             failed_imports: FailedParts::new(alloc),
@@ -135,8 +145,7 @@ impl<'a, 's, P: ModuleProvider> Resolver<'a, 's, P> {
             return Err(Stop::ByError(Error::CantResolveCrossModuleRefWithoutStringTable));
         };
         let CrossModuleRef(ModuleRef(name), local) = self.import_of(alloc, module_index, index)?;
-        let name = name.to_string_lossy(alloc, names)?;
-        let number = self.number_of(alloc, name.as_str())?;
+        let number = self.number_of(alloc, names, name)?;
         self.export_of(alloc, number, local)
     }
 
@@ -165,12 +174,21 @@ impl<'a, 's, P: ModuleProvider> Resolver<'a, 's, P> {
         }
     }
 
-    /// The number of the last module of a name. `ModuleNameNotFound`, `OutOfMemory`.
-    fn number_of(&mut self, alloc: Global, name: &str) -> Result<usize>
+    /// The number of the last module of a name in the table of names. The name's fault,
+    /// `ModuleNameNotFound`, `OutOfMemory`.
+    fn number_of(
+        &mut self,
+        alloc: Global,
+        strings: &StringTable<'_>,
+        name: StringRef,
+    ) -> Result<usize>
+        requires { Some strings.now ≡ self.old.names }
         ensures same { self.new ≡ self.old }
-        ensures value { Answers (λ n. n) result (numbered name.now self.old.entries) }
+        ensures value { Answers (λ n. n) result (named_at strings.now self.old.entries name.0) }
     {
-        self.names.number(alloc, self.modules.as_slice(), name)
+        let modules = self.modules.as_slice();
+        self.named
+            .number(alloc, strings, modules, &mut self.names, name)
     }
 
     /// What the module of a number exports first under an index as it names it, as [`Resolver::import_of`].
