@@ -1,6 +1,8 @@
--- The words of the program, and what they ask for.
-use Rattle.std.specs.Prelude.{◌≡◌, ◌≢◌, ◌⊎◌, ⊤, ℕ, true, List, [], Option, Some, None, codes, string_bytes, option_and_then}
-use Rattle.clap.specs.Words.{App, IsAmong, Row, Rule, Text, fault_of, first_of, new_app, new_rule, subcommand_of, with_rule, with_subcommand}
+-- The arguments of the program, and what they ask for.
+use Rattle.std.specs.Prelude.{◌≡◌, ◌≢◌, ◌⊎◌, ⊤, ℕ, true, List, [], Option, Some, None, codes}
+use Rattle.std.specs.Prelude.{string_bytes, option_and_then}
+use Rattle.clap.specs.Words.{App, IsAmong, Row, Rule, Text, fault_of, first_of, new_app, new_rule}
+use Rattle.clap.specs.Words.{subcommand_of, with_rule, with_subcommand}
 use Rattle.clap.specs.declared.error.kind.ErrorKind.{ErrorKind}
 use Rattle.clap.specs.declared.error.kind.ErrorKind.TheVariants as kinds
 use Rattle.pdb_engine.specs.Address.{address_of}
@@ -9,7 +11,7 @@ use Rattle.pdb_arguments.specs.declared.task.Task.TheVariants.{Frames, Sizes}
 use Rattle.pdb_arguments.specs.declared.task.WordsFault.{WordsFault}
 use Rattle.pdb_arguments.specs.declared.task.WordsFault.TheVariants as faults
 
--- a word that has to stand behind a subcommand's name
+-- an argument that is required after a subcommand's name
 abbrev pub needed : List ℕ → Rule
 needed name = record (new_rule name) { required = true }
 
@@ -19,7 +21,9 @@ frames_app = with_rule (new_app (codes "frames")) (needed (codes "FILE"))
 
 -- `sizes FILE START END`
 abbrev pub sizes_app : App
-sizes_app = with_rule (with_rule (with_rule (new_app (codes "sizes")) (needed (codes "FILE"))) (needed (codes "START"))) (needed (codes "END"))
+sizes_app =
+    with_rule (with_rule (with_rule (new_app (codes "sizes")) (needed (codes "FILE")))
+    (needed (codes "START"))) (needed (codes "END"))
 
 -- a subcommand is required, no argument is the program's name, and there is a version to ask for
 abbrev pub bare_app : App
@@ -35,11 +39,11 @@ bare_app = let app = new_app (codes "pdb_symbolizer") in record app {
 abbrev pub program_app : App
 program_app = with_subcommand (with_subcommand bare_app frames_app.top) sizes_app.top
 
--- a subcommand's name, and the values behind it
+-- a subcommand's name, and the values after it
 abbrev pub Entered : Type 0
 Entered = Text × List Row
 
--- the subcommand that the words enter
+-- the subcommand that the arguments enter
 abbrev pub entered_by : List Text → Option Entered
 entered_by words = subcommand_of program_app words
 
@@ -50,19 +54,24 @@ address_at name rows = option_and_then address_of (first_of name rows)
 -- the task has the subcommand's name, its FILE, and the addresses at START and END
 abbrev pub IsTask : Task → Option Entered → Type 0
 IsTask task None = ⊥
-IsTask (Frames file) (Some entered) = (entered.0 ≡ codes "frames") × (first_of (codes "FILE") entered.1 ≡ Some (string_bytes file))
-IsTask (Sizes file start end) (Some entered) = (entered.0 ≡ codes "sizes") × (first_of (codes "FILE") entered.1 ≡ Some (string_bytes file))
-    × (address_at (codes "START") entered.1 ≡ Some start) × (address_at (codes "END") entered.1 ≡ Some end)
+IsTask (Frames file) (Some entered) = (entered.0 ≡ codes "frames")
+    × (first_of (codes "FILE") entered.1 ≡ Some (string_bytes file))
+IsTask (Sizes file start end) (Some entered) =
+    (entered.0 ≡ codes "sizes") × (first_of (codes "FILE") entered.1 ≡ Some (string_bytes file))
+    × (address_at (codes "START") entered.1 ≡ Some start)
+    × (address_at (codes "END") entered.1 ≡ Some end)
 
 -- `sizes` was entered, and START or END is no address
 abbrev pub LacksAddress : Option Entered → Type 0
 LacksAddress None = ⊥
-LacksAddress (Some entered) = (entered.0 ≡ codes "sizes") × ((address_at (codes "START") entered.1 ≡ None) ⊎ (address_at (codes "END") entered.1 ≡ None))
+LacksAddress (Some entered) = (entered.0 ≡ codes "sizes")
+    × ((address_at (codes "START") entered.1 ≡ None) ⊎ (address_at (codes "END") entered.1 ≡ None))
 
 -- neither subcommand was entered with a FILE
 abbrev pub LacksTask : Option Entered → Type 0
 LacksTask None = ⊤
-LacksTask (Some entered) = (first_of (codes "FILE") entered.1 ≡ None) ⊎ ((entered.0 ≢ codes "frames") × (entered.0 ≢ codes "sizes"))
+LacksTask (Some entered) = (first_of (codes "FILE") entered.1 ≡ None)
+    ⊎ ((entered.0 ≢ codes "frames") × (entered.0 ≢ codes "sizes"))
 
 -- what is reported of an error in reading the arguments: help and the version as such
 abbrev pub IsToldOf : ErrorKind → WordsFault → Type 0
@@ -72,29 +81,32 @@ IsToldOf kind (faults.Words text) = (kind ≢ kinds.OutOfMemory)
 IsToldOf kind (faults.Help text) = (kind ≡ kinds.DisplayHelp) ⊎ (kind ≡ kinds.DisplayVersion)
 IsToldOf kind faults.OutOfMemory = ⊤
 
--- what is told of what was entered
+-- what is reported for what was entered
 abbrev pub IsToldOfEntered : Option Entered → WordsFault → Type 0
 IsToldOfEntered entered faults.NotAnAddress = LacksAddress entered
 IsToldOfEntered entered (faults.Words text) = LacksTask entered
 IsToldOfEntered entered (faults.Help text) = ⊥
 IsToldOfEntered entered faults.OutOfMemory = ⊤
 
--- the words are taken, and one of the subcommands is entered
+-- the arguments are taken, and one of the subcommands is entered
 abbrev pub IsTaken : List Text → Type 0
 IsTaken words = fault_of program_app words ≡ []
 
--- the words aren't taken for an error that is told so
+-- the arguments aren't taken, for an error that is reported so
 abbrev pub IsRefusedSo : List Text → WordsFault → Type 0
-IsRefusedSo words fault = (kind : ErrorKind) × IsAmong kind (fault_of program_app words) × IsToldOf kind fault
+IsRefusedSo words fault = (kind : ErrorKind) × IsAmong kind (fault_of program_app words)
+    × IsToldOf kind fault
 
--- the words are taken, and what they enter is told so
+-- the arguments are taken, and what they enter is reported so
 abbrev pub IsTakenSo : List Text → WordsFault → Type 0
 IsTakenSo words fault = IsTaken words × IsToldOfEntered (entered_by words) fault
 
--- why no task comes of the words: they aren't taken, or are taken and FILE, START or END don't do; want of memory comes at any
+-- why the arguments give no task: they aren't taken, or are taken and FILE, START or END don't do;
+-- memory may run out for any
 abbrev pub IsFaultOf : List Text → WordsFault → Type 0
-IsFaultOf words fault = (fault ≡ faults.OutOfMemory) ⊎ (IsRefusedSo words fault ⊎ IsTakenSo words fault)
+IsFaultOf words fault = (fault ≡ faults.OutOfMemory)
+    ⊎ (IsRefusedSo words fault ⊎ IsTakenSo words fault)
 
--- the words are taken, and a task is what they enter
+-- the arguments are taken, and a task is what they enter
 abbrev pub IsOfTask : List Text → Type 0
 IsOfTask words = IsTaken words × ((task : Task) × IsTask task (entered_by words))

@@ -1,31 +1,34 @@
--- What is told where no task comes of the words.
+-- What is reported where the arguments give no task.
 use Rattle.std.specs.Prelude.{◌≡◌, ◌⊎◌, ℕ, List, Option, None, Some, codes, string_bytes}
 use Rattle.std.specs.Io.KnownBytes.{Appends}
 use Rattle.pdb_arguments.specs.declared.task.WordsFault.{WordsFault}
 use Rattle.pdb_arguments.specs.declared.task.WordsFault.TheVariants as faults
 
--- the exit status: 0 for help, 1 for want of memory, 2 for wrong words
+-- the exit status: 0 for help, 1 when memory ran out, 2 for wrong arguments
 abbrev pub status_of : WordsFault → ℕ
 status_of faults.NotAnAddress = 2
 status_of (faults.Words text) = 2
 status_of (faults.Help text) = 0
 status_of faults.OutOfMemory = 1
 
--- what is told to the output, if anything is: help
+-- what is written to the output, if anything is: help
 abbrev pub output_text : WordsFault → Option (List ℕ)
 output_text faults.NotAnAddress = None
 output_text (faults.Words text) = None
 output_text (faults.Help text) = Some (string_bytes text)
 output_text faults.OutOfMemory = None
 
--- what is told to the errors, if anything is: all but help
+-- what is written to the errors, if anything is: all but help
 abbrev pub errors_text : WordsFault → Option (List ℕ)
 errors_text faults.NotAnAddress = Some (codes "fault: NotAnAddress\n")
 errors_text (faults.Words text) = Some (string_bytes text)
 errors_text (faults.Help text) = None
 errors_text faults.OutOfMemory = Some (codes "fault: OutOfMemory\n")
 
--- A text was told: all of it was written, or a write failed. Where there is none, the writer is as it was.
-abbrev pub Tells : {T : Type 0} → (T → Option (List ℕ)) → (T → T → Type 0) → T → T → Option (List ℕ) → Type 0
+-- A text was reported: all of it was written, or a write failed. Where there is none, the writer is
+-- as it was.
+abbrev pub Tells : {T : Type 0} → (T → Option (List ℕ)) → (T → T → Type 0) → T → T
+    → Option (List ℕ) → Type 0
 Tells contents has_failed old new None = new ≡ old
-Tells contents has_failed old new (Some text) = Appends (contents old) (contents new) text ⊎ has_failed old new
+Tells contents has_failed old new (Some text) =
+    Appends (contents old) (contents new) text ⊎ has_failed old new

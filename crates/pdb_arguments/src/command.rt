@@ -1,4 +1,4 @@
-//! The command that the program's words are read by, with its help.
+//! The command that the program's arguments are read by, with its help.
 
 ghost use Rattle.std.specs.Prelude.{◌≡◌, IfOk, false};
 ghost use Rattle.clap.specs.Words.{app_of, new_app, rule_of, with_subcommand};
@@ -52,7 +52,7 @@ const START_HELP: &str = "The range's first address, in hexadecimal, such as 100
 const END_HELP: &str =
     "The address after the range's last, which isn't counted, such as 2000 or 0x2000";
 
-/// A required word, with its help.
+/// A required argument, with its help.
 fn needed_word<'a>(alloc: Global, name: &'a str, help: &'a str) -> Arg<'a>
     ensures rule { rule_of result ≡ needed name.entry.now }
     ensures local { result.global ≡ false }
@@ -60,7 +60,7 @@ fn needed_word<'a>(alloc: Global, name: &'a str, help: &'a str) -> Arg<'a>
     Arg::new(alloc, name).required(true).help(help)
 }
 
-/// A command of this name with its help, and no words yet.
+/// A command of this name with its help, and no arguments yet.
 fn described<'a>(alloc: Global, name: &'a str, about: &'a str, end: &'a str) -> Command<'a>
     ensures app { app_of result ≡ new_app name.entry.now }
     ensures local { (fields_of result).has_globals ≡ false }
@@ -90,8 +90,8 @@ fn sizes_command<'a>(alloc: Global) -> Result<Command<'a>, AllocError>
     Ok(with_end)
 }
 
-/// The program's command, which requires a subcommand and has none yet. Its name stands in usage, and is
-/// no word.
+/// The program's command, which requires a subcommand and has none yet. Its name appears in the
+/// usage, and is no argument.
 fn bare_command<'a>(alloc: Global) -> Result<Command<'a>, AllocError>
     ensures app { IfOk result (λ c. app_of c ≡ bare_app) }
     ensures local { IfOk result (λ c. (fields_of c).has_globals ≡ false) }

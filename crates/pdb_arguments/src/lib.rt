@@ -1,4 +1,5 @@
-//! The program's arguments, read by `clap`: which task they ask for, or what is told in its place.
+//! The program's arguments, read by `clap`: which task they ask for, or what is reported in its
+//! place.
 #![tactic(auto)]
 
 mod command;

@@ -1,8 +1,10 @@
-//! The task that the words ask for.
+//! The task that the arguments ask for.
 
-ghost use Rattle.std.specs.Prelude.{◌≡◌, ◌↔◌, Some, IfErr, IfOk, map, string_bytes, true, option_map};
+ghost use Rattle.std.specs.Prelude.{◌≡◌, ◌↔◌, Some, IfErr, IfOk, map, string_bytes, true};
+ghost use Rattle.std.specs.Prelude.{option_map};
 ghost use Rattle.clap.specs.Words.{first_of, found_of, kind_of, rows_of, subcommand_rows_of};
-ghost use Rattle.pdb_arguments.specs.Task.{IsFaultOf, IsOfTask, IsTaken, IsTask, IsToldOf, IsToldOfEntered, address_at, entered_by};
+ghost use Rattle.pdb_arguments.specs.Task.{IsFaultOf, IsOfTask, IsTaken, IsTask, IsToldOf};
+ghost use Rattle.pdb_arguments.specs.Task.{IsToldOfEntered, address_at, entered_by};
 
 use crate::command::program;
 use crate::task::{Task, WordsFault};
@@ -11,7 +13,7 @@ use clap::{ArgMatches, Error};
 use pdb_engine::parse_address;
 use std::alloc::Global;
 
-/// What is told of an error in reading the words.
+/// What is reported for an error in reading the arguments.
 fn told(alloc: Global, error: &Error) -> WordsFault
     ensures { IsToldOf (kind_of error.now) result }
 {
@@ -22,7 +24,7 @@ fn told(alloc: Global, error: &Error) -> WordsFault
     }
 }
 
-/// Whether a text is a word.
+/// Whether two texts are equal.
 fn is_word(text: &str, word: &str) -> bool
     ensures { result ≡ true ↔ text.now ≡ word.now }
 {
@@ -49,10 +51,11 @@ fn address_in(matches: &ArgMatches<'_>, name: &str) -> Option<u32>
 /// The task of a subcommand of this name with these values.
 ///
 /// # Errors
-/// `NotAnAddress` where START or END of `sizes` is no address; `Words` with no text where there is no
-/// FILE or the name is another, which is never so behind `clap`'s own checks; `OutOfMemory`.
+/// `NotAnAddress` where START or END of `sizes` is no address; `Words` with no text where there is
+/// no FILE or the name is another, which is never so after `clap`'s own checks; `OutOfMemory`.
 fn task_in(alloc: Global, name: &str, matches: &ArgMatches<'_>) -> Result<Task, WordsFault>
-    ensures ok { IfOk result (λ task. IsTask task (Some (name.now, rows_of (found_of matches.now)))) }
+    ensures ok { IfOk result
+        (λ task. IsTask task (Some (name.now, rows_of (found_of matches.now)))) }
     ensures err { IfErr result (IsToldOfEntered (Some (name.now, rows_of (found_of matches.now)))) }
 {
     let Some(word) = value_at(matches, "FILE") else {
@@ -74,10 +77,11 @@ fn task_in(alloc: Global, name: &str, matches: &ArgMatches<'_>) -> Result<Task, 
     Ok(Task::Sizes { file, start, end })
 }
 
-/// The task of what the words entered.
+/// The task of what the arguments entered.
 ///
 /// # Errors
-/// As `task_in`; `Words` with no text where nothing was entered, which is never so behind `clap`'s own checks.
+/// As `task_in`; `Words` with no text where nothing was entered, which is never so after `clap`'s
+/// own checks.
 fn task_of(alloc: Global, matches: &ArgMatches<'_>) -> Result<Task, WordsFault>
     ensures ok { IfOk result (λ task. IsTask task (subcommand_rows_of matches.now)) }
     ensures err { IfErr result (IsToldOfEntered (subcommand_rows_of matches.now)) }
@@ -88,15 +92,17 @@ fn task_of(alloc: Global, matches: &ArgMatches<'_>) -> Result<Task, WordsFault>
     }
 }
 
-/// The task that the words behind the program's name ask for.
+/// The task that the arguments after the program's name ask for.
 ///
 /// # Errors
-/// `Help` where they ask for help or the version, `Words` where they are no command, `NotAnAddress` where they are those
-/// of `sizes` and START or END is no address; `OutOfMemory`.
+/// `Help` where they ask for help or the version, `Words` where they are no command,
+/// `NotAnAddress` where they are those of `sizes` and START or END is no address; `OutOfMemory`.
 pub fn read_words(alloc: Global, words: &[String]) -> Result<Task, WordsFault>
-    ensures task { IfOk result (λ task. IsTaken (map string_bytes words.now) × IsTask task (entered_by (map string_bytes words.now))) }
+    ensures task { IfOk result (λ task. IsTaken (map string_bytes words.now)
+        × IsTask task (entered_by (map string_bytes words.now))) }
     ensures fault { IfErr result (IsFaultOf (map string_bytes words.now)) }
-    ensures passes { IfErr result (λ fault. IsOfTask (map string_bytes words.now) → fault ≡ WordsFault.OutOfMemory) }
+    ensures passes { IfErr result (λ fault. IsOfTask (map string_bytes words.now)
+        → fault ≡ WordsFault.OutOfMemory) }
 {
     let command = program(alloc)?;
     match command.try_get_matches_from(words) {

@@ -1,4 +1,4 @@
-//! Tasks of the program, and why none comes of its words.
+//! Tasks of the program, and why its arguments give none.
 
 use std::alloc::AllocError;
 use thiserror::Error;
@@ -17,18 +17,18 @@ pub enum Task {
         file: String,
         /// The range's first address.
         start: u32,
-        /// The address behind the range's last.
+        /// The address after the range's last.
         end: u32,
     },
 }
 
-/// Why no task comes of the words. `Words` and `Help` print what they hold, any other its name.
+/// Why the arguments give no task. `Words` and `Help` print what they hold, any other its name.
 #[derive(Debug, Drop, PartialEq, Error)]
 pub enum WordsFault {
     /// START or END is no address.
     #[error("NotAnAddress")]
     NotAnAddress,
-    /// The words are no command, for the cause in this text.
+    /// The arguments are no command, for the cause in this text.
     #[error("{0}")]
     Words(String),
     /// The arguments ask for help or the version, which is this text.

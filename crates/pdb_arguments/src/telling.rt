@@ -1,4 +1,4 @@
-//! What is told where no task comes of the words.
+//! What is reported where the arguments give no task.
 
 ghost use Rattle.std.specs.Prelude.{◌≡◌, ◌⊎◌, ℕ, List, Option, Some, OnOk, OnErr, IfOk};
 ghost use Rattle.std.specs.Io.KnownBytes.{Appends};
@@ -7,11 +7,11 @@ ghost use Rattle.pdb_arguments.specs.Telling.{Tells, status_of, output_text, err
 use crate::task::WordsFault;
 use std::io::{self, Write};
 
-/// Where texts are told: any writer.
+/// An output for texts: any writer.
 pub trait TextOutput {
     // what it holds, where that is known
     ghost contents: { Self → Option (List ℕ) };
-    // a write failed between the one and the other, where that can be told
+    // a write failed between the one and the other, where that is known
     ghost has_failed: { Self → Self → Type 0 };
 
     /// Writes all of a text.
@@ -35,16 +35,17 @@ impl<W: Write> TextOutput for W {
     }
 }
 
-/// Tells a text. A write that fails is ignored, and ends it.
+/// Writes a text. A write that fails is ignored, and ends it.
 fn tell<W: TextOutput>(output: &mut W, text: &str)
     ensures { Tells W.contents W.has_failed output.old output.new (Some text.now) }
 {
     let _ = output.put(text);
 }
 
-/// Tells why no task came of the words, and returns the exit status: help goes to `output`, with status 0; wrong words go to
-/// `errors`, with status 2, and so does want of memory, with status 1. What holds no text is told in one line, `fault: ` and its
-/// name. A write that fails is ignored, and ends the text. It takes no memory of its own.
+/// Reports why the arguments give no task, and returns the exit status. Help goes to `output`, with
+/// status 0. Wrong arguments go to `errors`, with status 2, and so does a report that memory ran
+/// out, with status 1. What holds no text is reported in one line, `fault: ` and its name. A write
+/// that fails is ignored, and ends the text. It takes no memory of its own.
 pub fn tell_words<W: TextOutput, E: TextOutput>(
     fault: &WordsFault,
     output: &mut W,

@@ -1,7 +1,9 @@
 -- The CodeView record of an image: which PDB it has.
 -- The debug directory's layout is that of Microsoft's PE Format, the record's that of LLVM's
 -- PDB70DebugInfo (CVDebugRecord.h).
-use Rattle.std.specs.Prelude.{◌≡◌, ℕ, ◌+◌, ◌-◌, ◌&&◌, Bool, List, [], ◌∷◌, length, take, drop, codes, position, nat_lt, nat_le, nat_eq, ◌==◌, if◌then◌else◌, Option, None, Some, Result, Ok, Err, ok_or}
+use Rattle.std.specs.Prelude.{◌≡◌, ℕ, ◌+◌, ◌-◌, ◌&&◌, Bool, List, [], ◌∷◌, length, take, drop}
+use Rattle.std.specs.Prelude.{codes, position, nat_lt, nat_le, nat_eq, ◌==◌, if◌then◌else◌, Option}
+use Rattle.std.specs.Prelude.{None, Some, Result, Ok, Err, ok_or}
 use Rattle.std.specs.Option.{option_or}
 use Rattle.std.specs.List.{starts_with, find, list_any}
 use Rattle.pdb_container.specs.Container.{word_at}

@@ -1,7 +1,9 @@
 -- What a PE image says of itself by its headers: the DOS header, the COFF header, the optional
 -- header, section headers.
 -- The layout is that of Microsoft's PE Format.
-use Rattle.std.specs.Prelude.{ℕ, ◌+◌, ◌*◌, ◌/◌, ◌^◌, Bool, List, length, take, drop, map, codes, nat_lt, nat_le, nat_eq, ◌==◌, if◌then◌else◌, Option, None, Some, Result, Ok, Err, ok_or}
+use Rattle.std.specs.Prelude.{ℕ, ◌+◌, ◌*◌, ◌/◌, ◌^◌, Bool, List, length, take, drop, map, codes}
+use Rattle.std.specs.Prelude.{nat_lt, nat_le, nat_eq, ◌==◌, if◌then◌else◌, Option, None, Some}
+use Rattle.std.specs.Prelude.{Result, Ok, Err, ok_or}
 use Rattle.std.specs.List.{starts_with}
 use Rattle.std.specs.Simd.{first_chunks}
 use Rattle.pdb_container.specs.Container.{half_at, word_at}
@@ -13,12 +15,12 @@ use Rattle.pdb_image.specs.declared.error.ImageError.TheVariants as faults
 use Rattle.pdb_image.specs.declared.optional_header.DataDirectory.{DataDirectory}
 use Rattle.pdb_image.specs.declared.optional_header.OptionalHeader.{OptionalHeader}
 
--- so many bytes from a place on, where all of them are there
+-- that many bytes from a place on, where all of them are there
 abbrev pub part : List ℕ → ℕ → ℕ → Option (List ℕ)
 part bytes place size =
     if nat_lt (length bytes) (place + size) then None else Some (take size (drop place bytes))
 
--- the entries of so many bytes each; bytes at the end that make no whole one are none
+-- the entries of that many bytes each; bytes at the end that make no whole one are none
 abbrev pub entries : ℕ → List ℕ → List (List ℕ)
 entries size bytes = first_chunks size (length bytes / size) bytes
 

@@ -4,7 +4,9 @@ ghost use Rattle.std.specs.Prelude.{◌≡◌, map, option_map};
 ghost use Rattle.std.specs.List.{find, list_any};
 ghost use Rattle.pdb_addresses.specs.Sections.{header_in};
 ghost use Rattle.pdb_container.specs.RawString.{raw_bytes};
-ghost use Rattle.pdb_image.specs.CodeView.{Returns, is_code_view as is_code_view_entry, is_rsds as is_rsds_entry, place_in as place_in_section, path_of, place_of, record_in, record_of, rsds_of};
+ghost use Rattle.pdb_image.specs.CodeView.{Returns, is_code_view as is_code_view_entry};
+ghost use Rattle.pdb_image.specs.CodeView.{is_rsds as is_rsds_entry, place_in as place_in_section};
+ghost use Rattle.pdb_image.specs.CodeView.{path_of, place_of, record_in, record_of, rsds_of};
 
 use crate::error::ImageError;
 use crate::file_part::part;

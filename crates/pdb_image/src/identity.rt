@@ -1,4 +1,4 @@
-//! The identity of a PDB, by which an image and its PDB are told to belong together.
+//! The identity of a PDB, which says that an image and its PDB belong together.
 
 ghost use Rattle.std.specs.Prelude.{◌≡◌, ◌↔◌, IsTrue, unwrap_or};
 

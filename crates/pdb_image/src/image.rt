@@ -30,7 +30,13 @@ impl<'a> Model for Image<'a> {
 
     ghost Value = { Image };
 
-    ghost view = { λ i. record { file = i.file.now; machine = i.machine; image_base = i.image_base; sections = map header_in i.sections.now; debug = i.debug } };
+    ghost view = { λ i. record {
+      file = i.file.now;
+      machine = i.machine;
+      image_base = i.image_base;
+      sections = map header_in i.sections.now;
+      debug = i.debug;
+    } };
 }
 
 impl<'a> Image<'a> {

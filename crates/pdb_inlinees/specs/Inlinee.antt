@@ -1,4 +1,4 @@
--- Inlined functions, as the code keeps them.
+-- Inlined functions, as the code stores them.
 use Rattle.pdb_inlinees.specs.Inlinees.{InlinedFunction}
 use Rattle.pdb_inlinees.specs.declared.inlinee.Inlinee.{Inlinee}
 

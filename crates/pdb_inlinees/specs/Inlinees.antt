@@ -14,7 +14,7 @@ pub record InlinedFunction : Type 0 where
   pub file : FileIndex
   pub line : ℕ
 
--- so many further files, as bytes, behind their count
+-- that many further files, as bytes, after their count
 unfoldable pub files_at : Reader (List ℕ)
 files_at bytes = do
   count ← number_at w32 bytes
@@ -31,9 +31,13 @@ inlinee_at has_files bytes = do
   file ← number_at w32 index.1
   line ← number_at w32 file.1
   files ← further_files_at has_files line.1
-  Ok (record { index = record { 0 = index.0 }; file = record { 0 = file.0 }; line = line.0 }, files.1)
+  Ok (
+    record { index = record { 0 = index.0 }; file = record { 0 = file.0 }; line = line.0 },
+    files.1,
+  )
 
--- the inlinees of a subsection: behind a number 1 they have further files, behind any other they have none
+-- the inlinees of a subsection: after a signature of 1 they have further files, after any other
+-- they have none
 unfoldable pub inlinees_of : List ℕ → Result (Listing InlinedFunction) Fault
 inlinees_of bytes = do
   signature ← number_at w32 bytes

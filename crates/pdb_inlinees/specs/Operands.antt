@@ -14,11 +14,12 @@ abbrev pub last_given : {A X : Type 0} → (A → Option X) → List A → Optio
 last_given given [] = None
 last_given given (a ∷ others) = option_or (last_given given others) (given a)
 
--- what stands behind the last that gives a value; everything, where none does
+-- what follows the last one that gives a value; everything, where none does
 abbrev pub behind_last : {A X : Type 0} → (A → Option X) → List A → List A
 behind_last given [] = []
 behind_last given (a ∷ others) =
-    if is_some (last_given given others) then behind_last given others else (if is_some (given a) then others else a ∷ others)
+    if is_some (last_given given others) then behind_last given others
+    else (if is_some (given a) then others else a ∷ others)
 
 -- the sum of what is given
 abbrev pub total : {A : Type 0} → (A → Option ℕ) → List A → ℕ
@@ -53,14 +54,16 @@ line_change (kinds.ChangeLineOffset line) = Some (cast_unsigned w32 line)
 line_change (kinds.ChangeCodeOffsetAndLineOffset offset line) = Some (cast_unsigned w32 line)
 line_change a = None
 
--- how far the last line lies behind the first
+-- how many lines after the first one the last one lies
 abbrev pub line_length : BinaryAnnotation → Option ℕ
 line_length (kinds.ChangeLineEndDelta lines) = Some lines
 line_length a = None
 
 -- what the rows are of; a number past 1 says nothing of it
 abbrev pub range_kind : BinaryAnnotation → Option LineInfoKind
-range_kind (kinds.ChangeRangeKind kind) = if kind == 0 then Some made_of.Expression else (if kind == 1 then Some made_of.Statement else None)
+range_kind (kinds.ChangeRangeKind kind) =
+    if kind == 0 then Some made_of.Expression
+    else (if kind == 1 then Some made_of.Statement else None)
 range_kind a = None
 
 -- the first column that holds from here on

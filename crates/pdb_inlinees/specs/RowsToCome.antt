@@ -1,12 +1,15 @@
--- What is still to come of the rows, where one row's length may be open; and what one annotation changes of what is in
--- force.
-use Rattle.std.specs.Prelude.{ℕ, ◌+◌, ◌%◌, ◌^◌, List, [], ◌∷◌, ◌++◌, Option, None, Some, unwrap_or, option_map}
+-- What is still to come of the rows, where one row's length may be open; and what one annotation
+-- changes of what is in force.
+use Rattle.std.specs.Prelude.{ℕ, ◌+◌, ◌%◌, ◌^◌, List, [], ◌∷◌, ◌++◌, Option, None, Some, unwrap_or}
+use Rattle.std.specs.Prelude.{option_map}
 use Rattle.std.specs.Option.{option_or}
 use Rattle.pdb_container.specs.Listing.{Listing}
 use Rattle.pdb_symbols.specs.declared.annotation.BinaryAnnotation.{BinaryAnnotation}
 use Rattle.pdb_subsections.specs.declared.line_info.LineInfo.{LineInfo}
 use Rattle.pdb_inlinees.specs.declared.annotation_state.AnnotationState.{AnnotationState}
-use Rattle.pdb_inlinees.specs.Operands.{code_offset, code_base, offset_change, changed_file, line_change, line_length, range_kind, first_column, last_column, column_change}
+use Rattle.pdb_inlinees.specs.Operands.{code_offset, code_base, offset_change, changed_file}
+use Rattle.pdb_inlinees.specs.Operands.{line_change, line_length, range_kind, first_column}
+use Rattle.pdb_inlinees.specs.Operands.{last_column, column_change}
 use Rattle.pdb_inlinees.specs.InlinedRows.{length_behind, rows_behind, before_fault}
 
 -- a number moved on, modulo 2^32
@@ -14,7 +17,7 @@ abbrev pub moved_on : Option ℕ → ℕ → ℕ
 moved_on None n = n
 moved_on (Some change) n = (n + change) % 2 ^ 32
 
--- what is in force behind an annotation
+-- what is in force after an annotation
 abbrev pub state_behind : AnnotationState → BinaryAnnotation → AnnotationState
 state_behind o a = record {
   section = o.section;
@@ -32,18 +35,21 @@ state_behind o a = record {
 abbrev pub completed : LineInfo → Option ℕ → LineInfo
 completed row length = record row { length = option_or row.length length }
 
--- a row that waits for its length, as the annotations behind it give that
+-- a row that waits for its length, as the annotations after it give that
 unfoldable pub waiting : AnnotationState → Option LineInfo → List BinaryAnnotation → List LineInfo
 waiting o None after = []
-waiting o (Some row) after = completed row (length_behind o row.offset.offset row.kind [] after) ∷ []
+waiting o (Some row) after = completed row (length_behind o row.offset.offset row.kind [] after)
+    ∷ []
 
--- that row, and those of the annotations behind it
+-- that row, and those of the annotations after it
 abbrev pub rows_ahead : AnnotationState → Option LineInfo → List BinaryAnnotation → List LineInfo
 rows_ahead o pending after = waiting o pending after ++ rows_behind o [] after
 
 -- all rows that are still to come
-unfoldable pub to_come : AnnotationState → Option LineInfo → Listing BinaryAnnotation → Listing LineInfo
-to_come o pending l = record { items = before_fault l.fault (rows_ahead o pending l.items); fault = l.fault }
+unfoldable pub to_come : AnnotationState → Option LineInfo → Listing BinaryAnnotation
+    → Listing LineInfo
+to_come o pending l =
+    record { items = before_fault l.fault (rows_ahead o pending l.items); fault = l.fault }
 
 -- a row before others, if there is one
 abbrev pub row_in_front : Option LineInfo → List LineInfo → List LineInfo

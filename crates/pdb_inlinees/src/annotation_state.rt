@@ -1,7 +1,9 @@
 //! The state of an inlined call's rows: what is in force at an annotation.
 
 ghost use Rattle.std.specs.Prelude.{◌≡◌, [], ◌∷◌, unwrap_or, option_map};
-ghost use Rattle.pdb_inlinees.specs.InlinedRows.{row_behind, length_by, place_behind, line_behind, last_line_behind, last_column_behind, is_same_kind};
+ghost use Rattle.pdb_inlinees.specs.InlinedRows.{row_behind, length_by, place_behind, line_behind};
+ghost use Rattle.pdb_inlinees.specs.InlinedRows.{last_line_behind, last_column_behind};
+ghost use Rattle.pdb_inlinees.specs.InlinedRows.{is_same_kind};
 ghost use Rattle.pdb_inlinees.specs.Operands.{own_length, range_kind, column_change};
 ghost use Rattle.pdb_symbols.specs.declared.annotation.BinaryAnnotation.TheVariants as kinds;
 ghost use Rattle.pdb_inlinees.specs.RowsToCome.{state_behind, moved_on};
@@ -24,7 +26,7 @@ pub(crate) struct AnnotationState {
     pub file: FileIndex,
     /// The line of the next row, counted from 1.
     pub line: u32,
-    /// How far the last line lies behind the first.
+    /// How many lines after the first one the last one lies.
     pub line_length: u32,
     /// The first column, where one was given.
     pub first_column: Option<u32>,
@@ -45,7 +47,8 @@ fn kind_by(number: u32, kind: LineInfoKind) -> LineInfoKind
 }
 
 fn moved_column(column: Option<u32>, columns: i32) -> Option<u32>
-    ensures { result ≡ option_map (moved_on (column_change (kinds.ChangeColumnEndDelta columns))) column }
+    ensures { result ≡ option_map (moved_on (column_change (kinds.ChangeColumnEndDelta columns)))
+        column }
 {
     match column {
         None => None,
@@ -54,7 +57,7 @@ fn moved_column(column: Option<u32>, columns: i32) -> Option<u32>
 }
 
 impl AnnotationState {
-    /// Goes on to what holds behind an annotation.
+    /// Goes on to what holds after an annotation.
     pub(crate) fn pass(&mut self, annotation: BinaryAnnotation)
         ensures { self.new ≡ state_behind self.old annotation }
     {

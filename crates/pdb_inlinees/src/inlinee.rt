@@ -18,7 +18,8 @@ use pdb_subsections::LineInfoKind;
 use pdb_symbols::InlineSiteSymbol;
 use std::marker::{Model, PhantomData};
 
-/// An inlinee: a function that was inlined, by its id, with the file and line at which its text begins.
+/// An inlinee: a function that was inlined, by its id, with the file and line at which its text
+/// begins.
 #[derive(Clone, Copy, Debug)]
 pub struct Inlinee<'a> {
     index: IdIndex,
@@ -35,13 +36,15 @@ impl<'a> Inlinee<'a> {
         self.index
     }
 
-    /// The line rows of a call of the inlinee, where the procedure around the call begins at `parent_offset`.
+    /// The line rows of a call of the inlinee, where the procedure around the call begins at
+    /// `parent_offset`.
     pub fn lines(
         &self,
         parent_offset: PdbInternalSectionOffset,
         inline_site: &InlineSiteSymbol<'a>,
     ) -> InlineeLineIterator<'a>
-        ensures { result ≡ inlined_rows parent_offset (inlined_function self.now) (annotation_bytes inline_site.now.annotations) }
+        ensures { result ≡ inlined_rows parent_offset (inlined_function self.now)
+            (annotation_bytes inline_site.now.annotations) }
     {
         let origin = AnnotationState {
             section: parent_offset.section,
@@ -64,10 +67,11 @@ fn no_bytes<'a>() -> &'a [u8]
     &[]
 }
 
-/// The further files of an entry, as bytes, behind their count.
+/// The further files of an entry, as bytes, after their count.
 #[tactic(auto, unfolding(crate::specs::Inlinees::files_at))]
 fn take_files<'a>(buffer: &mut ParseBuffer<'a>) -> Result<&'a [u8]>
-    ensures value { ParsesFront (λ files. files.now) result (rest buffer.new) (files_at (rest buffer.old)) }
+    ensures value { ParsesFront (λ files. files.now) result (rest buffer.new)
+        (files_at (rest buffer.old)) }
     ensures taken { IfOk result (λ _. length (rest buffer.new) ≤ length (rest buffer.old)) }
 {
     let count = buffer.parse_u32()?;
@@ -76,7 +80,8 @@ fn take_files<'a>(buffer: &mut ParseBuffer<'a>) -> Result<&'a [u8]>
 
 /// The further files of an entry, as bytes; none, where entries have none.
 fn take_further_files<'a>(buffer: &mut ParseBuffer<'a>, has_files: bool) -> Result<&'a [u8]>
-    ensures value { ParsesFront (λ files. files.now) result (rest buffer.new) (further_files_at has_files (rest buffer.old)) }
+    ensures value { ParsesFront (λ files. files.now) result (rest buffer.new)
+        (further_files_at has_files (rest buffer.old)) }
     ensures taken { IfOk result (λ _. length (rest buffer.new) ≤ length (rest buffer.old)) }
 {
     if has_files {
@@ -89,7 +94,8 @@ fn take_further_files<'a>(buffer: &mut ParseBuffer<'a>, has_files: bool) -> Resu
 /// An entry, which may have further files.
 #[tactic(auto, unfolding(crate::specs::Inlinees::inlinee_at))]
 fn parse_entry<'a>(buffer: &mut ParseBuffer<'a>, has_files: bool) -> Result<Inlinee<'a>>
-    ensures value { ParsesFront inlined_function result (rest buffer.new) (inlinee_at has_files (rest buffer.old)) }
+    ensures value { ParsesFront inlined_function result (rest buffer.new)
+        (inlinee_at has_files (rest buffer.old)) }
     ensures taken { IfOk result (λ _. length (rest buffer.new) < length (rest buffer.old)) }
 {
     let index = IdIndex(buffer.parse_u32()?);
@@ -104,8 +110,8 @@ fn parse_entry<'a>(buffer: &mut ParseBuffer<'a>, has_files: bool) -> Result<Inli
     })
 }
 
-/// An iterator over the inlinees of a module. One that can't be read is returned as `UnexpectedEof`, and none comes
-/// behind it.
+/// An iterator over the inlinees of a module. In place of one that can't be read it returns
+/// `UnexpectedEof`. Nothing comes after that.
 #[derive(Debug, Drop)]
 pub struct InlineeIterator<'a> {
     buffer: ParseBuffer<'a>,
@@ -121,11 +127,16 @@ impl<'a> Model for InlineeIterator<'a> {
 
     ghost Value = { Listing InlinedFunction };
 
-    ghost view = { λ i. if i.has_ended then ending None else listing (inlinee_at i.has_files) (rest i.buffer) };
+    ghost view = { λ i. if i.has_ended then ending None
+        else listing (inlinee_at i.has_files) (rest i.buffer) };
 }
 
 impl<'a> InlineeIterator<'a> {
-    /// The inlinees in the bytes of a `DEBUG_S_INLINEELINES`; `UnexpectedEof` where these are fewer than four.
+    /// The inlinees in the bytes of a `DEBUG_S_INLINEELINES`.
+    ///
+    /// # Errors
+    /// `UnexpectedEof` where there are fewer than four bytes. The iterator returns what is wrong
+    /// with an entry.
     #[tactic(auto, unfolding(crate::specs::Inlinees::inlinees_of))]
     pub fn parse(bytes: &'a [u8]) -> Result<InlineeIterator<'a>>
         ensures { Parses (λ i. i) result (inlinees_of bytes.now) }

@@ -1,5 +1,5 @@
-//! Inlinees (`DEBUG_S_INLINEELINES`): which functions were inlined in a module, and the rows of their calls. The
-//! layouts are those of microsoft-pdb's cvinfo.h, as the pdb crate reads them.
+//! Inlinees (`DEBUG_S_INLINEELINES`): which functions were inlined in a module, and the rows of
+//! their calls. The layouts are those of microsoft-pdb's cvinfo.h, as the pdb crate reads them.
 #![tactic(auto)]
 
 mod annotation_state;

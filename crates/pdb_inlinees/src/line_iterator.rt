@@ -4,7 +4,9 @@ ghost use Rattle.std.specs.Prelude.{◌≡◌, ◌∷◌, [], List, None, Some, 
 ghost use Rattle.pdb_container.specs.Listing.{ending, Advances};
 ghost use Rattle.pdb_addresses.specs.Numbers.{distance};
 ghost use Rattle.pdb_symbols.specs.Annotations.{is_emitting};
-ghost use Rattle.pdb_symbols.specs.declared.annotation.BinaryAnnotation.{BinaryAnnotation as Annotation};
+ghost use Rattle.pdb_symbols.specs.declared.annotation.BinaryAnnotation.{
+  BinaryAnnotation as Annotation,
+};
 ghost use Rattle.pdb_inlinees.specs.InlinedRows.{all_rows, place_behind, length_by};
 ghost use Rattle.pdb_inlinees.specs.Operands.{own_length, given_length};
 ghost use Rattle.pdb_inlinees.specs.RowsToCome.{rows_ahead, to_come, row_in_front};
@@ -36,9 +38,11 @@ fn place_at(origin: AnnotationState, annotation: BinaryAnnotation) -> u32
     next.place()
 }
 
-/// How far that row lies behind an offset, if the annotation gives one and it doesn't lie before that.
+/// How many bytes after an offset that row lies, if the annotation gives one and it doesn't lie
+/// before that.
 fn distance_at(origin: AnnotationState, start: u32, annotation: BinaryAnnotation) -> Option<u32>
-    ensures { result ≡ (if is_emitting annotation then distance start (place_behind origin (annotation ∷ [])) else None) }
+    ensures { result ≡ (if is_emitting annotation
+        then distance start (place_behind origin (annotation ∷ [])) else None) }
 {
     if annotation.emits_line_info() {
         place_at(origin, annotation).checked_sub(start)
@@ -69,14 +73,16 @@ fn length_at(origin: AnnotationState, row: LineInfo, annotation: BinaryAnnotatio
     }
 }
 
-/// Goes over an annotation, where a row may wait for its length; the row that is whole behind it.
+/// Goes over an annotation, where a row may wait for its length. Returns the row that is whole
+/// then.
 #[tactic(auto, using(crate::proofs::Steps::first_row, crate::proofs::Steps::next_row, crate::proofs::Steps::still_none, crate::proofs::Steps::still_open))]
 fn pass(
     origin: &mut AnnotationState,
     waiting: &mut Option<LineInfo>,
     annotation: BinaryAnnotation,
 ) -> Option<LineInfo>
-    ensures rows { (after : List Annotation) → rows_ahead origin.old waiting.old (annotation ∷ after) ≡ row_in_front result (rows_ahead origin.new waiting.new after) }
+    ensures rows { (after : List Annotation) → rows_ahead origin.old waiting.old
+        (annotation ∷ after) ≡ row_in_front result (rows_ahead origin.new waiting.new after) }
     ensures waits { IfSome result (λ _. IsSome waiting.new) }
 {
     if let Some(row) = waiting {
@@ -90,8 +96,8 @@ fn pass(
     }
 }
 
-/// An iterator over the rows of an inlined call. Where an annotation can't be read its fault is returned in place of
-/// the row before it, and none comes behind it.
+/// An iterator over the rows of an inlined call. Where an annotation can't be read, its fault is
+/// returned in place of the row before it. Nothing comes after that.
 #[derive(Debug, Drop)]
 pub struct InlineeLineIterator<'a> {
     annotations: BinaryAnnotationsIter<'a>,

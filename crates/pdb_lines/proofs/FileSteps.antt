@@ -11,9 +11,13 @@ some_left : (list : List ℕ) (place : ℕ) → place < length list → length (
 some_left list place lt none = omega (arith, length-drop place list, none)
 
 -- an entry that is refused ends the checksums with its fault
-pub files_fault : (list : List ℕ) (place : ℕ) (e : Fault) → place < length list → file_at (length list) (drop place list) ≡ Err e → files_from list place ≡ ending (Some e)
-files_fault list place e lt read = listing_fault (file_at (length list)) (drop place list) e (some_left list place lt) read
+pub files_fault : (list : List ℕ) (place : ℕ) (e : Fault) → place < length list
+    → file_at (length list) (drop place list) ≡ Err e → files_from list place ≡ ending (Some e)
+files_fault list place e lt read = listing_fault (file_at (length list)) (drop place list) e
+    (some_left list place lt) read
 
 -- an entry that is refused is no good end
-pub files_not_ended : (list : List ℕ) (place : ℕ) (e : Fault) → place < length list → file_at (length list) (drop place list) ≡ Err e → files_from list place ≡ ending None → ⊥
-files_not_ended list place e lt read end = not_ended_badly (file_at (length list)) (drop place list) e (some_left list place lt) read end
+pub files_not_ended : (list : List ℕ) (place : ℕ) (e : Fault) → place < length list
+    → file_at (length list) (drop place list) ≡ Err e → files_from list place ≡ ending None → ⊥
+files_not_ended list place e lt read end =
+    not_ended_badly (file_at (length list)) (drop place list) e (some_left list place lt) read end

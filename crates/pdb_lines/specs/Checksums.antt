@@ -1,8 +1,9 @@
--- Checksums of source files (DEBUG_S_FILECHKSMS), one behind the other.
--- The layout is that of the pdb crate's DEBUG_S_FILECHKSMS, with CV_SourceChksum_t of microsoft-pdb's cvinfo.h.
+-- Checksums of source files (DEBUG_S_FILECHKSMS), one after another. The layout is that of the pdb
+-- crate's DEBUG_S_FILECHKSMS, with CV_SourceChksum_t of microsoft-pdb's cvinfo.h.
 use Rattle.std.specs.Prelude.{ℕ, ◌-◌, List, length, drop, nat_le, ◌==◌, if◌then◌else◌, Result, Ok}
 use Rattle.std.specs.Int.{w8, w32}
-use Rattle.pdb_container.specs.Fault.{Fault, UnimplementedFileChecksumKind, InvalidFileChecksumOffset, ◌>>=◌, guard, refuse}
+use Rattle.pdb_container.specs.Fault.{Fault, UnimplementedFileChecksumKind}
+use Rattle.pdb_container.specs.Fault.{InvalidFileChecksumOffset, ◌>>=◌, guard, refuse}
 use Rattle.pdb_container.specs.Fields.{Reader, number_at, bytes_of, padding}
 use Rattle.pdb_container.specs.Listing.{Listing, listing}
 use Rattle.pdb_lines.specs.declared.checksum.FileChecksum.{FileChecksum}
@@ -23,10 +24,13 @@ pub record File : Type 0 where
 
 -- the checksum that these bytes are, by the number of its kind
 abbrev pub checksum_of : ℕ → List ℕ → Checksum
-checksum_of kind bytes = if kind == 0 then no_sum else (if kind == 1 then md5 bytes else (if kind == 2 then sha_1 bytes else sha_256 bytes))
+checksum_of kind bytes =
+    if kind == 0 then no_sum
+    else (if kind == 1 then md5 bytes else (if kind == 2 then sha_1 bytes else sha_256 bytes))
 
--- A file in a list of so many bytes: its name, the size and the kind of its checksum, the checksum, and what is missing
--- to a multiple of 4 from the list's start. An unknown kind comes before bytes that are missing behind it.
+-- A file in a list of that many bytes: its name, the size and the kind of its checksum, the
+-- checksum, and padding to a multiple of 4 from the list's start. An unknown kind is reported
+-- before bytes that are missing after it.
 unfoldable pub file_at : ℕ → Reader File
 file_at whole bytes = do
   name ← number_at w32 bytes
@@ -37,7 +41,7 @@ file_at whole bytes = do
   behind ← bytes_of (padding (whole - length content.1)) content.1
   Ok (record { name = name.0; checksum = checksum_of kind.0 content.0 }, behind.1)
 
--- the files of a list that are left behind a place
+-- the files of a list that are left after a place
 abbrev pub files_from : List ℕ → ℕ → Listing File
 files_from list place = listing (file_at (length list)) (drop place list)
 

@@ -1,6 +1,8 @@
--- Line marks: places where entries of lines begin, and places where subsections end.
--- The layout is that of CV_DebugSLinesFileBlockHeader_t, CV_Line_t and CV_Column_t in microsoft-pdb's cvinfo.h.
-use Rattle.std.specs.Prelude.{◌≡◌, ℕ, ◌+◌, ◌*◌, ◌-◌, ◌^◌, ◌%◌, ◌&&◌, ◌||◌, not, Bool, true, false, List, [], ◌∷◌, ◌++◌, map, nat_lt, ◌==◌, if◌then◌else◌, Option, Some, None, Result, Ok}
+-- Line marks: places where entries of lines begin, and places where subsections end. The layout is
+-- that of CV_DebugSLinesFileBlockHeader_t, CV_Line_t and CV_Column_t in microsoft-pdb's cvinfo.h.
+use Rattle.std.specs.Prelude.{◌≡◌, ℕ, ◌+◌, ◌*◌, ◌-◌, ◌^◌, ◌%◌, ◌&&◌, ◌||◌, not, Bool, true, false}
+use Rattle.std.specs.Prelude.{List, [], ◌∷◌, ◌++◌, map, nat_lt, ◌==◌, if◌then◌else◌, Option, Some}
+use Rattle.std.specs.Prelude.{None, Result, Ok}
 use Rattle.std.specs.Int.{w32}
 use Rattle.std.specs.List.{range_with_len, flat_map}
 use Rattle.pdb_container.specs.Container.{half_at, word_at}
@@ -16,8 +18,8 @@ use Rattle.pdb_lines.specs.LinesSubsections.{LinesSubsection}
 
 -- ---- blocks
 
--- a lines block, the entries of one file: where their subsection begins, how many they are, the bytes of their places
--- and lines, and of their columns
+-- a lines block, the entries of one file: where their subsection begins, how many they are, the
+-- bytes of their places and lines, and of their columns
 pub record LinesBlock : Type 0 where
   pub section : ℕ
   pub offset : ℕ
@@ -26,20 +28,28 @@ pub record LinesBlock : Type 0 where
   pub lines : List ℕ
   pub columns : Option (List ℕ)
 
--- the bytes of the columns of so many entries, where columns are told
+-- the bytes of the columns of that many entries, if the subsection has columns
 abbrev pub columns_of : Bool → ℕ → List ℕ → Result (Option (List ℕ)) Fault
 columns_of false count bytes = Ok None
 columns_of true count bytes = bytes_of (4 * count) bytes >>= λ columns. Ok (Some columns.0)
 
--- the block of a subsection of a file and so many entries: 8 bytes each, and then 4 each for their columns
+-- the block of a subsection of a file and that many entries: 8 bytes each, and then 4 each for
+-- their columns
 unfoldable pub block_in : LinesSubsection → ℕ → ℕ → List ℕ → Result LinesBlock Fault
 block_in subsection file count bytes = do
   lines ← bytes_of (8 * count) bytes
   columns ← columns_of subsection.has_columns count lines.1
-  Ok record { section = subsection.section; offset = subsection.offset; file = file; count = count; lines = lines.0; columns = columns }
+  Ok record {
+    section = subsection.section;
+    offset = subsection.offset;
+    file = file;
+    count = count;
+    lines = lines.0;
+    columns = columns;
+  }
 
--- A block of a subsection: a file, a number of entries, a size, and what is missing to so many bytes, the 12 before it
--- counted. What it has behind its entries is passed over.
+-- A block of a subsection: a file, a number of entries, a size, and what is missing to that many
+-- bytes, the 12 before it counted. What follows its entries is passed over.
 unfoldable pub block_at : LinesSubsection → Reader LinesBlock
 block_at subsection bytes = do
   file ← number_at w32 bytes
@@ -52,7 +62,7 @@ block_at subsection bytes = do
 
 -- ---- entries
 
--- the column at a place, where columns are told
+-- the column at a place, if the subsection has columns
 abbrev pub column_at : Option (List ℕ) → ℕ → Option ℕ
 column_at None at = None
 column_at (Some bytes) at = Some (half_at bytes at)
@@ -65,8 +75,8 @@ is_line line = not (line == 0xfeefee || line == 0xf00f00)
 abbrev pub line_kind : ℕ → LineInfoKind
 line_kind flags = if nat_lt flags (2 ^ 31) then kinds.Expression else kinds.Statement
 
--- the row that begins at a place, before its length is known: by the numbers of its line and kind, its file and its
--- columns
+-- the row that begins at a place, before its length is known: by the numbers of its line and kind,
+-- its file and its columns
 abbrev pub row_with : ℕ → ℕ → ℕ → ℕ → Option ℕ → Option ℕ → LineInfo
 row_with section offset flags file start end = record {
   offset = record { offset = offset; section = section };
@@ -91,7 +101,8 @@ entry_flags b i = word_at b.lines (8 * i + 4)
 abbrev pub entry_row : LinesBlock → ℕ → Option LineInfo
 entry_row b i =
     if nat_lt (entry_place b i) (2 ^ 32) && is_line (entry_flags b i % 2 ^ 24)
-    then Some (row_with b.section (entry_place b i) (entry_flags b i) b.file (column_at b.columns (4 * i)) (column_at b.columns (4 * i + 2)))
+    then Some (row_with b.section (entry_place b i) (entry_flags b i) b.file
+    (column_at b.columns (4 * i)) (column_at b.columns (4 * i + 2)))
     else None
 
 -- the mark of entry i
@@ -128,15 +139,19 @@ end_mark subsection = marks.End subsection.section (subsection.offset + subsecti
 -- the marks of subsections: of each one its entries, in the order of the file, and then its end
 abbrev pub marks_of : List LinesSubsection → Listing LineMark
 marks_of [] = ending None
-marks_of (subsection ∷ subsections) = marks_before (blocks_of subsection subsection.blocks) (before (end_mark subsection) (marks_of subsections))
+marks_of (subsection ∷ subsections) = marks_before (blocks_of subsection subsection.blocks)
+    (before (end_mark subsection) (marks_of subsections))
 
--- marks of which these entries come first, then the blocks in these bytes, which are the first subsection's, and then the
--- other subsections
+-- marks of which these entries come first, then the blocks in these bytes, which are the first
+-- subsection's, and then the other subsections
 abbrev pub marks_left : List LineMark → List ℕ → List LinesSubsection → Listing LineMark
 marks_left entries blocks [] = chained entries None (ending None)
-marks_left entries blocks (subsection ∷ subsections) = chained entries None (marks_before (blocks_of subsection blocks) (before (end_mark subsection) (marks_of subsections)))
+marks_left entries blocks (subsection ∷ subsections) =
+    chained entries None
+    (marks_before (blocks_of subsection blocks)
+    (before (end_mark subsection) (marks_of subsections)))
 
--- An entry's mark of those that were still to come, and those behind it.
+-- An entry's mark of those that were still to come, and those after it.
 abbrev pub GivesMark : List LineMark → Option LineMark → List LineMark → Type 0
 GivesMark old (Some mark) new = old ≡ mark ∷ new
 GivesMark old None new = (old ≡ []) × (new ≡ [])

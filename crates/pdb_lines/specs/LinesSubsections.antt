@@ -1,14 +1,16 @@
 -- Lines subsections (DEBUG_S_LINES): their headers, and their order.
 -- The layout is that of CV_DebugSLinesHeader_t in microsoft-pdb's cvinfo.h.
-use Rattle.std.specs.Prelude.{ℕ, ◌+◌, ◌*◌, ◌^◌, ◌%◌, Bool, List, [], ◌∷◌, nat_le, ◌==◌, if◌then◌else◌, Option, Some, None, Result, Ok, Err}
+use Rattle.std.specs.Prelude.{ℕ, ◌+◌, ◌*◌, ◌^◌, ◌%◌, Bool, List, [], ◌∷◌, nat_le, ◌==◌}
+use Rattle.std.specs.Prelude.{if◌then◌else◌, Option, Some, None, Result, Ok, Err}
 use Rattle.std.specs.Int.{w16, w32}
 use Rattle.pdb_container.specs.Fault.{Fault, ◌>>=◌}
 use Rattle.pdb_container.specs.Fields.{number_at}
 use Rattle.pdb_container.specs.Listing.{Listing}
-use Rattle.pdb_subsections.specs.Subsections.{lines_kind, files_kind, Subsection, subsections_of, first_of}
+use Rattle.pdb_subsections.specs.Subsections.{lines_kind, files_kind, Subsection, subsections_of}
+use Rattle.pdb_subsections.specs.Subsections.{first_of}
 
--- a lines subsection: where its code begins, how many bytes of code it has, whether columns are told, and the bytes of
--- its blocks
+-- a lines subsection: where its code begins, how many bytes of code it has, whether it has columns,
+-- and the bytes of its blocks
 pub record LinesSubsection : Type 0 where
   pub section : ℕ
   pub offset : ℕ
@@ -23,15 +25,27 @@ lines_subsection_of bytes = do
   section ← number_at w16 offset.1
   flags ← number_at w16 section.1
   size ← number_at w32 flags.1
-  Ok record { section = section.0; offset = offset.0; size = size.0; has_columns = flags.0 % 2 == 1; blocks = size.1 }
+  Ok record {
+    section = section.0;
+    offset = offset.0;
+    size = size.0;
+    has_columns = flags.0 % 2 == 1;
+    blocks = size.1;
+  }
 
--- the lines subsections among these, and behind them the end of all
-abbrev pub lines_subsections_among : List Subsection → Option Fault → Result (List LinesSubsection) Fault
+-- the lines subsections among these, and then the end of all
+abbrev pub lines_subsections_among : List Subsection → Option Fault
+    → Result (List LinesSubsection) Fault
 lines_subsections_among [] None = Ok []
 lines_subsections_among [] (Some e) = Err e
-lines_subsections_among (s ∷ others) end = if s.kind == lines_kind then (lines_subsection_of s.bytes >>= λ subsection. lines_subsections_among others end >>= λ subsections. Ok (subsection ∷ subsections)) else lines_subsections_among others end
+lines_subsections_among (s ∷ others) end =
+    if s.kind == lines_kind
+    then (lines_subsection_of s.bytes >>= λ subsection.
+    lines_subsections_among others end >>= λ subsections. Ok (subsection ∷ subsections))
+    else lines_subsections_among others end
 
--- the lines subsections in the order of the file; the fault is the first of all subsections and of all headers of lines
+-- the lines subsections in the order of the file; the fault is the first of all subsections and of
+-- all headers of lines
 abbrev pub lines_subsections_of : Listing Subsection → Result (List LinesSubsection) Fault
 lines_subsections_of l = lines_subsections_among l.items l.fault
 
@@ -46,7 +60,9 @@ rank r = place_rank r.section r.offset
 -- a subsection among others in order: before those that begin where it does
 abbrev pub inserted : LinesSubsection → List LinesSubsection → List LinesSubsection
 inserted r [] = r ∷ []
-inserted r (other ∷ others) = if nat_le (rank r) (rank other) then r ∷ other ∷ others else other ∷ inserted r others
+inserted r (other ∷ others) =
+    if nat_le (rank r) (rank other) then r ∷ other ∷ others
+    else other ∷ inserted r others
 
 -- subsections by section and offset; those that begin at one place stay in their order
 abbrev pub in_order : List LinesSubsection → List LinesSubsection
@@ -67,7 +83,7 @@ abbrev pub or_nothing : Option (List ℕ) → List ℕ
 or_nothing (Some bytes) = bytes
 or_nothing None = []
 
--- what a module's line data tell
+-- what a module's line data say
 unfoldable pub program_of : List ℕ → Result Program Fault
 program_of bytes = do
   subsections ← sorted_subsections_of (subsections_of bytes)

@@ -1,4 +1,4 @@
--- Line marks that are still to come, as the code keeps them.
+-- Line marks that are still to come, as the code stores them.
 use Rattle.pdb_container.specs.Listing.{Listing}
 use Rattle.pdb_lines.specs.declared.line_mark.LineMark.{LineMark}
 use Rattle.pdb_lines.specs.declared.line_marks.LineMarks.{LineMarks}

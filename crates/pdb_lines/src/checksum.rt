@@ -4,7 +4,8 @@ ghost use Rattle.std.specs.Prelude.{◌≡◌, ◌<◌, drop, length, IfOk, None
 ghost use Rattle.pdb_container.specs.Buffer.{rest, ReadsInSteps};
 ghost use Rattle.pdb_container.specs.Fault.{Parses};
 ghost use Rattle.pdb_container.specs.Listing.{ending, Advances};
-ghost use Rattle.pdb_lines.specs.Checksums.{checksum_of, file_at, files_of, file_in, checksum_seen, file_seen};
+ghost use Rattle.pdb_lines.specs.Checksums.{checksum_of, file_at, files_of, file_in, checksum_seen};
+ghost use Rattle.pdb_lines.specs.Checksums.{file_seen};
 
 use pdb_container::{Error, FallibleIterator, ParseBuffer, Result, StringRef, padding_behind};
 use pdb_indices::FileIndex;
@@ -13,7 +14,7 @@ use std::marker::Model;
 /// The kind of a checksum by SHA-256, the last that is known.
 const SHA_256: u8 = 3;
 
-/// The checksum of a source file: a sum over its bytes, by which its version can be told.
+/// The checksum of a source file: a sum over its bytes, which identifies its version.
 #[derive(Clone, Copy, Debug, PartialEq, Eq)]
 pub enum FileChecksum<'a> {
     /// No sum was made.
@@ -47,11 +48,13 @@ fn checksum_by(kind: u8, bytes: &[u8]) -> FileChecksum<'_>
     }
 }
 
-/// The file at the buffer's place in a list. An unknown kind is refused before the checksum's bytes are read, so that
-/// it comes before `UnexpectedEof` where these are missing. Where it is refused, the place may have moved.
+/// The file at the buffer's place in a list. An unknown kind is refused before the checksum's bytes
+/// are read, so that it comes before `UnexpectedEof` where these are missing. Where it is refused,
+/// the place may have moved.
 #[tactic(auto, unfolding(crate::specs::Checksums::file_at))]
 fn parse_file<'a>(buffer: &mut ParseBuffer<'a>) -> Result<FileInfo<'a>>
-    ensures value { ReadsInSteps file_seen result buffer.old buffer.new (file_at (length buffer.old.bytes)) }
+    ensures value { ReadsInSteps file_seen result buffer.old buffer.new
+        (file_at (length buffer.old.bytes)) }
     ensures taken { IfOk result (λ _. length (rest buffer.new) < length (rest buffer.old)) }
 {
     let name = StringRef(buffer.parse_u32()?);
@@ -66,7 +69,8 @@ fn parse_file<'a>(buffer: &mut ParseBuffer<'a>) -> Result<FileInfo<'a>>
     Ok(FileInfo { name, checksum })
 }
 
-/// The file at a place in a list: its first byte's number. `InvalidFileChecksumOffset` at the list's end and past it.
+/// The file at a place in a list: its first byte's number. `InvalidFileChecksumOffset` at the
+/// list's end and past it.
 #[tactic(auto, unfolding(crate::specs::Checksums::file_in))]
 pub(crate) fn file_in_list(list: &[u8], index: FileIndex) -> Result<FileInfo<'_>>
     ensures { Parses file_seen result (file_in list.now index.0) }
@@ -105,11 +109,12 @@ impl<'a> FileIterator<'a> {
     }
 }
 
-/// The file at a place in a list, and the place behind it.
+/// The file at a place in a list, and the place after it.
 #[tactic(auto, unfolding(pdb_container::specs::Buffer::rest))]
 fn split_file(list: &[u8], place: usize) -> Result<(FileInfo<'_>, usize)>
     requires { place < length list.now }
-    ensures value { Parses (λ x. (file_seen x.0, drop x.1 list.now)) result (file_at (length list.now) (drop place list.now)) }
+    ensures value { Parses (λ x. (file_seen x.0, drop x.1 list.now)) result
+        (file_at (length list.now) (drop place list.now)) }
     ensures taken { IfOk result (λ x. length (drop x.1 list.now) < length (drop place list.now)) }
 {
     let mut buffer = ParseBuffer::from(list);

@@ -1,5 +1,6 @@
-//! Lines of a module's code (`DEBUG_S_LINES`), and the files that they are in (`DEBUG_S_FILECHKSMS`). The layouts are
-//! those of microsoft-pdb's cvinfo.h, as the pdb crate reads them.
+//! Lines of a module's code (`DEBUG_S_LINES`), and the files that they are in
+//! (`DEBUG_S_FILECHKSMS`). The layouts are those of microsoft-pdb's cvinfo.h, as the pdb crate
+//! reads them.
 #![tactic(auto)]
 
 mod checksum;

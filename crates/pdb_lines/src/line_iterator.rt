@@ -4,7 +4,8 @@ ghost use Rattle.std.specs.Prelude.{◌≡◌, None, option_map};
 ghost use Rattle.pdb_container.specs.Listing.{Listing, ending, before, Advances};
 ghost use Rattle.pdb_lines.specs.declared.line_mark.LineMark.{LineMark as MarkValue};
 ghost use Rattle.pdb_lines.specs.LineMarks.{marks_of};
-ghost use Rattle.pdb_lines.specs.LineRows.{distance_to, closer as closer_of, with_length, with_row, rows_with_begun, rows_of, GivesRow};
+ghost use Rattle.pdb_lines.specs.LineRows.{distance_to, closer as closer_of, with_length, with_row};
+ghost use Rattle.pdb_lines.specs.LineRows.{rows_with_begun, rows_of, GivesRow};
 ghost use Rattle.pdb_lines.specs.MarksLeft.{left_in};
 
 use crate::line_mark::LineMark;
@@ -39,7 +40,8 @@ fn closer(first: Option<u32>, second: Option<u32>) -> Option<u32>
 
 /// A row that a mark follows.
 fn up_to(row: LineInfo, section: u16, place: u64) -> LineInfo
-    ensures { result ≡ with_length row (closer_of row.length (distance_to row.offset section place)) }
+    ensures { result
+        ≡ with_length row (closer_of row.length (distance_to row.offset section place)) }
 {
     let length = closer(row.length, distance(row.offset, section, place));
     LineInfo { length, ..row }
@@ -47,7 +49,8 @@ fn up_to(row: LineInfo, section: u16, place: u64) -> LineInfo
 
 /// A row that may have begun, and that a mark follows.
 fn up_to_mark(row: Option<LineInfo>, section: u16, place: u64) -> Option<LineInfo>
-    ensures { result ≡ option_map (λ row. with_length row (closer_of row.length (distance_to row.offset section place))) row }
+    ensures { result ≡ option_map
+        (λ row. with_length row (closer_of row.length (distance_to row.offset section place))) row }
 {
     match row {
         None => None,
@@ -55,10 +58,12 @@ fn up_to_mark(row: Option<LineInfo>, section: u16, place: u64) -> Option<LineInf
     }
 }
 
-/// A mark behind a row that may have begun: the row that is done, and the one that has begun.
+/// What a mark does after a row that may have begun: the row that ends there, and the one that
+/// begins.
 #[tactic(auto, using(crate::proofs::RowSteps::behind_entry, crate::proofs::RowSteps::behind_end))]
 fn pass(row: Option<LineInfo>, mark: LineMark) -> (Option<LineInfo>, Option<LineInfo>)
-    ensures { (others : Listing MarkValue) → rows_with_begun row (before mark others) ≡ with_row result.0 (rows_with_begun result.1 others) }
+    ensures { (others : Listing MarkValue) → rows_with_begun row (before mark others)
+        ≡ with_row result.0 (rows_with_begun result.1 others) }
 {
     match mark {
         LineMark::Entry(section, place, begun) => (up_to_mark(row, section, place), begun),
@@ -66,9 +71,9 @@ fn pass(row: Option<LineInfo>, mark: LineMark) -> (Option<LineInfo>, Option<Line
     }
 }
 
-/// An iterator over rows of lines, in their order: by section and offset of their subsections, and in a subsection by
-/// the order of the file. A fault is returned once. It comes in place of the row before it too, whose length isn't
-/// known.
+/// An iterator over rows of lines, in their order: by section and offset of their subsections, and
+/// in a subsection by the order of the file. A fault is returned once. It comes in place of the row
+/// before it too, whose length isn't known.
 #[derive(Debug, Drop)]
 pub struct LineIterator<'a> {
     marks: LineMarks<'a>,
@@ -86,7 +91,8 @@ impl<'a> Model for LineIterator<'a> {
     ghost view = { λ it. rows_with_begun it.row (left_in it.marks) };
 }
 
-/// The next row behind one that may have begun and before these marks, and the row that has begun then.
+/// The next row after one that may have begun and before these marks, and the row that has begun
+/// then.
 #[tactic(auto, using(crate::proofs::RowSteps::last_row, crate::proofs::RowSteps::lost_row))]
 fn next_row(
     row: Option<LineInfo>,

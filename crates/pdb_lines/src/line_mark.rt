@@ -1,5 +1,5 @@
-//! Line marks: places where entries of lines begin, and places where lines subsections end; the marks of a block's
-//! entries.
+//! Line marks: places where entries of lines begin, and places where lines subsections end; the
+//! marks of a block's entries.
 
 ghost use Rattle.std.specs.Prelude.{◌≡◌, []};
 ghost use Rattle.pdb_lines.specs.LineMarks.{entries_of, GivesMark};

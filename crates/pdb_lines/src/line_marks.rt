@@ -10,8 +10,8 @@ use crate::lines_block::split_block;
 use crate::lines_subsection::LinesSubsection;
 use pdb_container::Result;
 
-/// The marks of subsections that are still to come: those of entries, of blocks of the first subsection, and of the
-/// other subsections.
+/// The marks of subsections that are still to come: those of entries, of blocks of the first
+/// subsection, and of the other subsections.
 #[derive(Debug, Drop)]
 pub(crate) struct LineMarks<'a> {
     entries: LineEntries<'a>,

@@ -47,7 +47,7 @@ fn or_no_bytes(found: Option<&[u8]>) -> &[u8]
     }
 }
 
-/// How many subsections begin at or before a place, by their rank. It halves.
+/// How many subsections begin at or before a place, by their rank. It is a binary search.
 fn number_at(subsections: &[LinesSubsection<'_>], at: u64) -> usize
     requires { IsNonDecreasingBy rank subsections.now }
     ensures bound { result ≤ length subsections.now }
@@ -58,8 +58,11 @@ fn number_at(subsections: &[LinesSubsection<'_>], at: u64) -> usize
 }
 
 impl<'a> LineProgram<'a> {
-    /// The line program of a module's C13 line data. All subsections are gone over, and all headers of lines; the first
-    /// fault is returned: `UnexpectedEof`. `OutOfMemory` besides.
+    /// The line program of a module's C13 line data. All subsections are read, and all headers of
+    /// lines.
+    ///
+    /// # Errors
+    /// `UnexpectedEof` where a subsection or a header of lines isn't whole, `OutOfMemory`.
     #[tactic(auto, unfolding(crate::specs::LinesSubsections::program_of))]
     pub fn parse(alloc: Global, bytes: &'a [u8]) -> Result<LineProgram<'a>>
         ensures { Gives (λ p. p) ⊥ result (program_of bytes.now) }
@@ -88,8 +91,8 @@ impl<'a> LineProgram<'a> {
         LineIterator::new(&self.subsections)
     }
 
-    /// The line rows of one `DEBUG_S_LINES` alone: of the last one at or before a place; none where that one isn't in
-    /// the place's section. Blocks of others aren't read.
+    /// The line rows of one `DEBUG_S_LINES` alone: of the last one at or before a place; none where
+    /// that one isn't in the place's section. Blocks of others aren't read.
     pub fn lines_for_symbol(&self, offset: PdbInternalSectionOffset) -> LineIterator<'_>
         ensures { result ≡ lines_for self.now offset }
     {
@@ -103,8 +106,12 @@ impl<'a> LineProgram<'a> {
         FileIterator::new(self.files)
     }
 
-    /// The source file of an index. `InvalidFileChecksumOffset` at the end of the files and past it, and where there
-    /// are none; `UnexpectedEof`; `UnimplementedFileChecksumKind`, which comes before the checksum's bytes are read.
+    /// The source file with that index.
+    ///
+    /// # Errors
+    /// `InvalidFileChecksumOffset` at the end of the files and past it, and where there are none;
+    /// `UnexpectedEof` where the entry isn't whole; `UnimplementedFileChecksumKind`, which comes
+    /// before the checksum's bytes are read.
     pub fn get_file_info(&self, index: FileIndex) -> Result<FileInfo<'a>>
         ensures { Parses file_seen result (file_in self.now.files index.0) }
     {

@@ -3,7 +3,9 @@
 ghost use Rattle.std.specs.Prelude.{◌≡◌, ◌+◌, ◌*◌, ◌<◌, ◌≤◌, ◌^◌, length, IfOk, IfSome, option_map};
 ghost use Rattle.pdb_container.specs.Buffer.{rest, ReadsInSteps};
 ghost use Rattle.pdb_container.specs.Fault.{Parses};
-ghost use Rattle.pdb_lines.specs.LineMarks.{block_at, block_in, columns_of, column_at as column_in, is_line as is_line_number, line_kind, entry_place, entry_row, entry_mark};
+ghost use Rattle.pdb_lines.specs.LineMarks.{block_at, block_in, columns_of, column_at as column_in};
+ghost use Rattle.pdb_lines.specs.LineMarks.{is_line as is_line_number, line_kind, entry_place};
+ghost use Rattle.pdb_lines.specs.LineMarks.{entry_row, entry_mark};
 
 use crate::line_mark::{ALSO_HIDDEN, HIDDEN, LineMark};
 use crate::lines_subsection::LinesSubsection;
@@ -33,19 +35,28 @@ impl<'a> Model for LinesBlock<'a> {
 
     ghost Value = { BlockValue };
 
-    ghost view = { λ b. record { section = b.section; offset = b.offset; file = b.file; count = b.count; lines = b.lines.now; columns = option_map (λ c. c.now) b.columns } };
+    ghost view = { λ b. record {
+      section = b.section;
+      offset = b.offset;
+      file = b.file;
+      count = b.count;
+      lines = b.lines.now;
+      columns = option_map (λ c. c.now) b.columns;
+    } };
 
-    ghost invariant = { λ b. (length b.lines.now ≡ 8 * b.count) × IfSome b.columns (λ c. length c.now ≡ 4 * b.count) };
+    ghost invariant = { λ b. (length b.lines.now ≡ 8 * b.count)
+        × IfSome b.columns (λ c. length c.now ≡ 4 * b.count) };
 }
 
-/// The bytes of the columns of so many entries, where columns are told.
+/// The bytes of the columns of that many entries, if the subsection has columns.
 fn parse_columns<'a>(
     buffer: &mut ParseBuffer<'a>,
     has_columns: bool,
     count: usize,
 ) -> Result<Option<&'a [u8]>>
     requires { count < 2 ^ 32 }
-    ensures value { Parses (option_map (λ c. c.now)) result (columns_of has_columns count (rest buffer.old)) }
+    ensures value { Parses (option_map (λ c. c.now)) result
+        (columns_of has_columns count (rest buffer.old)) }
     ensures size { IfOk result (λ columns. IfSome columns (λ c. length c.now ≡ 4 * count)) }
 {
     if !has_columns {
@@ -54,7 +65,7 @@ fn parse_columns<'a>(
     Ok(Some(buffer.take(4 * count)?))
 }
 
-/// The block of a subsection, of a file and so many entries, which these bytes hold.
+/// The block of a subsection in these bytes, of a file and that many entries.
 #[tactic(auto, unfolding(crate::specs::LineMarks::block_in))]
 fn block_of<'a>(
     subsection: &LinesSubsection<'_>,
@@ -97,7 +108,7 @@ fn parse_block<'a>(
     block_of(subsection, file, count, content)
 }
 
-/// The first block of a subsection in these bytes, and the bytes behind it.
+/// The first block of a subsection in these bytes, and the bytes after it.
 #[tactic(auto, unfolding(pdb_container::specs::Buffer::rest))]
 pub(crate) fn split_block<'a>(
     subsection: &LinesSubsection<'_>,
@@ -129,7 +140,7 @@ fn kind_by(flags: u32) -> LineInfoKind
     }
 }
 
-/// The column at a place, where columns are told.
+/// The column at a place, if the subsection has columns.
 fn column_at(columns: Option<&[u8]>, at: usize) -> Option<u32>
     requires { IfSome columns (λ c. at + 2 ≤ length c.now) }
     ensures { result ≡ column_in (option_map (λ c. c.now) columns.entry) at }

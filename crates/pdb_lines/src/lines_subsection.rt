@@ -1,17 +1,19 @@
-//! Lines subsections (`DEBUG_S_LINES`): runs of code whose lines are told.
+//! Lines subsections (`DEBUG_S_LINES`): runs of code and the lines that they were made from.
 
 ghost use Rattle.std.specs.Prelude.{◌≡◌, ◌+◌, IfOk};
 ghost use Rattle.std.specs.List.Sorted.{IsNonDecreasingBy};
 ghost use Rattle.pdb_container.specs.Fault.{Parses, Gives};
 ghost use Rattle.pdb_subsections.specs.Subsections.{subsections_of};
-ghost use Rattle.pdb_lines.specs.LinesSubsections.{place_rank, rank, lines_subsection_of, lines_subsections_of, sorted_subsections_of};
+ghost use Rattle.pdb_lines.specs.LinesSubsections.{place_rank, rank, lines_subsection_of};
+ghost use Rattle.pdb_lines.specs.LinesSubsections.{lines_subsections_of, sorted_subsections_of};
 
 use pdb_container::{FallibleIterator, ParseBuffer, Result};
 use pdb_subsections::{DebugSubsectionIterator, LINES};
 use std::alloc::Global;
 use std::marker::Model;
 
-/// A lines subsection (`DEBUG_S_LINES`): where its code begins, how long that is, and the bytes of its blocks.
+/// A lines subsection (`DEBUG_S_LINES`): where its code begins, how long that is, and the bytes of
+/// its blocks.
 #[derive(Debug, Drop)]
 pub(crate) struct LinesSubsection<'a> {
     section: u16,
@@ -26,7 +28,13 @@ impl<'a> Model for LinesSubsection<'a> {
 
     ghost Value = { SubsectionValue };
 
-    ghost view = { λ r. record { section = r.section; offset = r.offset; size = r.size; has_columns = r.has_columns; blocks = r.blocks.now } };
+    ghost view = { λ r. record {
+      section = r.section;
+      offset = r.offset;
+      size = r.size;
+      has_columns = r.has_columns;
+      blocks = r.blocks.now;
+    } };
 }
 
 /// A place as one number, by its section first.
@@ -77,7 +85,7 @@ impl<'a> LinesSubsection<'a> {
         u64::from(self.offset) + u64::from(self.size)
     }
 
-    /// Whether its blocks tell columns.
+    /// Whether its blocks have columns.
     pub(crate) fn has_columns(&self) -> bool
         ensures { result ≡ self.now.has_columns }
     {
@@ -115,7 +123,8 @@ fn subsections_in_file(alloc: Global, bytes: &[u8]) -> Result<Vec<LinesSubsectio
 
 /// The lines subsections of line data, by section and offset.
 pub(crate) fn sorted_subsections(alloc: Global, bytes: &[u8]) -> Result<Vec<LinesSubsection<'_>>>
-    ensures value { Gives (λ v. v.items) ⊥ result (sorted_subsections_of (subsections_of bytes.now)) }
+    ensures value { Gives (λ v. v.items) ⊥ result
+        (sorted_subsections_of (subsections_of bytes.now)) }
     ensures order { IfOk result (λ v. IsNonDecreasingBy rank v.items) }
 {
     let mut subsections = subsections_in_file(alloc, bytes)?;

@@ -1,6 +1,7 @@
 -- A module's own stream: its symbols, and its line data with their subsections.
 -- The layout is that of LLVM's The Module Information Stream, as the pdb crate reads it.
-use Rattle.std.specs.Prelude.{ℕ, ◌+◌, List, [], ◌∷◌, length, take, drop, nat_lt, ◌==◌, not, Option, None, Some, Result, Ok, Err, codes}
+use Rattle.std.specs.Prelude.{ℕ, ◌+◌, List, [], ◌∷◌, length, take, drop, nat_lt, ◌==◌, not, Option}
+use Rattle.std.specs.Prelude.{None, Some, Result, Ok, Err, codes}
 use Rattle.std.specs.Int.{w32}
 use Rattle.pdb_container.specs.Fault.{Fault, UnexpectedEof, UnimplementedFeature, ◌>>=◌, refuse}
 use Rattle.pdb_container.specs.Fields.{number_at}
@@ -9,7 +10,8 @@ use Rattle.pdb_subsections.specs.Exports.{Entry, exports_of}
 use Rattle.pdb_subsections.specs.Imports.{Import, imports_of}
 use Rattle.pdb_inlinees.specs.Inlinees.{InlinedFunction, inlinees_of}
 use Rattle.pdb_lines.specs.LinesSubsections.{Program, program_of}
-use Rattle.pdb_subsections.specs.Subsections.{inlinees_kind, imports_kind, exports_kind, subsections_of, first_of}
+use Rattle.pdb_subsections.specs.Subsections.{inlinees_kind, imports_kind, exports_kind}
+use Rattle.pdb_subsections.specs.Subsections.{subsections_of, first_of}
 use Rattle.pdb_symbols.specs.Iteration.{SymbolIteration, iteration_at}
 
 -- the stream's bytes, and the sizes of its parts: symbols, line data in an older form, line data
@@ -41,7 +43,7 @@ iteration_in m place = symbol_list_bytes m >>= λ bytes. Ok (iteration_at bytes 
 
 -- ---- line data
 
--- the line data behind the symbols; none behind line data in the older form
+-- the line data after the symbols; none where there are line data in the older form
 unfoldable pub line_data_in : ModuleStream → Result (List ℕ) Fault
 line_data_in m = do
   plain ← refuse (nat_lt 0 m.c11_lines_size) (UnimplementedFeature (codes "C11 line programs"))

@@ -1,5 +1,6 @@
-//! A module's own stream: its symbols, its lines and inlined calls, and the tables by which it names what other modules
-//! hold. The layout is that of LLVM's The Module Information Stream, as the pdb crate reads it.
+//! A module's own stream: its symbols, its lines and inlined calls, and the tables by which it
+//! names what other modules hold. The layout is that of LLVM's The Module Information Stream, as
+//! the pdb crate reads it.
 #![tactic(auto)]
 
 mod module_info;

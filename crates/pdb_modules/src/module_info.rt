@@ -2,7 +2,10 @@
 
 ghost use Rattle.std.specs.Prelude.{◌≡◌, ◌<◌, ◌^◌, length, IfOk, Ok};
 ghost use Rattle.pdb_container.specs.Fault.{Gives, Parses};
-ghost use Rattle.pdb_modules.specs.ModuleStream.{signed as signed_bytes, symbol_list_bytes, iteration_in, line_data_in, line_program_in, subsection_in, inlinees_in, imports_in, exports_in};
+ghost use Rattle.pdb_modules.specs.ModuleStream.{signed as signed_bytes, symbol_list_bytes};
+ghost use Rattle.pdb_modules.specs.ModuleStream.{iteration_in, line_data_in, line_program_in};
+ghost use Rattle.pdb_modules.specs.ModuleStream.{subsection_in, inlinees_in, imports_in};
+ghost use Rattle.pdb_modules.specs.ModuleStream.{exports_in};
 ghost use Rattle.pdb_subsections.specs.Subsections.{bytes_seen};
 
 use pdb_container::{Error, ParseBuffer, Result, Stream};
@@ -18,11 +21,11 @@ use std::alloc::Global;
 use std::marker::Model;
 use std::sync::Arc;
 
-/// Where the first symbol stands, behind the signature.
+/// Where the first symbol stands: after the signature.
 const FIRST_SYMBOL: SymbolIndex = SymbolIndex(4);
 
-/// A module's information: what its own stream holds, which depends on the stream's bytes and on the three sizes of its
-/// parts alone.
+/// A module's information: what its own stream holds, which depends on the stream's bytes and on
+/// the three sizes of its parts alone.
 #[derive(Debug, Drop)]
 pub struct ModuleInfo<'s> {
     stream: Arc<Stream<'s>>,
@@ -36,12 +39,20 @@ impl<'s> Model for ModuleInfo<'s> {
 
     ghost Value = { ModuleStream };
 
-    ghost view = { λ m. record { bytes = m.stream.value; symbols_size = m.symbols_size; c11_lines_size = m.c11_lines_size; c13_lines_size = m.c13_lines_size } };
+    ghost view = { λ m. record {
+      bytes = m.stream.value;
+      symbols_size = m.symbols_size;
+      c11_lines_size = m.c11_lines_size;
+      c13_lines_size = m.c13_lines_size;
+    } };
 }
 
 impl<'s> ModuleInfo<'s> {
-    /// The information of a module by its stream and the sizes of that stream's parts in bytes: symbols, C11 line data,
-    /// C13 line data. `OutOfMemory` alone.
+    /// The information of a module by its stream and the sizes of that stream's parts in bytes:
+    /// symbols, C11 line data, C13 line data.
+    ///
+    /// # Errors
+    /// `OutOfMemory`.
     pub fn new(
         alloc: Global,
         stream: Stream<'s>,
@@ -49,7 +60,13 @@ impl<'s> ModuleInfo<'s> {
         c11_lines_size: u32,
         c13_lines_size: u32,
     ) -> Result<ModuleInfo<'s>>
-        ensures { Gives (λ m. m) ⊥ result (Ok (record { bytes = stream.entry; symbols_size = symbols_size; c11_lines_size = c11_lines_size; c13_lines_size = c13_lines_size })) }
+        ensures { Gives (λ m. m) ⊥ result
+            (Ok (record {
+              bytes = stream.entry;
+              symbols_size = symbols_size;
+              c11_lines_size = c11_lines_size;
+              c13_lines_size = c13_lines_size;
+            })) }
     {
         match Arc::new(alloc, stream) {
             Ok(stream) => Ok(ModuleInfo {
@@ -62,15 +79,24 @@ impl<'s> ModuleInfo<'s> {
         }
     }
 
-    /// The information of another module that names the same stream, by the sizes of its own parts. Both hold the bytes in
-    /// common. `OutOfMemory` alone.
+    /// The information of another module that names the same stream, by the sizes of its own parts.
+    /// Both share the bytes.
+    ///
+    /// # Errors
+    /// `OutOfMemory`.
     pub fn with_sizes(
         &self,
         symbols_size: u32,
         c11_lines_size: u32,
         c13_lines_size: u32,
     ) -> Result<ModuleInfo<'s>>
-        ensures { Gives (λ m. m) ⊥ result (Ok (record { bytes = self.now.bytes; symbols_size = symbols_size; c11_lines_size = c11_lines_size; c13_lines_size = c13_lines_size })) }
+        ensures { Gives (λ m. m) ⊥ result
+            (Ok (record {
+              bytes = self.now.bytes;
+              symbols_size = symbols_size;
+              c11_lines_size = c11_lines_size;
+              c13_lines_size = c13_lines_size;
+            })) }
     {
         let stream = self.stream.clone()?;
         Ok(ModuleInfo {
@@ -84,8 +110,8 @@ impl<'s> ModuleInfo<'s> {
     /// The CodeView symbols in their order.
     ///
     /// # Errors
-    /// `UnexpectedEof` where the stream is shorter than its symbols, `UnimplementedFeature` where they begin with
-    /// another signature.
+    /// `UnexpectedEof` where the stream is shorter than its symbols, `UnimplementedFeature` where
+    /// they begin with another signature.
     pub fn symbols(&self) -> Result<SymbolIter<'_>>
         ensures { Parses (λ it. it) result (iteration_in self.now 4) }
     {
@@ -106,8 +132,8 @@ impl<'s> ModuleInfo<'s> {
     /// The line program: the module's lines (`DEBUG_S_LINES`) and files (`DEBUG_S_FILECHKSMS`).
     ///
     /// # Errors
-    /// `UnimplementedFeature` for line data in the older form, `UnexpectedEof` where the stream or a part of it is
-    /// short, `OutOfMemory`.
+    /// `UnimplementedFeature` for line data in the older form, `UnexpectedEof` where the stream or
+    /// a part of it is short, `OutOfMemory`.
     #[tactic(auto, unfolding(crate::specs::ModuleStream::line_program_in))]
     pub fn line_program(&self, alloc: Global) -> Result<LineProgram<'_>>
         ensures { Gives (λ p. p) ⊥ result (line_program_in self.now) }
@@ -116,8 +142,8 @@ impl<'s> ModuleInfo<'s> {
         LineProgram::parse(alloc, line_data)
     }
 
-    /// The inlinees (`DEBUG_S_INLINEELINES`): functions that were inlined into the module; none where it has no list of
-    /// them.
+    /// The inlinees (`DEBUG_S_INLINEELINES`): functions that were inlined into the module; none
+    /// where it has no list of them.
     ///
     /// # Errors
     /// As [`ModuleInfo::line_program`], without memory.
@@ -131,8 +157,8 @@ impl<'s> ModuleInfo<'s> {
         }
     }
 
-    /// The cross-module imports (`DEBUG_S_CROSSSCOPEIMPORTS`): types and ids of other modules; none where it has no
-    /// table of them.
+    /// The cross-module imports (`DEBUG_S_CROSSSCOPEIMPORTS`): types and ids of other modules; none
+    /// where it has no table of them.
     ///
     /// # Errors
     /// As [`ModuleInfo::line_program`].
@@ -146,8 +172,8 @@ impl<'s> ModuleInfo<'s> {
         }
     }
 
-    /// The cross-module exports (`DEBUG_S_CROSSSCOPEEXPORTS`): types and ids that it lends; none where it has no table
-    /// of them.
+    /// The cross-module exports (`DEBUG_S_CROSSSCOPEEXPORTS`): types and ids that it lends; none
+    /// where it has no table of them.
     ///
     /// # Errors
     /// As [`ModuleInfo::line_program`], without memory.
@@ -176,7 +202,8 @@ impl<'s> ModuleInfo<'s> {
         signed(symbols)
     }
 
-    /// The line data. `UnimplementedFeature` behind line data in the older form, `UnexpectedEof`.
+    /// The line data. `UnimplementedFeature` where there are line data in the older form,
+    /// `UnexpectedEof`.
     #[tactic(auto, unfolding(crate::specs::ModuleStream::line_data_in))]
     fn line_data(&self) -> Result<&[u8]>
         ensures { Parses (λ bytes. bytes.now) result (line_data_in self.now) }
@@ -204,7 +231,8 @@ impl<'s> ModuleInfo<'s> {
     }
 }
 
-/// Bytes that begin with the signature of symbols, or none. `UnexpectedEof`, `UnimplementedFeature`.
+/// Bytes that begin with the signature of symbols, or none. `UnexpectedEof`,
+/// `UnimplementedFeature`.
 #[tactic(auto, unfolding(crate::specs::ModuleStream::signed))]
 fn signed(bytes: &[u8]) -> Result<&[u8]>
     ensures value { Parses (λ found. found.now) result (signed_bytes bytes.now) }

@@ -1,11 +1,16 @@
 -- Which of many spans stands at a place, where places are numbers.
-use Rattle.std.specs.Prelude.{◌≡◌, ℕ, ◌+◌, ◌*◌, ◌<◌, ◌≤◌, Option, Some, None, List, [], ◌∷◌, if◌then◌else◌, ◌&&◌, nat_lt, nat_le, length, drop, map, slice_get, slice_range, ◌++◌}
+use Rattle.std.specs.Prelude.{◌≡◌, ℕ, ◌+◌, ◌*◌, ◌<◌, ◌≤◌, Option, Some, None, List, [], ◌∷◌}
+use Rattle.std.specs.Prelude.{if◌then◌else◌, ◌&&◌, nat_lt, nat_le, length, drop, map, slice_get}
+use Rattle.std.specs.Prelude.{slice_range, ◌++◌}
 use Rattle.std.specs.Option.{option_map}
-use Rattle.pdb_addresses.specs.declared.internal_section_offset.PdbInternalSectionOffset.{PdbInternalSectionOffset}
+use Rattle.pdb_addresses.specs.declared.internal_section_offset.PdbInternalSectionOffset.{
+  PdbInternalSectionOffset,
+}
 use Rattle.pdb_pieces.specs.declared.span.Mark.{Mark}
 use Rattle.pdb_pieces.specs.declared.span.Span.{Span}
 
--- a place in a section as a number: 2 ^ 33 numbers for each section, so that what begins in one ends before the next
+-- a place in a section as a number: 2 ^ 33 numbers for each section, so that what begins in one
+-- ends before the next
 abbrev pub place_number : PdbInternalSectionOffset → ℕ
 place_number place = place.section * 8589934592 + place.offset
 
@@ -34,10 +39,12 @@ abbrev pub AreWide : List Span → Type 0
 AreWide [] = Unit {0}
 AreWide (s ∷ rest) = (s.start < s.end) × AreWide rest
 
--- the spans from one number on and before another are runs, one behind the other, that end at these numbers; each run is pieces
+-- the spans from one index on and before another are runs, one after another, that end at these
+-- indices; each run is made of pieces
 abbrev pub AreRuns : List Span → ℕ → List ℕ → ℕ → Type 0
 AreRuns spans from [] to = from ≡ to
-AreRuns spans from (end ∷ ends) to = (from ≤ end) × (end ≤ length spans) × ArePieces 0 18446744073709551615 (slice_range spans from end) × AreRuns spans end ends to
+AreRuns spans from (end ∷ ends) to = (from ≤ end) × (end ≤ length spans)
+    × ArePieces 0 18446744073709551615 (slice_range spans from end) × AreRuns spans end ends to
 
 -- pieces were added that stand at each place with the better of what both lists stand with
 pub record AddsBetter (before after left right : List Span) : Type 0 where
@@ -87,7 +94,8 @@ pub record IsOver (s : Span) (p : ℕ) : Type 0 where
   pub from : s.start ≤ p
   pub before : p < s.end
 
--- the mark is of a span over the place, no span over it has a greater rank, and none before that span has its rank
+-- the mark is of a span over the place, no span over it has a greater rank, and none before that
+-- span has its rank
 pub record IsGreatest (spans : List Span) (p : ℕ) (m : Mark) : Type 0 where
   pub number : ℕ
   pub span : Span
@@ -95,4 +103,5 @@ pub record IsGreatest (spans : List Span) (p : ℕ) (m : Mark) : Type 0 where
   pub over : IsOver span p
   pub mark : span.mark ≡ m
   pub greatest : (j : ℕ) (t : Span) → slice_get spans j ≡ Some t → IsOver t p → t.mark.rank ≤ m.rank
-  pub first : (j : ℕ) (t : Span) → j < number → slice_get spans j ≡ Some t → IsOver t p → t.mark.rank < m.rank
+  pub first : (j : ℕ) (t : Span) → j < number → slice_get spans j ≡ Some t → IsOver t p
+      → t.mark.rank < m.rank

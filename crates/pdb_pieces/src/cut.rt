@@ -1,13 +1,17 @@
 //! Cuts spans that may overlap into pieces that don't.
 
-ghost use Rattle.std.specs.Prelude.{◌≡◌, ℕ, ◌+◌, ◌*◌, ◌^◌, ◌<◌, ◌≤◌, IfOk, OnOk, Option, Some, None, if◌then◌else◌, nat_le, min, length, drop, [], ◌∷◌, vec_len};
-ghost use Rattle.pdb_pieces.specs.Spans.{mark_over, better, best, ArePieces, AreRuns, AreWide, AddsBetter, IsAhead, StandsWith, FirstReaches};
+ghost use Rattle.std.specs.Prelude.{◌≡◌, ℕ, ◌+◌, ◌*◌, ◌^◌, ◌<◌, ◌≤◌, IfOk, OnOk, Option, Some};
+ghost use Rattle.std.specs.Prelude.{None, if◌then◌else◌, nat_le, min, length, drop, [], ◌∷◌};
+ghost use Rattle.std.specs.Prelude.{vec_len};
+ghost use Rattle.pdb_pieces.specs.Spans.{mark_over, better, best, ArePieces, AreRuns, AreWide};
+ghost use Rattle.pdb_pieces.specs.Spans.{AddsBetter, IsAhead, StandsWith, FirstReaches};
 
 use crate::span::{Mark, Span, better_of};
 use std::alloc::{AllocError, Global};
 use std::mem::swap;
 
-/// Room that is taken ahead for the ends of runs, so that a list of few of them isn't moved as it grows.
+/// Room that is taken ahead for the ends of runs, so that a list of few of them isn't moved as it
+/// grows.
 const RUNS_AHEAD: usize = 16;
 
 /// What stands from a place on, and before which bound it may change.
@@ -60,7 +64,8 @@ fn pass(spans: &[Span], i: usize, to: u64) -> usize
     }
 }
 
-/// Puts behind pieces those that at each place have the better of what both lists stand with there. It goes from bound to bound.
+/// Appends pieces that have at each place the better mark of both lists. It goes from bound to
+/// bound.
 fn overlay(pieces: &mut Vec<Span>, left: &[Span], right: &[Span]) -> Result<(), AllocError>
     requires left { ArePieces 0 u64.MAX left.now }
     requires right { ArePieces 0 u64.MAX right.now }
@@ -88,12 +93,13 @@ fn overlay(pieces: &mut Vec<Span>, left: &[Span], right: &[Span]) -> Result<(), 
     Ok(())
 }
 
-/// A span behind others. Where it goes on with the mark of the last of them, that one ends where it does.
+/// Appends a span; extends the last one if it continues it with the same mark.
 fn push_joined(spans: &mut Vec<Span>, span: Span) -> Result<(), AllocError>
     requires wide { span.start < span.end }
     requires all_wide { AreWide spans.old.items }
     ensures wide { OnOk result (AreWide spans.new.items) }
-    ensures best { OnOk result ((p : ℕ) → best spans.new.items p ≡ better (best spans.old.items p) (mark_over span p)) }
+    ensures best { OnOk result ((p : ℕ) → best spans.new.items p
+        ≡ better (best spans.old.items p) (mark_over span p)) }
 {
     match spans.pop() {
         None => spans.push(span)?,
@@ -113,7 +119,8 @@ fn push_joined(spans: &mut Vec<Span>, span: Span) -> Result<(), AllocError>
     Ok(())
 }
 
-/// The spans that cover anything; neighbors of one mark, of which one goes on where the other ends, are one.
+/// The spans that cover anything; neighbors of one mark, of which one goes on where the other ends,
+/// are one.
 fn joined(alloc: Global, spans: &[Span]) -> Result<Vec<Span>, AllocError>
     ensures wide { IfOk result (λ v. AreWide v.items) }
     ensures best { IfOk result (λ v. (p : ℕ) → best v.items p ≡ best spans.now p) }
@@ -155,7 +162,8 @@ fn merge_pairs(
     merged_ends: &mut Vec<usize>,
 ) -> Result<(), AllocError>
     requires { AreRuns spans.now 0 ends.now (length spans.now) }
-    ensures runs { OnOk result (AreRuns merged.new.items 0 merged_ends.new.items (length merged.new.items)) }
+    ensures runs { OnOk result
+        (AreRuns merged.new.items 0 merged_ends.new.items (length merged.new.items)) }
     ensures best { OnOk result ((p : ℕ) → best merged.new.items p ≡ best spans.now p) }
     ensures half { OnOk result (vec_len merged_ends.new * 2 ≤ length ends.now + 1) }
 {
@@ -179,9 +187,9 @@ fn merge_pairs(
     Ok(())
 }
 
-/// Pieces that at each place have the mark of the best span over it: the one of greatest rank, of equals the first. Neighboring
-/// runs are merged in rounds, from one list into another and back, so that n spans take some n log n steps; spans that ascend and
-/// lie apart are pieces as they stand.
+/// Pieces that at each place have the mark of the best span over it: the one of greatest rank, of
+/// equals the first. Neighboring runs are merged in rounds, from one list into another and back, so
+/// that n spans take some n log n steps; spans that ascend and lie apart are pieces as they stand.
 pub fn cut(alloc: Global, spans: &[Span]) -> Result<Vec<Span>, AllocError>
     ensures pieces { IfOk result (λ v. ArePieces 0 u64.MAX v.items) }
     ensures best { IfOk result (λ v. (p : ℕ) → best v.items p ≡ best spans.now p) }

@@ -1,4 +1,4 @@
-//! Spans of places that may overlap, cut into pieces that don't, and a search among these by halving.
+//! Spans of places that may overlap, cut into pieces that don't, and a binary search among these.
 #![tactic(auto)]
 
 mod ascending;

@@ -1,8 +1,10 @@
-//! Finds the piece that holds a place, by halving.
+//! Finds the piece that holds a place, by binary search.
 
 ghost use Rattle.std.specs.Prelude.{◌≡◌, ℕ, ◌+◌, ◌^◌, ◌<◌, ◌≤◌, ◌↔◌, IfOk, Some, List, length};
 ghost use Rattle.std.specs.Option.{option_map};
-ghost use Rattle.pdb_pieces.specs.Spans.{best, place_number as number_of_place, starts_of as starts_of_spans, ArePieces, PieceHolds, mark_at};
+ghost use Rattle.pdb_pieces.specs.Spans.{best, place_number as number_of_place};
+ghost use Rattle.pdb_pieces.specs.Spans.{starts_of as starts_of_spans, ArePieces, PieceHolds};
+ghost use Rattle.pdb_pieces.specs.Spans.{mark_at};
 
 use crate::ascending::count_begun;
 use crate::cut::cut;
@@ -11,7 +13,8 @@ use pdb_addresses::PdbInternalSectionOffset;
 use std::alloc::{AllocError, Global};
 use std::marker::Model;
 
-/// Pieces: spans in ascending order, none empty and no two over one place; and where each begins, close together, for the search.
+/// Pieces: spans in ascending order, none empty and no two over one place; and where each begins,
+/// close together, for the search.
 #[derive(Drop)]
 pub struct Pieces {
     spans: Vec<Span>,
@@ -28,12 +31,16 @@ impl Model for Pieces {
 
     ghost view = { λ p. p.spans.items };
 
-    ghost invariant = { λ p. ArePieces 0 18446744073709551615 p.spans.items × (p.starts.items ≡ starts_of p.spans.items) };
+    ghost invariant = { λ p. ArePieces 0 18446744073709551615 p.spans.items
+        × (p.starts.items ≡ starts_of p.spans.items) };
 }
 
 impl Pieces {
-    /// Cuts spans that may overlap: at each place stands the mark of the best span over it, the one of greatest rank, of equals
-    /// the first.
+    /// Cuts spans that may overlap into pieces: each place gets the mark of the best span over it,
+    /// the one of greatest rank, of equals the first.
+    ///
+    /// # Errors
+    /// `AllocError` when memory runs out.
     pub fn new(alloc: Global, spans: &[Span]) -> Result<Self, AllocError>
         ensures { IfOk result (λ pieces. (p : ℕ) → best pieces p ≡ best spans.now p) }
     {
@@ -47,7 +54,8 @@ impl Pieces {
     /// The number of the one piece that holds the place, if one does, and how many pieces were
     /// looked at: of n as many as n has binary digits, or one fewer.
     pub fn at(&self, place: PdbInternalSectionOffset) -> (Option<usize>, u32)
-        ensures one { (i : ℕ) → (result.0 ≡ Some i) ↔ PieceHolds self.now (number_of_place place) i }
+        ensures one { (i : ℕ) → (result.0 ≡ Some i)
+            ↔ PieceHolds self.now (number_of_place place) i }
         ensures best { best self.now (number_of_place place) ≡ mark_at self.now result.0 }
         ensures probes { (digits : ℕ) → length self.now < 2 ^ digits → result.1 ≤ digits }
         ensures fewest { length self.now + 1 < 2 ^ (result.1 + 1) }
@@ -77,7 +85,8 @@ fn starts_of(alloc: Global, spans: &[Span]) -> Result<Vec<u64>, AllocError>
     Ok(starts)
 }
 
-/// The same for pieces in a list, by where they begin.
+/// The number of the piece of a list that holds the place, by where the pieces begin, and how many
+/// were looked at.
 fn find_piece(pieces: &[Span], starts: &[u64], place: u64) -> (Option<usize>, u32)
     requires pieces { ArePieces 0 u64.MAX pieces.now }
     requires starts { starts.now ≡ starts_of_spans pieces.now }

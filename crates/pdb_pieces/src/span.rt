@@ -19,13 +19,14 @@ pub struct Mark {
 pub struct Span {
     /// The first place.
     pub start: u64,
-    /// The place behind the last one.
+    /// The place after the last one.
     pub end: u64,
     /// What stands there.
     pub mark: Mark,
 }
 
-/// A place as a number: 2^33 numbers for each section, so that what begins in one section ends before the next one's.
+/// A place as a number: 2^33 numbers for each section, so that what begins in one section ends
+/// before the next one's.
 pub fn place_number(place: PdbInternalSectionOffset) -> u64
     ensures { result ≡ number_of_place place }
 {

@@ -9,6 +9,9 @@ pub(crate) fn push_u16(bytes: &mut Vec<u8>, values: &[u16]) -> Result<()> {
 }
 
 /// Appends numbers of four bytes each, the low byte first.
+///
+/// # Errors
+/// `OutOfMemory`.
 pub fn push_u32(bytes: &mut Vec<u8>, values: &[u32]) -> Result<()> {
     for value in values {
         bytes.extend_from_slice(&value.to_le_bytes())?;
@@ -40,6 +43,9 @@ pub(crate) fn write_size(bytes: &mut Vec<u8>, at: usize, start: usize) -> Result
 }
 
 /// Writes `part` over the bytes that begin at `at`.
+///
+/// # Errors
+/// `DoesNotFit` where `part` would end past the bytes; nothing is written then.
 pub fn overwrite(bytes: &mut [u8], at: usize, part: &[u8]) -> Result<()> {
     if at > bytes.len() || part.len() > bytes.len() - at {
         return Err(SampleError::DoesNotFit);

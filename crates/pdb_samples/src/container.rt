@@ -9,7 +9,7 @@ const MAGIC: &[u8; 32] = b"Microsoft C/C++ MSF 7.00\r\n\x1aDS\0\0\0";
 /// The size of an absent stream.
 const ABSENT: u32 = 0xffff_ffff;
 
-/// A reader views so many bytes at the start of the file.
+/// How many bytes at the start of the file a reader views first.
 const FIRST_VIEW: usize = 4096;
 
 /// The streams of a file and how they lie in its pages.
@@ -34,19 +34,20 @@ pub enum PageOrder {
     StreamsReversed,
     /// All from the last to the first.
     AllReversed,
-    /// The pages of the stream of this number behind those of all others.
+    /// The pages of the stream with this index after those of all others.
     StreamLast(usize),
 }
 
-/// The last page of each part, counted from 1 in the order in which pages are read, and which of them lie elsewhere.
+/// The last page of each part, counted from 1 in the order in which pages are read, and which of
+/// them lie elsewhere.
 #[derive(Clone, Copy)]
 struct Layout {
     list: u32,
     directory: u32,
     streams: u32,
-    /// The pages behind the first of these two up to the second lie in another order.
+    /// The pages after the first of these two up to the second lie in another order.
     moved: (u32, u32),
-    /// They lie behind all others, and not from their last to their first.
+    /// They lie after all others, and not from their last to their first.
     is_last: bool,
 }
 
@@ -69,6 +70,9 @@ impl Layout {
 
 impl Container {
     /// The bytes of the file.
+    ///
+    /// # Errors
+    /// `DoesNotFit` where the page size is 0, or the header or a number doesn't fit; `OutOfMemory`.
     pub fn bytes(&self, alloc: Global) -> Result<Vec<u8>> {
         let layout = self.layout()?;
         let mut natural = Vec::new(alloc);
@@ -87,7 +91,7 @@ impl Container {
         }
     }
 
-    /// How many pages hold so many bytes.
+    /// How many pages hold `length` bytes.
     fn pages_of(&self, length: usize) -> Result<u32> {
         Ok(u32::try_from(length.div_ceil(self.page_bytes()?))?)
     }
@@ -142,7 +146,8 @@ impl Container {
         Ok(layout)
     }
 
-    /// Appends the header and the parts in the order in which they are read, each filled up to whole pages.
+    /// Appends the header and the parts in the order in which they are read, each filled up to
+    /// whole pages.
     fn push_parts(&self, file: &mut Vec<u8>, layout: &Layout) -> Result<()> {
         self.push_header(file, layout)?;
         push_numbers(file, layout, layout.list, layout.directory)?;
@@ -203,7 +208,7 @@ impl Container {
     }
 }
 
-/// Appends the numbers of the pages behind one up to another.
+/// Appends the numbers of the pages after one, up to another.
 fn push_numbers(file: &mut Vec<u8>, layout: &Layout, before: u32, end: u32) -> Result<()> {
     for place in before..end {
         push_u32(file, &[layout.number(place.saturating_add(1))])?;

@@ -12,7 +12,7 @@ const FIRST_MODULE_STREAM: u16 = 7;
 /// How the information stream begins: the version, a signature, an age and the GUID.
 const INFORMATION: [u32; 7] = [20000404, 1, 1, 0, 0, 0, 0];
 
-/// The one name of a stream, behind the size of all names.
+/// The one name of a stream, after the size of all names.
 const NAMES: &[u8; 11] = b"\x07\0\0\0/names\0";
 
 /// How the names table begins, ahead of its size.
@@ -21,7 +21,7 @@ const NAMES_HEADER: [u32; 2] = [0xeffe_effe, 1];
 /// The streams of a file, and `None` for an absent one.
 type Streams = Vec<Option<Vec<u8>>>;
 
-/// A program database. Behind the first seven streams lie those of the modules that have one, the
+/// A program database. After the first seven streams come those of the modules that have one, the
 /// names table, and the further streams.
 pub struct ProgramDatabase {
     /// The size of a page, in bytes.
@@ -42,7 +42,7 @@ pub struct ProgramDatabase {
     pub symbol_records: Vec<u8>,
     /// The names of the names table, each with the zero byte that ends it.
     pub names: Vec<u8>,
-    /// The streams behind these, and `None` for an absent one.
+    /// The streams after these, and `None` for an absent one.
     pub further_streams: Vec<Option<Vec<u8>>>,
 }
 
@@ -67,11 +67,17 @@ impl Drop for ProgramDatabase {
 
 impl ProgramDatabase {
     /// The file's bytes.
+    ///
+    /// # Errors
+    /// `DoesNotFit` where a number of the description doesn't fit its place; `OutOfMemory`.
     pub fn bytes(&self, alloc: Global) -> Result<Vec<u8>> {
         self.container(alloc)?.bytes(alloc)
     }
 
     /// The file's streams.
+    ///
+    /// # Errors
+    /// `DoesNotFit` where a number of the description doesn't fit its place; `OutOfMemory`.
     pub fn container(&self, alloc: Global) -> Result<Container> {
         let mut streams = Vec::new(alloc);
         self.push_streams(alloc, &mut streams)?;
@@ -135,7 +141,7 @@ impl ProgramDatabase {
         Ok(())
     }
 
-    /// Writes the stream of a number below the modules' into an empty list of bytes.
+    /// Writes the stream with an index below the modules' into an empty list of bytes.
     fn push_fixed(&self, bytes: &mut Vec<u8>, number: u16) -> Result<()> {
         match number {
             1 => self.push_information(bytes),
@@ -150,7 +156,8 @@ impl ProgramDatabase {
         }
     }
 
-    /// Appends the information stream. Behind the names lies their hash table: one pair of 32, at its first place.
+    /// Appends the information stream. After the names comes their hash table: one pair of 32, at
+    /// its first place.
     fn push_information(&self, bytes: &mut Vec<u8>) -> Result<()> {
         push_u32(bytes, &INFORMATION)?;
         bytes.extend_from_slice(NAMES)?;

@@ -23,13 +23,13 @@ pub struct Module {
     pub name: Vec<u8>,
     /// The name of its object file.
     pub object_name: Vec<u8>,
-    /// The records of its symbols, behind the usual signature.
+    /// The records of its symbols, after the usual signature.
     pub symbols: Vec<u8>,
     /// The bytes of its C11 line data.
     pub c11: Vec<u8>,
     /// The bytes of its C13 line data.
     pub c13: Vec<u8>,
-    /// Without one its entry names no stream, and keeps the sizes.
+    /// Whether it has a stream. Without one its entry names none, but still has the sizes.
     pub has_stream: bool,
 }
 
@@ -91,7 +91,8 @@ impl Module {
 }
 
 impl DebugInformation {
-    /// Writes the stream into an empty list of bytes, where the modules' streams are numbered from `first` on.
+    /// Writes the stream into an empty list of bytes, where the modules' streams are numbered from
+    /// `first` on.
     pub(crate) fn push(&self, bytes: &mut Vec<u8>, modules: &[Module], first: u16) -> Result<()> {
         self.push_header(bytes)?;
         for (part, place) in SIZES.iter().enumerate() {

@@ -9,8 +9,8 @@ use crate::rows::{
 use crate::symbols::{Procedure, push_end};
 use std::alloc::Global;
 
-/// The payload of an inline site in the record at 4, of the inlinee 0x80000000, with one row of eight bytes at its
-/// procedure's start. Its end isn't known yet.
+/// The payload of an inline site in the record at 4, of the inlinee 0x80000000, with one row of
+/// eight bytes at its procedure's start. Its end isn't known yet.
 const SITE: &[u8; 15] = b"\x04\0\0\0\0\0\0\0\0\0\0\x80\x0c\x08\0";
 
 /// The names: nothing at 0, `a.c` at 1, `c.obj` at 5 and `b.h` at 11.
@@ -19,61 +19,44 @@ const NAMES: &[u8] = b"\0a.c\0c.obj\0b.h\0";
 /// What the second module contributes to section 1: 0x40 bytes at 0x80.
 const SECOND: [u32; 7] = [1, 0x80, 0x40, 0x6000_0020, 1, 0, 0];
 
-/// The line data of the first module: those of file F and a file `b.h`, its inlinee at line 3 of that, and an import from
-/// `c.obj`.
+/// The line data of the first module, in numbers of four bytes, written by hand from the format:
+/// those of file F and a file `b.h`, its inlinee at line 3 of that, and an import from `c.obj`.
+#[rattlefmt::skip]
 const FIRST_LINES: [u32; 29] = [
-    0xf4,
-    16,
-    1,
-    0,
-    11,
-    0,
-    0xf2,
-    40,
-    0x10,
-    1,
-    0x20,
-    0,
-    2,
-    28,
-    0,
-    0x8000_0005,
-    8,
-    0x8000_0007,
-    0xf6,
-    16,
-    0,
-    0x8000_0000,
-    8,
-    3,
-    0xf7,
-    12,
-    5,
-    1,
-    0x8000_1000,
+    // DEBUG_S_FILECHKSMS of 0x10 bytes: the names at 1 and 0xb, no checksums.
+    0xf4, 0x10, 0x01, 0x00, 0x0b, 0x00,
+    // DEBUG_S_LINES of 0x28 bytes: at 0x10 of section 1, without columns, 0x20 bytes of code.
+    0xf2, 0x28, 0x10, 0x01, 0x20,
+    // Its block of 0x1c bytes: of the file at 0, two rows.
+    0x00, 0x02, 0x1c,
+    // The rows: at 0 line 5, at 8 line 7. Bit 31 marks statements.
+    0x00, 0x8000_0005, 0x08, 0x8000_0007,
+    // DEBUG_S_INLINEELINES of 0x10 bytes, without further files: the inlinee, its file at 8, its
+    // line.
+    0xf6, 0x10, 0x00, 0x8000_0000, 0x08, 0x03,
+    // DEBUG_S_CROSSSCOPEIMPORTS of 0xc bytes: from the module named at 5, one import.
+    0xf7, 0x0c, 0x05, 0x01, 0x8000_1000,
 ];
 
-/// Those of the second: a file `b.h`, its inlinee at line 4 of that, and another import from `c.obj`.
+/// The line data of the second module: a file `b.h`, its inlinee at line 4 of that, and another
+/// import from `c.obj`.
+#[rattlefmt::skip]
 const SECOND_LINES: [u32; 15] = [
-    0xf4,
-    8,
-    11,
-    0,
-    0xf6,
-    16,
-    0,
-    0x8000_0000,
-    0,
-    4,
-    0xf7,
-    12,
-    5,
-    1,
-    0x8000_1001,
+    // DEBUG_S_FILECHKSMS of 8 bytes: the name at 0xb, no checksum.
+    0xf4, 0x08, 0x0b, 0x00,
+    // DEBUG_S_INLINEELINES of 0x10 bytes, without further files: the inlinee, its file at 0, its
+    // line.
+    0xf6, 0x10, 0x00, 0x8000_0000, 0x00, 0x04,
+    // DEBUG_S_CROSSSCOPEIMPORTS of 0xc bytes: from the module named at 5, one import.
+    0xf7, 0x0c, 0x05, 0x01, 0x8000_1001,
 ];
 
-/// The exports of `c.obj`.
-const EXPORTS: [u32; 6] = [0xf8, 16, 0x8000_1000, 0x1000, 0x8000_1001, 0x1001];
+/// The line data of `c.obj`: its exports.
+#[rattlefmt::skip]
+const EXPORTS: [u32; 6] = [
+    // DEBUG_S_CROSSSCOPEEXPORTS of 0x10 bytes: pairs of a local and a global index.
+    0xf8, 0x10, 0x8000_1000, 0x1000, 0x8000_1001, 0x1001,
+];
 
 /// No arguments, and a function of these that returns nothing.
 pub(crate) const TYPES: &[Record] = &[
@@ -111,19 +94,25 @@ pub(crate) fn file_of_items(
     Ok(database)
 }
 
-/// Three modules with file F's section. The first two, `a.obj` with `f` and `b.obj` with a procedure `k` at 0x90 of length
-/// 0x20, have an inline site of the same inlinee, 0x80000000, which each imports from the third, `c.obj`: the functions `g`
-/// and `h`.
+/// Three modules with file F's section. The first two are `a.obj` with `f`, and `b.obj` with a
+/// procedure `k` at 0x90 of length 0x20. Both have an inline site of the same inlinee, 0x80000000,
+/// which each imports from the third, `c.obj`: the functions `g` and `h`.
+///
+/// # Errors
+/// `OutOfMemory`.
 pub fn cross_imports(alloc: Global) -> Result<Vec<u8>> {
     imports(alloc, true)?.bytes(alloc)
 }
 
-/// The same where the third has no stream, and so no exports.
+/// The database of [`cross_imports`], where the third module has no stream, and so no exports.
+///
+/// # Errors
+/// `OutOfMemory`.
 pub fn imports_of_no_stream(alloc: Global) -> Result<Vec<u8>> {
     imports(alloc, false)?.bytes(alloc)
 }
 
-/// The same where the third has a stream or has none.
+/// The database of [`cross_imports`], where the third module has a stream or has none.
 fn imports(alloc: Global, has_stream: bool) -> Result<ProgramDatabase> {
     let mut database = file_of_items(alloc, TYPES, IDS)?;
     database.names.clear();

@@ -8,7 +8,8 @@ const FIRST_INDEX: u32 = 0x1000;
 /// How the header of a table begins: the version, the header's size and the first index.
 const HEADER: [u32; 3] = [20040203, 56, FIRST_INDEX];
 
-/// The rest of the header behind the size of the records: no hash stream, four-byte keys, and no lists.
+/// The rest of the header after the size of the records: no hash stream, four-byte keys, and no
+/// lists.
 const HASHES: [u32; 9] = [0xffff_ffff, 4, 0x3_ffff, 0, 0, 0, 0, 0, 0];
 
 /// A record of a table of types or of ids. Indices are numbers; 0 is none where there may be none.
@@ -58,7 +59,7 @@ impl ItemTable {
         Ok(())
     }
 
-    /// Appends records one behind the other.
+    /// Appends records one after another.
     pub(crate) fn extend(&mut self, records: &[Record]) -> Result<()> {
         for record in records {
             self.push(record)?;
@@ -105,7 +106,7 @@ impl Record {
     }
 }
 
-/// Appends a list of arguments behind their count.
+/// Appends a list of arguments after their count.
 fn push_list(bytes: &mut Vec<u8>, indices: &[u32]) -> Result<()> {
     push_u16(bytes, &[0x1201])?;
     push_u32(bytes, &[u32::try_from(indices.len())?])?;

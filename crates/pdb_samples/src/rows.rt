@@ -26,8 +26,8 @@ const THUNK_T: &[u8; 23] = b"\0\0\0\0\0\0\0\0\0\0\0\0\x34\0\0\0\x01\0\x06\0\0t\0
 /// The payload of separated code, all zeros. Its end isn't known yet.
 const SEPARATED: &[u8; 28] = &[0; 28];
 
-/// The payload of an inline site in the record at 4, of the inlinee 0x1000 and without annotations. Its end isn't known
-/// yet.
+/// The payload of an inline site in the record at 4, of the inlinee 0x1000 and without annotations.
+/// Its end isn't known yet.
 const SITE: &[u8; 12] = b"\x04\0\0\0\0\0\0\0\0\x10\0\0";
 
 /// The header of file F's section: 0x100 bytes at 0x1000 that may be run and read.
@@ -43,7 +43,7 @@ const SECOND: [u32; 7] = [1, 0x80, 0x10, 0x6000_0020, 0, 0, 0];
 /// The number of the debug information's stream.
 const DEBUG_STREAM: usize = 3;
 
-/// The number of the first further stream, behind module 0's and the names table.
+/// The number of the first further stream, after module 0's and the names table.
 const FURTHER_STREAM: u16 = 9;
 
 /// How a file differs from file F0.
@@ -53,7 +53,7 @@ pub enum Change {
     Nothing,
     /// Line data, as in file F.
     LineData,
-    /// The same, where the block of lines says that it has eight bytes, fewer than its own header.
+    /// Line data whose block of lines says that it has eight bytes, fewer than its own header.
     ShortLineBlock,
     /// Four bytes of the older line data.
     OlderLines,
@@ -65,9 +65,9 @@ pub enum Change {
     NestedProcedure,
     /// An inline site in `f`, of the inlinee 0x1000 and without annotations.
     InlineSite,
-    /// A thunk `t` behind `f`, at 0x34 of length 6.
+    /// A thunk `t` after `f`, at 0x34 of length 6.
     Thunk,
-    /// Separated code behind `f`.
+    /// Separated code after `f`.
     SeparatedCode,
     /// A public symbol of a function at this place of section 1.
     PublicSymbol(u32, &'static [u8]),
@@ -79,27 +79,36 @@ pub enum Change {
     FurtherStream(usize),
     /// Its streams' pages lie in descending order. The debug information has three pages.
     PermutedPages,
-    /// Its directory has three pages, in descending order: a hundred and twenty further streams are absent or empty in
-    /// turn.
+    /// Its directory has three pages, in descending order: a hundred and twenty further streams are
+    /// absent or empty in turn.
     DirectoryReordered,
-    /// All that a reader needs lies past its first 4096 bytes: its streams' pages lie in descending order, behind a
-    /// further stream of 4096 zeros.
+    /// All that a reader needs lies past its first 4096 bytes: its streams' pages lie in descending
+    /// order, after a further stream of 4096 zeros.
     Long,
 }
 
 /// One executable section at 0x1000 of size 0x100, of which module 0 contributes the first 0x40
 /// bytes. In it lies the procedure `f` at 0x10, of length 0x20 and no type. Its rows are line 5 at
 /// 0x10 and line 7 at 0x18, of the file `a.c`.
+///
+/// # Errors
+/// `OutOfMemory`.
 pub fn file_f(alloc: Global) -> Result<ProgramDatabase> {
     file_with(alloc, Change::LineData)
 }
 
-/// As file F, where the block of lines says that it has eight bytes, fewer than its own header.
+/// File F with a block of lines that says that it has eight bytes, fewer than its own header.
+///
+/// # Errors
+/// `OutOfMemory`.
 pub fn short_line_block(alloc: Global) -> Result<Vec<u8>> {
     file_with(alloc, Change::ShortLineBlock)?.bytes(alloc)
 }
 
-/// File F0 but for one thing.
+/// File F0 but for one thing. File F0 is file F without line data.
+///
+/// # Errors
+/// `DoesNotFit` where a place past the optional header is asked for; `OutOfMemory`.
 pub fn file_with(alloc: Global, change: Change) -> Result<ProgramDatabase> {
     let mut records = Vec::new(alloc);
     push_symbols(&mut records, change)?;
@@ -109,6 +118,9 @@ pub fn file_with(alloc: Global, change: Change) -> Result<ProgramDatabase> {
 }
 
 /// A module with a stream of these symbol records alone, linked from the file of its name.
+///
+/// # Errors
+/// `OutOfMemory`.
 pub fn module_of_symbols(alloc: Global, name: &[u8], records: Vec<u8>) -> Result<Module> {
     let mut module = Module {
         name: Vec::new(alloc),
@@ -314,8 +326,11 @@ fn push_public(records: &mut Vec<u8>, offset: u32, name: &[u8]) -> Result<()> {
     end_record(records, start)
 }
 
-/// File F0 cut a hundred bytes after its debug information begins, which lies behind all else, a further stream of 4096
-/// zeros too. More than 4096 bytes are left.
+/// File F0 cut a hundred bytes after its debug information begins. That comes after all else, also
+/// after a further stream of 4096 zeros. More than 4096 bytes are left.
+///
+/// # Errors
+/// `OutOfMemory`.
 pub fn cut_dbi(alloc: Global) -> Result<Vec<u8>> {
     let mut database = file_with(alloc, Change::Long)?;
     database.order = PageOrder::StreamLast(DEBUG_STREAM);

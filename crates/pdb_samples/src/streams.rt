@@ -17,7 +17,8 @@ pub struct PieceReader<'t> {
     pub fault: Option<ErrorKind>,
 }
 
-/// Takes bytes in pieces, so many in all. Then it fails once and takes more, or it takes none at all.
+/// Takes bytes in pieces, up to `room` of them. Then it fails once and takes more, or it takes none
+/// at all.
 #[derive(Drop)]
 pub struct PieceWriter {
     /// The bytes that were taken.
@@ -30,7 +31,7 @@ pub struct PieceWriter {
     pub fault: Option<ErrorKind>,
 }
 
-/// Moves at most `most` bytes from the front of `from` into `to`, and says how many.
+/// Moves at most `most` bytes from the beginning of `from` into `to`, and returns how many.
 fn give(from: &mut &[u8], to: &mut [u8], most: usize) -> usize
     ensures { result ≤ length to.new }
 {

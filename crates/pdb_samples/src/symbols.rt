@@ -4,10 +4,10 @@ use crate::error::Result;
 /// The kind of a procedure that is known to all modules.
 const GLOBAL_PROCEDURE: u16 = 0x1110;
 
-/// The place of a module's first record in its stream, behind the signature.
+/// The place of a module's first record in its stream, after the signature.
 pub(crate) const FIRST_PLACE: u32 = 4;
 
-/// The place of the end in a record that opens a scope: behind its length, its kind and its parent.
+/// The place of the end in a record that opens a scope: after its length, its kind and its parent.
 const END: usize = 8;
 
 /// A procedure of section 1, and the record in which it lies, or 0.
@@ -38,8 +38,8 @@ impl Procedure<'_> {
     }
 }
 
-/// Appends the record of this kind and payload, filled up with zero bytes to a multiple of four. Its length counts
-/// these.
+/// Appends the record of this kind and payload, filled up with zero bytes to a multiple of four.
+/// Its length counts these.
 pub(crate) fn push_record(records: &mut Vec<u8>, kind: u16, payload: &[u8]) -> Result<()> {
     let start = begin_record(records, kind)?;
     records.extend_from_slice(payload)?;

@@ -1,6 +1,8 @@
--- Cross-module exports: by which indices a module knows what it gives, and where that stands in the file's tables.
--- The layout is that of LocalIdAndGlobalIdPair in microsoft-pdb's cvinfo.h, as the pdb crate reads it.
-use Rattle.std.specs.Prelude.{◌≡◌, ◌≢◌, ℕ, ◌==◌, List, ◌∷◌, ◌++◌, map, Option, option_map, Result, Ok, if◌then◌else◌}
+-- Cross-module exports: by which indices a module knows what it gives, and where that stands in the
+-- file's tables. The layout is that of LocalIdAndGlobalIdPair in microsoft-pdb's cvinfo.h, as the
+-- pdb crate reads it.
+use Rattle.std.specs.Prelude.{◌≡◌, ◌≢◌, ℕ, ◌==◌, List, ◌∷◌, ◌++◌, map, Option, option_map, Result}
+use Rattle.std.specs.Prelude.{Ok, if◌then◌else◌}
 use Rattle.std.specs.Int.{w32}
 use Rattle.std.specs.List.{find, AllByRecursion}
 use Rattle.pdb_container.specs.Container.{word_at}
@@ -44,9 +46,10 @@ Lack exports local = AllByRecursion (λ e. e.local ≢ local) exports
 
 -- the first export of an index as the module names it gives this one in the file's table
 abbrev pub IsFirst : List Export → ℕ → ℕ → Type 0
-IsFirst exports local global = (front others : List Export) × Lack front local × (exports ≡ front ++ record { local = local; global = global } ∷ others)
+IsFirst exports local global = (front others : List Export) × Lack front local
+    × (exports ≡ front ++ record { local = local; global = global } ∷ others)
 
--- ---- exports as they are kept
+-- ---- exports as they are stored
 
 -- an export in 8 bytes
 abbrev pub export_in : List ℕ → Export

@@ -1,15 +1,19 @@
--- Cross-module imports, what a module takes from other modules: of which modules, and by which indices these know it.
--- The layout is that of CrossScopeReferences in microsoft-pdb's cvinfo.h, as the pdb crate reads it.
-use Rattle.std.specs.Prelude.{ℕ, ◌/◌, ◌%◌, ◌^◌, List, map, slice_get, Option, option_map, option_and_then, Result, Ok, ok_or}
+-- Cross-module imports, what a module takes from other modules: of which modules, and by which
+-- indices these know it. The layout is that of CrossScopeReferences in microsoft-pdb's cvinfo.h, as
+-- the pdb crate reads it.
+use Rattle.std.specs.Prelude.{ℕ, ◌/◌, ◌%◌, ◌^◌, List, map, slice_get, Option, option_map}
+use Rattle.std.specs.Prelude.{option_and_then, Result, Ok, ok_or}
 use Rattle.std.specs.Int.{w32, from_le_bytes}
-use Rattle.pdb_container.specs.Fault.{Fault, NotACrossModuleRef, CrossModuleRefNotFound, ◌>>=◌, guard}
+use Rattle.pdb_container.specs.Fault.{Fault, NotACrossModuleRef, CrossModuleRefNotFound, ◌>>=◌}
+use Rattle.pdb_container.specs.Fault.{guard}
 use Rattle.pdb_container.specs.Fields.{Reader, number_at, entries}
 use Rattle.pdb_indices.specs.Index.{is_cross_module}
 use Rattle.pdb_indices.specs.RecordFields.{many_at}
 use Rattle.pdb_subsections.specs.declared.imports.CrossModuleRef.{CrossModuleRef}
 use Rattle.pdb_subsections.specs.declared.imports.ImportedModule.{ImportedModule}
 
--- a module that is named: where its name begins among the names, and the indices there, one for each entry
+-- a module that is named: where its name begins among the names, and the indices there, one for
+-- each entry
 pub record Import : Type 0 where
   pub name : ℕ
   pub locals : List ℕ
@@ -41,11 +45,13 @@ pub record Imported : Type 0 where
 
 -- what an entry of a module stands for
 abbrev pub imported_from : Import → ℕ → Option Imported
-imported_from m entry = option_map (λ local. record { name = m.name; local = local }) (slice_get m.locals entry)
+imported_from m entry = option_map (λ local. record { name = m.name; local = local })
+    (slice_get m.locals entry)
 
 -- what the bits of an index lead to, if there is such a module and such an entry
 abbrev pub found_import : List Import → ℕ → Option Imported
-found_import imports index = option_and_then (λ m. imported_from m (entry_of index)) (slice_get imports (module_of index))
+found_import imports index = option_and_then (λ m. imported_from m (entry_of index))
+    (slice_get imports (module_of index))
 
 -- what an index stands for, which leads elsewhere by bit 31
 abbrev pub imported : List Import → ℕ → Result Imported Fault
@@ -53,13 +59,13 @@ imported imports index = do
   elsewhere ← guard (is_cross_module index) (NotACrossModuleRef index)
   ok_or (found_import imports index) (CrossModuleRefNotFound index)
 
--- ---- imports as they are kept, and answers
+-- ---- imports as they are stored, and answers
 
 -- numbers of four bytes each, the lowest byte first
 abbrev pub numbers_in : List (List ℕ) → List ℕ
 numbers_in chunks = map (from_le_bytes w32) chunks
 
--- a named module as it is kept
+-- a named module as it is stored
 abbrev pub import_in : ImportedModule → Import
 import_in m = record { name = m.name.0.0; locals = numbers_in m.locals.now }
 

@@ -1,6 +1,8 @@
--- Debug subsections (DEBUG_S_*) of C13 line data, one behind the other.
--- The kinds are DEBUG_S_SUBSECTION_TYPE of microsoft-pdb's cvinfo.h; LLVM's The Module Information Stream places them.
-use Rattle.std.specs.Prelude.{ℕ, List, [], ◌∷◌, drop, ◌==◌, if◌then◌else◌, Option, Some, None, Result, Ok, Err}
+-- Debug subsections (DEBUG_S_*) of C13 line data, one after another. The kinds are
+-- DEBUG_S_SUBSECTION_TYPE of microsoft-pdb's cvinfo.h; LLVM's The Module Information Stream places
+-- them.
+use Rattle.std.specs.Prelude.{ℕ, List, [], ◌∷◌, drop, ◌==◌, if◌then◌else◌, Option, Some, None}
+use Rattle.std.specs.Prelude.{Result, Ok, Err}
 use Rattle.std.specs.Borrow.{Bor}
 use Rattle.std.specs.Int.{w32}
 use Rattle.pdb_container.specs.Fault.{Fault, ◌>>=◌}
@@ -37,8 +39,8 @@ exports_kind = 0xf8
 
 -- ---- the list of subsections
 
--- A kind, a length and so many bytes. The next subsection begins at the next multiple of 4, as this one does, or there
--- is none.
+-- A kind, a length and that many bytes. The next subsection begins at the next multiple of 4, as
+-- this one does, or there is none.
 unfoldable pub subsection_at : Reader Subsection
 subsection_at bytes = do
   kind ← number_at w32 bytes
@@ -54,9 +56,11 @@ subsections_of bytes = listing subsection_at bytes
 abbrev pub first_among : ℕ → List Subsection → Option Fault → Result (Option (List ℕ)) Fault
 first_among kind [] None = Ok None
 first_among kind [] (Some e) = Err e
-first_among kind (s ∷ others) end = if s.kind == kind then Ok (Some s.bytes) else first_among kind others end
+first_among kind (s ∷ others) end =
+    if s.kind == kind then Ok (Some s.bytes)
+    else first_among kind others end
 
--- The bytes of the first subsection of a kind. A fault behind it isn't met.
+-- The bytes of the first subsection of a kind. A fault after it isn't met.
 abbrev pub first_of : ℕ → Listing Subsection → Result (Option (List ℕ)) Fault
 first_of kind l = first_among kind l.items l.fault
 
@@ -64,7 +68,7 @@ first_of kind l = first_among kind l.items l.fault
 abbrev pub subsection_seen : DebugSubsection → Subsection
 subsection_seen s = record { kind = s.kind; bytes = s.bytes.now }
 
--- a subsection and the bytes behind it, as they are returned
+-- a subsection and the bytes after it, as they are returned
 abbrev pub split_seen : DebugSubsection × Bor (List ℕ) → Subsection × List ℕ
 split_seen x = (subsection_seen x.0, x.1.now)
 

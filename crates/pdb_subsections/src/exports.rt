@@ -2,7 +2,8 @@
 
 ghost use Rattle.std.specs.Prelude.{◌≡◌, ◌==◌, length, map, option_map, Ok};
 ghost use Rattle.pdb_container.specs.Fault.{Parses};
-ghost use Rattle.pdb_subsections.specs.Exports.{exports_of, exports_by_eight, export_in, export_form, first_export};
+ghost use Rattle.pdb_subsections.specs.Exports.{exports_of, exports_by_eight, export_in};
+ghost use Rattle.pdb_subsections.specs.Exports.{export_form, first_export};
 
 use pdb_container::{Error, Result};
 use pdb_indices::{IdIndex, ItemIndex, Local, TypeIndex};
@@ -24,7 +25,8 @@ pub enum CrossModuleExport {
     Id(Local<IdIndex>, IdIndex),
 }
 
-/// The cross-module exports of a module (`DEBUG_S_CROSSSCOPEEXPORTS`), in the order of their entries.
+/// The cross-module exports of a module (`DEBUG_S_CROSSSCOPEEXPORTS`), in the order of their
+/// entries.
 #[derive(Debug, Drop)]
 pub struct CrossModuleExports<'a> {
     pairs: &'a [[u8; 8]],
@@ -52,8 +54,11 @@ impl<'a> Default for CrossModuleExports<'a> {
 }
 
 impl<'a> CrossModuleExports<'a> {
-    /// The cross-module exports that these bytes spell: for each the index as the module names it and the index in the
-    /// TPI or the IPI, four bytes each. `UnexpectedEof` where bytes are missing.
+    /// The cross-module exports in these bytes: for each one the index as the module names it and
+    /// the index in the TPI or the IPI, four bytes each.
+    ///
+    /// # Errors
+    /// `UnexpectedEof` where the last export isn't whole.
     #[tactic(auto, using(crate::proofs::Chunks::exports_whole, crate::proofs::Chunks::exports_cut))]
     pub fn parse(bytes: &'a [u8]) -> Result<CrossModuleExports<'a>>
         ensures { Parses (λ exports. exports) result (exports_of bytes.now) }
@@ -86,8 +91,11 @@ impl<'a> CrossModuleExports<'a> {
         CrossModuleExportIter { left: self.pairs }
     }
 
-    /// The index in the TPI or the IPI for an index as the module names it, by the first export of that; `None` exactly
-    /// where no export has it. It is never an error.
+    /// The index in the TPI or the IPI for an index as the module names it, by the first export of
+    /// that; `None` exactly where no export has it.
+    ///
+    /// # Errors
+    /// None: the result is always `Ok`.
     pub fn resolve_import<I: ItemIndex>(&self, import: Local<I>) -> Result<Option<I>>
         ensures { result ≡ Ok (option_map I.index (first_export self.now (I.number import.0))) }
     {
@@ -108,7 +116,9 @@ pub struct CrossModuleExportIter<'e> {
 impl<'e> Model for CrossModuleExportIter<'e> {
     ghost use Rattle.std.specs.Prelude.{List, map};
     ghost use Rattle.pdb_subsections.specs.Exports.{exports_by_eight, export_form};
-    ghost use Rattle.pdb_subsections.specs.declared.exports.CrossModuleExport.{CrossModuleExport as Given};
+    ghost use Rattle.pdb_subsections.specs.declared.exports.CrossModuleExport.{
+      CrossModuleExport as Given,
+    };
 
     ghost Value = { List Given };
 
@@ -155,7 +165,7 @@ fn form_of(export: Export) -> CrossModuleExport
     }
 }
 
-/// The index in the file's table by the first of these exports of an index.
+/// The index in the file's table by the first of these exports with that local index.
 #[tactic(auto, using(crate::proofs::ExportSteps::first_more, crate::proofs::ExportSteps::first_found, crate::proofs::ExportSteps::first_missing))]
 fn first_global(pairs: &[[u8; 8]], local: u32) -> Option<u32>
     ensures { result ≡ first_export (exports_by_eight pairs.now) local }

@@ -6,7 +6,8 @@ ghost use Rattle.pdb_container.specs.Buffer.{rest, ParsesFront};
 ghost use Rattle.pdb_container.specs.Fault.{Gives, Parses};
 ghost use Rattle.pdb_container.specs.Fields.{number_at};
 ghost use Rattle.pdb_indices.specs.RecordFields.{many_at};
-ghost use Rattle.pdb_subsections.specs.Imports.{import_at, imports_of, import_in, numbers_in, imported, imported_from, found_import, reference};
+ghost use Rattle.pdb_subsections.specs.Imports.{import_at, imports_of, import_in, numbers_in};
+ghost use Rattle.pdb_subsections.specs.Imports.{imported, imported_from, found_import, reference};
 
 use pdb_container::{Error, ParseBuffer, Result, StringRef};
 use pdb_indices::{ItemIndex, Local};
@@ -17,7 +18,8 @@ use std::marker::Model;
 #[derive(Clone, Copy, Debug, PartialEq, Eq, PartialOrd, Ord, Hash)]
 pub struct ModuleRef(pub StringRef);
 
-/// A cross-module reference: what an index stands for in another module, as that module and the index as it names it.
+/// A cross-module reference: what an index stands for in another module, as that module and the
+/// index as it names it.
 #[derive(Clone, Copy, Debug, PartialEq, Eq, PartialOrd, Ord, Hash)]
 pub struct CrossModuleRef<I>(pub ModuleRef, pub Local<I>);
 
@@ -28,8 +30,8 @@ struct ImportedModule<'a> {
     locals: &'a [[u8; 4]],
 }
 
-/// The cross-module imports of a module (`DEBUG_S_CROSSSCOPEIMPORTS`): the modules, and for each the indices as it
-/// names them.
+/// The cross-module imports of a module (`DEBUG_S_CROSSSCOPEIMPORTS`): the modules, and for each
+/// the indices as it names them.
 #[derive(Debug, Drop)]
 pub struct CrossModuleImports<'a> {
     modules: Vec<ImportedModule<'a>>,
@@ -54,8 +56,8 @@ impl<'a> CrossModuleImports<'a> {
         }
     }
 
-    /// The cross-module imports that these bytes spell: for each module its name, how many indices, and these, four
-    /// bytes each.
+    /// The cross-module imports that these bytes spell: for each module its name, how many indices,
+    /// and these, four bytes each.
     ///
     /// # Errors
     /// `UnexpectedEof` where bytes are missing; `OutOfMemory`.
@@ -66,12 +68,13 @@ impl<'a> CrossModuleImports<'a> {
         Ok(CrossModuleImports { modules })
     }
 
-    /// The cross-module reference of an index: what it stands for in another module. Bits 20 to 30 of the index pick
-    /// the other module, and bits 0 to 19 the entry, both counted from 0.
+    /// The cross-module reference that an index stands for: what it names in another module. Bits
+    /// 20 to 30 of the index pick the other module, and bits 0 to 19 the entry, both counted from
+    /// 0.
     ///
     /// # Errors
-    /// `NotACrossModuleRef` for an index without bit 31, `CrossModuleRefNotFound` where there is no such module or
-    /// entry.
+    /// `NotACrossModuleRef` for an index without bit 31, `CrossModuleRefNotFound` where there is no
+    /// such module or entry.
     pub fn resolve_import<I: ItemIndex>(&self, index: I) -> Result<CrossModuleRef<I>>
         ensures { Parses (reference I.number) result (imported self.now (I.number index)) }
     {
@@ -89,7 +92,7 @@ impl<'a> CrossModuleImports<'a> {
     }
 }
 
-/// The modules one behind the other, to the end.
+/// The modules one after another, to the end.
 #[tactic(auto, using(crate::proofs::ImportSteps::imports_more, pdb_container::proofs::Entries::entries_start, pdb_container::proofs::Entries::entries_fail, pdb_container::proofs::Entries::entries_end, pdb_container::proofs::Entries::entries_done))]
 fn parse_modules<'a>(alloc: Global, bytes: &'a [u8]) -> Result<Vec<ImportedModule<'a>>>
     ensures { Gives (λ v. map import_in v.items) ⊥ result (imports_of bytes.now) }
@@ -116,10 +119,11 @@ fn parse_module<'a>(buffer: &mut ParseBuffer<'a>) -> Result<ImportedModule<'a>>
     Ok(ImportedModule { name, locals })
 }
 
-/// So many indices, four bytes each.
+/// That many indices, four bytes each.
 #[tactic(auto, using(crate::proofs::Chunks::numbers_read, crate::proofs::Chunks::numbers_missing))]
 fn parse_locals<'a>(buffer: &mut ParseBuffer<'a>, count: u32) -> Result<&'a [[u8; 4]]>
-    ensures { ParsesFront (λ locals. numbers_in locals.now) result (rest buffer.new) (many_at (number_at w32) count (rest buffer.old)) }
+    ensures { ParsesFront (λ locals. numbers_in locals.now) result (rest buffer.new)
+        (many_at (number_at w32) count (rest buffer.old)) }
 {
     let bytes = buffer.take(4 * count as usize)?;
     let (locals, _) = bytes.as_chunks::<4>();
@@ -128,19 +132,21 @@ fn parse_locals<'a>(buffer: &mut ParseBuffer<'a>, count: u32) -> Result<&'a [[u8
 
 /// What an index stands for: its module, and the index there.
 fn find(modules: &[ImportedModule<'_>], index: u32) -> Option<CrossModuleRef<u32>>
-    ensures { option_map (reference (λ number. number)) result ≡ found_import (map import_in modules.now) index }
+    ensures { option_map (reference (λ number. number)) result
+        ≡ found_import (map import_in modules.now) index }
 {
     let named = module_at(modules, (index >> 20 & 0x7ff) as usize)?;
     entry_at(named, (index & 0xf_ffff) as usize)
 }
 
-/// The module of a number, counted from 0.
+/// The module with that index, counted from 0.
 #[tactic(auto, using(crate::proofs::ImportSteps::mapped_at))]
 fn module_at<'m, 'a>(
     modules: &'m [ImportedModule<'a>],
     number: usize,
 ) -> Option<&'m ImportedModule<'a>>
-    ensures { option_map (λ m. import_in m.now) result ≡ slice_get (map import_in modules.now) number }
+    ensures { option_map (λ m. import_in m.now) result
+        ≡ slice_get (map import_in modules.now) number }
 {
     modules.get(number)
 }
@@ -148,7 +154,8 @@ fn module_at<'m, 'a>(
 /// What an entry of a module stands for, counted from 0.
 #[tactic(auto, using(crate::proofs::ImportSteps::mapped_at))]
 fn entry_at(named: &ImportedModule<'_>, entry: usize) -> Option<CrossModuleRef<u32>>
-    ensures { option_map (reference (λ number. number)) result ≡ imported_from (import_in named.now) entry }
+    ensures { option_map (reference (λ number. number)) result
+        ≡ imported_from (import_in named.now) entry }
 {
     match named.locals.get(entry) {
         None => None,

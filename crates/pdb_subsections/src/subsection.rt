@@ -4,7 +4,8 @@ ghost use Rattle.std.specs.Prelude.{◌≡◌, ◌<◌, ◌^◌, length, IfOk};
 ghost use Rattle.pdb_container.specs.Buffer.{rest, Reads, ReadsInSteps};
 ghost use Rattle.pdb_container.specs.Fault.{Parses};
 ghost use Rattle.pdb_container.specs.Listing.{ending, Advances};
-ghost use Rattle.pdb_subsections.specs.Subsections.{subsection_at, subsections_of, subsection_seen, split_seen, first_of, bytes_seen};
+ghost use Rattle.pdb_subsections.specs.Subsections.{subsection_at, subsections_of, subsection_seen};
+ghost use Rattle.pdb_subsections.specs.Subsections.{split_seen, first_of, bytes_seen};
 
 use pdb_container::{Error, FallibleIterator, ParseBuffer, Result, padding_behind};
 use std::marker::Model;
@@ -29,7 +30,7 @@ pub const CROSS_MODULE_EXPORTS: u32 = 0xf8;
 pub struct DebugSubsection<'a> {
     /// Its kind (`DEBUG_S_*`); with bit 31 set it is to be passed over.
     pub kind: u32,
-    /// Its bytes, behind its kind and its length.
+    /// Its bytes, which follow its kind and its length.
     pub bytes: &'a [u8],
 }
 
@@ -46,7 +47,7 @@ fn parse_subsection<'a>(buffer: &mut ParseBuffer<'a>) -> Result<DebugSubsection<
     Ok(DebugSubsection { kind, bytes })
 }
 
-/// The first subsection in these bytes, and the bytes behind it.
+/// The first subsection in these bytes, and the bytes after it.
 #[tactic(auto, unfolding(pdb_container::specs::Buffer::rest))]
 fn split_subsection(bytes: &[u8]) -> Result<(DebugSubsection<'_>, &[u8])>
     ensures value { Parses split_seen result (subsection_at bytes.now) }
@@ -110,7 +111,10 @@ impl<'a> FallibleIterator for DebugSubsectionIterator<'a> {
     }
 }
 
-/// The bytes of the first debug subsection of a kind, if there is one. A fault behind it isn't met.
+/// The bytes of the first debug subsection of a kind, if there is one. A fault after it isn't met.
+///
+/// # Errors
+/// `UnexpectedEof` where a subsection isn't whole, and none before it has the kind.
 pub fn find_subsection(bytes: &[u8], kind: u32) -> Result<Option<&[u8]>>
     ensures { Parses bytes_seen result (first_of kind (subsections_of bytes.now)) }
 {

@@ -9,6 +9,7 @@ opened_well (Ok x) h = refl
 opened_well (Err e) h = absurd cc
 
 -- a reading that was refused has its fault
-pub not_opened : {A F : Type 0} (outside : Type 0) (read : Result A F) (e : F) → (outside ⊎ (read ≡ Err e)) → (outside ⊎ (fault_in read ≡ Some e))
+pub not_opened : {A F : Type 0} (outside : Type 0) (read : Result A F) (e : F)
+    → (outside ⊎ (read ≡ Err e)) → (outside ⊎ (fault_in read ≡ Some e))
 not_opened outside read e (inl h) = inl h
 not_opened outside read e (inr h) = inr (ap fault_in h)

@@ -1,18 +1,20 @@
--- The sections of an image, and those of its database with the ways between them.
+-- The sections of an image, and those of its database with the address map between them.
 use Rattle.std.specs.Prelude.{ℕ, List, [], Option, None, Some, Result, Ok}
 use Rattle.pdb_container.specs.Fault.{Fault, ◌>>=◌}
 use Rattle.pdb_addresses.specs.declared.sections.ImageSectionHeader.{ImageSectionHeader}
 use Rattle.pdb_addresses.specs.Addresses.{Map, map_of}
 use Rattle.pdb_addresses.specs.Omap.{omap_of}
 use Rattle.pdb_addresses.specs.Sections.{section_headers_of}
-use Rattle.pdb_symbols_modules.specs.OptionalHeader.{to_source_place, from_source_place, sections_place, original_sections_place}
+use Rattle.pdb_symbols_modules.specs.OptionalHeader.{to_source_place, from_source_place}
+use Rattle.pdb_symbols_modules.specs.OptionalHeader.{sections_place, original_sections_place}
 
 -- what the optional header leads to: the bytes of the stream at a place, where one is named
 abbrev pub Found : Type 0
 Found = ℕ → Result (Option (List ℕ)) Fault
 
 -- what a stream that may be there says
-abbrev pub read_if_there : {A : Type 0} → (List ℕ → Result A Fault) → Option (List ℕ) → Result (Option A) Fault
+abbrev pub read_if_there : {A : Type 0} → (List ℕ → Result A Fault) → Option (List ℕ)
+    → Result (Option A) Fault
 read_if_there read None = Ok None
 read_if_there read (Some bytes) = read bytes >>= λ x. Ok (Some x)
 
@@ -28,8 +30,9 @@ original_sections_by found = do
   stream ← found original_sections_place
   read_if_there section_headers_of stream
 
--- the ways between both spaces
-unfoldable pub map_behind : Found → List ImageSectionHeader → List ImageSectionHeader → Result Map Fault
+-- the address map between both spaces
+unfoldable pub map_behind : Found → List ImageSectionHeader → List ImageSectionHeader
+    → Result Map Fault
 map_behind found image original = do
   to_source ← found to_source_place
   to_original ← read_if_there omap_of to_source
@@ -37,8 +40,9 @@ map_behind found image original = do
   to_image ← read_if_there omap_of from_source
   Ok (map_of (Some original) image to_original to_image)
 
--- without original sections no way is used, and none is read
-abbrev pub map_with : Found → List ImageSectionHeader → Option (List ImageSectionHeader) → Result Map Fault
+-- without original sections no OMAP is used, and none is read
+abbrev pub map_with : Found → List ImageSectionHeader → Option (List ImageSectionHeader)
+    → Result Map Fault
 map_with found image None = Ok (map_of None image None None)
 map_with found image (Some original) = map_behind found image original
 
@@ -47,7 +51,7 @@ abbrev pub or_none : Option (List ImageSectionHeader) → List ImageSectionHeade
 or_none None = []
 or_none (Some sections) = sections
 
--- the sections of both spaces and the ways between them
+-- the sections of both spaces and the address map between them
 unfoldable pub address_map_by : Found → Result Map Fault
 address_map_by found = do
   image ← sections_by found

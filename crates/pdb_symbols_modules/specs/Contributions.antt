@@ -1,12 +1,15 @@
 -- The section contributions of the DBI stream (3): which module put which part into a section.
 -- The layout is that of the Section Contribution Substream of LLVM's The PDB DBI Stream.
-use Rattle.std.specs.Prelude.{ℕ, ◌+◌, List, [], ◌∷◌, ◌==◌, None, if◌then◌else◌, Result, Ok, Err, codes}
+use Rattle.std.specs.Prelude.{ℕ, ◌+◌, List, [], ◌∷◌, ◌==◌, None, if◌then◌else◌, Result, Ok, Err}
+use Rattle.std.specs.Prelude.{codes}
 use Rattle.std.specs.Int.{w32}
 use Rattle.pdb_container.specs.Container.{half_at, word_at}
 use Rattle.pdb_container.specs.Fault.{Fault, UnimplementedFeature, ◌>>=◌}
 use Rattle.pdb_container.specs.Fields.{Reader, bytes_of, number_at}
 use Rattle.pdb_container.specs.Listing.{Listing, ending, listing}
-use Rattle.pdb_symbols_modules.specs.declared.contributions.DBISectionContribution.{DBISectionContribution}
+use Rattle.pdb_symbols_modules.specs.declared.contributions.DBISectionContribution.{
+  DBISectionContribution,
+}
 use Rattle.pdb_symbols_modules.specs.declared.contributions.Version.{Version}
 use Rattle.pdb_symbols_modules.specs.declared.contributions.Version.TheVariants as versions
 
@@ -39,11 +42,14 @@ abbrev pub contribution_for : Version → Reader DBISectionContribution
 contribution_for versions.Ver60 = contribution_at
 contribution_for versions.V2 = long_contribution_at
 
--- the version of a number
+-- the version with that number
 abbrev pub version_of : ℕ → Result Version Fault
-version_of n = if n == 0xeffe0000 + 19970605 then Ok versions.Ver60 else (if n == 0xeffe0000 + 20140516 then Ok versions.V2 else Err (UnimplementedFeature (codes "section contribution version")))
+version_of n =
+    if n == 0xeffe0000 + 19970605 then Ok versions.Ver60
+    else (if n == 0xeffe0000 + 20140516 then Ok versions.V2
+    else Err (UnimplementedFeature (codes "section contribution version")))
 
--- the entries behind their version, and how they end; an empty substream has none
+-- the entries after their version, and how they end; an empty substream has none
 unfoldable pub contributions_of : List ℕ → Result (Listing DBISectionContribution) Fault
 contributions_of [] = Ok (ending None)
 contributions_of (b ∷ bytes) = do

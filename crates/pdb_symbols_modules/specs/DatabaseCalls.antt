@@ -53,7 +53,7 @@ sections c = do
   d ← debug_information c
   sections_by (optional_in c d)
 
--- the sections of the image and of the database, and the ways between them
+-- the sections of the image and of the database, and the address map between them
 unfoldable pub address_map : Shared → Result Map Fault
 address_map c = do
   d ← debug_information c

@@ -1,12 +1,13 @@
--- The DBI stream (3): its header, and the substreams behind it.
--- The layout is NewDBIHdr of microsoft-pdb's dbi.h, which LLVM's The PDB DBI Stream describes.
-use Rattle.std.specs.Prelude.{ℕ, ◌+◌, List, length, take, drop, nat_lt, ◌==◌, not, Result, Ok, codes}
+-- The DBI stream (3): its header, and the substreams after it. The layout is NewDBIHdr of
+-- microsoft-pdb's dbi.h, which LLVM's The PDB DBI Stream describes.
+use Rattle.std.specs.Prelude.{ℕ, ◌+◌, List, length, take, drop, nat_lt, ◌==◌, not, Result, Ok}
+use Rattle.std.specs.Prelude.{codes}
 use Rattle.pdb_container.specs.Fault.{Fault, UnexpectedEof, UnimplementedFeature, ◌>>=◌, refuse}
 use Rattle.pdb_container.specs.Container.{half_at, word_at}
 use Rattle.pdb_symbols_modules.specs.declared.dbi.DBIHeader.{DBIHeader}
 
--- What the header says, by the places of its numbers. Between these lie versions, numbers of streams, the number of a
--- compiler's own index, and flags.
+-- What the header says, by the places of its numbers. Between these lie versions, numbers of
+-- streams, the number of a compiler's own index, and flags.
 abbrev pub header_in : List ℕ → DBIHeader
 header_in bytes = record {
   age = word_at bytes 8;
@@ -25,11 +26,13 @@ header_in bytes = record {
 unfoldable pub header_of : List ℕ → Result DBIHeader Fault
 header_of bytes = do
   whole ← refuse (nat_lt (length bytes) 64) UnexpectedEof
-  known ← refuse (not (word_at bytes 0 == 0xffffffff)) (UnimplementedFeature (codes "ancient DBI header"))
+  known ← refuse (not (word_at bytes 0 == 0xffffffff))
+      (UnimplementedFeature (codes "ancient DBI header"))
   Ok (header_in bytes)
 
--- The substreams lie in this order behind the header: module list, contributions, section map, file info, type
--- server map, edit and continue, optional header. Here are the places of those that are read.
+-- The substreams follow the header in this order: module list, contributions, section map, file
+-- info, type server map, edit and continue, optional header. Here are the places of those that are
+-- read.
 
 -- the byte place of the contributions
 abbrev pub contributions_place : DBIHeader → ℕ
@@ -38,7 +41,8 @@ contributions_place h = 64 + h.module_list_size
 -- the byte place of the optional header
 abbrev pub optional_header_place : DBIHeader → ℕ
 optional_header_place h =
-    contributions_place h + h.section_contribution_size + h.section_map_size + h.file_info_size + h.type_server_map_size + h.ec_substream_size
+    contributions_place h + h.section_contribution_size + h.section_map_size + h.file_info_size
+    + h.type_server_map_size + h.ec_substream_size
 
 -- where the last of them ends
 abbrev pub substreams_end : DBIHeader → ℕ
@@ -54,7 +58,7 @@ pub record Dbi : Type 0 where
   pub contributions : List ℕ
   pub optional_header : List ℕ
 
--- so many bytes from a place on
+-- that many bytes from a place on
 abbrev pub piece : List ℕ → ℕ → ℕ → List ℕ
 piece bytes place size = take size (drop place bytes)
 

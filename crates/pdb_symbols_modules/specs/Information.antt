@@ -1,6 +1,7 @@
--- The information stream (1): what a database says of itself, and the names that it gives to streams.
--- The layout is that of LLVM's The PDB Info Stream, as the pdb crate reads it.
-use Rattle.std.specs.Prelude.{ℕ, ◌*◌, Bool, List, nat_lt, nat_eq, ◌==◌, Option, None, Some, if◌then◌else◌, Result, Ok, Err}
+-- The information stream (1): what a database says of itself, and the names that it gives to
+-- streams. The layout is that of LLVM's The PDB Info Stream, as the pdb crate reads it.
+use Rattle.std.specs.Prelude.{ℕ, ◌*◌, Bool, List, nat_lt, nat_eq, ◌==◌, Option, None, Some}
+use Rattle.std.specs.Prelude.{if◌then◌else◌, Result, Ok, Err}
 use Rattle.std.specs.List.{find}
 use Rattle.std.specs.Cmp.Lexicographic.{pointwise}
 use Rattle.std.specs.Int.{w32}
@@ -27,7 +28,13 @@ information_of bytes = do
   signature ← number_at w32 version.1
   age ← number_at w32 signature.1
   guid ← bytes_of 16 age.1
-  Ok record { version = version.0; signature = signature.0; age = age.0; guid = guid.0; bytes = bytes }
+  Ok record {
+    version = version.0;
+    signature = signature.0;
+    age = age.0;
+    guid = guid.0;
+    bytes = bytes;
+  }
 
 -- ---- names of streams
 
@@ -48,12 +55,13 @@ stream_name_at names bytes = do
   name ← name_in names offset.0
   Ok (record { name = name; stream_id = stream_number number.0 }, number.1)
 
--- words of bits, behind their count
+-- four-byte words of bits, after their count
 abbrev pub bits_at : Reader (List ℕ)
 bits_at bytes = number_at w32 bytes >>= λ count. bytes_of (4 * count.0) count.1
 
--- The entries that the stream holds behind its first 28 bytes: a block of names, behind its size; how many entries
--- there are, and for how many there is room; which places are used, and which were; the entries.
+-- The entries that the stream holds after its first 28 bytes: a block of names, after its size; how
+-- many entries there are, and for how many there is room; which places are used, and which were;
+-- the entries.
 unfoldable pub stream_names_of : List ℕ → Result (List StreamName) Fault
 stream_names_of bytes = do
   header ← bytes_of 28 bytes

@@ -4,7 +4,8 @@ use Rattle.std.specs.Prelude.{ℕ, ◌==◌, if◌then◌else◌}
 use Rattle.pdb_symbols_modules.specs.declared.machine.MachineType.{MachineType}
 use Rattle.pdb_symbols_modules.specs.declared.machine.MachineType.TheVariants as machines
 
--- the machine of a number (IMAGE_FILE_MACHINE_*): the five whose pointers do not have 4 bytes, or another
+-- the machine with that number (IMAGE_FILE_MACHINE_*): one of the five whose pointers do not have 4
+-- bytes, or another
 abbrev pub machine_of : ℕ → MachineType
 machine_of n =
     if n == 0x8664 then machines.Amd64 else (if n == 0xaa64 then machines.Arm64

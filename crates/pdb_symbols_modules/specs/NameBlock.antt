@@ -1,4 +1,4 @@
--- Names of streams as the code keeps them.
+-- Names of streams as the code stores them.
 use Rattle.std.specs.Prelude.{ℕ, ◌+◌, Bool, not, List, [], ◌∷◌, nat_lt, ◌==◌, if◌then◌else◌}
 use Rattle.pdb_container.specs.RawString.{raw_bytes}
 use Rattle.pdb_symbols_modules.specs.Information as information
@@ -11,7 +11,9 @@ stream_name_seen s = record { name = raw_bytes s.name; stream_id = s.stream_id.0
 -- the places of the NULs among bytes, of which the first stands at a place
 unfoldable pub nul_places : ℕ → List ℕ → List ℕ
 nul_places at [] = []
-nul_places at (b ∷ bytes) = if b == 0 then at ∷ nul_places (at + 1) bytes else nul_places (at + 1) bytes
+nul_places at (b ∷ bytes) =
+    if b == 0 then at ∷ nul_places (at + 1) bytes
+    else nul_places (at + 1) bytes
 
 -- a place that isn't below an offset
 abbrev pub is_reached : ℕ → ℕ → Bool

@@ -1,6 +1,7 @@
 -- The optional debug header of the DBI stream (3): numbers of further streams.
 -- The places are DBGTYPE of microsoft-pdb's langapi and those of LLVM's The PDB DBI Stream.
-use Rattle.std.specs.Prelude.{ℕ, ◌*◌, ◌%◌, List, length, drop, ◌==◌, not, Option, Result, Ok, Err, codes}
+use Rattle.std.specs.Prelude.{ℕ, ◌*◌, ◌%◌, List, length, drop, ◌==◌, not, Option, Result, Ok, Err}
+use Rattle.std.specs.Prelude.{codes}
 use Rattle.std.specs.Int.{w16}
 use Rattle.pdb_container.specs.Fault.{Fault, InvalidStreamLength, ◌>>=◌, refuse}
 use Rattle.pdb_container.specs.Fields.{number_at}
@@ -32,7 +33,8 @@ abbrev pub value_or : ℕ → Result (ℕ × List ℕ) Fault → ℕ
 value_or other (Ok read) = read.0
 value_or other (Err missing) = other
 
--- the number at a place of the optional header, counted from 0; a missing one is 65535, as one that names no stream
+-- the number at a place of the optional header, counted from 0; a missing one is 65535, as one that
+-- names no stream
 unfoldable pub optional_at : ℕ → List ℕ → Result ℕ Fault
 optional_at place bytes = do
   even ← refuse (not (length bytes % 2 == 0)) (InvalidStreamLength (codes "DbgDataHdr"))

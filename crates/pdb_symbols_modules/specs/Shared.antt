@@ -1,12 +1,15 @@
 -- The streams that belong to no module, each with its fault, and what a file holds of each module.
-use Rattle.std.specs.Prelude.{ℕ, ◌==◌, List, Option, None, Some, option_map, nat_lt, if◌then◌else◌, slice_get, Result, Ok, Err, codes}
+use Rattle.std.specs.Prelude.{ℕ, ◌==◌, List, Option, None, Some, option_map, nat_lt, if◌then◌else◌}
+use Rattle.std.specs.Prelude.{slice_get, Result, Ok, Err, codes}
 use Rattle.pdb_container.specs.Fault.{Fault, StreamNotFound, ◌>>=◌}
 use Rattle.pdb_container.specs.Listing.{whole}
 use Rattle.pdb_modules.specs.ModuleStream.{ModuleStream}
 use Rattle.pdb_symbols_modules.specs.Dbi.{Dbi, dbi_of}
 use Rattle.pdb_symbols_modules.specs.Information.{information_of, stream_names_of, number_of}
 use Rattle.pdb_symbols_modules.specs.Modules.{Module, modules_of}
-use Rattle.pdb_symbols_modules.specs.OptionalHeader.{optional_at, to_source_place, from_source_place, sections_place, original_sections_place}
+use Rattle.pdb_symbols_modules.specs.OptionalHeader.{optional_at, to_source_place}
+use Rattle.pdb_symbols_modules.specs.OptionalHeader.{from_source_place, sections_place}
+use Rattle.pdb_symbols_modules.specs.OptionalHeader.{original_sections_place}
 use Rattle.pdb_symbols_modules.specs.Streams.{Bytes, Streams, if_named}
 
 -- ---- numbers that name streams
@@ -77,7 +80,8 @@ shared s = record {
 -- the bytes of the stream at one of the four places of the optional header
 abbrev pub optional_bytes : Shared → ℕ → Bytes
 optional_bytes c place =
-    if place == to_source_place then c.to_source else (if place == from_source_place then c.from_source
+    if place == to_source_place then c.to_source
+    else (if place == from_source_place then c.from_source
     else (if place == sections_place then c.section_headers else c.original_sections))
 
 -- the stream at one of these places, where one is named
@@ -88,7 +92,7 @@ optional_in c d place = do
 
 -- ---- modules
 
--- the module of a number, counted from 0, by the bytes of stream 3; none past the list
+-- the module with that index, counted from 0, by the bytes of stream 3; none past the list
 unfoldable pub module_of_number : Bytes → ℕ → Result (Option Module) Fault
 module_of_number dbi k = do
   d ← dbi >>= dbi_of
@@ -112,7 +116,13 @@ module_bytes s k = module_number (s.at 3) k >>= s.at
 
 -- a module's own stream, with the sizes of its parts
 abbrev pub module_stream : Module → List ℕ → ModuleStream
-module_stream m bytes = record { bytes = bytes; symbols_size = m.symbols_size; c11_lines_size = m.c11_lines_size; c13_lines_size = m.c13_lines_size }
+module_stream m bytes =
+    record {
+      bytes = bytes;
+      symbols_size = m.symbols_size;
+      c11_lines_size = m.c11_lines_size;
+      c13_lines_size = m.c13_lines_size;
+    }
 
 -- what a module holds, by its entry and its stream, where it names one
 unfoldable pub info_in : Module → Bytes → Result (Option ModuleStream) Fault
@@ -125,12 +135,12 @@ abbrev pub info_if_listed : Bytes → Option Module → Result (Option ModuleStr
 info_if_listed stream None = Ok None
 info_if_listed stream (Some m) = info_in m stream
 
--- what the module of a number holds, by the bytes of stream 3 and of its own stream
+-- what the module with that index holds, by the bytes of stream 3 and of its own stream
 unfoldable pub info_from : Bytes → ℕ → Bytes → Result (Option ModuleStream) Fault
 info_from dbi k stream = module_of_number dbi k >>= info_if_listed stream
 
--- What a file holds of each module by its number: none past the list and for a module without a stream; the fault of
--- stream 3 or of the module's stream.
+-- What a file holds of each module by its number: none past the list and for a module without a
+-- stream; the fault of stream 3 or of the module's stream.
 abbrev pub Provider : Type 0
 Provider = ℕ → Result (Option ModuleStream) Fault
 

@@ -22,10 +22,10 @@ fault_in (Err e) = Some e
 unfoldable pub streams : List ℕ → Streams
 streams file = record { open_fault = fault_in (layout_of file); at = λ n. stream file n None }
 
--- the bytes of the stream of a number, where it names one: 65535 names none
+-- the bytes of the stream with that index, where it names one: 65535 names none
 unfoldable pub if_named : ℕ → Bytes → Result (Option (List ℕ)) Fault
 if_named n stream = if nat_lt n 65535 then stream >>= (λ bytes. Ok (Some bytes)) else Ok None
 
--- the bytes of the stream of a number, where the number names one
+-- the bytes of the stream with that index, where it names one
 abbrev pub stream_if_named : Streams → ℕ → Result (Option (List ℕ)) Fault
 stream_if_named s n = if_named n (s.at n)

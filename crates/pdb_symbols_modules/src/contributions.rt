@@ -4,7 +4,10 @@ ghost use Rattle.std.specs.Prelude.{◌≡◌, ◌<◌, ◌≤◌, length, IfOk,
 ghost use Rattle.pdb_container.specs.Buffer.{rest, ParsesFront};
 ghost use Rattle.pdb_container.specs.Fault.{Parses};
 ghost use Rattle.pdb_container.specs.Listing.{ending, Advances};
-ghost use Rattle.pdb_symbols_modules.specs.Contributions.{contribution_at, contribution_in as contribution_of, long_contribution_at, contribution_for, version_of, contributions_of};
+ghost use Rattle.pdb_symbols_modules.specs.Contributions.{contribution_at};
+ghost use Rattle.pdb_symbols_modules.specs.Contributions.{contribution_in as contribution_of};
+ghost use Rattle.pdb_symbols_modules.specs.Contributions.{long_contribution_at, contribution_for};
+ghost use Rattle.pdb_symbols_modules.specs.Contributions.{version_of, contributions_of};
 
 use pdb_addresses::{PdbInternalSectionOffset, SectionCharacteristics};
 use pdb_container::{Error, FallibleIterator, ParseBuffer, Result, half_at, word_at};
@@ -42,7 +45,8 @@ pub enum Version {
     V2,
 }
 
-/// An iterator over section contributions, in the order of their list. Its value in contracts is what is still to come.
+/// An iterator over section contributions, in the order of their list. Its value in contracts is
+/// what is still to come.
 #[derive(Debug, Drop)]
 pub struct DBISectionContributionIter<'c> {
     buffer: ParseBuffer<'c>,
@@ -53,7 +57,9 @@ impl<'c> Model for DBISectionContributionIter<'c> {
     ghost use Rattle.pdb_container.specs.Buffer.{rest};
     ghost use Rattle.pdb_container.specs.Listing.{Listing, listing};
     ghost use Rattle.pdb_symbols_modules.specs.Contributions.{contribution_for};
-    ghost use Rattle.pdb_symbols_modules.specs.declared.contributions.DBISectionContribution.{DBISectionContribution as Entry};
+    ghost use Rattle.pdb_symbols_modules.specs.declared.contributions.DBISectionContribution.{
+      DBISectionContribution as Entry,
+    };
 
     ghost Value = { Listing Entry };
 
@@ -61,8 +67,8 @@ impl<'c> Model for DBISectionContributionIter<'c> {
 }
 
 impl<'c> DBISectionContributionIter<'c> {
-    /// The entries of the substream, which has none where it is empty. `UnexpectedEof` where the version isn't whole,
-    /// `UnimplementedFeature` for another version.
+    /// The entries of the substream, which has none where it is empty. `UnexpectedEof` where the
+    /// version isn't whole, `UnimplementedFeature` for another version.
     #[tactic(auto, using(pdb_container::proofs::Listings::listing_end), unfolding(crate::specs::Contributions::contributions_of))]
     pub(crate) fn parse(bytes: &'c [u8]) -> Result<DBISectionContributionIter<'c>>
         ensures { Parses (λ it. it) result (contributions_of bytes.now) }
@@ -104,7 +110,7 @@ impl<'c> FallibleIterator for DBISectionContributionIter<'c> {
     }
 }
 
-/// The version of a number. `UnimplementedFeature` where it isn't known.
+/// The version with that number. `UnimplementedFeature` where it isn't known.
 fn known_version(number: u32) -> Result<Version>
     ensures { Parses (λ v. v) result (version_of number) }
 {
@@ -117,7 +123,8 @@ fn known_version(number: u32) -> Result<Version>
 
 /// An entry of a version. `UnexpectedEof`.
 fn parse_entry(version: Version, buffer: &mut ParseBuffer<'_>) -> Result<DBISectionContribution>
-    ensures value { ParsesFront (λ c. c) result (rest buffer.new) (contribution_for version (rest buffer.old)) }
+    ensures value { ParsesFront (λ c. c) result (rest buffer.new)
+        (contribution_for version (rest buffer.old)) }
     ensures shorter { IfOk result (λ _. length (rest buffer.new) < length (rest buffer.old)) }
 {
     match version {
@@ -129,7 +136,8 @@ fn parse_entry(version: Version, buffer: &mut ParseBuffer<'_>) -> Result<DBISect
 /// An entry of the older version. `UnexpectedEof`.
 #[tactic(auto, unfolding(crate::specs::Contributions::contribution_at))]
 fn parse_contribution(buffer: &mut ParseBuffer<'_>) -> Result<DBISectionContribution>
-    ensures value { ParsesFront (λ c. c) result (rest buffer.new) (contribution_at (rest buffer.old)) }
+    ensures value { ParsesFront (λ c. c) result (rest buffer.new)
+        (contribution_at (rest buffer.old)) }
     ensures shorter { IfOk result (λ _. length (rest buffer.new) < length (rest buffer.old)) }
 {
     Ok(contribution_in(buffer.take(28)?))
@@ -156,7 +164,8 @@ fn contribution_in(bytes: &[u8]) -> DBISectionContribution
 /// An entry of the newer version. `UnexpectedEof`.
 #[tactic(auto, unfolding(crate::specs::Contributions::long_contribution_at))]
 fn parse_long_contribution(buffer: &mut ParseBuffer<'_>) -> Result<DBISectionContribution>
-    ensures value { ParsesFront (λ c. c) result (rest buffer.new) (long_contribution_at (rest buffer.old)) }
+    ensures value { ParsesFront (λ c. c) result (rest buffer.new)
+        (long_contribution_at (rest buffer.old)) }
     ensures shorter { IfOk result (λ _. length (rest buffer.new) < length (rest buffer.old)) }
 {
     let contribution = parse_contribution(buffer)?;

@@ -1,10 +1,13 @@
 //! The DBI stream (3): its header, and its substreams.
 
-ghost use Rattle.std.specs.Prelude.{◌≡◌, ◌+◌, ◌≤◌, ◌<◌, ◌^◌, ◌==◌, length, if◌then◌else◌, None, Some};
+ghost use Rattle.std.specs.Prelude.{◌≡◌, ◌+◌, ◌≤◌, ◌<◌, ◌^◌, ◌==◌, length, if◌then◌else◌, None};
+ghost use Rattle.std.specs.Prelude.{Some};
 ghost use Rattle.pdb_container.specs.Fault.{Parses};
 ghost use Rattle.pdb_container.specs.Listing.{Listing};
 ghost use Rattle.pdb_symbols_modules.specs.Contributions.{contributions_of};
-ghost use Rattle.pdb_symbols_modules.specs.Dbi.{header_of, dbi_of, contributions_place, optional_header_place, substreams_end, piece as piece_of};
+ghost use Rattle.pdb_symbols_modules.specs.Dbi.{header_of, dbi_of, contributions_place};
+ghost use Rattle.pdb_symbols_modules.specs.Dbi.{optional_header_place, substreams_end};
+ghost use Rattle.pdb_symbols_modules.specs.Dbi.{piece as piece_of};
 ghost use Rattle.pdb_symbols_modules.specs.Machine.{machine_of};
 ghost use Rattle.pdb_symbols_modules.specs.Modules.{modules_of};
 ghost use Rattle.pdb_symbols_modules.specs.OptionalHeader.{optional_at};
@@ -20,8 +23,8 @@ use std::marker::Model;
 /// How many bytes the header has.
 const HEADER_SIZE: usize = 64;
 
-/// The DBI header, as far as it is used: the age, the number of a stream (65535 for none), sizes in bytes, and the
-/// machine's number.
+/// The DBI header, as far as it is used: the age, the number of a stream (65535 for none), sizes in
+/// bytes, and the machine's number.
 #[derive(Clone, Copy, Debug)]
 pub struct DBIHeader {
     age: u32,
@@ -55,8 +58,11 @@ impl<'s> Model for DebugInformation<'s> {
 }
 
 impl<'s> DebugInformation<'s> {
-    /// The DBI that a stream holds. `UnexpectedEof` where the header or a substream isn't whole, `UnimplementedFeature`
-    /// for a header without signature.
+    /// The DBI that a stream holds.
+    ///
+    /// # Errors
+    /// `UnexpectedEof` where the header or a substream isn't whole, `UnimplementedFeature` for a
+    /// header without signature.
     #[tactic(auto, unfolding(crate::specs::Dbi::dbi_of))]
     pub fn parse(stream: Stream<'s>) -> Result<DebugInformation<'s>>
         ensures { Parses (λ d. d) result (dbi_of stream.entry) }
@@ -93,8 +99,11 @@ impl<'s> DebugInformation<'s> {
         ModuleIter::over(piece(self.stream.as_slice(), HEADER_SIZE, size))
     }
 
-    /// The section contributions, in the order of the list. `UnexpectedEof`, and `UnimplementedFeature` for a version
-    /// that isn't known.
+    /// The section contributions, in the order of the list.
+    ///
+    /// # Errors
+    /// `UnexpectedEof` where the version isn't whole, `UnimplementedFeature` where it isn't known.
+    /// The iterator returns what is wrong with an entry.
     pub fn section_contributions(&self) -> Result<DBISectionContributionIter<'_>>
         ensures { Parses (λ it. it) result (contributions_of self.now.contributions) }
     {
@@ -110,7 +119,10 @@ impl<'s> DebugInformation<'s> {
         StreamIndex(self.header.symbol_records_stream)
     }
 
-    /// The number of a stream at a place of the optional debug header, counted from 0 and at most 10.
+    /// The index of the stream at a place of the optional debug header, counted from 0 and at most
+    /// 10.
+    ///
+    /// # Errors
     /// `InvalidStreamLength` where that header isn't made of whole numbers.
     pub fn optional_stream(&self, place: usize) -> Result<StreamIndex>
         requires { place ≤ 10 }
@@ -152,7 +164,8 @@ impl DBIHeader {
     }
 }
 
-/// The header of stream 3. `UnexpectedEof` where it is short, `UnimplementedFeature` where it has another signature.
+/// The header of stream 3. `UnexpectedEof` where it is short, `UnimplementedFeature` where it has
+/// another signature.
 #[tactic(auto, unfolding(crate::specs::Dbi::header_of))]
 fn parse_header(bytes: &[u8]) -> Result<DBIHeader>
     ensures { Parses (λ h. h) result (header_of bytes.now) }
@@ -177,7 +190,7 @@ fn parse_header(bytes: &[u8]) -> Result<DBIHeader>
     })
 }
 
-/// So many bytes from a place on.
+/// `size` bytes from a place on.
 fn piece(bytes: &[u8], place: usize, size: usize) -> &[u8]
     requires { place + size ≤ length bytes.now }
     ensures { result.now ≡ piece_of bytes.now place size }

@@ -1,4 +1,5 @@
-//! The information stream (1): what a database says of itself, and the names that it gives to streams.
+//! The information stream (1): what a database says of itself, and the names that it gives to
+//! streams.
 
 ghost use Rattle.std.specs.Prelude.{◌≡◌, ◌<◌, IfOk, Some, map, option_map};
 ghost use Rattle.std.specs.List.{find};
@@ -8,7 +9,9 @@ ghost use Rattle.pdb_container.specs.Fault.{Gives, Parses};
 ghost use Rattle.pdb_container.specs.Fields.{bytes_of};
 ghost use Rattle.pdb_container.specs.StringTable.{name_in};
 ghost use Rattle.pdb_indices.specs.RecordFields.{GivesFront, many_at};
-ghost use Rattle.pdb_symbols_modules.specs.Information.{information_of, stream_number, stream_name_at, bits_at, stream_names_of, number_in, is_named, number_of};
+ghost use Rattle.pdb_symbols_modules.specs.Information.{information_of, stream_number};
+ghost use Rattle.pdb_symbols_modules.specs.Information.{stream_name_at, bits_at, stream_names_of};
+ghost use Rattle.pdb_symbols_modules.specs.Information.{number_in, is_named, number_of};
 ghost use Rattle.pdb_container.specs.RawString.{raw_bytes};
 ghost use Rattle.pdb_symbols_modules.specs.NameBlock.{stream_name_seen};
 
@@ -30,7 +33,7 @@ pub struct PDBInformation<'s> {
     pub signature: u32,
     /// The age: how often it was written since.
     pub age: u32,
-    /// The GUID: 16 bytes by which it is told apart from others.
+    /// The GUID: 16 bytes that identify the database.
     pub guid: [u8; 16],
     stream: Stream<'s>,
 }
@@ -40,11 +43,20 @@ impl<'s> Model for PDBInformation<'s> {
 
     ghost Value = { Information };
 
-    ghost view = { λ i. record { version = i.version; signature = i.signature; age = i.age; guid = i.guid; bytes = i.stream } };
+    ghost view = { λ i. record {
+      version = i.version;
+      signature = i.signature;
+      age = i.age;
+      guid = i.guid;
+      bytes = i.stream;
+    } };
 }
 
 impl<'s> PDBInformation<'s> {
-    /// The information that stream 1 holds. `UnexpectedEof` where it is short.
+    /// The information that stream 1 holds.
+    ///
+    /// # Errors
+    /// `UnexpectedEof` where fewer than 28 bytes are there.
     #[tactic(auto, unfolding(crate::specs::Information::information_of))]
     pub fn parse(stream: Stream<'s>) -> Result<PDBInformation<'s>>
         ensures { Parses (λ i. i) result (information_of stream.entry) }
@@ -63,8 +75,11 @@ impl<'s> PDBInformation<'s> {
         })
     }
 
-    /// The names that the database gives to streams. `UnexpectedEof` where the table isn't whole or a name doesn't end
-    /// among the names, `OutOfMemory`.
+    /// The names that the database gives to streams.
+    ///
+    /// # Errors
+    /// `UnexpectedEof` where the table isn't whole or a name doesn't end among the names,
+    /// `OutOfMemory`.
     #[tactic(auto, unfolding(crate::specs::Information::stream_names_of))]
     pub fn stream_names(&self, alloc: Global) -> Result<StreamNames<'_>>
         ensures { Gives (λ names. names) ⊥ result (stream_names_of self.now.bytes) }
@@ -116,7 +131,8 @@ impl<'s> StreamNames<'s> {
         self.names.iter()
     }
 
-    /// The stream of the first entry with a name. `StreamNameNotFound` where there is none, or it names no stream.
+    /// The stream of the first entry with a name. `StreamNameNotFound` where there is none, or it
+    /// names no stream.
     #[tactic(auto, using(crate::proofs::NameLemmas::none_named, crate::proofs::NameLemmas::some_named))]
     pub(crate) fn find(&self, name: &[u8]) -> Result<StreamIndex>
         ensures number { Parses (λ n. n.0) result (number_of name.now self.now) }
@@ -151,7 +167,8 @@ impl StreamName<'_> {
 
 /// The first entry of a name.
 fn entry_of<'e, 'n>(entries: &'e [StreamName<'n>], name: &[u8]) -> Option<&'e StreamName<'n>>
-    ensures { option_map (λ e. e.now) result ≡ find (λ e. is_named name.now (stream_name_seen e)) entries.now }
+    ensures { option_map (λ e. e.now) result ≡ find (λ e. is_named name.now (stream_name_seen e))
+        entries.now }
 {
     entries.iter().find(|entry| entry.has_name(name))
 }
@@ -166,7 +183,7 @@ fn parse_guid(buffer: &mut ParseBuffer<'_>) -> Result<[u8; 16]>
     Ok(guid)
 }
 
-/// Words of bits, behind their count.
+/// Four-byte words of bits, after their count.
 fn take_bits<'b>(buffer: &mut ParseBuffer<'b>) -> Result<&'b [u8]>
     ensures { ParsesFront (λ bits. bits.now) result (rest buffer.new) (bits_at (rest buffer.old)) }
 {
@@ -174,8 +191,8 @@ fn take_bits<'b>(buffer: &mut ParseBuffer<'b>) -> Result<&'b [u8]>
     buffer.take(4 * count as usize)
 }
 
-/// So many entries, whose names stand among these. The room for them grows with what is read, and not with what is
-/// promised.
+/// That many entries, whose names stand among these. Memory for them grows with what is read, not
+/// with `count`.
 #[tactic(auto, using(crate::proofs::NameLemmas::names_start, crate::proofs::NameLemmas::names_more, crate::proofs::NameLemmas::names_fail, crate::proofs::NameLemmas::names_done))]
 fn parse_names<'n>(
     alloc: Global,
@@ -183,7 +200,8 @@ fn parse_names<'n>(
     buffer: &mut ParseBuffer<'_>,
     count: u32,
 ) -> Result<Vec<StreamName<'n>>>
-    ensures { GivesFront (λ v. map stream_name_seen v.items) result (rest buffer.new) (many_at (stream_name_at names.now) count (rest buffer.old)) }
+    ensures { GivesFront (λ v. map stream_name_seen v.items) result (rest buffer.new)
+        (many_at (stream_name_at names.now) count (rest buffer.old)) }
 {
     let mut entries = Vec::new(alloc);
     for _ in 0..count {
@@ -195,7 +213,8 @@ fn parse_names<'n>(
 /// An entry, whose name stands among these.
 #[tactic(auto, unfolding(crate::specs::Information::stream_name_at))]
 fn parse_name<'n>(names: &NameBlock<'n>, buffer: &mut ParseBuffer<'_>) -> Result<StreamName<'n>>
-    ensures { ParsesFront stream_name_seen result (rest buffer.new) (stream_name_at names.now (rest buffer.old)) }
+    ensures { ParsesFront stream_name_seen result (rest buffer.new)
+        (stream_name_at names.now (rest buffer.old)) }
 {
     let offset = buffer.parse_u32()?;
     let number = buffer.parse_u32()?;

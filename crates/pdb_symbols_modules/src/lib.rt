@@ -1,6 +1,7 @@
-//! An open program database: what it says of itself, its modules and their contributions, the sections and addresses of
-//! its image, and the tables and lists to which its streams lead. The layouts are those of LLVM's The PDB DBI Stream
-//! and of microsoft-pdb's dbi.h, as the pdb crate reads them.
+//! An open program database: what it says of itself, its modules and their contributions, the
+//! sections and addresses of its image, and the tables and lists to which its streams lead. The
+//! layouts are those of LLVM's The PDB DBI Stream and of microsoft-pdb's dbi.h, as the pdb crate
+//! reads them.
 #![tactic(auto)]
 
 mod contributions;

@@ -21,7 +21,7 @@ pub enum MachineType {
 }
 
 impl MachineType {
-    /// The machine of a number.
+    /// The machine with that number.
     pub(crate) fn of(number: u16) -> MachineType
         ensures { result ≡ machine_of number }
     {

@@ -21,7 +21,8 @@ use std::alloc::Global;
 use std::borrow::CowStr;
 use std::marker::Model;
 
-/// A module of the DBI stream: where its own stream is, the sizes of that stream's parts, and its names.
+/// A module of the DBI stream: where its own stream is, the sizes of that stream's parts, and its
+/// names.
 #[derive(Debug, Drop)]
 pub struct Module<'m> {
     stream: u16,
@@ -38,31 +39,41 @@ impl<'m> Model for Module<'m> {
 
     ghost Value = { modules.Module };
 
-    ghost view = { λ m. record { stream = m.stream; symbols_size = m.symbols_size; c11_lines_size = m.c11_lines_size; c13_lines_size = m.c13_lines_size; module_name = raw_bytes m.module_name; object_file_name = raw_bytes m.object_file_name } };
+    ghost view = { λ m. record {
+      stream = m.stream;
+      symbols_size = m.symbols_size;
+      c11_lines_size = m.c11_lines_size;
+      c13_lines_size = m.c13_lines_size;
+      module_name = raw_bytes m.module_name;
+      object_file_name = raw_bytes m.object_file_name;
+    } };
 }
 
 impl<'m> Module<'m> {
-    /// The name of the module, mostly that of an object file, with U+FFFD for what is no character; borrowed where it
-    /// is UTF-8, and then without memory.
+    /// The name of the module, mostly that of an object file, with U+FFFD for what is no character;
+    /// borrowed where it is UTF-8, and then without memory.
     ///
     /// # Errors
-    /// `OutOfMemory` alone.
+    /// `OutOfMemory`, and no other.
     pub fn module_name(&self, alloc: Global) -> Result<CowStr<'m>>
         ensures text { IfOk result (λ text. cow_str_bytes text ≡ utf8_lossy self.now.module_name) }
-        ensures borrowed { IsUtf8 self.now.module_name → IsOk result × IfOk result (λ text. IsBorrowedStr text) }
+        ensures borrowed { IsUtf8 self.now.module_name
+            → IsOk result × IfOk result (λ text. IsBorrowedStr text) }
         ensures memory { IsOkUnless result Error.OutOfMemory }
     {
         self.module_name.to_string(alloc)
     }
 
-    /// The name of the file from which the module was linked, mostly an archive or the object file itself, as
-    /// [`Module::module_name`].
+    /// The name of the file from which the module was linked, mostly an archive or the object file
+    /// itself, as [`Module::module_name`].
     ///
     /// # Errors
-    /// `OutOfMemory` alone.
+    /// `OutOfMemory`, and no other.
     pub fn object_file_name(&self, alloc: Global) -> Result<CowStr<'m>>
-        ensures text { IfOk result (λ text. cow_str_bytes text ≡ utf8_lossy self.now.object_file_name) }
-        ensures borrowed { IsUtf8 self.now.object_file_name → IsOk result × IfOk result (λ text. IsBorrowedStr text) }
+        ensures text { IfOk result (λ text. cow_str_bytes text
+            ≡ utf8_lossy self.now.object_file_name) }
+        ensures borrowed { IsUtf8 self.now.object_file_name
+            → IsOk result × IfOk result (λ text. IsBorrowedStr text) }
         ensures memory { IsOkUnless result Error.OutOfMemory }
     {
         self.object_file_name.to_string(alloc)
@@ -103,14 +114,14 @@ impl<'m> Module<'m> {
         self.c11_lines_size
     }
 
-    /// How many bytes of C13 line data follow behind these.
+    /// How many bytes of C13 line data follow these.
     pub fn c13_lines_size(&self) -> u32
         ensures { result ≡ self.now.c13_lines_size }
     {
         self.c13_lines_size
     }
 
-    /// What these bytes hold, as the module's own stream. `OutOfMemory` alone.
+    /// What these bytes hold, as the module's own stream. `OutOfMemory`, and no other.
     pub(crate) fn info<'s>(&self, alloc: Global, stream: Stream<'s>) -> Result<ModuleInfo<'s>>
         ensures { Gives (λ m. m) ⊥ result (Ok (module_stream self.now stream.entry)) }
     {

@@ -1,4 +1,4 @@
-//! Names that stand one behind the other, each with a NUL at its end.
+//! Names one after another, each with a NUL at its end.
 
 ghost use Rattle.std.specs.Prelude.{◌≡◌, ◌<◌, ◌≤◌, ◌^◌, length, Ok};
 ghost use Rattle.std.specs.List.{find, AllWithin};
@@ -12,7 +12,8 @@ use pdb_container::{Error, RawString, Result};
 use std::alloc::Global;
 use std::marker::Model;
 
-/// A block of names with the places of its NULs, so that a name's end is found without a walk over it.
+/// A block of names with the places of its NULs, so that a name's end is found without a walk over
+/// it.
 #[derive(Debug, Drop)]
 pub(crate) struct NameBlock<'n> {
     bytes: &'n [u8],
@@ -31,7 +32,7 @@ impl<'n> Model for NameBlock<'n> {
 }
 
 impl<'n> NameBlock<'n> {
-    /// The names in these bytes. `OutOfMemory` alone.
+    /// The names in these bytes. `OutOfMemory`, and no other.
     pub(crate) fn new(alloc: Global, bytes: &'n [u8]) -> Result<NameBlock<'n>>
         requires { length bytes.now < 2 ^ 32 }
         ensures { Gives (λ b. b) ⊥ result (Ok bytes.now) }
@@ -40,7 +41,8 @@ impl<'n> NameBlock<'n> {
         Ok(NameBlock { bytes, ends })
     }
 
-    /// The name at an offset. `UnexpectedEof` outside the block, and where no NUL in it ends the name.
+    /// The name at an offset. `UnexpectedEof` outside the block, and where no NUL in it ends the
+    /// name.
     #[tactic(auto, using(crate::proofs::NulPlaces::name_missing, crate::proofs::NulPlaces::name_found, crate::proofs::NulPlaces::found_bounds))]
     pub(crate) fn name_at(&self, offset: u32) -> Result<RawString<'n>>
         ensures { Parses raw_bytes result (name_in self.now offset) }
@@ -52,7 +54,7 @@ impl<'n> NameBlock<'n> {
     }
 }
 
-/// The places of the NULs among bytes, ascending. `OutOfMemory` alone.
+/// The places of the NULs among bytes, ascending. `OutOfMemory`, and no other.
 #[tactic(auto, using(crate::proofs::NulPlaces::places_more, crate::proofs::NulPlaces::places_pass, crate::proofs::NulPlaces::places_done))]
 fn nul_places(alloc: Global, bytes: &[u8]) -> Result<Vec<u32>>
     requires { length bytes.now < 2 ^ 32 }
@@ -68,7 +70,7 @@ fn nul_places(alloc: Global, bytes: &[u8]) -> Result<Vec<u32>>
     Ok(places)
 }
 
-/// The first of ascending places that isn't below an offset. It halves.
+/// The first of ascending places that isn't below an offset. It is a binary search.
 #[tactic(auto, using(crate::proofs::NulPlaces::none_reached, crate::proofs::NulPlaces::first_reached))]
 fn next_place(places: &[u32], offset: u32) -> Option<u32>
     requires { IsNonDecreasingBy (λ place. place) places.now }

@@ -3,10 +3,15 @@
 ghost use Rattle.std.specs.Prelude.{◌≡◌, ◌≤◌, ◌⊎◌, IfOk, IfErr, None, Some, option_map};
 ghost use Rattle.pdb_container.specs.SourceAnswers.{AnswersFrom};
 ghost use Rattle.pdb_container.specs.Fault.{fault_of, Gives, HasRisen, IsOutside};
-ghost use Rattle.pdb_symbols_modules.specs.AddressTables.{read_if_there, sections_by, original_sections_by, map_with, map_behind, address_map_by};
+ghost use Rattle.pdb_symbols_modules.specs.AddressTables.{read_if_there, sections_by};
+ghost use Rattle.pdb_symbols_modules.specs.AddressTables.{original_sections_by, map_with};
+ghost use Rattle.pdb_symbols_modules.specs.AddressTables.{map_behind, address_map_by};
 ghost use Rattle.pdb_addresses.specs.Omap.{omap_of};
 ghost use Rattle.pdb_addresses.specs.Sections.{section_headers_of};
-ghost use Rattle.pdb_symbols_modules.specs.DatabaseCalls.{information, named_stream, names, debug_information, types, ids, global_symbols_by, global_symbols, sections, address_map, module_info};
+ghost use Rattle.pdb_symbols_modules.specs.DatabaseCalls.{information, named_stream, names};
+ghost use Rattle.pdb_symbols_modules.specs.DatabaseCalls.{debug_information, types, ids};
+ghost use Rattle.pdb_symbols_modules.specs.DatabaseCalls.{global_symbols_by, global_symbols};
+ghost use Rattle.pdb_symbols_modules.specs.DatabaseCalls.{sections, address_map, module_info};
 ghost use Rattle.pdb_symbols_modules.specs.OptionalHeader.{optional_stream};
 ghost use Rattle.pdb_symbols_modules.specs.Shared.{shared};
 ghost use Rattle.pdb_symbols_modules.specs.Streams.{streams, stream_if_named};
@@ -28,8 +33,8 @@ use pdb_modules::{ModuleInfo, SymbolTable};
 use std::alloc::Global;
 use std::marker::Model;
 
-/// An open program database (PDB) over a source, which is its value in contracts. What a call returns is a function of
-/// the source's bytes, whatever was asked before.
+/// An open program database (PDB) over a source, which is its value in contracts. What a call
+/// returns is a function of the source's bytes, whatever was asked before.
 #[derive(Drop)]
 pub struct PDB<'s, S: Source> {
     container: BigMSF<'s, S>,
@@ -45,12 +50,16 @@ impl<'s, S: Source + Drop> PDB<'s, S> {
     /// Opens the program database that a source holds.
     ///
     /// # Errors
-    /// `UnrecognizedFileFormat`, `InvalidPageSize`, `PageReferenceOutOfRange`, `UnexpectedEof`; `IoError` where the
-    /// source failed.
+    /// `UnrecognizedFileFormat`, `InvalidPageSize`, `PageReferenceOutOfRange`, `UnexpectedEof`;
+    /// `IoError` where the source failed.
     #[tactic(auto, using(crate::proofs::Opening::opened_well, crate::proofs::Opening::not_opened), unfolding(crate::specs::Streams::streams))]
     pub fn open(alloc: Global, source: S) -> Result<PDB<'s, S>>
-        ensures file { IfOk result (λ p. (S.bytes p ≡ S.bytes source) × (S.failures source ≤ S.failures p) × ((streams (S.bytes source)).open_fault ≡ None)) }
-        ensures err { IfErr result (λ e. IsOutside e ((after : S) × (S.bytes after ≡ S.bytes source) × HasRisen (S.failures source) (S.failures after)) ⊎ ((streams (S.bytes source)).open_fault ≡ Some (fault_of e))) }
+        ensures file { IfOk result (λ p. (S.bytes p ≡ S.bytes source)
+            × (S.failures source ≤ S.failures p) × ((streams (S.bytes source)).open_fault ≡ None)) }
+        ensures err { IfErr result
+            (λ e. IsOutside e ((after : S) × (S.bytes after ≡ S.bytes source)
+            × HasRisen (S.failures source) (S.failures after))
+            ⊎ ((streams (S.bytes source)).open_fault ≡ Some (fault_of e))) }
     {
         let container = open_msf(alloc, source)?;
         Ok(PDB { container })
@@ -62,7 +71,8 @@ impl<'s, S: Source + Drop> PDB<'s, S> {
     /// Those of reading a stream ([`PDB::raw_stream`]); `UnexpectedEof` where it is short.
     #[tactic(auto, using(pdb_container::proofs::Outside::outside_alone), unfolding(crate::specs::DatabaseCalls::information, crate::specs::Shared::shared))]
     pub fn pdb_information(&mut self, alloc: Global) -> Result<PDBInformation<'s>>
-        ensures { AnswersFrom S.bytes S.failures self.old self.new (λ i. i) result (information (shared (streams (S.bytes self.old)))) }
+        ensures { AnswersFrom S.bytes S.failures self.old self.new (λ i. i) result
+            (information (shared (streams (S.bytes self.old)))) }
     {
         let stream = self.stream(alloc, 1)?;
         PDBInformation::parse(stream)
@@ -71,11 +81,12 @@ impl<'s, S: Source + Drop> PDB<'s, S> {
     /// The DBI stream (3): what the database says of its image.
     ///
     /// # Errors
-    /// Those of reading a stream; `UnexpectedEof` where the header or a list isn't whole, `UnimplementedFeature` for a
-    /// header of another kind.
+    /// Those of reading a stream; `UnexpectedEof` where the header or a list isn't whole,
+    /// `UnimplementedFeature` for a header of another kind.
     #[tactic(auto, using(pdb_container::proofs::Outside::outside_alone), unfolding(crate::specs::DatabaseCalls::debug_information, crate::specs::Shared::shared))]
     pub fn debug_information(&mut self, alloc: Global) -> Result<DebugInformation<'s>>
-        ensures { AnswersFrom S.bytes S.failures self.old self.new (λ d. d) result (debug_information (shared (streams (S.bytes self.old)))) }
+        ensures { AnswersFrom S.bytes S.failures self.old self.new (λ d. d) result
+            (debug_information (shared (streams (S.bytes self.old)))) }
     {
         let stream = self.stream(alloc, 3)?;
         DebugInformation::parse(stream)
@@ -84,10 +95,12 @@ impl<'s, S: Source + Drop> PDB<'s, S> {
     /// The TPI (stream 2): the table of types.
     ///
     /// # Errors
-    /// Those of reading a stream; `UnexpectedEof` and `InvalidTypeInformationHeader` for its header.
+    /// Those of reading a stream; `UnexpectedEof` and `InvalidTypeInformationHeader` for its
+    /// header.
     #[tactic(auto, using(pdb_container::proofs::Outside::outside_alone), unfolding(crate::specs::DatabaseCalls::types, crate::specs::Shared::shared))]
     pub fn type_information(&mut self, alloc: Global) -> Result<TypeInformation<'s>>
-        ensures { AnswersFrom S.bytes S.failures self.old self.new (λ t. t) result (types (shared (streams (S.bytes self.old)))) }
+        ensures { AnswersFrom S.bytes S.failures self.old self.new (λ t. t) result
+            (types (shared (streams (S.bytes self.old)))) }
     {
         let stream = self.stream(alloc, 2)?;
         ItemInformation::parse(stream)
@@ -96,10 +109,12 @@ impl<'s, S: Source + Drop> PDB<'s, S> {
     /// The IPI (stream 4): the table of ids.
     ///
     /// # Errors
-    /// Those of reading a stream; `UnexpectedEof` and `InvalidTypeInformationHeader` for its header.
+    /// Those of reading a stream; `UnexpectedEof` and `InvalidTypeInformationHeader` for its
+    /// header.
     #[tactic(auto, using(pdb_container::proofs::Outside::outside_alone), unfolding(crate::specs::DatabaseCalls::ids, crate::specs::Shared::shared))]
     pub fn id_information(&mut self, alloc: Global) -> Result<IdInformation<'s>>
-        ensures { AnswersFrom S.bytes S.failures self.old self.new (λ t. t) result (ids (shared (streams (S.bytes self.old)))) }
+        ensures { AnswersFrom S.bytes S.failures self.old self.new (λ t. t) result
+            (ids (shared (streams (S.bytes self.old)))) }
     {
         let stream = self.stream(alloc, 4)?;
         ItemInformation::parse(stream)
@@ -108,12 +123,13 @@ impl<'s, S: Source + Drop> PDB<'s, S> {
     /// The bytes of an MSF stream; `None` for the number that names none.
     ///
     /// # Errors
-    /// `StreamNotFound` where the container has no such stream, `PageReferenceOutOfRange` for a page outside the file,
-    /// `UnexpectedEof` where the container's directory isn't whole; `IoError` past the file's end, and where the source
-    /// failed; `OutOfMemory`.
+    /// `StreamNotFound` where the container has no such stream, `PageReferenceOutOfRange` for a
+    /// page outside the file, `UnexpectedEof` where the container's directory isn't whole;
+    /// `IoError` past the file's end, and where the source failed; `OutOfMemory`.
     #[tactic(auto, unfolding(crate::specs::Streams::if_named))]
     pub fn raw_stream(&mut self, alloc: Global, index: StreamIndex) -> Result<Option<Stream<'s>>>
-        ensures { AnswersFrom S.bytes S.failures self.old self.new (λ s. s) result (stream_if_named (streams (S.bytes self.old)) index.0) }
+        ensures { AnswersFrom S.bytes S.failures self.old self.new (λ s. s) result
+            (stream_if_named (streams (S.bytes self.old)) index.0) }
     {
         if index.is_none() {
             return Ok(None);
@@ -125,11 +141,12 @@ impl<'s, S: Source + Drop> PDB<'s, S> {
     /// The bytes of the named stream: the one to which the database gives a name.
     ///
     /// # Errors
-    /// `StreamNameNotFound` where no stream has the name; `UnexpectedEof` where the names aren't whole; those of
-    /// reading a stream.
+    /// `StreamNameNotFound` where no stream has the name; `UnexpectedEof` where the names aren't
+    /// whole; those of reading a stream.
     #[tactic(auto, using(pdb_container::proofs::Outside::outside_alone, pdb_container::proofs::Outside::outside_earlier, pdb_container::proofs::Outside::outside_later), unfolding(crate::specs::DatabaseCalls::named_stream, crate::specs::DatabaseCalls::information, crate::specs::Shared::shared, crate::specs::Shared::named, crate::specs::Shared::named_number))]
     pub fn named_stream(&mut self, alloc: Global, name: &[u8]) -> Result<Stream<'s>>
-        ensures { AnswersFrom S.bytes S.failures self.old self.new (λ s. s) result (named_stream (streams (S.bytes self.old)) name.now) }
+        ensures { AnswersFrom S.bytes S.failures self.old self.new (λ s. s) result
+            (named_stream (streams (S.bytes self.old)) name.now) }
     {
         let information = self.pdb_information(alloc)?;
         let names = information.stream_names(alloc)?;
@@ -140,11 +157,12 @@ impl<'s, S: Source + Drop> PDB<'s, S> {
     /// The string table (`/names`): the names of files and modules.
     ///
     /// # Errors
-    /// Those of [`PDB::named_stream`]; `UnimplementedFeature` for a table of another kind, `UnexpectedEof` where it
-    /// isn't whole.
+    /// Those of [`PDB::named_stream`]; `UnimplementedFeature` for a table of another kind,
+    /// `UnexpectedEof` where it isn't whole.
     #[tactic(auto, using(pdb_container::proofs::Outside::outside_alone), unfolding(crate::specs::DatabaseCalls::names, crate::specs::DatabaseCalls::named_stream, crate::specs::Shared::shared))]
     pub fn string_table(&mut self, alloc: Global) -> Result<StringTable<'s>>
-        ensures { AnswersFrom S.bytes S.failures self.old self.new (λ t. t) result (names (shared (streams (S.bytes self.old)))) }
+        ensures { AnswersFrom S.bytes S.failures self.old self.new (λ t. t) result
+            (names (shared (streams (S.bytes self.old)))) }
     {
         let stream = self.named_stream(alloc, b"/names")?;
         StringTable::parse(stream)
@@ -156,7 +174,8 @@ impl<'s, S: Source + Drop> PDB<'s, S> {
     /// Those of [`PDB::debug_information`], and of [`PDB::global_symbols_by`].
     #[tactic(auto, using(pdb_container::proofs::Outside::outside_earlier, pdb_container::proofs::Outside::outside_later, crate::proofs::SharedSteps::symbols_read), unfolding(crate::specs::DatabaseCalls::global_symbols))]
     pub fn global_symbols(&mut self, alloc: Global) -> Result<SymbolTable<'s>>
-        ensures { AnswersFrom S.bytes S.failures self.old self.new (λ s. s) result (global_symbols (shared (streams (S.bytes self.old)))) }
+        ensures { AnswersFrom S.bytes S.failures self.old self.new (λ s. s) result
+            (global_symbols (shared (streams (S.bytes self.old)))) }
     {
         let debug_information = self.debug_information(alloc)?;
         self.global_symbols_by(alloc, &debug_information)
@@ -172,7 +191,9 @@ impl<'s, S: Source + Drop> PDB<'s, S> {
         alloc: Global,
         debug_information: &DebugInformation<'_>,
     ) -> Result<SymbolTable<'s>>
-        ensures { AnswersFrom S.bytes S.failures self.old self.new (λ s. s) result (global_symbols_by debug_information.now.symbol_records_stream ((streams (S.bytes self.old)).at debug_information.now.symbol_records_stream)) }
+        ensures { AnswersFrom S.bytes S.failures self.old self.new (λ s. s) result
+            (global_symbols_by debug_information.now.symbol_records_stream
+            ((streams (S.bytes self.old)).at debug_information.now.symbol_records_stream)) }
     {
         let index = debug_information.symbol_records_stream();
         match self.raw_stream(alloc, index)? {
@@ -181,8 +202,8 @@ impl<'s, S: Source + Drop> PDB<'s, S> {
         }
     }
 
-    /// The module information: what a module's own stream holds; `None` where the module has none. It depends on that
-    /// stream and on the sizes that the module states alone.
+    /// The module information: what a module's own stream holds; `None` where the module has none.
+    /// It depends on that stream and on the sizes that the module states alone.
     ///
     /// # Errors
     /// Those of reading a stream ([`PDB::raw_stream`]).
@@ -192,7 +213,8 @@ impl<'s, S: Source + Drop> PDB<'s, S> {
         alloc: Global,
         module: &Module<'_>,
     ) -> Result<Option<ModuleInfo<'s>>>
-        ensures { AnswersFrom S.bytes S.failures self.old self.new (λ m. m) result (module_info (streams (S.bytes self.old)) «module».now) }
+        ensures { AnswersFrom S.bytes S.failures self.old self.new (λ m. m) result
+            (module_info (streams (S.bytes self.old)) «module».now) }
     {
         match self.raw_stream(alloc, module.stream())? {
             None => Ok(None),
@@ -203,24 +225,28 @@ impl<'s, S: Source + Drop> PDB<'s, S> {
     /// The section headers of the image; `None` where the database has no list of them.
     ///
     /// # Errors
-    /// Those of [`PDB::debug_information`]; behind these `InvalidStreamLength` for a list of streams that isn't made of
-    /// whole numbers; those of reading a stream; `UnexpectedEof` for a section header that isn't whole.
+    /// Those of [`PDB::debug_information`]; then `InvalidStreamLength` for a list of streams that
+    /// isn't made of whole numbers; those of reading a stream; `UnexpectedEof` for a section header
+    /// that isn't whole.
     #[tactic(auto, using(pdb_container::proofs::Outside::outside_earlier, pdb_container::proofs::Outside::outside_later, crate::proofs::SharedSteps::sections_read), unfolding(crate::specs::DatabaseCalls::sections))]
     pub fn sections(&mut self, alloc: Global) -> Result<Option<Vec<ImageSectionHeader>>>
-        ensures { AnswersFrom S.bytes S.failures self.old self.new (option_map (λ v. v.items)) result (sections (shared (streams (S.bytes self.old)))) }
+        ensures { AnswersFrom S.bytes S.failures self.old self.new (option_map (λ v. v.items))
+            result (sections (shared (streams (S.bytes self.old)))) }
     {
         let debug_information = self.debug_information(alloc)?;
         self.sections_by(alloc, &debug_information)
     }
 
-    /// The address map: the ways between the addresses of the image and those of the database.
+    /// The address map: translates addresses of the image to those of the database, and back.
     ///
     /// # Errors
-    /// The first fault of: [`PDB::sections`]; the sections before the code was moved, where there is a list of them, as
-    /// of sections; the maps to and from these, as of reading a stream, and `InvalidStreamLength`.
+    /// The first fault of: [`PDB::sections`]; the sections before the code was moved, where there
+    /// is a list of them, as of sections; the maps to and from these, as of reading a stream, and
+    /// `InvalidStreamLength`.
     #[tactic(auto, using(pdb_container::proofs::Outside::outside_earlier, pdb_container::proofs::Outside::outside_later, crate::proofs::SharedSteps::address_map_read), unfolding(crate::specs::DatabaseCalls::address_map))]
     pub fn address_map(&mut self, alloc: Global) -> Result<AddressMap<'s>>
-        ensures { AnswersFrom S.bytes S.failures self.old self.new (λ m. m) result (address_map (shared (streams (S.bytes self.old)))) }
+        ensures { AnswersFrom S.bytes S.failures self.old self.new (λ m. m) result
+            (address_map (shared (streams (S.bytes self.old)))) }
     {
         let debug_information = self.debug_information(alloc)?;
         self.address_map_by(alloc, &debug_information)
@@ -229,7 +255,8 @@ impl<'s, S: Source + Drop> PDB<'s, S> {
     /// The bytes of a stream.
     #[tactic(auto, unfolding(crate::specs::Streams::streams))]
     fn stream(&mut self, alloc: Global, number: u32) -> Result<Stream<'s>>
-        ensures { AnswersFrom S.bytes S.failures self.old self.new (λ s. s) result ((streams (S.bytes self.old)).at number) }
+        ensures { AnswersFrom S.bytes S.failures self.old self.new (λ s. s) result
+            ((streams (S.bytes self.old)).at number) }
     {
         self.container.get(alloc, number, None)
     }
@@ -243,24 +270,27 @@ impl<'s, S: Source + Drop> PDB<'s, S> {
         place: usize,
     ) -> Result<Option<Stream<'s>>>
         requires { place ≤ 10 }
-        ensures { AnswersFrom S.bytes S.failures self.old self.new (λ s. s) result (optional_stream (streams (S.bytes self.old)) debug_information.now place) }
+        ensures { AnswersFrom S.bytes S.failures self.old self.new (λ s. s) result
+            (optional_stream (streams (S.bytes self.old)) debug_information.now place) }
     {
         let index = debug_information.optional_stream(place)?;
         self.raw_stream(alloc, index)
     }
 
-    /// The section headers of the image, by the DBI that was read before; `None` where the database has no list of
-    /// them.
+    /// The section headers of the image, by the DBI that was read before; `None` where the database
+    /// has no list of them.
     ///
     /// # Errors
-    /// Those of [`PDB::sections`] behind stream 3.
+    /// Those of [`PDB::sections`], except those of stream 3.
     #[tactic(auto, using(pdb_container::proofs::Outside::outside_alone), unfolding(crate::specs::AddressTables::sections_by))]
     pub fn sections_by(
         &mut self,
         alloc: Global,
         debug_information: &DebugInformation<'_>,
     ) -> Result<Option<Vec<ImageSectionHeader>>>
-        ensures { AnswersFrom S.bytes S.failures self.old self.new (option_map (λ v. v.items)) result (sections_by (optional_stream (streams (S.bytes self.old)) debug_information.now)) }
+        ensures { AnswersFrom S.bytes S.failures self.old self.new (option_map (λ v. v.items))
+            result
+            (sections_by (optional_stream (streams (S.bytes self.old)) debug_information.now)) }
     {
         let stream = self.optional_stream(alloc, debug_information, SECTION_HEADERS)?;
         section_headers_in(alloc, stream)
@@ -273,24 +303,28 @@ impl<'s, S: Source + Drop> PDB<'s, S> {
         alloc: Global,
         debug_information: &DebugInformation<'_>,
     ) -> Result<Option<Vec<ImageSectionHeader>>>
-        ensures { AnswersFrom S.bytes S.failures self.old self.new (option_map (λ v. v.items)) result (original_sections_by (optional_stream (streams (S.bytes self.old)) debug_information.now)) }
+        ensures { AnswersFrom S.bytes S.failures self.old self.new (option_map (λ v. v.items))
+            result
+            (original_sections_by
+            (optional_stream (streams (S.bytes self.old)) debug_information.now)) }
     {
         let stream = self.optional_stream(alloc, debug_information, ORIGINAL_SECTION_HEADERS)?;
         section_headers_in(alloc, stream)
     }
 
-    /// The address map, by the DBI that was read before: the ways between the addresses of the image and those of the
-    /// database.
+    /// The address map, by the DBI that was read before. It translates addresses of the image to
+    /// those of the database, and back.
     ///
     /// # Errors
-    /// Those of [`PDB::address_map`] behind stream 3.
+    /// Those of [`PDB::address_map`], except those of stream 3.
     #[tactic(auto, using(pdb_container::proofs::Outside::outside_earlier, pdb_container::proofs::Outside::outside_later), unfolding(crate::specs::AddressTables::address_map_by))]
     pub fn address_map_by(
         &mut self,
         alloc: Global,
         debug_information: &DebugInformation<'_>,
     ) -> Result<AddressMap<'s>>
-        ensures { AnswersFrom S.bytes S.failures self.old self.new (λ m. m) result (address_map_by (optional_stream (streams (S.bytes self.old)) debug_information.now)) }
+        ensures { AnswersFrom S.bytes S.failures self.old self.new (λ m. m) result
+            (address_map_by (optional_stream (streams (S.bytes self.old)) debug_information.now)) }
     {
         let image = self.sections_by(alloc, debug_information)?;
         let image = image.unwrap_or(Vec::new(alloc));
@@ -298,7 +332,7 @@ impl<'s, S: Source + Drop> PDB<'s, S> {
         self.map_with(alloc, debug_information, image, original)
     }
 
-    /// The ways between these sections.
+    /// The address map between these sections.
     fn map_with(
         &mut self,
         alloc: Global,
@@ -306,7 +340,9 @@ impl<'s, S: Source + Drop> PDB<'s, S> {
         image: Vec<ImageSectionHeader>,
         original: Option<Vec<ImageSectionHeader>>,
     ) -> Result<AddressMap<'s>>
-        ensures { AnswersFrom S.bytes S.failures self.old self.new (λ m. m) result (map_with (optional_stream (streams (S.bytes self.old)) debug_information.now) image.items (option_map (λ v. v.items) original)) }
+        ensures { AnswersFrom S.bytes S.failures self.old self.new (λ m. m) result
+            (map_with (optional_stream (streams (S.bytes self.old)) debug_information.now)
+            image.items (option_map (λ v. v.items) original)) }
     {
         match original {
             None => Ok(AddressMap::new(alloc, None, image, None, None)?),
@@ -314,7 +350,7 @@ impl<'s, S: Source + Drop> PDB<'s, S> {
         }
     }
 
-    /// The ways between the sections of the image and those before its code was moved.
+    /// The address map between the sections of the image and those before its code was moved.
     #[tactic(auto, using(pdb_container::proofs::Outside::outside_alone, pdb_container::proofs::Outside::outside_earlier, pdb_container::proofs::Outside::outside_later), unfolding(crate::specs::AddressTables::map_behind))]
     fn map_between(
         &mut self,
@@ -323,7 +359,9 @@ impl<'s, S: Source + Drop> PDB<'s, S> {
         image: Vec<ImageSectionHeader>,
         original: Vec<ImageSectionHeader>,
     ) -> Result<AddressMap<'s>>
-        ensures { AnswersFrom S.bytes S.failures self.old self.new (λ m. m) result (map_behind (optional_stream (streams (S.bytes self.old)) debug_information.now) image.items original.items) }
+        ensures { AnswersFrom S.bytes S.failures self.old self.new (λ m. m) result
+            (map_behind (optional_stream (streams (S.bytes self.old)) debug_information.now)
+            image.items original.items) }
     {
         let to_source = self.optional_stream(alloc, debug_information, OMAP_TO_SOURCE)?;
         let to_original = omap_in(alloc, to_source)?;
@@ -338,7 +376,8 @@ fn section_headers_in(
     alloc: Global,
     stream: Option<Stream<'_>>,
 ) -> Result<Option<Vec<ImageSectionHeader>>>
-    ensures { Gives (option_map (λ v. v.items)) ⊥ result (read_if_there section_headers_of stream.entry) }
+    ensures { Gives (option_map (λ v. v.items)) ⊥ result
+        (read_if_there section_headers_of stream.entry) }
 {
     match stream {
         None => Ok(None),

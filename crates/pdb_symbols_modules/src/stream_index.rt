@@ -20,13 +20,17 @@ impl StreamIndex {
         self.0 == 0xffff
     }
 
-    /// The bytes of the stream, as [`PDB::raw_stream`].
+    /// The bytes of the stream, as [`PDB::raw_stream`] returns them.
+    ///
+    /// # Errors
+    /// Those of [`PDB::raw_stream`].
     pub fn get<'s, S: Source + Drop>(
         self,
         alloc: Global,
         pdb: &mut PDB<'s, S>,
     ) -> Result<Option<Stream<'s>>>
-        ensures { AnswersFrom S.bytes S.failures pdb.old pdb.new (λ s. s) result (stream_if_named (streams (S.bytes pdb.old)) self.0) }
+        ensures { AnswersFrom S.bytes S.failures pdb.old pdb.new (λ s. s) result
+            (stream_if_named (streams (S.bytes pdb.old)) self.0) }
     {
         pdb.raw_stream(alloc, self)
     }

@@ -6,4 +6,5 @@ use Rattle.pdb_image.proofs.SectionSteps.{place_from}
 use Rattle.pdb_image.proofs.code_view.file_place.Given as goal
 
 abbrev pub invariant-loop-header : goal.invariant-loop-header
-invariant-loop-header l = place_from l.address l.sections l.header-index ≡ place_of l.address (map header_in l.sections)
+invariant-loop-header l = place_from l.address l.sections l.header-index
+    ≡ place_of l.address (map header_in l.sections)

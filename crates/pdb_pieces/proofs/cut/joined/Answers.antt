@@ -15,7 +15,9 @@ loop-span-preserved c =
       | then-span+in_ok-push_joined w ↦
           rw (ap (λ (x : _). x.items) w.wide-is) record {
             wide = w.in_ok-push_joined.ensures.wide;
-            law = λ p. w.in_ok-push_joined.ensures.best p ∙ ap (λ o. better o (mark_over span p)) (v.law p) ∙ sym (best-take_more spans i no_span p here);
+            law = λ p. w.in_ok-push_joined.ensures.best p
+                ∙ ap (λ o. better o (mark_over span p)) (v.law p)
+                ∙ sym (best-take_more spans i no_span p here);
           }
       | else-span w ↦
           rw (ap (λ (x : _). x.items) w.wide-is) record {

@@ -1,5 +1,6 @@
 use Rattle.std.proofs.Common.{◌<◌, length, arith}
-use Rattle.pdb_pieces.proofs.Covers.{stands_before_first, stands_in_first, first_reaches, first_reaches_end, first_starts}
+use Rattle.pdb_pieces.proofs.Covers.{stands_before_first, stands_in_first, first_reaches}
+use Rattle.pdb_pieces.proofs.Covers.{first_reaches_end, first_starts}
 use Rattle.pdb_pieces.proofs.cut.look_ahead.Goals as goal
 
 pub returns-then-from-span-clause-stands : goal.returns-then-from-span-clause-stands

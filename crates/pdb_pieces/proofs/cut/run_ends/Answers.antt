@@ -17,7 +17,9 @@ loop-i-preserved c =
             in_range = omega arith;
             from = i;
             before = omega arith;
-            done = run_ended spans c.loop-i.ends.items _ v.from i c.loop-i.end v.done v.before v.in_range v.run v.bound (ap (λ (x : _). x.items) w.ends-is ∙ w.in_ok-push.ensures.items);
+            done = run_ended spans c.loop-i.ends.items _ v.from i c.loop-i.end v.done v.before
+                v.in_range v.run v.bound (ap (λ (x : _). x.items) w.ends-is
+                ∙ w.in_ok-push.ensures.items);
             run = run_first spans i no_span here wide;
             bound = omega arith;
           }
@@ -27,7 +29,8 @@ loop-i-preserved c =
             from = v.from;
             before = omega arith;
             done = subst (λ (x : _). AreRuns spans 0 x.items v.from) (sym w.ends-is) v.done;
-            run = run_more spans v.from i c.loop-i.end no_span v.before here v.run w.if-span-end.false wide;
+            run = run_more spans v.from i c.loop-i.end no_span v.before here v.run
+                w.if-span-end.false wide;
             bound = omega arith;
           }
     ]
@@ -37,4 +40,6 @@ returns c =
     let v = c.loop-i.invariant in
     let spans = c.args.spans.now in
     let all : c.loop-i.i ≡ length spans = omega arith in
-    subst (AreRuns spans 0 _) all (run_ended spans c.loop-i.ends.items _ v.from c.loop-i.i c.loop-i.end v.done v.before v.in_range v.run v.bound c.in_ok-push-2.ensures.items)
+    subst (AreRuns spans 0 _) all
+    (run_ended spans c.loop-i.ends.items _ v.from c.loop-i.i c.loop-i.end v.done v.before
+    v.in_range v.run v.bound c.in_ok-push-2.ensures.items)

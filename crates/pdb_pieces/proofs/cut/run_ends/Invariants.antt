@@ -3,7 +3,7 @@ use Rattle.std.specs.List.{slice_range}
 use Rattle.pdb_pieces.specs.Spans.{ArePieces, AreRuns}
 use Rattle.pdb_pieces.proofs.cut.run_ends.Given as goal
 
--- behind the runs that have ended lies the one that goes on
+-- after the runs that have ended comes the one that goes on
 abbrev pub invariant-loop-i : goal.invariant-loop-i
 invariant-loop-i l = record {
   in_range : l.i ≤ length l.spans;

@@ -5,4 +5,5 @@ use Rattle.pdb_subsections.proofs.ExportSteps.{first_from}
 use Rattle.pdb_subsections.proofs.exports.first_global.Given as goal
 
 abbrev pub invariant-loop-pair : goal.invariant-loop-pair
-invariant-loop-pair l = first_from l.pairs l.pair-index l.local ≡ first_export (exports_by_eight l.pairs) l.local
+invariant-loop-pair l = first_from l.pairs l.pair-index l.local
+    ≡ first_export (exports_by_eight l.pairs) l.local

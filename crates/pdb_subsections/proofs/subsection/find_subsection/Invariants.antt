@@ -4,7 +4,8 @@ use Rattle.pdb_subsections.proofs.subsection.find_subsection.Given as goal
 
 -- none of the kind was passed over
 abbrev pub invariant-loop-subsection : goal.invariant-loop-subsection
-invariant-loop-subsection l = first_of l.fn.kind l.subsections ≡ first_of l.fn.kind (subsections_of l.fn.bytes)
+invariant-loop-subsection l = first_of l.fn.kind l.subsections
+    ≡ first_of l.fn.kind (subsections_of l.fn.bytes)
 
 abbrev pub decreases-loop-subsection : goal.decreases-loop-subsection
 decreases-loop-subsection l = length l.subsections.items

@@ -5,4 +5,5 @@ use Rattle.pdb_symbols_modules.proofs.name_block.nul_places.Goals as goal
 
 pub returns : goal.returns
 returns c =
-    places_done c.args.bytes.now c.loop-place.places.items (nul_places 0 c.args.bytes.now) c.loop-place.place (omega (arith, c.loop-place-test.false)) c.loop-place.invariant
+    places_done c.args.bytes.now c.loop-place.places.items (nul_places 0 c.args.bytes.now)
+    c.loop-place.place (omega (arith, c.loop-place-test.false)) c.loop-place.invariant

@@ -4,7 +4,8 @@ use Rattle.pdb_inlinees.proofs.line_iterator.InlineeLineIteratorFallibleIterator
 
 -- what is still to come is what was to come before the loop
 abbrev pub invariant-loop-annotation : goal.invariant-loop-annotation
-invariant-loop-annotation l = to_come l.self-inside.origin l.self-inside.waiting l.self-inside.annotations ≡ l.fn.self
+invariant-loop-annotation l = to_come l.self-inside.origin l.self-inside.waiting
+    l.self-inside.annotations ≡ l.fn.self
 
 abbrev pub decreases-loop-annotation : goal.decreases-loop-annotation
 decreases-loop-annotation l = length l.self-inside.annotations.items

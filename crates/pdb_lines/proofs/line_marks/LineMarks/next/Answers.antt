@@ -9,4 +9,6 @@ returns-then-is_empty c =
     let empty : length c.loop-mark.self.bytes.now ≡ 0 = eqb-true _ _ (sym c.if-is_empty.ensures) in
     let first = sym c.in-Some-first.ensures.value in
     let next = c.first_blocks-self.ensures in
-    c.loop-mark.invariant ∙ rw (c.section.ensures, c.end.ensures) (mark_of_end_here c.in-Some-first.subsection.now _ _ _ _ _ _ none.0 none.1 first empty (behind_first _) next)
+    c.loop-mark.invariant ∙ rw (c.section.ensures, c.end.ensures)
+    (mark_of_end_here c.in-Some-first.subsection.now _ _ _ _ _ _ none.0 none.1 first empty
+    (behind_first _) next)
