@@ -15,8 +15,8 @@ const ALWAYS: u64 = 0x400_0000;
 /// How many times their own length may be copied beside that.
 const TIMES: u64 = 7;
 
-/// Bytes that are shared, as a file's. A view of one slice shares them, and any other has a copy. No
-/// more is copied in all than 64 MB and seven times the bytes themselves.
+/// Bytes that are shared, as a file's. A view of one slice shares them, and any other has a copy.
+/// No more is copied in all than 64 MB and seven times the bytes themselves.
 ///
 /// A file's streams can name the same pages over and over. This bounds what copies of them take.
 #[derive(Debug, Drop)]
