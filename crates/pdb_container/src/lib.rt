@@ -2,6 +2,7 @@
 //! bytes. The format is that of microsoft-pdb's msf.h and of LLVM's The MSF File Format.
 #![tactic(auto)]
 
+mod bounded_bytes;
 mod buffer;
 mod directory;
 mod distinct_pages;
@@ -18,6 +19,7 @@ mod raw_string;
 mod source;
 mod string_table;
 
+pub use bounded_bytes::BoundedBytes;
 pub use buffer::{FromBuffer, ParseBuffer};
 pub use entry_list::parse_entries;
 pub use error::{Error, ModuleFault, Result, kind_name};

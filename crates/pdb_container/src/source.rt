@@ -164,7 +164,7 @@ fn copy_slices(alloc: Global, file: &[u8], slices: &[SourceSlice]) -> io::Result
 
 /// How many bytes the slices have, at most `usize::MAX`; `None` where one doesn't lie within the file.
 #[tactic(auto, using(crate::proofs::Bytes::within_more, crate::proofs::Bytes::within_fail, crate::proofs::Bytes::within_done, crate::proofs::Slices::places_len_more))]
-fn size_within(file: &[u8], slices: &[SourceSlice]) -> Option<usize>
+pub fn size_within(file: &[u8], slices: &[SourceSlice]) -> Option<usize>
     ensures within { MatchOption result (bytes_at file.now (places_of slices.now) ≡ Err (IoError UnexpectedEof))
         (λ _. IsOk (bytes_at file.now (places_of slices.now))) }
     ensures size { IfSome result (λ size. size ≡ min (length (places_of slices.now)) (2 ^ 64 - 1)) }

@@ -1,11 +1,13 @@
 //! The public calls that take memory, each once where there is enough.
 
+use bytes::Bytes;
 use pdb_container::{
-    Error, Msf, PageList, ParseBuffer, RawString, Source, SourceSlice, Stream, StringRef,
-    StringTable, open_msf,
+    BoundedBytes, Error, Msf, PageList, ParseBuffer, RawString, Source, SourceSlice, Stream,
+    StringRef, StringTable, open_msf,
 };
 use pdb_samples::{Container, PageOrder, SampleError};
 use std::alloc::Global;
+use std::io::ErrorKind;
 use std::test::Fail;
 
 /// A table of one name, which isn't UTF-8.
@@ -97,10 +99,31 @@ fn has_pages(alloc: Global) -> Result<[bool; 2], Error> {
     Ok([joined, are_cut(&list)])
 }
 
+/// Whether 64 MB of a small file are copied and no more, and its bytes are shared after that.
+fn is_bounded(alloc: Global) -> Result<bool, Fail> {
+    let bytes = Bytes::from_vec(vec![in alloc; 7u8; 0x1000]?)?;
+    let mut file = BoundedBytes::new(bytes);
+    let slices = vec![in alloc; slice(0, 0x1000); 0x1000]?;
+    for _ in 0..4 {
+        file.view(alloc, slices.as_slice())?;
+    }
+    let refused = match file.view(alloc, slices.as_slice()) {
+        Ok(_) => false,
+        Err(cause) => cause.kind() == ErrorKind::OutOfMemory,
+    };
+    let shared = file.view(alloc, &[slice(0, 0x1000)])?;
+    Ok(refused && shared.as_slice().len() == 0x1000)
+}
+
 /// Whether each call answers as written.
-fn are_answered(alloc: Global) -> Result<([bool; 3], [bool; 2]), Fail> {
+fn are_answered(alloc: Global) -> Result<([bool; 4], [bool; 2]), Fail> {
     Ok((
-        [has_name(alloc)?, has_text(alloc)?, is_viewed(alloc)?],
+        [
+            has_name(alloc)?,
+            has_text(alloc)?,
+            is_viewed(alloc)?,
+            is_bounded(alloc)?,
+        ],
         has_pages(alloc)?,
     ))
 }
@@ -108,7 +131,7 @@ fn are_answered(alloc: Global) -> Result<([bool; 3], [bool; 2]), Fail> {
 // The only test that fails where some allocation is refused, and the others ask again.
 #[test]
 fn first_calls_in_ample_memory(rt: HostRuntime) -> Result<(), Fail> {
-    assert_eq!(rt; are_answered(rt.alloc())?, ([true; 3], [true; 2]));
+    assert_eq!(rt; are_answered(rt.alloc())?, ([true; 4], [true; 2]));
     Ok(())
 }
 

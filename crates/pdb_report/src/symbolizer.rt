@@ -14,19 +14,20 @@ ghost use Rattle.pdb_symbols_modules.specs.Streams.{streams};
 use bytes::Bytes;
 use pdb_addr2line::{Context, ContextPdbData, KeptModules, Tables, read_tables};
 use pdb_addresses::AddressMap;
+use pdb_container::BoundedBytes;
 use pdb_report_texts::LoadFault;
 use pdb_symbols_modules::{DebugInformation, PDB};
 use std::alloc::Global;
 use std::marker::Model;
 
 /// An open program database over a file's bytes.
-type Database = PDB<'static, Bytes>;
+type Database = PDB<'static, BoundedBytes>;
 
 /// A symbolizer: a program database that was loaded, with what contexts are made of. Its value in contracts is the file's
 /// bytes.
 pub struct Symbolizer {
     pdb: Database,
-    held: ContextPdbData<'static, 'static, Bytes>,
+    held: ContextPdbData<'static, 'static, BoundedBytes>,
 }
 
 impl Model for Symbolizer {
@@ -71,7 +72,7 @@ fn read_in_order(
 fn read_held(
     alloc: Global,
     pdb: &mut Database,
-) -> Result<ContextPdbData<'static, 'static, Bytes>, LoadFault>
+) -> Result<ContextPdbData<'static, 'static, BoundedBytes>, LoadFault>
     requires { (streams pdb.old).open_fault ≡ None }
     ensures same { OnOk result (pdb.new ≡ pdb.old) }
     ensures kept { IfOk result (λ held. IsKept pdb.old held) }
@@ -102,14 +103,14 @@ fn open_file(alloc: Global, file: Bytes) -> Result<Symbolizer, LoadFault>
     ensures loaded { OnOk result (load_fault (streams file) ≡ None) }
     ensures refused { IfErr result (λ e. Refuses e (load_fault (streams file))) }
 {
-    let pdb = PDB::open(alloc, file)?;
+    let pdb = PDB::open(alloc, BoundedBytes::new(file))?;
     load(alloc, pdb)
 }
 
 impl Symbolizer {
     /// Loads the program database of a file's bytes: everything that keeps the file from being answered is found here, and
     /// everything that answers need is read. A module's own stream keeps no file from being loaded. No stream is copied that lies in
-    /// the file in one piece.
+    /// the file in one piece, and copies take no more than 64 MB and seven times the file's bytes.
     ///
     /// # Errors
     /// The first fault, in the order in which a file is read: the container; stream 3 and its header; the stream of symbol

@@ -1,0 +1,71 @@
+//! Bytes of which only so many are copied.
+
+ghost use Rattle.std.specs.Prelude.{◌≡◌};
+
+use crate::source::{ReadView, Source, SourceSlice, size_within};
+use bytes::Bytes;
+use std::alloc::Global;
+use std::io;
+use std::io::ErrorKind;
+use std::marker::Model;
+
+/// How many bytes may be copied of bytes of any length: 64 MB.
+const ALWAYS: u64 = 0x400_0000;
+
+/// How many times their own length may be copied beside that.
+const TIMES: u64 = 7;
+
+/// Bytes that are shared, as a file's. A view of one slice shares them, and any other has a copy.
+/// No more is copied in all than 64 MB and seven times the bytes themselves.
+///
+/// A file's streams can name the same pages over and over. This bounds what copies of them take.
+#[derive(Debug, Drop)]
+pub struct BoundedBytes {
+    bytes: Bytes,
+    /// How many more may be copied.
+    left: u64,
+}
+
+impl Model for BoundedBytes {
+    ghost use Rattle.std.specs.Prelude.{ℕ, List};
+
+    ghost Value = { List ℕ };
+
+    ghost view = { λ b. b.bytes };
+}
+
+impl BoundedBytes {
+    /// These bytes, of which nothing was copied yet.
+    pub fn new(bytes: Bytes) -> BoundedBytes
+        ensures { result ≡ bytes }
+    {
+        let len = bytes.len() as u64;
+        let left = len.saturating_mul(TIMES).saturating_add(ALWAYS);
+        BoundedBytes { bytes, left }
+    }
+}
+
+/// Past the bound a view is refused by `OutOfMemory`, and counts for nothing.
+impl Source for BoundedBytes {
+    ghost bytes = { λ b. b };
+
+    ghost failures = { λ _. 0 };
+
+    fn view(&mut self, alloc: Global, slices: &[SourceSlice]) -> io::Result<ReadView> {
+        let copied = match size_within(self.bytes.as_slice(), slices) {
+            None => return Err(ErrorKind::UnexpectedEof.into()),
+            Some(_) if slices.len() == 1 => 0,
+            Some(size) => size as u64,
+        };
+        if self.left < copied {
+            return Err(ErrorKind::OutOfMemory.into());
+        }
+        let view = self.bytes.view(alloc, slices)?;
+        self.left -= copied;
+        Ok(view)
+    }
+
+    fn failures(&self) -> u64 {
+        0
+    }
+}
