@@ -26,7 +26,7 @@ fn sample(alloc: Global) -> Result<Vec<u8>, SampleError> {
     container.bytes(alloc)
 }
 
-/// Stream 1, behind eight calls for stream 0.
+/// Stream 1, after eight calls for stream 0.
 fn names_stream(alloc: Global) -> Result<Stream<'static>, Fail> {
     let mut container = open_msf(alloc, sample(alloc)?)?;
     for _ in 0..8 {
@@ -53,7 +53,7 @@ fn has_text(alloc: Global) -> Result<bool, Error> {
     Ok(text.as_str() == "\u{fffd}")
 }
 
-/// So many bytes from a place on.
+/// `size` bytes from a place on.
 fn slice(offset: u64, size: usize) -> SourceSlice {
     SourceSlice { offset, size }
 }

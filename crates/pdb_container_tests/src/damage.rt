@@ -45,9 +45,9 @@ pub fn write_numbers(bytes: &mut [u8], numbers: &[(usize, u32)]) -> Result<(), S
     Ok(())
 }
 
-/// A file with pages of 0x100 bytes, and numbers written over its bytes at places. Page 1 is the list, 2 the directory,
-/// 3 to 22 are stream 0, and 23 is stream 3; stream 1 is absent and stream 2 empty. The directory's 26 numbers take
-/// 104 bytes.
+/// A file with pages of 0x100 bytes, and numbers written over its bytes at places. Page 1 is the
+/// list, 2 the directory, 3 to 22 are stream 0, and 23 is stream 3; stream 1 is absent and stream 2
+/// empty. The directory's 26 numbers take 104 bytes.
 fn damaged(alloc: Global, numbers: &[(usize, u32)]) -> Result<Vec<u8>, SampleError> {
     let lengths = [Some(5000), None, Some(0), Some(10)];
     let description = container(alloc, 0x100, PageOrder::Natural, &lengths)?;
@@ -85,7 +85,8 @@ const PAGE: usize = PAGES_0 + 8;
 /// Three pages of stream 0, all of which are page 9.
 const ONE_PAGE: Numbers = &[(SIZE_0, 768), (PAGES_0, 9), (PAGES_0 + 4, 9), (PAGE, 9)];
 
-/// Numbers that are written over a file, a stream, a limit, and how many bytes the file gives of it.
+/// Numbers that are written over a file, a stream, a limit, and how many bytes the file gives of
+/// it.
 type Row = (Numbers, u32, Option<usize>, Result<usize, Error>);
 
 const ROWS: &[Row] = &[
@@ -135,8 +136,8 @@ const ROWS: &[Row] = &[
         None,
         Err(Error::PageReferenceOutOfRange(0)),
     ),
-    // Directories: a page past the number used, one past the file's end, no count, too few sizes, sizes alone, and
-    // the pages of stream 0 alone.
+    // Directories: a page past the number used, one past the file's end, no count, too few sizes,
+    // sizes alone, and the pages of stream 0 alone.
     (
         &[(DIRECTORY_PAGE, 24)],
         0,
@@ -160,8 +161,8 @@ const ROWS: &[Row] = &[
     (&[(DIRECTORY_SIZE, 20)], 2, None, Ok(0)),
     (&[(DIRECTORY_SIZE, 100)], 0, None, Ok(5000)),
     (&[(DIRECTORY_SIZE, 100)], 3, None, Err(Error::UnexpectedEof)),
-    // A page of stream 0: the other stream is there, and a limit doesn't hide it, but where it lies past the file's
-    // end.
+    // A page of stream 0: the other stream is there, and a limit doesn't hide it, but where it lies
+    // past the file's end.
     (&[(PAGE, 0)], 3, None, Ok(10)),
     (
         &[(PAGE, 0)],

@@ -1,10 +1,11 @@
-//! Files for the tests. What the functions here answer is the second call's where the first finds no memory.
+//! Files for the tests. What the functions here answer is the second call's where the first finds
+//! no memory.
 
 use pdb_container::{BigMSF, Error, Msf, Source, Stream, open_msf};
 use pdb_samples::{Container, PageOrder, SampleError};
 use std::alloc::{AllocError, Global};
 
-/// An empty list with room for so many.
+/// An empty list with room for `count` values.
 pub fn room<T: Drop>(alloc: Global, count: usize) -> Result<Vec<T>, AllocError> {
     match Vec::with_capacity(alloc, count) {
         Err(_) => Vec::with_capacity(alloc, count),
@@ -12,7 +13,8 @@ pub fn room<T: Drop>(alloc: Global, count: usize) -> Result<Vec<T>, AllocError> 
     }
 }
 
-/// So many bytes that go up from a first one to 250 and then again from 0, so that pages of them differ.
+/// `len` bytes that go up from a first one to 250 and then again from 0, so that pages of them
+/// differ.
 pub fn counted(alloc: Global, first: usize, len: usize) -> Result<Vec<u8>, SampleError> {
     let mut bytes = room(alloc, len)?;
     for at in 0..len {

@@ -14,7 +14,8 @@ fn stream_of(description: &Container, number: u32, limit: usize) -> Result<&[u8]
     }
 }
 
-/// The first number and limit, of some, at which a container answers another stream than its description.
+/// The first number and limit, of some, at which a container answers another stream than its
+/// description.
 fn first_wrong_in(
     opened: &mut BigMSF<'static, Vec<u8>>,
     alloc: Global,
@@ -37,7 +38,7 @@ fn first_wrong_in(
     Ok(None)
 }
 
-/// The same of the file of the description.
+/// The first wrong answer over the file of the description.
 fn first_wrong(alloc: Global, description: &Container) -> Result<Option<(u32, usize)>, Fail> {
     let bytes = file(alloc, description)?;
     let mut opened = open(alloc, bytes.as_slice())?;
@@ -64,7 +65,8 @@ fn mixed(
 
 #[test]
 fn page_sizes_and_orders(rt: HostRuntime) -> Result<(), Fail> {
-    // The numbers of the directory's pages take more than a page of 0x100 bytes where there are 4200 streams.
+    // The numbers of the directory's pages take more than a page of 0x100 bytes where there are
+    // 4200 streams.
     let rows = [
         (0x100, PageOrder::Natural, 4200),
         (0x100, PageOrder::AllReversed, 4200),

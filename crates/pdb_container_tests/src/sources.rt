@@ -71,14 +71,15 @@ fn source<'c>(
     })
 }
 
-/// The bytes of a file with pages of 0x100 bytes: page 1 is the list, 2 the directory, and 3 and 4 are stream 1.
+/// The bytes of a file with pages of 0x100 bytes: page 1 is the list, 2 the directory, and 3 and 4
+/// are stream 1.
 fn two_streams(alloc: Global, order: PageOrder) -> Result<Vec<u8>, SampleError> {
     let description = container(alloc, 0x100, order, &[Some(0), Some(300)])?;
     file(alloc, &description)
 }
 
-/// A container over the source. Opening it takes three views, of the front, the list and the directory, and each stream
-/// one, of its own pages.
+/// A container over the source. Opening it takes three views: of the beginning, the list and the
+/// directory. Each stream takes one, of its own pages.
 fn opened<'c>(
     alloc: Global,
     views: &'c Cell<u64>,
@@ -91,7 +92,8 @@ fn opened<'c>(
     }
 }
 
-/// Why stream 1 of a container is refused, if it is, and whether its bytes are as usual at the next call.
+/// Why stream 1 of a container is refused, if it is, and whether its bytes are as usual at the next
+/// call.
 fn asked_of(
     container: &mut BigMSF<'static, Failing<'_>>,
     alloc: Global,
@@ -106,7 +108,7 @@ fn asked_of(
     Ok((error, stream.as_slice() == usual.as_slice()))
 }
 
-/// The same where views fail.
+/// What [`asked_of`] returns where views fail.
 fn asked_twice(
     alloc: Global,
     fails: &'static [u64],
@@ -117,7 +119,7 @@ fn asked_twice(
     asked_of(&mut container, alloc, refusal)
 }
 
-/// Why the failures of these views keep the container from being opened.
+/// The error that opening the container returns where these views fail.
 fn refused(alloc: Global, fails: &'static [u64], refusal: Refusal) -> Result<Option<Error>, Fail> {
     let views = Cell::new(0);
     Ok(opened(alloc, &views, fails, refusal)?.err())
@@ -194,7 +196,7 @@ fn viewed(alloc: Global, views: &Cell<u64>, source: Failing<'_>) -> Result<(u64,
     Ok((opening, asked))
 }
 
-/// The same where some views fail.
+/// What [`viewed`] returns where some views fail.
 fn viewed_where(alloc: Global, fails: &'static [u64]) -> Result<(u64, Calls), Fail> {
     let views = Cell::new(0);
     match viewed(alloc, &views, source(alloc, &views, fails, Refusal::Other)?) {
@@ -206,8 +208,8 @@ fn viewed_where(alloc: Global, fails: &'static [u64]) -> Result<(u64, Calls), Fa
     }
 }
 
-// No table is kept where a view of the list (1) or of the directory (2) failed: the next call views both anew, and from then
-// on each call its stream alone.
+// No table is cached where a view of the list (1) or of the directory (2) failed: the next call
+// views both anew. From then on each call views its stream alone.
 #[test]
 fn the_directory_is_read_anew_where_the_source_failed(rt: HostRuntime) -> Result<(), Fail> {
     let other = Some(Error::IoError(ErrorKind::Other));
@@ -227,7 +229,8 @@ fn the_directory_is_read_anew_where_the_source_failed(rt: HostRuntime) -> Result
     Ok(())
 }
 
-/// The bytes of a file, where each view behind the third has to be of these slices. All views are counted.
+/// The bytes of a file, where each view after the third has to be of these slices. All views are
+/// counted.
 #[derive(Drop)]
 struct OwnPages<'c> {
     bytes: Vec<u8>,
@@ -284,7 +287,8 @@ fn counted_views<'c>(
     open_msf(alloc, source)
 }
 
-/// The length of stream 1 of a container and how many views there were then, and why stream 0 is refused.
+/// The length of stream 1 of a container and how many views there were then, and why stream 0 is
+/// refused.
 fn lengths_of(
     container: &mut BigMSF<'static, OwnPages<'_>>,
     alloc: Global,
@@ -295,7 +299,7 @@ fn lengths_of(
     Ok((length, count, get(container, alloc, 0, None).err()))
 }
 
-/// The same where only these slices can be viewed.
+/// What [`lengths_of`] returns where only these slices can be viewed.
 fn by_own_pages(
     alloc: Global,
     order: PageOrder,
@@ -339,7 +343,8 @@ fn has_shared(
     Ok(stream.as_slice() == usual)
 }
 
-/// Whether stream 1, in pages 3 and 4, of a container over so many shared bytes of a file is as usual, or why it is refused.
+/// Whether stream 1, in pages 3 and 4, of a container over `len` shared bytes of a file is as
+/// usual, or why it is refused.
 fn of_shared_bytes(
     alloc: Global,
     order: PageOrder,
@@ -382,8 +387,9 @@ fn by_bad_directory(alloc: Global, numbers: &[(usize, u32)]) -> Result<Refused, 
     Ok(([opening, views.get()], [first, second]))
 }
 
-/// Numbers that are written over the file, how many views its opening takes, and why each stream is refused: a page of the
-/// directory past the number used, the list's past the file's end, the directory's there, and no count.
+/// Numbers that are written over the file, how many views its opening takes, and why each stream is
+/// refused: a page of the directory past the number used, the list's past the file's end, the
+/// directory's there, and no count.
 const DIRECTORIES: &[(Numbers, u64, Error)] = &[
     (
         &[(DIRECTORY_PAGE, 0xff)],

@@ -1,6 +1,7 @@
-//! The public calls on two images that `lld-link` 19 made of a program for x86_64 and for i686: of each file the debug
-//! directory, the record and most of the headers are here, and zeros in place of the rest. What is expected is what
-//! `llvm-readobj` and `objdump` say of these bytes and of the whole files, and `llvm-pdbutil` of their PDBs.
+//! The public calls on two images that `lld-link` 19 made of a program for x86_64 and for i686: of
+//! each file the debug directory, the record and most of the headers are here, and zeros in place
+//! of the rest. What is expected is what `llvm-readobj` and `objdump` say of these bytes and of the
+//! whole files, and `llvm-pdbutil` of their PDBs.
 
 use pdb_image::{CodeView, Image, PdbIdentity};
 use pdb_samples::{SampleError, overwrite};
@@ -54,7 +55,7 @@ const NARROW: [(usize, &[u8]); 10] = [
     ),
 ];
 
-/// A file of so many bytes, with these at their places.
+/// A file of `size` bytes, with these at their places.
 fn file(alloc: Global, size: usize, pieces: &[(usize, &[u8])]) -> Result<Vec<u8>, SampleError> {
     let mut bytes = vec![in alloc; 0u8; size]?;
     for (place, piece) in pieces {
