@@ -6,6 +6,7 @@ pub mod ChainSteps
 mod ForestGrammar
 pub mod KeptRows
 pub mod KnownNames
+pub mod NameEnds
 pub mod NestedSites
 mod OpenBodies
 pub mod Deepest
