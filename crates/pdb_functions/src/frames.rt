@@ -11,7 +11,7 @@ use std::marker::Model;
 /// The line row that a frame's line comes from: where its code begins, and how many bytes it has.
 ///
 /// A function without line data of its own takes a row of an earlier function: then `start_rva`
-/// lies before the function's.
+/// mostly lies before the function's.
 #[derive(Clone, Copy, Debug, PartialEq, Eq)]
 pub struct FrameRow {
     /// The RVA at which its code begins.
@@ -42,7 +42,12 @@ impl<'a> Model for Frame<'a> {
 
     ghost Value = { answers.Frame };
 
-    ghost view = { λ f. record { function = option_map string_bytes f.function; file = option_map cow_str_bytes f.file; line = f.line; row = f.row } };
+    ghost view = { λ f. record {
+      function = option_map string_bytes f.function;
+      file = option_map cow_str_bytes f.file;
+      line = f.line;
+      row = f.row;
+    } };
 }
 
 /// A function with the frames at an address in it.

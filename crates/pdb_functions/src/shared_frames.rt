@@ -30,7 +30,12 @@ impl<'a> Model for SharedFrame<'a> {
 
     ghost Value = { answers.Frame };
 
-    ghost view = { λ f. record { function = option_map arc_str_bytes f.function; file = option_map cow_str_bytes f.file; line = f.line; row = f.row } };
+    ghost view = { λ f. record {
+      function = option_map arc_str_bytes f.function;
+      file = option_map cow_str_bytes f.file;
+      line = f.line;
+      row = f.row;
+    } };
 }
 
 /// A function with the frames at an address in it, whose names are shared.

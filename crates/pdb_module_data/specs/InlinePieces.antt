@@ -74,13 +74,12 @@ kept_code row = record { offset = row.offset; length = row.length }
 
 -- a call by the row that is over a place, else by its first row
 abbrev pub call_by_kept : IdIndex → Option CallRow → List CallRow → InlinedCall
-call_by_kept id (Some row) rows =
-    record {
-      inlinee = id;
-      file = Some row.file_index;
-      line = Some row.line_start;
-      row = Some (kept_code row);
-    }
+call_by_kept id (Some row) rows = record {
+  inlinee = id;
+  file = Some row.file_index;
+  line = Some row.line_start;
+  row = Some (kept_code row);
+}
 call_by_kept id None [] = record { inlinee = id; file = None; line = None; row = None }
 call_by_kept id None (first ∷ rows) =
     record { inlinee = id; file = Some first.file_index; line = None; row = None }

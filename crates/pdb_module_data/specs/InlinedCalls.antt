@@ -121,15 +121,18 @@ code_of row = record { offset = row.offset; length = unwrap_or row.length 0 }
 
 -- a call by its first row over the place, else by its first row that has a length
 abbrev pub call_by : IdIndex → Option LineInfo → Option LineInfo → InlinedCall
-call_by id (Some row) long =
-    record {
-      inlinee = id;
-      file = Some row.file_index;
-      line = Some row.line_start;
-      row = Some (code_of row);
-    }
-call_by id None long =
-    record { inlinee = id; file = option_map (λ row. row.file_index) long; line = None; row = None }
+call_by id (Some row) long = record {
+  inlinee = id;
+  file = Some row.file_index;
+  line = Some row.line_start;
+  row = Some (code_of row);
+}
+call_by id None long = record {
+  inlinee = id;
+  file = option_map (λ row. row.file_index) long;
+  line = None;
+  row = None;
+}
 
 -- a call over a place: file, line and code of its first row over the place; else the file of its
 -- first row that has a length, no line and no code
