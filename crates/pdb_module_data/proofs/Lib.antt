@@ -1,6 +1,7 @@
 pub mod AscendingRows
 mod Bodies
 mod BodySteps
+pub mod CallRowSteps
 mod CallsDeep
 pub mod ChainSteps
 mod ForestGrammar
@@ -17,3 +18,4 @@ pub mod PlainKinds
 pub mod ProcedureSteps
 pub mod RowPieceSteps
 pub mod RowSteps
+pub mod SiteRowSteps
