@@ -1,6 +1,6 @@
 -- The row of an inlined call over a place: of rows that lie apart the last one that begins there or before, else by pieces.
-use Rattle.std.proofs.Common.{◌≡◌, ℕ, zero, suc, ◌+◌, ◌-◌, ◌^◌, ◌<◌, ◌≤◌, Bool, true, false, cond, List, [], ◌∷◌, length, Option, None, Some, refl, sym, ap, ◌∙◌, arith}
-use Rattle.std.specs.Prelude.{map, slice_get, option_and_then, if◌then◌else◌, nat_le}
+use Rattle.std.proofs.Common.{◌≡◌, ℕ, zero, suc, ◌+◌, ◌-◌, ◌^◌, ◌<◌, ◌≤◌, Bool, true, false, List, [], ◌∷◌, Option, None, Some, refl, sym, ap, ◌∙◌, arith}
+use Rattle.std.specs.Prelude.{map, slice_get, option_and_then, if◌then◌else◌}
 use Rattle.std.specs.List.{find}
 use Rattle.std.proofs.lemmas.Bool.{le-ltb}
 use Rattle.std.proofs.lemmas.Bool.Decides.{nat_tests}
@@ -8,9 +8,9 @@ use Rattle.pdb_addresses.specs.declared.internal_section_offset.PdbInternalSecti
 use Rattle.pdb_pieces.specs.declared.span.Mark.{Mark}
 use Rattle.pdb_pieces.specs.declared.span.Span.{Span}
 use Rattle.pdb_pieces.specs.Halving.{Ascend, IsSplit}
-use Rattle.pdb_pieces.specs.Spans.{best, better, mark_over, place_number}
+use Rattle.pdb_pieces.specs.Spans.{best, better, place_number}
 use Rattle.pdb_module_data.specs.declared.call_rows.CallRow.{CallRow}
-use Rattle.pdb_module_data.specs.InlinePieces.{row_spans, site_row_span, covers_kept, AreApart, AreShortRows, IsShortRow, StandForFirst}
+use Rattle.pdb_module_data.specs.InlinePieces.{row_spans, covers_kept, AreApart, AreShortRows, StandForFirst}
 use Rattle.pdb_module_data.proofs.InlineSteps.{span_over}
 
 -- ---- pieces

@@ -7,7 +7,7 @@ use Rattle.std.proofs.lemmas.Bool.{cases_lt, lt-ltb, le-ltb}
 use Rattle.std.proofs.lemmas.List.{map-id}
 use Rattle.std.proofs.lemmas.List.Quantifiers.{position-Some}
 use Rattle.std.proofs.lemmas.Option.{slice_get_past}
-use Rattle.pdb_container.specs.Fault.{Fault, UnexpectedEof, ◌>>=◌}
+use Rattle.pdb_container.specs.Fault.{UnexpectedEof, ◌>>=◌}
 use Rattle.pdb_container.specs.Fields.{c_string_at, cut_at}
 use Rattle.pdb_container.specs.StringTable.{name_in}
 use Rattle.pdb_pieces.specs.Halving.{Ascend, IsSplit}

@@ -1,5 +1,5 @@
 -- Pieces for the rows of sites, each under its site's number.
-use Rattle.std.proofs.Common.{◌≡◌, ◌≢◌, ℕ, ◌+◌, ◌<◌, ◌≤◌, List, None, Some, false, refl, sym, subst, ◌∙◌, inl, inr, arith}
+use Rattle.std.proofs.Common.{◌≡◌, ◌≢◌, ℕ, ◌+◌, ◌≤◌, List, None, Some, false, refl, subst, ◌∙◌, inl, inr, arith}
 use Rattle.std.specs.Prelude.{slice_index}
 use Rattle.std.specs.BTreeMap.{BTreeMap, Updates, get, is_at}
 use Rattle.std.specs.Ordering.{nat_cmp}

@@ -1,4 +1,4 @@
-use Rattle.std.proofs.Common.{◌^◌, ◌<◌, drop}
+use Rattle.std.proofs.Common.{drop}
 use Rattle.pdb_module_data.specs.InlinePieces.{AreApart}
 use Rattle.pdb_module_data.proofs.call_rows.are_apart.Given as goal
 
