@@ -1,6 +1,6 @@
 //! The string table (`/names`): the names that lines and modules refer to. Its layout is microsoft-pdb's nmt.h.
 
-ghost use Rattle.std.specs.Prelude.{◌≡◌, ◌≤◌, ◌==◌, ◌&&◌, ◌||◌, length, take, drop, IfOk};
+ghost use Rattle.std.specs.Prelude.{◌≡◌, ◌<◌, ◌^◌, ◌≤◌, ◌==◌, ◌&&◌, ◌||◌, length, take, drop, IfOk};
 ghost use Rattle.std.specs.Cow.{cow_str_bytes};
 ghost use Rattle.pdb_container.specs.Fault.{Gives, Parses};
 ghost use Rattle.pdb_container.specs.StringTable.{names_of, name_in, text_in};
@@ -63,8 +63,10 @@ impl<'s> StringTable<'s> {
         buffer.parse_cstring()
     }
 
-    fn names(&self) -> &[u8]
-        ensures { result.now ≡ self.now }
+    /// The bytes of the names, fewer than 2^32; each name ends with a NUL.
+    pub fn names(&self) -> &[u8]
+        ensures names { result.now ≡ self.now }
+        ensures few { length result.now < 2 ^ 32 }
     {
         let mut buffer = ParseBuffer::from(self.stream.as_slice());
         buffer.seek(HEADER_SIZE);

@@ -22,7 +22,7 @@ abbrev as_mark : ℕ × ℕ → Mark
 as_mark found = record { rank = found.1; value = found.0 }
 
 -- a row's span is over the places that it covers
-span_over : (n d : ℕ) (row : CallRow) (place : PdbInternalSectionOffset) → IsShortRow row → place.offset < 2 ^ 32
+pub span_over : (n d : ℕ) (row : CallRow) (place : PdbInternalSectionOffset) → IsShortRow row → place.offset < 2 ^ 32
     → mark_over (site_row_span n d row) (place_number place) ≡ (if covers_kept place row then Some record { rank = d; value = n } else None)
 span_over n d row place short small = grind (arith, nat_tests)
 

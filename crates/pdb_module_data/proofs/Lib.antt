@@ -1,11 +1,13 @@
 pub mod AscendingRows
 mod Bodies
 mod BodySteps
+pub mod CallRowSteps
 mod CallsDeep
 pub mod ChainSteps
 mod ForestGrammar
 pub mod KeptRows
 pub mod KnownNames
+pub mod NameEnds
 pub mod NestedSites
 mod OpenBodies
 pub mod Deepest
@@ -16,3 +18,4 @@ pub mod PlainKinds
 pub mod ProcedureSteps
 pub mod RowPieceSteps
 pub mod RowSteps
+pub mod SiteRowSteps

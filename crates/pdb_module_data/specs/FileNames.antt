@@ -1,14 +1,17 @@
--- The names of the string table that are listed by where they begin.
-use Rattle.std.specs.Prelude.{◌≡◌, ℕ, List, [], ◌∷◌, Option, None, Some, Ok}
-use Rattle.pdb_container.specs.StringTable.{text_in}
-use Rattle.pdb_module_data.specs.declared.file_names.KnownName.{KnownName}
+-- Where the names of the string table end.
+use Rattle.std.specs.Prelude.{◌≡◌, ℕ, ◌+◌, ◌==◌, List, [], ◌∷◌}
+use Rattle.std.specs.Prelude.{Option, None, Some, IfSome, if◌then◌else◌}
 
--- Each listed name is the text at its offset among a table's names.
-abbrev pub AreNamesIn : List ℕ → List KnownName → Type 0
-AreNamesIn names [] = Unit {0}
-AreNamesIn names (n ∷ others) = (text_in names n.offset ≡ Ok (n.text).now) × AreNamesIn names others
+-- where the name after each NUL begins, of bytes of which the first lies at a place
+abbrev pub after_nuls : ℕ → List ℕ → List ℕ
+after_nuls at [] = []
+after_nuls at (byte ∷ bytes) =
+    let others = after_nuls (at + 1) bytes in
+    if byte == 0 then (at + 1) ∷ others else others
 
--- the same where there may be no table: then none is listed
-abbrev pub AreNamesOf : Option (List ℕ) → List KnownName → Type 0
-AreNamesOf None listed = listed ≡ []
-AreNamesOf (Some names) listed = AreNamesIn names listed
+-- A table's names as text are its names, and the starts are those of the names after its NULs.
+-- Where there is no table, there is neither text nor start.
+abbrev pub AreNamesOf : Option (List ℕ) → Option (List ℕ) → List ℕ → Type 0
+AreNamesOf None text starts = (text ≡ None) × (starts ≡ [])
+AreNamesOf (Some names) text starts =
+    IfSome text (λ all. all ≡ names) × (starts ≡ after_nuls 0 names)

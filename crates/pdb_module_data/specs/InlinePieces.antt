@@ -1,7 +1,10 @@
 -- Pieces of places for the inline sites of a procedure: at each place the number of the deepest site over it; and what is kept of
 -- their rows.
 use Rattle.std.specs.Prelude.{◌≡◌, ℕ, ◌+◌, ◌-◌, ◌^◌, ◌<◌, ◌≤◌, Bool, ◌&&◌, ◌==◌, nat_le, nat_lt, List, [], ◌∷◌, ◌++◌, map, length, take, drop, slice_index, unwrap_or, Option, None, Some, option_map, if◌then◌else◌}
-use Rattle.std.specs.List.{flat_map}
+use Rattle.std.specs.Prelude.{◌≢◌, option_and_then, slice_get}
+use Rattle.std.specs.BTreeMap.{BTreeMap, get}
+use Rattle.std.specs.List.{find, flat_map}
+use Rattle.std.specs.Ordering.{nat_cmp}
 use Rattle.pdb_indices.specs.declared.index.IdIndex.{IdIndex}
 use Rattle.pdb_addresses.specs.declared.internal_section_offset.PdbInternalSectionOffset.{PdbInternalSectionOffset}
 use Rattle.pdb_subsections.specs.declared.line_info.LineInfo.{LineInfo}
@@ -67,6 +70,42 @@ AreShortSites rows (site ∷ sites) = AreShortRows (kept_rows (rows site.call)) 
 -- whether a row covers a place: it covers its start and so many bytes below 2^32
 abbrev pub covers_kept : PdbInternalSectionOffset → CallRow → Bool
 covers_kept place row = ((row.offset).section == place.section) && nat_le (row.offset).offset place.offset && nat_lt place.offset ((row.offset).offset + row.length) && nat_lt place.offset (2 ^ 32)
+
+-- rows in ascending order by their places, none before `low`, each of which begins where the one
+-- before it ends or after that
+abbrev pub AreApart : ℕ → List CallRow → Type 0
+AreApart low [] = Unit {0}
+AreApart low (row ∷ rows) =
+    (low ≤ place_number row.offset) × AreApart (place_number row.offset + row.length) rows
+
+-- what rows cover, of which the first has this number, all of one rank
+abbrev pub row_spans : ℕ → List CallRow → List Span
+row_spans number [] = []
+row_spans number (row ∷ rows) = site_row_span number 0 row ∷ row_spans (number + 1) rows
+
+-- at each place of a section stands the number of the first row over it
+pub record StandForFirst (pieces : List Span) (rows : List CallRow) : Type 0 where
+  pub each : (place : PdbInternalSectionOffset) → place.offset < 2 ^ 32
+      → option_and_then (λ m. slice_get rows m.value) (best pieces (place_number place))
+      ≡ find (covers_kept place) rows
+
+-- pieces stand for rows; without pieces the rows lie apart
+abbrev pub AreFound : List CallRow → Option (List Span) → Type 0
+AreFound rows None = AreApart 0 rows
+AreFound rows (Some pieces) = StandForFirst pieces rows
+
+-- for so many sites: under the number of each stand pieces for its rows, unless these lie apart
+pub record AreAllFound (sites : ℕ) (rows : List CallRow) (starts : List ℕ)
+    (pieces : BTreeMap ℕ (List Span)) : Type 0 where
+  pub each : (k : ℕ) → k < sites
+      → AreFound (rows_between rows (slice_index starts k) (slice_index starts (k + 1)))
+      (get nat_cmp pieces k)
+
+-- pieces for rows, unless these lie apart, are added under a number that had none
+pub record AddsFound (old new : BTreeMap ℕ (List Span)) (number : ℕ) (rows : List CallRow)
+    : Type 0 where
+  pub own : get nat_cmp old number ≡ None → AreFound rows (get nat_cmp new number)
+  pub others : (k : ℕ) → k ≢ number → get nat_cmp new k ≡ get nat_cmp old k
 
 -- a row's code, by what is kept of it
 abbrev pub kept_code : CallRow → CodeSpan

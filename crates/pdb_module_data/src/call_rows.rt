@@ -1,9 +1,11 @@
-//! What is kept of the rows of an inlined call.
+//! What is kept of the rows of an inlined call, and a search of the one over a place by halving.
 
-ghost use Rattle.std.specs.Prelude.{◌≡◌, ◌++◌, OnOk, map};
+ghost use Rattle.std.specs.Prelude.{◌≡◌, ◌+◌, ◌++◌, IfOk, OnOk, map, option_map, slice_get, true};
 ghost use Rattle.std.specs.List.{find};
+ghost use Rattle.pdb_pieces.specs.Spans.{place_number as number_of_place};
 ghost use Rattle.pdb_module_data.specs.InlinedCalls.{given_by, call_rows};
 ghost use Rattle.pdb_module_data.specs.InlinePieces.{kept_rows as kept_of_rows, site_row_span, call_by_kept, covers_kept, AreShortRows, IsShortRow};
+ghost use Rattle.pdb_module_data.specs.InlinePieces.{row_spans, AreApart, AreFound, StandForFirst};
 
 use crate::inline_sites::Site;
 use crate::inlined_calls::{CodeSpan, InlinedCall};
@@ -12,8 +14,8 @@ use pdb_addresses::PdbInternalSectionOffset;
 use pdb_container::FallibleIterator;
 use pdb_indices::{FileIndex, IdIndex};
 use pdb_inlinees::InlineeLineIterator;
-use pdb_pieces::{Mark, Span, place_number};
-use std::alloc::AllocError;
+use pdb_pieces::{Begins, Mark, Pieces, Span, count_begun, place_number};
+use std::alloc::{AllocError, Global};
 
 /// A row of an inlined call that covers something: where its code begins, how many bytes it has, and its file and line.
 #[derive(Clone, Copy, Debug, PartialEq, Eq)]
@@ -26,6 +28,17 @@ pub struct CallRow {
     pub file_index: FileIndex,
     /// The line, counted from 1.
     pub line_start: u32,
+}
+
+/// A row begins at the number of its place.
+impl Begins for CallRow {
+    ghost use Rattle.pdb_pieces.specs.Spans.{place_number};
+
+    ghost beginning = { λ row. place_number row.offset };
+
+    fn begins_at(&self) -> u64 {
+        place_number(self.offset)
+    }
 }
 
 /// What is kept of rows, behind what stands there; a fault ends them.
@@ -102,23 +115,124 @@ fn covers(row: &CallRow, place: PdbInternalSectionOffset) -> bool
         && u64::from(place.offset) < u64::from(row.offset.offset) + u64::from(row.length)
 }
 
-/// The first row that covers a place.
-fn row_over(rows: &[CallRow], place: PdbInternalSectionOffset) -> Option<CallRow>
-    ensures { result ≡ find (covers_kept place) rows.now }
+/// The number of the place after the last byte of a row.
+fn end_of(row: CallRow) -> u64
+    ensures { result ≡ number_of_place row.offset + row.length }
 {
-    for row in rows {
-        if covers(row, place) {
-            return Some(*row);
-        }
-    }
-    None
+    place_number(row.offset) + u64::from(row.length)
 }
 
-/// A call over a place, by what is kept of its rows.
-pub fn call_over(inlinee: IdIndex, rows: &[CallRow], place: PdbInternalSectionOffset) -> InlinedCall
+/// Whether each row begins where the one before it ends, or after that.
+fn are_apart(rows: &[CallRow]) -> bool
+    ensures { result ≡ true → AreApart 0 rows.now }
+{
+    let mut end = 0;
+    for row in rows {
+        if row.begins_at() < end {
+            return false;
+        }
+        end = end_of(*row);
+    }
+    true
+}
+
+/// What rows cover, each with its number among them, all of one rank: of equals the first counts.
+fn numbered_spans(alloc: Global, rows: &[CallRow]) -> Result<Vec<Span>, AllocError>
+    ensures spans { IfOk result (λ v. v.items ≡ row_spans 0 rows.now) }
+    ensures short { IfOk result (λ v. AreShortRows rows.now) }
+{
+    let mut spans = Vec::with_capacity(alloc, rows.len())?;
+    for (number, row) in rows.iter().enumerate() {
+        spans.push(row_span(number, 0, *row))?;
+    }
+    Ok(spans)
+}
+
+/// Pieces of places with the number of the first row over each.
+#[tactic(auto, using(crate::proofs::CallRowSteps::stand_for_first))]
+fn row_pieces(alloc: Global, rows: &[CallRow]) -> Result<Pieces, AllocError>
+    ensures { IfOk result (λ pieces. StandForFirst pieces rows.now) }
+{
+    let spans = numbered_spans(alloc, rows)?;
+    Pieces::new(alloc, spans.as_slice())
+}
+
+/// Pieces of places with the number of the first row over each, unless the rows lie apart in
+/// ascending order.
+pub fn pieces_unless_apart(alloc: Global, rows: &[CallRow]) -> Result<Option<Pieces>, AllocError>
+    ensures { IfOk result (λ pieces. AreFound rows.now pieces) }
+{
+    if are_apart(rows) {
+        return Ok(None);
+    }
+    let pieces = row_pieces(alloc, rows)?;
+    Ok(Some(pieces))
+}
+
+/// The row with that number, if it is there.
+fn row_numbered(rows: &[CallRow], number: usize) -> Option<CallRow>
+    ensures { result ≡ slice_get rows.now number }
+{
+    rows.get(number).copied()
+}
+
+/// The row over a place, of rows that lie apart in ascending order: only the last one that begins
+/// there or before can be.
+fn row_by_halving(rows: &[CallRow], place: PdbInternalSectionOffset) -> Option<CallRow>
+    requires { AreApart 0 rows.now }
+    ensures { result ≡ find (covers_kept place) rows.now }
+{
+    let count = count_begun(rows, place_number(place)).0;
+    if count == 0 {
+        return None;
+    }
+    let last = row_numbered(rows, count - 1)?;
+    if covers(&last, place) {
+        Some(last)
+    } else {
+        None
+    }
+}
+
+/// The first row over a place, by pieces.
+fn row_by_pieces(
+    rows: &[CallRow],
+    pieces: &Pieces,
+    place: PdbInternalSectionOffset,
+) -> Option<CallRow>
+    requires { StandForFirst pieces.now rows.now }
+    ensures { result ≡ find (covers_kept place) rows.now }
+{
+    let number = pieces.value_at(place)?;
+    row_numbered(rows, number)
+}
+
+/// The first row that covers a place. Rows or pieces are halved.
+fn row_over(
+    rows: &[CallRow],
+    pieces: Option<&Pieces>,
+    place: PdbInternalSectionOffset,
+) -> Option<CallRow>
+    requires { AreFound rows.now (option_map (λ p. p.now) pieces) }
+    ensures { result ≡ find (covers_kept place) rows.now }
+{
+    match pieces {
+        None => row_by_halving(rows, place),
+        Some(pieces) => row_by_pieces(rows, pieces, place),
+    }
+}
+
+/// A call over a place, by what is kept of its rows, and by pieces where these don't lie apart.
+pub fn call_over(
+    inlinee: IdIndex,
+    rows: &[CallRow],
+    pieces: Option<&Pieces>,
+    place: PdbInternalSectionOffset,
+) -> InlinedCall
+    requires { AreFound rows.now (option_map (λ p. p.now) pieces) }
     ensures { result ≡ call_by_kept inlinee (find (covers_kept place) rows.now) rows.now }
 {
-    match row_over(rows, place) {
+    match row_over(rows, pieces, place) {
         Some(row) => InlinedCall {
             inlinee,
             file: Some(row.file_index),

@@ -1,34 +1,30 @@
-//! The names of the string table, found by where they begin.
+//! The names of the string table, found by where they end.
 
-ghost use Rattle.std.specs.Prelude.{◌≡◌, ◌<◌, ℕ, List, IfOk, IfSome, Ok, OnOk, Option, Some, option_and_then, option_map, slice_get};
+ghost use Rattle.std.specs.Prelude.{◌≡◌, ◌<◌, ◌≤◌, ◌^◌, ℕ, Ok, Err, IfOk};
+ghost use Rattle.std.specs.Prelude.{Option, MatchOption, IfSome, option_and_then, option_map};
+ghost use Rattle.std.specs.Prelude.{List, length, slice_get, slice_range};
 ghost use Rattle.std.specs.Cow.{cow_str_bytes};
 ghost use Rattle.std.specs.Str.Lossy.{utf8_lossy};
-ghost use Rattle.pdb_container.specs.RawString.{raw_bytes};
+ghost use Rattle.pdb_container.specs.Fault.{UnexpectedEof};
 ghost use Rattle.pdb_container.specs.StringTable.{name_in, text_in};
-ghost use Rattle.pdb_module_data.specs.FileNames.{AreNamesIn, AreNamesOf};
+ghost use Rattle.pdb_module_data.specs.FileNames.{after_nuls, AreNamesOf};
 ghost use Rattle.pdb_module_data.specs.FunctionLine.{if_read};
 
-use pdb_container::{Error, RawString, StringRef, StringTable};
+use pdb_container::{RawString, StringRef, StringTable};
+use pdb_pieces::count_begun;
 use std::alloc::{AllocError, Global};
 use std::borrow::CowStr;
 use std::marker::Model;
 
-/// How many bytes a name has at least that is listed: a shorter one is as soon read as found, and many of them would make a long
-/// list of a short table.
-const LISTED: usize = 8;
-
-/// A name that is text as it stands, and where it begins among the names of its table, in bytes.
-#[derive(Clone, Copy)]
-struct KnownName<'t> {
-    offset: u32,
-    text: &'t str,
-}
-
-/// The names of the string table (`/names`), if there is one. Those of at least eight bytes that are text as they stand are listed
-/// once, by where they begin, so that none of them is gone through again.
+/// The names of the string table (`/names`), if there is one. It is gone over once: whether all of
+/// it is text, and where the NULs are that end names. A name is then found by halving, wherever it
+/// begins and however long it is.
 pub struct FileNames<'t, 's> {
     strings: Option<&'t StringTable<'s>>,
-    known: Vec<KnownName<'t>>,
+    /// The names with their NULs, where all of them together are text as they stand.
+    text: Option<&'t str>,
+    /// Where the name after each NUL begins, in bytes from the first name.
+    next_names: Vec<u32>,
 }
 
 impl<'t, 's> Model for FileNames<'t, 's> {
@@ -39,123 +35,133 @@ impl<'t, 's> Model for FileNames<'t, 's> {
 
     ghost view = { λ n. option_map (λ t. t.now) n.strings };
 
-    // What is listed is what the table has.
-    ghost invariant = { λ n. AreNamesOf (option_map (λ t. t.now) n.strings) n.known.items };
+    // What was found in going over the table is what the table has.
+    ghost invariant = { λ n. AreNamesOf (option_map (λ t. t.now) n.strings)
+        (option_map (λ t. t.now) n.text) n.next_names.items };
 }
 
 impl<'t, 's> Drop for FileNames<'t, 's> {
     fn drop(self) {
-        let FileNames { strings: _, known } = self;
-        drop(known);
+        let FileNames {
+            strings: _,
+            text: _,
+            next_names,
+        } = self;
+        drop(next_names);
     }
 }
 
-/// Where the name behind one begins, if that lies below 2^32: behind the NUL that ends it.
-fn offset_behind(offset: u32, name: &RawString<'_>) -> Option<u32>
-    ensures { IfSome result (λ next. offset < next) }
+/// Where the name after each NUL begins.
+fn starts_after_nuls(alloc: Global, names: &[u8]) -> Result<Vec<u32>, AllocError>
+    requires { length names.now < 2 ^ 32 }
+    ensures { IfOk result (λ v. v.items ≡ after_nuls 0 names.now) }
 {
-    let length = u32::try_from(name.len()).ok()?;
-    offset.checked_add(length)?.checked_add(1)
+    let mut starts = Vec::new(alloc);
+    for (place, byte) in names.iter().enumerate() {
+        if *byte == 0 {
+            starts.push(place as u32 + 1)?;
+        }
+    }
+    Ok(starts)
 }
 
-/// A name, if it is text as it stands.
-fn text_as_it_stands<'t>(alloc: Global, name: RawString<'t>) -> Result<Option<&'t str>, AllocError>
-    ensures { IfOk result (λ t. IfSome t (λ text. text.now ≡ utf8_lossy (raw_bytes name.entry))) }
+/// The bytes as text, where they are text as they stand.
+fn text_as_it_stands(names: &[u8]) -> Option<&str>
+    ensures { IfSome result (λ text. text.now ≡ names.now) }
 {
-    match name.to_string(alloc) {
-        Ok(CowStr::Borrowed(text)) => Ok(Some(text)),
-        Ok(CowStr::Owned(_)) => Ok(None),
+    std::str::from_utf8(names).ok()
+}
+
+/// The start of a number, if it is there.
+fn start_numbered(starts: &[u32], number: usize) -> Option<u32>
+    ensures { result ≡ slice_get starts.now number }
+{
+    starts.get(number).copied()
+}
+
+/// Where the name at an offset ends, by where the name after each NUL begins; `None` where no NUL
+/// ends it.
+fn end_of_name(next_names: &[u32], offset: u32) -> Option<u32>
+    requires { (names : List ℕ) × (next_names.now ≡ after_nuls 0 names) }
+    ensures { (names : List ℕ) → next_names.now ≡ after_nuls 0 names →
+        MatchOption result (name_in names offset ≡ Err UnexpectedEof) (λ end. (offset ≤ end) ×
+        (end < length names) × (name_in names offset ≡ Ok (slice_range names offset end))) }
+{
+    let number = count_begun(next_names, u64::from(offset)).0;
+    match start_numbered(next_names, number) {
+        None => None,
+        Some(next) => Some(next - 1),
+    }
+}
+
+/// The text from one place on and before another, unless one of them lies within a character.
+fn part_of_text(text: &str, start: usize, end: usize) -> Option<&str>
+    requires { start ≤ end }
+    ensures { IfSome result (λ part. part.now ≡ utf8_lossy (slice_range text.now start end)) }
+{
+    if text.is_char_boundary(start) && text.is_char_boundary(end) {
+        Some(&text[start..end])
+    } else {
+        None
+    }
+}
+
+/// A name as text, with U+FFFD for what is no character.
+fn lossy_text(alloc: Global, name: &[u8]) -> Result<CowStr<'_>, AllocError>
+    ensures { IfOk result (λ text. cow_str_bytes text ≡ utf8_lossy name.now) }
+{
+    match RawString::from(name).to_string(alloc) {
+        Ok(text) => Ok(text),
         Err(_) => Err(AllocError),
     }
 }
 
-/// Lists a name that begins at an offset, if it is long enough and text as it stands.
-fn push_known<'t>(
+/// The name from one place on and before another as text: that of all names, where they are text.
+fn name_between<'t>(
     alloc: Global,
-    known: &mut Vec<KnownName<'t>>,
-    offset: u32,
-    name: RawString<'t>,
-) -> Result<(), AllocError>
-    ensures { (names : List ℕ) → name_in names offset ≡ Ok (raw_bytes name.entry) → AreNamesIn names known.old.items → OnOk result (AreNamesIn names known.new.items) }
+    names: &'t [u8],
+    text: Option<&'t str>,
+    start: u32,
+    end: u32,
+) -> Result<CowStr<'t>, AllocError>
+    requires text { IfSome text (λ all. all.now ≡ names.now) }
+    requires order { start ≤ end }
+    requires bound { end ≤ length names.now }
+    ensures { IfOk result
+        (λ name. cow_str_bytes name ≡ utf8_lossy (slice_range names.now start end)) }
 {
-    if name.len() < LISTED {
-        return Ok(());
-    }
-    let Some(text) = text_as_it_stands(alloc, name)? else {
-        return Ok(());
-    };
-    known.push(KnownName { offset, text })?;
-    Ok(())
-}
-
-/// The names of a table that are listed, one behind the other, to the first one that can't be read.
-fn known_names<'t>(
-    alloc: Global,
-    strings: &'t StringTable<'_>,
-) -> Result<Vec<KnownName<'t>>, AllocError>
-    ensures { IfOk result (λ v. AreNamesIn strings.now v.items) }
-{
-    let mut known = Vec::new(alloc);
-    let mut offset = 0;
-    while let Ok(name) = strings.get(StringRef(offset)) {
-        push_known(alloc, &mut known, offset, name)?;
-        match offset_behind(offset, &name) {
-            None => return Ok(known),
-            Some(next) => offset = next,
+    let start = start as usize;
+    let end = end as usize;
+    if let Some(all) = text {
+        if let Some(part) = part_of_text(all, start, end) {
+            return Ok(CowStr::Borrowed(part));
         }
     }
-    Ok(known)
-}
-
-/// The listed name of a number, if it is there.
-fn known_numbered<'t>(known: &[KnownName<'t>], number: usize) -> Option<KnownName<'t>>
-    ensures { result ≡ slice_get known.now number }
-{
-    known.get(number).copied()
-}
-
-/// The listed name that begins at an offset.
-fn known_at<'t>(known: &[KnownName<'t>], offset: u32) -> Option<&'t str>
-    ensures { (names : Option (List ℕ)) → AreNamesOf names known.now → IfSome result (λ text. Some text.now ≡ option_and_then (λ table. if_read (text_in table offset)) names) }
-{
-    let count = known.partition_point(|name| name.offset < offset);
-    match known_numbered(known, count) {
-        Some(name) if name.offset == offset => Some(name.text),
-        _ => None,
-    }
-}
-
-/// The name at an offset in a table, if there is one, as it is read.
-fn read_name<'t>(
-    alloc: Global,
-    strings: Option<&'t StringTable<'_>>,
-    name: StringRef,
-) -> Result<Option<CowStr<'t>>, AllocError>
-    ensures { IfOk result (λ text. option_map cow_str_bytes text ≡ option_and_then (λ t. if_read (text_in t.now name.0)) strings.entry) }
-{
-    let Some(strings) = strings else {
-        return Ok(None);
-    };
-    match name.to_string_lossy(alloc, strings) {
-        Ok(text) => Ok(Some(text)),
-        Err(Error::OutOfMemory) => Err(AllocError),
-        Err(_) => Ok(None),
-    }
+    lossy_text(alloc, &names[start..end])
 }
 
 impl<'t, 's> FileNames<'t, 's> {
-    /// The names of a string table, if there is one, listed.
+    /// The names of a string table, if there is one, gone over once.
     pub fn new(
         alloc: Global,
         strings: Option<&'t StringTable<'s>>,
     ) -> Result<FileNames<'t, 's>, AllocError>
         ensures { IfOk result (λ n. n ≡ option_map (λ t. t.now) strings.entry) }
     {
-        let known = match strings {
-            None => Vec::new(alloc),
-            Some(strings) => known_names(alloc, strings)?,
+        let Some(table) = strings else {
+            return Ok(FileNames {
+                strings,
+                text: None,
+                next_names: Vec::new(alloc),
+            });
         };
-        Ok(FileNames { strings, known })
+        let names = table.names();
+        let next_names = starts_after_nuls(alloc, names)?;
+        Ok(FileNames {
+            strings,
+            text: text_as_it_stands(names),
+            next_names,
+        })
     }
 
     /// The name at an offset as text, with U+FFFD for what is no character; `None` where there is no string table or no such
@@ -163,9 +169,13 @@ impl<'t, 's> FileNames<'t, 's> {
     pub fn text(&self, alloc: Global, name: StringRef) -> Result<Option<CowStr<'t>>, AllocError>
         ensures { IfOk result (λ text. option_map cow_str_bytes text ≡ option_and_then (λ names. if_read (text_in names name.0)) self.now) }
     {
-        match known_at(self.known.as_slice(), name.0) {
-            Some(text) => Ok(Some(CowStr::Borrowed(text))),
-            None => read_name(alloc, self.strings, name),
-        }
+        let Some(table) = self.strings else {
+            return Ok(None);
+        };
+        let Some(end) = end_of_name(self.next_names.as_slice(), name.0) else {
+            return Ok(None);
+        };
+        let text = name_between(alloc, table.names(), self.text, name.0, end)?;
+        Ok(Some(text))
     }
 }

@@ -11,6 +11,7 @@ use crate::inline_sites::{InlineSites, Site, SitesError};
 use crate::inlined_calls::{InlinedCall, calls_from};
 use crate::inlinees::Inlinees;
 use crate::procedures::Procedure;
+use crate::site_rows::{SiteRows, site_pieces};
 use pdb_addresses::PdbInternalSectionOffset;
 use pdb_pieces::{Pieces, Span};
 use pdb_symbols::SymbolIter;
@@ -20,22 +21,32 @@ use std::marker::Model;
 /// How many rows most sites have, so that lists of them aren't moved as they grow.
 const ROWS_OF_SITE: usize = 4;
 
-/// The inline sites of a procedure (`S_INLINESITE`, `S_INLINESITE2`) in the order of the file, what is kept of the rows of all of
-/// them one after another, with where those of each start, and pieces of places for a search of the deepest one over a place.
+/// The inline sites of a procedure (`S_INLINESITE`, `S_INLINESITE2`) in the order of the file, what
+/// is kept of the rows of all of them, and pieces of places for a search of the deepest one over a
+/// place.
 #[derive(Drop)]
 pub struct InlineRanges<'t> {
     sites: InlineSites<'t>,
-    rows: Vec<CallRow>,
-    starts: Vec<usize>,
+    rows: SiteRows,
     pieces: Pieces,
 }
 
 impl<'t> Model for InlineRanges<'t> {
+    ghost use Rattle.std.specs.Prelude.{length};
     ghost use Rattle.pdb_module_data.specs.InlinePieces as ranges;
+    ghost use Rattle.pdb_module_data.specs.InlinePieces.{AreAllFound};
 
     ghost Value = { ranges.Ranges };
 
-    ghost view = { λ r. record { sites = r.sites; rows = r.rows.items; starts = r.starts.items; pieces = r.pieces } };
+    ghost view = { λ r. record {
+      sites = r.sites;
+      rows = r.rows.rows.items;
+      starts = r.rows.starts.items;
+      pieces = r.pieces;
+    } };
+
+    // The row of each site over a place is found by halving.
+    ghost invariant = { λ r. AreAllFound (length r.sites) r.rows.rows.items r.rows.starts.items r.rows.pieces };
 }
 
 /// What is kept of the rows of sites, where those of each start, and what they cover, each ranked by its site's depth.
@@ -110,18 +121,23 @@ impl<'t> InlineRanges<'t> {
         let sites = InlineSites::read(alloc, symbols, procedure)?;
         let read = rows_and_spans(alloc, sites.as_slice(), inlinees, procedure.offset)?;
         let pieces = Pieces::new(alloc, read.spans.as_slice())?;
+        let count = sites.as_slice().len();
+        let of_sites = site_pieces(alloc, count, read.rows.as_slice(), read.starts.as_slice())?;
         Ok(InlineRanges {
             sites,
-            rows: read.rows,
-            starts: read.starts,
+            rows: SiteRows {
+                rows: read.rows,
+                starts: read.starts,
+                pieces: of_sites,
+            },
             pieces,
         })
     }
 
     /// The inlined calls over a place, innermost first, where the procedure begins at `start` and these are the inlinees that the
     /// pieces were made by: that of the deepest site with a row over the place, of equally deep ones the first in the order of
-    /// the file, and those of the sites that it lies in. None where no row covers the place. The deepest site is found by
-    /// halving.
+    /// the file, and those of the sites that it lies in. None where no row covers the place. The
+    /// deepest site is found by halving, and so is the row of each over the place.
     #[tactic(auto, using(crate::proofs::Deepest::deepest_within, crate::proofs::KeptRows::are_cut))]
     pub fn calls_over(
         &self,
@@ -136,14 +152,7 @@ impl<'t> InlineRanges<'t> {
         match self.pieces.value_at(place) {
             None => Ok(Vec::new(alloc)),
             Some(number) => {
-                let calls = calls_from(
-                    alloc,
-                    self.sites.as_slice(),
-                    self.rows.as_slice(),
-                    self.starts.as_slice(),
-                    number,
-                    place,
-                )?;
+                let calls = calls_from(alloc, self.sites.as_slice(), &self.rows, number, place)?;
                 Ok(calls)
             }
         }

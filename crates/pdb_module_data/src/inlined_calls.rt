@@ -5,10 +5,12 @@ ghost use Rattle.std.specs.List.{flat_map};
 ghost use Rattle.pdb_symbols.specs.Forms.{InlineSiteForm};
 ghost use Rattle.pdb_subsections.specs.declared.line_info.LineInfo.{LineInfo};
 ghost use Rattle.pdb_module_data.specs.InlinedCalls.{chain as chain_of, calls_of, IsNested};
-ghost use Rattle.pdb_module_data.specs.InlinePieces.{rows_between, rows_of_sites, starts_of_sites, AreCut};
+ghost use Rattle.pdb_module_data.specs.InlinePieces.{rows_of_sites, starts_of_sites};
+ghost use Rattle.pdb_module_data.specs.InlinePieces.{AreAllFound, AreCut};
 
-use crate::call_rows::{CallRow, call_over};
+use crate::call_rows::call_over;
 use crate::inline_sites::Site;
+use crate::site_rows::SiteRows;
 use pdb_addresses::PdbInternalSectionOffset;
 use pdb_indices::{FileIndex, IdIndex};
 use std::alloc::{AllocError, Global};
@@ -36,29 +38,23 @@ pub struct InlinedCall {
     pub row: Option<CodeSpan>,
 }
 
-/// What is kept of the rows of the site of a number, by where those of each site start.
-fn rows_of_site<'r>(rows: &'r [CallRow], starts: &[usize], number: usize) -> &'r [CallRow]
-    requires there { number + 1 < length starts.now }
-    requires ascend { slice_index starts.now number ≤ slice_index starts.now (number + 1) }
-    requires bound { slice_index starts.now (number + 1) ≤ length rows.now }
-    ensures { result.now ≡ rows_between rows.now (slice_index starts.now number) (slice_index starts.now (number + 1)) }
-{
-    &rows[starts[number]..starts[number + 1]]
-}
-
 /// The calls of a site and of those that it lies in, innermost first, by what is kept of the rows of each site.
 pub fn calls_from(
     alloc: Global,
     sites: &[Site<'_>],
-    rows: &[CallRow],
-    starts: &[usize],
+    of_sites: &SiteRows,
     number: usize,
     place: PdbInternalSectionOffset,
 ) -> Result<Vec<InlinedCall>, AllocError>
     requires nested { IsNested sites.now }
     requires there { number < length sites.now }
-    requires cut { AreCut (length sites.now) starts.now (length rows.now) }
-    ensures calls { IfOk result (λ v. (lines : InlineSiteForm → List LineInfo) → rows.now ≡ rows_of_sites lines sites.now → starts.now ≡ starts_of_sites lines 0 sites.now
+    requires cut { AreCut (length sites.now) of_sites.now.starts.items
+        (length of_sites.now.rows.items) }
+    requires found { AreAllFound (length sites.now) of_sites.now.rows.items
+        of_sites.now.starts.items of_sites.now.pieces }
+    ensures calls { IfOk result (λ v. (lines : InlineSiteForm → List LineInfo)
+        → of_sites.now.rows.items ≡ rows_of_sites lines sites.now
+        → of_sites.now.starts.items ≡ starts_of_sites lines 0 sites.now
         → v.items ≡ flat_map (λ k. calls_of lines place (slice_get sites.now k)) (chain_of sites.now number)) }
     ensures deep { IfOk result (λ v. IfSome (slice_get sites.now number) (λ s. vec_len v ≡ s.depth)) }
 {
@@ -67,8 +63,9 @@ pub fn calls_from(
     let mut next = Some(number);
     while let Some(k) = next {
         let site = &sites[k];
-        let of_site = rows_of_site(rows, starts, k);
-        calls.push(call_over(site.call.inlinee, of_site, place))?;
+        let rows = of_sites.rows_of(k);
+        let pieces = of_sites.pieces_of(k);
+        calls.push(call_over(site.call.inlinee, rows, pieces, place))?;
         next = site.parent;
     }
     Ok(calls)

@@ -13,6 +13,7 @@ mod inlinees;
 pub mod laws;
 mod procedure_list;
 mod procedures;
+mod site_rows;
 
 pub use file_names::FileNames;
 pub use function_line::file_name;

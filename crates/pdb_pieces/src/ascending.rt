@@ -21,6 +21,15 @@ impl Begins for u64 {
     }
 }
 
+/// A number of 32 bits begins where it says.
+impl Begins for u32 {
+    ghost beginning = { λ n. n };
+
+    fn begins_at(&self) -> u64 {
+        u64::from(*self)
+    }
+}
+
 /// How many of what ascends begin at a place or before it, and how many were looked at. Each probe
 /// halves what is left: of n as many are looked at as n has binary digits, or one fewer.
 pub fn count_begun<T: Begins>(items: &[T], place: u64) -> (usize, u32)

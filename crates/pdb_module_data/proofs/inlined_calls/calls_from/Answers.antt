@@ -39,8 +39,8 @@ loop-next-preserved c =
           let all = flat_map (λ n. calls (slice_get sites n)) (chain sites c.args.number) in
           let rest : c.loop-next.calls.items ++ flat_map (λ n. calls (slice_get sites n)) (chain_at sites (Some k)) ≡ all =
           ap (λ o. c.loop-next.calls.items ++ flat_map (λ n. calls (slice_get sites n)) (chain_at sites o)) (sym c.in-Some.is) ∙ v.rest lines same cut in
-          let kept = kept_at c.args.rows.now c.args.starts.now sites lines k site same cut is in
-          let pushed = c.in_ok-push.ensures.items ∙ ap (λ x. c.loop-next.calls.items ++ x ∷ []) (c.call_over.ensures ∙ call_kept _ (lines site.call) _ c.args.place (c.rows_of_site-of_site.ensures ∙ kept)) in
+          let kept = kept_at c.args.of_sites.now.rows.items c.args.of_sites.now.starts.items sites lines k site same cut is in
+          let pushed = c.in_ok-push.ensures.items ∙ ap (λ x. c.loop-next.calls.items ++ x ∷ []) (c.call_over.ensures ∙ call_kept _ (lines site.call) _ c.args.place (c.rows_of-rows.ensures ∙ kept)) in
           ap (λ ys. ys ++ flat_map (λ n. calls (slice_get sites n)) (chain_at sites site.parent)) pushed ∙ chain_more calls sites k site c.loop-next.calls.items all w is rest);
       deep = ap (λ n. n + depth_at sites site.parent) c.in_ok-push.ensures.len ∙ one_more c.loop-next.calls.len (depth_at sites site.parent) (depth_at sites (Some k)) further ∙ deep;
     }

@@ -13,7 +13,7 @@ abbrev pub invariant-loop-next : goal.invariant-loop-next
 invariant-loop-next l =
     record {
       in_range : (k : ℕ) → l.next ≡ Some k → k < length l.sites;
-      rest : (lines : InlineSiteForm → List LineInfo) → l.rows ≡ rows_of_sites lines l.sites → l.starts ≡ starts_of_sites lines 0 l.sites
+      rest : (lines : InlineSiteForm → List LineInfo) → l.of_sites.rows.items ≡ rows_of_sites lines l.sites → l.of_sites.starts.items ≡ starts_of_sites lines 0 l.sites
           → l.calls.items ++ flat_map (λ k. calls_of lines l.place (slice_get l.sites k)) (chain_at l.sites l.next) ≡ flat_map (λ k. calls_of lines l.place (slice_get l.sites k)) (chain l.sites l.number);
       deep : vec_len l.calls + depth_at l.sites l.next ≡ depth_at l.sites (Some l.number);
     }

@@ -1,5 +1,14 @@
+use Rattle.std.proofs.Common.{◌≡◌, sym, ◌∙◌}
+use Rattle.pdb_module_data.specs.InlinedCalls.{given_by, call_rows}
 use Rattle.pdb_module_data.proofs.InlineSteps.{stand_as_read}
+use Rattle.pdb_module_data.proofs.KeptRows.{are_cut}
 use Rattle.pdb_module_data.proofs.inline_ranges.InlineRanges.read.Goals as goal
+
+pub site_pieces-requires : goal.site_pieces-requires
+site_pieces-requires c =
+    let read = c.in_ok-read.ensures in
+    let same : c.as_slice-count.result.now ≡ c.as_slice.result.now = c.as_slice-count.ensures.sites ∙ sym c.as_slice.ensures.sites in
+    rw (same, c.as_slice-3.ensures.value, c.as_slice-4.ensures.value) (are_cut _ _ c.as_slice.result.now (call_rows (given_by c.args.inlinees.now) c.procedure.inside.offset) read.rows read.starts)
 
 pub returns-clause-stand : goal.returns-clause-stand
 returns-clause-stand c =

@@ -1,0 +1,93 @@
+//! What is kept of the rows of a procedure's inline sites, and pieces for a search among those of
+//! each.
+
+ghost use Rattle.std.specs.Prelude.{◌≡◌, ◌+◌, ◌<◌, ◌≤◌, IfOk, OnOk};
+ghost use Rattle.std.specs.Prelude.{length, option_map, slice_index};
+ghost use Rattle.std.specs.BTreeMap.{get};
+ghost use Rattle.std.specs.Ordering.{nat_cmp};
+ghost use Rattle.pdb_module_data.specs.InlinePieces.{rows_between, AddsFound, AreAllFound, AreCut};
+
+use crate::call_rows::{CallRow, pieces_unless_apart};
+use pdb_pieces::Pieces;
+use std::alloc::{AllocError, Global};
+use std::collections::BTreeMap;
+
+/// What is kept of the rows of sites, one after another, with where those of each start; and pieces
+/// of places for a search among those of a site, under its number, where they don't lie apart in
+/// ascending order.
+#[derive(Drop)]
+pub struct SiteRows {
+    pub rows: Vec<CallRow>,
+    pub starts: Vec<usize>,
+    pub pieces: BTreeMap<usize, Pieces>,
+}
+
+impl SiteRows {
+    /// What is kept of the rows of the site with that number.
+    pub fn rows_of(&self, number: usize) -> &[CallRow]
+        requires there { number + 1 < length self.now.starts.items }
+        requires ascend { slice_index self.now.starts.items number
+            ≤ slice_index self.now.starts.items (number + 1) }
+        requires bound { slice_index self.now.starts.items (number + 1) ≤ length self.now.rows.items }
+        ensures { result.now ≡ rows_between self.now.rows.items
+            (slice_index self.now.starts.items number)
+            (slice_index self.now.starts.items (number + 1)) }
+    {
+        rows_of_site(self.rows.as_slice(), self.starts.as_slice(), number)
+    }
+
+    /// The pieces for a search among the rows of the site with that number, if there are any.
+    pub fn pieces_of(&self, number: usize) -> Option<&Pieces>
+        ensures { option_map (λ p. p.now) result ≡ get nat_cmp self.now.pieces number }
+    {
+        self.pieces.get(&number)
+    }
+}
+
+/// The rows of the site with that number, by where those of each site start.
+fn rows_of_site<'r>(rows: &'r [CallRow], starts: &[usize], number: usize) -> &'r [CallRow]
+    requires there { number + 1 < length starts.now }
+    requires ascend { slice_index starts.now number ≤ slice_index starts.now (number + 1) }
+    requires bound { slice_index starts.now (number + 1) ≤ length rows.now }
+    ensures { result.now ≡ rows_between rows.now (slice_index starts.now number) (slice_index starts.now (number + 1)) }
+{
+    &rows[starts[number]..starts[number + 1]]
+}
+
+/// Adds pieces for a search among the rows of the site with that number, unless these lie apart in
+/// ascending order.
+fn add_pieces(
+    alloc: Global,
+    pieces: &mut BTreeMap<usize, Pieces>,
+    number: usize,
+    rows: &[CallRow],
+) -> Result<(), AllocError>
+    ensures { OnOk result (AddsFound pieces.old pieces.new number rows.now) }
+{
+    match pieces_unless_apart(alloc, rows)? {
+        None => Ok(()),
+        Some(of_site) => {
+            pieces.insert(number, of_site)?;
+            Ok(())
+        }
+    }
+}
+
+/// Pieces for a search among the rows of each of so many sites, unless these lie apart in
+/// ascending order.
+pub fn site_pieces(
+    alloc: Global,
+    sites: usize,
+    rows: &[CallRow],
+    starts: &[usize],
+) -> Result<BTreeMap<usize, Pieces>, AllocError>
+    requires { AreCut sites starts.now (length rows.now) }
+    ensures { IfOk result (λ pieces. AreAllFound sites rows.now starts.now pieces) }
+{
+    let mut pieces = BTreeMap::new(alloc);
+    for number in 0..sites {
+        let of_site = rows_of_site(rows, starts, number);
+        add_pieces(alloc, &mut pieces, number, of_site)?;
+    }
+    Ok(pieces)
+}
