@@ -4,6 +4,7 @@ pub use Rattle.pdb_context.specs.Choice
 pub use Rattle.pdb_context.specs.Context
 pub use Rattle.pdb_context.specs.Failed
 pub use Rattle.pdb_context.specs.Frames
+pub use Rattle.pdb_context.specs.Keys
 pub use Rattle.pdb_context.specs.Parts
 pub use Rattle.pdb_context.specs.Printing
 pub use Rattle.pdb_context.specs.Runs

@@ -5,7 +5,7 @@ ghost use Rattle.pdb_functions.specs.Databases.{IsOneRun, place_of};
 ghost use Rattle.pdb_addr2line_tests.specs.OneFunction.{one_function};
 
 use pdb_addresses::PdbInternalSectionOffset;
-use pdb_functions::{Function, FunctionRuns};
+use pdb_functions::{Function, Runs};
 use std::alloc::{AllocError, Global};
 
 /// The function f at offsets 0x10 to 0x30 of section 1, and how often it was asked for.
@@ -14,10 +14,14 @@ pub(crate) struct OneFunction {
     pub(crate) lookups: u64,
 }
 
-impl FunctionRuns for OneFunction {
-    ghost use Rattle.pdb_addr2line_tests.specs.OneFunction.{one_function};
+impl Runs for OneFunction {
+    ghost use Rattle.pdb_addr2line_tests.specs.OneFunction.{keyed_function};
 
-    ghost database = { λ _. one_function };
+    type Key = Function;
+
+    type Found = Function;
+
+    ghost keyed = { λ _. keyed_function };
 
     ghost lookups = { λ s. s.lookups };
 
@@ -32,6 +36,11 @@ impl FunctionRuns for OneFunction {
         self.lookups = self.lookups.saturating_add(1);
         Ok((answer, count))
     }
+
+    fn answer_of(&mut self, alloc: Global, key: &Function) -> Result<Option<Function>, AllocError> {
+        let function = key.try_clone(alloc)?;
+        Ok(Some(function))
+    }
 }
 
 /// The function at a place.
@@ -39,7 +48,7 @@ fn function_at(
     alloc: Global,
     place: PdbInternalSectionOffset,
 ) -> Result<Option<Function>, AllocError>
-    ensures { IfOk result (λ f. f ≡ one_function.function (place_of place)) }
+    ensures { IfOk result (λ f. f ≡ one_function.answer (place_of place)) }
 {
     if place.section == 1 && (16 <= place.offset && place.offset < 48) {
         let name = String::from_str(alloc, "f")?;

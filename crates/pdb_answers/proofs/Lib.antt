@@ -1,4 +1,5 @@
 pub mod FailedSteps
 pub mod FaultSteps
 pub mod KeptSteps
+pub mod KeySteps
 pub mod KnownSteps

@@ -3,6 +3,7 @@ pub use Rattle.pdb_frames.specs.Choice
 pub use Rattle.pdb_frames.specs.Failed
 pub use Rattle.pdb_frames.specs.Failing
 pub use Rattle.pdb_frames.specs.Frames
+pub use Rattle.pdb_frames.specs.Keys
 pub use Rattle.pdb_frames.specs.MaybeOwned
 pub use Rattle.pdb_frames.specs.Parts
 pub use Rattle.pdb_frames.specs.Printing

@@ -1,18 +1,20 @@
 //! Answers at a place, over what is kept of modules: what isn't kept yet is read and kept, and a part that can't be read stands as
 //! failed from then on.
 
-ghost use Rattle.std.specs.Prelude.{◌≡◌, ◌≤◌, ℕ, IfOk, IfSome, Ok, Option, Some, option_copied, slice_get, ◌||◌};
+ghost use Rattle.std.specs.Prelude.{◌≡◌, ◌≤◌, ℕ, IfOk, IfSome, Ok, Option, Some, option_and_then, option_copied, option_map, slice_get, ◌||◌};
 ghost use Rattle.pdb_addresses.specs.SectionRun.{up_to_next};
 ghost use Rattle.pdb_answers.specs.KnownFailures.{AreFailuresOf, data_of_modules};
-ghost use Rattle.pdb_frames.specs.Choice.{held_at};
+ghost use Rattle.pdb_frames.specs.Choice.{chosen, held_at};
 ghost use Rattle.pdb_frames.specs.Failed.{failed_after, failing_in as failing_in_module, has_failed, told};
 ghost use Rattle.pdb_frames.specs.Failing.{failing_at, failing_if_held, ProcedureLines, ProcedureInlineRanges};
 ghost use Rattle.pdb_frames.specs.Frames.{frames_at as frames_at_place, frames_if_held, frames_of_chosen, function_at as function_at_contribution, function_of as function_of_chosen};
+ghost use Rattle.pdb_frames.specs.Keys.{chosen_by, function_by};
 ghost use Rattle.pdb_frames.specs.NearBounds.{bounds_near};
 ghost use Rattle.pdb_frames.specs.Printing.{env_of};
 ghost use Rattle.pdb_frames.specs.Runs.{database_of, function_here as function_at_place, procedures_of};
 ghost use Rattle.pdb_frames.specs.Scopes.{entries_of, scope_of};
 ghost use Rattle.pdb_frames.specs.Seen.{chosen_seen};
+ghost use Rattle.pdb_functions.specs.KeyOrder.{key_module};
 ghost use Rattle.pdb_functions.specs.Databases.{IsOneRun, place_of as as_place};
 ghost use Rattle.pdb_known_modules.specs.Kept.{AreKept};
 ghost use Rattle.pdb_known_modules.specs.Modules.{ModuleData, module_data, own_of, procedures_in};
@@ -25,7 +27,7 @@ use pdb_frames::{
     Chosen, ContextParts, Failures, Namer, Part, choose, failing_in, frames_in, name_of,
     to_next_bound, to_next_shared_bound, unsuccessful,
 };
-use pdb_functions::{Function, SharedFunctionFrames, owned_name};
+use pdb_functions::{Function, FunctionKey, SharedFunctionFrames, owned_name};
 use pdb_known_modules::{
     BasicModuleInfo, KeptModule, empty_places, keep_lines, keep_module, keep_procedure,
     keep_public_rows, known_at, number_over, procedure_numbered,
@@ -367,35 +369,128 @@ pub fn function_here<'a, P: ModuleProvider>(
     }
 }
 
-/// The function at a place that a contribution holds, and how far it goes on.
+/// Returns the key of what is chosen at a place that a contribution holds, if something is.
+fn key_at<I: ModuleTables>(
+    parts: &ContextParts<'_, '_>,
+    known: Option<&BasicModuleInfo<'_, I>>,
+    contribution: ModuleSectionContribution,
+    place: PdbInternalSectionOffset,
+) -> Option<FunctionKey>
+    ensures index { IfSome result (λ key. key_module key ≡ contribution.module_index) }
+    ensures chosen { option_and_then (chosen_by parts.now (procedures_in (option_copied known.entry))) result
+        ≡ chosen parts.now (procedures_in (option_copied known.entry)) contribution place }
+{
+    let module_index = contribution.module_index();
+    if let Some(number) = number_over(known, place) {
+        if procedure_numbered(known, number).is_some() {
+            return Some(FunctionKey::Procedure(module_index, number));
+        }
+    }
+    match parts.publics.over(contribution.start_offset(), place) {
+        None => None,
+        Some(public) => Some(FunctionKey::Public(module_index, public.start_offset)),
+    }
+}
+
+/// Returns what a key chooses, by the data of its module.
+fn choose_by<'c, 'a, I: ModuleTables>(
+    parts: &'c ContextParts<'a, '_>,
+    known: Option<&'c BasicModuleInfo<'a, I>>,
+    key: &FunctionKey,
+) -> Option<Chosen<'c, 'a>>
+    ensures { option_map chosen_seen result
+        ≡ chosen_by parts.now (procedures_in (option_copied known.entry)) key.now }
+{
+    match key {
+        FunctionKey::Procedure(_, number) => match procedure_numbered(known, *number) {
+            None => None,
+            Some(procedure) => Some(Chosen::Procedure(*number, procedure)),
+        },
+        FunctionKey::Public(_, start) => match parts.publics.over(start.offset, *start) {
+            None => None,
+            Some(public) => Some(Chosen::Public(public)),
+        },
+    }
+}
+
+/// Returns a key of the function at a place that a contribution holds, and how far it goes on.
 #[tactic(auto, unfolding(pdb_frames::specs::Frames::function_at))]
-fn run_at<'a, P: ModuleProvider>(
+fn key_run_at<'a, P: ModuleProvider>(
     alloc: Global,
     provider: &'a P,
     kept: &mut [KeptModule<'a, P::Info>],
     parts: &ContextParts<'a, '_>,
-    namer: &mut Namer<'a, '_, P>,
+    namer: &Namer<'a, '_, P>,
     contribution: ModuleSectionContribution,
     place: PdbInternalSectionOffset,
     limit: u32,
-) -> Result<(Option<Function>, u32)>
-    requires kept { AreKept (λ n. module_data (own_of (P.provided provider.now) (entries_of namer.old) n)) kept.old }
-    ensures kept { AreKept (λ n. module_data (own_of (P.provided provider.now) (entries_of namer.old) n)) kept.new }
-    ensures same { namer.new ≡ namer.old }
-    ensures function { Answers (λ run. run.0) result (Ok (function_at_contribution parts.now (scope_of P.provided provider.now namer.old contribution.module_index) contribution place)) }
-    ensures count { IfOk result (λ run. run.1 ≡ up_to_next (bounds_near parts.now (procedures_of (scope_of P.provided provider.now namer.old) (Some contribution)) place) place.offset limit) }
+) -> Result<(Option<FunctionKey>, u32)>
+    requires kept { AreKept (λ n. module_data (own_of (P.provided provider.now) (entries_of namer.now) n)) kept.old }
+    ensures kept { AreKept (λ n. module_data (own_of (P.provided provider.now) (entries_of namer.now) n)) kept.new }
+    ensures function { Answers (λ run. option_and_then (function_by parts.now (scope_of P.provided provider.now namer.now)) run.0) result
+        (Ok (function_at_contribution parts.now (scope_of P.provided provider.now namer.now contribution.module_index) contribution place)) }
+    ensures count { IfOk result (λ run. run.1 ≡ up_to_next (bounds_near parts.now (procedures_of (scope_of P.provided provider.now namer.now) (Some contribution)) place) place.offset limit) }
 {
     let module_index = usize::from(contribution.module_index());
     keep_module(alloc, kept, provider, namer.modules(), module_index)?;
     let known = known_at(kept, module_index);
     let count = to_next_bound(parts, known, place, limit);
-    let number = number_over(known, place);
-    match choose(parts, known, number, contribution, place) {
-        None => Ok((None, count)),
-        Some(chosen) => {
-            let function = function_of(alloc, parts, namer, contribution.module_index(), chosen)?;
-            Ok((function, count))
+    Ok((key_at(parts, known, contribution, place), count))
+}
+
+/// Returns a key of the function at a place, and how far it goes on.
+pub fn key_run_here<'a, P: ModuleProvider>(
+    alloc: Global,
+    provider: &'a P,
+    kept: &mut [KeptModule<'a, P::Info>],
+    parts: &ContextParts<'a, '_>,
+    namer: &Namer<'a, '_, P>,
+    place: PdbInternalSectionOffset,
+    limit: u32,
+) -> Result<(Option<FunctionKey>, u32)>
+    requires limit { 1 ≤ limit }
+    requires kept { AreKept (λ n. module_data (own_of (P.provided provider.now) (entries_of namer.now) n)) kept.old }
+    ensures kept { AreKept (λ n. module_data (own_of (P.provided provider.now) (entries_of namer.now) n)) kept.new }
+    ensures function { Answers (λ run. option_and_then (function_by parts.now (scope_of P.provided provider.now namer.now)) run.0) result
+        (Ok (function_at_place parts.now (scope_of P.provided provider.now namer.now) place)) }
+    ensures count { IfOk result (λ run. IsOneRun (database_of parts.now (scope_of P.provided provider.now namer.now)) (as_place place) limit run.1) }
+{
+    match parts.holder(place) {
+        None => Ok((None, to_next_shared_bound(parts, place, limit))),
+        Some(contribution) => {
+            key_run_at(
+                alloc,
+                provider,
+                kept,
+                parts,
+                namer,
+                contribution,
+                place,
+                limit,
+            )
         }
+    }
+}
+
+/// Returns the function that a key stands for, if there is one.
+pub fn function_by_key<'a, P: ModuleProvider>(
+    alloc: Global,
+    provider: &'a P,
+    kept: &mut [KeptModule<'a, P::Info>],
+    parts: &ContextParts<'a, '_>,
+    namer: &mut Namer<'a, '_, P>,
+    key: &FunctionKey,
+) -> Result<Option<Function>>
+    requires kept { AreKept (λ n. module_data (own_of (P.provided provider.now) (entries_of namer.old) n)) kept.old }
+    ensures kept { AreKept (λ n. module_data (own_of (P.provided provider.now) (entries_of namer.old) n)) kept.new }
+    ensures same { namer.new ≡ namer.old }
+    ensures function { Answers (λ f. f) result (Ok (function_by parts.now (scope_of P.provided provider.now namer.old) key.now)) }
+{
+    let module_index = usize::from(key.module_index());
+    keep_module(alloc, kept, provider, namer.modules(), module_index)?;
+    match choose_by(parts, known_at(kept, module_index), key) {
+        None => Ok(None),
+        Some(chosen) => function_of(alloc, parts, namer, key.module_index(), chosen),
     }
 }
 
@@ -416,17 +511,12 @@ pub fn run_here<'a, P: ModuleProvider>(
     ensures function { Answers (λ run. run.0) result (Ok (function_at_place parts.now (scope_of P.provided provider.now namer.old) place)) }
     ensures count { IfOk result (λ run. IsOneRun (database_of parts.now (scope_of P.provided provider.now namer.old)) (as_place place) limit run.1) }
 {
-    match parts.holder(place) {
-        None => Ok((None, to_next_shared_bound(parts, place, limit))),
-        Some(contribution) => run_at(
-            alloc,
-            provider,
-            kept,
-            parts,
-            namer,
-            contribution,
-            place,
-            limit,
-        ),
+    let (key, count) = key_run_here(alloc, provider, kept, parts, namer, place, limit)?;
+    match key {
+        None => Ok((None, count)),
+        Some(key) => {
+            let function = function_by_key(alloc, provider, kept, parts, namer, &key)?;
+            Ok((function, count))
+        }
     }
 }

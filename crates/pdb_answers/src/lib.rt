@@ -4,7 +4,9 @@
 mod answers;
 mod known_failures;
 
-pub use answers::{empty_modules, frames_here, function_here, run_here};
+pub use answers::{
+    empty_modules, frames_here, function_by_key, function_here, key_run_here, run_here,
+};
 pub use known_failures::KnownFailures;
 pub use pdb_contributions::ModuleSectionContribution;
 pub use pdb_frames::{ContextParts, Failures, Namer, TextWriter, TypeFormatter, maybe_owned};

@@ -4,6 +4,7 @@ pub mod Starts
 pub use Rattle.pdb_answers.specs.Choice
 pub use Rattle.pdb_answers.specs.Failed
 pub use Rattle.pdb_answers.specs.Frames
+pub use Rattle.pdb_answers.specs.Keys
 pub use Rattle.pdb_answers.specs.Parts
 pub use Rattle.pdb_answers.specs.Printing
 pub use Rattle.pdb_answers.specs.Runs

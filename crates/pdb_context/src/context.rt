@@ -1,6 +1,6 @@
 //! A context: answers about addresses of an image.
 
-ghost use Rattle.std.specs.Prelude.{◌≡◌, ◌≤◌, true, IfOk, Ok, Some, is_some, length, option_map, Option, Result as Answer};
+ghost use Rattle.std.specs.Prelude.{◌≡◌, ◌≤◌, true, IfOk, Ok, Some, is_some, length, option_and_then, option_map, Option, Result as Answer};
 ghost use Rattle.pdb_addresses.specs.Addresses.{IsOrdered};
 ghost use Rattle.pdb_resolving.specs.Fault.{Answers, Fault};
 ghost use Rattle.pdb_answers.specs.Choice.{held_at, place_of};
@@ -9,6 +9,7 @@ ghost use Rattle.pdb_context.specs.Context.{context_over, lasting, scope_in, unc
 ghost use Rattle.pdb_answers.specs.Failed.{Failures as FailedParts, failed_after, told};
 ghost use Rattle.pdb_answers.specs.Failing.{Part, failing, failing_if_held};
 ghost use Rattle.pdb_answers.specs.Frames.{frames, frames_if_held, function};
+ghost use Rattle.pdb_answers.specs.Keys.{function_by};
 ghost use Rattle.pdb_functions.specs.Frames.{FunctionFrames as FramesFound};
 ghost use Rattle.pdb_answers.specs.MaybeOwned.{value_of};
 ghost use Rattle.pdb_answers.specs.Runs.{database_of, function_here as function_at_place};
@@ -18,10 +19,10 @@ use pdb_addresses::{AddressMap, ImageSectionHeader, PdbInternalSectionOffset, Rv
 use pdb_answers::maybe_owned::MaybeOwned;
 use pdb_answers::{
     ContextParts, Failures, KeptModule, KnownFailures, Namer, TypeFormatter, empty_modules,
-    frames_here, function_here, run_here,
+    frames_here, function_by_key, function_here, key_run_here, run_here,
 };
 use pdb_container::StringTable;
-use pdb_functions::{Function, FunctionFrames, SharedFunctionFrames};
+use pdb_functions::{Function, FunctionFrames, FunctionKey, SharedFunctionFrames};
 use pdb_resolving::{Error, ModuleProvider, Result};
 use pdb_symbols::SymbolTable;
 use pdb_symbols_modules::DebugInformation;
@@ -296,5 +297,53 @@ impl<'a, 's, P: ModuleProvider> Context<'a, 's, P> {
             limit,
         );
         self.counted(run)
+    }
+
+    /// Returns a key of the function at a place, if there is one, and how far it goes on, as
+    /// [`Context::find_function_run`] counts it. No name is made.
+    ///
+    /// # Errors
+    /// `OutOfMemory` alone.
+    pub fn find_key_run(
+        &mut self,
+        alloc: Global,
+        offset: PdbInternalSectionOffset,
+        limit: u32,
+    ) -> Result<(Option<FunctionKey>, u32)>
+        requires { 1 ≤ limit }
+        ensures same { uncounted self.new ≡ uncounted self.old }
+        ensures lookups { self.new.lookups ≡ lookups_after true result self.old.lookups }
+        ensures function { Answers (λ run. option_and_then (function_by self.old.parts (scope_in P.provided self.old)) run.0) result
+            (Ok (function_at_place self.old.parts (scope_in P.provided self.old) offset)) }
+        ensures count { IfOk result (λ run. IsOneRun (database_of self.old.parts (scope_in P.provided self.old)) (as_place offset) limit run.1) }
+    {
+        let run = key_run_here(
+            alloc,
+            self.provider,
+            &mut self.kept,
+            &self.parts,
+            &self.namer,
+            offset,
+            limit,
+        );
+        self.counted(run)
+    }
+
+    /// Returns the function that a key stands for, if there is one. It isn't counted as a lookup.
+    ///
+    /// # Errors
+    /// `OutOfMemory` alone.
+    pub fn function_by_key(&mut self, alloc: Global, key: &FunctionKey) -> Result<Option<Function>>
+        ensures same { self.new ≡ self.old }
+        ensures function { Answers (λ f. f) result (Ok (function_by self.old.parts (scope_in P.provided self.old) key.now)) }
+    {
+        function_by_key(
+            alloc,
+            self.provider,
+            &mut self.kept,
+            &self.parts,
+            &mut self.namer,
+            key,
+        )
     }
 }

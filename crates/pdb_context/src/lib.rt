@@ -12,5 +12,5 @@ pub use pdb_answers::{
     ContextParts, ModuleSectionContribution, TextWriter, TypeFormatter, maybe_owned,
 };
 pub use pdb_functions::{
-    Frame, FrameRow, Function, FunctionFrames, SharedFrame, SharedFunctionFrames,
+    Frame, FrameRow, Function, FunctionFrames, FunctionKey, SharedFrame, SharedFunctionFrames,
 };

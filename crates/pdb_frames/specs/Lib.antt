@@ -2,6 +2,7 @@ pub mod ChosenNames
 pub mod Depth
 pub mod Failing
 pub mod Frames
+pub mod Keys
 pub mod Runs
 pub mod Scopes
 pub use Rattle.pdb_choice.specs.Choice

@@ -33,5 +33,5 @@ abbrev pub function_here : Parts → (ℕ → Scope) → PdbInternalSectionOffse
 function_here p scope place = option_and_then (λ held. function_at p (scope (held.0).module_index) held.0 held.1) (held_at p (Some place))
 
 -- the function at each place, and whether an answer may change there
-abbrev pub database_of : Parts → (ℕ → Scope) → Database
-database_of p scope = record { function = λ place. function_here p scope (internal_place place); is_bound = λ place. is_bound p scope (internal_place place) }
+abbrev pub database_of : Parts → (ℕ → Scope) → Database Function
+database_of p scope = record { answer = λ place. function_here p scope (internal_place place); is_bound = λ place. is_bound p scope (internal_place place) }

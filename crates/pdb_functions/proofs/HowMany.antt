@@ -1,5 +1,5 @@
 -- Of so many numbers, how many pass a test.
-use Rattle.std.proofs.Common.{◌≡◌, ℕ, zero, suc, ◌+◌, ◌-◌, ◌<◌, ◌≤◌, Bool, true, false, cond, not, refl, sym, subst, arith}
+use Rattle.std.proofs.Common.{◌≡◌, ℕ, zero, suc, ◌+◌, ◌-◌, ◌<◌, ◌≤◌, Bool, true, false, true≢false, cond, not, ◌&&◌, refl, sym, subst, arith}
 use Rattle.pdb_functions.specs.Counts.{how_many}
 
 pub how_many-zero : (test : ℕ → Bool) (from : ℕ) → how_many test from 0 ≡ 0
@@ -93,3 +93,15 @@ how_many-split t a b c ab bc =
     let f : a + (b - a) ≡ b = omega arith in
     let g : how_many t a (b - a + (c - b)) ≡ how_many t a (b - a) + how_many t (a + (b - a)) (c - b) = how_many-append t (b - a) (c - b) a in
     subst (λ (y : ℕ). how_many t a (b - a) + how_many t y (c - b) ≡ how_many t a (c - a)) f (sym (subst (λ (n : ℕ). how_many t a n ≡ how_many t a (b - a) + how_many t (a + (b - a)) (c - b)) e g))
+
+beside : (x y : Bool) → (x ≡ true → y ≡ true) → cond y 1 0 ≡ cond x 1 0 + cond (y && not x) 1 0
+beside true true h = refl
+beside true false h = absurd (true≢false (sym (h refl)))
+beside false true h = refl
+beside false false h = refl
+
+-- those that pass a test, and those that pass a wider one alone
+pub how_many-beside : (s t : ℕ → Bool) (n a : ℕ) → ((x : ℕ) → s x ≡ true → t x ≡ true) → how_many t a n ≡ how_many s a n + how_many (λ x. t x && not (s x)) a n
+unfolding how_many
+how_many-beside s t zero a h = refl
+how_many-beside s t (suc n) a h = let one = beside (s a) (t a) (h a) in let others = how_many-beside s t n (a + 1) h in omega (arith, one, others)

@@ -4,5 +4,6 @@ pub mod HowMany
 pub mod PlaceLemmas
 pub mod RangeLemmas
 pub mod RangeSums
+pub mod ResolveLemmas
 pub mod TableLemmas
 pub mod UniqueLemmas

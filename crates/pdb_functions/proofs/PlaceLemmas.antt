@@ -10,37 +10,40 @@ use Rattle.pdb_addresses.specs.Places.{Place, internal_place}
 use Rattle.pdb_addresses.specs.SectionRun.{nearer, up_to_next, place_on}
 use Rattle.pdb_addresses.specs.Sections.{place_in, place_from, place}
 use Rattle.pdb_functions.specs.Counts.{answer_at, answer_along, begins, begins_along, is_section_bound, is_bound_in}
-use Rattle.pdb_functions.specs.FunctionOrder.{Function}
-use Rattle.pdb_functions.specs.Databases.{Database, IsOneRun, on, place_of}
+use Rattle.pdb_functions.specs.Databases.{Database, IsOneRun, Keyed, on, place_of}
 use Rattle.pdb_functions.specs.Table.{IsAdded, IsCounted, IsWithin}
 use Rattle.pdb_functions.proofs.CountLemmas.{counted_start, counted_more, counted_run, counted_none, counted_along, within_one, within_more, within_along}
 
 -- ---- along the places from one on
 
-pub places_counted : (db now : Database) (p : Place) (d limit n : ℕ) (one : Option Function) (t u w : List (Function × ℕ)) → now ≡ db → IsOneRun now (on p d) limit n → one ≡ now.function (on p d) → IsAdded u one n w
-    → IsCounted (answer_along db (Some p)) 0 d t u → IsCounted (answer_along db (Some p)) 0 (d + n) t w
-places_counted db now p d limit n one t u w same run at add so_far =
-    let r : IsOneRun db (on p d) limit n = subst (λ (b : Database). IsOneRun b (on p d) limit n) same run in
-    let a : one ≡ db.function (on p d) = subst (λ (b : Database). one ≡ b.function (on p d)) same at in
-    counted_more (answer_along db (Some p)) 0 d n t u w so_far
-    (counted_run (answer_along db (Some p)) (0 + d) n one u w
+pub places_counted : {K A : Type 0} (kd now : Keyed K A) (p : Place) (d limit n : ℕ) (key : Option K) (t u w : List (K × ℕ)) → now ≡ kd → IsOneRun now.places (on p d) limit n
+    → option_and_then now.answer_of key ≡ (now.places).answer (on p d) → IsAdded u key n w
+    → IsCounted kd.answer_of (answer_along kd.places (Some p)) 0 d t u → IsCounted kd.answer_of (answer_along kd.places (Some p)) 0 (d + n) t w
+places_counted {K} {A} kd now p d limit n key t u w same run at add so_far =
+    let r : IsOneRun kd.places (on p d) limit n = subst (λ (b : Keyed K A). IsOneRun b.places (on p d) limit n) same run in
+    let a : option_and_then kd.answer_of key ≡ (kd.places).answer (on p d) = subst (λ (b : Keyed K A). option_and_then b.answer_of key ≡ (b.places).answer (on p d)) same at in
+    counted_more kd.answer_of (answer_along kd.places (Some p)) 0 d n t u w so_far
+    (counted_run kd.answer_of (answer_along kd.places (Some p)) (0 + d) n key u w
     (λ k lt. let e : p.offset + (0 + d + k) ≡ p.offset + d + k = omega arith in
-    let f : answer_along db (Some p) (0 + d + k) ≡ db.function (on (on p d) k) = ap (λ (x : ℕ). let q : Place = record { section = p.section; offset = x } in db.function q) e in
+    let f : answer_along kd.places (Some p) (0 + d + k) ≡ (kd.places).answer (on (on p d) k) = ap (λ (x : ℕ). let q : Place = record { section = p.section; offset = x } in (kd.places).answer q) e in
     f ∙ r.alike k lt ∙ sym a)
     add)
 
-pub places_within : (db : Database) (p : Place) (d n x y z : ℕ) → IsWithin (begins_along db (Some p)) 0 d x y → begins_along db (Some p) d ≡ true → 1 ≤ n → z ≡ min (y + 1) (2 ^ 64 - 1)
+pub places_within : {A : Type 0} (db : Database A) (p : Place) (d n x y z : ℕ) → IsWithin (begins_along db (Some p)) 0 d x y → begins_along db (Some p) d ≡ true → 1 ≤ n → z ≡ min (y + 1) (2 ^ 64 - 1)
     → IsWithin (begins_along db (Some p)) 0 (d + n) x z
 places_within db p d n x y z h passes some more =
     let e : d ≡ 0 + d = omega arith in
     within_one (begins_along db (Some p)) 0 d n x y z h (subst (λ (j : ℕ). begins_along db (Some p) j ≡ true) e passes) some (omega arith)
 
-pub place_begins : (db now : Database) (p : Place) (d c n : ℕ) → now ≡ db → IsOneRun now (on p d) (c - d) n → d + n < c → begins_along db (Some p) (d + n) ≡ true
-place_begins db now p d c n same run lt =
-    let r : IsOneRun db (on p d) (c - d) n = subst (λ (b : Database). IsOneRun b (on p d) (c - d) n) same run in
+pub place_begins : {A : Type 0} (db now : Database A) (p : Place) (d c n : ℕ) → now ≡ db → IsOneRun now (on p d) (c - d) n → d + n < c → begins_along db (Some p) (d + n) ≡ true
+place_begins {A} db now p d c n same run lt =
+    let r : IsOneRun db (on p d) (c - d) n = subst (λ (b : Database A). IsOneRun b (on p d) (c - d) n) same run in
     let e : p.offset + d + n ≡ p.offset + (d + n) = omega arith in
     let f : db.is_bound (on p (d + n)) ≡ true = ap (λ (x : ℕ). let q : Place = record { section = p.section; offset = x } in db.is_bound q) (sym e) ∙ r.ends (omega arith) in
     ap (λ (b : Bool). (d + n == 0) || b) f ∙ or-true (d + n == 0)
+
+pub places_same : {K A : Type 0} (kd now : Keyed K A) → now ≡ kd → now.places ≡ kd.places
+places_same kd now same = ap (λ k. k.places) same
 
 -- ---- along the addresses from one on that go by one section, or by none
 
@@ -52,20 +55,20 @@ pub internal_none : (o : Option Place) → None ≡ option_map internal_place o 
 internal_none None h = refl
 internal_none (Some q) h = (cc)
 
-pub section_none : (sections : List ImageSectionHeader) (db : Database) (x n : ℕ) (t : List (Function × ℕ)) → place sections x ≡ None → ((k : ℕ) → k < n → place sections (x + k) ≡ place_on k (place sections x))
-    → IsCounted (answer_at sections db) x n t t
-section_none sections db x n t none along = counted_none (answer_at sections db) x n t (λ k lt. ap (option_and_then db.function) (along k lt ∙ ap (place_on k) none))
+pub section_none : {K A : Type 0} (found : K → Option A) (sections : List ImageSectionHeader) (db : Database A) (x n : ℕ) (t : List (K × ℕ)) → place sections x ≡ None → ((k : ℕ) → k < n → place sections (x + k) ≡ place_on k (place sections x))
+    → IsCounted found (answer_at sections db) x n t t
+section_none found sections db x n t none along = counted_none found (answer_at sections db) x n t (λ k lt. ap (option_and_then db.answer) (along k lt ∙ ap (place_on k) none))
 
-pub section_counted : (sections : List ImageSectionHeader) (db : Database) (p : Place) (x n : ℕ) (t u : List (Function × ℕ)) → place sections x ≡ Some p → ((k : ℕ) → k < n → place sections (x + k) ≡ place_on k (place sections x))
-    → IsCounted (answer_along db (Some p)) 0 n t u → IsCounted (answer_at sections db) x n t u
-section_counted sections db p x n t u there along h = counted_along (answer_along db (Some p)) (answer_at sections db) 0 x n t u
-    (λ k lt. let z : 0 + k ≡ k = omega arith in ap (option_and_then db.function) (along k lt ∙ ap (place_on k) there) ∙ ap (answer_along db (Some p)) (sym z)) h
+pub section_counted : {K A : Type 0} (found : K → Option A) (sections : List ImageSectionHeader) (db : Database A) (p : Place) (x n : ℕ) (t u : List (K × ℕ)) → place sections x ≡ Some p → ((k : ℕ) → k < n → place sections (x + k) ≡ place_on k (place sections x))
+    → IsCounted found (answer_along db (Some p)) 0 n t u → IsCounted found (answer_at sections db) x n t u
+section_counted found sections db p x n t u there along h = counted_along found (answer_along db (Some p)) (answer_at sections db) 0 x n t u
+    (λ k lt. let z : 0 + k ≡ k = omega arith in ap (option_and_then db.answer) (along k lt ∙ ap (place_on k) there) ∙ ap (answer_along db (Some p)) (sym z)) h
 
 first_or : (a first other b : Bool) → (a ≡ true → first ≡ true) → (a || b) ≡ true → (first || (other || b)) ≡ true
 first_or true first other b h g = ap (λ (c : Bool). c || (other || b)) (h refl)
 first_or false first other b h g = ap (λ (c : Bool). first || (other || c)) g ∙ ap (λ (c : Bool). first || c) (or-true other) ∙ or-true first
 
-pub section_within : (sections : List ImageSectionHeader) (db : Database) (p : Place) (x n y z : ℕ) → place sections x ≡ Some p → ((k : ℕ) → k < n → place sections (x + k) ≡ place_on k (place sections x))
+pub section_within : {A : Type 0} (sections : List ImageSectionHeader) (db : Database A) (p : Place) (x n y z : ℕ) → place sections x ≡ Some p → ((k : ℕ) → k < n → place sections (x + k) ≡ place_on k (place sections x))
     → IsWithin (begins_along db (Some p)) 0 n y z → IsWithin (begins sections db x) x n y z
 section_within sections db p x n y z there along h = within_along (begins sections db x) (begins_along db (Some p)) x 0 n y z h
     (λ k lt passes.
@@ -125,17 +128,26 @@ next_is_bound (b ∷ bs) x limit n e lt = elim (cases_lt x b) [
 
 -- ---- along a range
 
-pub range_counted : (answer : ℕ → Option Function) (r x n : ℕ) (t u w : List (Function × ℕ)) → r ≤ x → IsCounted answer r (x - r) t u → IsCounted answer x n u w → IsCounted answer r (x + n - r) t w
-range_counted answer r x n t u w le h g =
+-- the same by what answers as before
+pub counted_same : {K A : Type 0} (kd now : Keyed K A) (sections : List ImageSectionHeader) (x n : ℕ) (t u : List (K × ℕ)) → now ≡ kd
+    → IsCounted now.answer_of (answer_at sections now.places) x n t u → IsCounted kd.answer_of (answer_at sections kd.places) x n t u
+counted_same {K} {A} kd now sections x n t u same h = subst (λ (k : Keyed K A). IsCounted k.answer_of (answer_at sections k.places) x n t u) same h
+
+pub within_same : {K A : Type 0} (kd now : Keyed K A) (sections : List ImageSectionHeader) (first x n y z : ℕ) → now ≡ kd
+    → IsWithin (begins sections now.places first) x n y z → IsWithin (begins sections kd.places first) x n y z
+within_same {K} {A} kd now sections first x n y z same h = subst (λ (k : Keyed K A). IsWithin (begins sections k.places first) x n y z) same h
+
+pub range_counted : {K A : Type 0} (found : K → Option A) (answer : ℕ → Option A) (r x n : ℕ) (t u w : List (K × ℕ)) → r ≤ x → IsCounted found answer r (x - r) t u → IsCounted found answer x n u w → IsCounted found answer r (x + n - r) t w
+range_counted found answer r x n t u w le h g =
     let e : x ≡ r + (x - r) = omega arith in
     let f : x - r + n ≡ x + n - r = omega arith in
-    subst (λ (m : ℕ). IsCounted answer r m t w) f (counted_more answer r (x - r) n t u w h (subst (λ (y : ℕ). IsCounted answer y n u w) e g))
+    subst (λ (m : ℕ). IsCounted found answer r m t w) f (counted_more found answer r (x - r) n t u w h (subst (λ (y : ℕ). IsCounted found answer y n u w) e g))
 
 first_else : (p q rest : Bool) → (p ≡ true → (q || rest) ≡ true) → (p || rest) ≡ true → (q || rest) ≡ true
 first_else true q rest h g = h refl
 first_else false q rest h g = ap (λ (c : Bool). q || c) g ∙ or-true q
 
-pub range_within : (sections : List ImageSectionHeader) (db : Database) (r x n a b c : ℕ) → r ≤ x → begins sections db r x ≡ true
+pub range_within : {A : Type 0} (sections : List ImageSectionHeader) (db : Database A) (r x n a b c : ℕ) → r ≤ x → begins sections db r x ≡ true
     → IsWithin (begins sections db r) r (x - r) a b → IsWithin (begins sections db x) x n b c → IsWithin (begins sections db r) r (x + n - r) a c
 range_within sections db r x n a b c le at h g =
     let f : x - r + n ≡ x + n - r = omega arith in
@@ -146,11 +158,11 @@ range_within sections db r x n a b c le at h g =
     (first_else (x + k == x) (x + k == r) (is_section_bound sections (x + k) || is_bound_in db (place sections (x + k)))
     (λ same. let zeroth : x ≡ x + k = sym (eqb-true (x + k) x same) in subst (λ (y : ℕ). begins sections db r y ≡ true) zeroth at) passes)))
 
-pub bound_begins : (sections : List ImageSectionHeader) (db : Database) (r x : ℕ) → is_section_bound sections x ≡ true → begins sections db r x ≡ true
+pub bound_begins : {A : Type 0} (sections : List ImageSectionHeader) (db : Database A) (r x : ℕ) → is_section_bound sections x ≡ true → begins sections db r x ≡ true
 bound_begins sections db r x h = ap (λ (c : Bool). (x == r) || (c || is_bound_in db (place sections x))) h ∙ or-true (x == r)
 
-pub first_begins : (sections : List ImageSectionHeader) (db : Database) (r : ℕ) → begins sections db r r ≡ true
+pub first_begins : {A : Type 0} (sections : List ImageSectionHeader) (db : Database A) (r : ℕ) → begins sections db r r ≡ true
 first_begins sections db r = ap (λ (c : Bool). c || (is_section_bound sections r || is_bound_in db (place sections r))) (eq-eqb r r refl)
 
-pub range_start : (answer : ℕ → Option Function) (r : ℕ) (t : List (Function × ℕ)) → IsCounted answer r (r - r) t t
-range_start answer r t = let e : 0 ≡ r - r = omega arith in subst (λ (m : ℕ). IsCounted answer r m t t) e (counted_start answer r t)
+pub range_start : {K A : Type 0} (found : K → Option A) (answer : ℕ → Option A) (r : ℕ) (t : List (K × ℕ)) → IsCounted found answer r (r - r) t t
+range_start found answer r t = let e : 0 ≡ r - r = omega arith in subst (λ (m : ℕ). IsCounted found answer r m t t) e (counted_start found answer r t)

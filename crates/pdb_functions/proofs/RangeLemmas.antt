@@ -14,10 +14,15 @@ use Rattle.pdb_addresses.specs.Omap.{translated, sent_by, record_at, last_number
 use Rattle.pdb_addresses.specs.Ranges.{TranslatedRun, below, kept, runs, internal_range, internal_ranges}
 use Rattle.pdb_addresses.specs.Sections.{place}
 use Rattle.pdb_functions.specs.Counts.{how_many, in_ranges, count, count_of_none, pieces, counted_at, is_last, answer_at, begins}
-use Rattle.pdb_functions.specs.FunctionOrder.{Function}
-use Rattle.pdb_functions.specs.Databases.{Database, is_answer}
-use Rattle.pdb_functions.specs.Table.{IsCounted, IsWithin, count_in, sum_of}
-use Rattle.pdb_functions.proofs.HowMany.{how_many-along, how_many-most, how_many-not}
+use Rattle.std.specs.declared.cmp.Ordering.{Ordering}
+use Rattle.std.specs.Cmp.{IsTotalOrder}
+use Rattle.std.specs.declared.cmp.Ordering.TheVariants.{Equal}
+use Rattle.pdb_functions.specs.Answers.{is_same, picked}
+use Rattle.pdb_functions.specs.Databases.{Database}
+use Rattle.pdb_functions.specs.Table.{IsCounted, IsResolved, IsTable, IsWithin, count_in, sum_of, sum_found}
+use Rattle.pdb_functions.proofs.CountLemmas.{sum_all, picked_any}
+use Rattle.pdb_functions.proofs.TableLemmas.{count_is_sum}
+use Rattle.pdb_functions.proofs.HowMany.{how_many-along, how_many-same, how_many-most, how_many-not}
 
 -- ---- numbers in a list
 
@@ -88,7 +93,7 @@ unfolding AreLow
 low_inner None a low = low
 low_inner (Some records) a low = low_by a (record_at records (last_number records a))
 
-low_as : (top x : ℕ) (test : ℕ → Bool) (picks : Option Function → Bool) (answer : Option Function) → picks None ≡ false → x ≤ top → test x ≡ picks answer
+low_as : {A : Type 0} (top x : ℕ) (test : ℕ → Bool) (picks : Option A → Bool) (answer : Option A) → picks None ≡ false → x ≤ top → test x ≡ picks answer
     → passes test (cond (ltb x top) (Some x) None) ≡ picks (cond (x == top) None answer)
 unfolding passes
 low_as top x test picks answer none low same = elim (cases_lt x top) [
@@ -100,8 +105,8 @@ low_as top x test picks answer none low same = elim (cases_lt x top) [
       rw (le-ltb x top last, eq-eqb x top it) (sym none)
 ]
 
-counted_as : (sections : List ImageSectionHeader) (db : Database) (picks : Option Function → Bool) (o : Option ℕ) → picks None ≡ false → AreLow o
-    → passes (λ x. picks (answer_at sections db x)) (option_and_then (below (2 ^ 32 - 1)) o) ≡ picks (cond (is_last o) None (option_and_then db.function (option_and_then (place sections) o)))
+counted_as : {A : Type 0} (sections : List ImageSectionHeader) (db : Database A) (picks : Option A → Bool) (o : Option ℕ) → picks None ≡ false → AreLow o
+    → passes (λ x. picks (answer_at sections db x)) (option_and_then (below (2 ^ 32 - 1)) o) ≡ picks (cond (is_last o) None (option_and_then db.answer (option_and_then (place sections) o)))
 unfolding passes AreLow
 counted_as sections db picks None none low = sym none
 counted_as sections db picks (Some x) none low = low_as (2 ^ 32 - 1) x (λ y. picks (answer_at sections db y)) picks (answer_at sections db x) none (omega arith) refl
@@ -109,8 +114,8 @@ counted_as sections db picks (Some x) none low = low_as (2 ^ 32 - 1) x (λ y. pi
 -- ---- a range
 
 -- Addresses of answers of some kind, none of it no answer at all: over the ranges that a range becomes, and one by one.
-pub ranges_one_by_one : (laid : (omap : Option (List OMAPRecord)) (start end : ℕ) → laid_out (runs omap start end) ≡ one_by_one omap start end)
-    → (m : Map) (db : Database) (picks : Option Function → Bool) (s e : ℕ) → picks None ≡ false → e ≤ 2 ^ 32
+pub ranges_one_by_one : {A : Type 0} (laid : (omap : Option (List OMAPRecord)) (start end : ℕ) → laid_out (runs omap start end) ≡ one_by_one omap start end)
+    → (m : Map) (db : Database A) (picks : Option A → Bool) (s e : ℕ) → picks None ≡ false → e ≤ 2 ^ 32
     → in_ranges (λ _ x. picks (answer_at m.internal db x)) (internal_ranges m.to_internal s e) ≡ how_many (λ a. picks (counted_at m db a)) s (e - s)
 ranges_one_by_one laid m db picks s e none low =
     of_runs (λ x. picks (answer_at m.internal db x)) (runs m.to_internal s e)
@@ -119,70 +124,94 @@ ranges_one_by_one laid m db picks s e none low =
     ∙ how_many-along (λ a. passes (λ x. picks (answer_at m.internal db x)) (kept m.to_internal a)) (λ a. picks (counted_at m db a)) (e - s) s s
     (λ k lt. counted_as m.internal db picks (inner m (s + k)) none (low_inner m.to_internal (s + k) (omega arith)))
 
--- what is counted so far and what is left of the ranges are the whole
-pub record IsSoFar (sections : List ImageSectionHeader) (db : Database) (ranges left : List (Range PdbInternalRva)) (table : List (Function × ℕ)) (before lookups : ℕ) : Type 0 where
-  pub each : (f : Function) → count_in table f + in_ranges (λ _ x. is_answer f (answer_at sections db x)) left ≡ in_ranges (λ _ x. is_answer f (answer_at sections db x)) ranges
-  pub all : sum_of table + in_ranges (λ _ x. is_some (answer_at sections db x)) left ≡ in_ranges (λ _ x. is_some (answer_at sections db x)) ranges
-  pub lookups_left : lookups + in_ranges (begins sections db) left ≤ before + in_ranges (begins sections db) ranges
+-- the ranges that a range becomes have no more addresses than it has
+all_addresses : (laid : (omap : Option (List OMAPRecord)) (start end : ℕ) → laid_out (runs omap start end) ≡ one_by_one omap start end)
+    → (m : Map) (s e : ℕ) → in_ranges (λ _ _. true) (internal_ranges m.to_internal s e) ≤ e - s
+all_addresses laid m s e =
+    let a = of_runs (λ _. true) (runs m.to_internal s e) ∙ ap (how_many_of (λ _. true)) (laid m.to_internal s e) ∙ of_each (λ _. true) (kept m.to_internal) (e - s) s in
+    let b = how_many-most (λ x. passes (λ _. true) (kept m.to_internal x)) (e - s) s in
+    omega (arith, a, b)
 
-pub so_far_start : (sections : List ImageSectionHeader) (db : Database) (ranges : List (Range PdbInternalRva)) (lookups : ℕ) → IsSoFar sections db ranges ranges [] lookups lookups
-so_far_start sections db ranges lookups = record {
-  each = λ f. omega arith;
-  all = omega arith;
-  lookups_left = omega arith;
-}
+module _ {K A : Type 0} (found : K → Option A) where
+  -- what is counted so far and what is left of the ranges are the whole
+  pub record IsSoFar (sections : List ImageSectionHeader) (db : Database A) (ranges left : List (Range PdbInternalRva)) (table : List (K × ℕ)) (before lookups : ℕ) : Type 0 where
+    pub each : (test : A → Bool) → sum_found found test table + in_ranges (λ _ x. picked test (answer_at sections db x)) left ≡ in_ranges (λ _ x. picked test (answer_at sections db x)) ranges
+    pub room : sum_of table + in_ranges (λ _ _. true) left ≤ in_ranges (λ _ _. true) ranges
+    pub lookups_left : lookups + in_ranges (begins sections db) left ≤ before + in_ranges (begins sections db) ranges
 
-pub so_far_more : (sections : List ImageSectionHeader) (db : Database) (ranges left due : List (Range PdbInternalRva)) (r : Range PdbInternalRva) (t u : List (Function × ℕ)) (x y z : ℕ)
-    → due ≡ r ∷ left → IsSoFar sections db ranges due t x y
-    → IsCounted (answer_at sections db) r.start.0 (r.end.0 - r.start.0) t u → IsWithin (begins sections db r.start.0) r.start.0 (r.end.0 - r.start.0) y z
-    → IsSoFar sections db ranges left u x z
-so_far_more sections db ranges left due r t u x y z is h counted within = record {
-  each = λ f.
-      let a = counted.each f in
-      let b : count_in t f + in_ranges (λ _ v. is_answer f (answer_at sections db v)) (r ∷ left) ≡ in_ranges (λ _ v. is_answer f (answer_at sections db v)) ranges =
-      subst (λ (l : List (Range PdbInternalRva)). count_in t f + in_ranges (λ _ v. is_answer f (answer_at sections db v)) l ≡ in_ranges (λ _ v. is_answer f (answer_at sections db v)) ranges) is (h.each f) in
-      omega (arith, a, b);
-  all =
-      let a = counted.all in
-      let b : sum_of t + in_ranges (λ _ v. is_some (answer_at sections db v)) (r ∷ left) ≡ in_ranges (λ _ v. is_some (answer_at sections db v)) ranges =
-      subst (λ (l : List (Range PdbInternalRva)). sum_of t + in_ranges (λ _ v. is_some (answer_at sections db v)) l ≡ in_ranges (λ _ v. is_some (answer_at sections db v)) ranges) is h.all in
-      omega (arith, a, b);
-  lookups_left =
-      let a = within.bound in
-      let b : y + in_ranges (begins sections db) (r ∷ left) ≤ x + in_ranges (begins sections db) ranges =
-      subst (λ (l : List (Range PdbInternalRva)). y + in_ranges (begins sections db) l ≤ x + in_ranges (begins sections db) ranges) is h.lookups_left in
-      omega (arith, a, b);
-}
+  pub so_far_start : (sections : List ImageSectionHeader) (db : Database A) (ranges : List (Range PdbInternalRva)) (lookups : ℕ) → IsSoFar sections db ranges ranges [] lookups lookups
+  so_far_start sections db ranges lookups = record {
+    each = λ test. omega arith;
+    room = omega arith;
+    lookups_left = omega arith;
+  }
 
--- what the table and the tally are at the end
-pub record IsWhole (m : Map) (db : Database) (s e : ℕ) (table : List (Function × ℕ)) (before lookups : ℕ) : Type 0 where
-  pub each : (f : Function) → count_in table f ≡ count m db s e f
-  pub none : e - s - sum_of table ≡ count_of_none m db s e
-  pub most : sum_of table ≤ e - s
-  pub lookups_most : lookups ≤ before + pieces m db s e
+  pub so_far_more : (sections : List ImageSectionHeader) (db : Database A) (ranges left due : List (Range PdbInternalRva)) (r : Range PdbInternalRva) (t u : List (K × ℕ)) (x y z : ℕ)
+      → due ≡ r ∷ left → IsSoFar sections db ranges due t x y
+      → IsCounted found (answer_at sections db) r.start.0 (r.end.0 - r.start.0) t u → IsWithin (begins sections db r.start.0) r.start.0 (r.end.0 - r.start.0) y z
+      → IsSoFar sections db ranges left u x z
+  so_far_more sections db ranges left due r t u x y z is h counted within = record {
+    each = λ test.
+        let a = counted.each test in
+        let b : sum_found found test t + in_ranges (λ _ v. picked test (answer_at sections db v)) (r ∷ left) ≡ in_ranges (λ _ v. picked test (answer_at sections db v)) ranges =
+        subst (λ (l : List (Range PdbInternalRva)). sum_found found test t + in_ranges (λ _ v. picked test (answer_at sections db v)) l ≡ in_ranges (λ _ v. picked test (answer_at sections db v)) ranges) is (h.each test) in
+        omega (arith, a, b);
+    room =
+        let a = counted.room in
+        let b : sum_of t + in_ranges (λ _ _. true) (r ∷ left) ≤ in_ranges (λ _ _. true) ranges =
+        subst (λ (l : List (Range PdbInternalRva)). sum_of t + in_ranges (λ _ _. true) l ≤ in_ranges (λ _ _. true) ranges) is h.room in
+        let c : how_many (λ _. true) r.start.0 (r.end.0 - r.start.0) ≡ r.end.0 - r.start.0 = how_many-same (λ _. true) true (r.end.0 - r.start.0) r.start.0 (λ _ _. refl) in
+        omega (arith, a, b, c);
+    lookups_left =
+        let a = within.bound in
+        let b : y + in_ranges (begins sections db) (r ∷ left) ≤ x + in_ranges (begins sections db) ranges =
+        subst (λ (l : List (Range PdbInternalRva)). y + in_ranges (begins sections db) l ≤ x + in_ranges (begins sections db) ranges) is h.lookups_left in
+        omega (arith, a, b);
+  }
 
--- no more is counted than there are addresses
-pub so_far_most : (laid : (omap : Option (List OMAPRecord)) (start end : ℕ) → laid_out (runs omap start end) ≡ one_by_one omap start end)
-    → (m : Map) (db : Database) (s e : ℕ) (left : List (Range PdbInternalRva)) (table : List (Function × ℕ)) (before lookups : ℕ) → e ≤ 2 ^ 32
-    → IsSoFar m.internal db (internal_ranges m.to_internal s e) left table before lookups → sum_of table ≤ e - s
-so_far_most laid m db s e left table before lookups low h =
-    let a = h.all in
-    let b = ranges_one_by_one laid m db is_some s e refl low in
-    let c = how_many-most (λ x. is_some (counted_at m db x)) (e - s) s in
-    omega (arith, a, b, c)
+  -- what the table and the tally are at the end
+  pub record IsWhole (m : Map) (db : Database A) (s e : ℕ) (table : List (K × ℕ)) (before lookups : ℕ) : Type 0 where
+    pub each : (test : A → Bool) → sum_found found test table ≡ how_many (λ a. picked test (counted_at m db a)) s (e - s)
+    pub lookups_most : lookups ≤ before + pieces m db s e
 
-pub so_far_end : (laid : (omap : Option (List OMAPRecord)) (start end : ℕ) → laid_out (runs omap start end) ≡ one_by_one omap start end)
-    → (m : Map) (db : Database) (s e : ℕ) (left : List (Range PdbInternalRva)) (table : List (Function × ℕ)) (before lookups : ℕ) → e ≤ 2 ^ 32 → left ≡ []
-    → IsSoFar m.internal db (internal_ranges m.to_internal s e) left table before lookups → IsWhole m db s e table before lookups
-so_far_end laid m db s e left table before lookups low none h =
-    let g : IsSoFar m.internal db (internal_ranges m.to_internal s e) [] table before lookups = subst (λ (l : List (Range PdbInternalRva)). IsSoFar m.internal db (internal_ranges m.to_internal s e) l table before lookups) none h in
-    record {
-      each = λ f. let a = g.each f in let b = ranges_one_by_one laid m db (is_answer f) s e refl low in omega (arith, a, b);
-      none =
-          let a = g.all in
-          let b = ranges_one_by_one laid m db is_some s e refl low in
-          let c = how_many-not (λ x. is_some (counted_at m db x)) (e - s) s in
-          omega (arith, a, b, c);
-      most = so_far_most laid m db s e [] table before lookups low g;
-      lookups_most = let a = g.lookups_left in omega (arith, a);
-    }
+  -- no more is counted than there are addresses
+  pub so_far_most : (laid : (omap : Option (List OMAPRecord)) (start end : ℕ) → laid_out (runs omap start end) ≡ one_by_one omap start end)
+      → (m : Map) (db : Database A) (s e : ℕ) (left : List (Range PdbInternalRva)) (table : List (K × ℕ)) (before lookups : ℕ)
+      → IsSoFar m.internal db (internal_ranges m.to_internal s e) left table before lookups → sum_of table + in_ranges (λ _ _. true) left ≤ e - s
+  so_far_most laid m db s e left table before lookups h =
+      let a = h.room in
+      let b = all_addresses laid m s e in
+      omega (arith, a, b)
+
+  pub so_far_end : (laid : (omap : Option (List OMAPRecord)) (start end : ℕ) → laid_out (runs omap start end) ≡ one_by_one omap start end)
+      → (m : Map) (db : Database A) (s e : ℕ) (left : List (Range PdbInternalRva)) (table : List (K × ℕ)) (before lookups : ℕ) → e ≤ 2 ^ 32 → left ≡ []
+      → IsSoFar m.internal db (internal_ranges m.to_internal s e) left table before lookups → IsWhole m db s e table before lookups
+  so_far_end laid m db s e left table before lookups low none h =
+      let g : IsSoFar m.internal db (internal_ranges m.to_internal s e) [] table before lookups = subst (λ (l : List (Range PdbInternalRva)). IsSoFar m.internal db (internal_ranges m.to_internal s e) l table before lookups) none h in
+      record {
+        each = λ test. let a = g.each test in let b = ranges_one_by_one laid m db (picked test) s e refl low in omega (arith, a, b);
+        lookups_most = let a = g.lookups_left in omega (arith, a);
+      }
+
+-- the counts of the answers that the keys stand for
+module _ {K A : Type 0} (cmp : A → A → Ordering) (total : IsTotalOrder cmp) (exact : (a b : A) → cmp a b ≡ Equal → a ≡ b) (found : K → Option A)
+    (m : Map) (db : Database A) (s e : ℕ) (keys : List (K × ℕ)) (counts : List (A × ℕ)) (before lookups : ℕ) (whole : IsWhole found m db s e keys before lookups) (resolved : IsResolved found keys counts) where
+  pub each_counted : IsTable cmp counts → (f : A) → count_in cmp counts f ≡ count cmp m db s e f
+  each_counted table f = count_is_sum cmp total exact f counts table.order ∙ resolved.each (is_same cmp f) ∙ whole.each (is_same cmp f)
+
+  -- as many are counted as have an answer
+  pub sum_counted : sum_of counts ≡ how_many (λ a. is_some (counted_at m db a)) s (e - s)
+  sum_counted = sym (sum_all counts) ∙ resolved.each (λ _. true) ∙ whole.each (λ _. true)
+      ∙ how_many-along (λ a. picked (λ _. true) (counted_at m db a)) (λ a. is_some (counted_at m db a)) (e - s) s s (λ k lt. picked_any (counted_at m db (s + k)))
+
+  pub most_counted : sum_of counts ≤ e - s
+  most_counted =
+      let a = sum_counted in
+      let b = how_many-most (λ x. is_some (counted_at m db x)) (e - s) s in
+      omega (arith, a, b)
+
+  pub none_counted : e - s - sum_of counts ≡ count_of_none m db s e
+  none_counted =
+      let a = sum_counted in
+      let b = how_many-not (λ x. is_some (counted_at m db x)) (e - s) s in
+      omega (arith, a, b)

@@ -1,92 +1,120 @@
--- A table in which the number of one function was raised.
+-- A table in which the number of one answer was raised.
 use Rattle.std.proofs.Common.{◌≡◌, ℕ, ◌+◌, ◌^◌, ◌<◌, ◌≤◌, rules, Bool, true, false, cond, List, [], ◌∷◌, refl, sym, ap, ◌∙◌, subst, arith}
 use Rattle.std.specs.Prelude.{Option, Some, option_map, unwrap_or, sum}
 use Rattle.std.specs.declared.cmp.Ordering.{Ordering}
 use Rattle.std.specs.declared.cmp.Ordering.TheVariants.{Less, Equal, Greater}
+use Rattle.std.specs.Cmp.{IsTotalOrder}
 use Rattle.std.specs.BTreeMap.{insert_entry, is_at}
-use Rattle.std.specs.List.{All}
+use Rattle.std.specs.List.{All, AllByRecursion}
 use Rattle.std.specs.List.Sorted.{IsStrictlySortedBy}
 use Rattle.std.specs.Map.{lookup, keys_of, values_of}
-use Rattle.std.specs.Ordering.{match_ordering}
+use Rattle.std.specs.Ordering.{match_ordering, is_eq}
 use Rattle.std.proofs.lemmas.Map.Steps.{lookup-le-sum}
 use Rattle.std.proofs.lemmas.Map.Entries.{sum_by-insert_entry}
 use Rattle.std.proofs.lemmas.Map.Views.{All-values-insert_entry}
-use Rattle.std.proofs.lemmas.Cmp.{tied_itself}
 use Rattle.std.proofs.lemmas.Iterator.Adapters.{option_map_id}
-use Rattle.pdb_functions.specs.FunctionOrder.{Function, function_cmp, is_same}
-use Rattle.pdb_functions.specs.Table.{IsTable, IsAdded, count_in, sum_of}
-use Rattle.pdb_functions.specs.OrderLaws.{function_total}
-use Rattle.pdb_functions.proofs.Exact.{function_exact, same_is}
+use Rattle.pdb_functions.specs.Answers.{is_same}
+use Rattle.pdb_functions.specs.Table.{IsTable, IsAdded, count_in, sum_of, sum_where}
+use Rattle.pdb_functions.proofs.Exact.{same_is}
 
-twice : (b : Bool) (x y z : Option ℕ) → cond b x z ≡ cond b x (cond b y z)
-twice true x y z = refl
-twice false x y z = refl
+-- what a test counts of a number that counts twice, or not
+counts_twice : (b : Bool) (n m : ℕ) → cond b (n + m) 0 ≡ cond b n 0 + cond b m 0
+counts_twice true n m = refl
+counts_twice false n m = refl
 
-either_way : (b c : Bool) (x y z : Option ℕ) → (b ≡ true → c ≡ true → ⊥) → cond b x (cond c y z) ≡ cond c y (cond b x z)
-either_way true true x y z not_both = absurd (not_both refl refl)
-either_way true false x y z not_both = refl
-either_way false c x y z not_both = refl
+zeros : (b : Bool) → ◌≡◌ {A = ℕ} (cond b 0 0) 0
+zeros true = refl
+zeros false = refl
 
-not_greater : (k g : Function) → function_cmp k g ≡ Greater → (f : Function) → is_same f g ≡ true → is_same f k ≡ true → ⊥
-not_greater k g h f a b =
-    let same : k ≡ g = sym (same_is f k b) ∙ same_is f g a in
-    let tied : function_cmp k k ≡ Greater = subst (λ (x : Function). function_cmp k x ≡ Greater) (sym same) h in
-    let itself : function_cmp k k ≡ Equal = tied_itself function_total k in
-    (cc)
+module _ {A : Type 0} (cmp : A → A → Ordering) (total : IsTotalOrder cmp) (exact : (a b : A) → cmp a b ≡ Equal → a ≡ b) where
+  -- what stands after an answer has no count of it
+  lookup_after : (k : A) (es : List (A × ℕ)) → AllByRecursion (λ q. cmp k q ≡ Less) (keys_of es) → unwrap_or (lookup (is_same cmp k) es) 0 ≡ 0
+  lookup_after k [] h = refl
+  lookup_after k (e ∷ es) h = rw (h.0) (lookup_after k es h.1)
 
-put_first : (o : Ordering) (k : Function) (w : ℕ) (e : Function × ℕ) (es more : List (Function × ℕ)) (f : Function) → function_cmp k e.0 ≡ o
-    → lookup (is_same f) more ≡ cond (is_same f k) (Some w) (lookup (is_same f) es)
-    → lookup (is_same f) (match_ordering o ((k, w) ∷ e ∷ es) ((e.0, w) ∷ es) (e ∷ more)) ≡ cond (is_same f k) (Some w) (cond (is_same f e.0) (Some e.1) (lookup (is_same f) es))
-put_first Less k w e es more f at h = refl
-put_first Equal k w e es more f at h =
-    let same : k ≡ e.0 = function_exact k e.0 at in
-    subst (λ (x : Function). cond (is_same f e.0) (Some w) (lookup (is_same f) es) ≡ cond (is_same f x) (Some w) (cond (is_same f e.0) (Some e.1) (lookup (is_same f) es))) (sym same)
-    (twice (is_same f e.0) (Some w) (Some e.1) (lookup (is_same f) es))
-put_first Greater k w e es more f at h =
-    ap (λ (r : Option ℕ). cond (is_same f e.0) (Some e.1) r) h
-    ∙ either_way (is_same f e.0) (is_same f k) (Some e.1) (Some w) (lookup (is_same f) es) (not_greater k e.0 at f)
+  all_after : (k e : A) (qs : List A) → cmp k e ≡ Less → AllByRecursion (λ q. cmp e q ≡ Less) qs → AllByRecursion (λ q. cmp k q ≡ Less) qs
+  all_after k e [] less h = tt
+  all_after k e (q ∷ qs) less h = (total.trans k e q less h.0, all_after k e qs less h.1)
 
-lookup_put : (table : List (Function × ℕ)) (k : Function) (w : ℕ) (f : Function) → lookup (is_same f) (insert_entry function_cmp table k w) ≡ cond (is_same f k) (Some w) (lookup (is_same f) table)
-lookup_put [] k w f = refl
-lookup_put (e ∷ es) k w f = put_first (function_cmp k e.0) k w e es (insert_entry function_cmp es k w) f refl (lookup_put es k w f)
+  put_at : (test : A → Bool) (o : Ordering) (k : A) (w : ℕ) (e : A × ℕ) (es more : List (A × ℕ)) → cmp k e.0 ≡ o
+      → AllByRecursion (λ q. cmp e.0 q ≡ Less) (keys_of es)
+      → sum_where test more + cond (test k) (unwrap_or (lookup (is_same cmp k) es) 0) 0 ≡ sum_where test es + cond (test k) w 0
+      → sum_where test (match_ordering o ((k, w) ∷ e ∷ es) ((e.0, w) ∷ es) (e ∷ more)) + cond (test k) (unwrap_or (cond (is_eq o) (Some e.1) (lookup (is_same cmp k) es)) 0) 0
+      ≡ sum_where test (e ∷ es) + cond (test k) w 0
+  put_at test Less k w e es more at after h =
+      let none = lookup_after k es (all_after k e.0 (keys_of es) at after) in
+      let counted : cond (test k) (unwrap_or (lookup (is_same cmp k) es) 0) 0 ≡ cond (test k) 0 0 = ap (λ (n : ℕ). cond (test k) n 0) none in
+      let zero_either = zeros (test k) in
+      omega (arith, counted, zero_either)
+  put_at test Equal k w e es more at after h =
+      let same : k ≡ e.0 = exact k e.0 at in
+      let kept : cond (test e.0) w 0 ≡ cond (test k) w 0 = ap (λ (x : A). cond (test x) w 0) (sym same) in
+      let gone : cond (test e.0) e.1 0 ≡ cond (test k) e.1 0 = ap (λ (x : A). cond (test x) e.1 0) (sym same) in
+      omega (arith, kept, gone)
+  put_at test Greater k w e es more at after h = omega (arith, h)
 
-pick : (b : Bool) (x y : Option ℕ) (n : ℕ) → (b ≡ true → x ≡ y) → unwrap_or (cond b (Some (unwrap_or y 0 + n)) x) 0 ≡ unwrap_or x 0 + cond b n 0
-pick true x y n h = rw (h refl) refl
-pick false x y n h = omega arith
+  -- what a test counts once the number of an answer is set
+  pub put_sum : (test : A → Bool) (table : List (A × ℕ)) (k : A) (w : ℕ) → IsStrictlySortedBy cmp (keys_of table)
+      → sum_where test (insert_entry cmp table k w) + cond (test k) (count_in cmp table k) 0 ≡ sum_where test table + cond (test k) w 0
+  unfolding IsStrictlySortedBy
+  put_sum test [] k w order = let zero_either = zeros (test k) in omega (arith, zero_either)
+  put_sum test (e ∷ es) k w order = put_at test (cmp k e.0) k w e es (insert_entry cmp es k w) refl order.0 (put_sum test es k w order.1)
 
-pub added : (table : List (Function × ℕ)) (k : Function) (n : ℕ) → IsStrictlySortedBy function_cmp (keys_of table) → IsAdded table (Some k) n (insert_entry function_cmp table k (count_in table k + n))
-added table k n order = record {
-  each = λ f. ap (λ (r : Option ℕ). unwrap_or r 0) (lookup_put table k (count_in table k + n) f)
-      ∙ pick (is_same f k) (lookup (is_same f) table) (lookup (is_same k) table) n (λ same. ap (λ (g : Function). lookup (is_same g) table) (same_is f k same));
-  all =
-      let e = sum_by-insert_entry (λ (x : ℕ). x) function_total table k (count_in table k + n) order in
-      let i : unwrap_or (option_map (λ (x : ℕ). x) (lookup (is_same k) table)) 0 ≡ count_in table k = ap (λ (o : Option ℕ). unwrap_or o 0) (option_map_id (lookup (is_same k) table)) in
-      omega (arith, e, i);
-}
+  pub added : (table : List (A × ℕ)) (k : A) (n : ℕ) → IsStrictlySortedBy cmp (keys_of table) → IsAdded table (Some k) n (insert_entry cmp table k (count_in cmp table k + n))
+  added table k n order = record {
+    each = λ test.
+        let put = put_sum test table k (count_in cmp table k + n) order in
+        let twice = counts_twice (test k) (count_in cmp table k) n in
+        omega (arith, put, twice);
+    all =
+        let e = sum_by-insert_entry (λ (x : ℕ). x) total table k (count_in cmp table k + n) order in
+        let i : unwrap_or (option_map (λ (x : ℕ). x) (lookup (is_same cmp k) table)) 0 ≡ count_in cmp table k = ap (λ (o : Option ℕ). unwrap_or o 0) (option_map_id (lookup (is_same cmp k) table)) in
+        omega (arith, e, i);
+  }
 
--- ---- over a map's own words
+  -- ---- over a map's own words
 
-pub raised_to : (es fs : List (Function × ℕ)) (k : Function) (n before w : ℕ) → IsTable es → before ≡ unwrap_or (lookup (is_at (function_cmp k)) es) 0 → w ≡ before + n → fs ≡ insert_entry function_cmp es k w
-    → IsAdded es (Some k) n fs
-raised_to es fs k n before w table at sum e =
-    let f : fs ≡ insert_entry function_cmp es k (count_in es k + n) = e ∙ ap (λ (v : ℕ). insert_entry function_cmp es k v) (sum ∙ ap (λ (v : ℕ). v + n) at) in
-    subst (λ (t : List (Function × ℕ)). IsAdded es (Some k) n t) (sym f) (added es k n table.order)
+  pub raised_to : (es fs : List (A × ℕ)) (k : A) (n before w : ℕ) → IsTable cmp es → before ≡ unwrap_or (lookup (is_at (cmp k)) es) 0 → w ≡ before + n → fs ≡ insert_entry cmp es k w
+      → IsAdded es (Some k) n fs
+  raised_to es fs k n before w table at sum e =
+      let f : fs ≡ insert_entry cmp es k (count_in cmp es k + n) = e ∙ ap (λ (v : ℕ). insert_entry cmp es k v) (sum ∙ ap (λ (v : ℕ). v + n) at) in
+      subst (λ (t : List (A × ℕ)). IsAdded es (Some k) n t) (sym f) (added es k n table.order)
 
--- in order, where the map is, and with no count of 0
-pub table_raised : (es fs : List (Function × ℕ)) (k : Function) (w : ℕ) → IsTable es → 1 ≤ w → fs ≡ insert_entry function_cmp es k w → IsStrictlySortedBy function_cmp (keys_of fs) → IsTable fs
-table_raised es fs k w table some e order = record {
-  order = order;
-  some = subst (λ (t : List (Function × ℕ)). All (λ n. 1 ≤ n) (values_of t)) (sym e) (All-values-insert_entry function_cmp k w (λ n. 1 ≤ n) es table.some some);
-}
+  -- in order, where the map is, and with no count of 0
+  pub table_raised : (es fs : List (A × ℕ)) (k : A) (w : ℕ) → IsTable cmp es → 1 ≤ w → fs ≡ insert_entry cmp es k w → IsStrictlySortedBy cmp (keys_of fs) → IsTable cmp fs
+  table_raised es fs k w table some e order = record {
+    order = order;
+    some = subst (λ (t : List (A × ℕ)). All (λ n. 1 ≤ n) (values_of t)) (sym e) (All-values-insert_entry cmp k w (λ n. 1 ≤ n) es table.some some);
+  }
 
-pub empty_table : (es : List (Function × ℕ)) → es ≡ [] → IsTable es × (sum_of es ≡ 0)
-unfolding IsStrictlySortedBy
-empty_table es h =
-    let none : IsTable [] = record { order = tt; some = search rules } in
-    subst (λ (t : List (Function × ℕ)). IsTable t × (sum_of t ≡ 0)) (sym h) (none, refl)
+  pub empty_table : (es : List (A × ℕ)) → es ≡ [] → IsTable cmp es × (sum_of es ≡ 0)
+  unfolding IsStrictlySortedBy
+  empty_table es h =
+      let none : IsTable cmp [] = record { order = tt; some = search rules } in
+      subst (λ (t : List (A × ℕ)). IsTable cmp t × (sum_of t ≡ 0)) (sym h) (none, refl)
 
-pub number_fits : (es : List (Function × ℕ)) (k : Function) (before count : ℕ) → before ≡ unwrap_or (lookup (is_at (function_cmp k)) es) 0 → sum_of es + count < 2 ^ 64 → before + count < 2 ^ 64
-number_fits es k before count at room =
-    let e : before ≡ count_in es k = at in
-    let f = lookup-le-sum (is_same k) es in
-    omega (arith, e, f)
+  pub number_fits : (es : List (A × ℕ)) (k : A) (before count : ℕ) → before ≡ unwrap_or (lookup (is_at (cmp k)) es) 0 → sum_of es + count < 2 ^ 64 → before + count < 2 ^ 64
+  number_fits es k before count at room =
+      let e : before ≡ count_in cmp es k = at in
+      let f = lookup-le-sum (is_same cmp k) es in
+      omega (arith, e, f)
+
+  -- ---- what a table in order has for an answer is what the test for it counts
+
+  none_after : (k : A) (es : List (A × ℕ)) → AllByRecursion (λ q. cmp k q ≡ Less) (keys_of es) → sum_where (is_same cmp k) es ≡ 0
+  none_after k [] h = refl
+  none_after k (e ∷ es) h = let others = none_after k es h.1 in rw (h.0) (omega (arith, others))
+
+  count_at : (f : A) (b : Bool) (e : A × ℕ) (es : List (A × ℕ)) → is_same cmp f e.0 ≡ b → AllByRecursion (λ q. cmp e.0 q ≡ Less) (keys_of es)
+      → unwrap_or (lookup (is_same cmp f) es) 0 ≡ sum_where (is_same cmp f) es
+      → unwrap_or (cond b (Some e.1) (lookup (is_same cmp f) es)) 0 ≡ cond b e.1 0 + sum_where (is_same cmp f) es
+  count_at f true e es at after h =
+      let same : f ≡ e.0 = same_is cmp total exact f e.0 at in
+      let none : sum_where (is_same cmp f) es ≡ 0 = subst (λ (x : A). sum_where (is_same cmp x) es ≡ 0) (sym same) (none_after e.0 es after) in
+      omega (arith, none)
+  count_at f false e es at after h = omega (arith, h)
+
+  pub count_is_sum : (f : A) (table : List (A × ℕ)) → IsStrictlySortedBy cmp (keys_of table) → count_in cmp table f ≡ sum_where (is_same cmp f) table
+  unfolding IsStrictlySortedBy
+  count_is_sum f [] order = refl
+  count_is_sum f (e ∷ es) order = count_at f (is_same cmp f e.0) e es refl order.0 (count_is_sum f es order.1)

@@ -1,18 +1,17 @@
 -- What a database answers for places, and runs of one answer.
-use Rattle.std.specs.Prelude.{◌≡◌, ℕ, ◌+◌, ◌<◌, ◌≤◌, Bool, true, false, Option, None, Some}
+use Rattle.std.specs.Prelude.{◌≡◌, ℕ, ◌+◌, ◌<◌, ◌≤◌, Bool, true, false, Option}
 use Rattle.pdb_addresses.specs.Places.{Place}
 use Rattle.pdb_addresses.specs.declared.internal_section_offset.PdbInternalSectionOffset.{PdbInternalSectionOffset}
-use Rattle.pdb_functions.specs.FunctionOrder.{Function, is_same}
 
--- the function at each place, and whether the place is a bound: a start or an end of something that functions are found by
-pub record Database : Type 0 where
-  pub function : Place → Option Function
+-- the answer at each place, and whether the place is a bound: a start or an end of something that answers are found by
+pub record Database (A : Type 0) : Type 0 where
+  pub answer : Place → Option A
   pub is_bound : Place → Bool
 
--- whether an answer is a function
-abbrev pub is_answer : Function → Option Function → Bool
-is_answer f None = false
-is_answer f (Some g) = is_same f g
+-- what answers places by keys: the answer that a key stands for, if there is one, and the answers at places
+pub record Keyed (K A : Type 0) : Type 0 where
+  pub answer_of : K → Option A
+  pub places : Database A
 
 -- a place so many bytes on in its section
 abbrev pub on : Place → ℕ → Place
@@ -23,9 +22,9 @@ abbrev pub place_of : PdbInternalSectionOffset → Place
 place_of p = record { section = p.section; offset = p.offset }
 
 -- n is the lesser of a limit and the distance to the next bound, and all n places have one answer
-pub record IsOneRun (db : Database) (p : Place) (limit n : ℕ) : Type 0 where
+pub record IsOneRun {A : Type 0} (db : Database A) (p : Place) (limit n : ℕ) : Type 0 where
   pub some : 1 ≤ n
   pub within : n ≤ limit
-  pub alike : (k : ℕ) → k < n → db.function (on p k) ≡ db.function p
+  pub alike : (k : ℕ) → k < n → db.answer (on p k) ≡ db.answer p
   pub clear : (k : ℕ) → 1 ≤ k → k < n → db.is_bound (on p k) ≡ false
   pub ends : n < limit → db.is_bound (on p n) ≡ true

@@ -1,9 +1,9 @@
 -- Functions of an image, and their order.
-use Rattle.std.specs.Prelude.{ℕ, Bool, List, Option}
+use Rattle.std.specs.Prelude.{ℕ, List, Option}
 use Rattle.std.specs.declared.cmp.Ordering.{Ordering}
 use Rattle.std.specs.Cmp.Lexicographic.{slice_cmp}
 use Rattle.std.specs.Option.{option_cmp}
-use Rattle.std.specs.Ordering.{nat_cmp, ordering_then, is_eq}
+use Rattle.std.specs.Ordering.{nat_cmp, ordering_then}
 
 -- where a function begins and ends, and its name
 pub record Function : Type 0 where
@@ -14,7 +14,3 @@ pub record Function : Type 0 where
 -- by start, end and name; a missing one comes first
 abbrev pub function_cmp : Function → Function → Ordering
 function_cmp a b = ordering_then (nat_cmp a.start_rva b.start_rva) (ordering_then (option_cmp nat_cmp a.end_rva b.end_rva) (option_cmp (slice_cmp nat_cmp) a.name b.name))
-
--- whether two functions compare as equal
-abbrev pub is_same : Function → Function → Bool
-is_same a b = is_eq (function_cmp a b)

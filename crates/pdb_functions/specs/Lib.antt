@@ -1,7 +1,12 @@
+pub mod Answers
 pub mod Counts
 pub mod Databases
+pub mod FileAnswers
+pub mod FileLaws
+pub mod FileReport
 pub mod Frames
 pub mod FunctionOrder
+pub mod KeyOrder
 pub mod OrderLaws
 pub mod Report
 pub mod Table

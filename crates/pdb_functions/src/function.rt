@@ -2,9 +2,11 @@
 
 ghost use Rattle.std.specs.Prelude.{◌≡◌, IfOk, Some, refl, option_map, string_bytes};
 ghost use Rattle.std.specs.Cmp.{eq_by_cmp_equiv, partial_equiv_from_equiv, partial_order_from_total};
-ghost use Rattle.pdb_functions.specs.FunctionOrder.{function_cmp, is_same};
-ghost use Rattle.pdb_functions.specs.OrderLaws.{function_total};
+ghost use Rattle.pdb_functions.specs.Answers.{is_same};
+ghost use Rattle.pdb_functions.specs.FunctionOrder.{function_cmp};
+ghost use Rattle.pdb_functions.specs.OrderLaws.{function_total, function_exact};
 
+use crate::answer::Answer;
 use std::alloc::{AllocError, Global};
 use std::cmp::Ordering;
 use std::marker::Model;
@@ -58,7 +60,7 @@ pub(crate) fn clone_name(alloc: Global, name: &Option<String>) -> Result<Option<
 
 /// Two functions are equal where start, end and name are.
 impl PartialEq for Function {
-    ghost eq = { is_same };
+    ghost eq = { is_same function_cmp };
 
     ghost laws = { partial_equiv_from_equiv (eq_by_cmp_equiv function_total) };
 
@@ -98,4 +100,9 @@ impl Ord for Function {
             .then(self.end_rva.cmp(&other.end_rva))
             .then(self.name.cmp(&other.name))
     }
+}
+
+/// Two functions that compare as equal are one.
+impl Answer for Function {
+    ghost exact = { function_exact };
 }

@@ -4,19 +4,25 @@
 //! a report.
 #![tactic(auto)]
 
+mod answer;
+mod file_answer;
 mod frames;
 mod function;
-mod function_runs;
+mod function_key;
 pub mod laws;
+mod runs;
 mod shared_frames;
 mod sizes;
 mod table;
 mod text;
 
+pub use answer::Answer;
+pub use file_answer::{CountedFile, FileAnswer};
 pub use frames::{Frame, FrameRow, FunctionFrames};
 pub use function::Function;
-pub use function_runs::FunctionRuns;
+pub use function_key::FunctionKey;
+pub use runs::Runs;
 pub use shared_frames::{SharedFrame, SharedFunctionFrames, owned_name};
 pub use sizes::{Sizes, count_runs};
 pub use table::Counts;
-pub use text::sizes_text;
+pub use text::{by_file_text, sizes_text};

@@ -1,67 +1,88 @@
-//! Counts the functions of a range of addresses, run by run.
+//! Counts the answers of a range of addresses, run by run.
 
 ghost use Rattle.std.specs.Prelude.{◌≡◌, ℕ, ◌+◌, ◌-◌, ◌^◌, ◌<◌, ◌≤◌, true, Some, IfOk, OnOk};
 ghost use Rattle.pdb_addresses.specs.Addresses.{IsOrdered};
 ghost use Rattle.pdb_functions.specs.Counts.{count, count_of_none, pieces, answer_at, answer_along, begins, begins_along, is_section_bound};
-ghost use Rattle.pdb_functions.specs.FunctionOrder.{Function as FunctionValue};
 ghost use Rattle.pdb_functions.specs.Databases.{place_of};
-ghost use Rattle.pdb_functions.specs.Table.{IsTable, IsCounted, IsWithin, count_in, sum_of};
+ghost use Rattle.pdb_functions.specs.Table.{IsTable, IsCounted, IsResolved, IsWithin, count_in, sum_of};
 
-use crate::function_runs::FunctionRuns;
+use crate::answer::Answer;
+use crate::runs::Runs;
 use crate::table::Counts;
 use pdb_addresses::laws::ranges_laid_end_to_end;
 use pdb_addresses::{AddressMap, PdbInternalRva, PdbInternalSectionOffset, Rva};
 use std::alloc::{AllocError, Global};
 use std::ops::Range;
 
-/// The sizes of a range: how many of its addresses each function has, and how many have none.
+/// The sizes of a range: how many of its addresses have each answer, and how many have none.
 #[derive(Drop)]
-pub struct Sizes {
-    /// Functions in their order, each with how many addresses it has.
-    pub functions: Counts,
+pub struct Sizes<A: Answer> {
+    /// Answers in their order, each with how many addresses it has.
+    pub counts: Counts<A>,
     /// How many addresses have none.
     pub none: u64,
 }
 
-/// Counts the functions of the addresses from `start` on and before `end`: it asks once for each piece, at most.
-pub fn count_runs<R: FunctionRuns>(
+/// Counts the answers of the addresses from `start` on and before `end`: it asks once for each
+/// piece, at most, and once for the answer of each key that it was told.
+pub fn count_runs<R: Runs>(
     alloc: Global,
     map: &AddressMap<'_>,
     runs: &mut R,
     start: u32,
     end: u32,
-) -> Result<Sizes, AllocError>
+) -> Result<Sizes<R::Found>, AllocError>
     requires ordered { IsOrdered map.now }
     requires order { start ≤ end }
-    ensures each { IfOk result (λ sizes. (f : FunctionValue) → count_in sizes.functions f ≡ count map.now (R.database runs.old) start end f) }
-    ensures table { IfOk result (λ sizes. IsTable sizes.functions) }
-    ensures none { IfOk result (λ sizes. sizes.none ≡ count_of_none map.now (R.database runs.old) start end) }
-    ensures all { IfOk result (λ sizes. sum_of sizes.functions + sizes.none ≡ end - start) }
-    ensures lookups { OnOk result (R.lookups runs.new ≤ R.lookups runs.old + pieces map.now (R.database runs.old) start end) }
-    ensures same { R.database runs.new ≡ R.database runs.old }
+    ensures each { IfOk result (λ sizes. (f : R.Found) → count_in R.Found.cmp sizes.counts f ≡ count R.Found.cmp map.now (R.keyed runs.old).places start end f) }
+    ensures table { IfOk result (λ sizes. IsTable R.Found.cmp sizes.counts) }
+    ensures none { IfOk result (λ sizes. sizes.none ≡ count_of_none map.now (R.keyed runs.old).places start end) }
+    ensures all { IfOk result (λ sizes. sum_of sizes.counts + sizes.none ≡ end - start) }
+    ensures lookups { OnOk result (R.lookups runs.new ≤ R.lookups runs.old + pieces map.now (R.keyed runs.old).places start end) }
+    ensures same { R.keyed runs.new ≡ R.keyed runs.old }
 {
     ranges_laid_end_to_end();
-    let mut functions = Counts::new(alloc);
+    let mut keys = Counts::new(alloc);
     let mut ranges = map.internal_rva_ranges(Rva(start)..Rva(end));
     while let Some(range) = ranges.next() {
-        count_range(alloc, map, runs, &mut functions, range)?;
+        count_range(alloc, map, runs, &mut keys, range)?;
     }
-    let none = u64::from(end - start) - functions.total();
-    Ok(Sizes { functions, none })
+    let counts = resolve(alloc, runs, &keys)?;
+    let none = u64::from(end - start) - counts.total();
+    Ok(Sizes { counts, none })
 }
 
-/// Counts the functions of a range of internal addresses.
-fn count_range<R: FunctionRuns>(
+/// Returns the counts of the answers that keys stand for.
+fn resolve<R: Runs>(
+    alloc: Global,
+    runs: &mut R,
+    keys: &Counts<R::Key>,
+) -> Result<Counts<R::Found>, AllocError>
+    requires room { sum_of keys.now < 2 ^ 64 }
+    ensures resolved { IfOk result (λ counts. IsResolved (R.keyed runs.old).answer_of keys.now counts) }
+    ensures lookups { OnOk result (R.lookups runs.new ≡ R.lookups runs.old) }
+    ensures same { R.keyed runs.new ≡ R.keyed runs.old }
+{
+    let mut counts = Counts::new(alloc);
+    for (key, count) in keys.by_answer() {
+        let answer = runs.answer_of(alloc, key)?;
+        counts.add_answer(answer, *count)?;
+    }
+    Ok(counts)
+}
+
+/// Counts the answers of a range of internal addresses.
+fn count_range<R: Runs>(
     alloc: Global,
     map: &AddressMap<'_>,
     runs: &mut R,
-    counts: &mut Counts,
+    keys: &mut Counts<R::Key>,
     range: Range<PdbInternalRva>,
 ) -> Result<(), AllocError>
-    requires room { sum_of counts.old + (range.end.0 - range.start.0) < 2 ^ 64 }
-    ensures counted { OnOk result (IsCounted (answer_at map.now.internal (R.database runs.old)) range.start.0 (range.end.0 - range.start.0) counts.old counts.new) }
-    ensures lookups { OnOk result (IsWithin (begins map.now.internal (R.database runs.old) range.start.0) range.start.0 (range.end.0 - range.start.0) (R.lookups runs.old) (R.lookups runs.new)) }
-    ensures same { R.database runs.new ≡ R.database runs.old }
+    requires room { sum_of keys.old + (range.end.0 - range.start.0) < 2 ^ 64 }
+    ensures counted { OnOk result (IsCounted (R.keyed runs.old).answer_of (answer_at map.now.internal (R.keyed runs.old).places) range.start.0 (range.end.0 - range.start.0) keys.old keys.new) }
+    ensures lookups { OnOk result (IsWithin (begins map.now.internal (R.keyed runs.old).places range.start.0) range.start.0 (range.end.0 - range.start.0) (R.lookups runs.old) (R.lookups runs.new)) }
+    ensures same { R.keyed runs.new ≡ R.keyed runs.old }
 {
     let end = range.end.0;
     let mut address = range.start.0;
@@ -70,7 +91,7 @@ fn count_range<R: FunctionRuns>(
             alloc,
             map,
             runs,
-            counts,
+            keys,
             PdbInternalRva(address),
             end - address,
         )?;
@@ -78,48 +99,49 @@ fn count_range<R: FunctionRuns>(
     Ok(())
 }
 
-/// Counts the functions from an internal address on, to the next start or end of a section, over `limit` addresses at most.
-fn count_section<R: FunctionRuns>(
+/// Counts the answers from an internal address on, to the next start or end of a section, over
+/// `limit` addresses at most.
+fn count_section<R: Runs>(
     alloc: Global,
     map: &AddressMap<'_>,
     runs: &mut R,
-    counts: &mut Counts,
+    keys: &mut Counts<R::Key>,
     address: PdbInternalRva,
     limit: u32,
 ) -> Result<u32, AllocError>
     requires some { 1 ≤ limit }
     requires within { address.0 + limit ≤ 2 ^ 32 }
-    requires room { sum_of counts.old + limit < 2 ^ 64 }
+    requires room { sum_of keys.old + limit < 2 ^ 64 }
     ensures some { IfOk result (λ n. 1 ≤ n) }
     ensures within { IfOk result (λ n. n ≤ limit) }
-    ensures counted { IfOk result (λ n. IsCounted (answer_at map.now.internal (R.database runs.old)) address.0 n counts.old counts.new) }
-    ensures lookups { IfOk result (λ n. IsWithin (begins map.now.internal (R.database runs.old) address.0) address.0 n (R.lookups runs.old) (R.lookups runs.new)) }
+    ensures counted { IfOk result (λ n. IsCounted (R.keyed runs.old).answer_of (answer_at map.now.internal (R.keyed runs.old).places) address.0 n keys.old keys.new) }
+    ensures lookups { IfOk result (λ n. IsWithin (begins map.now.internal (R.keyed runs.old).places address.0) address.0 n (R.lookups runs.old) (R.lookups runs.new)) }
     ensures ends { IfOk result (λ n. n < limit → is_section_bound map.now.internal (address.0 + n) ≡ true) }
-    ensures same { R.database runs.new ≡ R.database runs.old }
+    ensures same { R.keyed runs.new ≡ R.keyed runs.old }
 {
     let (place, count) = map.section_run(address, limit);
     match place {
         None => Ok(count),
         Some(place) => {
-            count_places(alloc, runs, counts, place, count)?;
+            count_places(alloc, runs, keys, place, count)?;
             Ok(count)
         }
     }
 }
 
-/// Counts the functions of so many places from one on.
-fn count_places<R: FunctionRuns>(
+/// Counts the answers of so many places from one on.
+fn count_places<R: Runs>(
     alloc: Global,
     runs: &mut R,
-    counts: &mut Counts,
+    keys: &mut Counts<R::Key>,
     place: PdbInternalSectionOffset,
     count: u32,
 ) -> Result<(), AllocError>
     requires within { place.offset + count ≤ 2 ^ 32 }
-    requires room { sum_of counts.old + count < 2 ^ 64 }
-    ensures counted { OnOk result (IsCounted (answer_along (R.database runs.old) (Some (place_of place))) 0 count counts.old counts.new) }
-    ensures lookups { OnOk result (IsWithin (begins_along (R.database runs.old) (Some (place_of place))) 0 count (R.lookups runs.old) (R.lookups runs.new)) }
-    ensures same { R.database runs.new ≡ R.database runs.old }
+    requires room { sum_of keys.old + count < 2 ^ 64 }
+    ensures counted { OnOk result (IsCounted (R.keyed runs.old).answer_of (answer_along (R.keyed runs.old).places (Some (place_of place))) 0 count keys.old keys.new) }
+    ensures lookups { OnOk result (IsWithin (begins_along (R.keyed runs.old).places (Some (place_of place))) 0 count (R.lookups runs.old) (R.lookups runs.new)) }
+    ensures same { R.keyed runs.new ≡ R.keyed runs.old }
 {
     let mut done = 0;
     while done < count {
@@ -127,8 +149,8 @@ fn count_places<R: FunctionRuns>(
             offset: place.offset + done,
             section: place.section,
         };
-        let (answer, length) = runs.run_at(alloc, next, count - done)?;
-        counts.add_answer(answer, length)?;
+        let (key, length) = runs.run_at(alloc, next, count - done)?;
+        keys.add_answer(key, u64::from(length))?;
         done += length;
     }
     Ok(())

@@ -5,6 +5,7 @@ use Rattle.pdb_addr2line.specs.Frames.{frames, function}
 use Rattle.pdb_addr2line.specs.Runs.{database_of}
 use Rattle.pdb_container.specs.Alike.{OpenAlike, ReadAlike}
 use Rattle.pdb_functions.specs.Databases.{Database}
+use Rattle.pdb_functions.specs.FunctionOrder.{Function}
 use Rattle.pdb_report.specs.Answer.{scope, answer, answer_by, function_at, function_by, database, database_by, listing, listing_by, address_map, map_by}
 use Rattle.pdb_report.specs.Loading.{Loaded, loaded}
 use Rattle.pdb_report.specs.SameReports.{HaveSameReports}
@@ -53,7 +54,7 @@ sizes_same : (a b : Streams) (start end : ℕ) (text : List ℕ) → address_map
 sizes_same a b start end text map_is database_is r = record {
   map = r.map;
   map_is = sym map_is ∙ r.map_is;
-  report = subst (λ (d : Database). IsReport r.map d start end text) database_is r.report;
+  report = subst (λ (d : Database Function). IsReport r.map d start end text) database_is r.report;
 }
 
 -- the law

@@ -3,7 +3,7 @@ use Rattle.std.proofs.Common.{◌≡◌, ℕ, ◌+◌, ◌≤◌, ◌⊎◌, Lis
 use Rattle.std.specs.Prelude.{OnOk, OnErr, IfOk}
 use Rattle.pdb_addresses.specs.Addresses.{Map}
 use Rattle.pdb_functions.specs.Databases.{Database}
-use Rattle.pdb_functions.specs.FunctionOrder.{Function}
+use Rattle.pdb_functions.specs.FunctionOrder.{Function, function_cmp}
 use Rattle.pdb_functions.specs.Counts.{count, count_of_none, pieces}
 use Rattle.pdb_functions.specs.Report.{IsReport}
 use Rattle.pdb_functions.specs.Table.{IsTable, count_in}
@@ -14,11 +14,11 @@ use Rattle.pdb_report.specs.Answer.{address_map, database}
 use Rattle.pdb_report.specs.SizesReport.{IsSizesReport, IsWithinPieces}
 
 -- what was counted, as a text
-pub counted_text : (m : Map) (db : Database) (start end none : ℕ) (table : List (Function × ℕ)) (text : List ℕ) → IsTable table → ((f : Function) → count_in table f ≡ count m db start end f)
+pub counted_text : (m : Map) (db : Database Function) (start end none : ℕ) (table : List (Function × ℕ)) (text : List ℕ) → IsTable function_cmp table → ((f : Function) → count_in function_cmp table f ≡ count function_cmp m db start end f)
     → none ≡ count_of_none m db start end → text ≡ sizes_text table none → IsReport m db start end text
 counted_text m db start end none table text in_order each none_is text_is = record { table = table; in_order = in_order; each = each; text_is = text_is ∙ ap (sizes_text table) none_is }
 
-module _ (file loaded : List ℕ) (m : Map) (db : Database) (start end : ℕ) (same : loaded ≡ file) (map_is : address_map (streams loaded) ≡ Some m) (places : db ≡ database (streams loaded)) where
+module _ (file loaded : List ℕ) (m : Map) (db : Database Function) (start end : ℕ) (same : loaded ≡ file) (map_is : address_map (streams loaded) ≡ Some m) (places : db ≡ database (streams loaded)) where
   map_of_file : address_map (streams file) ≡ Some m
   map_of_file = subst (λ (bytes : List ℕ). address_map (streams bytes) ≡ Some m) same map_is
 
@@ -26,7 +26,7 @@ module _ (file loaded : List ℕ) (m : Map) (db : Database) (start end : ℕ) (s
   places_of_file = subst (λ (bytes : List ℕ). db ≡ database (streams bytes)) same places
 
   report_of_file : (text : List ℕ) → IsReport m db start end text → IsSizesReport (streams file) start end text
-  report_of_file text report = record { map = m; map_is = map_of_file; report = subst (λ (d : Database). IsReport m d start end text) places_of_file report }
+  report_of_file text report = record { map = m; map_is = map_of_file; report = subst (λ (d : Database Function). IsReport m d start end text) places_of_file report }
 
   -- what is out is the file's report
   pub sizes_out : (Out : List ℕ → Type 0) → ((text : List ℕ) × IsReport m db start end text × Out text) → (text : List ℕ) × IsSizesReport (streams file) start end text × Out text
@@ -41,7 +41,7 @@ module _ (file loaded : List ℕ) (m : Map) (db : Database) (start end : ℕ) (s
   -- a context that was asked nothing before was asked once for each piece, at most
   pub sizes_asked : (asked lookups : ℕ) → asked ≡ 0 → lookups ≤ asked + pieces m db start end → IsWithinPieces (streams file) start end lookups
   sizes_asked asked lookups none few =
-      record { map = m; map_is = map_of_file; few = subst (λ (d : Database). lookups ≤ pieces m d start end) places_of_file (omega (arith, none, few)) }
+      record { map = m; map_is = map_of_file; few = subst (λ (d : Database Function). lookups ≤ pieces m d start end) places_of_file (omega (arith, none, few)) }
 
   -- the same of what a call returned
   pub sizes_out_of : {A E : Type 0} (r : Result A E) (Out : List ℕ → Type 0) → OnOk r ((text : List ℕ) × IsReport m db start end text × Out text) → OnOk r ((text : List ℕ) × IsSizesReport (streams file) start end text × Out text)

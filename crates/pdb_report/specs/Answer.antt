@@ -14,8 +14,10 @@ use Rattle.pdb_addr2line.specs.Scopes.{Scope, scope_of, entries_of}
 use Rattle.pdb_addr2line.specs.Context.{Context, scope_in}
 use Rattle.pdb_functions.specs.Frames.{FunctionFrames}
 use Rattle.pdb_addr2line.specs.Frames.{frames, function}
+use Rattle.pdb_addr2line.specs.Keys.{keyed_of}
+use Rattle.pdb_functions.specs.declared.function_key.FunctionKey.{FunctionKey}
 use Rattle.pdb_addr2line.specs.Runs.{database_of}
-use Rattle.pdb_functions.specs.Databases.{Database}
+use Rattle.pdb_functions.specs.Databases.{Database, Keyed}
 use Rattle.pdb_functions.specs.FunctionOrder.{Function}
 use Rattle.pdb_addr2line.specs.Held.{given, names_in}
 use Rattle.pdb_report_texts.specs.Faults.{LoadingFault}
@@ -61,12 +63,12 @@ unfoldable pub function_at : Streams → ℕ → Option Function
 function_at s = function_by s (loaded (shared s))
 
 -- the functions at places, and where they may change, by what was loaded
-abbrev pub database_by : Streams → Result Loaded LoadingFault → Database
-database_by s (Err e) = record { function = λ place. None; is_bound = λ place. false }
+abbrev pub database_by : Streams → Result Loaded LoadingFault → Database Function
+database_by s (Err e) = record { answer = λ place. None; is_bound = λ place. false }
 database_by s (Ok l) = database_of l.parts (scope s l)
 
 -- the functions at places of the file's sections, and where they may change
-unfoldable pub database : Streams → Database
+unfoldable pub database : Streams → Database Function
 database s = database_by s (loaded (shared s))
 
 -- what a list of functions goes over: the parts that each question goes over, what an answer in each module depends on, and the
@@ -105,8 +107,12 @@ abbrev pub function_of : {P : Type 0} → (P → Provided) → Context P → ℕ
 function_of provided c a = function c.parts (scope_in provided c) a
 
 -- the functions of a context at places, and where they may change
-abbrev pub database_in : {P : Type 0} → (P → Provided) → Context P → Database
+abbrev pub database_in : {P : Type 0} → (P → Provided) → Context P → Database Function
 database_in provided c = database_of c.parts (scope_in provided c)
+
+-- the same by keys
+abbrev pub keyed_in : {P : Type 0} → (P → Provided) → Context P → Keyed FunctionKey Function
+keyed_in provided c = keyed_of c.parts (scope_in provided c)
 
 -- what the list of a context's functions goes over
 abbrev pub listing_of : {P : Type 0} → (P → Provided) → Context P → Listing

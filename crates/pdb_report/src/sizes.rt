@@ -16,7 +16,7 @@ use crate::symbolizer::Symbolizer;
 use pdb_addr2line::{Context, Function, ModuleProvider};
 use pdb_addresses::{AddressMap, PdbInternalSectionOffset};
 use pdb_engine::{InputFault, Watched, write_all, write_fault};
-use pdb_functions::{FunctionRuns, count_runs, sizes_text};
+use pdb_functions::{FunctionKey, Runs, count_runs, sizes_text};
 use pdb_report_texts::RunFault;
 use std::alloc::{AllocError, Global};
 use std::io::Write;
@@ -30,14 +30,18 @@ pub struct Tally {
 
 /// A context that is asked for runs.
 #[derive(Drop)]
-struct Runs<'a, 's, P: ModuleProvider> {
+struct ContextRuns<'a, 's, P: ModuleProvider> {
     context: Context<'a, 's, P>,
 }
 
-impl<'a, 's, P: ModuleProvider> FunctionRuns for Runs<'a, 's, P> {
-    ghost use Rattle.pdb_report.specs.Answer.{database_in};
+impl<'a, 's, P: ModuleProvider> Runs for ContextRuns<'a, 's, P> {
+    ghost use Rattle.pdb_report.specs.Answer.{keyed_in};
 
-    ghost database = { λ runs. database_in P.provided runs.context };
+    type Key = FunctionKey;
+
+    type Found = Function;
+
+    ghost keyed = { λ runs. keyed_in P.provided runs.context };
 
     ghost lookups = { λ runs. runs.context.lookups };
 
@@ -46,9 +50,20 @@ impl<'a, 's, P: ModuleProvider> FunctionRuns for Runs<'a, 's, P> {
         alloc: Global,
         place: PdbInternalSectionOffset,
         limit: u32,
-    ) -> Result<(Option<Function>, u32), AllocError> {
-        match self.context.find_function_run(alloc, place, limit) {
+    ) -> Result<(Option<FunctionKey>, u32), AllocError> {
+        match self.context.find_key_run(alloc, place, limit) {
             Ok(run) => Ok(run),
+            Err(_) => Err(AllocError),
+        }
+    }
+
+    fn answer_of(
+        &mut self,
+        alloc: Global,
+        key: &FunctionKey,
+    ) -> Result<Option<Function>, AllocError> {
+        match self.context.function_by_key(alloc, key) {
+            Ok(function) => Ok(function),
             Err(_) => Err(AllocError),
         }
     }
@@ -75,7 +90,7 @@ fn write_sizes<P: ModuleProvider, W: Write>(
     ensures write_fails { IfErr result (λ fault. OnInputWrite fault (λ kind. CountsFailure writer.old writer.new kind)) }
     ensures part { OnErr result ((writer.new ≡ writer.old) ⊎ ((text : List ℕ) × IsReport map.now (database_in P.provided context.entry) start end text × WritesFront W.contents writer.old writer.new text)) }
 {
-    let mut runs = Runs { context };
+    let mut runs = ContextRuns { context };
     let Ok(sizes) = count_runs(alloc, map, &mut runs, start, end) else {
         return Err(InputFault::OutOfMemory);
     };

@@ -8,14 +8,16 @@ use Rattle.pdb_functions.proofs.sizes.count_places.Given as goal
 -- so many places are counted, and the next one begins a piece
 abbrev pub invariant-loop-done : goal.invariant-loop-done
 invariant-loop-done g l =
-    let database = g.R.FunctionRuns.database in
-    let lookups = g.R.FunctionRuns.lookups in
+    let keyed = g.R.Runs.keyed in
+    let lookups = g.R.Runs.lookups in
+    let answer_of = (keyed l.fn.runs).answer_of in
+    let places = (keyed l.fn.runs).places in
     record {
       bound : l.done ≤ l.count;
-      counted : IsCounted (answer_along (database l.fn.runs) (Some (place_of l.place))) 0 l.done l.fn.counts l.counts;
-      within : IsWithin (begins_along (database l.fn.runs) (Some (place_of l.place))) 0 l.done (lookups l.fn.runs) (lookups l.runs);
-      next : l.done < l.count → begins_along (database l.fn.runs) (Some (place_of l.place)) l.done ≡ true;
-      same : database l.runs ≡ database l.fn.runs;
+      counted : IsCounted answer_of (answer_along places (Some (place_of l.place))) 0 l.done l.fn.keys l.keys;
+      within : IsWithin (begins_along places (Some (place_of l.place))) 0 l.done (lookups l.fn.runs) (lookups l.runs);
+      next : l.done < l.count → begins_along places (Some (place_of l.place)) l.done ≡ true;
+      same : keyed l.runs ≡ keyed l.fn.runs;
     }
 
 abbrev pub decreases-loop-done : goal.decreases-loop-done

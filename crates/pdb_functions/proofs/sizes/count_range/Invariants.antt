@@ -6,16 +6,18 @@ use Rattle.pdb_functions.proofs.sizes.count_range.Given as goal
 -- the addresses before this one are counted, and it begins a piece
 abbrev pub invariant-loop-address : goal.invariant-loop-address
 invariant-loop-address g l =
-    let database = g.R.FunctionRuns.database in
-    let lookups = g.R.FunctionRuns.lookups in
+    let keyed = g.R.Runs.keyed in
+    let lookups = g.R.Runs.lookups in
+    let answer_of = (keyed l.fn.runs).answer_of in
+    let places = (keyed l.fn.runs).places in
     let start = l.fn.range.start.0 in
     record {
       low : start ≤ l.address;
       high : l.address - start ≤ l.end - start;
-      counted : IsCounted (answer_at l.map.internal (database l.fn.runs)) start (l.address - start) l.fn.counts l.counts;
-      within : IsWithin (begins l.map.internal (database l.fn.runs) start) start (l.address - start) (lookups l.fn.runs) (lookups l.runs);
-      next : l.address < l.end → begins l.map.internal (database l.fn.runs) start l.address ≡ true;
-      same : database l.runs ≡ database l.fn.runs;
+      counted : IsCounted answer_of (answer_at l.map.internal places) start (l.address - start) l.fn.keys l.keys;
+      within : IsWithin (begins l.map.internal places start) start (l.address - start) (lookups l.fn.runs) (lookups l.runs);
+      next : l.address < l.end → begins l.map.internal places start l.address ≡ true;
+      same : keyed l.runs ≡ keyed l.fn.runs;
     }
 
 abbrev pub decreases-loop-address : goal.decreases-loop-address

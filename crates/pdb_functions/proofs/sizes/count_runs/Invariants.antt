@@ -6,11 +6,11 @@ use Rattle.pdb_functions.proofs.sizes.count_runs.Given as goal
 -- what is counted so far and what is left of the ranges are the whole
 abbrev pub invariant-loop-range : goal.invariant-loop-range
 invariant-loop-range g l =
-    let database = g.R.FunctionRuns.database in
-    let lookups = g.R.FunctionRuns.lookups in
+    let keyed = g.R.Runs.keyed in
+    let lookups = g.R.Runs.lookups in
     record {
-      so_far : IsSoFar l.map.internal (database l.fn.runs) (internal_ranges l.map.to_internal l.start l.end) l.ranges l.functions (lookups l.fn.runs) (lookups l.runs);
-      same : database l.runs ≡ database l.fn.runs;
+      so_far : IsSoFar (keyed l.fn.runs).answer_of l.map.internal (keyed l.fn.runs).places (internal_ranges l.map.to_internal l.start l.end) l.ranges l.keys (lookups l.fn.runs) (lookups l.runs);
+      same : keyed l.runs ≡ keyed l.fn.runs;
     }
 
 abbrev pub decreases-loop-range : goal.decreases-loop-range

@@ -28,7 +28,7 @@ returns-in-None-clause-within g c =
 pub returns-in-None-clause-counted : goal.returns-in-None-clause-counted
 returns-in-None-clause-counted g c =
     let none = internal_none (place c.args.map.now.internal c.args.address.0) (sym c.in-None.is ∙ c.section_run-place.ensures.place) in
-    section_none c.args.map.now.internal (g.R.FunctionRuns.database c.args.runs.now) c.args.address.0 c.section_run-place.result.1 c.args.counts.now none c.section_run-place.ensures.along
+    section_none (g.R.Runs.keyed c.args.runs.now).answer_of c.args.map.now.internal (g.R.Runs.keyed c.args.runs.now).places c.args.address.0 c.section_run-place.result.1 c.args.keys.now none c.section_run-place.ensures.along
 
 pub returns-in-None-clause-ends : goal.returns-in-None-clause-ends
 returns-in-None-clause-ends g c = λ lt. next_is_bound (bounds c.args.map.now.internal) c.args.address.0 c.args.limit c.section_run-place.result.1 c.section_run-place.ensures.count lt
@@ -42,14 +42,14 @@ returns-in_ok-count_places-in-Some-clause-within g c =
 pub returns-in_ok-count_places-in-Some-clause-counted : goal.returns-in_ok-count_places-in-Some-clause-counted
 returns-in_ok-count_places-in-Some-clause-counted g c =
     let there = internal_back (place c.args.map.now.internal c.args.address.0) c.in-Some.place (sym c.in-Some.is ∙ c.section_run-place.ensures.place) in
-    section_counted c.args.map.now.internal (g.R.FunctionRuns.database c.args.runs.now) (place_of c.in-Some.place) c.args.address.0 c.section_run-place.result.1
-    c.args.counts.now c.count_places.new.counts there c.section_run-place.ensures.along c.in_ok-count_places-in-Some.ensures.counted
+    section_counted (g.R.Runs.keyed c.args.runs.now).answer_of c.args.map.now.internal (g.R.Runs.keyed c.args.runs.now).places (place_of c.in-Some.place) c.args.address.0 c.section_run-place.result.1
+    c.args.keys.now c.count_places.new.keys there c.section_run-place.ensures.along c.in_ok-count_places-in-Some.ensures.counted
 
 pub returns-in_ok-count_places-in-Some-clause-lookups : goal.returns-in_ok-count_places-in-Some-clause-lookups
 returns-in_ok-count_places-in-Some-clause-lookups g c =
     let there = internal_back (place c.args.map.now.internal c.args.address.0) c.in-Some.place (sym c.in-Some.is ∙ c.section_run-place.ensures.place) in
-    section_within c.args.map.now.internal (g.R.FunctionRuns.database c.args.runs.now) (place_of c.in-Some.place) c.args.address.0 c.section_run-place.result.1
-    (g.R.FunctionRuns.lookups c.args.runs.now) (g.R.FunctionRuns.lookups c.count_places.new.runs) there c.section_run-place.ensures.along c.in_ok-count_places-in-Some.ensures.lookups
+    section_within c.args.map.now.internal (g.R.Runs.keyed c.args.runs.now).places (place_of c.in-Some.place) c.args.address.0 c.section_run-place.result.1
+    (g.R.Runs.lookups c.args.runs.now) (g.R.Runs.lookups c.count_places.new.runs) there c.section_run-place.ensures.along c.in_ok-count_places-in-Some.ensures.lookups
 
 pub returns-in_ok-count_places-in-Some-clause-ends : goal.returns-in_ok-count_places-in-Some-clause-ends
 returns-in_ok-count_places-in-Some-clause-ends g c = λ lt. next_is_bound (bounds c.args.map.now.internal) c.args.address.0 c.args.limit c.section_run-place.result.1 c.section_run-place.ensures.count lt

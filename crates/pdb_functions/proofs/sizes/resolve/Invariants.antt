@@ -1,0 +1,14 @@
+use Rattle.std.proofs.Common.{◌≡◌}
+use Rattle.pdb_functions.proofs.ResolveLemmas.{IsResolving}
+use Rattle.pdb_functions.proofs.sizes.resolve.Given as goal
+
+-- what came to the counts and what is left of the keys are the whole
+abbrev pub invariant-loop-key : goal.invariant-loop-key
+invariant-loop-key g l =
+    let keyed = g.R.Runs.keyed in
+    let lookups = g.R.Runs.lookups in
+    record {
+      resolving : IsResolving (keyed l.fn.runs).answer_of l.keys l.key-iterator l.counts;
+      lookups : lookups l.runs ≡ lookups l.fn.runs;
+      same : keyed l.runs ≡ keyed l.fn.runs;
+    }
