@@ -29,8 +29,8 @@ use pdb_frames::{
 };
 use pdb_functions::{Function, FunctionKey, SharedFunctionFrames, owned_name};
 use pdb_known_modules::{
-    BasicModuleInfo, KeptModule, empty_places, keep_lines, keep_module, keep_procedure,
-    keep_public_rows, known_at, number_over, procedure_numbered,
+    BasicModuleInfo, CachedModules, keep_lines, keep_module, keep_procedure, keep_public_rows,
+    known_at, nothing_cached, number_over, procedure_numbered,
 };
 use pdb_resolving::{Error, ModuleProvider, ModuleTables, Result};
 use std::alloc::{AllocError, Global};
@@ -40,10 +40,10 @@ pub fn empty_modules<'a, P: ModuleProvider>(
     alloc: Global,
     _provider: &'a P,
     namer: &Namer<'_, '_, P>,
-) -> std::result::Result<Vec<KeptModule<'a, P::Info>>, AllocError>
-    ensures { IfOk result (λ v. AreKept (λ n. module_data (own_of (P.provided _provider.now) (entries_of namer.now) n)) v.items) }
+) -> std::result::Result<CachedModules<'a, P::Info>, AllocError>
+    ensures { IfOk result (λ cached. AreKept (λ n. module_data (own_of (P.provided _provider.now) (entries_of namer.now) n)) cached) }
 {
-    empty_places(alloc, namer.modules().len())
+    nothing_cached(alloc, namer.modules().len())
 }
 
 /// The frames at a place in a chosen function, if it has an RVA. Its module's data are read before that is asked.
@@ -153,7 +153,7 @@ fn frames_unless_known<'a, P: ModuleProvider>(
 /// them. Where they stand as failed nothing is read.
 fn keep_public_entry<'a, I: ModuleTables>(
     alloc: Global,
-    kept: &mut [KeptModule<'a, I>],
+    kept: &mut CachedModules<'a, I>,
     parts: &ContextParts<'a, '_>,
     failed: &Failures,
     contribution: ModuleSectionContribution,
@@ -192,7 +192,7 @@ fn stands_in_part<I: ModuleTables>(
 /// the data of the procedure of a number, or, where there is none, the rows of the public entry. What stands as failed isn't read.
 fn keep_parts<'a, I: ModuleTables>(
     alloc: Global,
-    kept: &mut [KeptModule<'a, I>],
+    kept: &mut CachedModules<'a, I>,
     parts: &ContextParts<'a, '_>,
     failed: &Failures,
     number: Option<usize>,
@@ -221,7 +221,7 @@ fn keep_parts<'a, I: ModuleTables>(
 fn frames_at<'a, P: ModuleProvider>(
     alloc: Global,
     provider: &'a P,
-    kept: &mut [KeptModule<'a, P::Info>],
+    kept: &mut CachedModules<'a, P::Info>,
     parts: &ContextParts<'a, '_>,
     namer: &mut Namer<'a, '_, P>,
     failed: &mut Failures,
@@ -293,7 +293,7 @@ fn function_of<'a, P: ModuleProvider>(
 fn function_at<'a, P: ModuleProvider>(
     alloc: Global,
     provider: &'a P,
-    kept: &mut [KeptModule<'a, P::Info>],
+    kept: &mut CachedModules<'a, P::Info>,
     parts: &ContextParts<'a, '_>,
     namer: &mut Namer<'a, '_, P>,
     contribution: ModuleSectionContribution,
@@ -318,7 +318,7 @@ fn function_at<'a, P: ModuleProvider>(
 pub fn frames_here<'a, P: ModuleProvider>(
     alloc: Global,
     provider: &'a P,
-    kept: &mut [KeptModule<'a, P::Info>],
+    kept: &mut CachedModules<'a, P::Info>,
     parts: &ContextParts<'a, '_>,
     namer: &mut Namer<'a, '_, P>,
     failed: &mut Failures,
@@ -353,7 +353,7 @@ pub fn frames_here<'a, P: ModuleProvider>(
 pub fn function_here<'a, P: ModuleProvider>(
     alloc: Global,
     provider: &'a P,
-    kept: &mut [KeptModule<'a, P::Info>],
+    kept: &mut CachedModules<'a, P::Info>,
     parts: &ContextParts<'a, '_>,
     namer: &mut Namer<'a, '_, P>,
     place: PdbInternalSectionOffset,
@@ -418,7 +418,7 @@ fn choose_by<'c, 'a, I: ModuleTables>(
 fn key_run_at<'a, P: ModuleProvider>(
     alloc: Global,
     provider: &'a P,
-    kept: &mut [KeptModule<'a, P::Info>],
+    kept: &mut CachedModules<'a, P::Info>,
     parts: &ContextParts<'a, '_>,
     namer: &Namer<'a, '_, P>,
     contribution: ModuleSectionContribution,
@@ -442,7 +442,7 @@ fn key_run_at<'a, P: ModuleProvider>(
 pub fn key_run_here<'a, P: ModuleProvider>(
     alloc: Global,
     provider: &'a P,
-    kept: &mut [KeptModule<'a, P::Info>],
+    kept: &mut CachedModules<'a, P::Info>,
     parts: &ContextParts<'a, '_>,
     namer: &Namer<'a, '_, P>,
     place: PdbInternalSectionOffset,
@@ -476,7 +476,7 @@ pub fn key_run_here<'a, P: ModuleProvider>(
 pub fn function_by_key<'a, P: ModuleProvider>(
     alloc: Global,
     provider: &'a P,
-    kept: &mut [KeptModule<'a, P::Info>],
+    kept: &mut CachedModules<'a, P::Info>,
     parts: &ContextParts<'a, '_>,
     namer: &mut Namer<'a, '_, P>,
     key: &FunctionKey,
@@ -498,7 +498,7 @@ pub fn function_by_key<'a, P: ModuleProvider>(
 pub fn run_here<'a, P: ModuleProvider>(
     alloc: Global,
     provider: &'a P,
-    kept: &mut [KeptModule<'a, P::Info>],
+    kept: &mut CachedModules<'a, P::Info>,
     parts: &ContextParts<'a, '_>,
     namer: &mut Namer<'a, '_, P>,
     place: PdbInternalSectionOffset,

@@ -10,4 +10,4 @@ pub use answers::{
 pub use known_failures::KnownFailures;
 pub use pdb_contributions::ModuleSectionContribution;
 pub use pdb_frames::{ContextParts, Failures, Namer, TextWriter, TypeFormatter, maybe_owned};
-pub use pdb_known_modules::{KeptModule, get_basic_module_info, procedures_in};
+pub use pdb_known_modules::{CachedModules, get_basic_module_info, procedures_in};

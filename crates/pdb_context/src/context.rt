@@ -18,7 +18,7 @@ ghost use Rattle.pdb_functions.specs.Databases.{IsOneRun, place_of as as_place};
 use pdb_addresses::{AddressMap, ImageSectionHeader, PdbInternalSectionOffset, Rva};
 use pdb_answers::maybe_owned::MaybeOwned;
 use pdb_answers::{
-    ContextParts, Failures, KeptModule, KnownFailures, Namer, TypeFormatter, empty_modules,
+    CachedModules, ContextParts, Failures, KnownFailures, Namer, TypeFormatter, empty_modules,
     frames_here, function_by_key, function_here, key_run_here, run_here,
 };
 use pdb_container::StringTable;
@@ -34,7 +34,7 @@ pub struct Context<'a, 's, P: ModuleProvider> {
     pub(crate) provider: &'a P,
     pub(crate) parts: ContextParts<'a, 's>,
     pub(crate) namer: Namer<'a, 's, P>,
-    kept: Vec<KeptModule<'a, P::Info>>,
+    kept: CachedModules<'a, P::Info>,
     pub(crate) starts: Option<Vec<u32>>,
     lookups: u64,
     failed: Failures,
@@ -55,7 +55,7 @@ impl<'a, 's, P: ModuleProvider> Model for Context<'a, 's, P> {
     ghost view = { λ c. record { provider = c.provider.now; parts = c.parts; formatting = c.namer; lookups = c.lookups; failed = c.failed } };
 
     // What is kept of each module is its own, the starts that are kept are those of the file's functions, and what is known to fail does.
-    ghost invariant = { λ c. AreKept (λ n. module_data (own_of (P.provided c.provider.now) (entries_of c.namer) n)) c.kept.items × AreStarts (start_addresses c.parts (scope_of P.provided c.provider.now c.namer) (entries_of c.namer)) (option_map (λ v. v.items) c.starts) × AreFailuresOf (data_of_modules P.provided c.provider.now c.namer) c.known_failures };
+    ghost invariant = { λ c. AreKept (λ n. module_data (own_of (P.provided c.provider.now) (entries_of c.namer) n)) c.kept × AreStarts (start_addresses c.parts (scope_of P.provided c.provider.now c.namer) (entries_of c.namer)) (option_map (λ v. v.items) c.starts) × AreFailuresOf (data_of_modules P.provided c.provider.now c.namer) c.known_failures };
 }
 
 impl<'a, 's, P: ModuleProvider> Drop for Context<'a, 's, P> {

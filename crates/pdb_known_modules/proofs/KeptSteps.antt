@@ -1,9 +1,9 @@
 -- What is kept of modules stays theirs.
 use Rattle.std.proofs.Common.{◌≡◌, ◌≢◌, true, false, ℕ, ◌<◌, List, length, None, Some, refl, sym, ap, ◌∙◌, inl, inr, arith}
-use Rattle.std.specs.Prelude.{Option, slice_get, slice_set}
+use Rattle.std.specs.Prelude.{Option, replicate, slice_get, slice_set}
 use Rattle.std.proofs.lemmas.Bool.{cases_lt}
 use Rattle.std.proofs.lemmas.Bool.Decides.{eqb_tells}
-use Rattle.std.proofs.lemmas.List.{length-set, get_or-set_same, get_or-set_other}
+use Rattle.std.proofs.lemmas.List.{length-replicate, length-set, get_or-replicate, get_or-set_same, get_or-set_other}
 use Rattle.std.proofs.lemmas.Option.{slice_get_past, slice_get_within, slice_get-get_or}
 use Rattle.pdb_known_modules.specs.Modules.{ModuleData}
 use Rattle.pdb_known_modules.specs.Kept.{AreKept, known_in, known_of, is_empty}
@@ -71,3 +71,24 @@ pub kept_now : (own : ℕ → Option ModuleData) (places : Places) (n : ℕ) (kn
 kept_now own places n known kept empty is =
     let lt = slice_get_within places n None empty in
     record { each = each_now own places n known kept lt is; past = λ k le. kept.past k (omega (arith, length-set places n (Some known))) }
+
+abbrev empty_place : Option (Option ModuleData)
+empty_place = None
+
+-- at none of so many empty places anything is kept
+empty_at_all : (count n : ℕ) (known : Option ModuleData) → slice_get (replicate count empty_place) n ≢ Some (Some known)
+empty_at_all count n known e = elim (cases_lt n count) [
+  | inl lt ↦
+      let there = slice_get-get_or (replicate count empty_place) n None (omega (arith, lt, length-replicate count empty_place)) in
+      let empty = get_or-replicate count n empty_place None lt in
+      cc
+  | inr le ↦
+      let past = slice_get_past (replicate count empty_place) n (omega (arith, le, length-replicate count empty_place)) in
+      cc
+]
+
+-- so many empty places keep nothing that isn't the modules' own
+pub none_kept : (own : ℕ → Option ModuleData) (places : Places) → AreKept own places → AreKept own (replicate (length places) None)
+none_kept own places kept = record {
+  each = λ n known e. absurd (empty_at_all (length places) n known e);
+  past = λ n le. kept.past n (omega (arith, le, length-replicate (length places) empty_place)) }

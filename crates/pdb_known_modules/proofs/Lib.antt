@@ -1,4 +1,5 @@
 pub mod BoundSteps
+mod Fills
 pub mod KeptProcedures
 pub mod KeptRows
 pub mod KeptSteps

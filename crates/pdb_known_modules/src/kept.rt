@@ -1,20 +1,45 @@
-//! What is kept of modules that were asked for.
+//! What is cached of modules that were asked for; past what a meter allows it is forgotten.
 
-ghost use Rattle.std.specs.Prelude.{◌≡◌, IfOk, option_copied, replicate, None, slice_get};
+ghost use Rattle.std.specs.Prelude.{◌≡◌, ℕ, IfOk, length, Option, option_copied, replicate, None, slice_get};
 ghost use Rattle.pdb_known_modules.specs.Kept.{AreKept, known_in, is_empty as is_empty_place};
-ghost use Rattle.pdb_known_modules.specs.Modules.{module_data, own_of};
+ghost use Rattle.pdb_known_modules.specs.Modules.{ModuleData, module_data, own_of};
 
+use crate::meter::Meter;
 use crate::modules::{BasicModuleInfo, get_basic_module_info};
 use pdb_addresses::PdbInternalSectionOffset;
 use pdb_resolving::{ModuleProvider, ModuleTables};
 use pdb_symbols_modules::Module;
 use std::alloc::{AllocError, Global};
+use std::marker::Model;
 
 /// A place for a module's data, which are kept there once they were read: `Some(None)` of a module without data.
-pub type KeptModule<'a, I> = Option<Option<BasicModuleInfo<'a, I>>>;
+type KeptModule<'a, I> = Option<Option<BasicModuleInfo<'a, I>>>;
+
+/// What is cached of the modules that were asked for, each at its index, and how many bytes it takes.
+pub struct CachedModules<'a, I: ModuleTables> {
+    places: Vec<KeptModule<'a, I>>,
+    meter: Meter,
+}
+
+impl<'a, I: ModuleTables> Model for CachedModules<'a, I> {
+    ghost use Rattle.std.specs.Prelude.{List, Option};
+    ghost use Rattle.pdb_known_modules.specs.Modules.{ModuleData};
+
+    ghost Value = { List (Option (Option ModuleData)) };
+
+    ghost view = { λ c. c.places.items };
+}
+
+impl<'a, I: ModuleTables> Drop for CachedModules<'a, I> {
+    fn drop(self) {
+        let CachedModules { places, meter } = self;
+        drop(places);
+        drop(meter);
+    }
+}
 
 /// Empty places for so many modules.
-pub fn empty_places<'a, I: ModuleTables>(
+fn empty_places<'a, I: ModuleTables>(
     alloc: Global,
     count: usize,
 ) -> Result<Vec<KeptModule<'a, I>>, AllocError>
@@ -27,6 +52,47 @@ pub fn empty_places<'a, I: ModuleTables>(
     Ok(places)
 }
 
+/// Nothing is cached yet of so many modules.
+pub fn nothing_cached<'a, I: ModuleTables>(
+    alloc: Global,
+    count: usize,
+) -> Result<CachedModules<'a, I>, AllocError>
+    ensures { IfOk result (λ cached. cached ≡ replicate count None) }
+{
+    let places = empty_places(alloc, count)?;
+    Ok(CachedModules {
+        places,
+        meter: Meter::new(alloc),
+    })
+}
+
+/// Empties all places.
+fn empty_all<'a, I: ModuleTables>(places: &mut [KeptModule<'a, I>])
+    ensures { places.new ≡ replicate (length places.old) None }
+{
+    for place in 0..places.len() {
+        places[place] = None;
+    }
+}
+
+/// Forgets what is cached: all places are as empty as before the first question.
+fn forget<'a, I: ModuleTables>(cached: &mut CachedModules<'a, I>)
+    ensures { cached.new ≡ replicate (length cached.old) None }
+{
+    empty_all(&mut cached.places);
+    cached.meter.clear();
+}
+
+/// Forgets what is cached if it is more than the meter allows.
+#[tactic(auto, using(crate::proofs::KeptSteps::none_kept))]
+fn forget_if_full<'a, I: ModuleTables>(cached: &mut CachedModules<'a, I>)
+    ensures { (own : ℕ → Option ModuleData) → AreKept own cached.old → AreKept own cached.new }
+{
+    if cached.meter.is_full() {
+        forget(cached);
+    }
+}
+
 /// Whether the place of a number is there and empty.
 fn is_empty_at<'a, I: ModuleTables>(kept: &[KeptModule<'a, I>], number: usize) -> bool
     ensures { result ≡ is_empty_place (slice_get kept.now number) }
@@ -35,11 +101,11 @@ fn is_empty_at<'a, I: ModuleTables>(kept: &[KeptModule<'a, I>], number: usize) -
 }
 
 /// Reads the data of the module of a number, counted from 0, and keeps them, unless they were kept before. Nothing is kept
-/// where memory is short.
+/// where memory is short. Where more is cached than the meter allows, all of it is forgotten first.
 #[tactic(auto, using(crate::proofs::KeptSteps::known_if_full, crate::proofs::KeptSteps::empty_is, crate::proofs::KeptSteps::known_now, crate::proofs::KeptSteps::kept_now))]
 pub fn keep_module<'a, P: ModuleProvider>(
     alloc: Global,
-    kept: &mut [KeptModule<'a, P::Info>],
+    kept: &mut CachedModules<'a, P::Info>,
     provider: &'a P,
     modules: &[Module<'_>],
     module_index: usize,
@@ -48,81 +114,88 @@ pub fn keep_module<'a, P: ModuleProvider>(
     ensures kept { AreKept (λ n. module_data (own_of (P.provided provider.now) modules.now n)) kept.new }
     ensures known { IfOk result (λ _. known_in kept.new module_index ≡ module_data (own_of (P.provided provider.now) modules.now module_index)) }
 {
-    if !is_empty_at(kept, module_index) {
+    forget_if_full(kept);
+    if !is_empty_at(&kept.places, module_index) {
         return Ok(());
     }
     let known = get_basic_module_info(alloc, provider, modules, module_index)?;
-    kept[module_index] = Some(known);
+    kept.meter.count_module(&known, modules.get(module_index))?;
+    kept.places[module_index] = Some(known);
     Ok(())
 }
 
-/// Reads line program and inlinees of the module of a place, if its data are kept there, and keeps them too.
+/// Reads line program and inlinees of the module of a place, if its data are kept there, and keeps them too. Answers how many
+/// bytes were cached.
 fn keep_lines_at<'a, I: ModuleTables>(
     alloc: Global,
     place: &mut KeptModule<'a, I>,
-) -> Result<(), AllocError>
+) -> Result<u64, AllocError>
     ensures { place.new ≡ place.old }
 {
     match place {
         Some(Some(known)) => known.keep_extended(alloc),
-        _ => Ok(()),
+        _ => Ok(0),
     }
 }
 
 /// Reads line program and inlinees of the module of a number, if its data are kept, and keeps them too.
 pub fn keep_lines<'a, I: ModuleTables>(
     alloc: Global,
-    kept: &mut [KeptModule<'a, I>],
+    kept: &mut CachedModules<'a, I>,
     module_index: usize,
 ) -> Result<(), AllocError>
     ensures { kept.new ≡ kept.old }
 {
-    if module_index < kept.len() {
-        keep_lines_at(alloc, &mut kept[module_index])?;
+    if module_index < kept.places.len() {
+        let bytes = keep_lines_at(alloc, &mut kept.places[module_index])?;
+        kept.meter.count(bytes);
     }
     Ok(())
 }
 
-/// Reads the data of the procedure of a number, if its module's data are kept there, and keeps them too.
+/// Reads the data of the procedure of a number, if its module's data are kept there, and keeps them too. Answers how many bytes
+/// were cached.
 fn keep_procedure_at<'a, I: ModuleTables>(
     alloc: Global,
     kept_module: &mut KeptModule<'a, I>,
     number: usize,
-) -> Result<(), AllocError>
+) -> Result<u64, AllocError>
     ensures { kept_module.new ≡ kept_module.old }
 {
     match kept_module {
         Some(Some(known)) => known.keep_procedure(alloc, number),
-        _ => Ok(()),
+        _ => Ok(0),
     }
 }
 
 /// Reads the data of the procedure of a number in the module of a number, if the module's data are kept, and keeps them too.
 pub fn keep_procedure<'a, I: ModuleTables>(
     alloc: Global,
-    kept: &mut [KeptModule<'a, I>],
+    kept: &mut CachedModules<'a, I>,
     module_index: usize,
     number: usize,
 ) -> Result<(), AllocError>
     ensures { kept.new ≡ kept.old }
 {
-    if module_index < kept.len() {
-        keep_procedure_at(alloc, &mut kept[module_index], number)?;
+    if module_index < kept.places.len() {
+        let bytes = keep_procedure_at(alloc, &mut kept.places[module_index], number)?;
+        kept.meter.count(bytes);
     }
     Ok(())
 }
 
-/// Reads the line rows of the function that begins at a place, if its module's data are kept there, and keeps them too.
+/// Reads the line rows of the function that begins at a place, if its module's data are kept there, and keeps them too. Answers
+/// how many bytes were cached.
 fn keep_public_rows_at<'a, I: ModuleTables>(
     alloc: Global,
     kept_module: &mut KeptModule<'a, I>,
     start: PdbInternalSectionOffset,
-) -> Result<(), AllocError>
+) -> Result<u64, AllocError>
     ensures { kept_module.new ≡ kept_module.old }
 {
     match kept_module {
         Some(Some(known)) => known.keep_public_rows(alloc, start),
-        _ => Ok(()),
+        _ => Ok(0),
     }
 }
 
@@ -130,26 +203,27 @@ fn keep_public_rows_at<'a, I: ModuleTables>(
 /// them too.
 pub fn keep_public_rows<'a, I: ModuleTables>(
     alloc: Global,
-    kept: &mut [KeptModule<'a, I>],
+    kept: &mut CachedModules<'a, I>,
     module_index: usize,
     start: PdbInternalSectionOffset,
 ) -> Result<(), AllocError>
     ensures { kept.new ≡ kept.old }
 {
-    if module_index < kept.len() {
-        keep_public_rows_at(alloc, &mut kept[module_index], start)?;
+    if module_index < kept.places.len() {
+        let bytes = keep_public_rows_at(alloc, &mut kept.places[module_index], start)?;
+        kept.meter.count(bytes);
     }
     Ok(())
 }
 
 /// The data that are kept of the module of a number, if there are some.
 pub fn known_at<'m, 'a, I: ModuleTables>(
-    kept: &'m [KeptModule<'a, I>],
+    kept: &'m CachedModules<'a, I>,
     module_index: usize,
 ) -> Option<&'m BasicModuleInfo<'a, I>>
     ensures { option_copied result ≡ known_in kept.now module_index }
 {
-    match kept.get(module_index) {
+    match kept.places.get(module_index) {
         Some(Some(known)) => known.as_ref(),
         _ => None,
     }

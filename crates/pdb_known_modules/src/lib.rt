@@ -6,13 +6,15 @@
 
 mod bounds;
 mod kept;
+mod meter;
 mod modules;
 mod procedure_data;
 mod public_rows;
 
 pub use bounds::{SortedBounds, contribution_bounds, procedure_bounds};
 pub use kept::{
-    KeptModule, empty_places, keep_lines, keep_module, keep_procedure, keep_public_rows, known_at,
+    CachedModules, keep_lines, keep_module, keep_procedure, keep_public_rows, known_at,
+    nothing_cached,
 };
 pub use modules::{
     BasicModuleInfo, ExtendedModuleInfo, get_basic_module_info, number_over, procedure_numbered,

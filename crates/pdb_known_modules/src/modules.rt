@@ -18,11 +18,17 @@ use crate::public_rows::PublicRows;
 use pdb_addresses::PdbInternalSectionOffset;
 use pdb_container::{Error, Result};
 use pdb_lines::LineProgram;
-use pdb_module_data::{FunctionRows, Inlinees, Procedure, Procedures};
+use pdb_module_data::{FunctionRows, Inlinees, Procedure, Procedures, memory_of};
 use pdb_resolving::{ModuleProvider, ModuleTables};
 use pdb_symbols_modules::Module;
 use std::alloc::{AllocError, Global};
 use std::marker::Model;
+
+/// How many bytes of memory the bounds of a procedure take.
+const BOUNDS_SIZE: usize = 2 * size_of::<u64>();
+
+/// About how many bytes of memory the rows of a public entry take besides the rows themselves.
+const PUBLIC_ROWS_SIZE: u64 = 200;
 
 /// A module's data: its stream, and its procedures.
 pub struct BasicModuleInfo<'a, I: ModuleTables> {
@@ -38,6 +44,8 @@ pub struct BasicModuleInfo<'a, I: ModuleTables> {
     kept_procedures: Vec<Option<Box<ExtendedProcedureInfo<'a>>>>,
     /// The line rows of functions that begin at public entries, once they were read; none before line program and inlinees are.
     public_rows: PublicRows,
+    /// How many bytes its line data have.
+    line_data_size: u32,
 }
 
 impl<'a, I: ModuleTables> Model for BasicModuleInfo<'a, I> {
@@ -65,6 +73,7 @@ impl<'a, I: ModuleTables> Drop for BasicModuleInfo<'a, I> {
             extended,
             kept_procedures,
             public_rows,
+            line_data_size: _,
         } = self;
         drop(procedures);
         drop(bounds);
@@ -78,7 +87,11 @@ impl<'a, I: ModuleTables> BasicModuleInfo<'a, I> {
     /// The data of a module's stream, whose symbols are read to their end. The faults of [`ModuleTables::symbols`],
     /// `SymbolTooShort`, `UnexpectedEof`; `OutOfMemory`.
     #[tactic(auto, using(crate::proofs::KeptProcedures::no_places), unfolding(crate::specs::Modules::data_of_stream))]
-    fn try_from_module_info(alloc: Global, module_info: &'a I) -> Result<BasicModuleInfo<'a, I>>
+    fn try_from_module_info(
+        alloc: Global,
+        module_info: &'a I,
+        line_data_size: u32,
+    ) -> Result<BasicModuleInfo<'a, I>>
         ensures { Gives (λ m. m) ⊥ result (data_of_stream (I.held module_info.now)) }
     {
         let symbols = module_info.symbols()?;
@@ -91,6 +104,7 @@ impl<'a, I: ModuleTables> BasicModuleInfo<'a, I> {
             extended: None,
             kept_procedures: Vec::new(alloc),
             public_rows: PublicRows::new(alloc),
+            line_data_size,
         })
     }
 
@@ -102,23 +116,31 @@ impl<'a, I: ModuleTables> BasicModuleInfo<'a, I> {
         self.bounds.up_to_next(place, far)
     }
 
+    /// About how many bytes of memory its stream's data and its procedures take.
+    pub(crate) fn memory_size(&self) -> u64 {
+        let bounds = memory_of(self.procedures.as_slice().len(), BOUNDS_SIZE);
+        self.procedures.memory_size().saturating_add(bounds)
+    }
+
     /// Reads the line program and the inlinees, and keeps them, unless they were kept before. Where they have a fault nothing
-    /// is kept, and so where memory is short.
+    /// is kept, and so where memory is short. Answers about how many bytes were cached.
     #[tactic(auto, using(crate::proofs::KeptProcedures::nothing_kept))]
-    pub fn keep_extended(&mut self, alloc: Global) -> std::result::Result<(), AllocError>
+    pub fn keep_extended(&mut self, alloc: Global) -> std::result::Result<u64, AllocError>
         ensures { self.new ≡ self.old }
     {
         if self.extended.is_some() {
-            return Ok(());
+            return Ok(0);
         }
         match read_extended(alloc, self.module_info) {
             Ok(extended) => {
-                self.kept_procedures = empty_procedures(alloc, self.procedures.as_slice().len())?;
+                let count = self.procedures.as_slice().len();
+                let bytes = extended_size(&extended, self.line_data_size, count);
+                self.kept_procedures = empty_procedures(alloc, count)?;
                 self.extended = Some(extended);
-                Ok(())
+                Ok(bytes)
             }
             Err(Error::OutOfMemory) => Err(AllocError),
-            Err(_) => Ok(()),
+            Err(_) => Ok(0),
         }
     }
 
@@ -130,23 +152,26 @@ impl<'a, I: ModuleTables> BasicModuleInfo<'a, I> {
     }
 
     /// Reads the data of the procedure of a number, if line program and inlinees are kept, and keeps them, unless they were kept
-    /// before. Where they have a fault nothing is kept, and so where memory is short.
+    /// before. Where they have a fault nothing is kept, and so where memory is short. Answers about how many bytes were cached.
     #[tactic(auto, using(crate::proofs::KeptProcedures::kept_now))]
     pub fn keep_procedure(
         &mut self,
         alloc: Global,
         number: usize,
-    ) -> std::result::Result<(), AllocError>
+    ) -> std::result::Result<u64, AllocError>
         ensures { self.new ≡ self.old }
     {
         if !is_empty_at(&self.kept_procedures, number) {
-            return Ok(());
+            return Ok(0);
         }
         match self.read_procedure(alloc, number)? {
-            None => {}
-            Some(data) => self.kept_procedures[number] = Some(data),
+            None => Ok(0),
+            Some(data) => {
+                let bytes = data.memory_size();
+                self.kept_procedures[number] = Some(data);
+                Ok(bytes)
+            }
         }
-        Ok(())
     }
 
     /// The data of the procedure of a number; `None` where line program and inlinees aren't kept, where there is no such procedure,
@@ -191,20 +216,25 @@ impl<'a, I: ModuleTables> BasicModuleInfo<'a, I> {
     }
 
     /// Reads the line rows of the function that begins at a place, if line program and inlinees are kept, and keeps them, unless they
-    /// were kept before. Where they have a fault nothing is kept, and so where memory is short.
+    /// were kept before. Where they have a fault nothing is kept, and so where memory is short. Answers about how many bytes were
+    /// cached.
     pub fn keep_public_rows(
         &mut self,
         alloc: Global,
         start: PdbInternalSectionOffset,
-    ) -> std::result::Result<(), AllocError>
+    ) -> std::result::Result<u64, AllocError>
         ensures { self.new ≡ self.old }
     {
         if self.public_rows.get(start).is_some() {
-            return Ok(());
+            return Ok(0);
         }
         match self.read_public_rows(alloc, start)? {
-            None => Ok(()),
-            Some(rows) => self.public_rows.keep(start, rows),
+            None => Ok(0),
+            Some(rows) => {
+                let bytes = rows.memory_size();
+                self.public_rows.keep(start, rows)?;
+                Ok(bytes.saturating_add(PUBLIC_ROWS_SIZE))
+            }
         }
     }
 
@@ -256,10 +286,11 @@ fn is_empty_at(places: &[Option<Box<ExtendedProcedureInfo<'_>>>], number: usize)
 fn data_if_read<'a, I: ModuleTables>(
     alloc: Global,
     module_info: &'a I,
+    line_data_size: u32,
 ) -> std::result::Result<Option<BasicModuleInfo<'a, I>>, AllocError>
     ensures { IfOk result (λ m. m ≡ data_if_there (Some (I.held module_info.now))) }
 {
-    match BasicModuleInfo::try_from_module_info(alloc, module_info) {
+    match BasicModuleInfo::try_from_module_info(alloc, module_info, line_data_size) {
         Ok(data) => Ok(Some(data)),
         Err(Error::OutOfMemory) => Err(AllocError),
         Err(_) => Ok(None),
@@ -280,7 +311,9 @@ pub fn get_basic_module_info<'a, P: ModuleProvider>(
         return Ok(None);
     };
     match provider.get_module_info(module_index, module) {
-        Ok(Some(module_info)) => data_if_read(alloc, module_info),
+        Ok(Some(module_info)) => {
+            data_if_read(alloc, module_info, module.c13_lines_size())
+        }
         Ok(None) => Ok(None),
         Err(_) => Ok(None),
     }
@@ -293,6 +326,16 @@ pub struct ExtendedModuleInfo<'a> {
     pub line_program: LineProgram<'a>,
     /// The inlinees, by their ids.
     pub inlinees: Inlinees<'a>,
+}
+
+/// About how many bytes of memory line program and inlinees of a module take, with the places for the data of so many procedures.
+/// Of line data a subsection has 20 bytes at least, and takes 32.
+fn extended_size(extended: &ExtendedModuleInfo<'_>, line_data_size: u32, count: usize) -> u64 {
+    let lines = u64::from(line_data_size) * 2;
+    let places = memory_of(count, size_of::<usize>());
+    lines
+        .saturating_add(extended.inlinees.memory_size())
+        .saturating_add(places)
 }
 
 /// The line program of a module, and then its inlinees, each to its end. The faults of [`ModuleTables::line_program`] and

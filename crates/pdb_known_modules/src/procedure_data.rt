@@ -17,6 +17,9 @@ use pdb_resolving::{Error, ModuleTables, Result};
 use pdb_symbols::SymbolIter;
 use std::alloc::{AllocError, Global};
 
+/// About how many bytes of memory the data of a procedure take besides its rows and sites.
+const PROCEDURE_SIZE: u64 = 300;
+
 /// What the line and the inlined calls at each place of a procedure are found by: the rows of its `DEBUG_S_LINES`, and its
 /// inline sites.
 #[derive(Drop)]
@@ -41,6 +44,13 @@ impl<'a> ExtendedProcedureInfo<'a> {
         procedure.offset == self.offset
             && procedure.symbol_index == self.symbol_index
             && procedure.end_symbol_index == self.end_symbol_index
+    }
+
+    /// About how many bytes of memory they take, at most.
+    pub(crate) fn memory_size(&self) -> u64 {
+        let rows = self.rows.memory_size();
+        let ranges = self.ranges.memory_size();
+        rows.saturating_add(ranges).saturating_add(PROCEDURE_SIZE)
     }
 }
 

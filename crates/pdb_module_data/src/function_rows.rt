@@ -5,6 +5,7 @@ ghost use Rattle.pdb_container.specs.Fault.{Gives};
 ghost use Rattle.pdb_module_data.specs.FunctionLine.{function_rows, row_at};
 ghost use Rattle.pdb_module_data.specs.RowPieces.{row_span as span_of_row, row_spans as spans_of_rows, AreAscending, AreSearchable, StandForRows};
 
+use crate::memory::{PIECES_OF_SPAN, memory_of};
 use pdb_addresses::PdbInternalSectionOffset;
 use pdb_container::{FallibleIterator, Result};
 use pdb_indices::FileIndex;
@@ -208,5 +209,14 @@ impl FunctionRows {
             None => row_by_halving(self.rows.as_slice(), offset).0,
             Some(pieces) => row_by_pieces(self.rows.as_slice(), pieces, offset),
         }
+    }
+
+    /// About how many bytes of memory they take, at most.
+    pub fn memory_size(&self) -> u64 {
+        let pieces = match &self.pieces {
+            None => 0,
+            Some(_) => PIECES_OF_SPAN,
+        };
+        memory_of(self.rows.len(), size_of::<LineRow>() + pieces)
     }
 }

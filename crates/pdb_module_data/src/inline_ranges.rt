@@ -10,6 +10,7 @@ use crate::call_rows::{CallRow, push_site_rows, push_spans};
 use crate::inline_sites::{InlineSites, Site, SitesError};
 use crate::inlined_calls::{InlinedCall, calls_from};
 use crate::inlinees::Inlinees;
+use crate::memory::{PIECES_OF_SPAN, memory_of};
 use crate::procedures::Procedure;
 use crate::site_rows::{SiteRows, site_pieces};
 use pdb_addresses::PdbInternalSectionOffset;
@@ -156,5 +157,13 @@ impl<'t> InlineRanges<'t> {
                 Ok(calls)
             }
         }
+    }
+
+    /// About how many bytes of memory they take, at most.
+    pub fn memory_size(&self) -> u64 {
+        let site_size = size_of::<Site<'_>>() + size_of::<usize>();
+        let row_size = size_of::<CallRow>() + PIECES_OF_SPAN;
+        let sites = memory_of(self.sites.as_slice().len(), site_size);
+        sites.saturating_add(memory_of(self.rows.len(), row_size))
     }
 }

@@ -5,6 +5,7 @@ ghost use Rattle.pdb_container.specs.Fault.{Gives};
 ghost use Rattle.pdb_inlinees.specs.Inlinee.{inlined_function};
 ghost use Rattle.pdb_module_data.specs.InlinedCalls.{inlinees_by_id, given_by};
 
+use crate::memory::memory_of;
 use pdb_container::{FallibleIterator, Result};
 use pdb_indices::IdIndex;
 use pdb_inlinees::{Inlinee, InlineeIterator};
@@ -38,5 +39,13 @@ impl<'a> Inlinees<'a> {
         ensures { option_map (λ i. inlined_function i.now) result ≡ given_by self.now id.0 }
     {
         self.by_id.get(&id.0)
+    }
+
+    /// About how many bytes of memory they take.
+    pub fn memory_size(&self) -> u64 {
+        memory_of(
+            self.by_id.len(),
+            2 * (size_of::<u32>() + size_of::<Inlinee<'_>>()),
+        )
     }
 }

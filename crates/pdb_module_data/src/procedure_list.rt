@@ -6,6 +6,7 @@ ghost use Rattle.pdb_module_data.specs.ProcedurePieces.{procedure_span as span_o
 ghost use Rattle.pdb_module_data.specs.Procedures.{procedures_of, over as over_of};
 ghost use Rattle.pdb_symbols.specs.Iteration.{symbols_left};
 
+use crate::memory::{PIECES_OF_SPAN, memory_of};
 use crate::procedures::{Procedure, read_procedures};
 use pdb_addresses::PdbInternalSectionOffset;
 use pdb_container::Result;
@@ -114,5 +115,10 @@ impl<'t> Procedures<'t> {
             None => None,
             Some(number) => self.list.get(number),
         }
+    }
+
+    /// About how many bytes of memory they take, at most.
+    pub fn memory_size(&self) -> u64 {
+        memory_of(self.list.len(), size_of::<Procedure<'_>>() + PIECES_OF_SPAN)
     }
 }

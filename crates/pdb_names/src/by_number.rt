@@ -24,14 +24,17 @@ fn make_places<V: Drop>(places: &mut Vec<Option<V>>, number: usize) -> Result<()
     Ok(())
 }
 
-/// Puts a value at a number, in place of any that was there. Nothing changes of what is kept where memory is short.
-fn put<V: Drop>(places: &mut Vec<Option<V>>, number: usize, value: V) -> Result<(), AllocError>
+/// Puts a value at a number, in place of any that was there, and answers how many places were made for it. Nothing changes of
+/// what is kept where memory is short.
+fn put<V: Drop>(places: &mut Vec<Option<V>>, number: usize, value: V) -> Result<usize, AllocError>
     ensures kept { OnOk result (IsPut places.old.items places.new.items number value) }
     ensures failed { OnErr result (IsSamePlaces places.old.items places.new.items) }
 {
+    let before = places.len();
     make_places(places, number)?;
+    let made = places.len().saturating_sub(before);
     places[number] = Some(value);
-    Ok(())
+    Ok(made)
 }
 
 impl<V: Drop> ByNumber<V> {
@@ -65,15 +68,15 @@ impl<V: Drop> ByNumber<V> {
         Ok(())
     }
 
-    /// Keeps a value at a number in the module of a number, in place of any that was kept there. Nothing changes of what is
-    /// kept where memory is short.
+    /// Keeps a value at a number in the module of a number, in place of any that was kept there, and answers how many places
+    /// were made for it. Nothing changes of what is kept where memory is short.
     pub fn insert(
         &mut self,
         alloc: Global,
         module_index: u16,
         number: usize,
         value: V,
-    ) -> Result<(), AllocError>
+    ) -> Result<usize, AllocError>
         ensures kept { OnOk result (IsKept (kept_at self.old) (kept_at self.new) module_index number value) }
         ensures failed { OnErr result (IsSameKept (kept_at self.old) (kept_at self.new)) }
     {

@@ -5,18 +5,23 @@ ghost use Rattle.std.specs.Arc.{arc_str_bytes};
 ghost use Rattle.pdb_names.specs.InlineNames.{AreNames, inline_text};
 
 use crate::by_module::ByModule;
-use crate::names::{inlinee_name, share_name, shared_name};
+use crate::names::{CACHED_NAMES, inlinee_name, name_size, share_name, shared_name};
 use pdb_indices::IdIndex;
 use pdb_resolving::ModuleProvider;
 use pdb_type_text::TypeFormatter;
 use std::alloc::{AllocError, Global};
 use std::sync::ArcStr;
 
+/// About how many bytes of memory a name takes besides its text.
+const PLACE_SIZE: usize = 80;
+
 /// The names of inlined functions that were asked for, by module and id; `None` where no text can be made of an id.
 #[derive(Drop)]
 pub struct InlineNames {
     /// The names, each under its id in its module.
     by_id: ByModule<Option<ArcStr>>,
+    /// About how many bytes they take.
+    cached: u64,
 }
 
 impl InlineNames {
@@ -26,11 +31,22 @@ impl InlineNames {
     {
         InlineNames {
             by_id: ByModule::new(alloc),
+            cached: 0,
+        }
+    }
+
+    /// Forgets all names where they take more memory than they may.
+    fn forget_if_full(&mut self, alloc: Global)
+        ensures { (text : ℕ → ℕ → Option (List ℕ)) → AreNames text self.old → AreNames text self.new }
+    {
+        if self.cached > CACHED_NAMES {
+            *self = InlineNames::new(alloc);
         }
     }
 
     /// The name of an inlined function by its id in the IPI, as the module of a number has it; `None` where no text can be made
-    /// of it. It is made and kept, unless it was kept before. Nothing is kept where memory is short.
+    /// of it. It is made and kept, unless it was kept before. Nothing is kept where memory is short. Where the names take more
+    /// memory than they may, they are forgotten first.
     pub fn name<P: ModuleProvider>(
         &mut self,
         alloc: Global,
@@ -49,7 +65,9 @@ impl InlineNames {
         let name = inlinee_name(alloc, formatter, usize::from(module_index), inlinee)?;
         let name = shared_name(alloc, &name)?;
         let kept = share_name(&name)?;
+        self.forget_if_full(alloc);
         self.by_id.insert(alloc, module_index, inlinee.0, kept)?;
+        self.cached = self.cached.saturating_add(name_size(&name, PLACE_SIZE));
         Ok(name)
     }
 }

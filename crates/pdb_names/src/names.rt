@@ -118,6 +118,18 @@ pub fn shared_name(
     }
 }
 
+/// How many bytes of names of one kind may be cached before they are forgotten: 64 MB.
+pub const CACHED_NAMES: u64 = 64 << 20;
+
+/// How many bytes of memory a name that may be missing takes, with as many more as its place takes.
+pub fn name_size(name: &Option<ArcStr>, place: usize) -> u64 {
+    let text = match name {
+        None => 0,
+        Some(name) => name.as_str().len(),
+    };
+    (text as u64).saturating_add(place as u64)
+}
+
 /// The same name that may be missing, shared once more.
 pub fn share_name(name: &Option<ArcStr>) -> std::result::Result<Option<ArcStr>, AllocError>
     ensures { IfOk result (λ n. option_map arc_str_bytes n ≡ option_map arc_str_bytes name.now) }

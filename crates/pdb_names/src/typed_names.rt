@@ -7,7 +7,7 @@ ghost use Rattle.pdb_names.specs.TypedNames.{AreTyped, IsNamedBy, typed_text};
 ghost use Rattle.pdb_type_text.specs.Printing.{env_of};
 
 use crate::by_number::ByNumber;
-use crate::names::{share_name, shared_name, typed_name};
+use crate::names::{CACHED_NAMES, name_size, share_name, shared_name, typed_name};
 use pdb_container::RawString;
 use pdb_indices::TypeIndex;
 use pdb_module_data::Procedure;
@@ -41,6 +41,8 @@ impl<'a> TypedName<'a> {
 pub struct TypedNames<'a> {
     /// The names, each at its procedure's number in its module.
     by_number: ByNumber<TypedName<'a>>,
+    /// About how many bytes they take.
+    cached: u64,
 }
 
 impl<'a> TypedNames<'a> {
@@ -50,11 +52,22 @@ impl<'a> TypedNames<'a> {
     {
         TypedNames {
             by_number: ByNumber::new(alloc),
+            cached: 0,
+        }
+    }
+
+    /// Forgets all names where they take more memory than they may.
+    fn forget_if_full(&mut self, alloc: Global)
+        ensures { (text : ℕ → List ℕ → ℕ → Option (List ℕ)) → AreTyped text self.old → AreTyped text self.new }
+    {
+        if self.cached > CACHED_NAMES {
+            *self = TypedNames::new(alloc);
         }
     }
 
     /// The name of a procedure by its type in the module of a number; `None` where no text can be made of it. It is made and
-    /// kept at the procedure's number, unless it was kept before. Nothing is kept where memory is short.
+    /// kept at the procedure's number, unless it was kept before. Nothing is kept where memory is short. Where the names take
+    /// more memory than they may, they are forgotten first.
     pub fn name<P: ModuleProvider>(
         &mut self,
         alloc: Global,
@@ -80,7 +93,10 @@ impl<'a> TypedNames<'a> {
             type_index: procedure.type_index,
             text: share_name(&text)?,
         };
-        self.by_number.insert(alloc, module_index, number, name)?;
+        self.forget_if_full(alloc);
+        let places = self.by_number.insert(alloc, module_index, number, name)?;
+        let room = places.saturating_mul(size_of::<TypedName<'_>>());
+        self.cached = self.cached.saturating_add(name_size(&text, room));
         Ok(text)
     }
 }

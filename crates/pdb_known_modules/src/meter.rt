@@ -1,0 +1,73 @@
+//! How many bytes of modules' data are cached, and how many may be. No clause speaks of it, since what is cached shows in no
+//! answer.
+
+use crate::modules::BasicModuleInfo;
+use pdb_resolving::ModuleTables;
+use pdb_symbols_modules::Module;
+use std::alloc::{AllocError, Global};
+use std::collections::BTreeSet;
+
+/// How many bytes may be cached whatever the modules are: 64 MB.
+const ALLOWED: u64 = 64 << 20;
+
+/// How many more may be cached for each byte of symbols.
+const FOR_EACH_BYTE: u64 = 4;
+
+/// Counts the bytes that are cached of modules.
+#[derive(Drop)]
+pub struct Meter {
+    /// How many bytes are cached.
+    cached: u64,
+    /// The most that were cached at a time: a single part is cached whatever its size, and isn't read again for that.
+    greatest: u64,
+    /// How many may be cached besides.
+    allowed: u64,
+    /// The numbers of the streams whose symbols were counted.
+    streams: BTreeSet<u16>,
+}
+
+impl Meter {
+    /// Nothing is cached.
+    pub fn new(alloc: Global) -> Meter {
+        Meter {
+            cached: 0,
+            greatest: 0,
+            allowed: ALLOWED,
+            streams: BTreeSet::new(alloc),
+        }
+    }
+
+    /// Whether more bytes are cached than may be.
+    pub fn is_full(&self) -> bool {
+        self.cached > self.allowed.saturating_add(self.greatest)
+    }
+
+    /// Counts bytes that were cached.
+    pub fn count(&mut self, bytes: u64) {
+        self.cached = self.cached.saturating_add(bytes);
+        self.greatest = self.greatest.max(bytes);
+    }
+
+    /// Counts the data of a module, if it has some, and allows for its symbols the first time that a module names their stream:
+    /// where there are data the stream has as many bytes of symbols as the module's entry states.
+    pub fn count_module<I: ModuleTables>(
+        &mut self,
+        known: &Option<BasicModuleInfo<'_, I>>,
+        module: Option<&Module<'_>>,
+    ) -> Result<(), AllocError> {
+        let (Some(known), Some(module)) = (known, module) else {
+            return Ok(());
+        };
+        if self.streams.insert(module.stream().0)? {
+            let more = u64::from(module.symbols_size()) * FOR_EACH_BYTE;
+            self.allowed = self.allowed.saturating_add(more);
+        }
+        self.count(known.memory_size());
+        Ok(())
+    }
+
+    /// Nothing is cached any more. What is allowed stays.
+    pub fn clear(&mut self) {
+        self.cached = 0;
+    }
+}
