@@ -162,8 +162,8 @@ impl<'t> InlineRanges<'t> {
     /// About how many bytes of memory they take, at most.
     pub fn memory_size(&self) -> u64 {
         let site_size = size_of::<Site<'_>>() + size_of::<usize>();
-        let row_size = size_of::<CallRow>() + PIECES_OF_SPAN;
+        let row_size = size_of::<CallRow>() + 2 * PIECES_OF_SPAN;
         let sites = memory_of(self.sites.as_slice().len(), site_size);
-        sites.saturating_add(memory_of(self.rows.len(), row_size))
+        sites.saturating_add(memory_of(self.rows.rows.len(), row_size))
     }
 }
