@@ -41,7 +41,8 @@ pub fn empty_modules<'a, P: ModuleProvider>(
     _provider: &'a P,
     namer: &Namer<'_, '_, P>,
 ) -> std::result::Result<CachedModules<'a, P::Info>, AllocError>
-    ensures { IfOk result (λ cached. AreKept (λ n. module_data (own_of (P.provided _provider.now) (entries_of namer.now) n)) cached) }
+    ensures { IfOk result (λ cached. AreKept
+        (λ n. module_data (own_of (P.provided _provider.now) (entries_of namer.now) n)) cached) }
 {
     nothing_cached(alloc, namer.modules().len())
 }

@@ -55,7 +55,13 @@ impl<'a, 's, P: ModuleProvider> Model for Context<'a, 's, P> {
     ghost view = { λ c. record { provider = c.provider.now; parts = c.parts; formatting = c.namer; lookups = c.lookups; failed = c.failed } };
 
     // What is kept of each module is its own, the starts that are kept are those of the file's functions, and what is known to fail does.
-    ghost invariant = { λ c. AreKept (λ n. module_data (own_of (P.provided c.provider.now) (entries_of c.namer) n)) c.kept × AreStarts (start_addresses c.parts (scope_of P.provided c.provider.now c.namer) (entries_of c.namer)) (option_map (λ v. v.items) c.starts) × AreFailuresOf (data_of_modules P.provided c.provider.now c.namer) c.known_failures };
+    ghost invariant = { λ c.
+        AreKept (λ n. module_data (own_of (P.provided c.provider.now) (entries_of c.namer) n)) c.kept
+        × AreStarts
+        (start_addresses
+        c.parts (scope_of P.provided c.provider.now c.namer) (entries_of c.namer))
+        (option_map (λ v. v.items) c.starts)
+        × AreFailuresOf (data_of_modules P.provided c.provider.now c.namer) c.known_failures };
 }
 
 impl<'a, 's, P: ModuleProvider> Drop for Context<'a, 's, P> {

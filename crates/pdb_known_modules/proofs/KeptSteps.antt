@@ -91,4 +91,5 @@ empty_at_all count n known e = elim (cases_lt n count) [
 pub none_kept : (own : ℕ → Option ModuleData) (places : Places) → AreKept own places → AreKept own (replicate (length places) None)
 none_kept own places kept = record {
   each = λ n known e. absurd (empty_at_all (length places) n known e);
-  past = λ n le. kept.past n (omega (arith, le, length-replicate (length places) empty_place)) }
+  past = λ n le. kept.past n (omega (arith, le, length-replicate (length places) empty_place));
+}

@@ -1,6 +1,7 @@
 //! What is cached of modules that were asked for; past what a meter allows it is forgotten.
 
-ghost use Rattle.std.specs.Prelude.{◌≡◌, ℕ, IfOk, length, Option, option_copied, replicate, None, slice_get};
+ghost use Rattle.std.specs.Prelude.{◌≡◌, ℕ, IfOk, length, Option, option_copied, replicate, None};
+ghost use Rattle.std.specs.Prelude.{slice_get};
 ghost use Rattle.pdb_known_modules.specs.Kept.{AreKept, known_in, is_empty as is_empty_place};
 ghost use Rattle.pdb_known_modules.specs.Modules.{ModuleData, module_data, own_of};
 
@@ -15,7 +16,8 @@ use std::marker::Model;
 /// A place for a module's data, which are kept there once they were read: `Some(None)` of a module without data.
 type KeptModule<'a, I> = Option<Option<BasicModuleInfo<'a, I>>>;
 
-/// What is cached of the modules that were asked for, each at its index, and how many bytes it takes.
+/// What is cached of the modules that were asked for, each at its index, and how many bytes that
+/// takes.
 pub struct CachedModules<'a, I: ModuleTables> {
     places: Vec<KeptModule<'a, I>>,
     meter: Meter,
@@ -100,8 +102,9 @@ fn is_empty_at<'a, I: ModuleTables>(kept: &[KeptModule<'a, I>], number: usize) -
     matches!(kept.get(number), Some(None))
 }
 
-/// Reads the data of the module of a number, counted from 0, and keeps them, unless they were kept before. Nothing is kept
-/// where memory is short. Where more is cached than the meter allows, all of it is forgotten first.
+/// Reads the data of the module with that index, counted from 0, and caches them, unless they were
+/// cached before. Where more is cached than the meter allows, all of it is forgotten first. Nothing
+/// is cached where memory is short.
 #[tactic(auto, using(crate::proofs::KeptSteps::known_if_full, crate::proofs::KeptSteps::empty_is, crate::proofs::KeptSteps::known_now, crate::proofs::KeptSteps::kept_now))]
 pub fn keep_module<'a, P: ModuleProvider>(
     alloc: Global,
@@ -124,8 +127,8 @@ pub fn keep_module<'a, P: ModuleProvider>(
     Ok(())
 }
 
-/// Reads line program and inlinees of the module of a place, if its data are kept there, and keeps them too. Answers how many
-/// bytes were cached.
+/// Reads line program and inlinees of the module of a place, if its data are cached there, and
+/// caches them too. Returns about how many bytes were cached.
 fn keep_lines_at<'a, I: ModuleTables>(
     alloc: Global,
     place: &mut KeptModule<'a, I>,
@@ -153,8 +156,8 @@ pub fn keep_lines<'a, I: ModuleTables>(
     Ok(())
 }
 
-/// Reads the data of the procedure of a number, if its module's data are kept there, and keeps them too. Answers how many bytes
-/// were cached.
+/// Reads the data of the procedure with that index, if its module's data are cached there, and
+/// caches them too. Returns about how many bytes were cached.
 fn keep_procedure_at<'a, I: ModuleTables>(
     alloc: Global,
     kept_module: &mut KeptModule<'a, I>,
@@ -184,8 +187,8 @@ pub fn keep_procedure<'a, I: ModuleTables>(
     Ok(())
 }
 
-/// Reads the line rows of the function that begins at a place, if its module's data are kept there, and keeps them too. Answers
-/// how many bytes were cached.
+/// Reads the line rows of the function that begins at a place, if its module's data are cached
+/// there, and caches them too. Returns about how many bytes were cached.
 fn keep_public_rows_at<'a, I: ModuleTables>(
     alloc: Global,
     kept_module: &mut KeptModule<'a, I>,

@@ -1,5 +1,5 @@
-//! How many bytes of modules' data are cached, and how many may be. No clause speaks of it, since what is cached shows in no
-//! answer.
+//! How many bytes of modules' data are cached, and how many may be. No clause speaks of it, since
+//! what is cached shows in no answer.
 
 use crate::modules::BasicModuleInfo;
 use pdb_resolving::ModuleTables;
@@ -10,7 +10,7 @@ use std::collections::BTreeSet;
 /// How many bytes may be cached whatever the modules are: 64 MB.
 const ALLOWED: u64 = 64 << 20;
 
-/// How many more may be cached for each byte of symbols.
+/// How many more bytes may be cached for each byte of the symbols that were read.
 const FOR_EACH_BYTE: u64 = 4;
 
 /// Counts the bytes that are cached of modules.
@@ -18,7 +18,8 @@ const FOR_EACH_BYTE: u64 = 4;
 pub struct Meter {
     /// How many bytes are cached.
     cached: u64,
-    /// The most that were cached at a time: a single part is cached whatever its size, and isn't read again for that.
+    /// The most that one part takes: a part is cached whatever its size, and for its size alone
+    /// nothing is forgotten.
     greatest: u64,
     /// How many may be cached besides.
     allowed: u64,
@@ -48,8 +49,9 @@ impl Meter {
         self.greatest = self.greatest.max(bytes);
     }
 
-    /// Counts the data of a module, if it has some, and allows for its symbols the first time that a module names their stream:
-    /// where there are data the stream has as many bytes of symbols as the module's entry states.
+    /// Counts the data of a module, if it has some. The first time that a module names its stream,
+    /// more is allowed for the stream's symbols: where there are data, the stream has as many bytes
+    /// of symbols as the module's entry states.
     pub fn count_module<I: ModuleTables>(
         &mut self,
         known: &Option<BasicModuleInfo<'_, I>>,

@@ -122,8 +122,9 @@ impl<'a, I: ModuleTables> BasicModuleInfo<'a, I> {
         self.procedures.memory_size().saturating_add(bounds)
     }
 
-    /// Reads the line program and the inlinees, and keeps them, unless they were kept before. Where they have a fault nothing
-    /// is kept, and so where memory is short. Answers about how many bytes were cached.
+    /// Reads the line program and the inlinees, and caches them, unless they were cached before.
+    /// Where they have a fault nothing is cached, and so where memory is short. Returns about how
+    /// many bytes were cached.
     #[tactic(auto, using(crate::proofs::KeptProcedures::nothing_kept))]
     pub fn keep_extended(&mut self, alloc: Global) -> std::result::Result<u64, AllocError>
         ensures { self.new ≡ self.old }
@@ -151,8 +152,9 @@ impl<'a, I: ModuleTables> BasicModuleInfo<'a, I> {
         self.extended.as_ref()
     }
 
-    /// Reads the data of the procedure of a number, if line program and inlinees are kept, and keeps them, unless they were kept
-    /// before. Where they have a fault nothing is kept, and so where memory is short. Answers about how many bytes were cached.
+    /// Reads the data of the procedure with that index, if line program and inlinees are cached, and
+    /// caches them, unless they were cached before. Where they have a fault nothing is cached, and
+    /// so where memory is short. Returns about how many bytes were cached.
     #[tactic(auto, using(crate::proofs::KeptProcedures::kept_now))]
     pub fn keep_procedure(
         &mut self,
@@ -215,9 +217,9 @@ impl<'a, I: ModuleTables> BasicModuleInfo<'a, I> {
         }
     }
 
-    /// Reads the line rows of the function that begins at a place, if line program and inlinees are kept, and keeps them, unless they
-    /// were kept before. Where they have a fault nothing is kept, and so where memory is short. Answers about how many bytes were
-    /// cached.
+    /// Reads the line rows of the function that begins at a place, if line program and inlinees are
+    /// cached, and caches them, unless they were cached before. Where they have a fault nothing is
+    /// cached, and so where memory is short. Returns about how many bytes were cached.
     pub fn keep_public_rows(
         &mut self,
         alloc: Global,
@@ -311,9 +313,7 @@ pub fn get_basic_module_info<'a, P: ModuleProvider>(
         return Ok(None);
     };
     match provider.get_module_info(module_index, module) {
-        Ok(Some(module_info)) => {
-            data_if_read(alloc, module_info, module.c13_lines_size())
-        }
+        Ok(Some(module_info)) => { data_if_read(alloc, module_info, module.c13_lines_size()) }
         Ok(None) => Ok(None),
         Err(_) => Ok(None),
     }
@@ -328,8 +328,8 @@ pub struct ExtendedModuleInfo<'a> {
     pub inlinees: Inlinees<'a>,
 }
 
-/// About how many bytes of memory line program and inlinees of a module take, with the places for the data of so many procedures.
-/// Of line data a subsection has 20 bytes at least, and takes 32.
+/// About how many bytes of memory line program and inlinees of a module take, at most, with the
+/// places for the data of so many procedures. A subsection of 20 bytes or more takes 32.
 fn extended_size(extended: &ExtendedModuleInfo<'_>, line_data_size: u32, count: usize) -> u64 {
     let lines = u64::from(line_data_size) * 2;
     let places = memory_of(count, size_of::<usize>());

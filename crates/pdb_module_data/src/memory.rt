@@ -1,4 +1,5 @@
-//! How much memory data take, for a meter of what is cached. No clause says how much: no answer shows it.
+//! How much memory data take, for a meter of what is cached. No clause says how much, since no
+//! answer shows it.
 
 use pdb_pieces::Span;
 

@@ -24,8 +24,8 @@ fn make_places<V: Drop>(places: &mut Vec<Option<V>>, number: usize) -> Result<()
     Ok(())
 }
 
-/// Puts a value at a number, in place of any that was there, and answers how many places were made for it. Nothing changes of
-/// what is kept where memory is short.
+/// Puts a value at a number, in place of any that was there, and returns how many places were made
+/// for it. Nothing changes of what is cached where memory is short.
 fn put<V: Drop>(places: &mut Vec<Option<V>>, number: usize, value: V) -> Result<usize, AllocError>
     ensures kept { OnOk result (IsPut places.old.items places.new.items number value) }
     ensures failed { OnErr result (IsSamePlaces places.old.items places.new.items) }
@@ -68,8 +68,9 @@ impl<V: Drop> ByNumber<V> {
         Ok(())
     }
 
-    /// Keeps a value at a number in the module of a number, in place of any that was kept there, and answers how many places
-    /// were made for it. Nothing changes of what is kept where memory is short.
+    /// Caches a value at a number in the module with that index, in place of any that was cached
+    /// there, and returns how many places were made for it. Nothing changes of what is cached where
+    /// memory is short.
     pub fn insert(
         &mut self,
         alloc: Global,

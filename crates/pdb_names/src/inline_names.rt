@@ -37,16 +37,18 @@ impl InlineNames {
 
     /// Forgets all names where they take more memory than they may.
     fn forget_if_full(&mut self, alloc: Global)
-        ensures { (text : ℕ → ℕ → Option (List ℕ)) → AreNames text self.old → AreNames text self.new }
+        ensures { (text : ℕ → ℕ → Option (List ℕ))
+            → AreNames text self.old → AreNames text self.new }
     {
         if self.cached > CACHED_NAMES {
             *self = InlineNames::new(alloc);
         }
     }
 
-    /// The name of an inlined function by its id in the IPI, as the module of a number has it; `None` where no text can be made
-    /// of it. It is made and kept, unless it was kept before. Nothing is kept where memory is short. Where the names take more
-    /// memory than they may, they are forgotten first.
+    /// The name of an inlined function by its id in the IPI, as the module with that index has it;
+    /// `None` where no text can be made of it. It is made and cached, unless it was cached before.
+    /// Where the names take more memory than they may, they are forgotten first. Nothing is cached
+    /// where memory is short.
     pub fn name<P: ModuleProvider>(
         &mut self,
         alloc: Global,

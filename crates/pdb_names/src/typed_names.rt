@@ -58,16 +58,18 @@ impl<'a> TypedNames<'a> {
 
     /// Forgets all names where they take more memory than they may.
     fn forget_if_full(&mut self, alloc: Global)
-        ensures { (text : ℕ → List ℕ → ℕ → Option (List ℕ)) → AreTyped text self.old → AreTyped text self.new }
+        ensures { (text : ℕ → List ℕ → ℕ → Option (List ℕ))
+            → AreTyped text self.old → AreTyped text self.new }
     {
         if self.cached > CACHED_NAMES {
             *self = TypedNames::new(alloc);
         }
     }
 
-    /// The name of a procedure by its type in the module of a number; `None` where no text can be made of it. It is made and
-    /// kept at the procedure's number, unless it was kept before. Nothing is kept where memory is short. Where the names take
-    /// more memory than they may, they are forgotten first.
+    /// The name of a procedure by its type in the module with that index; `None` where no text can
+    /// be made of it. It is made and cached at the procedure's number, unless it was cached before.
+    /// Where the names take more memory than they may, they are forgotten first. Nothing is cached
+    /// where memory is short.
     pub fn name<P: ModuleProvider>(
         &mut self,
         alloc: Global,
