@@ -1,6 +1,6 @@
 //! What is written for a line of the input, by a context.
 
-ghost use Rattle.std.specs.Prelude.{◌≡◌, ◌++◌, OnOk, Some, string_bytes};
+ghost use Rattle.std.specs.Prelude.{◌≡◌, ◌++◌, OnErr, OnOk, Some, string_bytes};
 ghost use Rattle.pdb_addr2line.specs.Context.{lasting};
 ghost use Rattle.pdb_report.specs.Answer.{answer_of};
 ghost use Rattle.pdb_report_texts.specs.AddressText.{line_text as text_of_line, text_at};
@@ -9,6 +9,10 @@ use pdb_addr2line::{Context, Error, ModuleProvider};
 use pdb_engine::{Answers, parse_address};
 use pdb_report_texts::{append_address, append_unreadable};
 use std::alloc::{AllocError, Global};
+use std::mem::replace;
+
+/// From how many bytes on a text is moved in place of being copied.
+const LONG_TEXT: usize = 1_048_576;
 
 /// Appends what is written for an address.
 #[tactic(auto, using(crate::proofs::ToldSteps::found_text, crate::proofs::ToldSteps::unreadable_text))]
@@ -54,6 +58,21 @@ fn append_line<P: ModuleProvider>(
     }
 }
 
+/// Appends a text. A long one is moved and takes its room along, so that it is in memory once.
+fn append_text(alloc: Global, room: &mut String, output: &mut Vec<u8>) -> Result<(), AllocError>
+    ensures text { OnOk result (output.new.items ≡ output.old.items ++ string_bytes room.old) }
+    ensures refused { OnErr result (output.new.items ≡ output.old.items) }
+{
+    if room.len() < LONG_TEXT {
+        return output.extend_from_slice(room.as_bytes());
+    }
+    let mut text = replace(room, String::new(alloc)).into_bytes();
+    text.extend_from_slice(output)?;
+    text.rotate_right(output.len());
+    *output = text;
+    Ok(())
+}
+
 /// A context that is asked for the answers to lines, and room for a text.
 #[derive(Drop)]
 pub struct LineAnswers<'a, 's, P: ModuleProvider> {
@@ -79,6 +98,6 @@ impl<'a, 's, P: ModuleProvider> Answers for LineAnswers<'a, 's, P> {
     ) -> Result<(), AllocError> {
         self.room.clear();
         append_line(alloc, &mut self.context, line, &mut self.room)?;
-        output.extend_from_slice(self.room.as_bytes())
+        append_text(alloc, &mut self.room, output)
     }
 }
