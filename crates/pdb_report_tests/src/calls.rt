@@ -39,9 +39,11 @@ fn are_files_read(alloc: Global) -> Result<bool, Fail> {
     let whole = read_file(alloc, &mut file.as_slice())?;
     let pages = read_file(alloc, &mut file.as_slice().chain(io::repeat(0)))?;
     let front = read_file(alloc, &mut io::repeat(7))?;
-    Ok(whole.as_slice() == file.as_slice()
-        && pages.as_slice().starts_with(file.as_slice())
-        && front.as_slice() == [7u8; 32].as_slice())
+    Ok(
+        whole.as_slice() == file.as_slice()
+            && pages.as_slice().starts_with(file.as_slice())
+            && front.as_slice() == [7u8; 32].as_slice(),
+    )
 }
 
 /// Whether three bytes are read and written.
