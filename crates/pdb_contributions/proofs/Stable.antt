@@ -1,5 +1,6 @@
 -- A list that was sorted stably by a total order is the only one.
-use Rattle.std.proofs.Common.{◌≡◌, ℕ, suc, ◌<◌, ◌≤◌, inl, inr, Bool, true, false, cond, not, ◌&&◌, List, [], ◌∷◌, length, get_or, refl, sym, ap, ◌∙◌, arith}
+use Rattle.std.proofs.Common.{◌≡◌, ℕ, suc, ◌<◌, ◌≤◌, inl, inr, Bool, true, false, cond, not, ◌&&◌}
+use Rattle.std.proofs.Common.{List, [], ◌∷◌, length, get_or, refl, sym, ap, ◌∙◌, arith}
 use Rattle.std.specs.Prelude.{IsSorted}
 use Rattle.std.specs.Cmp.{IsTotalOrder}
 use Rattle.std.specs.declared.cmp.Ordering.{Ordering}
@@ -26,7 +27,7 @@ lt_turned r Less e h = absurd cc
 lt_turned r Equal e h = ap is_gt e
 lt_turned r Greater e h = ap is_gt e
 
--- one that is behind another one, turned
+-- one that is after another one, turned
 pub gt_turned : (r s : Ordering) → r ≡ ordering_reverse s → is_gt s ≡ true → is_gt r ≡ false
 gt_turned r Less e h = absurd cc
 gt_turned r Equal e h = absurd cc
@@ -63,7 +64,7 @@ module _ {X : Type 0} (R : X → X → Ordering) where
   Low a [] = Unit {0}
   Low a (x ∷ xs) = (is_gt (R a x) ≡ false) × Low a xs
 
-  -- none is before one in front of it
+  -- none is less than one before it
   abbrev pub Up : List X → Type 0
   Up [] = Unit {0}
   Up (x ∷ xs) = Low x xs × Up xs
@@ -82,11 +83,12 @@ module _ {X : Type 0} (R : X → X → Ordering) where
     low_down a b [] le low = tt
     low_down a b (x ∷ xs) le low = (upto o a b x le low.0, low_down a b xs le low.1)
 
-    -- one that another one is behind isn't behind it
+    -- where one is after another, the other isn't after it
     pub up_to_other : (a b : X) → is_gt (R a b) ≡ true → is_gt (R b a) ≡ false
     up_to_other a b h = gt_turned (R b a) (R a b) (o.antisymm b a) h
 
-    low_inserted : (a c : X) (xs : List X) → is_gt (R a c) ≡ false → Low a xs → Low a (inserted c xs)
+    low_inserted : (a c : X) (xs : List X) → is_gt (R a c) ≡ false → Low a xs
+        → Low a (inserted c xs)
     low_inserted a c [] le low = (le, tt)
     low_inserted a c (x ∷ xs) le low = elim (cases_Bool (is_gt (R c x))) [
       | inl behind ↦ rw behind (low.0, low_inserted a c xs le low.1)
@@ -97,7 +99,8 @@ module _ {X : Type 0} (R : X → X → Ordering) where
     pub up_inserted : (c : X) (xs : List X) → Up xs → Up (inserted c xs)
     up_inserted c [] up = (tt, tt)
     up_inserted c (x ∷ xs) up = elim (cases_Bool (is_gt (R c x))) [
-      | inl behind ↦ rw behind (low_inserted x c xs (up_to_other c x behind) up.0, up_inserted c xs up.1)
+      | inl behind ↦
+          rw behind (low_inserted x c xs (up_to_other c x behind) up.0, up_inserted c xs up.1)
       | inr not_behind ↦ rw not_behind ((not_behind, low_down c x xs not_behind up.0), up)
     ]
 
@@ -106,17 +109,25 @@ module _ {X : Type 0} (R : X → X → Ordering) where
     up_in_order [] = tt
     up_in_order (x ∷ xs) = up_inserted x (in_order xs) (up_in_order xs)
 
-    low_from : (c : X) (xs : List X) → ((j : ℕ) → j < length xs → is_gt (R c (get_or xs j c)) ≡ false) → Low c xs
+    low_from : (c : X) (xs : List X)
+        → ((j : ℕ) → j < length xs → is_gt (R c (get_or xs j c)) ≡ false) → Low c xs
     low_from c [] each = tt
-    low_from c (x ∷ xs) each = (each 0 (omega arith), low_from c xs (λ j lt. each (suc j) (omega arith)))
+    low_from c (x ∷ xs) each =
+        (each 0 (omega arith), low_from c xs (λ j lt. each (suc j) (omega arith)))
 
-    up_from : (xs : List X) → ((i j : ℕ) (d : X) → i ≤ j → j < length xs → is_gt (R (get_or xs i d) (get_or xs j d)) ≡ false) → Up xs
+    up_from : (xs : List X)
+        → ((i j : ℕ) (d : X) → i ≤ j → j < length xs
+        → is_gt (R (get_or xs i d) (get_or xs j d)) ≡ false) → Up xs
     up_from [] rises = tt
-    up_from (x ∷ xs) rises = (low_from x xs (λ j lt. rises 0 (suc j) x (omega arith) (omega arith)), up_from xs (λ i j d le lt. rises (suc i) (suc j) d (omega arith) (omega arith)))
+    up_from (x ∷ xs) rises = (
+      low_from x xs (λ j lt. rises 0 (suc j) x (omega arith) (omega arith)),
+      up_from xs (λ i j d le lt. rises (suc i) (suc j) d (omega arith) (omega arith)),
+    )
 
     up_sorted : (xs : List X) → IsSorted R xs → Up xs
     up_sorted xs sorted =
-        up_from xs (λ i j d le lt. lt_turned (R (get_or xs i d) (get_or xs j d)) (R (get_or xs j d) (get_or xs i d)) (o.antisymm (get_or xs i d) (get_or xs j d))
+        up_from xs (λ i j d le lt. lt_turned (R (get_or xs i d) (get_or xs j d))
+        (R (get_or xs j d) (get_or xs i d)) (o.antisymm (get_or xs i d) (get_or xs j d))
         (sorted_far (λ x y. is_lt (R x y)) (ranks_by o (λ (c : X). c)) xs sorted i j d le lt))
 
     -- ---- the elements that tie with one
@@ -127,11 +138,13 @@ module _ {X : Type 0} (R : X → X → Ordering) where
     tied : (k y : X) → tie k y ≡ true → R k y ≡ Equal
     tied k y h = is_equal (R k y) (sym (tie_is k y) ∙ h)
 
-    onto_same : (k x : X) (xs ys : List X) → filter (tie k) xs ≡ filter (tie k) ys → filter (tie k) (x ∷ xs) ≡ filter (tie k) (x ∷ ys)
+    onto_same : (k x : X) (xs ys : List X) → filter (tie k) xs ≡ filter (tie k) ys
+        → filter (tie k) (x ∷ xs) ≡ filter (tie k) (x ∷ ys)
     onto_same k x xs ys e = ap (λ (zs : List X). cond (tie k x) (x ∷ zs) zs) e
 
     -- two neighbours that don't tie change places
-    swapped : (k r x : X) (xs : List X) → is_gt (R r x) ≡ true → filter (tie k) (x ∷ r ∷ xs) ≡ filter (tie k) (r ∷ x ∷ xs)
+    swapped : (k r x : X) (xs : List X) → is_gt (R r x) ≡ true
+        → filter (tie k) (x ∷ r ∷ xs) ≡ filter (tie k) (r ∷ x ∷ xs)
     swapped k r x xs behind = elim (cases_Bool (tie k x)) [
       | inl h ↦ elim (cases_Bool (tie k r)) [
         | inl h' ↦
@@ -143,16 +156,20 @@ module _ {X : Type 0} (R : X → X → Ordering) where
       | inr h ↦ rw h refl
     ]
 
-    kept_inserted : (k r : X) (xs : List X) → filter (tie k) (inserted r xs) ≡ filter (tie k) (r ∷ xs)
+    kept_inserted : (k r : X) (xs : List X) → filter (tie k) (inserted r xs)
+        ≡ filter (tie k) (r ∷ xs)
     kept_inserted k r [] = refl
     kept_inserted k r (x ∷ xs) = elim (cases_Bool (is_gt (R r x))) [
-      | inl behind ↦ rw behind (onto_same k x (inserted r xs) (r ∷ xs) (kept_inserted k r xs) ∙ swapped k r x xs behind)
+      | inl behind ↦
+          rw behind (onto_same k x (inserted r xs) (r ∷ xs) (kept_inserted k r xs)
+          ∙ swapped k r x xs behind)
       | inr not_behind ↦ rw not_behind refl
     ]
 
     kept_in_order : (k : X) (xs : List X) → filter (tie k) (in_order xs) ≡ filter (tie k) xs
     kept_in_order k [] = refl
-    kept_in_order k (x ∷ xs) = kept_inserted k x (in_order xs) ∙ onto_same k x (in_order xs) xs (kept_in_order k xs)
+    kept_in_order k (x ∷ xs) = kept_inserted k x (in_order xs)
+        ∙ onto_same k x (in_order xs) xs (kept_in_order k xs)
 
     before_too : (k m x : X) → is_gt (R m k) ≡ true → is_gt (R m x) ≡ false → tie k x ≡ false
     before_too k m x behind low = elim (cases_Bool (tie k x)) [
@@ -166,7 +183,8 @@ module _ {X : Type 0} (R : X → X → Ordering) where
     -- where none is before an element, none ties with one before it
     none_later : (k m : X) (xs : List X) → is_gt (R m k) ≡ true → Low m xs → filter (tie k) xs ≡ []
     none_later k m [] behind low = refl
-    none_later k m (x ∷ xs) behind low = rw (before_too k m x behind low.0) (none_later k m xs behind low.1)
+    none_later k m (x ∷ xs) behind low =
+        rw (before_too k m x behind low.0) (none_later k m xs behind low.1)
 
     first_of_its : (y : X) (ys : List X) → filter (tie y) (y ∷ ys) ≡ y ∷ filter (tie y) ys
     first_of_its y ys = rw (tie_is y y ∙ ap is_eq (tied_itself o y)) refl
@@ -174,7 +192,8 @@ module _ {X : Type 0} (R : X → X → Ordering) where
     itself : (x : X) → is_gt (R x x) ≡ false
     itself x = ap is_gt (tied_itself o x)
 
-    not_later : (y z : X) (ys zs : List X) → Up (z ∷ zs) → AreKept (y ∷ ys) (z ∷ zs) → is_gt (R z y) ≡ true → ⊥
+    not_later : (y z : X) (ys zs : List X) → Up (z ∷ zs) → AreKept (y ∷ ys) (z ∷ zs)
+        → is_gt (R z y) ≡ true → ⊥
     not_later y z ys zs up kept behind =
         let none : filter (tie y) (z ∷ zs) ≡ [] = none_later y z (z ∷ zs) behind (itself z, up.0) in
         let e : y ∷ filter (tie y) ys ≡ [] = sym (first_of_its y ys) ∙ kept y ∙ none in
@@ -182,11 +201,14 @@ module _ {X : Type 0} (R : X → X → Ordering) where
 
     same_first : (y z : X) (ys zs : List X) → R y z ≡ Equal → AreKept (y ∷ ys) (z ∷ zs) → y ≡ z
     same_first y z ys zs e kept =
-        let f : filter (tie y) (z ∷ zs) ≡ z ∷ filter (tie y) zs = rw (tie_is y z ∙ ap is_eq e) refl in
-        let g : y ∷ filter (tie y) ys ≡ z ∷ filter (tie y) zs = sym (first_of_its y ys) ∙ kept y ∙ f in
+        let f : filter (tie y) (z ∷ zs) ≡ z ∷ filter (tie y) zs =
+        rw (tie_is y z ∙ ap is_eq e) refl in
+        let g : y ∷ filter (tie y) ys ≡ z ∷ filter (tie y) zs =
+        sym (first_of_its y ys) ∙ kept y ∙ f in
         cc
 
-    same_rank : (y z : X) (ys zs : List X) → Up (y ∷ ys) → Up (z ∷ zs) → AreKept (y ∷ ys) (z ∷ zs) → R y z ≡ Equal
+    same_rank : (y z : X) (ys zs : List X) → Up (y ∷ ys) → Up (z ∷ zs) → AreKept (y ∷ ys) (z ∷ zs)
+        → R y z ≡ Equal
     same_rank y z ys zs up up' kept = elim (cases_Bool (is_gt (R z y))) [
       | inl behind ↦ absurd (not_later y z ys zs up' kept behind)
       | inr h ↦ elim (cases_Bool (is_gt (R y z))) [
@@ -195,21 +217,29 @@ module _ {X : Type 0} (R : X → X → Ordering) where
       ]
     ]
 
-    same_others : (k y : X) (ys zs : List X) → filter (tie k) (y ∷ ys) ≡ filter (tie k) (y ∷ zs) → filter (tie k) ys ≡ filter (tie k) zs
-    same_others k y ys zs e = elim (tie k y) as (λ (b : Bool). cond b (y ∷ filter (tie k) ys) (filter (tie k) ys) ≡ cond b (y ∷ filter (tie k) zs) (filter (tie k) zs) → filter (tie k) ys ≡ filter (tie k) zs) [
-      | true ↦ λ h. cc
-      | false ↦ λ h. h
-    ] e
+    same_others : (k y : X) (ys zs : List X) → filter (tie k) (y ∷ ys) ≡ filter (tie k) (y ∷ zs)
+        → filter (tie k) ys ≡ filter (tie k) zs
+    same_others k y ys zs e = elim (tie k y)
+        as (λ (b : Bool). cond b (y ∷ filter (tie k) ys) (filter (tie k) ys)
+        ≡ cond b (y ∷ filter (tie k) zs) (filter (tie k) zs)
+        → filter (tie k) ys ≡ filter (tie k) zs) [
+          | true ↦ λ h. cc
+          | false ↦ λ h. h
+        ] e
 
     the_only_one : (ys zs : List X) → Up ys → Up zs → AreKept ys zs → ys ≡ zs
     the_only_one [] [] up up' kept = refl
-    the_only_one [] (z ∷ zs) up up' kept = let e : [] ≡ z ∷ filter (tie z) zs = kept z ∙ first_of_its z zs in absurd cc
-    the_only_one (y ∷ ys) [] up up' kept = let e : y ∷ filter (tie y) ys ≡ [] = sym (first_of_its y ys) ∙ kept y in absurd cc
+    the_only_one [] (z ∷ zs) up up' kept = let e : [] ≡ z ∷ filter (tie z) zs =
+        kept z ∙ first_of_its z zs in absurd cc
+    the_only_one (y ∷ ys) [] up up' kept = let e : y ∷ filter (tie y) ys ≡ [] =
+        sym (first_of_its y ys) ∙ kept y in absurd cc
     the_only_one (y ∷ ys) (z ∷ zs) up up' kept =
         let f : y ≡ z = same_first y z ys zs (same_rank y z ys zs up up' kept) kept in
-        let others : AreKept ys zs = λ k. same_others k y ys zs (kept k ∙ ap (λ (r : X). filter (tie k) (r ∷ zs)) (sym f)) in
+        let others : AreKept ys zs =
+        λ k. same_others k y ys zs (kept k ∙ ap (λ (r : X). filter (tie k) (r ∷ zs)) (sym f)) in
         rw (f, the_only_one ys zs up.1 up'.1 others) refl
 
     -- elements that were sorted stably are those in order
     pub is_in_order : (xs ys : List X) → IsSorted R ys → IsStable R xs ys → ys ≡ in_order xs
-    is_in_order xs ys sorted stable = the_only_one ys (in_order xs) (up_sorted ys sorted) (up_in_order xs) (λ k. stable k ∙ sym (kept_in_order k xs))
+    is_in_order xs ys sorted stable = the_only_one ys (in_order xs) (up_sorted ys sorted)
+        (up_in_order xs) (λ k. stable k ∙ sym (kept_in_order k xs))

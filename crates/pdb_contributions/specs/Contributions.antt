@@ -1,18 +1,28 @@
 -- What modules hold of sections: the section contributions of the DBI stream that count, merged.
--- Which entries count and merge, and what is refused, is what the pdb-addr2line crate does; here an end past 32 bits is cut.
-use Rattle.std.specs.Prelude.{ℕ, ◌+◌, ◌-◌, ◌^◌, Bool, false, ◌&&◌, min, List, [], ◌∷◌, ◌++◌, map, drop, nat_lt, nat_le, ◌==◌, Option, None, Some, Result, Ok, Err, if◌then◌else◌}
+-- Which entries count and merge, and what is refused, is what the pdb-addr2line crate does; here an
+-- end past 32 bits is cut.
+use Rattle.std.specs.Prelude.{ℕ, ◌+◌, ◌-◌, ◌^◌, Bool, false, ◌&&◌, min, List, [], ◌∷◌, ◌++◌, map}
+use Rattle.std.specs.Prelude.{drop, nat_lt, nat_le, ◌==◌, Option, None, Some, Result, Ok, Err}
+use Rattle.std.specs.Prelude.{if◌then◌else◌}
 use Rattle.std.specs.List.{filter, find}
 use Rattle.std.specs.declared.cmp.Ordering.{Ordering}
 use Rattle.std.specs.Ordering.{nat_cmp, is_gt, ordering_then}
 use Rattle.pdb_container.specs.Fault.{◌>>=◌}
 use Rattle.pdb_container.specs.Listing.{Listing, whole}
 use Rattle.pdb_addresses.specs.declared.sections.ImageSectionHeader.{ImageSectionHeader}
-use Rattle.pdb_addresses.specs.declared.internal_section_offset.PdbInternalSectionOffset.{PdbInternalSectionOffset}
+use Rattle.pdb_addresses.specs.declared.internal_section_offset.PdbInternalSectionOffset.{
+  PdbInternalSectionOffset,
+}
 use Rattle.pdb_addresses.specs.Sections.{section_at, may_execute}
-use Rattle.pdb_symbols_modules.specs.declared.contributions.DBISectionContribution.{DBISectionContribution}
+use Rattle.pdb_symbols_modules.specs.declared.contributions.DBISectionContribution.{
+  DBISectionContribution,
+}
 use Rattle.pdb_symbols_modules.specs.Contributions.{contributions_of}
-use Rattle.pdb_resolving.specs.Fault.{Fault, UnorderedSectionContributions, OverlappingSectionContributions, lifted}
-use Rattle.pdb_contributions.specs.declared.contribution.ModuleSectionContribution.{ModuleSectionContribution}
+use Rattle.pdb_resolving.specs.Fault.{Fault, UnorderedSectionContributions}
+use Rattle.pdb_resolving.specs.Fault.{OverlappingSectionContributions, lifted}
+use Rattle.pdb_contributions.specs.declared.contribution.ModuleSectionContribution.{
+  ModuleSectionContribution,
+}
 
 -- ---- entries that count
 
@@ -30,12 +40,19 @@ abbrev pub is_kept : List ImageSectionHeader → DBISectionContribution → Bool
 is_kept sections c = nat_lt 0 c.size && is_executable sections (c.offset).section
 
 -- the entries that count
-abbrev pub kept_entries : List ImageSectionHeader → List DBISectionContribution → List DBISectionContribution
+abbrev pub kept_entries : List ImageSectionHeader → List DBISectionContribution
+    → List DBISectionContribution
 kept_entries sections entries = filter (is_kept sections) entries
 
 -- what an entry holds; an end past 32 bits is cut
 abbrev pub span_of : DBISectionContribution → ModuleSectionContribution
-span_of c = record { section_index = (c.offset).section; start_offset = (c.offset).offset; end_offset = min ((c.offset).offset + c.size) (2 ^ 32 - 1); module_index = c.«module» }
+span_of c =
+    record {
+      section_index = (c.offset).section;
+      start_offset = (c.offset).offset;
+      end_offset = min ((c.offset).offset + c.size) (2 ^ 32 - 1);
+      module_index = c.«module»;
+    }
 
 -- ---- consecutive entries of one module and section
 
@@ -45,26 +62,37 @@ is_of_same a b = (a.section_index == b.section_index) && (a.module_index == b.mo
 
 -- a contribution that goes on to the end of another one
 abbrev pub up_to : ModuleSectionContribution → ModuleSectionContribution → ModuleSectionContribution
-up_to a b = record { section_index = a.section_index; start_offset = a.start_offset; end_offset = b.end_offset; module_index = a.module_index }
+up_to a b =
+    record {
+      section_index = a.section_index;
+      start_offset = a.start_offset;
+      end_offset = b.end_offset;
+      module_index = a.module_index;
+    }
 
 -- a contribution before others
-abbrev pub contribution_before : ModuleSectionContribution → Result (List ModuleSectionContribution) Fault → Result (List ModuleSectionContribution) Fault
+abbrev pub contribution_before : ModuleSectionContribution
+    → Result (List ModuleSectionContribution) Fault → Result (List ModuleSectionContribution) Fault
 contribution_before c others = others >>= λ all. Ok (c ∷ all)
 
 -- contributions before others
-abbrev pub all_before : List ModuleSectionContribution → Result (List ModuleSectionContribution) Fault → Result (List ModuleSectionContribution) Fault
+abbrev pub all_before : List ModuleSectionContribution
+    → Result (List ModuleSectionContribution) Fault → Result (List ModuleSectionContribution) Fault
 all_before front others = others >>= λ all. Ok (front ++ all)
 
--- A contribution and those behind it, of which consecutive ones of one module and section are one: from the first one's start
--- to the last one's end. None of these may end before the one before it.
-abbrev pub merged_from : ModuleSectionContribution → List ModuleSectionContribution → Result (List ModuleSectionContribution) Fault
+-- A contribution and those after it, of which consecutive ones of one module and section are one:
+-- from the first one's start to the last one's end. None of these may end before the one before it.
+abbrev pub merged_from : ModuleSectionContribution → List ModuleSectionContribution
+    → Result (List ModuleSectionContribution) Fault
 merged_from c [] = Ok (c ∷ [])
 merged_from c (next ∷ others) =
     if is_of_same c next
-    then (if nat_lt next.end_offset c.end_offset then Err (UnorderedSectionContributions next.module_index next.section_index) else merged_from (up_to c next) others)
+    then (if nat_lt next.end_offset c.end_offset
+    then Err (UnorderedSectionContributions next.module_index next.section_index)
+    else merged_from (up_to c next) others)
     else contribution_before c (merged_from next others)
 
--- the same of all
+-- all contributions, merged
 abbrev pub merged : List ModuleSectionContribution → Result (List ModuleSectionContribution) Fault
 merged [] = Ok []
 merged (c ∷ others) = merged_from c others
@@ -75,12 +103,16 @@ merged (c ∷ others) = merged_from c others
 abbrev pub contribution_cmp : ModuleSectionContribution → ModuleSectionContribution → Ordering
 contribution_cmp a b =
     ordering_then (nat_cmp a.section_index b.section_index)
-    (ordering_then (nat_cmp a.start_offset b.start_offset) (ordering_then (nat_cmp a.end_offset b.end_offset) (nat_cmp a.module_index b.module_index)))
+    (ordering_then (nat_cmp a.start_offset b.start_offset)
+    (ordering_then (nat_cmp a.end_offset b.end_offset) (nat_cmp a.module_index b.module_index)))
 
 -- a contribution among others in order
-abbrev pub inserted : ModuleSectionContribution → List ModuleSectionContribution → List ModuleSectionContribution
+abbrev pub inserted : ModuleSectionContribution → List ModuleSectionContribution
+    → List ModuleSectionContribution
 inserted c [] = c ∷ []
-inserted c (other ∷ others) = if is_gt (contribution_cmp c other) then other ∷ inserted c others else c ∷ other ∷ others
+inserted c (other ∷ others) =
+    if is_gt (contribution_cmp c other) then other ∷ inserted c others
+    else c ∷ other ∷ others
 
 -- contributions by section, start, end and module
 abbrev pub in_order : List ModuleSectionContribution → List ModuleSectionContribution
@@ -91,12 +123,17 @@ in_order (c ∷ others) = inserted c (in_order others)
 abbrev pub overlaps : ModuleSectionContribution → ModuleSectionContribution → Bool
 overlaps a b = (b.section_index == a.section_index) && nat_lt b.start_offset a.end_offset
 
--- contributions behind another one, of which none begins before the end of the one before it in its section
-abbrev pub apart_behind : ModuleSectionContribution → List ModuleSectionContribution → Result (Unit {0}) Fault
+-- contributions after another one, of which none begins before the end of the one before it in its
+-- section
+abbrev pub apart_behind : ModuleSectionContribution → List ModuleSectionContribution
+    → Result (Unit {0}) Fault
 apart_behind c [] = Ok tt
-apart_behind c (next ∷ others) = if overlaps c next then Err (OverlappingSectionContributions next.section_index c.module_index next.module_index) else apart_behind next others
+apart_behind c (next ∷ others) =
+    if overlaps c next
+    then Err (OverlappingSectionContributions next.section_index c.module_index next.module_index)
+    else apart_behind next others
 
--- the same of all
+-- all contributions, none of which begins before the end of the one before it in its section
 abbrev pub apart : List ModuleSectionContribution → Result (Unit {0}) Fault
 apart [] = Ok tt
 apart (c ∷ others) = apart_behind c others
@@ -112,22 +149,27 @@ pub record Held : Type 0 where
 abbrev pub later_starts_of : List DBISectionContribution → List PdbInternalSectionOffset
 later_starts_of entries = map (λ c. c.offset) (drop 1 entries)
 
--- What modules hold by the entries of a list, in its order, and by its end: an entry that ends before the ones with which it
--- merges comes before the list's fault.
+-- What modules hold by the entries of a list, in its order, and by its end: an entry that ends
+-- before the ones with which it merges comes before the list's fault.
 abbrev pub merged_by : List ImageSectionHeader → Listing DBISectionContribution → Result Held Fault
 merged_by sections entries = do
   contributions ← merged (map span_of (kept_entries sections entries.items))
   all ← lifted (whole entries)
-  Ok record { contributions = contributions; later_starts = later_starts_of (kept_entries sections entries.items) }
+  Ok record {
+    contributions = contributions;
+    later_starts = later_starts_of (kept_entries sections entries.items);
+  }
 
--- the same in order, of which no two overlap
+-- what modules hold, in order and without overlaps
 abbrev pub in_order_apart : Held → Result Held Fault
 in_order_apart held = do
   checked ← apart (in_order held.contributions)
   Ok record { contributions = in_order held.contributions; later_starts = held.later_starts }
 
--- What modules hold by the entries of a list, and by its end; an overlap comes behind the faults of these.
-unfoldable pub held_by : List ImageSectionHeader → Listing DBISectionContribution → Result Held Fault
+-- What modules hold by the entries of a list, and by its end; an overlap is reported after the
+-- faults of these.
+unfoldable pub held_by : List ImageSectionHeader → Listing DBISectionContribution
+    → Result Held Fault
 held_by sections entries = merged_by sections entries >>= in_order_apart
 
 -- what modules hold by the contributions of the DBI stream
@@ -138,8 +180,10 @@ held_of sections bytes = lifted (contributions_of bytes) >>= held_by sections
 
 -- a module holds a place: it lies in the contribution's section, from its start to before its end
 abbrev pub holds : PdbInternalSectionOffset → ModuleSectionContribution → Bool
-holds p c = (c.section_index == p.section) && (nat_le c.start_offset p.offset && nat_lt p.offset c.end_offset)
+holds p c = (c.section_index == p.section)
+    && (nat_le c.start_offset p.offset && nat_lt p.offset c.end_offset)
 
 -- by what a module holds a place
-abbrev pub holder : List ModuleSectionContribution → PdbInternalSectionOffset → Option ModuleSectionContribution
+abbrev pub holder : List ModuleSectionContribution → PdbInternalSectionOffset
+    → Option ModuleSectionContribution
 holder contributions p = find (holds p) contributions

@@ -1,13 +1,17 @@
 -- The public list: names and placeholders by the places at which functions may begin.
 -- What stands in it, and which of one place counts, is what the pdb-addr2line crate does.
-use Rattle.std.specs.Prelude.{◌≡◌, ℕ, zero, suc, ◌+◌, ◌<◌, ◌≤◌, Bool, true, false, length, ◌&&◌, ◌||◌, not, List, [], ◌∷◌, ◌++◌, map, is_some, IsTrue, slice_get, nat_lt, nat_le, ◌==◌, Option, None, Some, Result, Ok, if◌then◌else◌}
+use Rattle.std.specs.Prelude.{◌≡◌, ℕ, zero, suc, ◌+◌, ◌<◌, ◌≤◌, Bool, true, false, length, ◌&&◌}
+use Rattle.std.specs.Prelude.{◌||◌, not, List, [], ◌∷◌, ◌++◌, map, is_some, IsTrue, slice_get}
+use Rattle.std.specs.Prelude.{nat_lt, nat_le, ◌==◌, Option, None, Some, Result, Ok, if◌then◌else◌}
 use Rattle.std.specs.Option.{option_or}
 use Rattle.std.specs.List.{find, flat_map}
 use Rattle.pdb_container.specs.Fault as container
 use Rattle.pdb_container.specs.Fault.{◌>>=◌}
 use Rattle.pdb_container.specs.Listing.{Listing, whole}
 use Rattle.pdb_addresses.specs.declared.sections.ImageSectionHeader.{ImageSectionHeader}
-use Rattle.pdb_addresses.specs.declared.internal_section_offset.PdbInternalSectionOffset.{PdbInternalSectionOffset}
+use Rattle.pdb_addresses.specs.declared.internal_section_offset.PdbInternalSectionOffset.{
+  PdbInternalSectionOffset,
+}
 use Rattle.pdb_addresses.specs.Sections.{may_execute}
 use Rattle.pdb_symbols.specs.Forms as forms
 use Rattle.pdb_symbols.specs.Forms.{SymbolForm, PublicForm}
@@ -15,7 +19,8 @@ use Rattle.pdb_symbols.specs.Records.{symbol_form_of}
 use Rattle.pdb_symbols.specs.Symbols.{Symbol}
 use Rattle.pdb_contributions.specs.Contributions.{is_executable}
 
--- an entry of the public list: where a function may begin, and its name as it is stored; a placeholder has none
+-- an entry of the public list: where a function may begin, and its name as it is stored; a
+-- placeholder has none
 pub record PublicFunction : Type 0 where
   pub start_offset : PdbInternalSectionOffset
   pub name : Option (List ℕ)
@@ -34,14 +39,20 @@ as_public other = None
 -- a public symbol's entry, if code may run in its section
 abbrev pub entry_of_public : List ImageSectionHeader → Option PublicForm → List PublicFunction
 entry_of_public sections None = []
-entry_of_public sections (Some p) = if is_executable sections (p.offset).section then record { start_offset = p.offset; name = Some p.name } ∷ [] else []
+entry_of_public sections (Some p) =
+    if is_executable sections (p.offset).section
+    then record { start_offset = p.offset; name = Some p.name } ∷ []
+    else []
 
--- the entries of symbols: of the public ones that can be read and lie in sections in which code may run
+-- the entries of symbols: of the public ones that can be read and lie in sections in which code may
+-- run
 abbrev pub entries_of_symbols : List ImageSectionHeader → List Symbol → List PublicFunction
-entries_of_symbols sections symbols = flat_map (λ s. entry_of_public sections (as_public (symbol_form_of s))) symbols
+entries_of_symbols sections symbols =
+    flat_map (λ s. entry_of_public sections (as_public (symbol_form_of s))) symbols
 
 -- the entries of symbols, which have to be there to their end
-abbrev pub entries_read : List ImageSectionHeader → Listing Symbol → Result (List PublicFunction) container.Fault
+abbrev pub entries_read : List ImageSectionHeader → Listing Symbol
+    → Result (List PublicFunction) container.Fault
 entries_read sections symbols = whole symbols >>= λ all. Ok (entries_of_symbols sections all)
 
 -- whether symbols are there to their end
@@ -52,14 +63,18 @@ are_whole symbols = whole symbols >>= λ all. Ok tt
 abbrev pub placeholders : List PdbInternalSectionOffset → List PublicFunction
 placeholders places = map placeholder places
 
--- a placeholder at the end of a section of a number in which code may run
+-- a placeholder at the end of the section with that index, if code may run in it
 abbrev pub section_end : ℕ → ImageSectionHeader → List PublicFunction
-section_end number s = if may_execute s.characteristics && nat_le number 65535 then placeholder (record { section = number; offset = s.virtual_size }) ∷ [] else []
+section_end number s =
+    if may_execute s.characteristics && nat_le number 65535
+    then placeholder (record { section = number; offset = s.virtual_size }) ∷ []
+    else []
 
 -- placeholders at the ends of sections from a number on
 abbrev pub section_ends_from : ℕ → List ImageSectionHeader → List PublicFunction
 section_ends_from number [] = []
-section_ends_from number (s ∷ sections) = section_end number s ++ section_ends_from (number + 1) sections
+section_ends_from number (s ∷ sections) = section_end number s
+    ++ section_ends_from (number + 1) sections
 
 -- placeholders at the ends of the sections in which code may run
 abbrev pub section_ends : List ImageSectionHeader → List PublicFunction
@@ -79,7 +94,7 @@ is_named f = is_some f.name
 abbrev pub preferred : PublicFunction → PublicFunction → PublicFunction
 preferred first second = if not (is_named first) && is_named second then second else first
 
--- an entry among others behind it, which are in order and one a place
+-- an entry among others after it, which are in order and one a place
 abbrev pub with_entry : PublicFunction → List PublicFunction → List PublicFunction
 with_entry f [] = f ∷ []
 with_entry f (other ∷ others) =
@@ -87,18 +102,23 @@ with_entry f (other ∷ others) =
     else (if is_before other.start_offset f.start_offset then other ∷ with_entry f others
     else preferred f other ∷ others)
 
--- the public list of entries: by place, one a place, a named one before a placeholder, and then the first
+-- the public list of entries: by place, one a place, a named one before a placeholder, and then the
+-- first
 abbrev pub publics_among : List PublicFunction → List PublicFunction
 publics_among [] = []
 publics_among (f ∷ others) = with_entry f (publics_among others)
 
 -- in a list an entry of another one's place stands, and it has a name if that one has
 abbrev pub StandsNamed : PublicFunction → List PublicFunction → Type 0
-StandsNamed f list = (i : ℕ) × (a : PublicFunction) × (slice_get list i ≡ Some a) × (a.start_offset ≡ f.start_offset) × (IsTrue (is_named f) → IsTrue (is_named a))
+StandsNamed f list = (i : ℕ) × (a : PublicFunction) × (slice_get list i ≡ Some a)
+    × (a.start_offset ≡ f.start_offset) × (IsTrue (is_named f) → IsTrue (is_named a))
 
--- the public list: public symbols, then placeholders where contributions begin, then placeholders at sections' ends
-abbrev pub publics : List ImageSectionHeader → List Symbol → List PdbInternalSectionOffset → List PublicFunction
-publics sections symbols starts = publics_among (entries_of_symbols sections symbols ++ placeholders starts ++ section_ends sections)
+-- the public list: public symbols, then placeholders where contributions begin, then placeholders
+-- at sections' ends
+abbrev pub publics : List ImageSectionHeader → List Symbol → List PdbInternalSectionOffset
+    → List PublicFunction
+publics sections symbols starts = publics_among
+    (entries_of_symbols sections symbols ++ placeholders starts ++ section_ends sections)
 
 -- ---- looking up
 
@@ -112,28 +132,31 @@ public_exactly list p = find (is_at p) list
 
 -- an entry begins at a place or before it, in its section
 abbrev pub is_at_or_before : PdbInternalSectionOffset → PublicFunction → Bool
-is_at_or_before p f = ((f.start_offset).section == p.section) && nat_le (f.start_offset).offset p.offset
+is_at_or_before p f = ((f.start_offset).section == p.section)
+    && nat_le (f.start_offset).offset p.offset
 
 -- the last entry of a list at a place or before it, in its section
-abbrev pub last_at_or_before : List PublicFunction → PdbInternalSectionOffset → Option PublicFunction
+abbrev pub last_at_or_before : List PublicFunction → PdbInternalSectionOffset
+    → Option PublicFunction
 last_at_or_before [] p = None
-last_at_or_before (f ∷ others) p = option_or (last_at_or_before others p) (if is_at_or_before p f then Some f else None)
+last_at_or_before (f ∷ others) p = option_or (last_at_or_before others p)
+    (if is_at_or_before p f then Some f else None)
 
 -- an entry that may be there, unless it lies before an offset
 abbrev pub not_before : ℕ → Option PublicFunction → Option PublicFunction
 not_before start None = None
 not_before start (Some f) = if nat_lt (f.start_offset).offset start then None else Some f
 
--- the entry of a place: the last one at the place or before it, in its section, unless that one lies before the start of the
--- contribution that holds the place
+-- the entry of a place: the last one at the place or before it, in its section, unless that one
+-- lies before the start of the contribution that holds the place
 abbrev pub public_over : List PublicFunction → ℕ → PdbInternalSectionOffset → Option PublicFunction
 public_over list start p = not_before start (last_at_or_before list p)
 
--- an entry behind a place, in its section
+-- an entry after a place, in its section
 abbrev pub is_behind : PdbInternalSectionOffset → PublicFunction → Bool
 is_behind p f = ((f.start_offset).section == p.section) && nat_lt p.offset (f.start_offset).offset
 
--- the next entry behind a place, in its section
+-- the next entry after a place, in its section
 abbrev pub next_public : List PublicFunction → PdbInternalSectionOffset → Option PublicFunction
 next_public list p = find (is_behind p) list
 
@@ -141,15 +164,20 @@ next_public list p = find (is_behind p) list
 
 -- places ascend strictly
 pub record Rises (list : List PublicFunction) : Type 0 where
-  pub each : (i j : ℕ) (a b : PublicFunction) → i < j → slice_get list i ≡ Some a → slice_get list j ≡ Some b → IsTrue (is_before a.start_offset b.start_offset)
+  pub each : (i j : ℕ) (a b : PublicFunction) → i < j → slice_get list i ≡ Some a
+      → slice_get list j ≡ Some b → IsTrue (is_before a.start_offset b.start_offset)
 
--- so many entries begin at a place or before it, in its section or in one before; those behind them begin behind it
-pub record IsSplit (list : List PublicFunction) (p : PdbInternalSectionOffset) (count : ℕ) : Type 0 where
+-- that many entries begin at a place or before it, in its section or in one before; those after
+-- them begin after it
+pub record IsSplit (list : List PublicFunction) (p : PdbInternalSectionOffset) (count : ℕ) :
+    Type 0 where
   pub bound : count ≤ length list
-  pub front : (i : ℕ) (f : PublicFunction) → i < count → slice_get list i ≡ Some f → is_before p f.start_offset ≡ false
-  pub back : (i : ℕ) (f : PublicFunction) → count ≤ i → slice_get list i ≡ Some f → is_before p f.start_offset ≡ true
+  pub front : (i : ℕ) (f : PublicFunction) → i < count → slice_get list i ≡ Some f
+      → is_before p f.start_offset ≡ false
+  pub back : (i : ℕ) (f : PublicFunction) → count ≤ i → slice_get list i ≡ Some f
+      → is_before p f.start_offset ≡ true
 
--- the last of so many entries of a list
+-- the last of that many entries at the beginning of a list
 abbrev pub last_of : List PublicFunction → ℕ → Option PublicFunction
 last_of list zero = None
 last_of list (suc number) = slice_get list number

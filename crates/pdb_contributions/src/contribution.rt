@@ -1,13 +1,17 @@
 //! A section contribution that counts, and which ones merge.
 
 ghost use Rattle.std.specs.Prelude.{◌≡◌};
-ghost use Rattle.pdb_contributions.specs.Contributions.{is_executable as is_executable_at, is_kept as is_kept_entry, span_of as span_of_entry, is_of_same as are_of_same, up_to as up_to_end, overlaps as do_overlap};
+ghost use Rattle.pdb_contributions.specs.Contributions.{is_executable as is_executable_at};
+ghost use Rattle.pdb_contributions.specs.Contributions.{is_kept as is_kept_entry};
+ghost use Rattle.pdb_contributions.specs.Contributions.{span_of as span_of_entry};
+ghost use Rattle.pdb_contributions.specs.Contributions.{is_of_same as are_of_same};
+ghost use Rattle.pdb_contributions.specs.Contributions.{up_to as up_to_end, overlaps as do_overlap};
 
 use pdb_addresses::ImageSectionHeader;
 use pdb_symbols_modules::DBISectionContribution;
 
-/// A section contribution of a module: what it holds of a section, from a start to before an end. They are ordered by section,
-/// start, end and module.
+/// A section contribution of a module: what it holds of a section, from a start to before an end.
+/// They are ordered by section, start, end and module.
 #[derive(Clone, Copy, Debug, PartialEq, Eq, PartialOrd, Ord)]
 pub struct ModuleSectionContribution {
     /// The section's number, counted from 1.

@@ -1,7 +1,13 @@
-//! What modules hold of sections, and a search of the contribution that holds a place by halving.
+//! What modules hold of sections, and a binary search for the contribution that holds a place.
 
 ghost use Rattle.std.specs.Prelude.{◌≡◌, IfOk};
-ghost use Rattle.pdb_contributions.specs.ContributionPieces.{contribution_span as span_of_contribution, contribution_spans as spans_of_contributions, IsShort, AreShort, StandFor};
+ghost use Rattle.pdb_contributions.specs.ContributionPieces.{
+  contribution_span as span_of_contribution,
+};
+ghost use Rattle.pdb_contributions.specs.ContributionPieces.{
+  contribution_spans as spans_of_contributions,
+};
+ghost use Rattle.pdb_contributions.specs.ContributionPieces.{IsShort, AreShort, StandFor};
 ghost use Rattle.pdb_contributions.specs.Contributions.{holder as holder_of};
 
 use crate::contribution::ModuleSectionContribution;
@@ -19,7 +25,9 @@ pub struct HeldPlaces {
 
 impl Model for HeldPlaces {
     ghost use Rattle.std.specs.Prelude.{List};
-    ghost use Rattle.pdb_contributions.specs.declared.contribution.ModuleSectionContribution.{ModuleSectionContribution};
+    ghost use Rattle.pdb_contributions.specs.declared.contribution.ModuleSectionContribution.{
+      ModuleSectionContribution,
+    };
     ghost use Rattle.pdb_contributions.specs.ContributionPieces.{StandFor};
 
     ghost Value = { List ModuleSectionContribution };
@@ -78,7 +86,10 @@ fn contribution_pieces(
 }
 
 impl HeldPlaces {
-    /// What contributions hold, for a search.
+    /// What contributions hold, prepared for a search.
+    ///
+    /// # Errors
+    /// `AllocError` when memory runs out.
     pub fn new(
         alloc: Global,
         contributions: Vec<ModuleSectionContribution>,
@@ -99,8 +110,8 @@ impl HeldPlaces {
         self.contributions.as_slice()
     }
 
-    /// The contribution that holds a place, of several the first. It takes as many steps as the number of pieces has binary
-    /// digits.
+    /// The contribution that holds a place, of several the first. It takes as many steps as the
+    /// number of pieces has binary digits.
     pub fn holder(&self, place: PdbInternalSectionOffset) -> Option<ModuleSectionContribution>
         ensures { result ≡ holder_of self.now place }
     {

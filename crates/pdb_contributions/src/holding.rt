@@ -2,7 +2,8 @@
 
 ghost use Rattle.std.specs.Prelude.{◌≡◌, List, ◌∷◌, MatchResult};
 ghost use Rattle.pdb_resolving.specs.Fault.{Answers, Fails};
-ghost use Rattle.pdb_contributions.specs.Contributions.{all_before, merged_from, merged_by, held_of, apart};
+ghost use Rattle.pdb_contributions.specs.Contributions.{all_before, merged_from, merged_by};
+ghost use Rattle.pdb_contributions.specs.Contributions.{held_of, apart};
 
 use crate::contribution::{
     ModuleSectionContribution, is_kept, is_of_same, overlaps, span_of, up_to,
@@ -28,17 +29,25 @@ impl Model for SectionContributions {
 
     ghost Value = { Held };
 
-    ghost view = { λ h. record { contributions = h.contributions.items; later_starts = h.later_starts.items } };
+    ghost view = { λ h. record {
+      contributions = h.contributions.items;
+      later_starts = h.later_starts.items;
+    } };
 }
 
-/// The contribution that is merged further before an entry's: the same one, which now ends where the entry's does, if they
-/// are of one module and section; else the entry's, and the one before it is done.
+/// The contribution that is merged further before an entry's: the same one, which now ends where
+/// the entry's does, if they are of one module and section; else the entry's, and the one before it
+/// is done.
 fn merge_next(
     merged: &mut Vec<ModuleSectionContribution>,
     last: ModuleSectionContribution,
     next: ModuleSectionContribution,
 ) -> Result<ModuleSectionContribution>
-    ensures { MatchResult result (λ c. (others : List ModuleSectionContribution) → all_before merged.new.items (merged_from c others) ≡ all_before merged.old.items (merged_from last (next ∷ others))) (λ e. (others : List ModuleSectionContribution) → Fails e (merged_from last (next ∷ others))) }
+    ensures { MatchResult result (λ c. (others : List ModuleSectionContribution)
+        → all_before merged.new.items (merged_from c others)
+        ≡ all_before merged.old.items (merged_from last (next ∷ others)))
+        (λ e. (others : List ModuleSectionContribution)
+        → Fails e (merged_from last (next ∷ others))) }
 {
     if !is_of_same(last, next) {
         merged.push(last)?;
@@ -106,14 +115,16 @@ fn check_apart(contributions: &[ModuleSectionContribution]) -> Result<()>
     Ok(())
 }
 
-/// The section contributions of the DBI stream that count: entries that have a size and lie in a section in which code may run
-/// (`IMAGE_SCN_MEM_EXECUTE`). Consecutive ones of one module and section are one contribution, from the first one's start to the
-/// last one's end; an end past 32 bits is cut to 2^32 - 1.
+/// The section contributions of the DBI stream that count: entries that have a size and lie in a
+/// section in which code may run (`IMAGE_SCN_MEM_EXECUTE`). Consecutive ones of one module and
+/// section are one contribution, from the first one's start to the last one's end; an end past 32
+/// bits is cut to 2^32 - 1.
 ///
 /// # Errors
-/// The list's version, as `UnimplementedFeature`; entry by entry `UnexpectedEof`, or `UnorderedSectionContributions` for one that
-/// ends before those with which it merges; then `OverlappingSectionContributions` for the first one, by section, start, end and
-/// module, that begins before the end of the one before it in its section. `OutOfMemory`.
+/// `UnimplementedFeature` for the list's version; entry by entry `UnexpectedEof`, or
+/// `UnorderedSectionContributions` for one that ends before those with which it merges. Then
+/// `OverlappingSectionContributions` for the first one, by section, start, end and module, that
+/// begins before the end of the one before it in its section. `OutOfMemory`.
 #[tactic(auto, using(crate::proofs::HeldSteps::held_unread, crate::proofs::HeldSteps::held_unmerged))]
 pub fn compute_section_contributions(
     alloc: Global,

@@ -2,7 +2,8 @@
 
 ghost use Rattle.std.specs.Prelude.{◌≡◌, ◌++◌, OnOk, option_map};
 ghost use Rattle.pdb_container.specs.Fault.{Gives, Parses};
-ghost use Rattle.pdb_contributions.specs.Publics.{as_public, entry_of_public, placeholders, section_ends, are_whole, entries_read};
+ghost use Rattle.pdb_contributions.specs.Publics.{as_public, entry_of_public, placeholders};
+ghost use Rattle.pdb_contributions.specs.Publics.{section_ends, are_whole, entries_read};
 ghost use Rattle.pdb_symbols.specs.Forms.{public_form};
 ghost use Rattle.pdb_symbols.specs.Iteration.{symbols_left};
 ghost use Rattle.pdb_symbols.specs.Records.{symbol_form_of};
@@ -31,7 +32,10 @@ impl<'s> Model for PublicFunction<'s> {
 
     ghost Value = { publics.PublicFunction };
 
-    ghost view = { λ f. record { start_offset = f.start_offset; name = option_map raw_bytes f.name } };
+    ghost view = { λ f. record {
+      start_offset = f.start_offset;
+      name = option_map raw_bytes f.name;
+    } };
 }
 
 /// What a symbol says, if it is a public one that can be read. No symbol of another kind is parsed.
@@ -48,14 +52,15 @@ fn parse_public<'s>(symbol: &Symbol<'s>) -> Option<PublicSymbol<'s>>
     }
 }
 
-/// Puts a symbol's entry behind the entries, if it is a public one that can be read and lies in a section in which code may
-/// run.
+/// Appends a symbol's entry, if it is a public one that can be read and lies in a section in which
+/// code may run.
 fn push_public<'s>(
     functions: &mut Vec<PublicFunction<'s>>,
     sections: &[ImageSectionHeader],
     symbol: &Symbol<'s>,
 ) -> std::result::Result<(), AllocError>
-    ensures { OnOk result (functions.new.items ≡ functions.old.items ++ entry_of_public sections.now (as_public (symbol_form_of symbol.now))) }
+    ensures { OnOk result (functions.new.items ≡ functions.old.items
+        ++ entry_of_public sections.now (as_public (symbol_form_of symbol.now))) }
 {
     if let Some(public) = parse_public(symbol) {
         if is_executable(sections, public.offset.section) {
@@ -68,8 +73,8 @@ fn push_public<'s>(
     Ok(())
 }
 
-/// The public symbols (`S_PUB32`) of the symbol records that can be read and lie in a section in which code may run, in their
-/// order. The records are read to their end.
+/// The public symbols (`S_PUB32`) of the symbol records that can be read and lie in a section in
+/// which code may run, in their order. The records are read to their end.
 ///
 /// # Errors
 /// The first fault of the records: `SymbolTooShort`, `UnexpectedEof`. `OutOfMemory`.
@@ -79,7 +84,8 @@ pub fn read_public_symbols<'s>(
     mut symbols: SymbolIter<'s>,
     sections: &[ImageSectionHeader],
 ) -> Result<Vec<PublicFunction<'s>>>
-    ensures { Gives (λ v. v.items) ⊥ result (entries_read sections.now (symbols_left symbols.entry)) }
+    ensures { Gives (λ v. v.items) ⊥ result
+        (entries_read sections.now (symbols_left symbols.entry)) }
 {
     let mut functions = Vec::new(alloc);
     while let Some(symbol) = symbols.next()? {
@@ -88,7 +94,7 @@ pub fn read_public_symbols<'s>(
     Ok(functions)
 }
 
-/// Reads symbol records to their end, and keeps nothing of them.
+/// Checks that symbol records can be read to their end.
 ///
 /// # Errors
 /// The first fault of the records: `SymbolTooShort`, `UnexpectedEof`.
@@ -100,7 +106,7 @@ pub fn check_symbols(mut symbols: SymbolIter<'_>) -> Result<()>
     Ok(())
 }
 
-/// Puts placeholders at these places behind the entries.
+/// Appends placeholders at these places.
 #[tactic(auto, using(crate::proofs::PublicSteps::placed_start, crate::proofs::PublicSteps::placed_more, crate::proofs::PublicSteps::placed_end))]
 pub(crate) fn push_placeholders(
     functions: &mut Vec<PublicFunction<'_>>,
@@ -117,8 +123,8 @@ pub(crate) fn push_placeholders(
     Ok(())
 }
 
-/// Puts placeholders at the ends of the sections in which code may run behind the entries; sections past number 65535 have
-/// none.
+/// Appends placeholders at the ends of the sections in which code may run; sections past number
+/// 65535 have none.
 #[tactic(auto, using(crate::proofs::PublicSteps::ends_start, crate::proofs::PublicSteps::ends_more, crate::proofs::PublicSteps::ends_done, crate::proofs::PublicSteps::ends_past))]
 pub(crate) fn push_section_ends(
     functions: &mut Vec<PublicFunction<'_>>,

@@ -1,15 +1,19 @@
 //! The public list in order, and looking up in it.
 
 ghost use Rattle.std.specs.Prelude.{◌≡◌, ◌++◌, IfOk, OnOk, length, option_map, slice_get};
-ghost use Rattle.pdb_contributions.specs.Publics.{placeholders, section_ends, publics_among, public_exactly, public_over, next_public, is_at as at_place, is_before as comes_before, last_at_or_before as last_before, last_of as last_of_list, Rises, IsSplit};
+ghost use Rattle.pdb_contributions.specs.Publics.{placeholders, section_ends, publics_among};
+ghost use Rattle.pdb_contributions.specs.Publics.{public_exactly, public_over, next_public};
+ghost use Rattle.pdb_contributions.specs.Publics.{is_at as at_place, is_before as comes_before};
+ghost use Rattle.pdb_contributions.specs.Publics.{last_at_or_before as last_before};
+ghost use Rattle.pdb_contributions.specs.Publics.{last_of as last_of_list, Rises, IsSplit};
 
 use crate::public_entries::{PublicFunction, push_placeholders, push_section_ends};
 use pdb_addresses::{ImageSectionHeader, PdbInternalSectionOffset};
 use std::alloc::{AllocError, Global};
 use std::marker::Model;
 
-/// The public list: public symbols, and placeholders where contributions begin and where sections end, by their places, one
-/// entry a place.
+/// The public list: public symbols, and placeholders where contributions begin and where sections
+/// end, by their places, one entry a place.
 #[derive(Debug, Drop)]
 pub struct PublicList<'s> {
     functions: Vec<PublicFunction<'s>>,
@@ -28,7 +32,8 @@ impl<'s> Model for PublicList<'s> {
     ghost invariant = { λ l. Rises l.functions.items };
 }
 
-/// Brings entries into the order of their places, one a place: a named one before a placeholder, and then the first.
+/// Brings entries into the order of their places, one a place: a named one before a placeholder,
+/// and then the first.
 fn sort_and_dedup(functions: &mut Vec<PublicFunction<'_>>) -> Result<(), AllocError>
     ensures { OnOk result (functions.new.items ≡ publics_among functions.old.items) }
 {
@@ -57,7 +62,8 @@ fn is_at(place: PdbInternalSectionOffset, function: &PublicFunction<'_>) -> bool
     function.start_offset.section == place.section && function.start_offset.offset == place.offset
 }
 
-/// How many entries of a list in order begin at a place or before it, in its section or in one before. It halves.
+/// How many entries of a list in order begin at a place or before it, in its section or in one
+/// before. It is a binary search.
 fn count_up_to(functions: &[PublicFunction<'_>], place: PdbInternalSectionOffset) -> usize
     requires { Rises functions.now }
     ensures { IsSplit functions.now place result }
@@ -65,7 +71,7 @@ fn count_up_to(functions: &[PublicFunction<'_>], place: PdbInternalSectionOffset
     functions.partition_point(|f| !is_before(place, f.start_offset))
 }
 
-/// The entry of a number in a list, counted from 0.
+/// The entry of a list with that index, counted from 0.
 fn entry_at<'f, 's>(
     functions: &'f [PublicFunction<'s>],
     number: usize,
@@ -75,7 +81,7 @@ fn entry_at<'f, 's>(
     functions.get(number)
 }
 
-/// The last of so many entries of a list.
+/// The last of the first `count` entries of a list.
 fn last_of<'f, 's>(
     functions: &'f [PublicFunction<'s>],
     count: usize,
@@ -121,7 +127,7 @@ fn exactly_at<'f, 's>(
     if is_at(place, last) { Some(last) } else { None }
 }
 
-/// The next entry of a list in order behind a place, in its section.
+/// The next entry of an ordered list after a place, in its section.
 #[tactic(auto, using(crate::proofs::Lookup::next_found, crate::proofs::Lookup::next_other, crate::proofs::Lookup::next_nothing))]
 fn first_behind<'f, 's>(
     functions: &'f [PublicFunction<'s>],
@@ -140,15 +146,21 @@ fn first_behind<'f, 's>(
 }
 
 impl<'s> PublicList<'s> {
-    /// The public list of public symbols, of the places where contributions begin, and of the sections' ends. Of one place
-    /// a named entry counts before a placeholder, and then the first.
+    /// The public list of public symbols, of the places where contributions begin, and of the
+    /// sections' ends. Of the entries at one place a named one counts before a placeholder, and
+    /// then the first.
+    ///
+    /// # Errors
+    /// `AllocError` when memory runs out.
     #[tactic(auto, using(crate::proofs::Lookup::rises))]
     pub fn new(
         mut functions: Vec<PublicFunction<'s>>,
         starts: &[PdbInternalSectionOffset],
         sections: &[ImageSectionHeader],
     ) -> Result<PublicList<'s>, AllocError>
-        ensures { IfOk result (λ l. l ≡ publics_among (functions.entry.items ++ placeholders starts.now ++ section_ends sections.now)) }
+        ensures { IfOk result
+            (λ l. l ≡ publics_among
+            (functions.entry.items ++ placeholders starts.now ++ section_ends sections.now)) }
     {
         push_placeholders(&mut functions, starts)?;
         push_section_ends(&mut functions, sections)?;
@@ -177,8 +189,8 @@ impl<'s> PublicList<'s> {
         exactly_at(&self.functions, place)
     }
 
-    /// The entry of a place: the last one at the place or before it, in its section; `None` where that one lies before
-    /// `start`, at which the contribution begins that holds the place.
+    /// The entry of a place: the last one at the place or before it, in its section; `None` where
+    /// that one lies before `start`, at which the contribution begins that holds the place.
     pub fn over(&self, start: u32, place: PdbInternalSectionOffset) -> Option<&PublicFunction<'s>>
         ensures { option_map (λ f. f.now) result ≡ public_over self.now start place }
     {
@@ -189,7 +201,7 @@ impl<'s> PublicList<'s> {
         Some(found)
     }
 
-    /// The next entry behind a place, in its section.
+    /// The next entry after a place, in its section.
     pub fn next_behind(&self, place: PdbInternalSectionOffset) -> Option<&PublicFunction<'s>>
         ensures next { option_map (λ f. f.now) result ≡ next_public self.now place }
         ensures rises { Rises self.now }

@@ -13,18 +13,29 @@ use Rattle.pdb_function_text.specs.Ids.{VisitId, visiting_id, scope_text, scoped
 use Rattle.pdb_type_printing.proofs.Others.{stops_on}
 
 -- where the return type was printed, what stops the scope stops the function
-scope_ends : (env : Env) (visit : VisitId) (ids path : Path) (id : FunctionForm) (t : ProcedureType) (w w1 new : Text) (e : Stop)
+scope_ends : (env : Env) (visit : VisitId) (ids path : Path) (id : FunctionForm) (t : ProcedureType)
+    (w w1 new : Text) (e : Stop)
     → returned_unless env (visiting env path) path t.return_type t.attributes w ≡ Done w1
-    → Stops e new (scope_text visit ids id.scope w1) → Stops e new (scoped_text env visit ids path id t w)
+    → Stops e new (scope_text visit ids id.scope w1)
+    → Stops e new (scoped_text env visit ids path id t w)
 scope_ends env visit ids path id t w w1 new e returned stopped =
-    subst (λ (x : Printed). Stops e new (x >>= λ w. scope_text visit ids id.scope w >>= λ w. name_and_arguments env path (utf8_lossy id.name) t w)) (sym returned)
-    (stops_on e new (scope_text visit ids id.scope w1) (λ w. name_and_arguments env path (utf8_lossy id.name) t w) stopped)
+    subst
+    (λ (x : Printed). Stops e new (x >>= λ w. scope_text visit ids id.scope w
+    >>= λ w. name_and_arguments env path (utf8_lossy id.name) t w)) (sym returned)
+    (stops_on e new (scope_text visit ids id.scope w1)
+    (λ w. name_and_arguments env path (utf8_lossy id.name) t w) stopped)
 
--- the same, by what was asked in between, and by the path as it was kept
-pub scope_stops : {F : Type 0} (env : F → Env) (f f' : F) (ids path path' : Path) (id : FunctionForm) (t : ProcedureType) (w w1 new : Text) (e : Stop)
-    → f' ≡ f → path' ≡ path → returned_unless (env f) (visiting (env f) path') path' t.return_type t.attributes w ≡ Done w1
-    → Stops e new (scope_text (visiting_id (env f') ids) ids id.scope w1) → Stops e new (scoped_text (env f) (visiting_id (env f) ids) ids path id t w)
+-- what stops the scope stops the function, by what was asked in between, and by the path as it was
+-- stored
+pub scope_stops : {F : Type 0} (env : F → Env) (f f' : F) (ids path path' : Path)
+    (id : FunctionForm) (t : ProcedureType) (w w1 new : Text) (e : Stop)
+    → f' ≡ f → path' ≡ path → returned_unless (env f) (visiting (env f) path') path' t.return_type
+    t.attributes w ≡ Done w1
+    → Stops e new (scope_text (visiting_id (env f') ids) ids id.scope w1)
+    → Stops e new (scoped_text (env f) (visiting_id (env f) ids) ids path id t w)
 scope_stops {F} env f f' ids path path' id t w w1 new e same is returned stopped =
     scope_ends (env f) (visiting_id (env f) ids) ids path id t w w1 new e
-    (subst (λ (x : Path). returned_unless (env f) (visiting (env f) x) x t.return_type t.attributes w ≡ Done w1) is returned)
-    (subst (λ (x : F). Stops e new (scope_text (visiting_id (env x) ids) ids id.scope w1)) same stopped)
+    (subst (λ (x : Path). returned_unless (env f) (visiting (env f) x) x t.return_type t.attributes
+    w ≡ Done w1) is returned)
+    (subst (λ (x : F). Stops e new (scope_text (visiting_id (env x) ids) ids id.scope w1))
+    same stopped)

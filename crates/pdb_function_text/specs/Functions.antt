@@ -1,5 +1,6 @@
 -- Signatures of functions.
-use Rattle.std.specs.Prelude.{ℕ, true, [], ◌∷◌, codes, Option, Some, None, Result, if◌then◌else◌, ◌==◌}
+use Rattle.std.specs.Prelude.{ℕ, true, [], ◌∷◌, codes, Option, Some, None, Result, if◌then◌else◌}
+use Rattle.std.specs.Prelude.{◌==◌}
 use Rattle.pdb_indices.specs.Bits.{has_bit}
 use Rattle.pdb_indices.specs.declared.index.TypeIndex.{TypeIndex}
 use Rattle.pdb_records.specs.declared.type_data.MemberFunctionType.{MemberFunctionType}
@@ -8,7 +9,8 @@ use Rattle.pdb_records.specs.Forms as forms
 use Rattle.pdb_records.specs.Forms.{TypeForm, Plain}
 use Rattle.pdb_resolving.specs.Cause.{Cause, of_any}
 use Rattle.pdb_resolving.specs.Fault.{Fault}
-use Rattle.pdb_text_pieces.specs.Printed.{Text, Printed, Done, Stopped, ◌>>=◌, say, answered, read_or}
+use Rattle.pdb_text_pieces.specs.Printed.{Text, Printed, Done, Stopped, ◌>>=◌, say, answered}
+use Rattle.pdb_text_pieces.specs.Printed.{read_or}
 use Rattle.pdb_type_printing.specs.Env.{Env}
 use Rattle.pdb_text_pieces.specs.Paths.{Path}
 use Rattle.pdb_text_pieces.specs.Names.{name_or_omitted}
@@ -36,7 +38,7 @@ arguments_unless env path list w = if has_bit env.flags 32 then Done w else (do
   w ← visiting env path Whole path list.0 w
   say (codes ")") w)
 
--- a name and the arguments behind it
+-- a name and the arguments after it
 abbrev pub name_and_arguments : Env → Path → Text → ProcedureType → Text → Printed
 name_and_arguments env path name t w = do
   w ← say (name_or_omitted name) w
@@ -45,13 +47,16 @@ name_and_arguments env path name t w = do
 -- a name by its type, whose index is on the path: a method, another function, or a name as it is
 abbrev pub signature : Env → Path → Text → TypeForm → Text → Printed
 signature env path name (Plain (forms.MemberFunction t)) w = method_text env path None name t w
-signature env path name (Plain (forms.Procedure t)) w = returned_unless env (visiting env path) path t.return_type t.attributes w >>= name_and_arguments env path name t
+signature env path name (Plain (forms.Procedure t)) w =
+    returned_unless env (visiting env path) path t.return_type t.attributes w
+    >>= name_and_arguments env path name t
 signature env path name form w = say name w
 
--- a function of a name and a type, behind a text; type 0 is none
+-- a function of a name and a type, after a text; type 0 is none
 abbrev pub function_printed : Env → Text → ℕ → Text → Printed
 function_printed env name i w =
-    if i == 0 then say (name_or_omitted name) w else read_or (λ e. Stopped e w) (env.read i) (λ form. signature env (i ∷ []) name form w)
+    if i == 0 then say (name_or_omitted name) w
+    else read_or (λ e. Stopped e w) (env.read i) (λ form. signature env (i ∷ []) name form w)
 
 -- the signature of a function, or what ends it
 abbrev pub function_made : Env → Text → ℕ → Result Text Cause

@@ -1,5 +1,6 @@
 -- Texts of ids: functions with the scopes that hold them, and strings.
-use Rattle.std.specs.Prelude.{ℕ, zero, suc, Bool, false, not, List, [], ◌∷◌, ◌++◌, codes, Option, Some, None, Result, if◌then◌else◌}
+use Rattle.std.specs.Prelude.{ℕ, zero, suc, Bool, false, not, List, [], ◌∷◌, ◌++◌, codes, Option}
+use Rattle.std.specs.Prelude.{Some, None, Result, if◌then◌else◌}
 use Rattle.std.specs.Str.Lossy.{utf8_lossy}
 use Rattle.pdb_indices.specs.declared.index.TypeIndex.{TypeIndex}
 use Rattle.pdb_indices.specs.declared.index.IdIndex.{IdIndex}
@@ -9,8 +10,11 @@ use Rattle.pdb_records.specs.Forms.{TypeForm, Plain}
 use Rattle.pdb_records.specs.IdForms as id_forms
 use Rattle.pdb_records.specs.IdForms.{IdForm, FunctionForm, MemberFunctionForm}
 use Rattle.pdb_resolving.specs.Cause.{Cause, ByFault, of_any}
-use Rattle.pdb_resolving.specs.Fault.{Fault, FunctionIdIsNotProcedureType, MemberFunctionIdIsNotMemberFunctionType, CircularTypeDefinition}
-use Rattle.pdb_text_pieces.specs.Printed.{Text, Printed, Done, Stopped, ◌>>=◌, say, answered, unread, read_or}
+use Rattle.pdb_resolving.specs.Fault.{Fault, FunctionIdIsNotProcedureType}
+use Rattle.pdb_resolving.specs.Fault.{MemberFunctionIdIsNotMemberFunctionType}
+use Rattle.pdb_resolving.specs.Fault.{CircularTypeDefinition}
+use Rattle.pdb_text_pieces.specs.Printed.{Text, Printed, Done, Stopped, ◌>>=◌, say, answered}
+use Rattle.pdb_text_pieces.specs.Printed.{unread, read_or}
 use Rattle.pdb_type_printing.specs.Env.{Env}
 use Rattle.pdb_text_pieces.specs.Paths.{Path, is_on, room}
 use Rattle.pdb_text_pieces.specs.Names.{string_text}
@@ -24,12 +28,14 @@ VisitId = Path → ℕ → Text → Printed
 
 -- a method by its type, whose index is on the path
 abbrev pub method_id_text : Env → Path → MemberFunctionForm → TypeForm → Text → Printed
-method_id_text env path id (Plain (forms.MemberFunction t)) w = method_text env path (Some id.parent) (utf8_lossy id.name) t w
+method_id_text env path id (Plain (forms.MemberFunction t)) w =
+    method_text env path (Some id.parent) (utf8_lossy id.name) t w
 method_id_text env path id form w = Stopped (ByFault MemberFunctionIdIsNotMemberFunctionType) w
 
 -- a method
 abbrev pub method_id_printed : Env → MemberFunctionForm → Text → Printed
-method_id_printed env id w = read_or (λ e. Stopped e w) (env.read id.function_type.0) (λ form. method_id_text env (id.function_type.0 ∷ []) id form w)
+method_id_printed env id w = read_or (λ e. Stopped e w) (env.read id.function_type.0)
+    (λ form. method_id_text env (id.function_type.0 ∷ []) id form w)
 
 -- the scope that holds a function
 abbrev pub scope_text : VisitId → Path → Option IdIndex → Text → Printed
@@ -45,7 +51,8 @@ scoped_text env visit ids path id t w = do
 
 -- a function by its type, whose index is on the path
 abbrev pub function_id_text : Env → VisitId → Path → Path → FunctionForm → TypeForm → Text → Printed
-function_id_text env visit ids path id (Plain (forms.Procedure t)) w = scoped_text env visit ids path id t w
+function_id_text env visit ids path id (Plain (forms.Procedure t)) w =
+    scoped_text env visit ids path id t w
 function_id_text env visit ids path id form w = Stopped (ByFault FunctionIdIsNotProcedureType) w
 
 -- further parts of a list of strings
@@ -74,19 +81,23 @@ string_list_text env ts w = do
 abbrev pub id_form_text : Env → VisitId → Path → IdForm → Text → Printed
 id_form_text env visit ids (id_forms.MemberFunction id) w = method_id_printed env id w
 id_form_text env visit ids (id_forms.Function id) w =
-    read_or (λ e. Stopped e w) (env.read id.function_type.0) (λ form. function_id_text env visit ids (id.function_type.0 ∷ []) id form w)
+    read_or (λ e. Stopped e w) (env.read id.function_type.0)
+    (λ form. function_id_text env visit ids (id.function_type.0 ∷ []) id form w)
 id_form_text env visit ids (id_forms.String id) w = say (string_text (utf8_lossy id.name)) w
 id_form_text env visit ids (id_forms.StringList ts) w = string_list_text env ts w
 id_form_text env visit ids form w = unhandled_id form w
 
 -- an id is read before it goes on the path of ids, and has a text where it can't be read
 abbrev pub entering_id : Env → Bool → ℕ → Text → (IdForm → Printed) → Printed
-entering_id env free i w more = read_or (λ e. unread e w) (env.read_id i) (λ form. if free then more form else Stopped (ByFault (CircularTypeDefinition i)) w)
+entering_id env free i w more = read_or (λ e. unread e w) (env.read_id i)
+    (λ form. if free then more form else Stopped (ByFault (CircularTypeDefinition i)) w)
 
--- an id with room for so many more on the path of ids
+-- an id with room for that many more on the path of ids
 unfoldable pub visit_id : Env → ℕ → VisitId
-visit_id env zero ids i w = entering_id env false i w (λ form. Stopped (ByFault (CircularTypeDefinition i)) w)
-visit_id env (suc left) ids i w = entering_id env (not (is_on ids i)) i w (λ form. id_form_text env (visit_id env left) (ids ++ i ∷ []) form w)
+visit_id env zero ids i w = entering_id env false i w
+    (λ form. Stopped (ByFault (CircularTypeDefinition i)) w)
+visit_id env (suc left) ids i w = entering_id env (not (is_on ids i)) i w
+    (λ form. id_form_text env (visit_id env left) (ids ++ i ∷ []) form w)
 
 -- an id as its path leaves room, which ends at 1,024 ids
 abbrev pub visiting_id : Env → Path → VisitId

@@ -1,13 +1,17 @@
 //! Texts of ids.
 
-ghost use Rattle.std.specs.Prelude.{◌≡◌, ◌≤◌, ◌==◌, ◌++◌, ◌∷◌, [], length, string_bytes, if◌then◌else◌};
-ghost use Rattle.pdb_records.specs.IdForms.{id_shape, function_form, member_function_form, Function, MemberFunction};
+ghost use Rattle.std.specs.Prelude.{◌≡◌, ◌≤◌, ◌==◌, ◌++◌, ◌∷◌, [], length, string_bytes};
+ghost use Rattle.std.specs.Prelude.{if◌then◌else◌};
+ghost use Rattle.pdb_records.specs.IdForms.{id_shape, function_form, member_function_form};
+ghost use Rattle.pdb_records.specs.IdForms.{Function, MemberFunction};
 ghost use Rattle.pdb_resolving.specs.Cause.{ByFault};
 ghost use Rattle.pdb_resolving.specs.Fault.{CircularTypeDefinition};
 ghost use Rattle.pdb_text_pieces.specs.Printed.{Prints, Stopped, say};
 ghost use Rattle.pdb_text_pieces.specs.Paths.{may_enter};
 ghost use Rattle.pdb_type_printing.specs.Types.{Whole, visiting};
-ghost use Rattle.pdb_function_text.specs.Ids.{visiting_id, id_form_text, scoped_text, scope_text, method_id_printed, string_list_text, parts, more_parts};
+ghost use Rattle.pdb_function_text.specs.Ids.{visiting_id, id_form_text, scoped_text, scope_text};
+ghost use Rattle.pdb_function_text.specs.Ids.{method_id_printed, string_list_text, parts};
+ghost use Rattle.pdb_function_text.specs.Ids.{more_parts};
 ghost use Rattle.pdb_type_printing.specs.Printing.{env_of};
 
 use crate::printer::FunctionPrinter;
@@ -35,7 +39,9 @@ impl<'a, 's, P: ModuleProvider> FunctionPrinter<'a, 's, P> {
         ensures same_reference { ids.new.path.ghost_name ≡ ids.old.path.ghost_name }
         ensures level { ids.new.level ≡ ids.old.level }
         ensures path { ids.new.path.now.items ≡ ids.old.path.now.items }
-        ensures text { Prints result (string_bytes w.new) ((visiting_id (env_of P.provided self.old asker.module_index) ids.old.path.now.items) ids.old.path.now.items index.0 (string_bytes w.old)) }
+        ensures text { Prints result (string_bytes w.new)
+            ((visiting_id (env_of P.provided self.old asker.module_index) ids.old.path.now.items)
+            ids.old.path.now.items index.0 (string_bytes w.old)) }
     {
         match self.printer.read_id(asker, index) {
             Ok(found) => self.emit_entered_id(asker, w, index, &found, ids),
@@ -58,7 +64,13 @@ impl<'a, 's, P: ModuleProvider> FunctionPrinter<'a, 's, P> {
         ensures same_reference { ids.new.path.ghost_name ≡ ids.old.path.ghost_name }
         ensures level { ids.new.level ≡ ids.old.level }
         ensures path { ids.new.path.now.items ≡ ids.old.path.now.items }
-        ensures text { Prints result (string_bytes w.new) (if may_enter ids.old.path.now.items index.0 then id_form_text (env_of P.provided self.old asker.module_index) (visiting_id (env_of P.provided self.old asker.module_index) (ids.old.path.now.items ++ index.0 ∷ [])) (ids.old.path.now.items ++ index.0 ∷ []) (id_shape found.now) (string_bytes w.old) else Stopped (ByFault (CircularTypeDefinition index.0)) (string_bytes w.old)) }
+        ensures text { Prints result (string_bytes w.new)
+            (if may_enter ids.old.path.now.items index.0
+            then id_form_text (env_of P.provided self.old asker.module_index)
+            (visiting_id (env_of P.provided self.old asker.module_index)
+            (ids.old.path.now.items ++ index.0 ∷ [])) (ids.old.path.now.items ++ index.0 ∷ [])
+            (id_shape found.now) (string_bytes w.old)
+            else Stopped (ByFault (CircularTypeDefinition index.0)) (string_bytes w.old)) }
     {
         let mut level = Seen::new(&mut *ids.path);
         level.insert(index.0)?;
@@ -79,7 +91,10 @@ impl<'a, 's, P: ModuleProvider> FunctionPrinter<'a, 's, P> {
         ensures same_reference { ids.new.path.ghost_name ≡ ids.old.path.ghost_name }
         ensures level { ids.new.level ≡ ids.old.level }
         ensures path { ids.new.path.now.items ≡ ids.old.path.now.items }
-        ensures text { Prints result (string_bytes w.new) (id_form_text (env_of P.provided self.old asker.module_index) (visiting_id (env_of P.provided self.old asker.module_index) ids.old.path.now.items) ids.old.path.now.items (id_shape found.now) (string_bytes w.old)) }
+        ensures text { Prints result (string_bytes w.new)
+            (id_form_text (env_of P.provided self.old asker.module_index)
+            (visiting_id (env_of P.provided self.old asker.module_index) ids.old.path.now.items)
+            ids.old.path.now.items (id_shape found.now) (string_bytes w.old)) }
     {
         match found {
             IdData::MemberFunction(id) => self.emit_method_id(asker, w, id),
@@ -108,7 +123,10 @@ impl<'a, 's, P: ModuleProvider> FunctionPrinter<'a, 's, P> {
         ensures same_reference { ids.new.path.ghost_name ≡ ids.old.path.ghost_name }
         ensures level { ids.new.level ≡ ids.old.level }
         ensures path { ids.new.path.now.items ≡ ids.old.path.now.items }
-        ensures text { Prints result (string_bytes w.new) (id_form_text (env_of P.provided self.old asker.module_index) (visiting_id (env_of P.provided self.old asker.module_index) ids.old.path.now.items) ids.old.path.now.items (Function (function_form id.now)) (string_bytes w.old)) }
+        ensures text { Prints result (string_bytes w.new)
+            (id_form_text (env_of P.provided self.old asker.module_index)
+            (visiting_id (env_of P.provided self.old asker.module_index) ids.old.path.now.items)
+            ids.old.path.now.items (Function (function_form id.now)) (string_bytes w.old)) }
     {
         let TypeData::Procedure(t) = self.printer.read(asker, id.function_type)? else {
             return Err(Stop::ByError(Error::FunctionIdIsNotProcedureType));
@@ -132,7 +150,11 @@ impl<'a, 's, P: ModuleProvider> FunctionPrinter<'a, 's, P> {
         ensures same_reference { ids.new.path.ghost_name ≡ ids.old.path.ghost_name }
         ensures level { ids.new.level ≡ ids.old.level }
         ensures path { ids.new.path.now.items ≡ ids.old.path.now.items }
-        ensures text { Prints result (string_bytes w.new) (scoped_text (env_of P.provided self.old asker.module_index) (visiting_id (env_of P.provided self.old asker.module_index) ids.old.path.now.items) ids.old.path.now.items (id.now.function_type.0 ∷ []) (function_form id.now) t.now (string_bytes w.old)) }
+        ensures text { Prints result (string_bytes w.new)
+            (scoped_text (env_of P.provided self.old asker.module_index)
+            (visiting_id (env_of P.provided self.old asker.module_index) ids.old.path.now.items)
+            ids.old.path.now.items (id.now.function_type.0 ∷ []) (function_form id.now) t.now
+            (string_bytes w.old)) }
     {
         let mut path = Vec::new(asker.alloc);
         path.push(id.function_type.0)?;
@@ -158,7 +180,9 @@ impl<'a, 's, P: ModuleProvider> FunctionPrinter<'a, 's, P> {
         ensures same_reference { ids.new.path.ghost_name ≡ ids.old.path.ghost_name }
         ensures level { ids.new.level ≡ ids.old.level }
         ensures path { ids.new.path.now.items ≡ ids.old.path.now.items }
-        ensures text { Prints result (string_bytes w.new) (scope_text (visiting_id (env_of P.provided self.old asker.module_index) ids.old.path.now.items) ids.old.path.now.items scope (string_bytes w.old)) }
+        ensures text { Prints result (string_bytes w.new)
+            (scope_text (visiting_id (env_of P.provided self.old asker.module_index)
+            ids.old.path.now.items) ids.old.path.now.items scope (string_bytes w.old)) }
     {
         let Some(scope) = scope else {
             return Ok(());
@@ -176,7 +200,9 @@ impl<'a, 's, P: ModuleProvider> FunctionPrinter<'a, 's, P> {
         id: &MemberFunctionId<'_>,
     ) -> Result<()>
         ensures same { self.new ≡ self.old }
-        ensures text { Prints result (string_bytes w.new) (method_id_printed (env_of P.provided self.old asker.module_index) (member_function_form id.now) (string_bytes w.old)) }
+        ensures text { Prints result (string_bytes w.new)
+            (method_id_printed (env_of P.provided self.old asker.module_index)
+            (member_function_form id.now) (string_bytes w.old)) }
     {
         let TypeData::MemberFunction(t) = self.printer.read(asker, id.function_type)? else {
             return Err(Stop::ByError(Error::MemberFunctionIdIsNotMemberFunctionType));
@@ -191,7 +217,9 @@ impl<'a, 's, P: ModuleProvider> FunctionPrinter<'a, 's, P> {
     /// Appends a list of strings in quotation marks.
     fn emit_string_list(&mut self, asker: Asker, w: &mut String, list: &[TypeIndex]) -> Result<()>
         ensures same { self.new ≡ self.old }
-        ensures text { Prints result (string_bytes w.new) (string_list_text (env_of P.provided self.old asker.module_index) list.now (string_bytes w.old)) }
+        ensures text { Prints result (string_bytes w.new)
+            (string_list_text (env_of P.provided self.old asker.module_index) list.now
+            (string_bytes w.old)) }
     {
         emit(w, "\"")?;
         self.emit_parts(asker, w, list)?;
@@ -201,7 +229,8 @@ impl<'a, 's, P: ModuleProvider> FunctionPrinter<'a, 's, P> {
     /// Appends the strings of a list.
     fn emit_parts(&mut self, asker: Asker, w: &mut String, list: &[TypeIndex]) -> Result<()>
         ensures same { self.new ≡ self.old }
-        ensures text { Prints result (string_bytes w.new) (parts (env_of P.provided self.old asker.module_index) list.now (string_bytes w.old)) }
+        ensures text { Prints result (string_bytes w.new)
+            (parts (env_of P.provided self.old asker.module_index) list.now (string_bytes w.old)) }
     {
         let [first, more @ ..] = list else {
             return Ok(());
@@ -213,7 +242,9 @@ impl<'a, 's, P: ModuleProvider> FunctionPrinter<'a, 's, P> {
     /// Appends strings with quotation marks before each.
     fn emit_more_parts(&mut self, asker: Asker, w: &mut String, list: &[TypeIndex]) -> Result<()>
         ensures same { self.new ≡ self.old }
-        ensures text { Prints result (string_bytes w.new) (more_parts (env_of P.provided self.old asker.module_index) list.now (string_bytes w.old)) }
+        ensures text { Prints result (string_bytes w.new)
+            (more_parts (env_of P.provided self.old asker.module_index) list.now
+            (string_bytes w.old)) }
     {
         for index in list {
             emit_between_strings(w)?;
@@ -225,7 +256,9 @@ impl<'a, 's, P: ModuleProvider> FunctionPrinter<'a, 's, P> {
     /// Appends a type with nothing on the path.
     fn emit_alone(&mut self, asker: Asker, w: &mut String, index: TypeIndex) -> Result<()>
         ensures same { self.new ≡ self.old }
-        ensures text { Prints result (string_bytes w.new) (visiting (env_of P.provided self.old asker.module_index) [] Whole [] index.0 (string_bytes w.old)) }
+        ensures text { Prints result (string_bytes w.new)
+            (visiting (env_of P.provided self.old asker.module_index) [] Whole [] index.0
+            (string_bytes w.old)) }
     {
         let mut path = Vec::new(asker.alloc);
         let mut seen = Seen::new(&mut path);

@@ -46,7 +46,10 @@ impl<'a, 's, P: ModuleProvider> FunctionPrinter<'a, 's, P> {
         self.printer.modules()
     }
 
-    /// As [`TypePrinter::keep_failed`].
+    /// Stores a module's table as failed. Nothing changes when memory runs out.
+    ///
+    /// # Errors
+    /// `AllocError` when memory runs out.
     pub fn keep_failed(&mut self, table: Table) -> std::result::Result<(), AllocError>
         ensures kept { OnOk result (self.new ≡ with_failed self.old table) }
         ensures same { OnErr result (self.new ≡ self.old) }
@@ -54,10 +57,14 @@ impl<'a, 's, P: ModuleProvider> FunctionPrinter<'a, 's, P> {
         self.printer.keep_failed(table)
     }
 
-    /// The size of the type of an index, in bytes.
+    /// The size in bytes of the type with that index, as the module that asks names it.
+    ///
+    /// # Errors
+    /// `OutOfMemory`, and no other.
     pub fn size(&mut self, asker: Asker, index: TypeIndex) -> Result<u64>
         ensures same { self.new ≡ self.old }
-        ensures value { Answers (λ n. n) result (Ok ((env_of P.provided self.old asker.module_index).size index.0)) }
+        ensures value { Answers (λ n. n) result
+            (Ok ((env_of P.provided self.old asker.module_index).size index.0)) }
     {
         self.printer.size(asker, index)
     }

@@ -1,10 +1,13 @@
 //! Signatures of functions.
 
-ghost use Rattle.std.specs.Prelude.{◌≡◌, ◌≤◌, ◌==◌, ◌++◌, ◌∷◌, [], None, length, string_bytes, if◌then◌else◌};
+ghost use Rattle.std.specs.Prelude.{◌≡◌, ◌≤◌, ◌==◌, ◌++◌, ◌∷◌, [], None, length, string_bytes};
+ghost use Rattle.std.specs.Prelude.{if◌then◌else◌};
 ghost use Rattle.pdb_records.specs.Shapes.{shape};
 ghost use Rattle.pdb_text_pieces.specs.Printed.{Prints, say};
 ghost use Rattle.pdb_type_printing.specs.Types.{Whole, visiting, returned_unless, method_arguments};
-ghost use Rattle.pdb_function_text.specs.Functions.{parent_text, method_text, arguments_unless, name_and_arguments, signature, function_printed};
+ghost use Rattle.pdb_function_text.specs.Functions.{parent_text, method_text, arguments_unless};
+ghost use Rattle.pdb_function_text.specs.Functions.{name_and_arguments, signature};
+ghost use Rattle.pdb_function_text.specs.Functions.{function_printed};
 ghost use Rattle.pdb_type_printing.specs.Printing.{env_of};
 
 use crate::printer::FunctionPrinter;
@@ -26,7 +29,9 @@ impl<'a, 's, P: ModuleProvider> FunctionPrinter<'a, 's, P> {
         index: TypeIndex,
     ) -> Result<()>
         ensures same { self.new ≡ self.old }
-        ensures text { Prints result (string_bytes w.new) (function_printed (env_of P.provided self.old asker.module_index) name.now index.0 (string_bytes w.old)) }
+        ensures text { Prints result (string_bytes w.new)
+            (function_printed (env_of P.provided self.old asker.module_index) name.now index.0
+            (string_bytes w.old)) }
     {
         if index.0 == 0 {
             return emit_name(w, name);
@@ -52,7 +57,9 @@ impl<'a, 's, P: ModuleProvider> FunctionPrinter<'a, 's, P> {
         ensures same_reference { seen.new.path.ghost_name ≡ seen.old.path.ghost_name }
         ensures level { seen.new.level ≡ seen.old.level }
         ensures path { seen.new.path.now.items ≡ seen.old.path.now.items }
-        ensures text { Prints result (string_bytes w.new) (signature (env_of P.provided self.old asker.module_index) seen.old.path.now.items name.now (shape found.now) (string_bytes w.old)) }
+        ensures text { Prints result (string_bytes w.new)
+            (signature (env_of P.provided self.old asker.module_index) seen.old.path.now.items
+            name.now (shape found.now) (string_bytes w.old)) }
     {
         match found {
             TypeData::MemberFunction(t) => self.emit_method(asker, w, None, name, t, seen),
@@ -80,7 +87,9 @@ impl<'a, 's, P: ModuleProvider> FunctionPrinter<'a, 's, P> {
         ensures same_reference { seen.new.path.ghost_name ≡ seen.old.path.ghost_name }
         ensures level { seen.new.level ≡ seen.old.level }
         ensures path { seen.new.path.now.items ≡ seen.old.path.now.items }
-        ensures text { Prints result (string_bytes w.new) (method_text (env_of P.provided self.old asker.module_index) seen.old.path.now.items parent name.now t.now (string_bytes w.old)) }
+        ensures text { Prints result (string_bytes w.new)
+            (method_text (env_of P.provided self.old asker.module_index) seen.old.path.now.items
+            parent name.now t.now (string_bytes w.old)) }
     {
         emit_static(w, self.printer.flags(), t.this_pointer_type)?;
         self.printer
@@ -103,7 +112,9 @@ impl<'a, 's, P: ModuleProvider> FunctionPrinter<'a, 's, P> {
         ensures same_reference { seen.new.path.ghost_name ≡ seen.old.path.ghost_name }
         ensures level { seen.new.level ≡ seen.old.level }
         ensures path { seen.new.path.now.items ≡ seen.old.path.now.items }
-        ensures text { Prints result (string_bytes w.new) (parent_text (env_of P.provided self.old asker.module_index) seen.old.path.now.items parent (string_bytes w.old)) }
+        ensures text { Prints result (string_bytes w.new)
+            (parent_text (env_of P.provided self.old asker.module_index) seen.old.path.now.items
+            parent (string_bytes w.old)) }
     {
         let Some(parent) = parent else {
             return Ok(());
@@ -126,7 +137,9 @@ impl<'a, 's, P: ModuleProvider> FunctionPrinter<'a, 's, P> {
         ensures same_reference { seen.new.path.ghost_name ≡ seen.old.path.ghost_name }
         ensures level { seen.new.level ≡ seen.old.level }
         ensures path { seen.new.path.now.items ≡ seen.old.path.now.items }
-        ensures text { Prints result (string_bytes w.new) (name_and_arguments (env_of P.provided self.old asker.module_index) seen.old.path.now.items name.now t.now (string_bytes w.old)) }
+        ensures text { Prints result (string_bytes w.new)
+            (name_and_arguments (env_of P.provided self.old asker.module_index)
+            seen.old.path.now.items name.now t.now (string_bytes w.old)) }
     {
         emit_name(w, name)?;
         self.maybe_emit_arguments(asker, w, t.argument_list, seen)
@@ -145,7 +158,9 @@ impl<'a, 's, P: ModuleProvider> FunctionPrinter<'a, 's, P> {
         ensures same_reference { seen.new.path.ghost_name ≡ seen.old.path.ghost_name }
         ensures level { seen.new.level ≡ seen.old.level }
         ensures path { seen.new.path.now.items ≡ seen.old.path.now.items }
-        ensures text { Prints result (string_bytes w.new) (arguments_unless (env_of P.provided self.old asker.module_index) seen.old.path.now.items list (string_bytes w.old)) }
+        ensures text { Prints result (string_bytes w.new)
+            (arguments_unless (env_of P.provided self.old asker.module_index)
+            seen.old.path.now.items list (string_bytes w.old)) }
     {
         if leaves_out_arguments(self.printer.flags()) {
             return Ok(());

@@ -17,7 +17,8 @@ use pdb_type_printing::Asker;
 const USUAL_LENGTH: usize = 128;
 
 impl<'a, 's, P: ModuleProvider> FunctionPrinter<'a, 's, P> {
-    /// The signature of a function of this name whose type has this index; with type 0 it is the name alone.
+    /// The signature of a function of this name whose type has this index; with type 0 it is the
+    /// name alone.
     ///
     /// # Errors
     /// The first fault in the order of printing; `OutOfMemory`.
@@ -38,7 +39,7 @@ impl<'a, 's, P: ModuleProvider> FunctionPrinter<'a, 's, P> {
         Ok(text)
     }
 
-    /// The text of the id of an index.
+    /// The text of the id with that index.
     ///
     /// # Errors
     /// As [`FunctionPrinter::function_text`].

@@ -1,4 +1,4 @@
--- What is kept at a number in the module of a number, where places are numbered from 0 on.
+-- What is cached by the index of a module and a number in it, where places are numbered from 0 on.
 use Rattle.std.specs.Prelude.{◌≡◌, ℕ, ◌==◌, List, Option, Some, cond, option_and_then, slice_get}
 use Rattle.std.specs.Global.{Vec}
 use Rattle.pdb_names.specs.declared.by_number.ByNumber.{ByNumber}
@@ -11,7 +11,7 @@ kept_in places n = option_and_then (λ place. place) (slice_get places n)
 abbrev pub kept_among : {V : Type 0} → Option (Vec (Option V)) → ℕ → Option V
 kept_among places n = option_and_then (λ list. kept_in list.items n) places
 
--- the value that is kept at a number in the module of a number, if there is one
+-- the value that is cached at a number in the module with that index, if there is one
 abbrev pub kept_at : {V : Type 0} → ByNumber V → ℕ → ℕ → Option V
 kept_at kept m n = kept_among (slice_get kept.modules.items m) n
 
@@ -20,5 +20,6 @@ pub record IsSamePlaces {V : Type 0} (before after : List (Option V)) : Type 0 w
   pub each : (n : ℕ) → kept_in after n ≡ kept_in before n
 
 -- A value is at a number, and at each other one what was there before.
-pub record IsPut {V : Type 0} (before after : List (Option V)) (number : ℕ) (value : V) : Type 0 where
+pub record IsPut {V : Type 0} (before after : List (Option V)) (number : ℕ) (value : V) :
+    Type 0 where
   pub each : (n : ℕ) → kept_in after n ≡ cond (n == number) (Some value) (kept_in before n)

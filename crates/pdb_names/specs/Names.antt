@@ -8,7 +8,8 @@ use Rattle.pdb_resolving.specs.Fault.{Fault}
 use Rattle.pdb_type_text.specs.Env.{Env}
 use Rattle.pdb_type_text.specs.Functions.{function_text}
 
--- a text, if a call that makes one returned it; want of memory is no missing text
+-- a text, if a call that makes one returned it; running out of memory is never taken for a missing
+-- text
 abbrev pub IsText : {T : Type 0} → Option T → Result T Error → Type 0
 IsText text (Ok made) = text ≡ Some made
 IsText text (Err errors.OutOfMemory) = ⊥

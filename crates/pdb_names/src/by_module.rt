@@ -1,4 +1,4 @@
-//! What is kept by the number of a module and a number in it.
+//! A cache by the index of a module and a number in it.
 
 ghost use Rattle.std.specs.Prelude.{◌≡◌, ◌<◌, ℕ, None, OnErr, OnOk, length, option_copied};
 ghost use Rattle.pdb_names.specs.ByModule.{kept_at};
@@ -7,11 +7,12 @@ ghost use Rattle.pdb_names.specs.Kept.{IsKept, IsSameKept};
 use std::alloc::{AllocError, Global};
 use std::collections::BTreeMap;
 
-/// Values that are kept, each under a module's number and a number in the module. A module's own map is small, so that few of
-/// its nodes stand between a question and its answer.
+/// Cached values, each under a module's index and a number in the module. A module's own map is
+/// small, so that a look-up visits few of its nodes.
 #[derive(Drop)]
 pub struct ByModule<V> {
-    /// The values of each module, at the module's number. Modules past the last one of which a value was kept have no place.
+    /// The values of each module, at the module's index. Modules past the last one with a cached
+    /// value have no place.
     modules: Vec<BTreeMap<u32, V>>,
 }
 
@@ -25,7 +26,7 @@ impl<V: Drop> ByModule<V> {
         }
     }
 
-    /// The value that is kept under a number in the module of a number, if there is one.
+    /// The value cached under a number in the module at `module_index`, if there is one.
     pub fn get(&self, module_index: u16, number: u32) -> Option<&V>
         ensures { option_copied result ≡ kept_at self.now module_index number }
     {
@@ -35,7 +36,8 @@ impl<V: Drop> ByModule<V> {
         values.get(&number)
     }
 
-    /// Makes a place for the values of the module of a number, and for those of each module before it. What is kept stays.
+    /// Makes a place for the values of the module at `module_index`, and for those of each module
+    /// before it. What is cached stays.
     fn reach(&mut self, alloc: Global, module_index: u16) -> Result<(), AllocError>
         ensures reached { OnOk result (module_index < length self.new.modules.items) }
         ensures same { IsSameKept (kept_at self.old) (kept_at self.new) }
@@ -46,8 +48,8 @@ impl<V: Drop> ByModule<V> {
         Ok(())
     }
 
-    /// Keeps a value under a number in the module of a number, in place of any that was kept there. Nothing changes of what is
-    /// kept where memory is short.
+    /// Caches a value under a number in the module at `module_index`, in place of any that was
+    /// cached there. When memory runs out, what is cached stays as it was.
     pub fn insert(
         &mut self,
         alloc: Global,
@@ -55,7 +57,8 @@ impl<V: Drop> ByModule<V> {
         number: u32,
         value: V,
     ) -> Result<(), AllocError>
-        ensures kept { OnOk result (IsKept (kept_at self.old) (kept_at self.new) module_index number value) }
+        ensures kept { OnOk result
+            (IsKept (kept_at self.old) (kept_at self.new) module_index number value) }
         ensures failed { OnErr result (IsSameKept (kept_at self.old) (kept_at self.new)) }
     {
         self.reach(alloc, module_index)?;

@@ -1,4 +1,4 @@
-//! What is kept at a number in the module of a number, found without a search.
+//! A cache by the index of a module and a number in it, without a search.
 
 ghost use Rattle.std.specs.Prelude.{◌≡◌, ◌<◌, ℕ, None, OnErr, OnOk, length, option_copied};
 ghost use Rattle.pdb_names.specs.ByNumber.{kept_at, IsPut, IsSamePlaces};
@@ -6,14 +6,16 @@ ghost use Rattle.pdb_names.specs.Kept.{IsKept, IsSameKept};
 
 use std::alloc::{AllocError, Global};
 
-/// Values that are kept, each at a number in the module of a number, both counted from 0: its place is found without a search.
+/// Cached values, each at a module's index and a number in the module, both counted from 0. A
+/// look-up needs no search.
 #[derive(Drop)]
 pub struct ByNumber<V> {
-    /// The places of each module, at the module's number. Past the last one of which a value was kept there is none.
+    /// The places of each module, at the module's index. Modules past the last one with a cached
+    /// value have none.
     modules: Vec<Vec<Option<V>>>,
 }
 
-/// Makes places up to a number, where there are none yet. What is kept stays.
+/// Makes places up to a number, where there are none yet. What is cached stays.
 fn make_places<V: Drop>(places: &mut Vec<Option<V>>, number: usize) -> Result<(), AllocError>
     ensures made { OnOk result (number < length places.new.items) }
     ensures same { IsSamePlaces places.old.items places.new.items }
@@ -25,7 +27,7 @@ fn make_places<V: Drop>(places: &mut Vec<Option<V>>, number: usize) -> Result<()
 }
 
 /// Puts a value at a number, in place of any that was there, and returns how many places were made
-/// for it. Nothing changes of what is cached where memory is short.
+/// for it. When memory runs out, what is cached stays as it was.
 fn put<V: Drop>(places: &mut Vec<Option<V>>, number: usize, value: V) -> Result<usize, AllocError>
     ensures kept { OnOk result (IsPut places.old.items places.new.items number value) }
     ensures failed { OnErr result (IsSamePlaces places.old.items places.new.items) }
@@ -47,7 +49,7 @@ impl<V: Drop> ByNumber<V> {
         }
     }
 
-    /// The value that is kept at a number in the module of a number, if there is one.
+    /// The value cached at a number in the module at `module_index`, if there is one.
     pub fn get(&self, module_index: u16, number: usize) -> Option<&V>
         ensures { option_copied result ≡ kept_at self.now module_index number }
     {
@@ -57,7 +59,8 @@ impl<V: Drop> ByNumber<V> {
         }
     }
 
-    /// Makes a place for the values of the module of a number, and for those of each module before it. What is kept stays.
+    /// Makes a place for the values of the module at `module_index`, and for those of each module
+    /// before it. What is cached stays.
     fn reach(&mut self, alloc: Global, module_index: u16) -> Result<(), AllocError>
         ensures reached { OnOk result (module_index < length self.new.modules.items) }
         ensures same { IsSameKept (kept_at self.old) (kept_at self.new) }
@@ -68,9 +71,9 @@ impl<V: Drop> ByNumber<V> {
         Ok(())
     }
 
-    /// Caches a value at a number in the module with that index, in place of any that was cached
-    /// there, and returns how many places were made for it. Nothing changes of what is cached where
-    /// memory is short.
+    /// Caches a value at a number in the module at `module_index`, in place of any that was cached
+    /// there, and returns how many places were made for it. When memory runs out, what is cached
+    /// stays as it was.
     pub fn insert(
         &mut self,
         alloc: Global,
@@ -78,7 +81,8 @@ impl<V: Drop> ByNumber<V> {
         number: usize,
         value: V,
     ) -> Result<usize, AllocError>
-        ensures kept { OnOk result (IsKept (kept_at self.old) (kept_at self.new) module_index number value) }
+        ensures kept { OnOk result
+            (IsKept (kept_at self.old) (kept_at self.new) module_index number value) }
         ensures failed { OnErr result (IsSameKept (kept_at self.old) (kept_at self.new)) }
     {
         self.reach(alloc, module_index)?;

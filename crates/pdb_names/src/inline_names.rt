@@ -15,7 +15,7 @@ use std::sync::ArcStr;
 /// About how many bytes of memory a name takes besides its text.
 const PLACE_SIZE: usize = 80;
 
-/// The names of inlined functions that were asked for, by module and id; `None` where no text can be made of an id.
+/// The cached names of inlined functions, by module and id; `None` where an id has no text.
 #[derive(Drop)]
 pub struct InlineNames {
     /// The names, each under its id in its module.
@@ -45,10 +45,10 @@ impl InlineNames {
         }
     }
 
-    /// The name of an inlined function by its id in the IPI, as the module with that index has it;
-    /// `None` where no text can be made of it. It is made and cached, unless it was cached before.
+    /// The name of an inlined function by its id in the IPI, as the module at `module_index` names
+    /// it; `None` where the id has no text. It is made and cached, unless it was cached before.
     /// Where the names take more memory than they may, they are forgotten first. Nothing is cached
-    /// where memory is short.
+    /// when memory runs out.
     pub fn name<P: ModuleProvider>(
         &mut self,
         alloc: Global,
@@ -59,7 +59,8 @@ impl InlineNames {
         requires { AreNames (inline_text P.provided formatter.old) self.old }
         ensures kept { AreNames (inline_text P.provided formatter.old) self.new }
         ensures same { formatter.new ≡ formatter.old }
-        ensures name { IfOk result (λ n. option_map arc_str_bytes n ≡ inline_text P.provided formatter.old module_index inlinee.0) }
+        ensures name { IfOk result (λ n. option_map arc_str_bytes n
+            ≡ inline_text P.provided formatter.old module_index inlinee.0) }
     {
         if let Some(name) = self.by_id.get(module_index, inlinee.0) {
             return share_name(name);

@@ -1,4 +1,4 @@
-//! The names of functions by a formatter, and what is kept of them.
+//! The names of functions by a formatter, and the caches of them.
 #![tactic(auto)]
 
 mod by_module;

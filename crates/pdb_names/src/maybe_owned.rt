@@ -28,7 +28,9 @@ impl<'a, T> MaybeOwned<'a, T> {
 
     /// The value, for writing: what is written through it is the value from then on.
     pub fn get_mut(&mut self) -> &mut T
-        ensures* writes_back { sem 𝓛 (Lends (the_row (record { mir = named 1; lft = [] }) T.row) T.row self.entry result (with_value self.old)) }
+        ensures* writes_back { sem 𝓛
+            (Lends (the_row (record { mir = named 1; lft = [] }) T.row) T.row self.entry result
+            (with_value self.old)) }
         ensures value { result.now ≡ value_of self.old }
     {
         match self {

@@ -19,8 +19,8 @@ use std::alloc::{AllocError, Global};
 use std::marker::Model;
 use std::sync::ArcStr;
 
-/// What names functions: a formatter of types, and the names that were asked for. Its value is that of the formatter: which names
-/// are kept shows in no name.
+/// A namer of functions: a formatter of types, and caches of the names that were asked for. Its
+/// value is that of the formatter: which names are cached changes no name.
 pub struct Namer<'a, 's, P: ModuleProvider> {
     formatter: MaybeOwned<'a, TypeFormatter<'a, 's, P>>,
     /// Those of inlined functions.
@@ -39,8 +39,9 @@ impl<'a, 's, P: ModuleProvider> Model for Namer<'a, 's, P> {
 
     ghost view = { λ n. value_of n.formatter };
 
-    // The names that are kept are those that the formatter gives.
-    ghost invariant = { λ n. AreNames (inline_text P.provided (value_of n.formatter)) n.inlined × AreTyped (typed_text P.provided (value_of n.formatter)) n.typed };
+    // The cached names are those that the formatter gives.
+    ghost invariant = { λ n. AreNames (inline_text P.provided (value_of n.formatter)) n.inlined
+        × AreTyped (typed_text P.provided (value_of n.formatter)) n.typed };
 }
 
 impl<'a, 's, P: ModuleProvider> Drop for Namer<'a, 's, P> {
@@ -57,7 +58,7 @@ impl<'a, 's, P: ModuleProvider> Drop for Namer<'a, 's, P> {
 }
 
 impl<'a, 's, P: ModuleProvider> Namer<'a, 's, P> {
-    /// Names by a formatter, of which none is kept yet.
+    /// Names by a formatter, none of them cached yet.
     pub fn new(
         alloc: Global,
         formatter: MaybeOwned<'a, TypeFormatter<'a, 's, P>>,
@@ -78,8 +79,11 @@ impl<'a, 's, P: ModuleProvider> Namer<'a, 's, P> {
         self.formatter.get().modules()
     }
 
-    /// The name of an inlined function by its id in the IPI, as the module of a number has it; `None` where no text can be made
-    /// of it.
+    /// The name of an inlined function by its id in the IPI, as the module at `module_index` names
+    /// it; `None` where the id has no text.
+    ///
+    /// # Errors
+    /// `AllocError` when memory runs out.
     pub fn inlined_name(
         &mut self,
         alloc: Global,
@@ -87,14 +91,18 @@ impl<'a, 's, P: ModuleProvider> Namer<'a, 's, P> {
         inlinee: IdIndex,
     ) -> Result<Option<ArcStr>, AllocError>
         ensures same { self.new ≡ self.old }
-        ensures name { IfOk result (λ n. option_map arc_str_bytes n ≡ inline_text P.provided self.old module_index inlinee.0) }
+        ensures name { IfOk result (λ n. option_map arc_str_bytes n
+            ≡ inline_text P.provided self.old module_index inlinee.0) }
     {
         self.inlined
             .name(alloc, self.formatter.get_mut(), module_index, inlinee)
     }
 
-    /// The name of a procedure by its type in the module of a number, kept at the procedure's own number; `None` where no text can
-    /// be made of it.
+    /// The name of a procedure by its type in the module at `module_index`, cached at the
+    /// procedure's own number; `None` where it has no text.
+    ///
+    /// # Errors
+    /// `AllocError` when memory runs out.
     pub fn typed_name(
         &mut self,
         alloc: Global,
@@ -103,7 +111,8 @@ impl<'a, 's, P: ModuleProvider> Namer<'a, 's, P> {
         procedure: &Procedure<'a>,
     ) -> Result<Option<ArcStr>, AllocError>
         ensures same { self.new ≡ self.old }
-        ensures name { IfOk result (λ n. option_map arc_str_bytes n ≡ typed_name (env_of P.provided self.old module_index) procedure.now) }
+        ensures name { IfOk result (λ n. option_map arc_str_bytes n
+            ≡ typed_name (env_of P.provided self.old module_index) procedure.now) }
     {
         self.typed.name(
             alloc,

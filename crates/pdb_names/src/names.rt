@@ -18,7 +18,7 @@ use std::alloc::{AllocError, Global};
 use std::borrow::CowStr;
 use std::sync::ArcStr;
 
-/// A text, if it could be made. Want of memory is no missing text.
+/// A text, if it could be made. Running out of memory is never taken for a missing text.
 fn if_text(made: Result<String>) -> std::result::Result<Option<String>, AllocError>
     ensures { IfOk result (λ t. IsText t made) }
 {
@@ -39,8 +39,8 @@ fn raw_text<'n>(alloc: Global, name: &RawString<'n>) -> std::result::Result<CowS
     }
 }
 
-/// The name of an inlined function by its id in the IPI, as the module of a number has it; `None` where no text can be made of
-/// it.
+/// The name of an inlined function by its id in the IPI, as the module at `module_index` names it;
+/// `None` where the id has no text.
 pub fn inlinee_name<P: ModuleProvider>(
     alloc: Global,
     formatter: &mut TypeFormatter<'_, '_, P>,
@@ -48,13 +48,14 @@ pub fn inlinee_name<P: ModuleProvider>(
     inlinee: IdIndex,
 ) -> std::result::Result<Option<String>, AllocError>
     ensures same { formatter.new ≡ formatter.old }
-    ensures name { IfOk result (λ n. option_map string_bytes n ≡ if_made (id_text (env_of P.provided formatter.old module_index) inlinee.0)) }
+    ensures name { IfOk result (λ n. option_map string_bytes n
+        ≡ if_made (id_text (env_of P.provided formatter.old module_index) inlinee.0)) }
 {
     let made = id_text_of(formatter, alloc, module_index, inlinee);
     if_text(made)
 }
 
-/// The name of a procedure by its type; `None` where no text can be made of it.
+/// The name of a procedure by its type; `None` where it has no text.
 pub fn typed_name<P: ModuleProvider>(
     alloc: Global,
     formatter: &mut TypeFormatter<'_, '_, P>,
@@ -62,7 +63,8 @@ pub fn typed_name<P: ModuleProvider>(
     procedure: &Procedure<'_>,
 ) -> std::result::Result<Option<String>, AllocError>
     ensures same { formatter.new ≡ formatter.old }
-    ensures name { IfOk result (λ n. option_map string_bytes n ≡ name_by_type (env_of P.provided formatter.old module_index) procedure.now) }
+    ensures name { IfOk result (λ n. option_map string_bytes n
+        ≡ name_by_type (env_of P.provided formatter.old module_index) procedure.now) }
 {
     let name = raw_text(alloc, &procedure.name)?;
     let made = function_text_of(
@@ -75,12 +77,16 @@ pub fn typed_name<P: ModuleProvider>(
     if_text(made)
 }
 
-/// A name that may be there, as text that is shared.
+/// A shared copy of a name, if there is one. Bytes that are no UTF-8 are replaced.
+///
+/// # Errors
+/// `AllocError` when memory runs out.
 pub fn if_named(
     alloc: Global,
     name: &Option<RawString<'_>>,
 ) -> std::result::Result<Option<ArcStr>, AllocError>
-    ensures { IfOk result (λ n. option_map arc_str_bytes n ≡ option_map (λ r. utf8_lossy (raw_bytes r)) name.now) }
+    ensures { IfOk result (λ n. option_map arc_str_bytes n
+        ≡ option_map (λ r. utf8_lossy (raw_bytes r)) name.now) }
 {
     match name {
         None => Ok(None),
@@ -91,7 +97,10 @@ pub fn if_named(
     }
 }
 
-/// A name as it is stored, as text that is shared: bytes that are no text are replaced.
+/// A shared copy of a stored name. Bytes that are no UTF-8 are replaced.
+///
+/// # Errors
+/// `AllocError` when memory runs out.
 pub fn shared_raw_name(
     alloc: Global,
     name: &RawString<'_>,
@@ -130,7 +139,7 @@ pub fn name_size(name: &Option<ArcStr>, place: usize) -> u64 {
     (text as u64).saturating_add(place as u64)
 }
 
-/// The same name that may be missing, shared once more.
+/// Shares a name once more, if there is one.
 pub fn share_name(name: &Option<ArcStr>) -> std::result::Result<Option<ArcStr>, AllocError>
     ensures { IfOk result (λ n. option_map arc_str_bytes n ≡ option_map arc_str_bytes name.now) }
 {

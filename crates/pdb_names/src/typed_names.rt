@@ -23,7 +23,7 @@ pub struct TypedName<'a> {
     raw: RawString<'a>,
     /// The index of its type.
     type_index: TypeIndex,
-    /// The text; `None` where none can be made.
+    /// The text, if there is one.
     text: Option<ArcStr>,
 }
 
@@ -66,10 +66,10 @@ impl<'a> TypedNames<'a> {
         }
     }
 
-    /// The name of a procedure by its type in the module with that index; `None` where no text can
-    /// be made of it. It is made and cached at the procedure's number, unless it was cached before.
-    /// Where the names take more memory than they may, they are forgotten first. Nothing is cached
-    /// where memory is short.
+    /// The name of a procedure by its type in the module at `module_index`; `None` where it has no
+    /// text. It is made and cached at the procedure's number, unless it was cached before. Where the
+    /// names take more memory than they may, they are forgotten first. Nothing is cached when memory
+    /// runs out.
     pub fn name<P: ModuleProvider>(
         &mut self,
         alloc: Global,
@@ -81,7 +81,8 @@ impl<'a> TypedNames<'a> {
         requires { AreTyped (typed_text P.provided formatter.old) self.old }
         ensures kept { AreTyped (typed_text P.provided formatter.old) self.new }
         ensures same { formatter.new ≡ formatter.old }
-        ensures name { IfOk result (λ n. option_map arc_str_bytes n ≡ name_by_type (env_of P.provided formatter.old module_index) procedure.now) }
+        ensures name { IfOk result (λ n. option_map arc_str_bytes n
+            ≡ name_by_type (env_of P.provided formatter.old module_index) procedure.now) }
     {
         if let Some(name) = self.by_number.get(module_index, number) {
             if name.is_of(procedure) {

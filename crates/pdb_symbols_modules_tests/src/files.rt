@@ -8,7 +8,7 @@ use std::test::Fail;
 /// An open database over a file's bytes.
 pub type Database = PDB<'static, Vec<u8>>;
 
-/// A file with this stream behind so many that are absent.
+/// A file with this stream after `absent` absent ones.
 fn file_of(alloc: Global, absent: usize, stream: Vec<u8>) -> Result<Vec<u8>, SampleError> {
     let mut streams = Vec::new(alloc);
     for _ in 0..absent {

@@ -10,14 +10,16 @@ use pdb_samples::{SampleError, push_u32};
 use std::alloc::Global;
 use std::test::Fail;
 
-/// What is known of blocks, the known end, the kind at an index, asked twice, and how many lengths a search for it reads.
+/// What is known of blocks, the known end, the kind at an index, asked twice, and how many lengths
+/// a search for it reads.
 type Said = (u32, Option<u32>, Result<u16>, Result<u16>, u32);
 
 /// Ten items, each of which is its number in two bytes.
 const TEN: &[u8] =
     b"\x02\0\x00\0\x02\0\x01\0\x02\0\x02\0\x02\0\x03\0\x02\0\x04\0\x02\0\x05\0\x02\0\x06\0\x02\0\x07\0\x02\0\x08\0\x02\0\x09\0";
 
-/// A stream of these items and of the bytes behind them. Its header promises indices from the first on and before the second.
+/// A stream of these items and of the bytes after them. Its header promises indices from the first
+/// on and before the second.
 fn types_stream(
     alloc: Global,
     indices: (u32, u32),
@@ -43,7 +45,7 @@ fn table(
     Ok(database.type_information(alloc)?)
 }
 
-/// Takes so many steps of an iterator, and shows it to the finder behind each; a fault ends that.
+/// Takes `steps` steps of an iterator, and shows it to the finder after each; a fault ends that.
 fn show(finder: &mut TypeFinder<'_>, iterator: &mut TypeIter<'_>, steps: usize) -> Result<()>
     requires { iterator.old.table ≡ finder.old.table }
 {
@@ -54,7 +56,7 @@ fn show(finder: &mut TypeFinder<'_>, iterator: &mut TypeIter<'_>, steps: usize) 
     Ok(())
 }
 
-/// The kind of the item of an index.
+/// The kind of the item with that index.
 fn kind_at(finder: &TypeFinder<'_>, index: u32) -> Result<u16> {
     finder.find(TypeIndex(index))?.raw_kind()
 }
@@ -66,7 +68,7 @@ fn lengths_at(finder: &TypeFinder<'_>, index: u32) -> u32 {
     lengths
 }
 
-/// What a finder says once it was shown so many steps.
+/// What a finder says once it was shown that many steps.
 fn asked(alloc: Global, types: &TypeInformation<'_>, steps: usize, index: u32) -> Result<Said> {
     let mut finder = types.finder(alloc)?;
     let _ = show(&mut finder, &mut types.iter(), steps);
@@ -84,8 +86,9 @@ fn end_of(finder: &TypeFinder<'_>) -> Option<u32> {
     }
 }
 
-/// What stands behind ten types of a stream, how many steps are shown, an index, and what is said of it: what is known of blocks,
-/// the known end, the kind, and how many lengths are read: those from the start of the block on, that of the item with them.
+/// What follows ten types of a stream, how many steps are shown, an index, and what is said of it.
+/// That is: what is known of blocks, the known end, the kind, and how many lengths are read, from
+/// the start of the block on to that of the item.
 const ROWS: &[(&[u8], usize, u32, u32, Option<u32>, Result<u16>, u32)] = &[
     (b"", 0, 0x74, 0x1007, None, Err(Error::UnexpectedEof), 0),
     (

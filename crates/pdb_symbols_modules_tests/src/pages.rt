@@ -6,8 +6,8 @@ use pdb_symbols_modules::{PDB, StreamIndex};
 use std::alloc::Global;
 use std::test::Fail;
 
-/// The place, in file F's directory, of the number of stream 2's page: behind the count, nine sizes, and the number of stream
-/// 1's page. Stream 0 is empty.
+/// The place, in file F's directory, of the number of stream 2's page: after the count, nine sizes,
+/// and the number of stream 1's page. Stream 0 is empty.
 const PAGE_OF_TYPES: usize = 0x22c;
 
 /// Whether a stream has these bytes.

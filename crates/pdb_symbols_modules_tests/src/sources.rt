@@ -64,8 +64,8 @@ fn viewed(alloc: Global, fails: &'static [u64]) -> std::result::Result<(u64, [As
     Ok((opening, asked(&mut database, alloc, &views)))
 }
 
-// No table is kept where a view of the list (1) or of the directory (2) failed: the next call views both anew, and from then
-// on each call its stream alone.
+// No table is cached where a view of the list (1) or of the directory (2) failed: the next call
+// views both anew. From then on each call views its stream alone.
 #[test]
 fn the_directory_is_read_anew_where_the_source_failed(
     rt: HostRuntime,

@@ -17,7 +17,7 @@ abbrev pub first_or : ℕ → List ℕ → ℕ
 first_or size [] = size
 first_or size (d ∷ dimensions) = d
 
--- the brackets of arrays, the outer first, over an element of so many bytes
+-- the brackets of arrays, the outer first, over an element of that many bytes
 abbrev pub brackets : List ℕ → ℕ → Text
 brackets [] size = []
 brackets (d ∷ dimensions) size = bracket d (first_or size dimensions) ++ brackets dimensions size

@@ -4,8 +4,13 @@ use Rattle.std.specs.Prelude.{ℕ, ◌-◌, ◌^◌, List, [], ◌∷◌, codes,
 -- each flag's name and its bit
 abbrev pub flag_table : List (List ℕ × ℕ)
 flag_table =
-    (codes "NO_FUNCTION_RETURN", 1) ∷ (codes "NO_MEMBER_FUNCTION_STATIC", 2) ∷ (codes "SPACE_AFTER_COMMA", 4) ∷
-    (codes "SPACE_BEFORE_POINTER", 8) ∷ (codes "NAME_ONLY", 16) ∷ (codes "NO_ARGUMENTS", 32) ∷ []
+    (codes "NO_FUNCTION_RETURN", 1)
+    ∷ (codes "NO_MEMBER_FUNCTION_STATIC", 2)
+    ∷ (codes "SPACE_AFTER_COMMA", 4)
+    ∷ (codes "SPACE_BEFORE_POINTER", 8)
+    ∷ (codes "NAME_ONLY", 16)
+    ∷ (codes "NO_ARGUMENTS", 32)
+    ∷ []
 
 -- the bits of x that y lacks, of 32
 abbrev pub bits_without : ℕ → ℕ → ℕ

@@ -1,4 +1,5 @@
--- Further levels on a path: what the path and the level below are once one is gone, and why none was begun.
+-- Further levels on a path: what the path and the level below are once one is gone, and why none
+-- was begun.
 use Rattle.std.specs.Prelude.{◌≡◌, ℕ, false, [], Result}
 use Rattle.std.specs.Borrow.{Fml, MutBor, Lends, RestsIfErr, RattleType, u32}
 use mir.Syntax.{named}
@@ -6,7 +7,8 @@ use Rattle.std.specs.contracts.alloc.Global as global
 use Rattle.std.specs.contracts.vec.Vec as vec
 use Rattle.std.specs.contracts.impls.GlobalAllocator.TheImpl.{ghosts}
 use Rattle.pdb_resolving.specs.declared.error.Error.{Error}
-use Rattle.pdb_resolving.specs.declared.error.Error.TheVariants.{CircularTypeDefinition, OutOfMemory}
+use Rattle.pdb_resolving.specs.declared.error.Error.TheVariants.{CircularTypeDefinition}
+use Rattle.pdb_resolving.specs.declared.error.Error.TheVariants.{OutOfMemory}
 use Rattle.pdb_text_pieces.specs.Paths.{Path, may_enter}
 use Rattle.pdb_text_pieces.specs.declared.path.Seen.{Seen}
 use Rattle.pdb_text_pieces.specs.contracts.path.Seen.{the_row}
@@ -29,7 +31,8 @@ LendsPath level further = Lends level_type path_type level further.path (with_pa
 -- a path stays where no level was begun on it; else it ends as that level leaves it
 abbrev pub RestsIfRefused : MutBor path_type.Denot → Result Seen Error → Fml
 RestsIfRefused path result =
-    RestsIfErr path_type path (λ level. level.path.ghost_name) result (λ new. new.items ≡ path.now.items)
+    RestsIfErr path_type path (λ level. level.path.ghost_name) result
+    (λ new. new.items ≡ path.now.items)
 
 -- why no level of an index was begun on a path
 abbrev pub IsBlocked : Error → Path → ℕ → Type 0

@@ -1,5 +1,7 @@
--- Names of types without a record, words before names, and names of ids.
-use Rattle.std.specs.Prelude.{ℕ, ◌+◌, ◌*◌, ◌-◌, ◌^◌, Bool, true, false, ◌&&◌, not, List, [], ◌∷◌, ◌++◌, length, drop, codes, Option, Some, None, if◌then◌else◌, ◌==◌, nat_lt, nat_le, slice_get, option_and_then}
+-- Names of types without a record, keywords before names, and names of ids.
+use Rattle.std.specs.Prelude.{ℕ, ◌+◌, ◌*◌, ◌-◌, ◌^◌, Bool, true, false, ◌&&◌, not, List, [], ◌∷◌}
+use Rattle.std.specs.Prelude.{◌++◌, length, drop, codes, Option, Some, None, if◌then◌else◌, ◌==◌}
+use Rattle.std.specs.Prelude.{nat_lt, nat_le, slice_get, option_and_then}
 use Rattle.std.specs.List.{starts_with}
 use Rattle.std.specs.Str.Lossy.{utf8_lossy}
 use Rattle.pdb_indices.specs.Bits.{has_bit}
@@ -61,24 +63,30 @@ primitive_name kinds.Bool64 = codes "bool64_t"
 
 -- a kind that is meant itself, or that a pointer leads to: what is constant is the kind then
 abbrev pub direct_or_behind_pointer : ℕ → Bool → Text → Option Indirection → Text
-direct_or_behind_pointer flags constant name None = if constant then codes "const " ++ name else name
-direct_or_behind_pointer flags constant name (Some pointer) = name ++ ((if constant then codes " const" else []) ++ (if has_bit flags 8 then codes " *" else codes "*"))
+direct_or_behind_pointer flags constant name None =
+    if constant then codes "const " ++ name
+    else name
+direct_or_behind_pointer flags constant name (Some pointer) =
+    name ++ ((if constant then codes " const" else [])
+    ++ (if has_bit flags 8 then codes " *" else codes "*"))
 
 -- a type without a record, printed as constant or not
 abbrev pub primitive_text : ℕ → Bool → PrimitiveType → Text
-primitive_text flags constant t = direct_or_behind_pointer flags constant (primitive_name t.kind) t.indirection
+primitive_text flags constant t = direct_or_behind_pointer flags constant (primitive_name t.kind)
+    t.indirection
 
 -- ---- types with a name
 
--- the word before the name of a class
+-- the keyword before the name of a class
 abbrev pub class_word : ClassKind → Text
 class_word classes.Class = codes "class "
 class_word classes.Struct = codes "struct "
 class_word classes.Interface = codes "interface "
 
--- a name behind its word, which flag 16 leaves out
+-- a name after its keyword, which flag 16 leaves out
 abbrev pub named : ℕ → Text → List ℕ → Text → Printed
-named flags word name w = (if has_bit flags 16 then Done w else say word w) >>= say (utf8_lossy name)
+named flags word name w = (if has_bit flags 16 then Done w else say word w)
+    >>= say (utf8_lossy name)
 
 -- ---- functions and ids
 
@@ -89,9 +97,12 @@ name_or_omitted (b ∷ bytes) = b ∷ bytes
 
 -- the value of a hexadecimal digit
 abbrev pub digit_of : ℕ → Option ℕ
-digit_of b = if nat_le 48 b && nat_le b 57 then Some (b - 48) else (if nat_le 97 b && nat_le b 102 then Some (b - 97 + 10) else (if nat_le 65 b && nat_le b 70 then Some (b - 65 + 10) else None))
+digit_of b =
+    if nat_le 48 b && nat_le b 57 then Some (b - 48)
+    else (if nat_le 97 b && nat_le b 102 then Some (b - 97 + 10)
+    else (if nat_le 65 b && nat_le b 70 then Some (b - 65 + 10) else None))
 
--- the value of digits behind a value
+-- the value of digits after a value
 abbrev pub value_from : ℕ → List ℕ → Option ℕ
 value_from value [] = Some value
 value_from value (b ∷ bytes) = option_and_then (λ d. value_from (value * 16 + d) bytes) (digit_of b)
@@ -110,13 +121,14 @@ abbrev pub begins_with_plus : Option ℕ → Bool
 begins_with_plus None = false
 begins_with_plus (Some b) = b == 43
 
--- a plus at the front is dropped
+-- a plus at the beginning is dropped
 abbrev pub without_plus : List ℕ → List ℕ
 without_plus bytes = if begins_with_plus (slice_get bytes 0) then drop 1 bytes else bytes
 
--- a namespace without a name of its own: `?A0x`, and a number behind a plus or not
+-- a namespace without a name of its own: `?A0x`, and a number, with a plus before it or not
 abbrev pub is_anonymous_namespace : Text → Bool
-is_anonymous_namespace name = starts_with (λ a b. a == b) name (codes "?A0x") && is_number (without_plus (drop 4 name))
+is_anonymous_namespace name = starts_with (λ a b. a == b) name (codes "?A0x")
+    && is_number (without_plus (drop 4 name))
 
 -- the text of a string
 abbrev pub string_text : Text → Text

@@ -1,8 +1,10 @@
--- Indices on the way to a type or an id, each of which stands there once.
-use Rattle.std.specs.Prelude.{◌≡◌, ℕ, ◌-◌, Bool, true, false, ◌&&◌, not, List, [], ◌∷◌, ◌++◌, length, Result, Ok, Err, ◌==◌, nat_lt}
+-- The path of indices to a type or an id, on which each stands once.
+use Rattle.std.specs.Prelude.{◌≡◌, ℕ, ◌-◌, Bool, true, false, ◌&&◌, not, List, [], ◌∷◌, ◌++◌}
+use Rattle.std.specs.Prelude.{length, Result, Ok, Err, ◌==◌, nat_lt}
 use Rattle.std.specs.List.{list_any}
 use Rattle.pdb_resolving.specs.declared.error.Error.{Error}
-use Rattle.pdb_resolving.specs.declared.error.Error.TheVariants.{CircularTypeDefinition, OutOfMemory}
+use Rattle.pdb_resolving.specs.declared.error.Error.TheVariants.{CircularTypeDefinition}
+use Rattle.pdb_resolving.specs.declared.error.Error.TheVariants.{OutOfMemory}
 
 -- indices, the first asked for first
 abbrev pub Path : Type 0

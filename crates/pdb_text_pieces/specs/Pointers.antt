@@ -1,5 +1,6 @@
--- Pointers behind the text of what they lead to.
-use Rattle.std.specs.Prelude.{ℕ, ◌-◌, Bool, true, false, ◌&&◌, ◌||◌, not, List, [], ◌∷◌, ◌++◌, length, codes, Option, Some, None, if◌then◌else◌, ◌==◌, slice_get}
+-- Pointers after the text of what they point to.
+use Rattle.std.specs.Prelude.{ℕ, ◌-◌, Bool, true, false, ◌&&◌, ◌||◌, not, List, [], ◌∷◌, ◌++◌}
+use Rattle.std.specs.Prelude.{length, codes, Option, Some, None, if◌then◌else◌, ◌==◌, slice_get}
 use Rattle.pdb_indices.specs.Bits.{has_bit}
 use Rattle.pdb_records.specs.declared.type_attributes.PointerMode.{PointerMode}
 use Rattle.pdb_records.specs.declared.type_attributes.PointerMode.TheVariants as modes
@@ -12,11 +13,17 @@ use Rattle.pdb_text_pieces.specs.Printed.{Text}
 
 -- a pointer, which is constant also where what was said of it before says so
 abbrev pub level_of : Bool → PointerType → PointerLevel
-level_of constant t = record { mode = mode_of_pointer t.attributes; is_constant = points_constant t.attributes || constant; leads_to_constant = false }
+level_of constant t =
+    record {
+      mode = mode_of_pointer t.attributes;
+      is_constant = points_constant t.attributes || constant;
+      leads_to_constant = false;
+    }
 
 -- the same pointer, to what is constant or not
 abbrev pub leading_to : Bool → PointerLevel → PointerLevel
-leading_to constant p = record { mode = p.mode; is_constant = p.is_constant; leads_to_constant = constant }
+leading_to constant p =
+    record { mode = p.mode; is_constant = p.is_constant; leads_to_constant = constant }
 
 -- ---- texts
 
@@ -37,20 +44,29 @@ is_sigil (Some b) = b == 42 || b == 38
 abbrev pub ends_in_sigil : Text → Bool
 ends_in_sigil w = is_sigil (slice_get w (length w - 1))
 
--- the word that what the pointer leads to is constant, behind a space where one may begin
+-- the keyword that what the pointer points to is constant, after a space where one may begin
 abbrev pub target_text : Bool → PointerLevel → Text
-target_text may_space p = if p.leads_to_constant then (if may_space then codes " const" else codes "const") else []
+target_text may_space p =
+    if p.leads_to_constant then (if may_space then codes " const" else codes "const")
+    else []
 
--- the space before the sign, under flag 8: none behind another sign, and none where the pointers begin and may not begin with one
+-- the space before the sign, under flag 8: none after another sign, and none where the pointers
+-- begin and may not begin with one
 abbrev pub space_text : ℕ → Bool → Bool → PointerLevel → Text
-space_text flags may_space behind_sigil p = if has_bit flags 8 && (p.leads_to_constant || (may_space && not behind_sigil)) then codes " " else []
+space_text flags may_space behind_sigil p =
+    if has_bit flags 8 && (p.leads_to_constant || (may_space && not behind_sigil)) then codes " "
+    else []
 
 -- one pointer; a space may begin it or not, and a sign stands before it or not
 abbrev pub pointer_text : ℕ → Bool → Bool → PointerLevel → Text
 pointer_text flags may_space behind_sigil p =
-    target_text may_space p ++ (space_text flags may_space behind_sigil p ++ (sigil p.mode ++ (if p.is_constant then codes " const" else [])))
+    target_text may_space p
+    ++ (space_text flags may_space behind_sigil p
+    ++ (sigil p.mode ++ (if p.is_constant then codes " const" else [])))
 
 -- pointers, the innermost first
 abbrev pub pointers_text : ℕ → Bool → Bool → List PointerLevel → Text
 pointers_text flags may_space behind_sigil [] = []
-pointers_text flags may_space behind_sigil (p ∷ outer) = pointer_text flags may_space behind_sigil p ++ pointers_text flags true (not p.is_constant) outer
+pointers_text flags may_space behind_sigil (p ∷ outer) =
+    pointer_text flags may_space behind_sigil p
+    ++ pointers_text flags true (not p.is_constant) outer

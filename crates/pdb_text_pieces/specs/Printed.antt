@@ -3,7 +3,8 @@ use Rattle.std.specs.Prelude.{◌≡◌, ℕ, false, List, ◌++◌, codes, Resu
 use Rattle.std.specs.Fmt.{digits}
 use Rattle.pdb_container.specs.declared.error.Error.TheVariants as read
 use Rattle.pdb_container.specs.Fault.{TypeNotFound, UnimplementedTypeKind}
-use Rattle.pdb_resolving.specs.declared.error.Error.TheVariants.{PdbError as AtPdbError, FormatError, OutOfMemory}
+use Rattle.pdb_resolving.specs.declared.error.Error.TheVariants.{PdbError as AtPdbError}
+use Rattle.pdb_resolving.specs.declared.error.Error.TheVariants.{FormatError, OutOfMemory}
 use Rattle.pdb_resolving.specs.declared.stop.Stop.{Stop}
 use Rattle.pdb_resolving.specs.declared.stop.Stop.TheVariants.{ByError, ByTable as AtTable}
 use Rattle.pdb_resolving.specs.Cause.{Cause, ByFault, ByTable, IsOfFault}
@@ -24,7 +25,7 @@ abbrev pub ◌>>=◌ : Printed → (Text → Printed) → Printed
 (Done w) >>= more = more w
 (Stopped cause w) >>= more = Stopped cause w
 
--- a text behind the text so far
+-- a text after the text so far
 abbrev pub say : Text → Text → Printed
 say s w = Done (w ++ s)
 
@@ -47,7 +48,7 @@ unread (ByFault (PdbError (TypeNotFound i))) w = say (missing_type i) w
 unread (ByFault (PdbError (UnimplementedTypeKind leaf))) w = say (unimplemented_kind leaf) w
 unread cause w = Stopped cause w
 
--- a missing type ends here: what was printed before it stays, and it is named behind that
+-- a missing type ends here: what was printed before it stays, and its index is named after that
 abbrev pub caught : Printed → Printed
 caught (Done w) = Done w
 caught (Stopped (ByFault (PdbError (TypeNotFound i))) w) = say (missing_type i) w
@@ -66,7 +67,8 @@ Stops (ByError OutOfMemory) new printed = Unit {0}
 Stops (ByError (AtPdbError read.OutOfMemory)) new printed = ⊥
 Stops (ByError (FormatError cause)) new printed = ⊥
 Stops (ByError e) new printed = printed ≡ Stopped (ByFault (fault_of e)) new
-Stops (AtTable table e) new printed = IsOfFault e × (printed ≡ Stopped (ByTable table (fault_of e)) new)
+Stops (AtTable table e) new printed = IsOfFault e
+    × (printed ≡ Stopped (ByTable table (fault_of e)) new)
 
 -- A call returned and left this text: printing ends so, unless memory was refused.
 abbrev pub Prints : {A : Type 0} → Result A Stop → Text → Printed → Type 0

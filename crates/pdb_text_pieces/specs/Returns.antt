@@ -5,6 +5,9 @@ use Rattle.pdb_indices.specs.declared.index.TypeIndex.{TypeIndex}
 use Rattle.pdb_records.specs.declared.type_attributes.FunctionAttributes.{FunctionAttributes}
 use Rattle.pdb_records.specs.Attributes.{constructs}
 
--- the type with which a function's text begins: none for a constructor, and none where flag 1 leaves it out, but for a function behind pointers
-abbrev pub shown_return : ℕ → Option TypeIndex → FunctionAttributes → (behind_pointers : Bool) → Option TypeIndex
-shown_return flags t attributes behind_pointers = if (has_bit flags 1 && not behind_pointers) || constructs attributes then None else t
+-- the type with which a function's text begins: none for a constructor, and none where flag 1
+-- leaves it out; the flag doesn't apply to a function that pointers point to
+abbrev pub shown_return : ℕ → Option TypeIndex → FunctionAttributes → (behind_pointers : Bool)
+    → Option TypeIndex
+shown_return flags t attributes behind_pointers =
+    if (has_bit flags 1 && not behind_pointers) || constructs attributes then None else t

@@ -8,13 +8,16 @@ ghost use Rattle.pdb_text_pieces.specs.Arguments.{comma};
 use crate::text::emit;
 use pdb_resolving::stop::Result;
 
-/// The flag that puts a space behind a comma.
+/// The flag that puts a space after a comma.
 const SPACE_AFTER_COMMA: u32 = 4;
 
 /// The flag that leaves out arguments.
 const NO_ARGUMENTS: u32 = 32;
 
-/// Appends what stands between arguments.
+/// Appends what stands between arguments: a comma, and a space where the flags ask for it.
+///
+/// # Errors
+/// `OutOfMemory`.
 pub fn emit_comma(w: &mut String, flags: u32) -> Result<()>
     ensures { Prints result (string_bytes w.new) (say (comma flags) (string_bytes w.old)) }
 {

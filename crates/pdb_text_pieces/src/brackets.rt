@@ -29,9 +29,14 @@ fn emit_bracket(w: &mut String, size: u64, element: u64) -> Result<()>
     Ok(())
 }
 
-/// Appends the brackets of arrays of these dimensions, the outer first, over an element of so many bytes.
+/// Appends the brackets of arrays of these dimensions, the outer first, over an element of `size`
+/// bytes.
+///
+/// # Errors
+/// `OutOfMemory`.
 pub fn emit_brackets(w: &mut String, dimensions: &[u32], size: u64) -> Result<()>
-    ensures { Prints result (string_bytes w.new) (say (brackets dimensions.now size) (string_bytes w.old)) }
+    ensures { Prints result (string_bytes w.new)
+        (say (brackets dimensions.now size) (string_bytes w.old)) }
 {
     let [first, inner @ ..] = dimensions else {
         return Ok(());

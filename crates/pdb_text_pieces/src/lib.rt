@@ -1,5 +1,5 @@
 //! Pieces of the texts of types: names, pointers, brackets, what stands between arguments, the
-//! flags that say what is printed and how, and the indices on the way to a type.
+//! flags that say what is printed and how, and the path of indices to a type.
 #![tactic(auto)]
 
 mod arguments;

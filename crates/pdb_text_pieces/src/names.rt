@@ -1,11 +1,13 @@
-//! Names of types without a record, words before names, names of forms and of ids.
+//! Names of types without a record, keywords before names, names of forms and of ids.
 
 ghost use Rattle.std.specs.Prelude.{◌≡◌, ◌<◌, ◌++◌, IfSome, string_bytes};
 ghost use Rattle.pdb_container.specs.RawString.{raw_bytes};
 ghost use Rattle.pdb_records.specs.Shapes.{shape};
 ghost use Rattle.pdb_records.specs.IdForms.{id_shape};
 ghost use Rattle.pdb_text_pieces.specs.Printed.{Prints, say};
-ghost use Rattle.pdb_text_pieces.specs.Names.{primitive_name, primitive_text, class_word, named, name_or_omitted, digit_of, is_number, without_plus, is_anonymous_namespace, string_text};
+ghost use Rattle.pdb_text_pieces.specs.Names.{primitive_name, primitive_text, class_word, named};
+ghost use Rattle.pdb_text_pieces.specs.Names.{name_or_omitted, digit_of, is_number, without_plus};
+ghost use Rattle.pdb_text_pieces.specs.Names.{is_anonymous_namespace, string_text};
 ghost use Rattle.pdb_text_pieces.specs.FormNames.{form_name, unhandled, id_form_name, unhandled_id};
 
 use crate::text::emit;
@@ -65,13 +67,17 @@ fn primitive_name(kind: PrimitiveKind) -> &'static str
 }
 
 /// Appends a type without a record, as constant or not.
+///
+/// # Errors
+/// `OutOfMemory`.
 pub fn emit_primitive(
     w: &mut String,
     flags: u32,
     primitive: PrimitiveType,
     is_constant: bool,
 ) -> Result<()>
-    ensures { Prints result (string_bytes w.new) (say (primitive_text flags is_constant primitive) (string_bytes w.old)) }
+    ensures { Prints result (string_bytes w.new)
+        (say (primitive_text flags is_constant primitive) (string_bytes w.old)) }
 {
     let name = primitive_name(primitive.kind);
     if primitive.indirection.is_none() {
@@ -94,7 +100,7 @@ pub fn emit_primitive(
     )
 }
 
-/// The word before the name of a class.
+/// The keyword before the name of a class, and a space.
 pub fn class_word(kind: ClassKind) -> &'static str
     ensures { result.now ≡ class_word kind }
 {
@@ -105,9 +111,13 @@ pub fn class_word(kind: ClassKind) -> &'static str
     }
 }
 
-/// Appends a name behind its word, which a flag leaves out.
+/// Appends a name after its keyword, which a flag leaves out.
+///
+/// # Errors
+/// `OutOfMemory`.
 pub fn emit_named(w: &mut String, flags: u32, word: &str, name: RawString<'_>) -> Result<()>
-    ensures { Prints result (string_bytes w.new) (named flags word.now (raw_bytes name.entry) (string_bytes w.old)) }
+    ensures { Prints result (string_bytes w.new)
+        (named flags word.now (raw_bytes name.entry) (string_bytes w.old)) }
 {
     if flags & NAME_ONLY == 0 {
         emit(w, word)?;
@@ -117,8 +127,12 @@ pub fn emit_named(w: &mut String, flags: u32, word: &str, name: RawString<'_>) -
 }
 
 /// Appends the name of a function.
+///
+/// # Errors
+/// `OutOfMemory`.
 pub fn emit_name(w: &mut String, name: &str) -> Result<()>
-    ensures { Prints result (string_bytes w.new) (say (name_or_omitted name.now) (string_bytes w.old)) }
+    ensures { Prints result (string_bytes w.new)
+        (say (name_or_omitted name.now) (string_bytes w.old)) }
 {
     emit(
         w,
@@ -162,8 +176,12 @@ fn form_name(found: &TypeData<'_>) -> &'static str
 }
 
 /// Appends what stands for a type that has no text of its own.
+///
+/// # Errors
+/// `OutOfMemory`.
 pub fn emit_unhandled(w: &mut String, found: &TypeData<'_>) -> Result<()>
-    ensures { Prints result (string_bytes w.new) (unhandled (shape found.now) (string_bytes w.old)) }
+    ensures { Prints result (string_bytes w.new)
+        (unhandled (shape found.now) (string_bytes w.old)) }
 {
     emit(w, "unhandled type /* ")?;
     emit(w, form_name(found))?;
@@ -186,8 +204,12 @@ fn id_form_name(found: &IdData<'_>) -> &'static str
 }
 
 /// Appends what stands for an id that has no text of its own.
+///
+/// # Errors
+/// `OutOfMemory`.
 pub fn emit_unhandled_id(w: &mut String, found: &IdData<'_>) -> Result<()>
-    ensures { Prints result (string_bytes w.new) (unhandled_id (id_shape found.now) (string_bytes w.old)) }
+    ensures { Prints result (string_bytes w.new)
+        (unhandled_id (id_shape found.now) (string_bytes w.old)) }
 {
     emit(w, "<unhandled id scope ")?;
     emit(w, id_form_name(found))?;
@@ -224,7 +246,7 @@ fn is_number(digits: &[u8]) -> bool
     !digits.is_empty()
 }
 
-/// The bytes without a plus at their front.
+/// The bytes without a plus at their beginning.
 fn without_plus(bytes: &[u8]) -> &[u8]
     ensures { result.now ≡ without_plus bytes.now }
 {
@@ -242,6 +264,9 @@ fn is_anonymous_namespace(name: &[u8]) -> bool
 }
 
 /// Appends the text of a string.
+///
+/// # Errors
+/// `OutOfMemory`.
 pub fn emit_string(w: &mut String, name: &str) -> Result<()>
     ensures { Prints result (string_bytes w.new) (say (string_text name.now) (string_bytes w.old)) }
 {

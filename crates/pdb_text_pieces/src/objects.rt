@@ -14,6 +14,9 @@ use pdb_resolving::stop::Result;
 const NO_MEMBER_FUNCTION_STATIC: u32 = 2;
 
 /// Appends `static ` for a method without a pointer to its object, where no flag leaves it out.
+///
+/// # Errors
+/// `OutOfMemory`.
 pub fn emit_static(w: &mut String, flags: u32, this: Option<TypeIndex>) -> Result<()>
     ensures { Prints result (string_bytes w.new) (static_word flags this (string_bytes w.old)) }
 {
@@ -24,8 +27,13 @@ pub fn emit_static(w: &mut String, flags: u32, this: Option<TypeIndex>) -> Resul
 }
 
 /// Appends what says that a method's object is constant, if it is.
+///
+/// # Errors
+/// `OutOfMemory`.
 pub fn emit_constant_object(w: &mut String, is_constant: bool) -> Result<()>
-    ensures { Prints result (string_bytes w.new) (if is_constant then say (codes " const") (string_bytes w.old) else Done (string_bytes w.old)) }
+    ensures { Prints result (string_bytes w.new)
+        (if is_constant then say (codes " const") (string_bytes w.old)
+        else Done (string_bytes w.old)) }
 {
     if is_constant {
         return emit(w, " const");
@@ -33,8 +41,9 @@ pub fn emit_constant_object(w: &mut String, is_constant: bool) -> Result<()>
     Ok(())
 }
 
-/// Whether a method's object is constant, by the type to which the pointer to it leads, which isn't the class itself; and the
-/// pointer as an extra first argument, where that type is no Modifier of the class.
+/// Whether a method's object is constant, by the type to which the pointer to it leads, which isn't
+/// the class itself; and the pointer as an extra first argument, where that type is no Modifier of
+/// the class.
 pub fn this_behind(
     class: TypeIndex,
     this: TypeIndex,

@@ -1,4 +1,4 @@
-//! The indices on the way to a type or an id.
+//! The path of indices to a type or an id.
 
 ghost use Rattle.std.specs.Prelude.{◌≡◌, ◌≤◌, ◌==◌, ◌-◌, length, take};
 ghost use Rattle.std.specs.List.{list_any};
@@ -45,7 +45,8 @@ pub(crate) fn enter(path: &mut Vec<u32>, index: u32) -> Result<()>
     Ok(())
 }
 
-/// A level of indices on a path: what was inserted at this level is taken back when the level is dropped.
+/// A level of indices on a path: what was inserted at this level is taken back when the level is
+/// dropped.
 pub struct Seen<'a> {
     /// The path, with the indices of all levels.
     pub path: &'a mut Vec<u32>,
@@ -67,8 +68,8 @@ impl<'a> Seen<'a> {
     /// Puts an index on the path.
     ///
     /// # Errors
-    /// `CircularTypeDefinition` where it is on the path already, and where the path has 1,024 indices; `OutOfMemory`. The path
-    /// stays as it was.
+    /// `CircularTypeDefinition` where it is on the path already, and where the path has 1,024
+    /// indices; `OutOfMemory`. The path stays as it was.
     pub fn insert(&mut self, index: u32) -> Result<()>
         ensures same_reference { self.new.path.ghost_name ≡ self.old.path.ghost_name }
         ensures level { self.new.level ≡ self.old.level }

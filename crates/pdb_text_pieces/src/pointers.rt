@@ -1,8 +1,10 @@
-//! Pointers behind the text of what they lead to.
+//! Pointers after the text of what they point to.
 
 ghost use Rattle.std.specs.Prelude.{◌≡◌, ◌++◌, reverse, string_bytes};
 ghost use Rattle.pdb_text_pieces.specs.Printed.{Prints, say};
-ghost use Rattle.pdb_text_pieces.specs.Pointers.{level_of, leading_to, sigil, ends_in_sigil, target_text, space_text, pointer_text, pointers_text};
+ghost use Rattle.pdb_text_pieces.specs.Pointers.{level_of, leading_to, sigil, ends_in_sigil};
+ghost use Rattle.pdb_text_pieces.specs.Pointers.{target_text, space_text, pointer_text};
+ghost use Rattle.pdb_text_pieces.specs.Pointers.{pointers_text};
 
 use crate::text::emit;
 use pdb_records::{PointerMode, PointerType};
@@ -64,8 +66,8 @@ pub fn ends_in_sigil(text: &[u8]) -> bool
     }
 }
 
-/// Appends one pointer. A space may begin it where `may_space`; the sign of another one stands before it where
-/// `is_behind_sigil`.
+/// Appends one pointer. A space may begin it where `may_space`; the sign of another one stands
+/// before it where `is_behind_sigil`.
 fn emit_pointer(
     w: &mut String,
     flags: u32,
@@ -73,7 +75,8 @@ fn emit_pointer(
     is_behind_sigil: bool,
     pointer: PointerLevel,
 ) -> Result<()>
-    ensures { Prints result (string_bytes w.new) (say (pointer_text flags may_space is_behind_sigil pointer) (string_bytes w.old)) }
+    ensures { Prints result (string_bytes w.new)
+        (say (pointer_text flags may_space is_behind_sigil pointer) (string_bytes w.old)) }
 {
     if pointer.leads_to_constant {
         emit(w, if may_space { " const" } else { "const" })?;
@@ -91,6 +94,9 @@ fn emit_pointer(
 }
 
 /// Appends pointers, of which the first is the outermost, from the innermost one on.
+///
+/// # Errors
+/// `OutOfMemory`.
 pub fn emit_pointers(
     w: &mut String,
     flags: u32,
@@ -98,7 +104,9 @@ pub fn emit_pointers(
     may_space: bool,
     is_behind_sigil: bool,
 ) -> Result<()>
-    ensures { Prints result (string_bytes w.new) (say (pointers_text flags may_space is_behind_sigil (reverse pointers.now)) (string_bytes w.old)) }
+    ensures { Prints result (string_bytes w.new)
+        (say (pointers_text flags may_space is_behind_sigil (reverse pointers.now))
+        (string_bytes w.old)) }
 {
     let mut may_space = may_space;
     let mut is_behind_sigil = is_behind_sigil;

@@ -2,12 +2,16 @@
 
 ghost use Rattle.std.specs.Prelude.{◌≡◌, ◌++◌, string_bytes};
 ghost use Rattle.pdb_resolving.specs.Fault.{fault_of};
-ghost use Rattle.pdb_text_pieces.specs.Printed.{Prints, PrintsUnread, say, unread, missing_type, unimplemented_kind};
+ghost use Rattle.pdb_text_pieces.specs.Printed.{Prints, PrintsUnread, say, unread, missing_type};
+ghost use Rattle.pdb_text_pieces.specs.Printed.{unimplemented_kind};
 
 use pdb_resolving::Error;
 use pdb_resolving::stop::{Result, Stop};
 
 /// Appends a text.
+///
+/// # Errors
+/// `OutOfMemory`.
 pub fn emit(w: &mut String, text: &str) -> Result<()>
     ensures { Prints result (string_bytes w.new) (say text.now (string_bytes w.old)) }
 {
@@ -16,6 +20,9 @@ pub fn emit(w: &mut String, text: &str) -> Result<()>
 }
 
 /// Appends that no type has the index.
+///
+/// # Errors
+/// `OutOfMemory`.
 pub fn emit_missing(w: &mut String, index: u32) -> Result<()>
     ensures { Prints result (string_bytes w.new) (say (missing_type index) (string_bytes w.old)) }
 {
@@ -25,14 +32,17 @@ pub fn emit_missing(w: &mut String, index: u32) -> Result<()>
 
 /// Appends that the leaf has no form.
 fn emit_unimplemented(w: &mut String, leaf: u16) -> Result<()>
-    ensures { Prints result (string_bytes w.new) (say (unimplemented_kind leaf) (string_bytes w.old)) }
+    ensures { Prints result (string_bytes w.new)
+        (say (unimplemented_kind leaf) (string_bytes w.old)) }
 {
     write!(w, "<unimplemented type kind 0x{leaf:x}>")?;
     Ok(())
 }
 
-/// Appends what stands for a type or an id that can't be read; what else ended its reading it
-/// returns.
+/// Appends what stands for a type or an id that is missing, or whose leaf has no form.
+///
+/// # Errors
+/// Any other cause that ended the reading is returned as it is; `OutOfMemory`.
 pub fn emit_unread(w: &mut String, stop: Stop) -> Result<()>
     ensures { PrintsUnread stop result (string_bytes w.new) (string_bytes w.old) }
 {

@@ -1,4 +1,4 @@
-//! Words that stand before, between and behind types, and the type that a function returns.
+//! Words before, between and after types, and the type that a function returns.
 
 ghost use Rattle.std.specs.Prelude.{◌≡◌, ◌++◌, codes, string_bytes, if◌then◌else◌};
 ghost use Rattle.pdb_text_pieces.specs.Printed.{Done, Prints, say};
@@ -13,13 +13,20 @@ use pdb_resolving::stop::Result;
 const NO_FUNCTION_RETURN: u32 = 1;
 
 /// Appends what stands for the name in a method's type on its own.
+///
+/// # Errors
+/// `OutOfMemory`.
 pub fn emit_bare_method(w: &mut String) -> Result<()>
     ensures { Prints result (string_bytes w.new) (say (codes "()") (string_bytes w.old)) }
 {
     emit(w, "()")
 }
 
-/// Appends what stands for the name in a function's type on its own, and the bracket before its arguments.
+/// Appends what stands for the name in a function's type on its own, and the bracket before its
+/// arguments.
+///
+/// # Errors
+/// `OutOfMemory`.
 pub fn emit_bare_function(w: &mut String) -> Result<()>
     ensures { Prints result (string_bytes w.new) (say (codes "()(") (string_bytes w.old)) }
 {
@@ -27,8 +34,13 @@ pub fn emit_bare_function(w: &mut String) -> Result<()>
 }
 
 /// Appends what says that a type is constant, if it is.
+///
+/// # Errors
+/// `OutOfMemory`.
 pub fn emit_constant(w: &mut String, is_constant: bool) -> Result<()>
-    ensures { Prints result (string_bytes w.new) (if is_constant then say (codes "const ") (string_bytes w.old) else Done (string_bytes w.old)) }
+    ensures { Prints result (string_bytes w.new)
+        (if is_constant then say (codes "const ") (string_bytes w.old)
+        else Done (string_bytes w.old)) }
 {
     if is_constant {
         return emit(w, "const ");
@@ -36,7 +48,10 @@ pub fn emit_constant(w: &mut String, is_constant: bool) -> Result<()>
     Ok(())
 }
 
-/// Appends what stands behind a class or a scope, before the name of what it holds.
+/// Appends what stands after a class or a scope, before the name of what it holds.
+///
+/// # Errors
+/// `OutOfMemory`.
 pub fn emit_scope_end(w: &mut String) -> Result<()>
     ensures { Prints result (string_bytes w.new) (say (codes "::") (string_bytes w.old)) }
 {
@@ -44,14 +59,17 @@ pub fn emit_scope_end(w: &mut String) -> Result<()>
 }
 
 /// Appends what stands between two strings of a list: it ends the one and begins the other.
+///
+/// # Errors
+/// `OutOfMemory`.
 pub fn emit_between_strings(w: &mut String) -> Result<()>
     ensures { Prints result (string_bytes w.new) (say (codes "\" \"") (string_bytes w.old)) }
 {
     emit(w, "\" \"")
 }
 
-/// The type with which a function's text begins: none for a constructor, and none where a flag leaves it out, which it doesn't
-/// behind pointers.
+/// The type with which a function's text begins. It is none for a constructor, and where a flag
+/// leaves it out. The flag doesn't apply to a function that pointers point to.
 pub fn shown_return(
     flags: u32,
     index: Option<TypeIndex>,

@@ -11,16 +11,21 @@ use Rattle.pdb_text_pieces.specs.Returns.{shown_return}
 use Rattle.pdb_type_printing.specs.Env.{Env}
 use Rattle.pdb_type_printing.specs.Types.{Visit, shown_text, returned, returned_unless}
 
-by_cases : (visit : Visit) (path : Path) (t : Option TypeIndex) (attributes : FunctionAttributes) (w : Text) (flag constructor : Bool) → constructs attributes ≡ constructor
-    → cond flag (Done w) (returned visit path t attributes w) ≡ shown_text visit path (cond ((flag && true) || constructor) None t) w
+by_cases : (visit : Visit) (path : Path) (t : Option TypeIndex) (attributes : FunctionAttributes)
+    (w : Text) (flag constructor : Bool) → constructs attributes ≡ constructor
+    → cond flag (Done w) (returned visit path t attributes w)
+    ≡ shown_text visit path (cond ((flag && true) || constructor) None t) w
 by_cases visit path t attributes w true constructor is = refl
 by_cases visit path None attributes w false true is = refl
 by_cases visit path None attributes w false false is = refl
 by_cases visit path (Some t) attributes w false true is = rw is refl
 by_cases visit path (Some t) attributes w false false is = rw is refl
 
-behind_by_cases : (visit : Visit) (path : Path) (t : Option TypeIndex) (attributes : FunctionAttributes) (w : Text) (flag constructor : Bool) → constructs attributes ≡ constructor
-    → returned visit path t attributes w ≡ shown_text visit path (cond ((flag && false) || constructor) None t) w
+behind_by_cases : (visit : Visit) (path : Path) (t : Option TypeIndex)
+    (attributes : FunctionAttributes) (w : Text) (flag constructor : Bool)
+    → constructs attributes ≡ constructor
+    → returned visit path t attributes w ≡ shown_text visit path
+    (cond ((flag && false) || constructor) None t) w
 behind_by_cases visit path None attributes w true true is = refl
 behind_by_cases visit path None attributes w true false is = refl
 behind_by_cases visit path None attributes w false true is = refl
@@ -31,9 +36,15 @@ behind_by_cases visit path (Some t) attributes w false true is = rw is refl
 behind_by_cases visit path (Some t) attributes w false false is = rw is refl
 
 -- on its own
-pub shown_unless : (env : Env) (visit : Visit) (path : Path) (t : Option TypeIndex) (attributes : FunctionAttributes) (w : Text) → returned_unless env visit path t attributes w ≡ shown_text visit path (shown_return env.flags t attributes false) w
-shown_unless env visit path t attributes w = by_cases visit path t attributes w (has_bit env.flags 1) (constructs attributes) refl
+pub shown_unless : (env : Env) (visit : Visit) (path : Path) (t : Option TypeIndex)
+    (attributes : FunctionAttributes) (w : Text) → returned_unless env visit path t attributes w
+    ≡ shown_text visit path (shown_return env.flags t attributes false) w
+shown_unless env visit path t attributes w =
+    by_cases visit path t attributes w (has_bit env.flags 1) (constructs attributes) refl
 
--- behind pointers
-pub shown_behind : (flags : ℕ) (visit : Visit) (path : Path) (t : Option TypeIndex) (attributes : FunctionAttributes) (w : Text) → returned visit path t attributes w ≡ shown_text visit path (shown_return flags t attributes true) w
-shown_behind flags visit path t attributes w = behind_by_cases visit path t attributes w (has_bit flags 1) (constructs attributes) refl
+-- where pointers point to the function
+pub shown_behind : (flags : ℕ) (visit : Visit) (path : Path) (t : Option TypeIndex)
+    (attributes : FunctionAttributes) (w : Text) → returned visit path t attributes w
+    ≡ shown_text visit path (shown_return flags t attributes true) w
+shown_behind flags visit path t attributes w =
+    behind_by_cases visit path t attributes w (has_bit flags 1) (constructs attributes) refl

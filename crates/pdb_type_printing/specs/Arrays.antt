@@ -1,5 +1,6 @@
 -- Arrays of arrays.
-use Rattle.std.specs.Prelude.{ℕ, zero, suc, List, [], ◌∷◌, ◌++◌, Option, Some, None, Result, Ok, Err, if◌then◌else◌}
+use Rattle.std.specs.Prelude.{ℕ, zero, suc, List, [], ◌∷◌, ◌++◌, Option, Some, None, Result, Ok}
+use Rattle.std.specs.Prelude.{Err, if◌then◌else◌}
 use Rattle.pdb_container.specs.Fault.{◌>>=◌}
 use Rattle.pdb_indices.specs.declared.index.TypeIndex.{TypeIndex}
 use Rattle.pdb_records.specs.Forms as forms
@@ -10,7 +11,8 @@ use Rattle.pdb_text_pieces.specs.Brackets.{first_or_zero}
 use Rattle.pdb_text_pieces.specs.Paths.{Path, is_on}
 use Rattle.pdb_type_printing.specs.Env.{Env}
 
--- arrays of arrays: the first dimension of each, the outer first, the innermost element's index, and what that is
+-- arrays of arrays: the first dimension of each, the outer first, the innermost element's index,
+-- and what that is
 pub record Elements : Type 0 where
   pub dimensions : List ℕ
   pub index : ℕ
@@ -22,11 +24,13 @@ array_step (Plain (forms.Array a)) = Some (first_or_zero a.dimensions, a.element
 array_step form = None
 
 -- what was read is the innermost element, or an array that leads further
-abbrev pub elements_behind : (ℕ → ℕ → Result Elements Cause) → Elements → Option (ℕ × TypeIndex) → Result Elements Cause
+abbrev pub elements_behind : (ℕ → ℕ → Result Elements Cause) → Elements → Option (ℕ × TypeIndex)
+    → Result Elements Cause
 elements_behind further here None = Ok here
 elements_behind further here (Some array) = further array.0 array.1.0
 
--- from an array's element down to what is no array, with the elements passed so far and the dimensions so far
+-- from an array's element down to what is no array, with the elements passed so far and the
+-- dimensions so far
 unfoldable pub elements_from : Env → ℕ → Path → List ℕ → ℕ → Result Elements Cause
 elements_from env zero passed dimensions i = Err (ByFault (CircularTypeDefinition i))
 elements_from env (suc left) passed dimensions i =

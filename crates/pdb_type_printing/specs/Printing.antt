@@ -12,7 +12,7 @@ pub record Formatting (P : Type 0) : Type 0 where
   pub reading : Reading P
   pub flags : ℕ
 
--- what texts are made of in the module of a number
+-- what texts are made of in the module with that index
 abbrev pub env_of : {P : Type 0} → (P → Provided) → Formatting P → ℕ → Env
 env_of provided f asking = record {
   read = type_at (parts_by provided f.reading) asking;
@@ -21,6 +21,6 @@ env_of provided f asking = record {
   flags = f.flags;
 }
 
--- the same, with one more table of a module that stands as failed
+-- what a formatter stores, with one more table of a module stored as failed
 abbrev pub with_failed : {P : Type 0} → Formatting P → Table → Formatting P
 with_failed f table = record f { reading = reading_with_failed f.reading table }

@@ -1,4 +1,4 @@
--- The pointer by which a method is told its object.
+-- The pointer by which a method receives its object.
 use Rattle.std.specs.Prelude.{false, Option, Some, None, Result, Ok, if◌then◌else◌, ◌==◌}
 use Rattle.pdb_container.specs.Fault.{◌>>=◌}
 use Rattle.pdb_indices.specs.declared.index.TypeIndex.{TypeIndex}
@@ -10,7 +10,9 @@ use Rattle.pdb_type_printing.specs.Env.{Env}
 
 -- a pointer that leads to the class is plain; else what it leads to is read
 abbrev pub this_to : Env → TypeIndex → TypeIndex → TypeIndex → Result This Cause
-this_to env class this target = if target.0 == class.0 then Ok (false, None) else (env.read target.0 >>= λ form. Ok (this_to_modified class this form))
+this_to env class this target =
+    if target.0 == class.0 then Ok (false, None)
+    else (env.read target.0 >>= λ form. Ok (this_to_modified class this form))
 
 -- what isn't a pointer isn't plain
 abbrev pub this_as : Env → TypeIndex → TypeIndex → TypeForm → Result This Cause

@@ -1,5 +1,6 @@
 -- The text of a type, as a table of cases.
-use Rattle.std.specs.Prelude.{ℕ, zero, suc, Bool, true, false, ◌&&◌, not, List, [], ◌∷◌, ◌++◌, reverse, codes, Option, Some, None, if◌then◌else◌}
+use Rattle.std.specs.Prelude.{ℕ, zero, suc, Bool, true, false, ◌&&◌, not, List, [], ◌∷◌, ◌++◌}
+use Rattle.std.specs.Prelude.{reverse, codes, Option, Some, None, if◌then◌else◌}
 use Rattle.pdb_indices.specs.Bits.{has_bit}
 use Rattle.pdb_indices.specs.declared.index.TypeIndex.{TypeIndex}
 use Rattle.pdb_records.specs.declared.type_attributes.FunctionAttributes.{FunctionAttributes}
@@ -10,7 +11,8 @@ use Rattle.pdb_records.specs.Forms.{TypeForm, Plain}
 use Rattle.pdb_resolving.specs.Cause.{ByFault}
 use Rattle.pdb_resolving.specs.Fault.{ArgumentTypeNotArgumentList, CircularTypeDefinition}
 use Rattle.pdb_text_pieces.specs.declared.pointers.PointerLevel.{PointerLevel}
-use Rattle.pdb_text_pieces.specs.Printed.{Text, Printed, Done, Stopped, ◌>>=◌, say, unread, caught, read_or}
+use Rattle.pdb_text_pieces.specs.Printed.{Text, Printed, Done, Stopped, ◌>>=◌, say, unread, caught}
+use Rattle.pdb_text_pieces.specs.Printed.{read_or}
 use Rattle.pdb_type_printing.specs.Env.{Env}
 use Rattle.pdb_text_pieces.specs.Paths.{Path, is_on, room}
 use Rattle.pdb_text_pieces.specs.Names.{primitive_text, class_word, named}
@@ -28,11 +30,12 @@ pub data Task : Type 0 where
   Whole : Task
   -- what pointers lead to: those before the last one, the outermost first, and the last one
   PointedTo : List PointerLevel → PointerLevel → Task
-  -- the same behind a Modifier
+  -- what pointers point to, through a Modifier
   PointedModified : List PointerLevel → PointerLevel → Task
   -- what a Modifier makes constant, or not
   Modified : (constant : Bool) → Task
-  -- the arguments of a method, in brackets: its class, its pointer to the object, and whether it is said that the object is constant
+  -- the arguments of a method, in brackets: its class, its pointer to the object, and whether it is
+  -- said that the object is constant
   MethodArguments : TypeIndex → Option TypeIndex → (says_constant : Bool) → Task
 
 -- how an index is printed for a task: the path so far, the index, the text so far
@@ -49,11 +52,16 @@ shown_text visit path (Some t) w = visit Whole path t.0 w >>= say (codes " ")
 -- the type that a function returns, and a space; nothing for a constructor
 abbrev pub returned : Visit → Path → Option TypeIndex → FunctionAttributes → Text → Printed
 returned visit path None attributes w = Done w
-returned visit path (Some t) attributes w = if constructs attributes then Done w else (visit Whole path t.0 w >>= say (codes " "))
+returned visit path (Some t) attributes w =
+    if constructs attributes then Done w
+    else (visit Whole path t.0 w >>= say (codes " "))
 
--- the same where flag 1 doesn't leave it out
-abbrev pub returned_unless : Env → Visit → Path → Option TypeIndex → FunctionAttributes → Text → Printed
-returned_unless env visit path t attributes w = if has_bit env.flags 1 then Done w else returned visit path t attributes w
+-- the type that a function returns, and a space, where flag 1 doesn't leave it out
+abbrev pub returned_unless : Env → Visit → Path → Option TypeIndex → FunctionAttributes
+    → Text → Printed
+returned_unless env visit path t attributes w =
+    if has_bit env.flags 1 then Done w
+    else returned visit path t attributes w
 
 -- further arguments
 abbrev pub more_arguments : Env → Visit → Path → List TypeIndex → Text → Printed
@@ -86,7 +94,9 @@ in_brackets env visit path says_constant ts this w = do
 -- the arguments of a method, which flag 32 leaves out
 abbrev pub method_arguments : Env → Visit → Path → MemberFunctionType → Bool → Text → Printed
 method_arguments env visit path t says_constant w =
-    if has_bit env.flags 32 then Done w else visit (MethodArguments t.class_type t.this_pointer_type says_constant) path t.argument_list.0 w
+    if has_bit env.flags 32 then Done w
+    else visit (MethodArguments t.class_type t.this_pointer_type says_constant) path
+    t.argument_list.0 w
 
 -- ---- a record on its own
 
@@ -96,7 +106,8 @@ plain_text env visit path (Plain (forms.Primitive t)) w = say (primitive_text en
 plain_text env visit path (Plain (forms.Class t)) w = named env.flags (class_word t.kind) t.name w
 plain_text env visit path (Plain (forms.Union t)) w = named env.flags (codes "union ") t.name w
 plain_text env visit path (Plain (forms.Enumeration t)) w = named env.flags (codes "enum ") t.name w
-plain_text env visit path (Plain (forms.Enumerate t)) w = named env.flags (codes "enum class ") t.name w
+plain_text env visit path (Plain (forms.Enumerate t)) w =
+    named env.flags (codes "enum class ") t.name w
 plain_text env visit path (Plain (forms.MemberFunction t)) w = do
   w ← returned_unless env visit path (Some t.return_type) t.attributes w
   w ← say (codes "()") w
@@ -106,8 +117,10 @@ plain_text env visit path (Plain (forms.Procedure t)) w = do
   w ← say (codes "()(") w
   visit Whole path t.argument_list.0 w
 plain_text env visit path (Plain (forms.ArgumentList ts)) w = arguments env visit path ts w
-plain_text env visit path (Plain (forms.Modifier m)) w = visit (Modified m.constant) path m.underlying_type.0 w
-plain_text env visit path (Plain (forms.Pointer p)) w = visit (PointedTo [] (level_of false p)) path p.underlying_type.0 w
+plain_text env visit path (Plain (forms.Modifier m)) w =
+    visit (Modified m.constant) path m.underlying_type.0 w
+plain_text env visit path (Plain (forms.Pointer p)) w =
+    visit (PointedTo [] (level_of false p)) path p.underlying_type.0 w
 plain_text env visit path form w = unhandled form w
 
 -- arrays: the innermost element, and then the brackets
@@ -118,10 +131,12 @@ array_text env visit path elements w = do
 
 -- a record
 abbrev pub record_text : Env → Visit → Path → TypeForm → Text → Printed
-record_text env visit path (Plain (forms.Array a)) w = read_or (λ e. Stopped e w) (elements_of env a) (λ elements. array_text env visit path elements w)
+record_text env visit path (Plain (forms.Array a)) w =
+    read_or (λ e. Stopped e w) (elements_of env a)
+    (λ elements. array_text env visit path elements w)
 record_text env visit path form w = plain_text env visit path form w
 
--- ---- a record behind pointers
+-- ---- a record that pointers point to
 
 -- what pointers lead to, with the pointers: the outermost is the first of them
 abbrev pub pointed_text : Env → Visit → Path → List PointerLevel → TypeForm → Text → Printed
@@ -145,7 +160,7 @@ pointed_text env visit path pointers form w = do
 
 -- ---- a record by what it was read for
 
--- another record than a pointer or a type without a record, behind a Modifier
+-- another record than a pointer or a type without a record, under a Modifier
 abbrev pub modified_text : Env → Visit → Path → Bool → TypeForm → Text → Printed
 modified_text env visit path constant form w = do
   w ← (if constant then say (codes "const ") w else Done w)
@@ -154,30 +169,45 @@ modified_text env visit path constant form w = do
 -- the text of a record whose index is on the path, by what it was read for
 abbrev pub visited : Env → Visit → Task → Path → TypeForm → Text → Printed
 visited env visit Whole path form w = caught (record_text env visit path form w)
-visited env visit (PointedTo before p) path (Plain (forms.Pointer t)) w = visit (PointedTo (before ++ p ∷ []) (level_of false t)) path t.underlying_type.0 w
-visited env visit (PointedTo before p) path (Plain (forms.Modifier m)) w = visit (PointedModified before (leading_to m.constant p)) path m.underlying_type.0 w
-visited env visit (PointedTo before p) path form w = pointed_text env visit path (before ++ p ∷ []) form w
-visited env visit (PointedModified before p) path (Plain (forms.Pointer t)) w = visit (PointedTo (before ++ p ∷ []) (level_of false t)) path t.underlying_type.0 w
-visited env visit (PointedModified before p) path form w = pointed_text env visit path (before ++ p ∷ []) form w
-visited env visit (Modified constant) path (Plain (forms.Pointer t)) w = visit (PointedTo [] (level_of constant t)) path t.underlying_type.0 w
-visited env visit (Modified constant) path (Plain (forms.Primitive t)) w = say (primitive_text env.flags constant t) w
+visited env visit (PointedTo before p) path (Plain (forms.Pointer t)) w =
+    visit (PointedTo (before ++ p ∷ []) (level_of false t)) path t.underlying_type.0 w
+visited env visit (PointedTo before p) path (Plain (forms.Modifier m)) w =
+    visit (PointedModified before (leading_to m.constant p)) path m.underlying_type.0 w
+visited env visit (PointedTo before p) path form w =
+    pointed_text env visit path (before ++ p ∷ []) form w
+visited env visit (PointedModified before p) path (Plain (forms.Pointer t)) w =
+    visit (PointedTo (before ++ p ∷ []) (level_of false t)) path t.underlying_type.0 w
+visited env visit (PointedModified before p) path form w =
+    pointed_text env visit path (before ++ p ∷ []) form w
+visited env visit (Modified constant) path (Plain (forms.Pointer t)) w =
+    visit (PointedTo [] (level_of constant t)) path t.underlying_type.0 w
+visited env visit (Modified constant) path (Plain (forms.Primitive t)) w =
+    say (primitive_text env.flags constant t) w
 visited env visit (Modified constant) path form w = modified_text env visit path constant form w
-visited env visit (MethodArguments class this says_constant) path (Plain (forms.ArgumentList ts)) w =
-    read_or (λ e. Stopped e w) (this_of env class this) (λ this. in_brackets env visit path says_constant ts this w)
-visited env visit (MethodArguments class this says_constant) path form w = Stopped (ByFault ArgumentTypeNotArgumentList) w
+visited env visit (MethodArguments class this says_constant) path
+    (Plain (forms.ArgumentList ts)) w =
+    read_or (λ e. Stopped e w) (this_of env class this)
+    (λ this. in_brackets env visit path says_constant ts this w)
+visited env visit (MethodArguments class this says_constant) path form w =
+    Stopped (ByFault ArgumentTypeNotArgumentList) w
 
 -- ---- an index
 
--- An index and its record: a type on its own is read before it goes on the path, and has a text where it can't be read; every other index
--- goes on the path before it is read.
+-- An index and its record: a type on its own is read before it goes on the path, and has a text
+-- where it can't be read; every other index goes on the path before it is read.
 abbrev pub entering : Env → Bool → Task → ℕ → Text → (TypeForm → Printed) → Printed
-entering env free Whole i w more = read_or (λ e. unread e w) (env.read i) (λ form. if free then more form else Stopped (ByFault (CircularTypeDefinition i)) w)
-entering env free task i w more = if free then read_or (λ e. Stopped e w) (env.read i) more else Stopped (ByFault (CircularTypeDefinition i)) w
+entering env free Whole i w more = read_or (λ e. unread e w) (env.read i)
+    (λ form. if free then more form else Stopped (ByFault (CircularTypeDefinition i)) w)
+entering env free task i w more =
+    if free then read_or (λ e. Stopped e w) (env.read i) more
+    else Stopped (ByFault (CircularTypeDefinition i)) w
 
--- an index with room for so many more on the path
+-- an index with room for that many more on the path
 unfoldable pub visit : Env → ℕ → Visit
-visit env zero task path i w = entering env false task i w (λ form. Stopped (ByFault (CircularTypeDefinition i)) w)
-visit env (suc left) task path i w = entering env (not (is_on path i)) task i w (λ form. visited env (visit env left) task (path ++ i ∷ []) form w)
+visit env zero task path i w = entering env false task i w
+    (λ form. Stopped (ByFault (CircularTypeDefinition i)) w)
+visit env (suc left) task path i w = entering env (not (is_on path i)) task i w
+    (λ form. visited env (visit env left) task (path ++ i ∷ []) form w)
 
 -- an index as its path leaves room, which ends at 1,024 indices
 abbrev pub visiting : Env → Path → Visit
@@ -185,4 +215,5 @@ visiting env path = visit env (room path)
 
 -- the text of an index that is on the path already
 abbrev pub inside_text : Env → Task → Path → ℕ → Text → Printed
-inside_text env task path i w = read_or (λ e. Stopped e w) (env.read i) (λ form. visited env (visiting env path) task path form w)
+inside_text env task path i w = read_or (λ e. Stopped e w) (env.read i)
+    (λ form. visited env (visiting env path) task path form w)

@@ -1,4 +1,4 @@
-//! What prints types: the texts of types on their own, with what stands before and behind them.
+//! Printing types: the texts of types on their own, with what stands before and after them.
 #![tactic(auto)]
 
 mod asker;

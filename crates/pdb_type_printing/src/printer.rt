@@ -64,7 +64,10 @@ impl<'a, 's, P: ModuleProvider> TypePrinter<'a, 's, P> {
         self.reader.modules()
     }
 
-    /// As [`ItemReader::keep_failed`].
+    /// Stores a module's table as failed. Nothing changes when memory runs out.
+    ///
+    /// # Errors
+    /// `AllocError` when memory runs out.
     pub fn keep_failed(&mut self, table: Table) -> std::result::Result<(), AllocError>
         ensures kept { OnOk result (self.new ≡ with_failed self.old table) }
         ensures same { OnErr result (self.new ≡ self.old) }
@@ -72,7 +75,10 @@ impl<'a, 's, P: ModuleProvider> TypePrinter<'a, 's, P> {
         self.reader.keep_failed(table)
     }
 
-    /// The type of an index.
+    /// The type with that index, as the module that asks names it.
+    ///
+    /// # Errors
+    /// Those of [`ItemReader::read_type`].
     pub fn read(&mut self, asker: Asker, index: TypeIndex) -> Result<TypeData<'a>>
         ensures same { self.new ≡ self.old }
         ensures value { Finds shape result
@@ -82,7 +88,10 @@ impl<'a, 's, P: ModuleProvider> TypePrinter<'a, 's, P> {
             .read_type(asker.alloc, asker.module_index, index)
     }
 
-    /// The id of an index.
+    /// The id with that index, as the module that asks names it.
+    ///
+    /// # Errors
+    /// Those of [`ItemReader::read_id`].
     pub fn read_id(&mut self, asker: Asker, index: IdIndex) -> Result<IdData<'a>>
         ensures same { self.new ≡ self.old }
         ensures value { Finds id_shape result
@@ -91,10 +100,14 @@ impl<'a, 's, P: ModuleProvider> TypePrinter<'a, 's, P> {
         self.reader.read_id(asker.alloc, asker.module_index, index)
     }
 
-    /// The size of the type of an index, in bytes.
+    /// The size in bytes of the type with that index, as the module that asks names it.
+    ///
+    /// # Errors
+    /// `OutOfMemory`, and no other.
     pub fn size(&mut self, asker: Asker, index: TypeIndex) -> pdb_resolving::Result<u64>
         ensures same { self.new ≡ self.old }
-        ensures value { Answers (λ n. n) result (Ok ((env_of P.provided self.old asker.module_index).size index.0)) }
+        ensures value { Answers (λ n. n) result
+            (Ok ((env_of P.provided self.old asker.module_index).size index.0)) }
     {
         self.reader.size(asker.alloc, asker.module_index, index)
     }
@@ -102,12 +115,16 @@ impl<'a, 's, P: ModuleProvider> TypePrinter<'a, 's, P> {
     /// The arrays that begin with this one, down to what is no array.
     ///
     /// # Errors
-    /// `CircularTypeDefinition` where an element comes again, and behind 1,024 elements; the fault of an element that can't be
-    /// read.
+    /// `CircularTypeDefinition` where an element comes again, and after 1,024 elements; the fault
+    /// of an element that can't be read.
     pub(crate) fn elements_of(&mut self, asker: Asker, array: &ArrayType) -> Result<Elements<'a>>
         ensures same { self.new ≡ self.old }
         ensures value { Finds
-            (λ e. record { dimensions = e.dimensions.items; index = e.index.0; form = shape e.found })
+            (λ e. record {
+              dimensions = e.dimensions.items;
+              index = e.index.0;
+              form = shape e.found;
+            })
             result
             (elements_of (env_of P.provided self.old asker.module_index) (array_form array.now)) }
     {
@@ -138,8 +155,9 @@ impl<'a, 's, P: ModuleProvider> TypePrinter<'a, 's, P> {
         Err(Stop::ByError(Error::CircularTypeDefinition(index.0)))
     }
 
-    /// Whether a method's object is constant, and the pointer to it as an extra first argument, where that isn't plainly one
-    /// to the class: the class itself or a Modifier of it. A static method has no such pointer.
+    /// Whether a method's object is constant, and the pointer to it as an extra first argument,
+    /// where that isn't plainly one to the class: the class itself or a Modifier of it. A static
+    /// method has no such pointer.
     pub(crate) fn this_of(
         &mut self,
         asker: Asker,
@@ -159,7 +177,7 @@ impl<'a, 's, P: ModuleProvider> TypePrinter<'a, 's, P> {
         }
     }
 
-    /// The same of a pointer, by the index to which it leads.
+    /// The pointer to a method's object, by the index that it points to.
     fn this_to(
         &mut self,
         asker: Asker,

@@ -1,6 +1,7 @@
 //! Types as text.
 
-ghost use Rattle.std.specs.Prelude.{◌≡◌, ◌≤◌, ◌==◌, ◌++◌, ◌∷◌, [], Some, length, string_bytes, if◌then◌else◌};
+ghost use Rattle.std.specs.Prelude.{◌≡◌, ◌≤◌, ◌==◌, ◌++◌, ◌∷◌, [], Some, length, string_bytes};
+ghost use Rattle.std.specs.Prelude.{if◌then◌else◌};
 ghost use Rattle.pdb_records.specs.Forms as forms;
 ghost use Rattle.pdb_records.specs.Forms.{Plain};
 ghost use Rattle.pdb_records.specs.Shapes.{shape, array_form};
@@ -9,7 +10,12 @@ ghost use Rattle.pdb_resolving.specs.Fault.{CircularTypeDefinition};
 ghost use Rattle.pdb_text_pieces.specs.Printed.{Prints, Stopped, caught, read_or};
 ghost use Rattle.pdb_text_pieces.specs.Paths.{may_enter};
 ghost use Rattle.pdb_type_printing.specs.Arrays.{elements_of};
-ghost use Rattle.pdb_type_printing.specs.Types.{Whole, Modified, PointedTo, PointedModified, MethodArguments, visiting, inside_text, shown_text, returned, returned_unless, arguments, more_arguments, with_extra, in_brackets, method_arguments, plain_text, array_text, record_text, modified_text, pointed_text};
+ghost use Rattle.pdb_type_printing.specs.Types.{Whole, Modified, PointedTo, PointedModified};
+ghost use Rattle.pdb_type_printing.specs.Types.{MethodArguments, visiting, inside_text, shown_text};
+ghost use Rattle.pdb_type_printing.specs.Types.{returned, returned_unless, arguments};
+ghost use Rattle.pdb_type_printing.specs.Types.{more_arguments, with_extra, in_brackets};
+ghost use Rattle.pdb_type_printing.specs.Types.{method_arguments, plain_text, array_text};
+ghost use Rattle.pdb_type_printing.specs.Types.{record_text, modified_text, pointed_text};
 ghost use Rattle.pdb_type_printing.specs.Printing.{env_of};
 
 use crate::asker::Asker;
@@ -26,7 +32,11 @@ use pdb_text_pieces::{
 };
 
 impl<'a, 's, P: ModuleProvider> TypePrinter<'a, 's, P> {
-    /// Appends a type on its own. What can't be read has a text of its own.
+    /// Appends a type on its own. A type that is missing, or whose leaf has no form, has a text of
+    /// its own.
+    ///
+    /// # Errors
+    /// `CircularTypeDefinition`, and any other fault of a type on the way; `OutOfMemory`.
     #[cycle(printing)]
     pub fn emit_type_index(
         &mut self,
@@ -40,7 +50,9 @@ impl<'a, 's, P: ModuleProvider> TypePrinter<'a, 's, P> {
         ensures same_reference { seen.new.path.ghost_name ≡ seen.old.path.ghost_name }
         ensures level { seen.new.level ≡ seen.old.level }
         ensures path { seen.new.path.now.items ≡ seen.old.path.now.items }
-        ensures text { Prints result (string_bytes w.new) ((visiting (env_of P.provided self.old asker.module_index) seen.old.path.now.items) Whole seen.old.path.now.items index.0 (string_bytes w.old)) }
+        ensures text { Prints result (string_bytes w.new)
+            ((visiting (env_of P.provided self.old asker.module_index) seen.old.path.now.items)
+            Whole seen.old.path.now.items index.0 (string_bytes w.old)) }
     {
         match self.read(asker, index) {
             Ok(found) => self.emit_entered(asker, w, index, &found, seen),
@@ -63,7 +75,14 @@ impl<'a, 's, P: ModuleProvider> TypePrinter<'a, 's, P> {
         ensures same_reference { seen.new.path.ghost_name ≡ seen.old.path.ghost_name }
         ensures level { seen.new.level ≡ seen.old.level }
         ensures path { seen.new.path.now.items ≡ seen.old.path.now.items }
-        ensures text { Prints result (string_bytes w.new) (if may_enter seen.old.path.now.items index.0 then caught (record_text (env_of P.provided self.old asker.module_index) (visiting (env_of P.provided self.old asker.module_index) (seen.old.path.now.items ++ index.0 ∷ [])) (seen.old.path.now.items ++ index.0 ∷ []) (shape found.now) (string_bytes w.old)) else Stopped (ByFault (CircularTypeDefinition index.0)) (string_bytes w.old)) }
+        ensures text { Prints result (string_bytes w.new)
+            (if may_enter seen.old.path.now.items index.0
+            then caught
+            (record_text (env_of P.provided self.old asker.module_index)
+            (visiting (env_of P.provided self.old asker.module_index)
+            (seen.old.path.now.items ++ index.0 ∷ [])) (seen.old.path.now.items ++ index.0 ∷ [])
+            (shape found.now) (string_bytes w.old))
+            else Stopped (ByFault (CircularTypeDefinition index.0)) (string_bytes w.old)) }
     {
         let mut level = Seen::new(&mut *seen.path);
         level.insert(index.0)?;
@@ -85,7 +104,11 @@ impl<'a, 's, P: ModuleProvider> TypePrinter<'a, 's, P> {
         ensures same_reference { seen.new.path.ghost_name ≡ seen.old.path.ghost_name }
         ensures level { seen.new.level ≡ seen.old.level }
         ensures path { seen.new.path.now.items ≡ seen.old.path.now.items }
-        ensures text { Prints result (string_bytes w.new) (caught (record_text (env_of P.provided self.old asker.module_index) (visiting (env_of P.provided self.old asker.module_index) seen.old.path.now.items) seen.old.path.now.items (shape found.now) (string_bytes w.old))) }
+        ensures text { Prints result (string_bytes w.new)
+            (caught
+            (record_text (env_of P.provided self.old asker.module_index)
+            (visiting (env_of P.provided self.old asker.module_index) seen.old.path.now.items)
+            seen.old.path.now.items (shape found.now) (string_bytes w.old))) }
     {
         match self.emit_type_inner(asker, w, found, seen) {
             Err(Stop::ByError(Error::PdbError(pdb_container::Error::TypeNotFound(index)))) => {
@@ -109,7 +132,10 @@ impl<'a, 's, P: ModuleProvider> TypePrinter<'a, 's, P> {
         ensures same_reference { seen.new.path.ghost_name ≡ seen.old.path.ghost_name }
         ensures level { seen.new.level ≡ seen.old.level }
         ensures path { seen.new.path.now.items ≡ seen.old.path.now.items }
-        ensures text { Prints result (string_bytes w.new) (record_text (env_of P.provided self.old asker.module_index) (visiting (env_of P.provided self.old asker.module_index) seen.old.path.now.items) seen.old.path.now.items (shape found.now) (string_bytes w.old)) }
+        ensures text { Prints result (string_bytes w.new)
+            (record_text (env_of P.provided self.old asker.module_index)
+            (visiting (env_of P.provided self.old asker.module_index) seen.old.path.now.items)
+            seen.old.path.now.items (shape found.now) (string_bytes w.old)) }
     {
         match found {
             TypeData::Array(t) => self.emit_array(asker, w, t, seen),
@@ -131,7 +157,10 @@ impl<'a, 's, P: ModuleProvider> TypePrinter<'a, 's, P> {
         ensures same_reference { seen.new.path.ghost_name ≡ seen.old.path.ghost_name }
         ensures level { seen.new.level ≡ seen.old.level }
         ensures path { seen.new.path.now.items ≡ seen.old.path.now.items }
-        ensures text { Prints result (string_bytes w.new) (record_text (env_of P.provided self.old asker.module_index) (visiting (env_of P.provided self.old asker.module_index) seen.old.path.now.items) seen.old.path.now.items (Plain (forms.Array (array_form t.now))) (string_bytes w.old)) }
+        ensures text { Prints result (string_bytes w.new)
+            (record_text (env_of P.provided self.old asker.module_index)
+            (visiting (env_of P.provided self.old asker.module_index) seen.old.path.now.items)
+            seen.old.path.now.items (Plain (forms.Array (array_form t.now))) (string_bytes w.old)) }
     {
         let elements = self.elements_of(asker, t)?;
         self.emit_plain_caught(asker, w, &elements.found, seen)?;
@@ -154,7 +183,11 @@ impl<'a, 's, P: ModuleProvider> TypePrinter<'a, 's, P> {
         ensures same_reference { seen.new.path.ghost_name ≡ seen.old.path.ghost_name }
         ensures level { seen.new.level ≡ seen.old.level }
         ensures path { seen.new.path.now.items ≡ seen.old.path.now.items }
-        ensures text { Prints result (string_bytes w.new) (caught (plain_text (env_of P.provided self.old asker.module_index) (visiting (env_of P.provided self.old asker.module_index) seen.old.path.now.items) seen.old.path.now.items (shape found.now) (string_bytes w.old))) }
+        ensures text { Prints result (string_bytes w.new)
+            (caught
+            (plain_text (env_of P.provided self.old asker.module_index)
+            (visiting (env_of P.provided self.old asker.module_index) seen.old.path.now.items)
+            seen.old.path.now.items (shape found.now) (string_bytes w.old))) }
     {
         match self.emit_plain(asker, w, found, seen) {
             Err(Stop::ByError(Error::PdbError(pdb_container::Error::TypeNotFound(index)))) => {
@@ -178,7 +211,10 @@ impl<'a, 's, P: ModuleProvider> TypePrinter<'a, 's, P> {
         ensures same_reference { seen.new.path.ghost_name ≡ seen.old.path.ghost_name }
         ensures level { seen.new.level ≡ seen.old.level }
         ensures path { seen.new.path.now.items ≡ seen.old.path.now.items }
-        ensures text { Prints result (string_bytes w.new) (plain_text (env_of P.provided self.old asker.module_index) (visiting (env_of P.provided self.old asker.module_index) seen.old.path.now.items) seen.old.path.now.items (shape found.now) (string_bytes w.old)) }
+        ensures text { Prints result (string_bytes w.new)
+            (plain_text (env_of P.provided self.old asker.module_index)
+            (visiting (env_of P.provided self.old asker.module_index) seen.old.path.now.items)
+            seen.old.path.now.items (shape found.now) (string_bytes w.old)) }
     {
         match found {
             TypeData::Primitive(t) => emit_primitive(w, self.flags, *t, false),
@@ -221,7 +257,10 @@ impl<'a, 's, P: ModuleProvider> TypePrinter<'a, 's, P> {
         ensures same_reference { seen.new.path.ghost_name ≡ seen.old.path.ghost_name }
         ensures level { seen.new.level ≡ seen.old.level }
         ensures path { seen.new.path.now.items ≡ seen.old.path.now.items }
-        ensures text { Prints result (string_bytes w.new) (plain_text (env_of P.provided self.old asker.module_index) (visiting (env_of P.provided self.old asker.module_index) seen.old.path.now.items) seen.old.path.now.items (Plain (forms.MemberFunction t.now)) (string_bytes w.old)) }
+        ensures text { Prints result (string_bytes w.new)
+            (plain_text (env_of P.provided self.old asker.module_index)
+            (visiting (env_of P.provided self.old asker.module_index) seen.old.path.now.items)
+            seen.old.path.now.items (Plain (forms.MemberFunction t.now)) (string_bytes w.old)) }
     {
         self.maybe_emit_return_type(asker, w, Some(t.return_type), t.attributes, seen)?;
         emit_bare_method(w)?;
@@ -242,7 +281,10 @@ impl<'a, 's, P: ModuleProvider> TypePrinter<'a, 's, P> {
         ensures same_reference { seen.new.path.ghost_name ≡ seen.old.path.ghost_name }
         ensures level { seen.new.level ≡ seen.old.level }
         ensures path { seen.new.path.now.items ≡ seen.old.path.now.items }
-        ensures text { Prints result (string_bytes w.new) (plain_text (env_of P.provided self.old asker.module_index) (visiting (env_of P.provided self.old asker.module_index) seen.old.path.now.items) seen.old.path.now.items (Plain (forms.Procedure t.now)) (string_bytes w.old)) }
+        ensures text { Prints result (string_bytes w.new)
+            (plain_text (env_of P.provided self.old asker.module_index)
+            (visiting (env_of P.provided self.old asker.module_index) seen.old.path.now.items)
+            seen.old.path.now.items (Plain (forms.Procedure t.now)) (string_bytes w.old)) }
     {
         self.maybe_emit_return_type(asker, w, t.return_type, t.attributes, seen)?;
         emit_bare_function(w)?;
@@ -250,6 +292,9 @@ impl<'a, 's, P: ModuleProvider> TypePrinter<'a, 's, P> {
     }
 
     /// Appends the type that a function returns, and a space, where no flag leaves it out.
+    ///
+    /// # Errors
+    /// Those of [`TypePrinter::emit_type_index`].
     #[cycle(printing)]
     pub fn maybe_emit_return_type(
         &mut self,
@@ -264,13 +309,17 @@ impl<'a, 's, P: ModuleProvider> TypePrinter<'a, 's, P> {
         ensures same_reference { seen.new.path.ghost_name ≡ seen.old.path.ghost_name }
         ensures level { seen.new.level ≡ seen.old.level }
         ensures path { seen.new.path.now.items ≡ seen.old.path.now.items }
-        ensures text { Prints result (string_bytes w.new) (returned_unless (env_of P.provided self.old asker.module_index) (visiting (env_of P.provided self.old asker.module_index) seen.old.path.now.items) seen.old.path.now.items index attributes (string_bytes w.old)) }
+        ensures text { Prints result (string_bytes w.new)
+            (returned_unless (env_of P.provided self.old asker.module_index)
+            (visiting (env_of P.provided self.old asker.module_index) seen.old.path.now.items)
+            seen.old.path.now.items index attributes (string_bytes w.old)) }
     {
         let shown = shown_return(self.flags, index, attributes, false);
         self.emit_shown_return(asker, w, shown, seen)
     }
 
-    /// Appends the type that a function behind pointers returns, and a space; nothing for a constructor.
+    /// Appends the type that a function returns to which pointers point, and a space; nothing for a
+    /// constructor.
     #[cycle(printing)]
     fn emit_return_type(
         &mut self,
@@ -285,7 +334,10 @@ impl<'a, 's, P: ModuleProvider> TypePrinter<'a, 's, P> {
         ensures same_reference { seen.new.path.ghost_name ≡ seen.old.path.ghost_name }
         ensures level { seen.new.level ≡ seen.old.level }
         ensures path { seen.new.path.now.items ≡ seen.old.path.now.items }
-        ensures text { Prints result (string_bytes w.new) (returned (visiting (env_of P.provided self.old asker.module_index) seen.old.path.now.items) seen.old.path.now.items index attributes (string_bytes w.old)) }
+        ensures text { Prints result (string_bytes w.new)
+            (returned
+            (visiting (env_of P.provided self.old asker.module_index) seen.old.path.now.items)
+            seen.old.path.now.items index attributes (string_bytes w.old)) }
     {
         let shown = shown_return(self.flags, index, attributes, true);
         self.emit_shown_return(asker, w, shown, seen)
@@ -305,7 +357,9 @@ impl<'a, 's, P: ModuleProvider> TypePrinter<'a, 's, P> {
         ensures same_reference { seen.new.path.ghost_name ≡ seen.old.path.ghost_name }
         ensures level { seen.new.level ≡ seen.old.level }
         ensures path { seen.new.path.now.items ≡ seen.old.path.now.items }
-        ensures text { Prints result (string_bytes w.new) (shown_text (visiting (env_of P.provided self.old asker.module_index) seen.old.path.now.items) seen.old.path.now.items shown (string_bytes w.old)) }
+        ensures text { Prints result (string_bytes w.new)
+            (shown_text (visiting (env_of P.provided self.old asker.module_index)
+            seen.old.path.now.items) seen.old.path.now.items shown (string_bytes w.old)) }
     {
         let Some(index) = shown else {
             return Ok(());
@@ -328,7 +382,10 @@ impl<'a, 's, P: ModuleProvider> TypePrinter<'a, 's, P> {
         ensures same_reference { seen.new.path.ghost_name ≡ seen.old.path.ghost_name }
         ensures level { seen.new.level ≡ seen.old.level }
         ensures path { seen.new.path.now.items ≡ seen.old.path.now.items }
-        ensures text { Prints result (string_bytes w.new) (arguments (env_of P.provided self.old asker.module_index) (visiting (env_of P.provided self.old asker.module_index) seen.old.path.now.items) seen.old.path.now.items list.now (string_bytes w.old)) }
+        ensures text { Prints result (string_bytes w.new)
+            (arguments (env_of P.provided self.old asker.module_index)
+            (visiting (env_of P.provided self.old asker.module_index) seen.old.path.now.items)
+            seen.old.path.now.items list.now (string_bytes w.old)) }
     {
         let [first, more @ ..] = list else {
             return Ok(());
@@ -351,7 +408,10 @@ impl<'a, 's, P: ModuleProvider> TypePrinter<'a, 's, P> {
         ensures same_reference { seen.new.path.ghost_name ≡ seen.old.path.ghost_name }
         ensures level { seen.new.level ≡ seen.old.level }
         ensures path { seen.new.path.now.items ≡ seen.old.path.now.items }
-        ensures text { Prints result (string_bytes w.new) (more_arguments (env_of P.provided self.old asker.module_index) (visiting (env_of P.provided self.old asker.module_index) seen.old.path.now.items) seen.old.path.now.items list.now (string_bytes w.old)) }
+        ensures text { Prints result (string_bytes w.new)
+            (more_arguments (env_of P.provided self.old asker.module_index)
+            (visiting (env_of P.provided self.old asker.module_index) seen.old.path.now.items)
+            seen.old.path.now.items list.now (string_bytes w.old)) }
     {
         for index in list {
             emit_comma(w, self.flags)?;
@@ -375,7 +435,10 @@ impl<'a, 's, P: ModuleProvider> TypePrinter<'a, 's, P> {
         ensures same_reference { seen.new.path.ghost_name ≡ seen.old.path.ghost_name }
         ensures level { seen.new.level ≡ seen.old.level }
         ensures path { seen.new.path.now.items ≡ seen.old.path.now.items }
-        ensures text { Prints result (string_bytes w.new) (arguments (env_of P.provided self.old asker.module_index) (visiting (env_of P.provided self.old asker.module_index) seen.old.path.now.items) seen.old.path.now.items (with_extra extra list.now) (string_bytes w.old)) }
+        ensures text { Prints result (string_bytes w.new)
+            (arguments (env_of P.provided self.old asker.module_index)
+            (visiting (env_of P.provided self.old asker.module_index) seen.old.path.now.items)
+            seen.old.path.now.items (with_extra extra list.now) (string_bytes w.old)) }
     {
         let Some(first) = extra else {
             return self.emit_arguments(asker, w, list, seen);
@@ -385,6 +448,9 @@ impl<'a, 's, P: ModuleProvider> TypePrinter<'a, 's, P> {
     }
 
     /// Appends a method's arguments, in brackets, where no flag leaves them out.
+    ///
+    /// # Errors
+    /// Those of [`TypePrinter::emit_type_index`], and `ArgumentTypeNotArgumentList`.
     #[cycle(printing)]
     pub fn emit_method_arguments(
         &mut self,
@@ -399,7 +465,10 @@ impl<'a, 's, P: ModuleProvider> TypePrinter<'a, 's, P> {
         ensures same_reference { seen.new.path.ghost_name ≡ seen.old.path.ghost_name }
         ensures level { seen.new.level ≡ seen.old.level }
         ensures path { seen.new.path.now.items ≡ seen.old.path.now.items }
-        ensures text { Prints result (string_bytes w.new) (method_arguments (env_of P.provided self.old asker.module_index) (visiting (env_of P.provided self.old asker.module_index) seen.old.path.now.items) seen.old.path.now.items t.now says_constant (string_bytes w.old)) }
+        ensures text { Prints result (string_bytes w.new)
+            (method_arguments (env_of P.provided self.old asker.module_index)
+            (visiting (env_of P.provided self.old asker.module_index) seen.old.path.now.items)
+            seen.old.path.now.items t.now says_constant (string_bytes w.old)) }
     {
         if leaves_out_arguments(self.flags) {
             return Ok(());
@@ -422,14 +491,17 @@ impl<'a, 's, P: ModuleProvider> TypePrinter<'a, 's, P> {
         ensures same_reference { seen.new.path.ghost_name ≡ seen.old.path.ghost_name }
         ensures level { seen.new.level ≡ seen.old.level }
         ensures path { seen.new.path.now.items ≡ seen.old.path.now.items }
-        ensures text { Prints result (string_bytes w.new) ((visiting (env_of P.provided self.old asker.module_index) seen.old.path.now.items) (MethodArguments t.now.class_type t.now.this_pointer_type says_constant) seen.old.path.now.items t.now.argument_list.0 (string_bytes w.old)) }
+        ensures text { Prints result (string_bytes w.new)
+            ((visiting (env_of P.provided self.old asker.module_index) seen.old.path.now.items)
+            (MethodArguments t.now.class_type t.now.this_pointer_type says_constant)
+            seen.old.path.now.items t.now.argument_list.0 (string_bytes w.old)) }
     {
         let mut level = Seen::new(&mut *seen.path);
         level.insert(t.argument_list.0)?;
         self.emit_argument_list_inside(asker, w, t, says_constant, &mut level)
     }
 
-    /// The same once the argument list is on the path.
+    /// Appends what [`Self::emit_argument_list`] appends, once the argument list is on the path.
     #[cycle(printing)]
     #[tactic(auto, using(crate::proofs::Failing::fails_stops))]
     fn emit_argument_list_inside(
@@ -445,7 +517,10 @@ impl<'a, 's, P: ModuleProvider> TypePrinter<'a, 's, P> {
         ensures same_reference { seen.new.path.ghost_name ≡ seen.old.path.ghost_name }
         ensures level { seen.new.level ≡ seen.old.level }
         ensures path { seen.new.path.now.items ≡ seen.old.path.now.items }
-        ensures text { Prints result (string_bytes w.new) (inside_text (env_of P.provided self.old asker.module_index) (MethodArguments t.now.class_type t.now.this_pointer_type says_constant) seen.old.path.now.items t.now.argument_list.0 (string_bytes w.old)) }
+        ensures text { Prints result (string_bytes w.new)
+            (inside_text (env_of P.provided self.old asker.module_index)
+            (MethodArguments t.now.class_type t.now.this_pointer_type says_constant)
+            seen.old.path.now.items t.now.argument_list.0 (string_bytes w.old)) }
     {
         let TypeData::ArgumentList(list) = self.read(asker, t.argument_list)? else {
             return Err(Stop::ByError(Error::ArgumentTypeNotArgumentList));
@@ -454,7 +529,8 @@ impl<'a, 's, P: ModuleProvider> TypePrinter<'a, 's, P> {
         self.emit_in_brackets(asker, w, says_constant, &list.arguments, this, seen)
     }
 
-    /// Appends arguments in brackets, the extra one first if there is one, and that the object is constant.
+    /// Appends arguments in brackets, the extra one first if there is one, and that the object is
+    /// constant.
     #[cycle(printing)]
     fn emit_in_brackets(
         &mut self,
@@ -470,7 +546,10 @@ impl<'a, 's, P: ModuleProvider> TypePrinter<'a, 's, P> {
         ensures same_reference { seen.new.path.ghost_name ≡ seen.old.path.ghost_name }
         ensures level { seen.new.level ≡ seen.old.level }
         ensures path { seen.new.path.now.items ≡ seen.old.path.now.items }
-        ensures text { Prints result (string_bytes w.new) (in_brackets (env_of P.provided self.old asker.module_index) (visiting (env_of P.provided self.old asker.module_index) seen.old.path.now.items) seen.old.path.now.items says_constant list.now this (string_bytes w.old)) }
+        ensures text { Prints result (string_bytes w.new)
+            (in_brackets (env_of P.provided self.old asker.module_index)
+            (visiting (env_of P.provided self.old asker.module_index) seen.old.path.now.items)
+            seen.old.path.now.items says_constant list.now this (string_bytes w.old)) }
     {
         let (is_constant, extra) = this;
         emit(w, "(")?;
@@ -494,14 +573,16 @@ impl<'a, 's, P: ModuleProvider> TypePrinter<'a, 's, P> {
         ensures same_reference { seen.new.path.ghost_name ≡ seen.old.path.ghost_name }
         ensures level { seen.new.level ≡ seen.old.level }
         ensures path { seen.new.path.now.items ≡ seen.old.path.now.items }
-        ensures text { Prints result (string_bytes w.new) ((visiting (env_of P.provided self.old asker.module_index) seen.old.path.now.items) (Modified is_constant) seen.old.path.now.items index.0 (string_bytes w.old)) }
+        ensures text { Prints result (string_bytes w.new)
+            ((visiting (env_of P.provided self.old asker.module_index) seen.old.path.now.items)
+            (Modified is_constant) seen.old.path.now.items index.0 (string_bytes w.old)) }
     {
         let mut level = Seen::new(&mut *seen.path);
         level.insert(index.0)?;
         self.emit_modified_inside(asker, w, index, is_constant, &mut level)
     }
 
-    /// The same once its index is on the path.
+    /// Appends what [`Self::emit_modified`] appends, once its index is on the path.
     #[cycle(printing)]
     fn emit_modified_inside(
         &mut self,
@@ -516,7 +597,9 @@ impl<'a, 's, P: ModuleProvider> TypePrinter<'a, 's, P> {
         ensures same_reference { seen.new.path.ghost_name ≡ seen.old.path.ghost_name }
         ensures level { seen.new.level ≡ seen.old.level }
         ensures path { seen.new.path.now.items ≡ seen.old.path.now.items }
-        ensures text { Prints result (string_bytes w.new) (inside_text (env_of P.provided self.old asker.module_index) (Modified is_constant) seen.old.path.now.items index.0 (string_bytes w.old)) }
+        ensures text { Prints result (string_bytes w.new)
+            (inside_text (env_of P.provided self.old asker.module_index) (Modified is_constant)
+            seen.old.path.now.items index.0 (string_bytes w.old)) }
     {
         match self.read(asker, index)? {
             TypeData::Pointer(t) => {
@@ -535,7 +618,7 @@ impl<'a, 's, P: ModuleProvider> TypePrinter<'a, 's, P> {
         }
     }
 
-    /// Appends a type behind `const `, where it is constant.
+    /// Appends a type, with `const ` before it where it is constant.
     #[cycle(printing)]
     fn emit_modified_other(
         &mut self,
@@ -550,7 +633,10 @@ impl<'a, 's, P: ModuleProvider> TypePrinter<'a, 's, P> {
         ensures same_reference { seen.new.path.ghost_name ≡ seen.old.path.ghost_name }
         ensures level { seen.new.level ≡ seen.old.level }
         ensures path { seen.new.path.now.items ≡ seen.old.path.now.items }
-        ensures text { Prints result (string_bytes w.new) (modified_text (env_of P.provided self.old asker.module_index) (visiting (env_of P.provided self.old asker.module_index) seen.old.path.now.items) seen.old.path.now.items is_constant (shape found.now) (string_bytes w.old)) }
+        ensures text { Prints result (string_bytes w.new)
+            (modified_text (env_of P.provided self.old asker.module_index)
+            (visiting (env_of P.provided self.old asker.module_index) seen.old.path.now.items)
+            seen.old.path.now.items is_constant (shape found.now) (string_bytes w.old)) }
     {
         emit_constant(w, is_constant)?;
         self.emit_type(asker, w, found, seen)
@@ -572,14 +658,17 @@ impl<'a, 's, P: ModuleProvider> TypePrinter<'a, 's, P> {
         ensures same_reference { seen.new.path.ghost_name ≡ seen.old.path.ghost_name }
         ensures level { seen.new.level ≡ seen.old.level }
         ensures path { seen.new.path.now.items ≡ seen.old.path.now.items }
-        ensures text { Prints result (string_bytes w.new) ((visiting (env_of P.provided self.old asker.module_index) seen.old.path.now.items) (PointedTo before.old.items last) seen.old.path.now.items index.0 (string_bytes w.old)) }
+        ensures text { Prints result (string_bytes w.new)
+            ((visiting (env_of P.provided self.old asker.module_index) seen.old.path.now.items)
+            (PointedTo before.old.items last) seen.old.path.now.items index.0
+            (string_bytes w.old)) }
     {
         let mut level = Seen::new(&mut *seen.path);
         level.insert(index.0)?;
         self.emit_pointee_inside(asker, w, index, before, last, &mut level)
     }
 
-    /// The same once its index is on the path.
+    /// Appends what [`Self::emit_pointee`] appends, once its index is on the path.
     #[cycle(printing)]
     fn emit_pointee_inside(
         &mut self,
@@ -595,7 +684,10 @@ impl<'a, 's, P: ModuleProvider> TypePrinter<'a, 's, P> {
         ensures same_reference { seen.new.path.ghost_name ≡ seen.old.path.ghost_name }
         ensures level { seen.new.level ≡ seen.old.level }
         ensures path { seen.new.path.now.items ≡ seen.old.path.now.items }
-        ensures text { Prints result (string_bytes w.new) (inside_text (env_of P.provided self.old asker.module_index) (PointedTo before.old.items last) seen.old.path.now.items index.0 (string_bytes w.old)) }
+        ensures text { Prints result (string_bytes w.new)
+            (inside_text (env_of P.provided self.old asker.module_index)
+            (PointedTo before.old.items last) seen.old.path.now.items index.0
+            (string_bytes w.old)) }
     {
         match self.read(asker, index)? {
             TypeData::Pointer(t) => {
@@ -624,7 +716,8 @@ impl<'a, 's, P: ModuleProvider> TypePrinter<'a, 's, P> {
         }
     }
 
-    /// Appends what a Modifier is put on to which the last of some pointers leads, with all of them.
+    /// Appends what a Modifier is put on to which the last of some pointers leads, with all of
+    /// them.
     #[cycle(printing)]
     fn emit_pointee_modified(
         &mut self,
@@ -640,14 +733,17 @@ impl<'a, 's, P: ModuleProvider> TypePrinter<'a, 's, P> {
         ensures same_reference { seen.new.path.ghost_name ≡ seen.old.path.ghost_name }
         ensures level { seen.new.level ≡ seen.old.level }
         ensures path { seen.new.path.now.items ≡ seen.old.path.now.items }
-        ensures text { Prints result (string_bytes w.new) ((visiting (env_of P.provided self.old asker.module_index) seen.old.path.now.items) (PointedModified before.old.items last) seen.old.path.now.items index.0 (string_bytes w.old)) }
+        ensures text { Prints result (string_bytes w.new)
+            ((visiting (env_of P.provided self.old asker.module_index) seen.old.path.now.items)
+            (PointedModified before.old.items last) seen.old.path.now.items index.0
+            (string_bytes w.old)) }
     {
         let mut level = Seen::new(&mut *seen.path);
         level.insert(index.0)?;
         self.emit_pointee_modified_inside(asker, w, index, before, last, &mut level)
     }
 
-    /// The same once its index is on the path.
+    /// Appends what [`Self::emit_pointee_modified`] appends, once its index is on the path.
     #[cycle(printing)]
     fn emit_pointee_modified_inside(
         &mut self,
@@ -663,7 +759,10 @@ impl<'a, 's, P: ModuleProvider> TypePrinter<'a, 's, P> {
         ensures same_reference { seen.new.path.ghost_name ≡ seen.old.path.ghost_name }
         ensures level { seen.new.level ≡ seen.old.level }
         ensures path { seen.new.path.now.items ≡ seen.old.path.now.items }
-        ensures text { Prints result (string_bytes w.new) (inside_text (env_of P.provided self.old asker.module_index) (PointedModified before.old.items last) seen.old.path.now.items index.0 (string_bytes w.old)) }
+        ensures text { Prints result (string_bytes w.new)
+            (inside_text (env_of P.provided self.old asker.module_index)
+            (PointedModified before.old.items last) seen.old.path.now.items index.0
+            (string_bytes w.old)) }
     {
         let found = self.read(asker, index)?;
         before.push(last)?;
@@ -697,7 +796,10 @@ impl<'a, 's, P: ModuleProvider> TypePrinter<'a, 's, P> {
         ensures same_reference { seen.new.path.ghost_name ≡ seen.old.path.ghost_name }
         ensures level { seen.new.level ≡ seen.old.level }
         ensures path { seen.new.path.now.items ≡ seen.old.path.now.items }
-        ensures text { Prints result (string_bytes w.new) (pointed_text (env_of P.provided self.old asker.module_index) (visiting (env_of P.provided self.old asker.module_index) seen.old.path.now.items) seen.old.path.now.items pointers.now (shape found.now) (string_bytes w.old)) }
+        ensures text { Prints result (string_bytes w.new)
+            (pointed_text (env_of P.provided self.old asker.module_index)
+            (visiting (env_of P.provided self.old asker.module_index) seen.old.path.now.items)
+            seen.old.path.now.items pointers.now (shape found.now) (string_bytes w.old)) }
     {
         match found {
             TypeData::MemberFunction(t) => self.emit_member_pointer(asker, w, pointers, t, seen),
@@ -725,7 +827,11 @@ impl<'a, 's, P: ModuleProvider> TypePrinter<'a, 's, P> {
         ensures same_reference { seen.new.path.ghost_name ≡ seen.old.path.ghost_name }
         ensures level { seen.new.level ≡ seen.old.level }
         ensures path { seen.new.path.now.items ≡ seen.old.path.now.items }
-        ensures text { Prints result (string_bytes w.new) (pointed_text (env_of P.provided self.old asker.module_index) (visiting (env_of P.provided self.old asker.module_index) seen.old.path.now.items) seen.old.path.now.items pointers.now (Plain (forms.MemberFunction t.now)) (string_bytes w.old)) }
+        ensures text { Prints result (string_bytes w.new)
+            (pointed_text (env_of P.provided self.old asker.module_index)
+            (visiting (env_of P.provided self.old asker.module_index) seen.old.path.now.items)
+            seen.old.path.now.items pointers.now (Plain (forms.MemberFunction t.now))
+            (string_bytes w.old)) }
     {
         self.emit_return_type(asker, w, Some(t.return_type), t.attributes, seen)?;
         emit(w, "(")?;
@@ -750,7 +856,11 @@ impl<'a, 's, P: ModuleProvider> TypePrinter<'a, 's, P> {
         ensures same_reference { seen.new.path.ghost_name ≡ seen.old.path.ghost_name }
         ensures level { seen.new.level ≡ seen.old.level }
         ensures path { seen.new.path.now.items ≡ seen.old.path.now.items }
-        ensures text { Prints result (string_bytes w.new) (pointed_text (env_of P.provided self.old asker.module_index) (visiting (env_of P.provided self.old asker.module_index) seen.old.path.now.items) seen.old.path.now.items pointers.now (Plain (forms.Procedure t.now)) (string_bytes w.old)) }
+        ensures text { Prints result (string_bytes w.new)
+            (pointed_text (env_of P.provided self.old asker.module_index)
+            (visiting (env_of P.provided self.old asker.module_index) seen.old.path.now.items)
+            seen.old.path.now.items pointers.now (Plain (forms.Procedure t.now))
+            (string_bytes w.old)) }
     {
         self.emit_return_type(asker, w, t.return_type, t.attributes, seen)?;
         emit(w, "(")?;

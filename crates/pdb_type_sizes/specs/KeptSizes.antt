@@ -1,4 +1,4 @@
--- The sizes of forward references that a reader keeps.
+-- The sizes of forward references that a reader caches.
 use Rattle.std.specs.Prelude.{◌≡◌, ℕ, Bool, false, Some}
 use Rattle.std.specs.Ordering.{nat_cmp}
 use Rattle.std.specs.BTreeMap.{BTreeMap, get}
@@ -15,10 +15,12 @@ is_reference (Plain (forms.Class t)) = is_forward t.properties
 is_reference (Plain (forms.Union t)) = is_forward t.properties
 is_reference t = false
 
--- the size of the type that the table has at an index, however many bytes a pointer has and whatever the sizes of other types
+-- the size of the type that the table has at an index, however many bytes a pointer has and
+-- whatever the sizes of other types
 abbrev pub IsSize : Table → ℕ → ℕ → Type 0
-IsSize types index size = (pointer_size : ℕ) (of : ℕ → ℕ) → size ≡ read_bytes types pointer_size of index (type_in types index)
+IsSize types index size = (pointer_size : ℕ) (of : ℕ → ℕ)
+    → size ≡ read_bytes types pointer_size of index (type_in types index)
 
--- Each size that is kept is that of the type at its index.
+-- Each size that is cached is that of the type at its index.
 pub record AreSizes (types : Table) (sizes : BTreeMap ℕ ℕ) : Type 0 where
   pub each : (index size : ℕ) → get nat_cmp sizes index ≡ Some size → IsSize types index size

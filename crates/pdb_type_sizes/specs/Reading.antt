@@ -14,32 +14,33 @@ use Rattle.pdb_resolving.specs.Fault.{Fault, lifted}
 use Rattle.pdb_resolving.specs.Resolving.{Kept, Modules, Provided, modules_by, resolve}
 use Rattle.pdb_resolving.specs.Resolving.{with_failed as modules_with_failed}
 
--- what types and ids are read from: the modules, the tables of types and of ids, and how many bytes a pointer has
+-- what types and ids are read from: the modules, the tables of types and of ids, and how many bytes
+-- a pointer has
 pub record Parts : Type 0 where
   pub modules : Modules
   pub types : Table
   pub ids : Table
   pub pointer_size : ℕ
 
--- the type of an index in the table, by its record or, below 0x1000, by the index alone
+-- the type with that index in the table, by its record or, below 0x1000, by the index alone
 unfoldable pub type_in : Table → ℕ → Result TypeForm Fault
 type_in types index = do
   bytes ← lifted (item_at types index)
   lifted (type_of_item index bytes)
 
--- the id of an index in the table
+-- the id with that index in the table
 unfoldable pub id_in : Table → ℕ → Result IdForm Fault
 id_in ids index = do
   bytes ← lifted (item_at ids index)
   lifted (id_form_of bytes)
 
--- the type of an index as a module has it
+-- the type with that index as a module names it
 unfoldable pub type_at : Parts → ℕ → ℕ → Result TypeForm Cause
 type_at p asking index = do
   resolved ← resolve p.modules asking index
   of_no_table (type_in p.types resolved)
 
--- the id of an index as a module has it
+-- the id with that index as a module names it
 unfoldable pub id_at : Parts → ℕ → ℕ → Result IdForm Cause
 id_at p asking index = do
   resolved ← resolve p.modules asking index
@@ -54,19 +55,25 @@ pointer_bytes machines.RiscV64 = 8
 pointer_bytes machines.RiscV128 = 16
 pointer_bytes (machines.Other n) = 4
 
--- ---- parts as they are kept
+-- ---- parts as they are stored
 
--- what a reader of types and ids keeps
+-- what a reader of types and ids stores
 pub record Reading (P : Type 0) : Type 0 where
   pub modules : Kept P
   pub types : Table
   pub ids : Table
   pub pointer_size : ℕ
 
--- the same, by what the provider gives
+-- those parts, by what the provider gives
 abbrev pub parts_by : {P : Type 0} → (P → Provided) → Reading P → Parts
-parts_by provided r = record { modules = modules_by provided r.modules; types = r.types; ids = r.ids; pointer_size = r.pointer_size }
+parts_by provided r =
+    record {
+      modules = modules_by provided r.modules;
+      types = r.types;
+      ids = r.ids;
+      pointer_size = r.pointer_size;
+    }
 
--- what a reader keeps, with one more table of a module that stands as failed
+-- what a reader stores, with one more table of a module stored as failed
 abbrev pub with_failed : {P : Type 0} → Reading P → TableOfModule → Reading P
 with_failed r table = record r { modules = modules_with_failed r.modules table }

@@ -1,5 +1,7 @@
 -- Sizes of types in bytes.
-use Rattle.std.specs.Prelude.{ℕ, zero, suc, ◌+◌, ◌-◌, ◌&&◌, not, Bool, List, [], ◌∷◌, length, take, drop, slice_get, max, Option, None, Some, unwrap_or, Result, Ok, Err, if◌then◌else◌, bytes_eq}
+use Rattle.std.specs.Prelude.{ℕ, zero, suc, ◌+◌, ◌-◌, ◌&&◌, not, Bool, List, [], ◌∷◌, length, take}
+use Rattle.std.specs.Prelude.{drop, slice_get, max, Option, None, Some, unwrap_or, Result, Ok, Err}
+use Rattle.std.specs.Prelude.{if◌then◌else◌, bytes_eq}
 use Rattle.std.specs.Option.{option_or}
 use Rattle.pdb_container.specs.Fault as container_fault
 use Rattle.pdb_indices.specs.declared.variant.Variant.{Variant}
@@ -67,7 +69,7 @@ kind_bytes kinds.Bool16 = 2
 kind_bytes kinds.Bool32 = 4
 kind_bytes kinds.Bool64 = 8
 
--- the same behind a pointer of any kind, which has the machine's size
+-- the size of a primitive type, or of a pointer of any kind to it, which has the machine's size
 abbrev pub indirect_bytes : ℕ → ℕ → Option Indirection → ℕ
 indirect_bytes pointer_size direct None = direct
 indirect_bytes pointer_size direct (Some held) = pointer_size
@@ -80,15 +82,18 @@ key_name name unique_name = unwrap_or unique_name name
 
 -- the size of a definition with that name; a forward reference is none
 abbrev pub size_if_defined : List ℕ → (is_forward_reference : Bool) → List ℕ → ℕ → Option ℕ
-size_if_defined wanted is_forward_reference name size = if not is_forward_reference && bytes_eq name wanted then Some size else None
+size_if_defined wanted is_forward_reference name size =
+    if not is_forward_reference && bytes_eq name wanted then Some size else None
 
 -- the size that a type states for a class or a union of that name
 abbrev pub form_size : List ℕ → TypeForm → Option ℕ
-form_size wanted (Plain (forms.Class t)) = size_if_defined wanted (is_forward t.properties) (key_name t.name t.unique_name) t.size
-form_size wanted (Plain (forms.Union t)) = size_if_defined wanted (is_forward t.properties) (key_name t.name t.unique_name) t.size
+form_size wanted (Plain (forms.Class t)) =
+    size_if_defined wanted (is_forward t.properties) (key_name t.name t.unique_name) t.size
+form_size wanted (Plain (forms.Union t)) =
+    size_if_defined wanted (is_forward t.properties) (key_name t.name t.unique_name) t.size
 form_size wanted t = None
 
--- the same of a type that was read; what can't be read states none
+-- the size that a type states, if it was read; what can't be read states none
 abbrev pub defined_size : List ℕ → Result TypeForm container_fault.Fault → Option ℕ
 defined_size wanted (Ok t) = form_size wanted t
 defined_size wanted (Err e) = None
@@ -96,23 +101,30 @@ defined_size wanted (Err e) = None
 -- the size by the first definition of a name among records, the first of which has this index
 unfoldable pub first_definition : List ℕ → ℕ → List (List ℕ) → Option ℕ
 first_definition wanted index [] = None
-first_definition wanted index (bytes ∷ others) = option_or (defined_size wanted (type_of_item index bytes)) (first_definition wanted (index + 1) others)
+first_definition wanted index (bytes ∷ others) =
+    option_or (defined_size wanted (type_of_item index bytes))
+    (first_definition wanted (index + 1) others)
 
 -- the records that the table has, before it ends, from an index on
 abbrev pub records_from : Table → ℕ → List (List ℕ)
-records_from types index = drop (index - types.minimum) (take (types.maximum - types.minimum) (items_of types).items)
+records_from types index = drop (index - types.minimum)
+    (take (types.maximum - types.minimum) (items_of types).items)
 
 -- the first index of the table past another one
 abbrev pub index_past : Table → ℕ → ℕ
 index_past types index = max (index + 1) types.minimum
 
--- the size by the first definition of a name behind an index
+-- the size by the first definition of a name after an index
 abbrev pub definition_behind : Table → ℕ → List ℕ → Option ℕ
-definition_behind types index wanted = first_definition wanted (index_past types index) (records_from types (index_past types index))
+definition_behind types index wanted =
+    first_definition wanted (index_past types index) (records_from types (index_past types index))
 
--- a class's or a union's own size, or that of its definition, where it is a forward reference and there is one
+-- a class's or a union's own size, or that of its definition, where it is a forward reference and
+-- there is one
 abbrev pub aggregate_bytes : Table → ℕ → (is_forward_reference : Bool) → List ℕ → ℕ → ℕ
-aggregate_bytes types index is_forward_reference name size = if is_forward_reference then unwrap_or (definition_behind types index name) size else size
+aggregate_bytes types index is_forward_reference name size =
+    if is_forward_reference then unwrap_or (definition_behind types index name) size
+    else size
 
 -- ---- all types
 
@@ -131,37 +143,44 @@ variant_bytes (variants.I32 x) = 4
 variant_bytes (variants.U64 x) = 8
 variant_bytes (variants.I64 x) = 8
 
--- The size of a type of an index in the table, where pointers have so many bytes and the sizes of other types are given by
--- their indices as the module has them.
+-- The size of the type with that index in the table, where pointers have that many bytes and the
+-- sizes of other types are given by their indices as the module names them.
 abbrev pub form_bytes : Table → ℕ → (ℕ → ℕ) → ℕ → TypeForm → ℕ
-form_bytes types pointer_size of index (Plain (forms.Primitive t)) = indirect_bytes pointer_size (kind_bytes t.kind) t.indirection
+form_bytes types pointer_size of index (Plain (forms.Primitive t)) =
+    indirect_bytes pointer_size (kind_bytes t.kind) t.indirection
 form_bytes types pointer_size of index (Plain (forms.MemberFunction t)) = pointer_size
 form_bytes types pointer_size of index (Plain (forms.Procedure t)) = pointer_size
 form_bytes types pointer_size of index (Plain (forms.Pointer t)) = size_of_pointer t.attributes
 form_bytes types pointer_size of index (Plain (forms.Array t)) = last_dimension t.dimensions
-form_bytes types pointer_size of index (Plain (forms.Class t)) = aggregate_bytes types index (is_forward t.properties) (key_name t.name t.unique_name) t.size
-form_bytes types pointer_size of index (Plain (forms.Union t)) = aggregate_bytes types index (is_forward t.properties) (key_name t.name t.unique_name) t.size
+form_bytes types pointer_size of index (Plain (forms.Class t)) =
+    aggregate_bytes types index (is_forward t.properties) (key_name t.name t.unique_name) t.size
+form_bytes types pointer_size of index (Plain (forms.Union t)) =
+    aggregate_bytes types index (is_forward t.properties) (key_name t.name t.unique_name) t.size
 form_bytes types pointer_size of index (Plain (forms.Enumeration t)) = of (t.underlying_type).0
 form_bytes types pointer_size of index (Plain (forms.Modifier t)) = of (t.underlying_type).0
 form_bytes types pointer_size of index (Plain (forms.Enumerate t)) = variant_bytes t.value
 form_bytes types pointer_size of index t = 0
 
--- the same of a type that was read; what can't be read has the size 0
+-- the size of a type that was read; what can't be read has the size 0
 abbrev pub read_bytes : Table → ℕ → (ℕ → ℕ) → ℕ → Result TypeForm Fault → ℕ
 read_bytes types pointer_size of index (Ok t) = form_bytes types pointer_size of index t
 read_bytes types pointer_size of index (Err e) = 0
 
--- the same of an index that was resolved
+-- the size of the type with an index that was resolved
 abbrev pub resolved_bytes : Table → ℕ → (ℕ → ℕ) → Result ℕ Cause → ℕ
-resolved_bytes types pointer_size of (Ok index) = read_bytes types pointer_size of index (type_in types index)
+resolved_bytes types pointer_size of (Ok index) =
+    read_bytes types pointer_size of index (type_in types index)
 resolved_bytes types pointer_size of (Err e) = 0
 
--- the size of the type of an index as a module has it, in at most so many steps from type to type; past these 0
+-- the size of the type with an index as a module names it, in at most that many steps from type to
+-- type; past these 0
 unfoldable pub size_within : Parts → ℕ → ℕ → ℕ → ℕ
 size_within p asking zero index = 0
-size_within p asking (suc steps) index = resolved_bytes p.types p.pointer_size (size_within p asking steps) (resolve p.modules asking index)
+size_within p asking (suc steps) index = resolved_bytes p.types p.pointer_size
+    (size_within p asking steps) (resolve p.modules asking index)
 
--- The size of the type of an index as a module has it. A type whose size leads back to itself has more steps than any number.
+-- The size of the type with that index as a module names it. A type whose size leads back to itself
+-- has more steps than any number.
 abbrev pub size_at : Parts → ℕ → ℕ → ℕ
 size_at p asking index = size_within p asking 1024 index
 

@@ -7,7 +7,11 @@ ghost use Rattle.pdb_items.specs.ItemType.{type_of_item};
 ghost use Rattle.pdb_records.specs.Attributes.{is_forward};
 ghost use Rattle.pdb_records.specs.Shapes.{shape};
 ghost use Rattle.pdb_type_sizes.specs.KeptSizes.{is_reference};
-ghost use Rattle.pdb_type_sizes.specs.Sizes.{key_name as key_name_of, size_if_defined as size_if_defined_by, form_size, defined_size as defined_size_in, definition_behind as definition_behind_index, aggregate_bytes};
+ghost use Rattle.pdb_type_sizes.specs.Sizes.{key_name as key_name_of};
+ghost use Rattle.pdb_type_sizes.specs.Sizes.{size_if_defined as size_if_defined_by, form_size};
+ghost use Rattle.pdb_type_sizes.specs.Sizes.{defined_size as defined_size_in};
+ghost use Rattle.pdb_type_sizes.specs.Sizes.{definition_behind as definition_behind_index};
+ghost use Rattle.pdb_type_sizes.specs.Sizes.{aggregate_bytes};
 
 use crate::item_map::ItemMap;
 use pdb_container::{Error, RawString};
@@ -29,7 +33,8 @@ pub(crate) fn is_forward_reference(type_data: &TypeData<'_>) -> bool
 
 /// The name by which a class or a union is looked for: the unique one, if it has one.
 pub(crate) fn key_name<'t>(name: RawString<'t>, unique_name: Option<RawString<'t>>) -> RawString<'t>
-    ensures { raw_bytes result ≡ key_name_of (raw_bytes name.entry) (option_map raw_bytes unique_name.entry) }
+    ensures { raw_bytes result ≡ key_name_of (raw_bytes name.entry)
+        (option_map raw_bytes unique_name.entry) }
 {
     match unique_name {
         Some(unique_name) => unique_name,
@@ -44,7 +49,8 @@ fn size_if_defined(
     name: RawString<'_>,
     size: u64,
 ) -> Option<u64>
-    ensures { result ≡ size_if_defined_by wanted.now (is_forward properties) (raw_bytes name.entry) size }
+    ensures { result ≡ size_if_defined_by wanted.now (is_forward properties)
+        (raw_bytes name.entry) size }
 {
     if !properties.forward_reference() && name.as_bytes() == wanted {
         Some(size)
@@ -70,9 +76,12 @@ fn size_of_definition(wanted: &[u8], type_data: &TypeData<'_>) -> Option<u64>
     }
 }
 
-/// The same of a type's item; one that can't be read states none.
+/// The size that a type's item states for a class or a union of the wanted name; none where it
+/// can't be read.
 fn defined_size(alloc: Global, wanted: &[u8], item: &Type<'_>) -> Result<Option<u64>, AllocError>
-    ensures { IfOk result (λ size. size ≡ defined_size_in wanted.now (type_of_item (item.now.index).0 (item_bytes item.now))) }
+    ensures { IfOk result
+        (λ size. size ≡ defined_size_in wanted.now
+        (type_of_item (item.now.index).0 (item_bytes item.now))) }
 {
     match item.parse(alloc) {
         Ok(type_data) => Ok(size_of_definition(wanted, &type_data)),
@@ -81,7 +90,7 @@ fn defined_size(alloc: Global, wanted: &[u8], item: &Type<'_>) -> Result<Option<
     }
 }
 
-/// The size by the first definition of a name behind an index of the table.
+/// The size by the first definition of a name after an index of the table.
 #[tactic(auto, using(crate::proofs::DefinitionSteps::definition_found, crate::proofs::DefinitionSteps::definition_more, crate::proofs::DefinitionSteps::definition_end, crate::proofs::DefinitionSteps::definition_past))]
 fn definition_behind(
     alloc: Global,
@@ -106,7 +115,8 @@ fn definition_behind(
     Ok(None)
 }
 
-/// A class's or a union's own size, or that of its definition, where it is a forward reference and there is one.
+/// A class's or a union's own size, or that of its definition, where it is a forward reference and
+/// there is one.
 pub(crate) fn aggregate_size(
     alloc: Global,
     types: &mut ItemMap<'_, TypeIndex>,
@@ -116,7 +126,9 @@ pub(crate) fn aggregate_size(
     size: u64,
 ) -> Result<u64, AllocError>
     ensures same { types.new ≡ types.old }
-    ensures size { IfOk result (λ n. n ≡ aggregate_bytes types.old index is_forward_reference (raw_bytes name.entry) size) }
+    ensures size { IfOk result
+        (λ n. n ≡ aggregate_bytes types.old index is_forward_reference
+        (raw_bytes name.entry) size) }
 {
     if !is_forward_reference {
         return Ok(size);

@@ -25,7 +25,8 @@ pub enum End {
     Bad(Error),
 }
 
-/// The items of a table by their indices. It goes over the table as far as it is asked, and keeps what it passed.
+/// The items of a table by their indices. It goes over the table as far as it is asked, and stores
+/// where it has been.
 #[derive(Drop)]
 pub struct ItemMap<'t, I> {
     minimum: u32,
@@ -50,7 +51,7 @@ impl<'t> ItemMap<'t, TypeIndex> {
     /// The types of a table.
     ///
     /// # Errors
-    /// `OutOfMemory` alone.
+    /// `OutOfMemory`, and no other.
     pub fn of_types(
         alloc: Global,
         information: &'t TypeInformation<'_>,
@@ -68,7 +69,7 @@ impl<'t> ItemMap<'t, IdIndex> {
     /// The ids of a table.
     ///
     /// # Errors
-    /// `OutOfMemory` alone.
+    /// `OutOfMemory`, and no other.
     pub fn of_ids(alloc: Global, information: &'t IdInformation<'_>) -> Result<ItemMap<'t, IdIndex>>
         ensures table { IfOk result (λ m. m ≡ information.now) }
         ensures memory { IsOkUnless result Error.OutOfMemory }
@@ -80,7 +81,7 @@ impl<'t> ItemMap<'t, IdIndex> {
 }
 
 impl<'t, I: ItemIndex> ItemMap<'t, I> {
-    /// The items of a table with these bounds. `OutOfMemory` alone.
+    /// The items of a table with these bounds. `OutOfMemory`, and no other.
     #[tactic(auto, using(crate::proofs::EndSteps::kept_fresh))]
     fn over(
         alloc: Global,
@@ -117,7 +118,7 @@ impl<'t, I: ItemIndex> ItemMap<'t, I> {
         self.maximum
     }
 
-    /// Goes over the whole table, and returns an index close behind its last item.
+    /// Goes over the whole table, and returns an index close after its last item.
     #[tactic(auto, using(crate::proofs::EndSteps::kept_on))]
     pub(crate) fn go_over(&mut self) -> u32
         ensures { self.new ≡ self.old }
@@ -126,11 +127,11 @@ impl<'t, I: ItemIndex> ItemMap<'t, I> {
         last_known(&self.finder).saturating_add(1)
     }
 
-    /// The item of an index, by the whole table: below the table's first index it has no bytes.
+    /// The item with that index, by the whole table: below the table's first index it has no bytes.
     ///
     /// # Errors
-    /// `TypeNotFound` at or past the table's maximum and past a good end of its list, and past a bad end the list's own
-    /// fault.
+    /// `TypeNotFound` at or past the table's maximum and past a good end of its list, and past a
+    /// bad end the list's own fault.
     #[tactic(auto, using(crate::proofs::EndSteps::past_maximum, crate::proofs::EndSteps::kept_on, crate::proofs::EndSteps::reached, crate::proofs::EndSteps::known_some))]
     pub fn try_get(&mut self, index: I) -> Result<Item<'t, I>>
         ensures same { self.new ≡ self.old }
@@ -184,7 +185,7 @@ fn reach<I: ItemIndex>(
     End::Ahead
 }
 
-/// The same of a list whose end may be known.
+/// Goes on as [`reach`] does, unless the list's end is known.
 fn advance<I: ItemIndex>(
     finder: &mut ItemFinder<'_, I>,
     iterator: &mut ItemIter<'_, I>,
@@ -203,7 +204,7 @@ fn advance<I: ItemIndex>(
     }
 }
 
-/// The item of an index that the finder knows, or else what the list's end says.
+/// The item with an index that the finder knows, or else what the list's end says.
 #[tactic(auto, using(crate::proofs::EndSteps::found_known, crate::proofs::EndSteps::past_ahead, crate::proofs::EndSteps::past_good, crate::proofs::EndSteps::past_bad))]
 fn find_or_end<'t, I: ItemIndex>(
     finder: &ItemFinder<'t, I>,

@@ -8,7 +8,8 @@ ghost use Rattle.pdb_symbols_modules.specs.Machine.{machine_of};
 ghost use Rattle.pdb_resolving.specs.Cause.{Finds};
 ghost use Rattle.pdb_resolving.specs.Fault.{Answers};
 ghost use Rattle.pdb_resolving.specs.Resolving.{modules_by, none_failed, resolve};
-ghost use Rattle.pdb_type_sizes.specs.Reading.{id_in, type_at, id_at, parts_by, pointer_bytes, with_failed};
+ghost use Rattle.pdb_type_sizes.specs.Reading.{id_in, type_at, id_at, parts_by, pointer_bytes};
+ghost use Rattle.pdb_type_sizes.specs.Reading.{with_failed};
 ghost use Rattle.pdb_type_sizes.specs.Sizes.{resolved_bytes, size_at, stated_bytes};
 
 use crate::item_map::ItemMap;
@@ -41,15 +42,21 @@ impl<'a, 's, P: ModuleProvider> Model for ItemReader<'a, 's, P> {
 
     ghost Value = { Reading P };
 
-    ghost view = { λ r. record { modules = r.resolver; types = r.types; ids = r.ids; pointer_size = r.pointer_size } };
+    ghost view = { λ r. record {
+      modules = r.resolver;
+      types = r.types;
+      ids = r.ids;
+      pointer_size = r.pointer_size;
+    } };
 }
 
 impl<'a, 's, P: ModuleProvider> ItemReader<'a, 's, P> {
-    /// A reader over what gives the modules, their entries in order, the image for which the database was written, the tables
-    /// of types and of ids, and the table of names, if there is one. No table of a module stands as failed.
+    /// A reader over what gives the modules, their entries in order, the image for which the
+    /// database was written, the tables of types and of ids, and the table of names, if there is
+    /// one. No table of a module stands as failed.
     ///
     /// # Errors
-    /// `OutOfMemory` alone.
+    /// `OutOfMemory`, and no other.
     pub fn new(
         alloc: Global,
         provider: &'a P,
@@ -60,7 +67,13 @@ impl<'a, 's, P: ModuleProvider> ItemReader<'a, 's, P> {
         string_table: Option<&'a StringTable<'s>>,
     ) -> pdb_container::Result<ItemReader<'a, 's, P>>
         ensures parts { IfOk result (λ r. r ≡ record {
-          modules = record { provider = provider.now; entries = modules.entry.items; names = option_map (λ t. t.now) string_table.entry; failed = none_failed };
+          modules =
+              record {
+                provider = provider.now;
+                entries = modules.entry.items;
+                names = option_map (λ t. t.now) string_table.entry;
+                failed = none_failed;
+              };
           types = type_information.now;
           ids = id_information.now;
           pointer_size = pointer_bytes (machine_of debug_information.now.machine);
@@ -84,7 +97,10 @@ impl<'a, 's, P: ModuleProvider> ItemReader<'a, 's, P> {
         self.resolver.modules()
     }
 
-    /// As [`Resolver::keep_failed`].
+    /// Stores a module's table as failed. Nothing changes when memory runs out.
+    ///
+    /// # Errors
+    /// `AllocError` when memory runs out.
     pub fn keep_failed(&mut self, table: Table) -> std::result::Result<(), AllocError>
         ensures kept { OnOk result (self.new ≡ with_failed self.old table) }
         ensures same { OnErr result (self.new ≡ self.old) }
@@ -92,11 +108,11 @@ impl<'a, 's, P: ModuleProvider> ItemReader<'a, 's, P> {
         self.resolver.keep_failed(table)
     }
 
-    /// The type of an index as the module of a number, counted from 0, has it.
+    /// The type with that index, as the module at `module_index` (counted from 0) names it.
     ///
     /// # Errors
-    /// The first fault of: resolving the index ([`Resolver::resolve`]); finding its item (`TypeNotFound`, or the fault at which
-    /// the table ends); parsing its record. `OutOfMemory`.
+    /// The first fault of: resolving the index ([`Resolver::resolve`]); finding its item
+    /// (`TypeNotFound`, or the fault at which the table ends); parsing its record. `OutOfMemory`.
     #[tactic(auto, using(pdb_resolving::proofs::Ending::ends_on, pdb_resolving::proofs::Ending::ends_by_error), unfolding(crate::specs::Reading::type_at))]
     pub fn read_type(
         &mut self,
@@ -114,7 +130,7 @@ impl<'a, 's, P: ModuleProvider> ItemReader<'a, 's, P> {
         }
     }
 
-    /// The id of an index as the module of a number, counted from 0, has it.
+    /// The id with that index, as the module at `module_index` (counted from 0) names it.
     ///
     /// # Errors
     /// As [`ItemReader::read_type`].
@@ -135,15 +151,17 @@ impl<'a, 's, P: ModuleProvider> ItemReader<'a, 's, P> {
         }
     }
 
-    /// The size in bytes of the type of an index as the module of a number, counted from 0, has it; 0 for a type that can't be
-    /// read, that leads back to itself, or whose size is that of more than 1,023 others in a row.
+    /// The size in bytes of the type with that index, as the module at `module_index` (counted from
+    /// 0) names it. It is 0 for a type that can't be read, that leads back to itself, or whose size
+    /// is that of more than 1,023 others in a row.
     ///
     /// # Errors
-    /// `OutOfMemory` alone.
+    /// `OutOfMemory`, and no other.
     #[tactic(auto, using(crate::proofs::SizeSteps::size_known, crate::proofs::SizeSteps::size_on, crate::proofs::SizeSteps::size_past))]
     pub fn size(&mut self, alloc: Global, module_index: usize, index: TypeIndex) -> Result<u64>
         ensures same { self.new ≡ self.old }
-        ensures value { Answers (λ n. n) result (Ok (size_at (parts_by P.provided self.old) module_index index.0)) }
+        ensures value { Answers (λ n. n) result
+            (Ok (size_at (parts_by P.provided self.old) module_index index.0)) }
     {
         let mut current = index;
         for _ in 0..MOST_STEPS {
@@ -155,7 +173,7 @@ impl<'a, 's, P: ModuleProvider> ItemReader<'a, 's, P> {
         Ok(0)
     }
 
-    /// What is known of the size of the type of an index; 0 where it can't be read.
+    /// What is known of the size of the type with that index; 0 where it can't be read.
     fn stated(
         &mut self,
         alloc: Global,
@@ -163,7 +181,9 @@ impl<'a, 's, P: ModuleProvider> ItemReader<'a, 's, P> {
         index: TypeIndex,
     ) -> std::result::Result<Stated, AllocError>
         ensures same { self.new ≡ self.old }
-        ensures size { IfOk result (λ s. (of : ℕ → ℕ) → stated_bytes of s ≡ resolved_bytes self.old.types self.old.pointer_size of (resolve (modules_by P.provided self.old.modules) module_index index.0)) }
+        ensures size { IfOk result (λ s. (of : ℕ → ℕ)
+            → stated_bytes of s ≡ resolved_bytes self.old.types self.old.pointer_size of
+            (resolve (modules_by P.provided self.old.modules) module_index index.0)) }
     {
         match self.resolver.resolve(alloc, module_index, index.0) {
             Ok(resolved) => self.types.stated(alloc, self.pointer_size, resolved),
@@ -187,7 +207,7 @@ fn pointer_size(machine: MachineType) -> u64
     }
 }
 
-/// The id of an index of the table. Its item's fault, or that of its record.
+/// The id with that index of the table. Its item's fault, or that of its record.
 #[tactic(auto, unfolding(crate::specs::Reading::id_in))]
 fn read_id_in<'t>(alloc: Global, ids: &mut ItemMap<'t, IdIndex>, index: u32) -> Result<IdData<'t>>
     ensures same { ids.new ≡ ids.old }

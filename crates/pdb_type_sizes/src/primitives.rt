@@ -26,7 +26,8 @@ fn kind_size(kind: PrimitiveKind) -> u64
 
 /// The size of a primitive type, or of a pointer to one, which has the machine's size.
 pub(crate) fn primitive_size(pointer_size: u64, primitive: PrimitiveType) -> u64
-    ensures { result ≡ indirect_bytes pointer_size (kind_bytes primitive.kind) primitive.indirection }
+    ensures { result ≡ indirect_bytes pointer_size (kind_bytes primitive.kind)
+        primitive.indirection }
 {
     match primitive.indirection {
         None => kind_size(primitive.kind),

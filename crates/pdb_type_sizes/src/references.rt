@@ -1,4 +1,4 @@
-//! The sizes of all forward references of a table, by one way over it from its end.
+//! The sizes of all forward references of a table, by one pass over it from its end.
 
 ghost use Rattle.std.specs.Prelude.{◌≡◌, ◌+◌, ◌≤◌, ℕ, List, [], IfOk, OnOk, false, true};
 ghost use Rattle.std.specs.Option.{option_or};
@@ -6,7 +6,10 @@ ghost use Rattle.pdb_items.specs.Item.{item_bytes};
 ghost use Rattle.pdb_items.specs.Items.{Table};
 ghost use Rattle.pdb_items.specs.ItemType.{type_of_item};
 ghost use Rattle.pdb_records.specs.Shapes.{shape};
-ghost use Rattle.pdb_type_sizes.specs.Definitions.{AreDefinitions, aggregate_of as aggregate_in, aggregate_size_of, gathered, read_aggregate as read_aggregate_by, reference_bytes};
+ghost use Rattle.pdb_type_sizes.specs.Definitions.{AreDefinitions, aggregate_of as aggregate_in};
+ghost use Rattle.pdb_type_sizes.specs.Definitions.{aggregate_size_of, gathered};
+ghost use Rattle.pdb_type_sizes.specs.Definitions.{read_aggregate as read_aggregate_by};
+ghost use Rattle.pdb_type_sizes.specs.Definitions.{reference_bytes};
 ghost use Rattle.pdb_type_sizes.specs.KeptSizes.{AreSizes, IsSize};
 ghost use Rattle.pdb_type_sizes.specs.Sizes.{records_from, size_if_defined};
 
@@ -37,7 +40,11 @@ impl<'t> Model for Aggregate<'t> {
 
     ghost Value = { definitions.Aggregate };
 
-    ghost view = { λ a. record { is_forward_reference = a.is_forward_reference; name = raw_bytes a.name; size = a.size } };
+    ghost view = { λ a. record {
+      is_forward_reference = a.is_forward_reference;
+      name = raw_bytes a.name;
+      size = a.size;
+    } };
 }
 
 /// A type as a class or a union, if it is one.
@@ -59,9 +66,10 @@ fn aggregate_of<'t>(type_data: &TypeData<'t>) -> Option<Aggregate<'t>>
     }
 }
 
-/// The same of a type's item; one that can't be read is none.
+/// The class or union of a type's item; none where it can't be read.
 fn read_aggregate<'t>(alloc: Global, item: &Type<'t>) -> Result<Option<Aggregate<'t>>, AllocError>
-    ensures { IfOk result (λ a. a ≡ read_aggregate_by (type_of_item (item.now.index).0 (item_bytes item.now))) }
+    ensures { IfOk result
+        (λ a. a ≡ read_aggregate_by (type_of_item (item.now.index).0 (item_bytes item.now))) }
 {
     match item.parse(alloc) {
         Ok(type_data) => Ok(aggregate_of(&type_data)),
@@ -70,20 +78,22 @@ fn read_aggregate<'t>(alloc: Global, item: &Type<'t>) -> Result<Option<Aggregate
     }
 }
 
-/// Keeps a definition's size under its name, in place of that of any definition behind it.
+/// Stores a definition's size under its name, in place of that of any definition after it.
 #[tactic(auto, using(crate::proofs::GatherSteps::name_kept))]
 fn keep_definition<'t>(
     definitions: &mut BTreeMap<&'t [u8], u64>,
     name: &'t [u8],
     size: u64,
 ) -> Result<(), AllocError>
-    ensures { OnOk result ((wanted : List ℕ) → gathered definitions.new wanted ≡ option_or (size_if_defined wanted false name.now size) (gathered definitions.old wanted)) }
+    ensures { OnOk result ((wanted : List ℕ) → gathered definitions.new wanted
+        ≡ option_or (size_if_defined wanted false name.now size)
+        (gathered definitions.old wanted)) }
 {
     definitions.insert(name, size)?;
     Ok(())
 }
 
-/// The size of a forward reference: that of the first definition behind it, or else its own.
+/// The size of a forward reference: that of the first definition after it, or else its own.
 fn reference_size(definitions: &BTreeMap<&[u8], u64>, reference: &Aggregate<'_>) -> u64
     ensures { result ≡ reference_bytes definitions.now reference.now }
 {
@@ -93,24 +103,30 @@ fn reference_size(definitions: &BTreeMap<&[u8], u64>, reference: &Aggregate<'_>)
     }
 }
 
-/// Keeps the size of a forward reference under its index in the table.
+/// Stores the size of a forward reference under its index in the table.
 #[tactic(auto, using(crate::proofs::KeptSteps::size_kept, crate::proofs::KeptSteps::sizes_stay))]
 fn keep_size(sizes: &mut BTreeMap<u32, u64>, index: u32, size: u64) -> Result<(), AllocError>
-    ensures { (types : Table) → IsSize types index size → AreSizes types sizes.old → AreSizes types sizes.new }
+    ensures { (types : Table) → IsSize types index size → AreSizes types sizes.old
+        → AreSizes types sizes.new }
 {
     sizes.insert(index, size)?;
     Ok(())
 }
 
-/// Keeps the size of a definition under its name, and that of a forward reference, by the definitions behind it, under its index.
+/// Stores the size of a definition under its name. Stores the size of a forward reference, by the
+/// definitions after it, under its index.
 fn keep_aggregate<'t>(
     definitions: &mut BTreeMap<&'t [u8], u64>,
     sizes: &mut BTreeMap<u32, u64>,
     index: u32,
     aggregate: Aggregate<'t>,
 ) -> Result<(), AllocError>
-    ensures definitions { OnOk result ((wanted : List ℕ) → gathered definitions.new wanted ≡ option_or (aggregate_size_of wanted aggregate.entry) (gathered definitions.old wanted)) }
-    ensures sizes { (types : Table) → (aggregate.entry.is_forward_reference ≡ true → IsSize types index (reference_bytes definitions.old aggregate.entry)) → AreSizes types sizes.old → AreSizes types sizes.new }
+    ensures definitions { OnOk result ((wanted : List ℕ) → gathered definitions.new wanted
+        ≡ option_or (aggregate_size_of wanted aggregate.entry) (gathered definitions.old wanted)) }
+    ensures sizes { (types : Table)
+        → (aggregate.entry.is_forward_reference ≡ true
+        → IsSize types index (reference_bytes definitions.old aggregate.entry))
+        → AreSizes types sizes.old → AreSizes types sizes.new }
 {
     if aggregate.is_forward_reference {
         keep_size(sizes, index, reference_size(definitions, &aggregate))
@@ -119,7 +135,8 @@ fn keep_aggregate<'t>(
     }
 }
 
-/// The same of the type of an index of the table, behind which definitions were kept.
+/// Stores the size of the type with that index, as [`keep_aggregate`] does. The definitions after
+/// it were stored.
 fn keep_type<'t>(
     alloc: Global,
     types: &mut ItemMap<'t, TypeIndex>,
@@ -143,7 +160,7 @@ fn keep_type<'t>(
     }
 }
 
-/// An index from which on a table has no items, close behind the last one.
+/// An index from which on a table has no items, close after the last one.
 #[tactic(auto, using(crate::proofs::DefinitionSteps::records_past, crate::proofs::GatherSteps::none_from))]
 fn past_items(types: &mut ItemMap<'_, TypeIndex>) -> u32
     ensures same { types.new ≡ types.old }
@@ -159,8 +176,8 @@ fn past_items(types: &mut ItemMap<'_, TypeIndex>) -> u32
     }
 }
 
-/// Keeps the sizes of all forward references of a table, each under its index. Where memory is short those of the last ones are
-/// kept.
+/// Stores the sizes of all forward references of a table, each under its index. When memory runs
+/// out, those of the last ones stay stored.
 #[tactic(auto, using(crate::proofs::GatherSteps::none_gathered))]
 pub(crate) fn update_forward_ref_size_map(
     alloc: Global,

@@ -6,7 +6,9 @@ ghost use Rattle.pdb_records.specs.Shapes.{shape, class_form, union_form};
 ghost use Rattle.pdb_resolving.specs.Fault.{Answers};
 ghost use Rattle.pdb_type_sizes.specs.KeptSizes.{AreSizes};
 ghost use Rattle.pdb_type_sizes.specs.Reading.{type_in};
-ghost use Rattle.pdb_type_sizes.specs.Sizes.{variant_bytes, last_dimension as last_dimension_of, key_name as key_name_of, aggregate_bytes, form_bytes, read_bytes, stated_bytes};
+ghost use Rattle.pdb_type_sizes.specs.Sizes.{variant_bytes, last_dimension as last_dimension_of};
+ghost use Rattle.pdb_type_sizes.specs.Sizes.{key_name as key_name_of, aggregate_bytes, form_bytes};
+ghost use Rattle.pdb_type_sizes.specs.Sizes.{read_bytes, stated_bytes};
 
 use crate::definitions::{aggregate_size, is_forward_reference, key_name};
 use crate::item_map::ItemMap;
@@ -21,9 +23,9 @@ use std::collections::BTreeMap;
 /// What a type says of its size.
 #[derive(Clone, Copy, Debug)]
 pub(crate) enum Stated {
-    /// So many bytes.
+    /// A number of bytes.
     Bytes(u64),
-    /// That of the type of this index, as the module has it.
+    /// The size of the type with this index, as the module names it.
     SameAs(TypeIndex),
 }
 
@@ -49,7 +51,7 @@ fn last_dimension(dimensions: &[u32]) -> u64
     }
 }
 
-/// The size of a class of an index of the table.
+/// The size of the class with that index of the table.
 fn class_size(
     alloc: Global,
     types: &mut ItemMap<'_, TypeIndex>,
@@ -57,7 +59,9 @@ fn class_size(
     class_type: &ClassType<'_>,
 ) -> std::result::Result<u64, AllocError>
     ensures same { types.new ≡ types.old }
-    ensures size { let t = class_form class_type.now in IfOk result (λ n. n ≡ aggregate_bytes types.old index (is_forward t.properties) (key_name_of t.name t.unique_name) t.size) }
+    ensures size { let t = class_form class_type.now in
+        IfOk result (λ n. n ≡ aggregate_bytes types.old index (is_forward t.properties)
+        (key_name_of t.name t.unique_name) t.size) }
 {
     let is_forward_reference = class_type.properties.forward_reference();
     let name = key_name(class_type.name, class_type.unique_name);
@@ -71,7 +75,7 @@ fn class_size(
     )
 }
 
-/// The size of a union of an index of the table.
+/// The size of the union with that index of the table.
 fn union_size(
     alloc: Global,
     types: &mut ItemMap<'_, TypeIndex>,
@@ -79,7 +83,9 @@ fn union_size(
     union_type: &UnionType<'_>,
 ) -> std::result::Result<u64, AllocError>
     ensures same { types.new ≡ types.old }
-    ensures size { let t = union_form union_type.now in IfOk result (λ n. n ≡ aggregate_bytes types.old index (is_forward t.properties) (key_name_of t.name t.unique_name) t.size) }
+    ensures size { let t = union_form union_type.now in
+        IfOk result (λ n. n ≡ aggregate_bytes types.old index (is_forward t.properties)
+        (key_name_of t.name t.unique_name) t.size) }
 {
     let is_forward_reference = union_type.properties.forward_reference();
     let name = key_name(union_type.name, union_type.unique_name);
@@ -93,7 +99,8 @@ fn union_size(
     )
 }
 
-/// What a type of an index of the table says of its size, where pointers have so many bytes.
+/// What the type with that index of the table says of its size, where pointers have `pointer_size`
+/// bytes.
 fn stated_size(
     alloc: Global,
     types: &mut ItemMap<'_, TypeIndex>,
@@ -102,7 +109,8 @@ fn stated_size(
     type_data: &TypeData<'_>,
 ) -> std::result::Result<Stated, AllocError>
     ensures same { types.new ≡ types.old }
-    ensures size { IfOk result (λ s. (of : ℕ → ℕ) → stated_bytes of s ≡ form_bytes types.old pointer_size of index (shape type_data.now)) }
+    ensures size { IfOk result (λ s. (of : ℕ → ℕ)
+        → stated_bytes of s ≡ form_bytes types.old pointer_size of index (shape type_data.now)) }
 {
     match type_data {
         TypeData::Primitive(t) => Ok(Stated::Bytes(primitive_size(pointer_size, *t))),
@@ -119,7 +127,7 @@ fn stated_size(
     }
 }
 
-/// The type of an index of the table. Its item's fault, or that of its record.
+/// The type with that index of the table. Its item's fault, or that of its record.
 #[tactic(auto, unfolding(crate::specs::Reading::type_in))]
 pub(crate) fn read_type_in<'t>(
     alloc: Global,
@@ -133,8 +141,8 @@ pub(crate) fn read_type_in<'t>(
     Ok(item.parse(alloc)?)
 }
 
-/// What a type of an index of the table says of its size. Where it is a forward reference, the sizes of all forward references of
-/// the table are kept.
+/// What the type with that index of the table says of its size. Where it is a forward reference,
+/// the sizes of all forward references of the table are cached.
 #[tactic(auto, using(crate::proofs::KeptSteps::size_read))]
 fn stated_and_kept(
     alloc: Global,
@@ -148,7 +156,8 @@ fn stated_and_kept(
     requires read { type_in types.old index ≡ Ok (shape type_data.now) }
     ensures same { types.new ≡ types.old }
     ensures kept { AreSizes types.old sizes.new }
-    ensures size { IfOk result (λ s. (of : ℕ → ℕ) → stated_bytes of s ≡ form_bytes types.old pointer_size of index (shape type_data.now)) }
+    ensures size { IfOk result (λ s. (of : ℕ → ℕ)
+        → stated_bytes of s ≡ form_bytes types.old pointer_size of index (shape type_data.now)) }
 {
     if !is_forward_reference(type_data) {
         return stated_size(alloc, types, pointer_size, index, type_data);
@@ -160,7 +169,8 @@ fn stated_and_kept(
     }
 }
 
-/// What is known of the size of the type of an index of the table, of which none is kept; 0 where it can't be read.
+/// What is known of the size of the type with that index of the table, where none is cached; 0
+/// where it can't be read.
 fn read_stated(
     alloc: Global,
     types: &mut ItemMap<'_, TypeIndex>,
@@ -171,7 +181,8 @@ fn read_stated(
     requires { AreSizes types.old sizes.old }
     ensures same { types.new ≡ types.old }
     ensures kept { AreSizes types.old sizes.new }
-    ensures size { IfOk result (λ s. (of : ℕ → ℕ) → stated_bytes of s ≡ read_bytes types.old pointer_size of index (type_in types.old index)) }
+    ensures size { IfOk result (λ s. (of : ℕ → ℕ) → stated_bytes of s
+        ≡ read_bytes types.old pointer_size of index (type_in types.old index)) }
 {
     match read_type_in(alloc, types, index) {
         Ok(type_data) => stated_and_kept(alloc, types, sizes, pointer_size, index, &type_data),
@@ -180,8 +191,8 @@ fn read_stated(
     }
 }
 
-/// What is known of the size of the type of an index of the table, by what is kept or else by its record; 0 where it can't be
-/// read.
+/// What is known of the size of the type with that index of the table, by what is cached or else by
+/// its record; 0 where it can't be read.
 pub(crate) fn stated_in(
     alloc: Global,
     types: &mut ItemMap<'_, TypeIndex>,
@@ -192,7 +203,8 @@ pub(crate) fn stated_in(
     requires { AreSizes types.old sizes.old }
     ensures same { types.new ≡ types.old }
     ensures kept { AreSizes types.old sizes.new }
-    ensures size { IfOk result (λ s. (of : ℕ → ℕ) → stated_bytes of s ≡ read_bytes types.old pointer_size of index (type_in types.old index)) }
+    ensures size { IfOk result (λ s. (of : ℕ → ℕ) → stated_bytes of s
+        ≡ read_bytes types.old pointer_size of index (type_in types.old index)) }
 {
     if let Some(size) = sizes.get(&index) {
         return Ok(Stated::Bytes(*size));

@@ -17,8 +17,8 @@ use std::alloc::{AllocError, Global};
 use std::collections::BTreeMap;
 use std::marker::Model;
 
-/// The types of a table. When the size of a forward reference is first asked for, it keeps the sizes of all of them, so that it
-/// goes over the table once for their definitions.
+/// The types of a table. When the size of a forward reference is first asked for, it caches the
+/// sizes of all of them, so that it goes over the table once for their definitions.
 #[derive(Drop)]
 pub(crate) struct TypeSizeCache<'t> {
     types: ItemMap<'t, TypeIndex>,
@@ -38,7 +38,7 @@ impl<'t> Model for TypeSizeCache<'t> {
 }
 
 impl<'t> TypeSizeCache<'t> {
-    /// The types of a table, of which no size is known yet. `OutOfMemory` alone.
+    /// The types of a table, of which no size is known yet. `OutOfMemory`, and no other.
     pub(crate) fn of(
         alloc: Global,
         information: &'t TypeInformation<'_>,
@@ -53,7 +53,7 @@ impl<'t> TypeSizeCache<'t> {
         })
     }
 
-    /// The type of an index of the table. Its item's fault, or that of its record.
+    /// The type with that index of the table. Its item's fault, or that of its record.
     pub(crate) fn read(&mut self, alloc: Global, index: u32) -> Result<TypeData<'t>>
         ensures same { self.new ≡ self.old }
         ensures value { Answers shape result (type_in self.old index) }
@@ -61,8 +61,8 @@ impl<'t> TypeSizeCache<'t> {
         read_type_in(alloc, &mut self.types, index)
     }
 
-    /// What is known of the size of the type of an index of the table, where pointers have so many bytes; 0 where it can't be
-    /// read.
+    /// What is known of the size of the type with that index of the table, where pointers have
+    /// `pointer_size` bytes; 0 where it can't be read.
     pub(crate) fn stated(
         &mut self,
         alloc: Global,
@@ -70,7 +70,8 @@ impl<'t> TypeSizeCache<'t> {
         index: u32,
     ) -> std::result::Result<Stated, AllocError>
         ensures same { self.new ≡ self.old }
-        ensures size { IfOk result (λ s. (of : ℕ → ℕ) → stated_bytes of s ≡ read_bytes self.old pointer_size of index (type_in self.old index)) }
+        ensures size { IfOk result (λ s. (of : ℕ → ℕ) → stated_bytes of s
+            ≡ read_bytes self.old pointer_size of index (type_in self.old index)) }
     {
         stated_in(alloc, &mut self.types, &mut self.sizes, pointer_size, index)
     }

@@ -8,6 +8,7 @@ use Rattle.pdb_text_pieces.specs.Printed.{Text}
 
 -- a text that wasn't made isn't handed over
 pub fails_emits : {W : Type 0} (taken refused : W → Text → W → Type 0) (old new : W) (e : Error)
-    (made : Result Text Fault) → new ≡ old → Fails e made → Emits {A = Unit {0}} taken refused old (Err e) new made
+    (made : Result Text Fault) → new ≡ old → Fails e made
+    → Emits {A = Unit {0}} taken refused old (Err e) new made
 fails_emits taken refused old new (errors.FormatError cause) made same h = absurd h
 fails_emits taken refused old new e made same h = (same, h)

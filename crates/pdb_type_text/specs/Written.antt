@@ -15,5 +15,6 @@ IsMade (Err e) P = ⊥
 abbrev pub Emits : {W A : Type 0} → (W → Text → W → Type 0) → (W → Text → W → Type 0) → W
     → Result A Error → W → Result Text Fault → Type 0
 Emits taken refused old (Ok x) new made = IsMade made (λ text. taken old text new)
-Emits taken refused old (Err (errors.FormatError e)) new made = IsMade made (λ text. refused old text new)
+Emits taken refused old (Err (errors.FormatError e)) new made =
+    IsMade made (λ text. refused old text new)
 Emits taken refused old (Err e) new made = (new ≡ old) × Fails e made

@@ -1,6 +1,7 @@
 //! The calls of a formatter.
 
-ghost use Rattle.std.specs.Prelude.{◌≡◌, IfOk, IsOkUnless, List, option_map, Result, string_bytes, Ok, ℕ};
+ghost use Rattle.std.specs.Prelude.{◌≡◌, IfOk, IsOkUnless, List, option_map, Result, string_bytes};
+ghost use Rattle.std.specs.Prelude.{Ok, ℕ};
 ghost use Rattle.pdb_container.specs.declared.error.Error.TheVariants as causes;
 ghost use Rattle.pdb_symbols_modules.specs.Machine.{machine_of};
 ghost use Rattle.pdb_resolving.specs.Cause.{Cause, Finds, of_any};
@@ -28,11 +29,12 @@ use pdb_text_pieces::TypeFormatterFlags;
 use std::alloc::Global;
 
 impl<'a, 's, P: ModuleProvider> TypeFormatter<'a, 's, P> {
-    /// A formatter over what gives the modules, their entries in order, the image for which the database was written, the
-    /// tables of types and of ids, and the table of names, if there is one. No table of a module stands as failed.
+    /// A formatter over what gives the modules, their entries in order, the image for which the
+    /// database was written, the tables of types and of ids, and the table of names, if there is
+    /// one. No table of a module stands as failed.
     ///
     /// # Errors
-    /// `OutOfMemory` alone.
+    /// `OutOfMemory`, and no other.
     pub fn new_from_parts(
         alloc: Global,
         provider: &'a P,
@@ -45,7 +47,13 @@ impl<'a, 's, P: ModuleProvider> TypeFormatter<'a, 's, P> {
     ) -> pdb_container::Result<TypeFormatter<'a, 's, P>>
         ensures parts { IfOk result (λ f. f ≡ record {
           reading = record {
-            modules = record { provider = provider.now; entries = modules.entry.items; names = option_map (λ t. t.now) string_table.entry; failed = none_failed };
+            modules =
+                record {
+                  provider = provider.now;
+                  entries = modules.entry.items;
+                  names = option_map (λ t. t.now) string_table.entry;
+                  failed = none_failed;
+                };
             types = type_information.now;
             ids = id_information.now;
             pointer_size = pointer_bytes (machine_of debug_information.now.machine);
@@ -75,11 +83,11 @@ impl<'a, 's, P: ModuleProvider> TypeFormatter<'a, 's, P> {
         self.printer.modules()
     }
 
-    /// The size in bytes of the type of an index as the module of a number, counted from 0, has it; 0 for a type that can't be
-    /// read or that leads back to itself.
+    /// The size in bytes of the type with that index, as the module at `module_index` (counted from
+    /// 0) names it. It is 0 for a type that can't be read or that leads back to itself.
     ///
     /// # Errors
-    /// `OutOfMemory` alone.
+    /// `OutOfMemory`, and no other.
     pub fn get_type_size(
         &mut self,
         alloc: Global,
@@ -87,7 +95,8 @@ impl<'a, 's, P: ModuleProvider> TypeFormatter<'a, 's, P> {
         index: TypeIndex,
     ) -> Result<u64>
         ensures same { self.new ≡ self.old }
-        ensures value { Answers (λ n. n) result (Ok (size_at (parts_by P.provided self.old.reading) module_index index.0)) }
+        ensures value { Answers (λ n. n) result
+            (Ok (size_at (parts_by P.provided self.old.reading) module_index index.0)) }
     {
         let asker = Asker {
             alloc,
@@ -96,14 +105,16 @@ impl<'a, 's, P: ModuleProvider> TypeFormatter<'a, 's, P> {
         self.printer.size(asker, index)
     }
 
-    /// The signature of a function of this name whose type has this index in the module of a number, counted from 0: its
-    /// return type and arguments, as the flags say. With type 0 it is the name alone.
+    /// The signature of a function of this name whose type has this index in the module at
+    /// `module_index`, counted from 0: its return type and arguments, as the flags say. With type 0
+    /// it is the name alone.
     ///
     /// # Errors
-    /// The first fault in the order of printing: that of the type, `CircularTypeDefinition`, `ArgumentTypeNotArgumentList` and
-    /// others; a type inside that is missing or has no form has a text of its own. `OutOfMemory`. A module's imports or exports
-    /// that couldn't be read are kept as failed, and from the next call on `ModuleImportsUnsuccessful` and
-    /// `ModuleExportsUnsuccessful` tell of them in place of their own fault.
+    /// The first fault in the order of printing: that of the type, `CircularTypeDefinition`,
+    /// `ArgumentTypeNotArgumentList` and others; a type inside that is missing or has no form has a
+    /// text of its own. `OutOfMemory`. A module's imports or exports that couldn't be read are
+    /// stored as failed. From the next call on, `ModuleImportsUnsuccessful` and
+    /// `ModuleExportsUnsuccessful` report them in place of their own fault.
     pub fn format_function(
         &mut self,
         alloc: Global,
@@ -114,7 +125,9 @@ impl<'a, 's, P: ModuleProvider> TypeFormatter<'a, 's, P> {
         ensures kept { Leaves
             (function_made (env_of P.provided self.old module_index) name.now function_type_index.0)
             self.old result self.new }
-        ensures text { Answers string_bytes result (function_text (env_of P.provided self.old module_index) name.now function_type_index.0) }
+        ensures text { Answers string_bytes result
+            (function_text (env_of P.provided self.old module_index) name.now
+            function_type_index.0) }
     {
         let asker = Asker {
             alloc,
@@ -127,7 +140,8 @@ impl<'a, 's, P: ModuleProvider> TypeFormatter<'a, 's, P> {
     /// Makes the text of [`TypeFormatter::format_function`], and hands it over to a writer at once.
     ///
     /// # Errors
-    /// As `format_function`, and then the writer got nothing; `FormatError` where the writer refused the text.
+    /// As `format_function`, and then the writer got nothing; `FormatError` where the writer
+    /// refused the text.
     #[tactic(auto, using(crate::proofs::Failing::fails_emits))]
     pub fn emit_function<W: TextWriter>(
         &mut self,
@@ -141,19 +155,21 @@ impl<'a, 's, P: ModuleProvider> TypeFormatter<'a, 's, P> {
             (function_made (env_of P.provided self.old module_index) name.now function_type_index.0)
             self.old result self.new }
         ensures text { Emits W.has_taken W.has_refused w.old result w.new
-            (function_text (env_of P.provided self.old module_index) name.now function_type_index.0) }
+            (function_text (env_of P.provided self.old module_index) name.now
+            function_type_index.0) }
     {
         let text = self.format_function(alloc, name, module_index, function_type_index)?;
         w.take_text(text.as_str())?;
         Ok(())
     }
 
-    /// The text of an id that has this index in the module of a number, counted from 0: of a function its signature in its
-    /// scopes, of a string the string.
+    /// The text of an id that has this index in the module at `module_index`, counted from 0: of a
+    /// function its signature in its scopes, of a string the string.
     ///
     /// # Errors
-    /// As [`TypeFormatter::format_function`], and `FunctionIdIsNotProcedureType`, `MemberFunctionIdIsNotMemberFunctionType`. Imports
-    /// and exports that failed before are told as there.
+    /// As [`TypeFormatter::format_function`], and `FunctionIdIsNotProcedureType`,
+    /// `MemberFunctionIdIsNotMemberFunctionType`. Imports and exports that failed before are
+    /// reported as there.
     pub fn format_id(
         &mut self,
         alloc: Global,
@@ -162,7 +178,8 @@ impl<'a, 's, P: ModuleProvider> TypeFormatter<'a, 's, P> {
     ) -> Result<String>
         ensures kept { Leaves (id_made (env_of P.provided self.old module_index) id_index.0)
             self.old result self.new }
-        ensures text { Answers string_bytes result (id_text (env_of P.provided self.old module_index) id_index.0) }
+        ensures text { Answers string_bytes result
+            (id_text (env_of P.provided self.old module_index) id_index.0) }
     {
         let asker = Asker {
             alloc,
@@ -175,7 +192,8 @@ impl<'a, 's, P: ModuleProvider> TypeFormatter<'a, 's, P> {
     /// Makes the text of [`TypeFormatter::format_id`], and hands it over to a writer at once.
     ///
     /// # Errors
-    /// As `format_id`, and then the writer got nothing; `FormatError` where the writer refused the text.
+    /// As `format_id`, and then the writer got nothing; `FormatError` where the writer refused the
+    /// text.
     #[tactic(auto, using(crate::proofs::Failing::fails_emits))]
     pub fn emit_id<W: TextWriter>(
         &mut self,
@@ -194,8 +212,8 @@ impl<'a, 's, P: ModuleProvider> TypeFormatter<'a, 's, P> {
         Ok(())
     }
 
-    /// Passes on a text, or the error that ended it; the table of a module that it is of is kept as
-    /// failed.
+    /// Passes on a text, or the error that ended it; the table of a module that it is of is stored
+    /// as failed.
     ///
     /// # Errors
     /// That which ended the text; `OutOfMemory`.

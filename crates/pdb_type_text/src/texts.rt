@@ -12,7 +12,11 @@ use pdb_indices::{IdIndex, TypeIndex};
 use pdb_resolving::{ModuleProvider, Result};
 use std::alloc::Global;
 
-/// As [`TypeFormatter::format_function`], but no table of a module is kept as failed.
+/// The signature that [`TypeFormatter::format_function`] returns. No table of a module is stored as
+/// failed.
+///
+/// # Errors
+/// Those of [`TypeFormatter::format_function`].
 #[tactic(auto, using(pdb_resolving::proofs::Ending::ends_fails))]
 pub fn function_text_of<P: ModuleProvider>(
     formatter: &mut TypeFormatter<'_, '_, P>,
@@ -22,7 +26,9 @@ pub fn function_text_of<P: ModuleProvider>(
     function_type_index: TypeIndex,
 ) -> Result<String>
     ensures same { formatter.new ≡ formatter.old }
-    ensures text { Answers string_bytes result (function_text (env_of P.provided formatter.old module_index) name.now function_type_index.0) }
+    ensures text { Answers string_bytes result
+        (function_text (env_of P.provided formatter.old module_index) name.now
+        function_type_index.0) }
 {
     let asker = Asker {
         alloc,
@@ -35,7 +41,10 @@ pub fn function_text_of<P: ModuleProvider>(
     )
 }
 
-/// As [`TypeFormatter::format_id`], but no table of a module is kept as failed.
+/// The text that [`TypeFormatter::format_id`] returns. No table of a module is stored as failed.
+///
+/// # Errors
+/// Those of [`TypeFormatter::format_id`].
 #[tactic(auto, using(pdb_resolving::proofs::Ending::ends_fails))]
 pub fn id_text_of<P: ModuleProvider>(
     formatter: &mut TypeFormatter<'_, '_, P>,
@@ -44,7 +53,8 @@ pub fn id_text_of<P: ModuleProvider>(
     id_index: IdIndex,
 ) -> Result<String>
     ensures same { formatter.new ≡ formatter.old }
-    ensures text { Answers string_bytes result (id_text (env_of P.provided formatter.old module_index) id_index.0) }
+    ensures text { Answers string_bytes result
+        (id_text (env_of P.provided formatter.old module_index) id_index.0) }
 {
     let asker = Asker {
         alloc,

@@ -20,8 +20,8 @@ pub trait TextWriter {
         ensures err { OnErr result (has_refused self.old text.now self.new) };
 }
 
-/// What a writer of std took it tells by its own implementation: of a `String`, that the text is appended.
-/// Of a text that it refused it tells nothing.
+/// A writer of std says by its own implementation what it took: of a `String`, that the text is
+/// appended. Of a text that it refused it says nothing.
 impl<W: Write> TextWriter for W {
     ghost use Rattle.std.specs.Prelude.{⊤};
 

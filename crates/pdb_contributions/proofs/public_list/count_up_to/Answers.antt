@@ -6,6 +6,8 @@ use Rattle.pdb_contributions.proofs.public_list.count_up_to.Goals as goal
 
 pub returns : goal.returns
 returns c =
-    split_of c.args.functions.now c.args.place c.partition_point.result c.partition_point.ensures.bound
-    (IsPartitionPoint-from_clause (λ f. not (is_before c.args.place f.start_offset)) _ _ c.partition_point.ensures.partitioned
+    split_of c.args.functions.now c.args.place c.partition_point.result
+    c.partition_point.ensures.bound
+    (IsPartitionPoint-from_clause (λ f. not (is_before c.args.place f.start_offset)) _ _
+    c.partition_point.ensures.partitioned
     (front_first _ c.args.place c.requires) (λ a r f' k. search rules))

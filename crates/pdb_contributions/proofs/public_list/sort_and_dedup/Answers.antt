@@ -10,4 +10,5 @@ returns c =
     sorted_firsts _ c.sort_by_key.new.self.items _
     (c.in_ok-sort_by_key.ensures.sorted key (answers_always _ _ _ (λ f a r g h. search rules)))
     (c.sort_by_key.ensures.stable key (answers_always _ _ _ (λ f a r g h. search rules)))
-    (dedup_same _ (same place_cmp name_cmp) _ (λ x y b f' x' y' k. search rules) _ _ c.dedup_by_key.ensures.filtered)
+    (dedup_same _ (same place_cmp name_cmp) _ (λ x y b f' x' y' k. search rules) _ _
+    c.dedup_by_key.ensures.filtered)

@@ -4,7 +4,8 @@ use Rattle.pdb_type_sizes.specs.declared.item_map.End.TheVariants as ends
 use Rattle.pdb_type_sizes.proofs.item_map.reach.Given as goal
 
 abbrev pub invariant-loop-iterator : goal.invariant-loop-iterator
-invariant-loop-iterator g l = (l.finder.table ≡ l.fn.finder.table) × IsShown l.finder l.iterator' ends.Ahead
+invariant-loop-iterator g l = (l.finder.table ≡ l.fn.finder.table)
+    × IsShown l.finder l.iterator' ends.Ahead
 
 abbrev pub decreases-loop-iterator : goal.decreases-loop-iterator
 decreases-loop-iterator g l = l.number + 1 - l.iterator'.index

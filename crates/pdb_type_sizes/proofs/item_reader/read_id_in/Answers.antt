@@ -6,5 +6,6 @@ use Rattle.pdb_type_sizes.proofs.item_reader.read_id_in.Goals as goal
 pub returns-in_err-parse-clause-value : goal.returns-in_err-parse-clause-value
 unfolding id_in
 returns-in_err-parse-clause-value c =
-    let p = err_from_is_err_and c.from_residual-in_err-parse.result c.from_residual-in_err-parse.ensures.1 in
+    let p = err_from_is_err_and c.from_residual-in_err-parse.result
+    c.from_residual-in_err-parse.ensures.1 in
     rw (c.in_ok-item.ensures.item, p.1, p.2) (given_fails _ _ c.in_err-parse.ensures)

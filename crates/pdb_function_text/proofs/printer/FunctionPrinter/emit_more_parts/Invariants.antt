@@ -6,5 +6,8 @@ use Rattle.pdb_function_text.proofs.printer.FunctionPrinter.emit_more_parts.Give
 abbrev pub invariant-loop-index : goal.invariant-loop-index
 invariant-loop-index g l = record {
   same : l.self ≡ l.fn.self;
-  text : more_parts (env_of g.P.ModuleProvider.provided l.fn.self l.asker.module_index) (drop l.index-index l.list) (string_bytes l.w) ≡ more_parts (env_of g.P.ModuleProvider.provided l.fn.self l.asker.module_index) l.list (string_bytes l.fn.w);
+  text : more_parts (env_of g.P.ModuleProvider.provided l.fn.self l.asker.module_index)
+      (drop l.index-index l.list) (string_bytes l.w)
+      ≡ more_parts (env_of g.P.ModuleProvider.provided l.fn.self l.asker.module_index) l.list
+      (string_bytes l.fn.w);
 }

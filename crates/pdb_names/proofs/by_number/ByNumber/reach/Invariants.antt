@@ -4,4 +4,9 @@ use Rattle.pdb_names.specs.Kept.{IsSameKept}
 use Rattle.pdb_names.proofs.by_number.ByNumber.reach.Given as goal
 
 abbrev pub invariant-loop : goal.invariant-loop
-invariant-loop g l = record { same : IsSameKept (kept_at l.fn.self) (kept_at l.self); reached : l.counter ≤ length l.self.modules.items }
+invariant-loop g l =
+    record {
+      same : IsSameKept (kept_at l.fn.self) (kept_at l.self);
+      reached : l.counter
+          ≤ length l.self.modules.items;
+    }

@@ -97,5 +97,11 @@ invariant-emit_more_arguments-loop-index g l = record {
   same_reference : l.seen.path.ghost_name ≡ l.fn.seen.path.ghost_name;
   level : l.seen.level ≡ l.fn.seen.level;
   path : l.seen.path.now.items ≡ l.fn.seen.path.now.items;
-  text : more_arguments (env_of g.P.ModuleProvider.provided l.fn.self l.asker.module_index) (visiting (env_of g.P.ModuleProvider.provided l.fn.self l.asker.module_index) l.fn.seen.path.now.items) l.fn.seen.path.now.items (drop l.index-index l.list) (string_bytes l.w) ≡ more_arguments (env_of g.P.ModuleProvider.provided l.fn.self l.asker.module_index) (visiting (env_of g.P.ModuleProvider.provided l.fn.self l.asker.module_index) l.fn.seen.path.now.items) l.fn.seen.path.now.items l.list (string_bytes l.fn.w);
+  text : more_arguments (env_of g.P.ModuleProvider.provided l.fn.self l.asker.module_index)
+      (visiting (env_of g.P.ModuleProvider.provided l.fn.self l.asker.module_index)
+      l.fn.seen.path.now.items) l.fn.seen.path.now.items (drop l.index-index l.list)
+      (string_bytes l.w)
+      ≡ more_arguments (env_of g.P.ModuleProvider.provided l.fn.self l.asker.module_index)
+      (visiting (env_of g.P.ModuleProvider.provided l.fn.self l.asker.module_index)
+      l.fn.seen.path.now.items) l.fn.seen.path.now.items l.list (string_bytes l.fn.w);
 }

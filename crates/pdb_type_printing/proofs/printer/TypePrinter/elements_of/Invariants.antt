@@ -7,5 +7,8 @@ use Rattle.pdb_type_printing.proofs.printer.TypePrinter.elements_of.Given as goa
 abbrev pub invariant-loop : goal.invariant-loop
 invariant-loop g l = record {
   same : l.self ≡ l.fn.self;
-  value : elements_from (env_of g.P.ModuleProvider.provided l.fn.self l.asker.module_index) (1024 - l.counter) l.passed.items l.dimensions.items l.index.0 ≡ elements_of (env_of g.P.ModuleProvider.provided l.fn.self l.asker.module_index) (array_form l.array);
+  value : elements_from (env_of g.P.ModuleProvider.provided l.fn.self l.asker.module_index)
+      (1024 - l.counter) l.passed.items l.dimensions.items l.index.0
+      ≡ elements_of (env_of g.P.ModuleProvider.provided l.fn.self l.asker.module_index)
+      (array_form l.array);
 }

@@ -10,4 +10,5 @@ returns-then-target-class-clause-value g c =
 pub returns-in_err-found-clause-value : goal.returns-in_err-found-clause-value
 returns-in_err-found-clause-value g c =
     let other : eqb c.args.target.0 c.args.class.0 ≡ false = ne_eqb _ _ c.if-target-class.false in
-    rw other (failed_answer _ _ _ _ c.from_residual.ensures.1 (ends_on _ _ _ c.in_err-found.ensures.value))
+    rw other (failed_answer _ _ _ _ c.from_residual.ensures.1
+    (ends_on _ _ _ c.in_err-found.ensures.value))

@@ -6,5 +6,6 @@ use Rattle.pdb_type_sizes.proofs.item_reader.ItemReader.size.Given as goal
 abbrev pub invariant-loop : goal.invariant-loop
 invariant-loop g l =
     (l.self ≡ l.fn.self)
-    × (size_within (parts_by g.P.ModuleProvider.provided l.self) l.module_index (1024 - l.counter) l.current.0
+    × (size_within (parts_by g.P.ModuleProvider.provided l.self) l.module_index
+    (1024 - l.counter) l.current.0
     ≡ size_at (parts_by g.P.ModuleProvider.provided l.fn.self) l.module_index (l.fn.index).0)
