@@ -120,7 +120,7 @@ unfolding frames_in_data
 in_module p env None c place all h = ap length (sym (same_ok h))
 in_module p env (Some known) c place all h =
     let last = λ (x : ExtendedModule) (row : Option LineRow).
-      function_frame p x.program (name_of p env c) (start_of c).section row in
+    function_frame p x.program (name_of p env c) (start_of c).section row in
     in_data known.stream c place (extended_of known.stream)
     (λ x found. map (call_frame p env x.program) found.1 ++ last x found.0 ∷ []) all
     (λ x found. one_more (call_frame p env x.program) found.1 (last x found.0)) h

@@ -83,10 +83,10 @@ frames_in_data p env known c place = do
   extended ← lifted (extended_of known.stream)
   found ← row_and_calls known.stream extended c place
   Ok (map (call_frame p env extended.program) found.1
-    ++ function_frame p extended.program (name_of p env c) (start_of c).section found.0 ∷ [])
+      ++ function_frame p extended.program (name_of p env c) (start_of c).section found.0 ∷ [])
 
--- the frames at a place in a chosen function whose module may have no data: then the function alone,
--- without file, line and row
+-- the frames at a place in a chosen function whose module may have no data: then the function
+-- alone, without file, line and row
 abbrev pub frames_in : Parts → Env → Option ModuleData → Chosen → PdbInternalSectionOffset → Result (List Frame) Fault
 frames_in p env None c place =
     Ok (record { function = name_of p env c; file = None; line = None; row = None } ∷ [])
