@@ -1,20 +1,12 @@
 -- Keys of functions: what they choose is what is chosen at a place.
-use Rattle.std.proofs.Common.{◌≡◌, ℕ, ◌≤◌, Bool, true, false, cond, ◌&&◌, Result, Ok, Err, List, [], ◌∷◌, refl, sym, ap, ◌∙◌, subst, arith}
+use Rattle.std.proofs.Common.{◌≡◌, ℕ, Bool, true, false, cond, ◌&&◌, List, [], ◌∷◌, refl, sym, ap, ◌∙◌, subst, arith}
 use Rattle.std.specs.Option.{option_or}
-use Rattle.std.specs.Prelude.{Option, None, Some, IfSome, option_map, option_and_then, is_some, nat_le, nat_lt, ◌==◌, slice_get}
+use Rattle.std.specs.Prelude.{Option, None, Some, option_map, is_some, nat_le, nat_lt, ◌==◌}
 use Rattle.std.proofs.lemmas.Bool.{eq-eqb, eqb-true, le-leb, leb-true, le-ltb}
 use Rattle.pdb_addresses.specs.declared.internal_section_offset.PdbInternalSectionOffset.{PdbInternalSectionOffset}
 use Rattle.pdb_contributions.specs.declared.contribution.ModuleSectionContribution.{ModuleSectionContribution}
 use Rattle.pdb_contributions.specs.Publics.{PublicFunction, is_at_or_before, last_at_or_before, not_before, public_over}
-use Rattle.pdb_frames.specs.Choice.{Parts, Chosen, Proc, Public, chosen}
-use Rattle.pdb_frames.specs.Frames.{function_of}
-use Rattle.pdb_frames.specs.Keys.{chosen_by, chosen_of_key, function_by}
-use Rattle.pdb_frames.specs.Scopes.{Scope}
-use Rattle.pdb_functions.specs.FunctionOrder.{Function}
-use Rattle.pdb_functions.specs.KeyOrder.{key_module}
-use Rattle.pdb_functions.specs.declared.function_key.FunctionKey.{FunctionKey}
-use Rattle.pdb_functions.specs.declared.function_key.FunctionKey.TheVariants as keys
-use Rattle.pdb_known_modules.specs.Modules.{ModuleData, module_data, procedures_in, procedure_if_numbered}
+use Rattle.pdb_frames.specs.Choice.{Parts, Public, chosen}
 use Rattle.pdb_module_data.specs.Procedures.{Procedure, over}
 
 -- ---- an entry of the public list is the entry of its own place
