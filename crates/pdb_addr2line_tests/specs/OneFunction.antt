@@ -10,7 +10,8 @@ function_f = record { start_rva = 0x1010; end_rva = Some 0x1030; name = Some (co
 -- f at offsets 0x10 to 0x30 of section 1, which are its only bounds
 abbrev pub one_function : Database Function
 one_function = record {
-  answer = λ p. if (p.section == 1) && (nat_le 16 p.offset && nat_lt p.offset 48) then Some function_f else None;
+  answer = λ p. if (p.section == 1) &&
+      (nat_le 16 p.offset && nat_lt p.offset 48) then Some function_f else None;
   is_bound = λ p. (p.section == 1) && ((p.offset == 16) || (p.offset == 48));
 }
 

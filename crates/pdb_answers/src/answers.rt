@@ -1,7 +1,8 @@
 //! Answers at a place, over what is kept of modules: what isn't kept yet is read and kept, and a part that can't be read stands as
 //! failed from then on.
 
-ghost use Rattle.std.specs.Prelude.{◌≡◌, ◌≤◌, ℕ, IfOk, IfSome, Ok, Option, Some, option_and_then, option_copied, option_map, slice_get, ◌||◌};
+ghost use Rattle.std.specs.Prelude.{◌≡◌, ◌≤◌, ℕ, IfOk, IfSome, Ok, Option, Some, option_and_then};
+ghost use Rattle.std.specs.Prelude.{option_copied, option_map, slice_get, ◌||◌};
 ghost use Rattle.pdb_addresses.specs.SectionRun.{up_to_next};
 ghost use Rattle.pdb_answers.specs.KnownFailures.{AreFailuresOf, data_of_modules};
 ghost use Rattle.pdb_frames.specs.Choice.{chosen, held_at};
@@ -378,7 +379,8 @@ fn key_at<I: ModuleTables>(
     place: PdbInternalSectionOffset,
 ) -> Option<FunctionKey>
     ensures index { IfSome result (λ key. key_module key ≡ contribution.module_index) }
-    ensures chosen { option_and_then (chosen_by parts.now (procedures_in (option_copied known.entry))) result
+    ensures chosen { option_and_then (chosen_by parts.now (procedures_in
+        (option_copied known.entry))) result
         ≡ chosen parts.now (procedures_in (option_copied known.entry)) contribution place }
 {
     let module_index = contribution.module_index();
@@ -426,11 +428,18 @@ fn key_run_at<'a, P: ModuleProvider>(
     place: PdbInternalSectionOffset,
     limit: u32,
 ) -> Result<(Option<FunctionKey>, u32)>
-    requires kept { AreKept (λ n. module_data (own_of (P.provided provider.now) (entries_of namer.now) n)) kept.old }
-    ensures kept { AreKept (λ n. module_data (own_of (P.provided provider.now) (entries_of namer.now) n)) kept.new }
-    ensures function { Answers (λ run. option_and_then (function_by parts.now (scope_of P.provided provider.now namer.now)) run.0) result
-        (Ok (function_at_contribution parts.now (scope_of P.provided provider.now namer.now contribution.module_index) contribution place)) }
-    ensures count { IfOk result (λ run. run.1 ≡ up_to_next (bounds_near parts.now (procedures_of (scope_of P.provided provider.now namer.now) (Some contribution)) place) place.offset limit) }
+    requires kept { AreKept (λ n. module_data (own_of (P.provided provider.now)
+        (entries_of namer.now) n)) kept.old }
+    ensures kept { AreKept (λ n. module_data (own_of (P.provided provider.now)
+        (entries_of namer.now) n)) kept.new }
+    ensures function { Answers (λ run. option_and_then (function_by parts.now
+        (scope_of P.provided provider.now namer.now)) run.0) result
+        (Ok (function_at_contribution parts.now
+        (scope_of P.provided provider.now namer.now contribution.module_index) contribution place)) }
+    ensures count { IfOk result (λ run. run.1
+        ≡ up_to_next (bounds_near parts.now (procedures_of
+        (scope_of P.provided provider.now namer.now)
+        (Some contribution)) place) place.offset limit) }
 {
     let module_index = usize::from(contribution.module_index());
     keep_module(alloc, kept, provider, namer.modules(), module_index)?;
@@ -450,11 +459,15 @@ pub fn key_run_here<'a, P: ModuleProvider>(
     limit: u32,
 ) -> Result<(Option<FunctionKey>, u32)>
     requires limit { 1 ≤ limit }
-    requires kept { AreKept (λ n. module_data (own_of (P.provided provider.now) (entries_of namer.now) n)) kept.old }
-    ensures kept { AreKept (λ n. module_data (own_of (P.provided provider.now) (entries_of namer.now) n)) kept.new }
-    ensures function { Answers (λ run. option_and_then (function_by parts.now (scope_of P.provided provider.now namer.now)) run.0) result
+    requires kept { AreKept (λ n. module_data (own_of (P.provided provider.now)
+        (entries_of namer.now) n)) kept.old }
+    ensures kept { AreKept (λ n. module_data (own_of (P.provided provider.now)
+        (entries_of namer.now) n)) kept.new }
+    ensures function { Answers (λ run. option_and_then (function_by parts.now
+        (scope_of P.provided provider.now namer.now)) run.0) result
         (Ok (function_at_place parts.now (scope_of P.provided provider.now namer.now) place)) }
-    ensures count { IfOk result (λ run. IsOneRun (database_of parts.now (scope_of P.provided provider.now namer.now)) (as_place place) limit run.1) }
+    ensures count { IfOk result (λ run. IsOneRun (database_of parts.now
+        (scope_of P.provided provider.now namer.now)) (as_place place) limit run.1) }
 {
     match parts.holder(place) {
         None => Ok((None, to_next_shared_bound(parts, place, limit))),
@@ -482,10 +495,13 @@ pub fn function_by_key<'a, P: ModuleProvider>(
     namer: &mut Namer<'a, '_, P>,
     key: &FunctionKey,
 ) -> Result<Option<Function>>
-    requires kept { AreKept (λ n. module_data (own_of (P.provided provider.now) (entries_of namer.old) n)) kept.old }
-    ensures kept { AreKept (λ n. module_data (own_of (P.provided provider.now) (entries_of namer.old) n)) kept.new }
+    requires kept { AreKept (λ n. module_data (own_of (P.provided provider.now)
+        (entries_of namer.old) n)) kept.old }
+    ensures kept { AreKept (λ n. module_data (own_of (P.provided provider.now)
+        (entries_of namer.old) n)) kept.new }
     ensures same { namer.new ≡ namer.old }
-    ensures function { Answers (λ f. f) result (Ok (function_by parts.now (scope_of P.provided provider.now namer.old) key.now)) }
+    ensures function { Answers (λ f. f) result (Ok (function_by parts.now
+        (scope_of P.provided provider.now namer.old) key.now)) }
 {
     let module_index = usize::from(key.module_index());
     keep_module(alloc, kept, provider, namer.modules(), module_index)?;

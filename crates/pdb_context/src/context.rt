@@ -1,6 +1,7 @@
 //! A context: answers about addresses of an image.
 
-ghost use Rattle.std.specs.Prelude.{◌≡◌, ◌≤◌, true, IfOk, Ok, Some, is_some, length, option_and_then, option_map, Option, Result as Answer};
+ghost use Rattle.std.specs.Prelude.{◌≡◌, ◌≤◌, true, IfOk, Ok, Some, is_some, length};
+ghost use Rattle.std.specs.Prelude.{option_and_then, option_map, Option, Result as Answer};
 ghost use Rattle.pdb_addresses.specs.Addresses.{IsOrdered};
 ghost use Rattle.pdb_resolving.specs.Fault.{Answers, Fault};
 ghost use Rattle.pdb_answers.specs.Choice.{held_at, place_of};
@@ -319,9 +320,11 @@ impl<'a, 's, P: ModuleProvider> Context<'a, 's, P> {
         requires { 1 ≤ limit }
         ensures same { uncounted self.new ≡ uncounted self.old }
         ensures lookups { self.new.lookups ≡ lookups_after true result self.old.lookups }
-        ensures function { Answers (λ run. option_and_then (function_by self.old.parts (scope_in P.provided self.old)) run.0) result
+        ensures function { Answers (λ run. option_and_then (function_by self.old.parts
+            (scope_in P.provided self.old)) run.0) result
             (Ok (function_at_place self.old.parts (scope_in P.provided self.old) offset)) }
-        ensures count { IfOk result (λ run. IsOneRun (database_of self.old.parts (scope_in P.provided self.old)) (as_place offset) limit run.1) }
+        ensures count { IfOk result (λ run. IsOneRun (database_of self.old.parts
+            (scope_in P.provided self.old)) (as_place offset) limit run.1) }
     {
         let run = key_run_here(
             alloc,
@@ -341,7 +344,8 @@ impl<'a, 's, P: ModuleProvider> Context<'a, 's, P> {
     /// `OutOfMemory` alone.
     pub fn function_by_key(&mut self, alloc: Global, key: &FunctionKey) -> Result<Option<Function>>
         ensures same { self.new ≡ self.old }
-        ensures function { Answers (λ f. f) result (Ok (function_by self.old.parts (scope_in P.provided self.old) key.now)) }
+        ensures function { Answers (λ f. f) result (Ok (function_by self.old.parts
+            (scope_in P.provided self.old) key.now)) }
     {
         function_by_key(
             alloc,

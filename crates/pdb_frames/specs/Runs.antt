@@ -34,4 +34,7 @@ function_here p scope place = option_and_then (λ held. function_at p (scope (he
 
 -- the function at each place, and whether an answer may change there
 abbrev pub database_of : Parts → (ℕ → Scope) → Database Function
-database_of p scope = record { answer = λ place. function_here p scope (internal_place place); is_bound = λ place. is_bound p scope (internal_place place) }
+database_of p scope = record {
+  answer = λ place. function_here p scope (internal_place place);
+  is_bound = λ place. is_bound p scope (internal_place place);
+}

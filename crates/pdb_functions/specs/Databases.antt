@@ -3,12 +3,14 @@ use Rattle.std.specs.Prelude.{◌≡◌, ℕ, ◌+◌, ◌<◌, ◌≤◌, Bool,
 use Rattle.pdb_addresses.specs.Places.{Place}
 use Rattle.pdb_addresses.specs.declared.internal_section_offset.PdbInternalSectionOffset.{PdbInternalSectionOffset}
 
--- the answer at each place, and whether the place is a bound: a start or an end of something that answers are found by
+-- the answer at each place, and whether the place is a bound: a start or an end of something that
+-- answers are found by
 pub record Database (A : Type 0) : Type 0 where
   pub answer : Place → Option A
   pub is_bound : Place → Bool
 
--- what answers places by keys: the answer that a key stands for, if there is one, and the answers at places
+-- what answers places by keys: the answer that a key stands for, if there is one, and the answers
+-- at places
 pub record Keyed (K A : Type 0) : Type 0 where
   pub answer_of : K → Option A
   pub places : Database A

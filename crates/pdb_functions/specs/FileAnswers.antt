@@ -7,7 +7,8 @@ use Rattle.std.specs.declared.cmp.Ordering.{Ordering}
 use Rattle.pdb_functions.specs.declared.file_answer.FileAnswer as answers
 use Rattle.pdb_functions.specs.declared.file_answer.FileAnswer.TheVariants as variants
 
--- the file of an address: there is nothing, or it can't be read, or the file isn't known, or it is a text
+-- the file of an address: there is nothing, or it can't be read, or the file isn't known, or it is
+-- a text
 pub data FileAnswer : Type 0 where
   Nothing : FileAnswer
   Unreadable : FileAnswer
@@ -37,4 +38,5 @@ name_of (File name) = name
 
 -- by kind, and files by the bytes of their texts
 abbrev pub file_cmp : FileAnswer → FileAnswer → Ordering
-file_cmp a b = ordering_then (nat_cmp (kind_of a) (kind_of b)) (slice_cmp nat_cmp (name_of a) (name_of b))
+file_cmp a b =
+    ordering_then (nat_cmp (kind_of a) (kind_of b)) (slice_cmp nat_cmp (name_of a) (name_of b))

@@ -3,8 +3,10 @@ use Rattle.std.proofs.Common.{◌≡◌, ℕ, zero, suc, List, refl, sym, ap, �
 use Rattle.std.specs.Cmp.{IsTotalOrder, on_total, then_total, nat_cmp_total}
 use Rattle.std.specs.Cmp.Lexicographic.{slice_cmp, nat_list_cmp_total}
 use Rattle.std.specs.Ordering.{nat_cmp}
-use Rattle.std.proofs.lemmas.Map.Lookups.{CmpEqualImpliesEq, exact_unsigned, exact_bytes, exact_pairs}
-use Rattle.pdb_functions.specs.FileAnswers.{FileAnswer, Nothing, Unreadable, NoFile, File, file_cmp, kind_of, name_of}
+use Rattle.std.proofs.lemmas.Map.Lookups.{CmpEqualImpliesEq, exact_unsigned, exact_bytes}
+use Rattle.std.proofs.lemmas.Map.Lookups.{exact_pairs}
+use Rattle.pdb_functions.specs.FileAnswers.{FileAnswer, Nothing, Unreadable, NoFile, File, file_cmp}
+use Rattle.pdb_functions.specs.FileAnswers.{kind_of, name_of}
 
 pub file_total : IsTotalOrder file_cmp
 file_total = then_total (on_total kind_of nat_cmp_total) (on_total name_of nat_list_cmp_total)
@@ -25,4 +27,6 @@ file_back (File name) = refl
 
 -- files that compare as equal are one
 pub file_exact : CmpEqualImpliesEq file_cmp
-file_exact a b h = sym (file_back a) ∙ ap file_by (exact_pairs nat_cmp (slice_cmp nat_cmp) exact_unsigned exact_bytes (kind_of a, name_of a) (kind_of b, name_of b) h) ∙ file_back b
+file_exact a b h = sym (file_back a) ∙ ap file_by (exact_pairs nat_cmp
+    (slice_cmp nat_cmp) exact_unsigned exact_bytes (kind_of a, name_of a)
+    (kind_of b, name_of b) h) ∙ file_back b

@@ -7,9 +7,11 @@ use Rattle.pdb_functions.specs.Databases.{Database}
 use Rattle.pdb_functions.specs.Table.{IsTable, count_in}
 use Rattle.pdb_functions.specs.Texts.{by_file_text}
 
--- a line for each file that some address has, in the order of their texts, each with its count, and the counts of addresses without a
--- known file, of those that have nothing, and of those that can't be read
-pub record IsFileReport (m : Map) (db : Database FileAnswer) (s e : ℕ) (text : List ℕ) : Type 0 where
+-- a line for each file that some address has, in the order of their texts, each with its count, and
+-- the counts of addresses without a known file, of those that have nothing, and of those that can't
+-- be read
+pub record IsFileReport (m : Map) (db : Database FileAnswer) (s e : ℕ)
+    (text : List ℕ) : Type 0 where
   pub table : List (FileAnswer × ℕ)
   pub in_order : IsTable file_cmp table
   pub each : (f : FileAnswer) → count_in file_cmp table f ≡ count file_cmp m db s e f

@@ -30,8 +30,8 @@ file_text (Unreadable, n) = []
 file_text (NoFile, n) = []
 file_text (File name, n) = decimal n ++ codes " " ++ name ++ 10 ∷ []
 
--- the report by file: a line for each file, and then the counts of addresses without a known file, of those that have nothing, and
--- of those that can't be read
+-- the report by file: a line for each file, and then the counts of addresses without a known file,
+-- of those that have nothing, and of those that can't be read
 abbrev pub by_file_text : List (FileAnswer × ℕ) → ℕ → List ℕ
 by_file_text table none =
     flat_map file_text table

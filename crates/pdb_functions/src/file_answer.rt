@@ -1,9 +1,11 @@
 //! The file of an address.
 
 ghost use Rattle.std.specs.Prelude.{◌≡◌, Some, refl};
-ghost use Rattle.std.specs.Cmp.{eq_by_cmp_equiv, partial_equiv_from_equiv, partial_order_from_total};
+ghost use Rattle.std.specs.Cmp.{eq_by_cmp_equiv, partial_equiv_from_equiv};
+ghost use Rattle.std.specs.Cmp.{partial_order_from_total};
 ghost use Rattle.pdb_functions.specs.Answers.{is_same};
-ghost use Rattle.pdb_functions.specs.FileAnswers.{FileAnswer as FileValue, file_cmp, file_seen, kind_of, name_of};
+ghost use Rattle.pdb_functions.specs.FileAnswers.{FileAnswer as FileValue, file_cmp, file_seen};
+ghost use Rattle.pdb_functions.specs.FileAnswers.{kind_of, name_of};
 ghost use Rattle.pdb_functions.specs.FileLaws.{file_total, file_exact};
 
 use crate::answer::Answer;

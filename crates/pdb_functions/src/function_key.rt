@@ -1,15 +1,17 @@
 //! What tells functions apart, without their names.
 
 ghost use Rattle.std.specs.Prelude.{◌≡◌, Some, refl};
-ghost use Rattle.std.specs.Cmp.{eq_by_cmp_equiv, partial_equiv_from_equiv, partial_order_from_total};
+ghost use Rattle.std.specs.Cmp.{eq_by_cmp_equiv, partial_equiv_from_equiv};
+ghost use Rattle.std.specs.Cmp.{partial_order_from_total};
 ghost use Rattle.pdb_functions.specs.Answers.{is_same};
-ghost use Rattle.pdb_functions.specs.KeyOrder.{key_cmp, key_module, key_numbers, key_total, key_exact};
+ghost use Rattle.pdb_functions.specs.KeyOrder.{key_cmp, key_module, key_numbers, key_total};
+ghost use Rattle.pdb_functions.specs.KeyOrder.{key_exact};
 
 use crate::answer::Answer;
 use pdb_addresses::PdbInternalSectionOffset;
 use std::cmp::Ordering;
 
-/// What tells functions apart, without their names: two functions that are found by one key are one.
+/// What tells functions apart, without their names: what is found by one key is one function.
 #[derive(Clone, Copy, Debug)]
 pub enum FunctionKey {
     /// A procedure, by its module's index and its number among that module's procedures, counted

@@ -21,33 +21,45 @@ pub fn functions_in_order()
 
 /// The counts of two ranges, one after the other, add up to those of both.
 pub fn counts_add_up()
-    ensures each { (m : Map) (db : Database FunctionValue) (a b c : ℕ) (f : FunctionValue) → a ≤ b → b ≤ c → count function_cmp m db a b f + count function_cmp m db b c f ≡ count function_cmp m db a c f }
-    ensures none { (m : Map) (db : Database FunctionValue) (a b c : ℕ) → a ≤ b → b ≤ c → count_of_none m db a b + count_of_none m db b c ≡ count_of_none m db a c }
+    ensures each { (m : Map) (db : Database FunctionValue) (a b c : ℕ) (f : FunctionValue)
+        → a ≤ b → b ≤ c → count function_cmp m db a b f + count function_cmp m db b c f
+        ≡ count function_cmp m db a c f }
+    ensures none { (m : Map) (db : Database FunctionValue) (a b c : ℕ) → a ≤ b → b ≤ c
+        → count_of_none m db a b + count_of_none m db b c ≡ count_of_none m db a c }
 {}
 
 /// What a table has for each function determines it: a report's lines and their order.
 pub fn tables_are_determined()
-    ensures { (t u : List (FunctionValue × ℕ)) → IsTable function_cmp t → IsTable function_cmp u → ((f : FunctionValue) → count_in function_cmp t f ≡ count_in function_cmp u f) → t ≡ u }
+    ensures { (t u : List (FunctionValue × ℕ)) → IsTable function_cmp t → IsTable function_cmp u
+        → ((f : FunctionValue) → count_in function_cmp t f ≡ count_in function_cmp u f) → t ≡ u }
 {}
 
 /// The counts of a report, with the count of nothing, add up to the number of the range's addresses. What the reports on two
 /// ranges, one after the other, have for a function adds up to what the report on both has.
 pub fn reports_add_up()
-    ensures sum { (m : Map) (db : Database FunctionValue) (s e : ℕ) (text : List ℕ) → s ≤ e → (r : IsReport m db s e text) → sum_of r.table + count_of_none m db s e ≡ e - s }
-    ensures joined { (m : Map) (db : Database FunctionValue) (a b c : ℕ) (x y z : List ℕ) → a ≤ b → b ≤ c → (p : IsReport m db a b x) (q : IsReport m db b c y) (r : IsReport m db a c z) (f : FunctionValue) → count_in function_cmp p.table f + count_in function_cmp q.table f ≡ count_in function_cmp r.table f }
+    ensures sum { (m : Map) (db : Database FunctionValue) (s e : ℕ) (text : List ℕ) → s ≤ e
+        → (r : IsReport m db s e text) → sum_of r.table + count_of_none m db s e ≡ e - s }
+    ensures joined { (m : Map) (db : Database FunctionValue) (a b c : ℕ) (x y z : List ℕ)
+        → a ≤ b → b ≤ c → (p : IsReport m db a b x) (q : IsReport m db b c y)
+        (r : IsReport m db a c z) (f : FunctionValue)
+        → count_in function_cmp p.table f + count_in function_cmp q.table f
+        ≡ count_in function_cmp r.table f }
 {}
 
 /// The counts of a report by file, with the count of nothing, add up to the number of the range's
-/// addresses. Where each function has a file, or is unreadable, or its file isn't known, they add up
-/// to the counts of all functions and the number of addresses that have one of these, and no
+/// addresses. Where each function has a file, no known file, or frames that can't be read, they add
+/// up to the counts of all functions and the number of addresses that have one of these, and no
 /// function.
 pub fn file_reports_add_up()
     ensures sum { (m : Map) (db : Database FileValue) (s e : ℕ) (text : List ℕ) → s ≤ e
         → (r : IsFileReport m db s e text) → sum_of r.table + count_of_none m db s e ≡ e - s }
-    ensures joined { (m : Map) (db : Database FileValue) (a b c : ℕ) (x y z : List ℕ) → a ≤ b → b ≤ c
+    ensures joined { (m : Map) (db : Database FileValue) (a b c : ℕ) (x y z : List ℕ) → a ≤ b
+        → b ≤ c
         → (p : IsFileReport m db a b x) (q : IsFileReport m db b c y) (r : IsFileReport m db a c z)
-        → (f : FileValue) → count_in file_cmp p.table f + count_in file_cmp q.table f ≡ count_in file_cmp r.table f }
-    ensures functions { (m : Map) (db : Database FunctionValue) (files : Database FileValue) (s e : ℕ) (x y : List ℕ) → s ≤ e
+        → (f : FileValue) → count_in file_cmp p.table f + count_in file_cmp q.table f
+        ≡ count_in file_cmp r.table f }
+    ensures functions { (m : Map) (db : Database FunctionValue) (files : Database FileValue)
+        (s e : ℕ) (x y : List ℕ) → s ≤ e
         → ((place : Place) → is_some (db.answer place) ≡ true → is_some (files.answer place) ≡ true)
         → (p : IsReport m db s e x) (q : IsFileReport m files s e y)
         → sum_of q.table ≡ sum_of p.table + count_without m db files s e }

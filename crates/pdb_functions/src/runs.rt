@@ -33,9 +33,11 @@ pub trait Runs {
         requires within { place.offset + limit ≤ 2 ^ 32 }
         ensures answer { IfOk result (λ r. option_and_then (keyed self.old).answer_of r.0
             ≡ ((keyed self.old).places).answer (place_of place)) }
-        ensures count { IfOk result (λ r. IsOneRun (keyed self.old).places (place_of place) limit r.1) }
+        ensures count { IfOk result (λ r. IsOneRun (keyed self.old).places
+            (place_of place) limit r.1) }
         ensures same { keyed self.new ≡ keyed self.old }
-        ensures lookups { OnOk result (lookups self.new ≡ min (lookups self.old + 1) (2 ^ 64 - 1)) };
+        ensures lookups { OnOk result (lookups self.new
+            ≡ min (lookups self.old + 1) (2 ^ 64 - 1)) };
 
     /// Returns the answer that a key stands for, if there is one.
     fn answer_of(

@@ -4,7 +4,8 @@ ghost use Rattle.std.specs.Prelude.{◌≡◌, ℕ, ◌+◌, ◌-◌, ◌^◌, �
 ghost use Rattle.pdb_addresses.specs.Addresses.{IsOrdered};
 ghost use Rattle.pdb_functions.specs.Counts.{count, count_of_none, pieces, answer_at, answer_along, begins, begins_along, is_section_bound};
 ghost use Rattle.pdb_functions.specs.Databases.{place_of};
-ghost use Rattle.pdb_functions.specs.Table.{IsTable, IsCounted, IsResolved, IsWithin, count_in, sum_of};
+ghost use Rattle.pdb_functions.specs.Table.{IsTable, IsCounted, IsResolved, IsWithin, count_in};
+ghost use Rattle.pdb_functions.specs.Table.{sum_of};
 
 use crate::answer::Answer;
 use crate::runs::Runs;
@@ -34,11 +35,15 @@ pub fn count_runs<R: Runs>(
 ) -> Result<Sizes<R::Found>, AllocError>
     requires ordered { IsOrdered map.now }
     requires order { start ≤ end }
-    ensures each { IfOk result (λ sizes. (f : R.Found) → count_in R.Found.cmp sizes.counts f ≡ count R.Found.cmp map.now (R.keyed runs.old).places start end f) }
+    ensures each { IfOk result (λ sizes. (f : R.Found)
+        → count_in R.Found.cmp sizes.counts f
+        ≡ count R.Found.cmp map.now (R.keyed runs.old).places start end f) }
     ensures table { IfOk result (λ sizes. IsTable R.Found.cmp sizes.counts) }
-    ensures none { IfOk result (λ sizes. sizes.none ≡ count_of_none map.now (R.keyed runs.old).places start end) }
+    ensures none { IfOk result (λ sizes. sizes.none
+        ≡ count_of_none map.now (R.keyed runs.old).places start end) }
     ensures all { IfOk result (λ sizes. sum_of sizes.counts + sizes.none ≡ end - start) }
-    ensures lookups { OnOk result (R.lookups runs.new ≤ R.lookups runs.old + pieces map.now (R.keyed runs.old).places start end) }
+    ensures lookups { OnOk result (R.lookups runs.new
+        ≤ R.lookups runs.old + pieces map.now (R.keyed runs.old).places start end) }
     ensures same { R.keyed runs.new ≡ R.keyed runs.old }
 {
     ranges_laid_end_to_end();
@@ -59,7 +64,8 @@ fn resolve<R: Runs>(
     keys: &Counts<R::Key>,
 ) -> Result<Counts<R::Found>, AllocError>
     requires room { sum_of keys.now < 2 ^ 64 }
-    ensures resolved { IfOk result (λ counts. IsResolved (R.keyed runs.old).answer_of keys.now counts) }
+    ensures resolved { IfOk result (λ counts. IsResolved
+        (R.keyed runs.old).answer_of keys.now counts) }
     ensures lookups { OnOk result (R.lookups runs.new ≡ R.lookups runs.old) }
     ensures same { R.keyed runs.new ≡ R.keyed runs.old }
 {
@@ -80,8 +86,12 @@ fn count_range<R: Runs>(
     range: Range<PdbInternalRva>,
 ) -> Result<(), AllocError>
     requires room { sum_of keys.old + (range.end.0 - range.start.0) < 2 ^ 64 }
-    ensures counted { OnOk result (IsCounted (R.keyed runs.old).answer_of (answer_at map.now.internal (R.keyed runs.old).places) range.start.0 (range.end.0 - range.start.0) keys.old keys.new) }
-    ensures lookups { OnOk result (IsWithin (begins map.now.internal (R.keyed runs.old).places range.start.0) range.start.0 (range.end.0 - range.start.0) (R.lookups runs.old) (R.lookups runs.new)) }
+    ensures counted { OnOk result (IsCounted (R.keyed runs.old).answer_of
+        (answer_at map.now.internal (R.keyed runs.old).places) range.start.0
+        (range.end.0 - range.start.0) keys.old keys.new) }
+    ensures lookups { OnOk result (IsWithin (begins map.now.internal
+        (R.keyed runs.old).places range.start.0) range.start.0 (range.end.0 - range.start.0)
+        (R.lookups runs.old) (R.lookups runs.new)) }
     ensures same { R.keyed runs.new ≡ R.keyed runs.old }
 {
     let end = range.end.0;
@@ -114,8 +124,11 @@ fn count_section<R: Runs>(
     requires room { sum_of keys.old + limit < 2 ^ 64 }
     ensures some { IfOk result (λ n. 1 ≤ n) }
     ensures within { IfOk result (λ n. n ≤ limit) }
-    ensures counted { IfOk result (λ n. IsCounted (R.keyed runs.old).answer_of (answer_at map.now.internal (R.keyed runs.old).places) address.0 n keys.old keys.new) }
-    ensures lookups { IfOk result (λ n. IsWithin (begins map.now.internal (R.keyed runs.old).places address.0) address.0 n (R.lookups runs.old) (R.lookups runs.new)) }
+    ensures counted { IfOk result (λ n. IsCounted (R.keyed runs.old).answer_of
+        (answer_at map.now.internal (R.keyed runs.old).places) address.0 n keys.old keys.new) }
+    ensures lookups { IfOk result (λ n. IsWithin (begins map.now.internal
+        (R.keyed runs.old).places address.0) address.0 n (R.lookups runs.old)
+        (R.lookups runs.new)) }
     ensures ends { IfOk result (λ n. n < limit → is_section_bound map.now.internal (address.0 + n) ≡ true) }
     ensures same { R.keyed runs.new ≡ R.keyed runs.old }
 {
@@ -139,8 +152,10 @@ fn count_places<R: Runs>(
 ) -> Result<(), AllocError>
     requires within { place.offset + count ≤ 2 ^ 32 }
     requires room { sum_of keys.old + count < 2 ^ 64 }
-    ensures counted { OnOk result (IsCounted (R.keyed runs.old).answer_of (answer_along (R.keyed runs.old).places (Some (place_of place))) 0 count keys.old keys.new) }
-    ensures lookups { OnOk result (IsWithin (begins_along (R.keyed runs.old).places (Some (place_of place))) 0 count (R.lookups runs.old) (R.lookups runs.new)) }
+    ensures counted { OnOk result (IsCounted (R.keyed runs.old).answer_of (answer_along
+        (R.keyed runs.old).places (Some (place_of place))) 0 count keys.old keys.new) }
+    ensures lookups { OnOk result (IsWithin (begins_along (R.keyed runs.old).places (Some
+        (place_of place))) 0 count (R.lookups runs.old) (R.lookups runs.new)) }
     ensures same { R.keyed runs.new ≡ R.keyed runs.old }
 {
     let mut done = 0;

@@ -23,7 +23,8 @@ impl<A: Answer> Model for Counts<A> {
 
     ghost view = { λ t. t.by_answer.entries };
 
-    ghost invariant = { λ t. IsTable A.cmp t.by_answer.entries × (sum_of t.by_answer.entries ≡ t.total) };
+    ghost invariant = { λ t. IsTable A.cmp t.by_answer.entries × (sum_of t.by_answer.entries
+        ≡ t.total) };
 }
 
 impl<A: Answer> Counts<A> {

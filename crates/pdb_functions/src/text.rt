@@ -4,7 +4,8 @@ ghost use Rattle.std.specs.Prelude.{◌≡◌, ◌++◌, IfOk, OnOk, option_map}
 ghost use Rattle.std.specs.List.{flat_map};
 ghost use Rattle.std.specs.String.{string_bytes};
 ghost use Rattle.pdb_functions.specs.FileAnswers.{file_seen, NoFile, Unreadable};
-ghost use Rattle.pdb_functions.specs.Texts.{text_or, size_text, sizes_text as sizes_text_of, file_text, by_file_text as by_file_text_of};
+ghost use Rattle.pdb_functions.specs.Texts.{text_or, size_text, sizes_text as sizes_text_of};
+ghost use Rattle.pdb_functions.specs.Texts.{file_text, by_file_text as by_file_text_of};
 
 use crate::file_answer::{CountedFile, FileAnswer};
 use crate::function::Function;
@@ -15,7 +16,8 @@ use std::fmt::Write;
 
 /// The report: a line for each function, and then the number of addresses that have none.
 pub fn sizes_text(alloc: Global, sizes: &Sizes<Function>) -> Result<String, AllocError>
-    ensures { IfOk result (λ text. string_bytes text ≡ sizes_text_of sizes.now.counts sizes.now.none) }
+    ensures { IfOk result (λ text. string_bytes text
+        ≡ sizes_text_of sizes.now.counts sizes.now.none) }
 {
     let mut text = String::new(alloc);
     append_lines(&mut text, sizes.counts.by_answer())?;
@@ -53,10 +55,11 @@ fn text_or_unknown(text: &Option<String>) -> &str
     }
 }
 
-/// The report by file: a line for each file, and then the numbers of addresses without a known file, of
-/// those that have nothing, and of those that can't be read.
+/// Returns the report by file: a line for each file, and then the numbers of addresses without a
+/// known file, of those that have nothing, and of those that can't be read.
 pub fn by_file_text(alloc: Global, sizes: &Sizes<CountedFile>) -> Result<String, AllocError>
-    ensures { IfOk result (λ text. string_bytes text ≡ by_file_text_of sizes.now.counts sizes.now.none) }
+    ensures { IfOk result (λ text. string_bytes text
+        ≡ by_file_text_of sizes.now.counts sizes.now.none) }
 {
     let mut text = String::new(alloc);
     append_files(&mut text, sizes.counts.by_answer())?;
@@ -75,7 +78,8 @@ pub fn by_file_text(alloc: Global, sizes: &Sizes<CountedFile>) -> Result<String,
 
 /// Appends the lines of files and their numbers.
 fn append_files(text: &mut String, numbers: &BTreeMap<CountedFile, u64>) -> Result<(), AllocError>
-    ensures { OnOk result (string_bytes text.new ≡ string_bytes text.old ++ flat_map file_text numbers.now.entries) }
+    ensures { OnOk result (string_bytes text.new
+        ≡ string_bytes text.old ++ flat_map file_text numbers.now.entries) }
 {
     for (file, count) in numbers {
         append_file(text, file, *count)?;
@@ -85,7 +89,8 @@ fn append_files(text: &mut String, numbers: &BTreeMap<CountedFile, u64>) -> Resu
 
 /// Appends the line of a file and its number; nothing where it is no file.
 fn append_file(text: &mut String, file: &CountedFile, count: u64) -> Result<(), AllocError>
-    ensures { OnOk result (string_bytes text.new ≡ string_bytes text.old ++ file_text (file.now, count)) }
+    ensures { OnOk result (string_bytes text.new
+        ≡ string_bytes text.old ++ file_text (file.now, count)) }
 {
     match &file.answer {
         FileAnswer::File(name) => write!(text, "{count} {name}\n"),

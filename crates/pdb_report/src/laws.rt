@@ -27,7 +27,10 @@ pub fn files_that_were_read()
 /// reports on two ranges, one after the other, have for a function, and for nothing, adds up to what the report on both has.
 pub fn size_reports_add_up()
     ensures sum { (s : Streams) (start end : ℕ) (text : List ℕ) → start ≤ end → (r : IsSizesReport s start end text) → sum_of r.report.table + count_of_none r.map (database s) start end ≡ end - start }
-    ensures each { (s : Streams) (a b c : ℕ) (x y z : List ℕ) → a ≤ b → b ≤ c → (p : IsSizesReport s a b x) (q : IsSizesReport s b c y) (r : IsSizesReport s a c z) (f : FunctionValue) → count_in function_cmp p.report.table f + count_in function_cmp q.report.table f ≡ count_in function_cmp r.report.table f }
+    ensures each { (s : Streams) (a b c : ℕ) (x y z : List ℕ) → a ≤ b → b ≤ c
+        → (p : IsSizesReport s a b x) (q : IsSizesReport s b c y) (r : IsSizesReport s a c z)
+        (f : FunctionValue) → count_in function_cmp p.report.table f
+        + count_in function_cmp q.report.table f ≡ count_in function_cmp r.report.table f }
     ensures none { (s : Streams) (a b c : ℕ) (x y z : List ℕ) → a ≤ b → b ≤ c → (p : IsSizesReport s a b x) (q : IsSizesReport s b c y) (r : IsSizesReport s a c z) → count_of_none p.map (database s) a b + count_of_none q.map (database s) b c ≡ count_of_none r.map (database s) a c }
 {}
 
