@@ -48,7 +48,7 @@ pub fn page_layout()
 {}
 
 /// What follows the pages that a header counts is part of no stream: with it and without it a file
-/// opens with the same header or fault, and has the same streams, each with the same bytes or fault.
+/// has the same header or fault of it, and the same streams, each with the same bytes or fault.
 pub fn tail_of_no_stream()
     ensures opens { (file tail : List ℕ) → 4096 ≤ length file
         → layout_of (file ++ tail) ≡ layout_of file }
