@@ -294,11 +294,15 @@ def measured(program, file, addresses, limit):
     before = lambda: resource.setrlimit(resource.RLIMIT_CPU, (limit, limit))
     how = {"stdin": subprocess.PIPE, "stdout": subprocess.DEVNULL, "stderr": subprocess.PIPE}
     ran = subprocess.Popen([program, "frames", file], preexec_fn=before, **how)
-    ran.stdin.write(asked)
-    ran.stdin.close()
+    try:
+        ran.stdin.write(asked)
+        ran.stdin.close()
+    except BrokenPipeError:
+        pass  # (it ended before it read all)
     said = ran.stderr.read().decode().strip()
     _, status, used = os.wait4(ran.pid, 0)
-    ended = said or ("" if status == 0 else f"status {status}")
+    code = os.waitstatus_to_exitcode(status)
+    ended = said or ("" if code == 0 else f"status {code}")
     return ended, used.ru_utime + used.ru_stime, used.ru_maxrss / 1024
 
 

@@ -106,8 +106,10 @@ fn tell_frame(rt: &impl Print, frame: &Frame<'_>) -> Result<()> {
 fn tell_row(rt: &impl Print, row: Option<FrameRow>) -> Result<()> {
     if let Some(row) = row {
         let start = row.start_rva;
-        let length = row.length.unwrap_or(0);
-        println!(rt; "    whose code is {length} bytes at {start:#x}")?;
+        match row.length {
+            Some(length) => println!(rt; "    whose code is {length} bytes at {start:#x}")?,
+            None => println!(rt; "    whose code begins at {start:#x}")?,
+        }
     }
     Ok(())
 }

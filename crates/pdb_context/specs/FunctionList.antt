@@ -34,7 +34,7 @@ functions_left p scope addresses = record { functions = functions_at p scope add
 abbrev pub none_left : FunctionsLeft
 none_left = record { functions = []; addresses = 0 }
 
--- One item: the first of the functions that were left, or want of memory, behind which nothing is left; at the end nothing was.
+-- One item: the first of the functions that were left, or out of memory, after which nothing is left; at the end nothing was.
 abbrev pub GivesFunction : FunctionsLeft → Option (Result Function Error) → FunctionsLeft → Type 0
 GivesFunction old None new = (old.functions ≡ []) × (new ≡ none_left)
 GivesFunction old (Some (Ok f)) new = old.functions ≡ f ∷ new.functions

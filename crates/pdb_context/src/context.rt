@@ -162,7 +162,7 @@ impl<'a, 's, P: ModuleProvider> Context<'a, 's, P> {
     }
 
     /// How many places were looked up: one for each question about an RVA that has a place, and for each run, that wasn't refused
-    /// for want of memory; at `u64::MAX` it stays. What [`Context::functions`] adds isn't told.
+    /// for lack of memory; at `u64::MAX` it stays. How many [`Context::functions`] adds no clause says.
     pub fn lookups(&self) -> u64
         ensures { result ≡ self.now.lookups }
     {

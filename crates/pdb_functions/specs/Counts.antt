@@ -78,10 +78,10 @@ pieces m db s e = in_ranges (begins m.internal db) (internal_ranges m.to_interna
 
 -- ---- along the places from one on, or along no places
 
--- the answer at the place so many bytes behind
+-- the answer at the place so many bytes after it
 abbrev pub answer_along : {A : Type 0} → Database A → Option Place → ℕ → Option A
 answer_along db p k = option_and_then db.answer (place_on k p)
 
--- whether a piece begins at the place so many bytes behind
+-- whether a piece begins at the place so many bytes after it
 abbrev pub begins_along : {A : Type 0} → Database A → Option Place → ℕ → Bool
 begins_along db p k = (k == 0) || is_bound_in db (place_on k p)

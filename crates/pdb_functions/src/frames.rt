@@ -87,7 +87,7 @@ pub(crate) fn clone_file<'a>(
 }
 
 impl<'a> Frame<'a> {
-    /// A copy, equal in all fields. It is refused for want of memory alone.
+    /// A copy, equal in all fields. It is refused only when memory runs out.
     pub fn try_clone(&self, alloc: Global) -> Result<Frame<'a>, AllocError>
         ensures { IfOk result (λ f. f ≡ self.now) }
     {
@@ -103,7 +103,7 @@ impl<'a> Frame<'a> {
 }
 
 impl<'a> FunctionFrames<'a> {
-    /// A copy, equal in all fields. It is refused for want of memory alone.
+    /// A copy, equal in all fields. It is refused only when memory runs out.
     pub fn try_clone(&self, alloc: Global) -> Result<FunctionFrames<'a>, AllocError>
         ensures { IfOk result (λ f. f ≡ self.now) }
     {

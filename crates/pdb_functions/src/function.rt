@@ -32,7 +32,7 @@ impl Model for Function {
 }
 
 impl Function {
-    /// A copy, equal in all fields. It is refused for want of memory alone.
+    /// A copy, equal in all fields. It is refused only when memory runs out.
     pub fn try_clone(&self, alloc: Global) -> Result<Function, AllocError>
         ensures { IfOk result (λ f. f ≡ self.now) }
     {

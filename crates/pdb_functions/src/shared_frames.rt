@@ -71,7 +71,7 @@ pub fn owned_name(alloc: Global, name: &Option<ArcStr>) -> Result<Option<String>
 }
 
 impl<'a> SharedFrame<'a> {
-    /// A frame with a name of its own, equal in all fields. It is refused for want of memory alone.
+    /// A frame with a name of its own, equal in all fields. It is refused only when memory runs out.
     pub fn to_frame(&self, alloc: Global) -> Result<Frame<'a>, AllocError>
         ensures { IfOk result (λ f. f ≡ self.now) }
     {
@@ -87,7 +87,8 @@ impl<'a> SharedFrame<'a> {
 }
 
 impl<'a> SharedFunctionFrames<'a> {
-    /// Frames with names of their own, equal in all fields. They are refused for want of memory alone.
+    /// Frames with names of their own, equal in all fields. They are refused only when memory
+    /// runs out.
     pub fn to_frames(&self, alloc: Global) -> Result<FunctionFrames<'a>, AllocError>
         ensures { IfOk result (λ f. f ≡ self.now) }
     {

@@ -25,7 +25,7 @@ pub struct Sizes<A: Answer> {
 }
 
 /// Counts the answers of the addresses from `start` on and before `end`: it asks once for each
-/// piece, at most, and once for the answer of each key that it was told.
+/// piece, at most, and once for the answer of each key that it found.
 pub fn count_runs<R: Runs>(
     alloc: Global,
     map: &AddressMap<'_>,

@@ -66,7 +66,7 @@ fn row_of(
 /// Line data, where a function begins, an offset in it, and the row there.
 const LINES: &[(&[u32], (u16, u32), u32, Result<Option<Row>, Error>)] = &[
     // By their starts and not by their order in the file; of equal starts the last. Line 5 goes on
-    // to the end of the code, and behind line 7 the file has an entry that lies before it.
+    // to the end of the code, and after line 7 the file has an entry that lies before it.
     (TWO_BLOCKS, (1, 0x10), 0x14, Ok(Some((0x18, 5, Some(0x20))))),
     (TWO_BLOCKS, (1, 0x10), 0x1c, Ok(Some((0, 7, None)))),
     // Before the first row, and before the first subsection.

@@ -22,6 +22,8 @@ pub struct InlineNames {
     by_id: ByModule<Option<ArcStr>>,
     /// About how many bytes they take.
     cached: u64,
+    /// The most that one of them took: it may come on top, or two long names would forget each other.
+    greatest: u64,
 }
 
 impl InlineNames {
@@ -32,6 +34,7 @@ impl InlineNames {
         InlineNames {
             by_id: ByModule::new(alloc),
             cached: 0,
+            greatest: 0,
         }
     }
 
@@ -40,8 +43,9 @@ impl InlineNames {
         ensures { (text : ℕ → ℕ → Option (List ℕ))
             → AreNames text self.old → AreNames text self.new }
     {
-        if self.cached > CACHED_NAMES {
-            *self = InlineNames::new(alloc);
+        if self.cached > CACHED_NAMES.saturating_add(self.greatest) {
+            self.by_id = ByModule::new(alloc);
+            self.cached = 0;
         }
     }
 
@@ -70,7 +74,9 @@ impl InlineNames {
         let kept = share_name(&name)?;
         self.forget_if_full(alloc);
         self.by_id.insert(alloc, module_index, inlinee.0, kept)?;
-        self.cached = self.cached.saturating_add(name_size(&name, PLACE_SIZE));
+        let size = name_size(&name, PLACE_SIZE);
+        self.cached = self.cached.saturating_add(size);
+        self.greatest = self.greatest.max(size);
         Ok(name)
     }
 }

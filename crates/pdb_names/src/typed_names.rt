@@ -43,6 +43,9 @@ pub struct TypedNames<'a> {
     by_number: ByNumber<TypedName<'a>>,
     /// About how many bytes they take.
     cached: u64,
+    /// The most that one of them took, with the places made for it: it may come on top, or the last
+    /// names of a large module would forget all others.
+    greatest: u64,
 }
 
 impl<'a> TypedNames<'a> {
@@ -53,6 +56,7 @@ impl<'a> TypedNames<'a> {
         TypedNames {
             by_number: ByNumber::new(alloc),
             cached: 0,
+            greatest: 0,
         }
     }
 
@@ -61,8 +65,9 @@ impl<'a> TypedNames<'a> {
         ensures { (text : ℕ → List ℕ → ℕ → Option (List ℕ))
             → AreTyped text self.old → AreTyped text self.new }
     {
-        if self.cached > CACHED_NAMES {
-            *self = TypedNames::new(alloc);
+        if self.cached > CACHED_NAMES.saturating_add(self.greatest) {
+            self.by_number = ByNumber::new(alloc);
+            self.cached = 0;
         }
     }
 
@@ -99,7 +104,9 @@ impl<'a> TypedNames<'a> {
         self.forget_if_full(alloc);
         let places = self.by_number.insert(alloc, module_index, number, name)?;
         let room = places.saturating_mul(size_of::<TypedName<'_>>());
-        self.cached = self.cached.saturating_add(name_size(&text, room));
+        let size = name_size(&text, room);
+        self.cached = self.cached.saturating_add(size);
+        self.greatest = self.greatest.max(size);
         Ok(text)
     }
 }

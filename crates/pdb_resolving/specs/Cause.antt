@@ -40,7 +40,7 @@ abbrev pub error_in : Stop → Error
 error_in (stops.ByError e) = e
 error_in (stops.ByTable table e) = e
 
--- An error is that of a fault: neither want of memory nor a writer's refusal.
+-- An error is that of a fault: neither out of memory nor a writer's refusal.
 abbrev pub IsOfFault : Error → Type 0
 IsOfFault errors.OutOfMemory = ⊥
 IsOfFault (errors.PdbError causes.OutOfMemory) = ⊥

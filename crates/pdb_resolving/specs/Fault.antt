@@ -7,7 +7,7 @@ use Rattle.pdb_container.specs.Fault as container_fault
 use Rattle.pdb_resolving.specs.declared.error.Error.{Error}
 use Rattle.pdb_resolving.specs.declared.error.Error.TheVariants as errors
 
--- a fault of a definition: one for each variant of the crate's error but want of memory and a writer that refused a text, which
+-- a fault of a definition: one for each variant of the crate's error but out of memory and a writer that refused a text, which
 -- are in no definition
 pub data Fault : Type 0 where
   PdbError : container_fault.Fault → Fault
@@ -28,12 +28,12 @@ pub data Fault : Type 0 where
   ModuleInfoNotFound : ℕ → Fault
   CircularTypeDefinition : ℕ → Fault
 
--- want of memory is a fault of its own, whichever way it came
+-- out of memory is a fault of its own, whichever way it came
 abbrev pub error_of : container.Error → Error
 error_of causes.OutOfMemory = errors.OutOfMemory
 error_of e = errors.PdbError e
 
--- what fault an error is; want of memory and a writer's refusal are none, and its values there stand in no promise
+-- what fault an error is; out of memory and a writer's refusal are none, and its values there stand in no promise
 abbrev pub fault_of : Error → Fault
 fault_of (errors.FormatError e) = CantResolveCrossModuleRefWithoutStringTable
 fault_of (errors.PdbError e) = PdbError (container_fault.fault_of e)

@@ -16,7 +16,7 @@ pub enum Error {
     /// The writer refused the text.
     #[error("Formatting error: {0}")]
     FormatError(fmt::Error),
-    /// The program database couldn't be read, for this cause, which is never want of memory.
+    /// The program database couldn't be read, for this cause, which is never that memory ran out.
     #[error("PDB error: {0}")]
     PdbError(pdb_container::Error),
     /// What a method's type names as its argument list is no argument list.
