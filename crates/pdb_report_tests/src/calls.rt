@@ -7,7 +7,7 @@ use pdb_report::{
 };
 use pdb_samples::Change;
 use std::alloc::Global;
-use std::io::{self, ErrorKind};
+use std::io::{self, ErrorKind, Read};
 use std::test::Fail;
 
 /// Opens a file.
