@@ -12,9 +12,9 @@ returns-in_err-pdb-clause-refused c =
     let p = err_from_is_err_and c.from_residual.result c.from_residual.ensures.1 in
     let e = c.in_err-pdb.field-0.0 in
     let refused : Refuses (load_fault_of e) (load_fault (streams c.new.result)) =
-        not_opened (λ v. v) c.new.result (streams c.new.result) e c.in_err-pdb.ensures.err in
+    not_opened (λ v. v) c.new.result (streams c.new.result) e c.in_err-pdb.ensures.err in
     rw (p.1, p.2) (subst (λ (file : List ℕ). Refuses (load_fault_of e) (load_fault (streams file)))
-        c.new.ensures refused)
+    c.new.ensures refused)
 
 -- nothing else is promised of a fault
 pub returns-in_err-pdb-clause-ok : goal.returns-in_err-pdb-clause-ok
