@@ -46,7 +46,7 @@ more_by list pages more places page place d low high same added there is =
       ];
     }
 
--- one page more of a list: it stands among the pages already, or is added behind them
+-- one page more of a list: it stands among the pages already, or is added after them
 pub distinct_more : (list pages more places : List ℕ) (page place : ℕ) → AreDistinct list pages places
     → (more ≡ pages) ⊎ ((more ≡ pages ++ page ∷ []) × (place ≡ length pages))
     → place < length more → get_or more place 0 ≡ page

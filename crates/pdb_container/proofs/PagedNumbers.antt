@@ -33,7 +33,7 @@ taken xs from count there e =
 turned : (q s : ℕ) → q * (4 * s) ≡ 4 * (q * s)
 turned q s = grind arith
 
--- behind a multiple of four there are four bytes of the page at least
+-- after a multiple of four there are four bytes of the page at least
 room : (page_size i : ℕ) → 0 < page_size → page_size % 4 ≡ 0 → 4 * i % page_size + 4 ≤ page_size
 room page_size i pos by_four =
     let size : page_size ≡ 4 * (page_size / 4) = omega arith in

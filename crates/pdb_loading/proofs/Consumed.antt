@@ -86,7 +86,7 @@ same_word begun whole at more long =
     let k : at + (length begun - at) ≡ length begun = omega (arith, long) in
     sym (word_before whole at (length begun - at) (omega (arith, long))) ∙ ap (λ n. word_at (take n whole) at) k ∙ ap (λ xs. word_at xs at) more
 
--- a header counts the same pages when more is read behind it
+-- a header counts the same pages when more is read after it
 pub same_end : (begun whole : List ℕ) → StartsWith whole begun → 4096 ≤ length begun → pages_end whole ≡ pages_end begun
 same_end begun whole more long =
     ap (λ n. (n + 1) * word_at whole 32) (same_word begun whole 40 more (omega (arith, long))) ∙ ap (λ n. (word_at begun 40 + 1) * n) (same_word begun whole 32 more (omega (arith, long)))
