@@ -2,6 +2,7 @@ pub mod Answers
 pub mod Counts
 pub mod Databases
 pub mod FileAnswers
+pub mod FileKeyOrder
 pub mod FileLaws
 pub mod FileReport
 pub mod Frames

@@ -6,6 +6,7 @@
 
 mod answer;
 mod file_answer;
+mod file_key;
 mod frames;
 mod function;
 mod function_key;
@@ -18,6 +19,7 @@ mod text;
 
 pub use answer::Answer;
 pub use file_answer::{CountedFile, FileAnswer};
+pub use file_key::FileKey;
 pub use frames::{Frame, FrameRow, FunctionFrames};
 pub use function::Function;
 pub use function_key::FunctionKey;

@@ -39,6 +39,10 @@ row_at (row ∷ rows) offset = later_row (if_begun row offset) (row_at rows offs
 abbrev pub function_rows : Program → PdbInternalSectionOffset → Result (List LineRow) Fault
 function_rows program start = whole (lines_for program start) >>= λ rows. Ok (map row_of rows)
 
+-- where rows begin
+abbrev pub row_starts : List LineRow → List ℕ
+row_starts rows = map (λ row. row.start) rows
+
 -- the row of a place in the function that begins at another one, of that one's rows
 abbrev pub function_row : Program → PdbInternalSectionOffset → PdbInternalSectionOffset → Result (Option LineRow) Fault
 function_row program start place = function_rows program start >>= λ rows. Ok (row_at rows place.offset)

@@ -1,0 +1,136 @@
+-- The file of an address, where it may change, and what is counted by file.
+use Rattle.std.specs.Prelude.{ℕ, Bool, ◌==◌, ◌||◌, List, [], ◌∷◌, Option, None, Some}
+use Rattle.std.specs.Prelude.{Result, Ok, Err}
+use Rattle.std.specs.List.{list_any}
+use Rattle.pdb_addresses.specs.Places.{internal_place}
+use Rattle.pdb_addresses.specs.declared.internal_section_offset.PdbInternalSectionOffset.{PdbInternalSectionOffset}
+use Rattle.pdb_choice.specs.Choice.{Parts, Chosen, chosen, held_at, start_of}
+use Rattle.pdb_container.specs.Fault as container
+use Rattle.pdb_contributions.specs.Contributions.{holder}
+use Rattle.pdb_contributions.specs.declared.contribution.ModuleSectionContribution.{ModuleSectionContribution}
+use Rattle.pdb_frames.specs.Frames.{frames_if_held}
+use Rattle.pdb_frames.specs.Runs.{is_bound}
+use Rattle.pdb_frames.specs.Scopes.{Scope}
+use Rattle.pdb_functions.specs.Databases.{Database, Keyed}
+use Rattle.pdb_functions.specs.FileAnswers.{FileAnswer, Nothing, Unreadable, NoFile, File}
+use Rattle.pdb_functions.specs.Frames.{Frame, FunctionFrames}
+use Rattle.pdb_functions.specs.declared.file_key.FileKey.{FileKey}
+use Rattle.pdb_functions.specs.declared.file_key.FileKey.TheVariants as keys
+use Rattle.pdb_known_modules.specs.Modules.{ModuleData, ExtendedModule, module_data}
+use Rattle.pdb_known_modules.specs.Modules.{procedures_in, extended_of}
+use Rattle.pdb_module_data.specs.FunctionLine.{file_text, function_rows, row_starts}
+use Rattle.pdb_module_data.specs.declared.function_rows.LineRow.{LineRow}
+use Rattle.pdb_resolving.specs.Fault.{Fault}
+
+-- ---- the file of an answer
+
+-- a file that may be known
+abbrev pub file_or_none : Option (List ℕ) → FileAnswer
+file_or_none None = NoFile
+file_or_none (Some name) = File name
+
+-- the file of the last of frames, which is the function's
+abbrev pub last_file : List Frame → FileAnswer
+last_file [] = NoFile
+last_file (f ∷ []) = file_or_none f.file
+last_file (f ∷ g ∷ frames) = last_file (g ∷ frames)
+
+-- the file of an answer
+abbrev pub file_of : Result (Option FunctionFrames) Fault → FileAnswer
+file_of (Err e) = Unreadable
+file_of (Ok None) = Nothing
+file_of (Ok (Some f)) = last_file f.frames
+
+-- the file of a place
+abbrev pub file_here : Parts → (ℕ → Scope) → PdbInternalSectionOffset → FileAnswer
+file_here p scope place = file_of (frames_if_held p scope (held_at p (Some place)))
+
+-- a file as it is counted: nothing isn't
+abbrev pub if_any : FileAnswer → Option FileAnswer
+if_any Nothing = None
+if_any Unreadable = Some Unreadable
+if_any NoFile = Some NoFile
+if_any (File name) = Some (File name)
+
+-- ---- where the file may change
+
+-- where the rows of a chosen function's subsection begin; nowhere where they can't be read
+abbrev pub starts_read : Result (List LineRow) container.Fault → List ℕ
+starts_read (Ok rows) = row_starts rows
+starts_read (Err e) = []
+
+-- the same by its module's line program
+abbrev pub starts_in_extended : Chosen → Result ExtendedModule container.Fault → List ℕ
+starts_in_extended c (Ok extended) = starts_read (function_rows extended.program (start_of c))
+starts_in_extended c (Err e) = []
+
+-- the same by its module's data
+abbrev pub starts_in : Option ModuleData → Chosen → List ℕ
+starts_in None c = []
+starts_in (Some known) c = starts_in_extended c (extended_of known.stream)
+
+-- the same by what is chosen, if something is
+abbrev pub starts_if_chosen : Option ModuleData → Option Chosen → List ℕ
+starts_if_chosen known None = []
+starts_if_chosen known (Some c) = starts_in known c
+
+-- where the rows of the function chosen at a place begin, by the contribution that holds it
+abbrev pub starts_by : Parts → (ℕ → Scope) → PdbInternalSectionOffset
+    → Option ModuleSectionContribution → List ℕ
+starts_by p scope place None = []
+starts_by p scope place (Some c) =
+    let known = module_data (scope c.module_index).own in
+    starts_if_chosen known (chosen p (procedures_in known) c place)
+
+-- rows count where there are frames alone
+abbrev pub starts_if_frames : FileAnswer → List ℕ → List ℕ
+starts_if_frames Nothing starts = []
+starts_if_frames Unreadable starts = []
+starts_if_frames NoFile starts = starts
+starts_if_frames (File name) starts = starts
+
+-- where the file may change besides: rows of the function begin
+abbrev pub starts_here : Parts → (ℕ → Scope) → PdbInternalSectionOffset → List ℕ
+starts_here p scope place =
+    starts_if_frames (file_here p scope place)
+    (starts_by p scope place (holder p.contributions place))
+
+-- the file may change at a place: the function may, or one of its rows begins there
+abbrev pub is_file_bound : Parts → (ℕ → Scope) → PdbInternalSectionOffset → Bool
+is_file_bound p scope place =
+    is_bound p scope place || list_any (λ start. place.offset == start) (starts_here p scope place)
+
+-- the file of each place, and whether it may change there
+abbrev pub files_of : Parts → (ℕ → Scope) → Database FileAnswer
+files_of p scope = record {
+  answer = λ place. if_any (file_here p scope (internal_place place));
+  is_bound = λ place. is_file_bound p scope (internal_place place);
+}
+
+-- ---- keys of files
+
+-- the file with an index in a module, by its line program
+abbrev pub file_in_extended : Parts → ℕ → Result ExtendedModule container.Fault → FileAnswer
+file_in_extended p index (Ok extended) = file_or_none (file_text extended.program p.names index)
+file_in_extended p index (Err e) = NoFile
+
+-- the same by the module's data
+abbrev pub file_in_module : Parts → ℕ → Option ModuleData → FileAnswer
+file_in_module p index None = NoFile
+file_in_module p index (Some known) = file_in_extended p index (extended_of known.stream)
+
+-- the file that a key stands for
+abbrev pub file_by : Parts → (ℕ → Scope) → FileKey → Option FileAnswer
+file_by p scope keys.Unreadable = Some Unreadable
+file_by p scope keys.NoFile = Some NoFile
+file_by p scope (keys.File module index) =
+    Some (file_in_module p index (module_data (scope module).own))
+
+-- the files at places, by keys
+abbrev pub files_keyed : Parts → (ℕ → Scope) → Keyed FileKey FileAnswer
+files_keyed p scope = record { answer_of = file_by p scope; places = files_of p scope }
+
+-- the key of a row's file in a module
+abbrev pub row_key : ℕ → Option LineRow → FileKey
+row_key module None = keys.NoFile
+row_key module (Some row) = keys.File module (row.file_index).0
