@@ -1,3 +1,4 @@
+pub mod FileRunSteps
 pub mod FramesDeep
 pub mod ProcedureSteps
 pub mod RunLaw
