@@ -1,3 +1,5 @@
+pub mod FileRunLaw
+pub mod FileStays
 pub mod FramesDeep
 pub mod ProcedureSteps
 pub mod RunLaw
