@@ -6,12 +6,16 @@ use Rattle.std.specs.List.{list_any}
 use Rattle.std.proofs.lemmas.Bool.{cases_lt}
 use Rattle.pdb_addresses.specs.Places.{Place, internal_place}
 use Rattle.pdb_addresses.specs.SectionRun.{up_to_next}
-use Rattle.pdb_addresses.specs.declared.internal_section_offset.PdbInternalSectionOffset.{PdbInternalSectionOffset}
+use Rattle.pdb_addresses.specs.declared.internal_section_offset.PdbInternalSectionOffset.{
+  PdbInternalSectionOffset,
+}
 use Rattle.pdb_choice.specs.Choice.{Parts, Chosen, chosen, start_address, function_end}
 use Rattle.pdb_choice.specs.NearBounds.{bounds_near}
 use Rattle.pdb_container.specs.Fault.{◌>>=◌}
 use Rattle.pdb_contributions.specs.Contributions.{holder}
-use Rattle.pdb_contributions.specs.declared.contribution.ModuleSectionContribution.{ModuleSectionContribution}
+use Rattle.pdb_contributions.specs.declared.contribution.ModuleSectionContribution.{
+  ModuleSectionContribution,
+}
 use Rattle.pdb_frames.proofs.FileStays.{AreClear, unnamed, frames_stay, file_stays}
 use Rattle.pdb_frames.proofs.RunLaw.{IsClear, IsBound, NoBound, on, or_true, holder_stays}
 use Rattle.pdb_frames.proofs.RunLaw.{chosen_stays, some_to_next, to_next-le, clear_to_next}
@@ -195,8 +199,8 @@ ends_there p scope place limit m n run none is lt = elim (cases_lt n m) [
       ap (λ (b : Bool). b || rows) there
 ]
 
--- the lesser of a limit and the distances to the next bound by a place's own holder, and to the next
--- start of a row of its own function, is a run of one file
+-- the lesser of a limit and the distances to the next bound by a place's own holder, and to the
+-- next start of a row of its own function, is a run of one file
 pub file_run_to_next : (p : Parts) (scope : ℕ → Scope) (place : PdbInternalSectionOffset)
     (limit : ℕ) → 1 ≤ limit → IsOneRun (files_of p scope) (place_of place) limit
     (up_to_next (starts_here p scope place) place.offset
@@ -212,7 +216,8 @@ file_run_to_next p scope place limit some =
     let run = run_to_next p scope place limit some in
     let low : n ≤ m = to_next-le starts x m in
     let high : m ≤ limit = to_next-le bounds x limit in
-    let none : NoBound p procedures place m = λ k first lt. clear_to_next bounds x limit k first lt in
+    let none : NoBound p procedures place m =
+        λ k first lt. clear_to_next bounds x limit k first lt in
     let apart : (k : ℕ) → 1 ≤ k → k < n → IsClear starts (x + k) =
         λ k first lt. clear_to_next starts x m k first lt in
     record {

@@ -3,7 +3,9 @@ use Rattle.std.proofs.Common.{◌≡◌, ℕ, zero, suc, ◌+◌, ◌≤◌, Boo
 use Rattle.std.proofs.Common.{Result, Ok, Err, refl, sym, ap, ◌∙◌, subst, arith}
 use Rattle.std.specs.Prelude.{Option, None, Some, map, ◌==◌, option_and_then}
 use Rattle.std.specs.List.{list_any}
-use Rattle.pdb_addresses.specs.declared.internal_section_offset.PdbInternalSectionOffset.{PdbInternalSectionOffset}
+use Rattle.pdb_addresses.specs.declared.internal_section_offset.PdbInternalSectionOffset.{
+  PdbInternalSectionOffset,
+}
 use Rattle.pdb_choice.specs.Choice.{Parts, Chosen, Proc, Public, start_of, start_address}
 use Rattle.pdb_container.specs.Fault as container
 use Rattle.pdb_container.specs.Fault.{◌>>=◌}
@@ -242,8 +244,9 @@ frames_stay p env (Some known) place other (Some c) =
 abbrev pub AreClear : List ℕ → ℕ → ℕ → Type 0
 AreClear starts x k = (j : ℕ) → 1 ≤ j → j ≤ k → IsClear starts (x + j)
 
-same_rows : (p : Parts) (env : Env) (c : Chosen) (place : PdbInternalSectionOffset) (k : ℕ) (program : Program)
-    (rows : Result (List LineRow) container.Fault) → AreClear (starts_read rows) place.offset k
+same_rows : (p : Parts) (env : Env) (c : Chosen) (place : PdbInternalSectionOffset) (k : ℕ)
+    (program : Program) (rows : Result (List LineRow) container.Fault)
+    → AreClear (starts_read rows) place.offset k
     → AreRowsAlike p env c place (on place k) (λ a. a) program rows
 same_rows p env c place k program (Ok rows) clear =
     ap (row_file p program) (row_stays rows place.offset k clear)
