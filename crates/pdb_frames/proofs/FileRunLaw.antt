@@ -103,7 +103,7 @@ starts_by_holder p scope (Some c) place k n none lt =
     ap (starts_if_chosen known) (chosen_stays p (procedures_in known) c place k n none lt)
 
 -- where rows begin stays up to the next bound
-starts_stay : (p : Parts) (scope : ℕ → Scope) (place : PdbInternalSectionOffset) (k n : ℕ)
+pub starts_stay : (p : Parts) (scope : ℕ → Scope) (place : PdbInternalSectionOffset) (k n : ℕ)
     → NoBound p (procedures_of scope (holder p.contributions place)) place n → k < n
     → starts_here p scope (on place k) ≡ starts_here p scope place
 starts_stay p scope place k n none lt =
@@ -156,7 +156,7 @@ by_file b NoFile starts x k kind with_rows clear = with_rows clear
 by_file b (File name) starts x k kind with_rows clear = with_rows clear
 
 -- the file stays up to the next bound or start of a row
-here_stays : (p : Parts) (scope : ℕ → Scope) (place : PdbInternalSectionOffset) (k n : ℕ)
+pub here_stays : (p : Parts) (scope : ℕ → Scope) (place : PdbInternalSectionOffset) (k n : ℕ)
     → NoBound p (procedures_of scope (holder p.contributions place)) place n → k < n
     → AreClear (starts_here p scope place) place.offset k
     → file_here p scope (on place k) ≡ file_here p scope place
