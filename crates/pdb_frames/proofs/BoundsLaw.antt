@@ -1,5 +1,5 @@
 -- Answers change at bounds alone: a place that is none has the answer of the place before it.
-use Rattle.std.proofs.Common.{◌≡◌, ℕ, ◌+◌, ◌<◌, ◌≤◌, false, ◌++◌, List, sym, ap, ◌∙◌, subst, arith}
+use Rattle.std.proofs.Common.{◌≡◌, ℕ, ◌+◌, ◌<◌, ◌≤◌, false, ◌++◌, List, ap, ◌∙◌, subst, arith}
 use Rattle.std.specs.Prelude.{Option, ◌==◌}
 use Rattle.std.specs.List.{flat_map, list_any}
 use Rattle.pdb_addresses.specs.Places.{Place, internal_place}
@@ -30,8 +30,8 @@ same_holder : (p : Parts) (scope : ℕ → Scope) (place : PdbInternalSectionOff
 same_holder p scope place free =
     let procedures = procedures_of scope (holder p.contributions (on place 1)) in
     let others =
-        flat_map (public_bounds place) p.publics
-        ++ flat_map (procedure_bounds place) procedures in
+    flat_map (public_bounds place) p.publics
+    ++ flat_map (procedure_bounds place) procedures in
     holder_step p.contributions place
     (front_clear (flat_map (contribution_bounds place) p.contributions) others
     (place.offset + 1) free)
@@ -45,9 +45,9 @@ none_by_holder : (p : Parts) (scope : ℕ → Scope) (place : PdbInternalSection
 none_by_holder p scope place free = λ k low high.
     let procedures = procedures_of scope (holder p.contributions place) in
     let clear : IsClear (bounds_near p procedures place) (place.offset + 1) =
-        subst (λ (h : Option ModuleSectionContribution). IsClear
-        (bounds_near p (procedures_of scope h) place) (place.offset + 1))
-        (same_holder p scope place free) free in
+    subst (λ (h : Option ModuleSectionContribution). IsClear
+    (bounds_near p (procedures_of scope h) place) (place.offset + 1))
+    (same_holder p scope place free) free in
     only_one (λ (j : ℕ). IsClear (bounds_near p procedures place) (place.offset + j)) k low high
     clear
 
@@ -76,9 +76,9 @@ file_before p scope place free =
     let no_row = right_false (is_bound p scope next) begun free in
     let none = none_by_holder p scope here no_bound in
     let rows : IsClear (starts_here p scope here) (here.offset + 1) =
-        subst (λ (starts : List ℕ). IsClear starts (here.offset + 1))
-        (starts_stay p scope here 1 2 none (omega arith)) no_row in
+    subst (λ (starts : List ℕ). IsClear starts (here.offset + 1))
+    (starts_stay p scope here 1 2 none (omega arith)) no_row in
     let apart : AreClear (starts_here p scope here) here.offset 1 = λ j low high.
-        only_one (λ (k : ℕ). IsClear (starts_here p scope here) (here.offset + k)) j low
-        (omega (arith, high)) rows in
+    only_one (λ (k : ℕ). IsClear (starts_here p scope here) (here.offset + k)) j low
+    (omega (arith, high)) rows in
     ap if_any (here_stays p scope here 1 2 none (omega arith) apart)

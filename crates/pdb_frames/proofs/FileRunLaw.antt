@@ -112,8 +112,8 @@ starts_stay p scope place k n none lt =
     let starts = starts_by p scope place h in
     let held = holder_stays p (procedures_of scope h) place k n none lt in
     let same =
-        ap (λ (o : Option ModuleSectionContribution). starts_by p scope there o) held
-        ∙ starts_by_holder p scope h place k n none lt in
+    ap (λ (o : Option ModuleSectionContribution). starts_by p scope there o) held
+    ∙ starts_by_holder p scope h place k n none lt in
     ap (λ (s : List ℕ). starts_if_frames (file_here p scope there) s) same
     ∙ by_kind (file_here p scope there) starts
     ∙ ap (λ (a : FileAnswer). starts_if_frames a starts) (kind_stays p scope place k n none lt)
@@ -182,19 +182,19 @@ ends_there p scope place limit m n run none is lt = elim (cases_lt n m) [
   | inl before ↦
       let starts = starts_here p scope place in
       let begun : IsBound starts (place.offset + n) =
-          next_is_bound starts place.offset m n is before in
+      next_is_bound starts place.offset m n is before in
       let there : IsBound (starts_here p scope (on place n)) (place.offset + n) =
-          subst (λ (s : List ℕ). IsBound s (place.offset + n))
-          (sym (starts_stay p scope place n m none before)) begun in
+      subst (λ (s : List ℕ). IsBound s (place.offset + n))
+      (sym (starts_stay p scope place n m none before)) begun in
       ap (λ (b : Bool). is_bound p scope (on place n) || b) there
       ∙ or_true (is_bound p scope (on place n))
   | inr after ↦
       let low : n ≤ m =
-          subst (λ (x : ℕ). x ≤ m) is (to_next-le (starts_here p scope place) place.offset m) in
+      subst (λ (x : ℕ). x ≤ m) is (to_next-le (starts_here p scope place) place.offset m) in
       let same : m ≡ n = omega (arith, low, after) in
       let bound = run.ends (omega (arith, same, lt)) in
       let there : is_bound p scope (on place n) ≡ true =
-          subst (λ (x : ℕ). is_bound p scope (on place x) ≡ true) same bound in
+      subst (λ (x : ℕ). is_bound p scope (on place x) ≡ true) same bound in
       let rows = list_any (λ start. place.offset + n == start) (starts_here p scope (on place n)) in
       ap (λ (b : Bool). b || rows) there
 ]
@@ -217,9 +217,9 @@ file_run_to_next p scope place limit some =
     let low : n ≤ m = to_next-le starts x m in
     let high : m ≤ limit = to_next-le bounds x limit in
     let none : NoBound p procedures place m =
-        λ k first lt. clear_to_next bounds x limit k first lt in
+    λ k first lt. clear_to_next bounds x limit k first lt in
     let apart : (k : ℕ) → 1 ≤ k → k < n → IsClear starts (x + k) =
-        λ k first lt. clear_to_next starts x m k first lt in
+    λ k first lt. clear_to_next starts x m k first lt in
     record {
       some = some_to_next starts x m (some_to_next bounds x limit some);
       within = omega (arith, low, high);
@@ -229,8 +229,8 @@ file_run_to_next p scope place limit some =
       clear = λ k first lt.
           let before : k < m = omega (arith, low, lt) in
           let there : IsClear (starts_here p scope (on place k)) (x + k) =
-              subst (λ (s : List ℕ). IsClear s (x + k))
-              (sym (starts_stay p scope place k m none before)) (apart k first lt) in
+          subst (λ (s : List ℕ). IsClear s (x + k))
+          (sym (starts_stay p scope place k m none before)) (apart k first lt) in
           both_false (is_bound p scope (on place k)) _ (run.clear k first before) there;
       ends = λ lt. ends_there p scope place limit m n run none refl lt;
     }

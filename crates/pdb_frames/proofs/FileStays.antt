@@ -1,5 +1,5 @@
 -- While the choice stays, the file of a place changes at starts of rows alone.
-use Rattle.std.proofs.Common.{◌≡◌, ℕ, zero, suc, ◌+◌, ◌≤◌, Bool, cond, ◌||◌, List, [], ◌∷◌, ◌++◌}
+use Rattle.std.proofs.Common.{◌≡◌, ℕ, zero, suc, ◌+◌, ◌≤◌, Bool, cond, List, [], ◌∷◌, ◌++◌}
 use Rattle.std.proofs.Common.{Result, Ok, Err, refl, sym, ap, ◌∙◌, subst, arith}
 use Rattle.std.specs.Prelude.{Option, None, Some, map, ◌==◌, option_and_then}
 use Rattle.std.specs.List.{list_any}
@@ -12,9 +12,9 @@ use Rattle.pdb_container.specs.Fault.{◌>>=◌}
 use Rattle.pdb_frames.proofs.RunLaw.{IsClear, on, left_false, right_false, differ, leb_step}
 use Rattle.pdb_frames.specs.ChosenNames.{name_of}
 use Rattle.pdb_frames.specs.Files.{file_or_none, last_file, file_of, starts_read}
-use Rattle.pdb_frames.specs.Files.{starts_in_extended, starts_in, starts_if_chosen}
+use Rattle.pdb_frames.specs.Files.{starts_in_extended, starts_if_chosen}
 use Rattle.pdb_frames.specs.Frames.{call_frame, function_frame, calls_in, row_and_calls}
-use Rattle.pdb_frames.specs.Frames.{frames_in_data, frames_in, found_frames, frames_of_chosen}
+use Rattle.pdb_frames.specs.Frames.{frames_in_data, found_frames, frames_of_chosen}
 use Rattle.pdb_functions.specs.FileAnswers.{FileAnswer, Nothing, Unreadable, NoFile, File}
 use Rattle.pdb_functions.specs.Frames.{Frame}
 use Rattle.pdb_inlinees.specs.Inlinees.{InlinedFunction}
@@ -110,7 +110,6 @@ row_file p program row =
 -- ---- two places in a chosen function, by what is seen of their files
 module _ (p : Parts) (env : Env) (c : Chosen) (place other : PdbInternalSectionOffset)
     (seen : FileAnswer → FileAnswer) where
-
   -- the files of their rows are seen as one, where rows can be read
   abbrev AreRowsAlike : Program → Result (List LineRow) container.Fault → Type 0
   AreRowsAlike program (Ok rows) =

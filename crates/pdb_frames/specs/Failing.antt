@@ -9,7 +9,9 @@ use Rattle.pdb_contributions.specs.declared.contribution.ModuleSectionContributi
 use Rattle.pdb_known_modules.specs.Modules.{module_data, procedures_in}
 pub use Rattle.pdb_resolving.specs.declared.failures.Part.{Part}
 pub use Rattle.pdb_resolving.specs.declared.failures.Part.TheVariants.{
-  ExtendedModule, ProcedureLines, ProcedureInlineRanges,
+  ExtendedModule,
+  ProcedureLines,
+  ProcedureInlineRanges,
 }
 use Rattle.pdb_choice.specs.Choice.{Parts, chosen, held_at, place_of}
 use Rattle.pdb_choice.specs.Failed.{failing_of_chosen}
