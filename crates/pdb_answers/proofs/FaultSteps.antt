@@ -18,15 +18,15 @@ use Rattle.pdb_frames.specs.Failing.{Part, ExtendedModule as Extended, Procedure
 use Rattle.pdb_frames.specs.Frames.{calls_in, row_and_calls, frames_in_data, frames_of_chosen}
 
 -- reading has a fault
-abbrev IsFault : {A E : Type 0} → Result A E → Type 0
+abbrev pub IsFault : {A E : Type 0} → Result A E → Type 0
 IsFault (Ok x) = ⊥
 IsFault (Err e) = Unit {0}
 
-then_fault : {A B E : Type 0} (read : Result A E) (next : A → Result B E) → IsFault read → IsFault (read >>= next)
+pub then_fault : {A B E : Type 0} (read : Result A E) (next : A → Result B E) → IsFault read → IsFault (read >>= next)
 then_fault (Ok x) next h = absurd h
 then_fault (Err e) next h = tt
 
-none_is_some : (part : Part) → None ≡ Some part → ⊥
+pub none_is_some : (part : Part) → None ≡ Some part → ⊥
 none_is_some part h = cc
 
 -- ---- sites, rows, line program

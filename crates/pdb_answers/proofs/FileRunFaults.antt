@@ -1,5 +1,6 @@
 -- Where a part of a chosen function can't be read, a run of its file is unreadable.
 use Rattle.std.proofs.Common.{◌≡◌, ℕ, List, Option, None, Some, Result, Ok, Err, refl}
+use Rattle.pdb_answers.proofs.FaultSteps.{IsFault, none_is_some, then_fault}
 use Rattle.pdb_addresses.specs.declared.internal_section_offset.PdbInternalSectionOffset.{PdbInternalSectionOffset}
 use Rattle.pdb_container.specs.Fault as container
 use Rattle.pdb_container.specs.Fault.{◌>>=◌}
@@ -18,19 +19,6 @@ use Rattle.pdb_module_data.specs.FunctionLine.{function_rows}
 use Rattle.pdb_module_data.specs.declared.function_rows.LineRow.{LineRow}
 use Rattle.pdb_resolving.specs.Fault.{Fault, lifted}
 use Rattle.pdb_symbols_modules.specs.ModuleStream.{ModuleStream}
-
--- reading has a fault
-abbrev IsFault : {A E : Type 0} → Result A E → Type 0
-IsFault (Ok x) = ⊥
-IsFault (Err e) = Unit {0}
-
-then_fault : {A B E : Type 0} (read : Result A E) (next : A → Result B E)
-    → IsFault read → IsFault (read >>= next)
-then_fault (Ok x) next h = absurd h
-then_fault (Err e) next h = tt
-
-none_is_some : (part : Part) → None ≡ Some part → ⊥
-none_is_some part h = cc
 
 sites_fault : {B : Type 0} (sites : Result (List Site) Fault) (next : List Site → Result B Fault)
     (this part : Part) → failing_first sites this None ≡ Some part → IsFault (sites >>= next)

@@ -253,6 +253,7 @@ fn file_key_run_at<'a, P: ModuleProvider>(
 ///
 /// # Errors
 /// `OutOfMemory` alone.
+#[tactic(auto, using(crate::proofs::FileKeySteps::run_count, pdb_frames::proofs::FileRunLaw::file_run_by_holder))]
 pub fn file_key_run_here<'a, P: ModuleProvider>(
     alloc: Global,
     sources: &Sources<'_, 'a, '_, P>,
@@ -285,8 +286,8 @@ pub fn file_key_run_here<'a, P: ModuleProvider>(
                 contribution,
                 place,
             };
-            let run = file_key_run_at(alloc, sources, kept, known_failures, held, limit)?;
-            Ok(run)
+            let found = file_key_run_at(alloc, sources, kept, known_failures, held, limit)?;
+            Ok(found)
         }
     }
 }

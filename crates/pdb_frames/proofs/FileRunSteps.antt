@@ -7,6 +7,7 @@ use Rattle.pdb_choice.specs.Choice.{Parts, Chosen, Proc, Public, chosen, start_o
 use Rattle.pdb_container.specs.Fault as container
 use Rattle.pdb_container.specs.Fault.{◌>>=◌}
 use Rattle.pdb_contributions.specs.declared.contribution.ModuleSectionContribution.{ModuleSectionContribution}
+use Rattle.pdb_frames.proofs.FileStays.{last_after}
 use Rattle.pdb_frames.specs.ChosenNames.{name_of}
 use Rattle.pdb_frames.specs.Files.{file_by, file_in_extended, file_in_module, file_of, file_or_none}
 use Rattle.pdb_frames.specs.Files.{if_any, last_file, row_key, starts_by, starts_if_chosen}
@@ -128,12 +129,6 @@ starts_count : (name : Option (List ℕ)) (starts : List ℕ)
     → starts_if_frames (file_or_none name) starts ≡ starts
 starts_count None starts = refl
 starts_count (Some name) starts = refl
-
--- the last of frames after others
-last_after : (frames : List Frame) (f : Frame) → last_file (frames ++ f ∷ []) ≡ file_or_none f.file
-last_after [] f = refl
-last_after (g ∷ []) f = refl
-last_after (g ∷ h ∷ frames) f = last_after (h ∷ frames) f
 
 -- ---- what a run says
 

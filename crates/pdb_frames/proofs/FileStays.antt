@@ -93,7 +93,7 @@ calls_alike stream inlinees (Public f) place other = tt
 -- ---- the last of frames
 
 -- the last of frames after others
-last_after : (frames : List Frame) (f : Frame) → last_file (frames ++ f ∷ []) ≡ file_or_none f.file
+pub last_after : (frames : List Frame) (f : Frame) → last_file (frames ++ f ∷ []) ≡ file_or_none f.file
 last_after [] f = refl
 last_after (g ∷ []) f = refl
 last_after (g ∷ h ∷ frames) f = last_after (h ∷ frames) f

@@ -1,4 +1,5 @@
-//! What is answered at a place: the name of what is chosen there, and the frames in it. It keeps nothing between questions.
+//! What is answered at a place: the name of what is chosen there, the frames in it, and its file.
+//! Nothing is cached between questions.
 #![tactic(auto)]
 
 mod chosen_name;
