@@ -27,6 +27,7 @@
 //! What a context answers besides, and the formatter of types, is in `pdb_addr2line`.
 #![tactic(auto)]
 
+mod counted;
 mod finish;
 pub mod laws;
 mod lines;
