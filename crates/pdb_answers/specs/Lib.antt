@@ -2,6 +2,7 @@ pub mod KnownFailures
 pub use Rattle.pdb_frames.specs.Choice
 pub use Rattle.pdb_frames.specs.Failed
 pub use Rattle.pdb_frames.specs.Failing
+pub use Rattle.pdb_frames.specs.Files
 pub use Rattle.pdb_frames.specs.Frames
 pub use Rattle.pdb_frames.specs.Keys
 pub use Rattle.pdb_frames.specs.MaybeOwned

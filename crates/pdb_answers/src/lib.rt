@@ -2,11 +2,13 @@
 #![tactic(auto)]
 
 mod answers;
+mod file_runs;
 mod known_failures;
 
 pub use answers::{
     empty_modules, frames_here, function_by_key, function_here, key_run_here, run_here,
 };
+pub use file_runs::{Sources, file_by_key, file_key_run_here};
 pub use known_failures::KnownFailures;
 pub use pdb_contributions::ModuleSectionContribution;
 pub use pdb_frames::{ContextParts, Failures, Namer, TextWriter, TypeFormatter, maybe_owned};

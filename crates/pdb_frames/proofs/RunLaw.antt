@@ -22,23 +22,23 @@ use Rattle.pdb_choice.specs.NearBounds.{public_bounds, bounds_near}
 use Rattle.pdb_frames.specs.Runs.{procedures_of, is_bound, database_of}
 
 -- a place so many bytes on in its section
-abbrev on : PdbInternalSectionOffset → ℕ → PdbInternalSectionOffset
+abbrev pub on : PdbInternalSectionOffset → ℕ → PdbInternalSectionOffset
 on p k = record { section = p.section; offset = p.offset + k }
 
 -- ---- tests
 
-left_false : (a b : Bool) → (a || b) ≡ false → a ≡ false
+pub left_false : (a b : Bool) → (a || b) ≡ false → a ≡ false
 left_false true b h = (cc)
 left_false false b h = refl
 
-right_false : (a b : Bool) → (a || b) ≡ false → b ≡ false
+pub right_false : (a b : Bool) → (a || b) ≡ false → b ≡ false
 right_false true b h = (cc)
 right_false false b h = h
 
-differ : (a b : ℕ) → (a == b) ≡ false → a ≢ b
+pub differ : (a b : ℕ) → (a == b) ≡ false → a ≢ b
 differ a b h = λ same. let e = eq-eqb a b same in (cc)
 
-abbrev IsClear : List ℕ → ℕ → Type 0
+abbrev pub IsClear : List ℕ → ℕ → Type 0
 IsClear bounds x = list_any (λ bound. x == bound) bounds ≡ false
 
 front_clear : (bs cs : List ℕ) (x : ℕ) → IsClear (bs ++ cs) x → IsClear bs x
@@ -47,7 +47,7 @@ front_clear bs cs x h = left_false (list_any (λ bound. x == bound) bs) (list_an
 rest_clear : (bs cs : List ℕ) (x : ℕ) → IsClear (bs ++ cs) x → IsClear cs x
 rest_clear bs cs x h = right_false (list_any (λ bound. x == bound) bs) (list_any (λ bound. x == bound) cs) (sym (list_any-append (λ bound. x == bound) bs cs) ∙ h)
 
-leb_step : (start x : ℕ) → x + 1 ≢ start → leb start (x + 1) ≡ leb start x
+pub leb_step : (start x : ℕ) → x + 1 ≢ start → leb start (x + 1) ≡ leb start x
 leb_step start x other = elim (cases_lt x start) [
   | inl low ↦ rw (lt-leb start (x + 1) (omega arith), lt-leb start x low) refl
   | inr high ↦ rw (le-leb start (x + 1) (omega arith), le-leb start x high) refl
@@ -95,20 +95,20 @@ public_step (f ∷ fs) p h =
 
 -- ---- so many places on, none of which is a bound by the same procedures
 
-abbrev NoBound : Parts → List Procedure → PdbInternalSectionOffset → ℕ → Type 0
+abbrev pub NoBound : Parts → List Procedure → PdbInternalSectionOffset → ℕ → Type 0
 NoBound p qs place n = (k : ℕ) → 1 ≤ k → k < n → IsClear (bounds_near p qs place) (place.offset + k)
 
-zero_on : (p : PdbInternalSectionOffset) → on p 0 ≡ p
+pub zero_on : (p : PdbInternalSectionOffset) → on p 0 ≡ p
 zero_on p = let e : p.offset + 0 ≡ p.offset = omega arith in ap (λ (x : ℕ). let q : PdbInternalSectionOffset = record { section = p.section; offset = x } in q) e
 
-one_on : (p : PdbInternalSectionOffset) (d : ℕ) → on p (suc d) ≡ on (on p d) 1
+pub one_on : (p : PdbInternalSectionOffset) (d : ℕ) → on p (suc d) ≡ on (on p d) 1
 one_on p d = let e : p.offset + suc d ≡ p.offset + d + 1 = omega arith in ap (λ (x : ℕ). let q : PdbInternalSectionOffset = record { section = p.section; offset = x } in q) e
 
 -- the next place is no bound
 next_clear : (bs : List ℕ) (x k : ℕ) → IsClear bs (x + suc k) → IsClear bs (x + k + 1)
 next_clear bs x k h = let e : x + suc k ≡ x + k + 1 = omega arith in subst (λ (y : ℕ). IsClear bs y) e h
 
-holder_stays : (p : Parts) (qs : List Procedure) (place : PdbInternalSectionOffset) (k n : ℕ) → NoBound p qs place n → k < n → holder p.contributions (on place k) ≡ holder p.contributions place
+pub holder_stays : (p : Parts) (qs : List Procedure) (place : PdbInternalSectionOffset) (k n : ℕ) → NoBound p qs place n → k < n → holder p.contributions (on place k) ≡ holder p.contributions place
 holder_stays p qs place zero n none lt = ap (holder p.contributions) (zero_on place)
 holder_stays p qs place (suc k) n none lt =
     let at = next_clear (bounds_near p qs place) place.offset k (none (suc k) (omega arith) lt) in
@@ -116,7 +116,7 @@ holder_stays p qs place (suc k) n none lt =
     let others = flat_map (public_bounds place) p.publics ++ flat_map (procedure_bounds place) qs in
     ap (holder p.contributions) (one_on place k) ∙ holder_step p.contributions (on place k) (front_clear cs others (place.offset + k + 1) at) ∙ holder_stays p qs place k n none (omega arith)
 
-chosen_stays : (p : Parts) (qs : List Procedure) (c : ModuleSectionContribution) (place : PdbInternalSectionOffset) (k n : ℕ) → NoBound p qs place n → k < n → chosen p qs c (on place k) ≡ chosen p qs c place
+pub chosen_stays : (p : Parts) (qs : List Procedure) (c : ModuleSectionContribution) (place : PdbInternalSectionOffset) (k n : ℕ) → NoBound p qs place n → k < n → chosen p qs c (on place k) ≡ chosen p qs c place
 chosen_stays p qs c place zero n none lt = ap (chosen p qs c) (zero_on place)
 chosen_stays p qs c place (suc k) n none lt =
     let at = next_clear (bounds_near p qs place) place.offset k (none (suc k) (omega arith) lt) in
@@ -133,7 +133,7 @@ chosen_stays p qs c place (suc k) n none lt =
     ∙ chosen_stays p qs c place k n none (omega arith)
 
 -- the function at a place that is held so, or isn't
-abbrev here_by : Parts → (ℕ → Scope) → Option ModuleSectionContribution → PdbInternalSectionOffset → Option Function
+abbrev pub here_by : Parts → (ℕ → Scope) → Option ModuleSectionContribution → PdbInternalSectionOffset → Option Function
 here_by p scope h place = option_and_then (λ (held : ModuleSectionContribution × PdbInternalSectionOffset). function_at p (scope (held.0).module_index) held.0 held.1) (option_map (λ c. (c, place)) h)
 
 function_stays : (p : Parts) (s : Scope) (c : ModuleSectionContribution) (place : PdbInternalSectionOffset) (k n : ℕ) → NoBound p (procedures_in (module_data s.own)) place n → k < n → function_at p s c (on place k) ≡ function_at p s c place
@@ -152,7 +152,7 @@ some_nearer x b far h = elim (cases_lt x b) [
   | inr high ↦ rw (le-ltb x b high) h
 ]
 
-some_to_next : (bs : List ℕ) (x limit : ℕ) → 1 ≤ limit → 1 ≤ up_to_next bs x limit
+pub some_to_next : (bs : List ℕ) (x limit : ℕ) → 1 ≤ limit → 1 ≤ up_to_next bs x limit
 some_to_next [] x limit h = h
 some_to_next (b ∷ bs) x limit h = some_nearer x b (up_to_next bs x limit) (some_to_next bs x limit h)
 
@@ -162,7 +162,7 @@ nearer-le x b far = elim (cases_lt x b) [
   | inr high ↦ rw (le-ltb x b high) (omega arith)
 ]
 
-to_next-le : (bs : List ℕ) (x limit : ℕ) → up_to_next bs x limit ≤ limit
+pub to_next-le : (bs : List ℕ) (x limit : ℕ) → up_to_next bs x limit ≤ limit
 to_next-le [] x limit = omega arith
 to_next-le (b ∷ bs) x limit = let h = nearer-le x b (up_to_next bs x limit) in let i = to_next-le bs x limit in omega (arith, h, i)
 
@@ -172,20 +172,20 @@ nearer_both x b far k some lt = elim (cases_lt x b) [
   | inr high ↦ let h : k < far = rw (le-ltb x b high) at lt in (h, ne_eqb (x + k) b (omega arith))
 ]
 
-clear_to_next : (bs : List ℕ) (x limit k : ℕ) → 1 ≤ k → k < up_to_next bs x limit → IsClear bs (x + k)
+pub clear_to_next : (bs : List ℕ) (x limit k : ℕ) → 1 ≤ k → k < up_to_next bs x limit → IsClear bs (x + k)
 clear_to_next [] x limit k some lt = refl
 clear_to_next (b ∷ bs) x limit k some lt =
     let h = nearer_both x b (up_to_next bs x limit) k some lt in
     ap (λ (c : Bool). c || list_any (λ bound. x + k == bound) bs) h.1 ∙ clear_to_next bs x limit k some h.0
 
-abbrev IsBound : List ℕ → ℕ → Type 0
+abbrev pub IsBound : List ℕ → ℕ → Type 0
 IsBound bounds x = list_any (λ bound. x == bound) bounds ≡ true
 
-or_true : (a : Bool) → (a || true) ≡ true
+pub or_true : (a : Bool) → (a || true) ≡ true
 or_true true = refl
 or_true false = refl
 
-next_is_bound : (bs : List ℕ) (x limit n : ℕ) → up_to_next bs x limit ≡ n → n < limit → IsBound bs (x + n)
+pub next_is_bound : (bs : List ℕ) (x limit n : ℕ) → up_to_next bs x limit ≡ n → n < limit → IsBound bs (x + n)
 next_is_bound [] x limit n is lt = absurd (omega (arith, is, lt))
 next_is_bound (b ∷ bs) x limit n is lt = elim (cases_lt x b) [
   | inl low ↦

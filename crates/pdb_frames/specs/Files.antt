@@ -123,8 +123,8 @@ file_in_module p index (Some known) = file_in_extended p index (extended_of know
 abbrev pub file_by : Parts → (ℕ → Scope) → FileKey → Option FileAnswer
 file_by p scope keys.Unreadable = Some Unreadable
 file_by p scope keys.NoFile = Some NoFile
-file_by p scope (keys.File module index) =
-    Some (file_in_module p index (module_data (scope module).own))
+file_by p scope (keys.File module_index index) =
+    Some (file_in_module p index (module_data (scope module_index).own))
 
 -- the files at places, by keys
 abbrev pub files_keyed : Parts → (ℕ → Scope) → Keyed FileKey FileAnswer
@@ -132,5 +132,5 @@ files_keyed p scope = record { answer_of = file_by p scope; places = files_of p 
 
 -- the key of a row's file in a module
 abbrev pub row_key : ℕ → Option LineRow → FileKey
-row_key module None = keys.NoFile
-row_key module (Some row) = keys.File module (row.file_index).0
+row_key module_index None = keys.NoFile
+row_key module_index (Some row) = keys.File module_index (row.file_index).0

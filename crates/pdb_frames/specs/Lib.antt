@@ -1,6 +1,7 @@
 pub mod ChosenNames
 pub mod Depth
 pub mod Failing
+pub mod FileRuns
 pub mod Files
 pub mod Frames
 pub mod Keys

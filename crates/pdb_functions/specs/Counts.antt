@@ -65,12 +65,14 @@ is_bound_in db (Some p) = db.is_bound p
 
 -- whether a piece begins at an internal address of a range with this first one
 abbrev pub begins : {A : Type 0} → List ImageSectionHeader → Database A → ℕ → ℕ → Bool
-begins sections db first x = (x == first) || (is_section_bound sections x || is_bound_in db (place sections x))
+begins sections db first x =
+    (x == first) || (is_section_bound sections x || is_bound_in db (place sections x))
 
 -- how many addresses of ranges pass a test, which is given the first of their range, too
 abbrev pub in_ranges : (ℕ → ℕ → Bool) → List (Range PdbInternalRva) → ℕ
 in_ranges test [] = 0
-in_ranges test (r ∷ ranges) = how_many (test r.start.0) r.start.0 (r.end.0 - r.start.0) + in_ranges test ranges
+in_ranges test (r ∷ ranges) =
+    how_many (test r.start.0) r.start.0 (r.end.0 - r.start.0) + in_ranges test ranges
 
 -- how many addresses of what the addresses from s on and before e become begin a piece
 abbrev pub pieces : {A : Type 0} → Map → Database A → ℕ → ℕ → ℕ

@@ -1,7 +1,9 @@
 -- What a database answers for places, and runs of one answer.
 use Rattle.std.specs.Prelude.{◌≡◌, ℕ, ◌+◌, ◌<◌, ◌≤◌, Bool, true, false, Option}
 use Rattle.pdb_addresses.specs.Places.{Place}
-use Rattle.pdb_addresses.specs.declared.internal_section_offset.PdbInternalSectionOffset.{PdbInternalSectionOffset}
+use Rattle.pdb_addresses.specs.declared.internal_section_offset.PdbInternalSectionOffset.{
+  PdbInternalSectionOffset,
+}
 
 -- the answer at each place, and whether the place is a bound: a start or an end of something that
 -- answers are found by

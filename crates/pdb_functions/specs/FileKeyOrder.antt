@@ -11,7 +11,7 @@ use Rattle.pdb_functions.specs.declared.file_key.FileKey.TheVariants.{Unreadable
 abbrev pub file_numbers : FileKey → ℕ × ℕ × ℕ
 file_numbers Unreadable = (0, 0, 0)
 file_numbers NoFile = (1, 0, 0)
-file_numbers (File module index) = (2, module, index)
+file_numbers (File module_index file_index) = (2, module_index, file_index)
 
 -- by kind, module, and place among its checksums
 abbrev pub file_key_cmp : FileKey → FileKey → Ordering
@@ -30,7 +30,7 @@ file_key_total =
 key_of : ℕ × (ℕ × ℕ) → FileKey
 key_of (zero, others) = Unreadable
 key_of (suc zero, others) = NoFile
-key_of (suc (suc kind), (module, index)) = File module index
+key_of (suc (suc kind), (module_index, file_index)) = File module_index file_index
 
 -- the numbers of a key as pairs
 pairs_of : FileKey → ℕ × (ℕ × ℕ)
@@ -40,7 +40,7 @@ key_back : (k : FileKey) → key_of (pairs_of k) ≡ k
 unfolding key_of pairs_of
 key_back Unreadable = refl
 key_back NoFile = refl
-key_back (File module index) = refl
+key_back (File module_index file_index) = refl
 
 -- keys that compare as equal are one
 pub file_key_exact : CmpEqualImpliesEq file_key_cmp

@@ -13,4 +13,7 @@ pub record Function : Type 0 where
 
 -- by start, end and name; a missing one comes first
 abbrev pub function_cmp : Function → Function → Ordering
-function_cmp a b = ordering_then (nat_cmp a.start_rva b.start_rva) (ordering_then (option_cmp nat_cmp a.end_rva b.end_rva) (option_cmp (slice_cmp nat_cmp) a.name b.name))
+function_cmp a b =
+    ordering_then (nat_cmp a.start_rva b.start_rva)
+    (ordering_then (option_cmp nat_cmp a.end_rva b.end_rva)
+    (option_cmp (slice_cmp nat_cmp) a.name b.name))

@@ -12,7 +12,10 @@ use Rattle.pdb_functions.specs.FunctionOrder.{Function, function_cmp}
 
 -- by start, then by end, then by name
 pub function_total : IsTotalOrder function_cmp
-function_total = then_total (on_total (λ (f : Function). f.start_rva) nat_cmp_total) (then_total (on_total (λ (f : Function). f.end_rva) (options_total nat_cmp_total)) (on_total (λ (f : Function). f.name) (options_total nat_list_cmp_total)))
+function_total =
+    then_total (on_total (λ (f : Function). f.start_rva) nat_cmp_total)
+    (then_total (on_total (λ (f : Function). f.end_rva) (options_total nat_cmp_total))
+    (on_total (λ (f : Function). f.name) (options_total nat_list_cmp_total)))
 
 pub exact_options : {K : Type 0} (R : K → K → Ordering) → CmpEqualImpliesEq R
     → CmpEqualImpliesEq (option_cmp R)

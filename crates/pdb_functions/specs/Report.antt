@@ -7,7 +7,8 @@ use Rattle.pdb_functions.specs.Databases.{Database}
 use Rattle.pdb_functions.specs.Table.{IsTable, count_in}
 use Rattle.pdb_functions.specs.Texts.{sizes_text}
 
--- a line for each function that some address has, in their order, each with its count, and the count of nothing
+-- a line for each function that some address has, in their order, each with its count, and the
+-- count of nothing
 pub record IsReport (m : Map) (db : Database Function) (s e : ℕ) (text : List ℕ) : Type 0 where
   pub table : List (Function × ℕ)
   pub in_order : IsTable function_cmp table

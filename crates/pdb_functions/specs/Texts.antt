@@ -17,7 +17,9 @@ eight_digits a = padded_integral (format_spec 32 0 4 8 (2 ^ 64 - 1)) false [] (d
 
 -- the line of a function and its count
 abbrev pub size_text : Function × ℕ → List ℕ
-size_text e = codes "0x" ++ eight_digits (e.0).start_rva ++ codes " " ++ decimal e.1 ++ codes " " ++ text_or (e.0).name ++ 10 ∷ []
+size_text e =
+    codes "0x" ++ eight_digits (e.0).start_rva ++ codes " " ++ decimal e.1 ++ codes " "
+    ++ text_or (e.0).name ++ 10 ∷ []
 
 -- the report: a line for each function, and then the count of addresses that have none
 abbrev pub sizes_text : List (Function × ℕ) → ℕ → List ℕ

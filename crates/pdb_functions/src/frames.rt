@@ -66,7 +66,11 @@ impl<'a> Model for FunctionFrames<'a> {
 
     ghost Value = { answers.FunctionFrames };
 
-    ghost view = { λ f. record { start_rva = f.start_rva; end_rva = f.end_rva; frames = f.frames.items } };
+    ghost view = { λ f. record {
+      start_rva = f.start_rva;
+      end_rva = f.end_rva;
+      frames = f.frames.items;
+    } };
 }
 
 /// A copy of a file's name that may be missing; a borrowed one stays borrowed.

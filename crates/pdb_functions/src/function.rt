@@ -1,7 +1,8 @@
 //! A function: where it begins and ends, and its name.
 
 ghost use Rattle.std.specs.Prelude.{◌≡◌, IfOk, Some, refl, option_map, string_bytes};
-ghost use Rattle.std.specs.Cmp.{eq_by_cmp_equiv, partial_equiv_from_equiv, partial_order_from_total};
+ghost use Rattle.std.specs.Cmp.{eq_by_cmp_equiv, partial_equiv_from_equiv};
+ghost use Rattle.std.specs.Cmp.{partial_order_from_total};
 ghost use Rattle.pdb_functions.specs.Answers.{is_same};
 ghost use Rattle.pdb_functions.specs.FunctionOrder.{function_cmp};
 ghost use Rattle.pdb_functions.specs.OrderLaws.{function_total, function_exact};
@@ -28,7 +29,11 @@ impl Model for Function {
 
     ghost Value = { functions.Function };
 
-    ghost view = { λ f. record { start_rva = f.start_rva; end_rva = f.end_rva; name = option_map string_bytes f.name } };
+    ghost view = { λ f. record {
+      start_rva = f.start_rva;
+      end_rva = f.end_rva;
+      name = option_map string_bytes f.name;
+    } };
 }
 
 impl Function {

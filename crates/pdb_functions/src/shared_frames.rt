@@ -9,7 +9,7 @@ use std::borrow::CowStr;
 use std::marker::Model;
 use std::sync::ArcStr;
 
-/// A frame whose name is shared with what keeps it: a copy of that takes no memory.
+/// A frame whose name is shared with what stores it: a copy of that takes no memory.
 #[derive(Debug, Drop)]
 pub struct SharedFrame<'a> {
     /// The function's name, if it has one.
@@ -54,7 +54,11 @@ impl<'a> Model for SharedFunctionFrames<'a> {
 
     ghost Value = { answers.FunctionFrames };
 
-    ghost view = { λ f. record { start_rva = f.start_rva; end_rva = f.end_rva; frames = f.frames.items } };
+    ghost view = { λ f. record {
+      start_rva = f.start_rva;
+      end_rva = f.end_rva;
+      frames = f.frames.items;
+    } };
 }
 
 /// A name of its own for a shared one that may be missing.
@@ -71,7 +75,8 @@ pub fn owned_name(alloc: Global, name: &Option<ArcStr>) -> Result<Option<String>
 }
 
 impl<'a> SharedFrame<'a> {
-    /// A frame with a name of its own, equal in all fields. It is refused only when memory runs out.
+    /// A frame with a name of its own, equal in all fields. It is refused only when memory runs
+    /// out.
     pub fn to_frame(&self, alloc: Global) -> Result<Frame<'a>, AllocError>
         ensures { IfOk result (λ f. f ≡ self.now) }
     {

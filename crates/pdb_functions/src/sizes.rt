@@ -2,7 +2,8 @@
 
 ghost use Rattle.std.specs.Prelude.{◌≡◌, ℕ, ◌+◌, ◌-◌, ◌^◌, ◌<◌, ◌≤◌, true, Some, IfOk, OnOk};
 ghost use Rattle.pdb_addresses.specs.Addresses.{IsOrdered};
-ghost use Rattle.pdb_functions.specs.Counts.{count, count_of_none, pieces, answer_at, answer_along, begins, begins_along, is_section_bound};
+ghost use Rattle.pdb_functions.specs.Counts.{count, count_of_none, pieces, answer_at, answer_along};
+ghost use Rattle.pdb_functions.specs.Counts.{begins, begins_along, is_section_bound};
 ghost use Rattle.pdb_functions.specs.Databases.{place_of};
 ghost use Rattle.pdb_functions.specs.Table.{IsTable, IsCounted, IsResolved, IsWithin, count_in};
 ghost use Rattle.pdb_functions.specs.Table.{sum_of};
@@ -129,7 +130,8 @@ fn count_section<R: Runs>(
     ensures lookups { IfOk result (λ n. IsWithin (begins map.now.internal
         (R.keyed runs.old).places address.0) address.0 n (R.lookups runs.old)
         (R.lookups runs.new)) }
-    ensures ends { IfOk result (λ n. n < limit → is_section_bound map.now.internal (address.0 + n) ≡ true) }
+    ensures ends { IfOk result (λ n. n < limit
+        → is_section_bound map.now.internal (address.0 + n) ≡ true) }
     ensures same { R.keyed runs.new ≡ R.keyed runs.old }
 {
     let (place, count) = map.section_run(address, limit);

@@ -28,7 +28,8 @@ pub fn sizes_text(alloc: Global, sizes: &Sizes<Function>) -> Result<String, Allo
 
 /// Appends the lines of functions and their numbers.
 fn append_lines(text: &mut String, numbers: &BTreeMap<Function, u64>) -> Result<(), AllocError>
-    ensures { OnOk result (string_bytes text.new ≡ string_bytes text.old ++ flat_map size_text numbers.now.entries) }
+    ensures { OnOk result (string_bytes text.new
+        ≡ string_bytes text.old ++ flat_map size_text numbers.now.entries) }
 {
     for (function, count) in numbers {
         append_line(text, function, *count)?;
@@ -38,7 +39,8 @@ fn append_lines(text: &mut String, numbers: &BTreeMap<Function, u64>) -> Result<
 
 /// Appends the line of a function and its number.
 fn append_line(text: &mut String, function: &Function, count: u64) -> Result<(), AllocError>
-    ensures { OnOk result (string_bytes text.new ≡ string_bytes text.old ++ size_text (function.now, count)) }
+    ensures { OnOk result (string_bytes text.new
+        ≡ string_bytes text.old ++ size_text (function.now, count)) }
 {
     let start = function.start_rva;
     let name = text_or_unknown(&function.name);

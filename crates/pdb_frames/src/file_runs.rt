@@ -1,0 +1,228 @@
+//! The file at a place in a chosen function, by its key, and how far it goes on.
+
+ghost use Rattle.std.specs.Prelude.{◌≡◌, IfOk, Ok, option_copied};
+ghost use Rattle.pdb_choice.specs.Seen.{chosen_seen};
+ghost use Rattle.pdb_choice.specs.Choice as choice;
+ghost use Rattle.pdb_frames.specs.Files.{file_in_extended as file_of_extended};
+ghost use Rattle.pdb_frames.specs.Files.{file_in_module as file_of_module, row_key as key_of_row};
+ghost use Rattle.pdb_frames.specs.FileRuns.{file_run_in as file_run_of_stream, file_run_of};
+ghost use Rattle.pdb_frames.specs.FileRuns.{rows_in, run_by_rows, run_if_read};
+ghost use Rattle.pdb_functions.specs.FileAnswers.{file_seen};
+ghost use Rattle.pdb_known_modules.specs.Modules.{extended_of};
+ghost use Rattle.pdb_known_modules.specs.Seen.{extended_seen};
+ghost use Rattle.pdb_module_data.specs.FunctionLine.{function_rows};
+ghost use Rattle.pdb_resolving.specs.Fault.{Answers, lifted};
+
+use pdb_addresses::PdbInternalSectionOffset;
+use pdb_choice::{Chosen, ContextParts};
+use pdb_functions::{FileAnswer, FileKey};
+use pdb_indices::FileIndex;
+use pdb_known_modules::{
+    BasicModuleInfo, ExtendedModuleInfo, read_extended, read_extended_procedure,
+};
+use pdb_module_data::{FunctionRows, LineRow, Procedure, file_name};
+use pdb_resolving::{ModuleTables, Result};
+use std::alloc::{AllocError, Global};
+
+/// Returns the key of a row's file in the module with that index; without a row no file is known.
+fn row_key(module_index: u16, row: Option<LineRow>) -> FileKey
+    ensures { result ≡ key_of_row module_index row }
+{
+    match row {
+        None => FileKey::NoFile,
+        Some(row) => FileKey::File(module_index, row.file_index.0),
+    }
+}
+
+/// A place in a function of a module, and how many bytes the function goes on from there.
+#[derive(Clone, Copy)]
+struct Stretch {
+    module_index: u16,
+    place: PdbInternalSectionOffset,
+    far: u32,
+}
+
+impl Stretch {
+    /// Returns the key of the file at the place, and the distance to the next row, or to the end
+    /// where that is nearer, by the function's line rows.
+    fn run_by_rows(self, rows: &FunctionRows) -> (FileKey, u32)
+        ensures { result ≡ run_by_rows self.module_index self.place self.far rows.now }
+    {
+        let key = row_key(self.module_index, rows.at(self.place.offset));
+        (key, rows.to_next_start(self.place.offset, self.far))
+    }
+}
+
+/// Returns the key of the file at a place in a procedure, and how far it goes on, by its module's
+/// line program and inlinees. Cached rows and sites of the procedure are not read again.
+#[tactic(auto, using(pdb_resolving::proofs::Lifting::fails_on))]
+fn procedure_run<'m, I: ModuleTables>(
+    alloc: Global,
+    known: &BasicModuleInfo<'m, I>,
+    extended: &ExtendedModuleInfo<'m>,
+    number: usize,
+    procedure: &Procedure<'_>,
+    stretch: Stretch,
+) -> Result<(FileKey, u32)>
+    requires { extended_of known.now.stream ≡ Ok (extended_seen extended.now) }
+    ensures { Answers (λ run. run) result (run_if_read stretch.module_index stretch.place stretch.far
+        (rows_in known.now.stream (extended_seen extended.now).program
+        (choice.Proc procedure.now))) }
+{
+    if let Some(read) = known.extended_procedure(number, procedure) {
+        return Ok(stretch.run_by_rows(&read.rows));
+    }
+    let read = read_extended_procedure(alloc, known.module_info, extended, procedure)?;
+    Ok(stretch.run_by_rows(&read.rows))
+}
+
+/// Returns the key of the file at a place in the function of a public entry, and how far it goes
+/// on, by its module's line program. Cached rows of that function are not read again.
+#[tactic(auto, using(pdb_resolving::proofs::Lifting::given_fails_on))]
+fn public_run<'m, I: ModuleTables>(
+    alloc: Global,
+    known: &BasicModuleInfo<'m, I>,
+    extended: &ExtendedModuleInfo<'m>,
+    start: PdbInternalSectionOffset,
+    stretch: Stretch,
+) -> Result<(FileKey, u32)>
+    requires { extended_of known.now.stream ≡ Ok (extended_seen extended.now) }
+    ensures { Answers (λ run. run) result (run_if_read stretch.module_index stretch.place stretch.far
+        (lifted (function_rows (extended_seen extended.now).program start))) }
+{
+    if let Some(rows) = known.public_rows(start) {
+        return Ok(stretch.run_by_rows(rows));
+    }
+    let rows = FunctionRows::read(alloc, &extended.line_program, start)?;
+    Ok(stretch.run_by_rows(&rows))
+}
+
+/// Returns the key of the file at a place in a chosen function, and how far it goes on, by its
+/// module's line program and inlinees.
+fn chosen_run<'m, I: ModuleTables>(
+    alloc: Global,
+    known: &BasicModuleInfo<'m, I>,
+    extended: &ExtendedModuleInfo<'m>,
+    chosen: Chosen<'_, '_>,
+    stretch: Stretch,
+) -> Result<(FileKey, u32)>
+    requires { extended_of known.now.stream ≡ Ok (extended_seen extended.now) }
+    ensures { Answers (λ run. run) result (run_if_read stretch.module_index stretch.place stretch.far
+        (rows_in known.now.stream (extended_seen extended.now).program
+        (chosen_seen chosen.entry))) }
+{
+    match chosen {
+        Chosen::Procedure(number, procedure) => {
+            procedure_run(alloc, known, extended, number, procedure, stretch)
+        }
+        Chosen::Public(public) => public_run(alloc, known, extended, public.start_offset, stretch),
+    }
+}
+
+/// Returns the key of the file at a place in a chosen function, and how far it goes on, by its
+/// module's data. A cached line program is not read again.
+#[tactic(auto, using(pdb_resolving::proofs::Lifting::given_fails_on), unfolding(crate::specs::FileRuns::file_run_in))]
+fn data_run<'m, I: ModuleTables>(
+    alloc: Global,
+    known: &BasicModuleInfo<'m, I>,
+    chosen: Chosen<'_, '_>,
+    stretch: Stretch,
+) -> Result<(FileKey, u32)>
+    ensures { Answers (λ run. run) result (file_run_of_stream stretch.module_index known.now.stream
+        (chosen_seen chosen.entry) stretch.place stretch.far) }
+{
+    if let Some(extended) = known.extended() {
+        return chosen_run(alloc, known, extended, chosen, stretch);
+    }
+    let extended = read_extended(alloc, known.module_info)?;
+    chosen_run(alloc, known, &extended, chosen, stretch)
+}
+
+/// Returns the key of the file at a place in a chosen function, and the lesser of `far` and the
+/// distance to the next line row, in bytes. No name is made, and no inlined call is looked for. A
+/// module that has no data has no files.
+///
+/// # Errors
+/// The first fault of line program, inlinees, the function's rows and its inline sites, as
+/// `PdbError`; `ProcedureInlineRangesUnsuccessful`; `OutOfMemory`.
+pub fn file_run_in<I: ModuleTables>(
+    alloc: Global,
+    module_index: u16,
+    known: Option<&BasicModuleInfo<'_, I>>,
+    chosen: Chosen<'_, '_>,
+    place: PdbInternalSectionOffset,
+    far: u32,
+) -> Result<(FileKey, u32)>
+    ensures { Answers (λ run. run) result (file_run_of module_index (option_copied known.entry)
+        (chosen_seen chosen.entry) place far) }
+{
+    let stretch = Stretch {
+        module_index,
+        place,
+        far,
+    };
+    match known {
+        None => Ok((FileKey::NoFile, far)),
+        Some(known) => data_run(alloc, known, chosen, stretch),
+    }
+}
+
+/// Returns the file with an index in a line program; `NoFile` where it has no name.
+fn file_in_extended(
+    alloc: Global,
+    parts: &ContextParts<'_, '_>,
+    extended: &ExtendedModuleInfo<'_>,
+    index: FileIndex,
+) -> std::result::Result<FileAnswer, AllocError>
+    ensures { IfOk result (λ file. file_seen file
+        ≡ file_of_extended parts.now index.0 (Ok (extended_seen extended.now))) }
+{
+    match file_name(alloc, &extended.line_program, &parts.names, index)? {
+        None => Ok(FileAnswer::NoFile),
+        Some(name) => {
+            let name = name.into_owned(alloc)?;
+            Ok(FileAnswer::File(name))
+        }
+    }
+}
+
+/// Returns the file with an index in the module of these data; `NoFile` where the line program
+/// can't be read, and where the file has no name.
+fn file_in_data<I: ModuleTables>(
+    alloc: Global,
+    parts: &ContextParts<'_, '_>,
+    known: &BasicModuleInfo<'_, I>,
+    index: FileIndex,
+) -> std::result::Result<FileAnswer, AllocError>
+    ensures { IfOk result (λ file. file_seen file
+        ≡ file_of_extended parts.now index.0 (extended_of known.now.stream)) }
+{
+    if let Some(extended) = known.extended() {
+        return file_in_extended(alloc, parts, extended, index);
+    }
+    match read_extended(alloc, known.module_info) {
+        Ok(extended) => file_in_extended(alloc, parts, &extended, index),
+        Err(pdb_container::Error::OutOfMemory) => Err(AllocError),
+        Err(_) => Ok(FileAnswer::NoFile),
+    }
+}
+
+/// Returns the file with an index in a module; `NoFile` where the module has no data, where its
+/// line program can't be read, and where the file has no name.
+///
+/// # Errors
+/// [`AllocError`] where memory is refused.
+pub fn file_in_module<I: ModuleTables>(
+    alloc: Global,
+    parts: &ContextParts<'_, '_>,
+    known: Option<&BasicModuleInfo<'_, I>>,
+    index: FileIndex,
+) -> std::result::Result<FileAnswer, AllocError>
+    ensures { IfOk result (λ file. file_seen file
+        ≡ file_of_module parts.now index.0 (option_copied known.entry)) }
+{
+    match known {
+        None => Ok(FileAnswer::NoFile),
+        Some(known) => file_in_data(alloc, parts, known, index),
+    }
+}
