@@ -22,7 +22,8 @@
 //! | ask for the frames at an address | [`Context::find_frames`]; [`Context::find_shared_frames`], which copies no name |
 //! | ask for the function at an address | [`Context::find_function`] |
 //! | go over all functions | [`Context::functions`] |
-//! | ask how far one answer goes | [`Context::find_function_run`] |
+//! | ask how far one function goes | [`Context::find_function_run`] |
+//! | ask for the source file of a function, and how far it goes | [`Context::find_file_run`] |
 //! | make a formatter | `make_type_formatter`, `make_type_formatter_with_flags` |
 //! | have the text of a function, of an inlined function's id | [`TypeFormatter::format_function`], `format_id`; `emit_function`, `emit_id` into a writer |
 //! | have the size of a type | [`TypeFormatter::get_type_size`] |
@@ -33,8 +34,9 @@ pub mod pdb;
 mod pdb_data;
 
 pub use pdb_context::{
-    Context, Frame, FrameRow, Function, FunctionFrames, FunctionIter, ModuleSectionContribution,
-    SharedFrame, SharedFunctionFrames, TextWriter, TypeFormatter, maybe_owned,
+    Context, FileAnswer, Frame, FrameRow, Function, FunctionFrames, FunctionIter,
+    ModuleSectionContribution, SharedFrame, SharedFunctionFrames, TextWriter, TypeFormatter,
+    maybe_owned,
 };
 pub use pdb_data::ContextPdbData;
 pub use pdb_loading::{KeptModules, Tables, read_tables};

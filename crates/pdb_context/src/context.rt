@@ -35,11 +35,11 @@ pub struct Context<'a, 's, P: ModuleProvider> {
     pub(crate) provider: &'a P,
     pub(crate) parts: ContextParts<'a, 's>,
     pub(crate) namer: Namer<'a, 's, P>,
-    kept: CachedModules<'a, P::Info>,
+    pub(crate) kept: CachedModules<'a, P::Info>,
     pub(crate) starts: Option<Vec<u32>>,
     lookups: u64,
-    failed: Failures,
-    known_failures: KnownFailures,
+    pub(crate) failed: Failures,
+    pub(crate) known_failures: KnownFailures,
 }
 
 impl<'a, 's, P: ModuleProvider> Model for Context<'a, 's, P> {
@@ -170,7 +170,7 @@ impl<'a, 's, P: ModuleProvider> Context<'a, 's, P> {
     }
 
     /// Counts a place that was looked up, unless memory ran short.
-    fn counted<T>(&mut self, answer: Result<T>) -> Result<T>
+    pub(crate) fn counted<T>(&mut self, answer: Result<T>) -> Result<T>
         ensures answer { result ≡ answer }
         ensures same { uncounted self.new ≡ uncounted self.old }
         ensures lookups { self.new.lookups ≡ lookups_after true answer self.old.lookups }

@@ -3,6 +3,7 @@
 #![tactic(auto)]
 
 mod context;
+mod file_runs;
 mod function_starts;
 mod functions;
 
@@ -12,5 +13,6 @@ pub use pdb_answers::{
     ContextParts, ModuleSectionContribution, TextWriter, TypeFormatter, maybe_owned,
 };
 pub use pdb_functions::{
-    Frame, FrameRow, Function, FunctionFrames, FunctionKey, SharedFrame, SharedFunctionFrames,
+    CountedFile, FileAnswer, FileKey, Frame, FrameRow, Function, FunctionFrames, FunctionKey,
+    SharedFrame, SharedFunctionFrames,
 };

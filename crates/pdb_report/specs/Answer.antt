@@ -13,8 +13,11 @@ use Rattle.pdb_addr2line.specs.Choice.{Parts}
 use Rattle.pdb_addr2line.specs.Scopes.{Scope, scope_of, entries_of}
 use Rattle.pdb_addr2line.specs.Context.{Context, scope_in}
 use Rattle.pdb_functions.specs.Frames.{FunctionFrames}
+use Rattle.pdb_addr2line.specs.Files.{files_keyed, files_of}
 use Rattle.pdb_addr2line.specs.Frames.{frames, function}
 use Rattle.pdb_addr2line.specs.Keys.{keyed_of}
+use Rattle.pdb_functions.specs.FileAnswers.{FileAnswer}
+use Rattle.pdb_functions.specs.declared.file_key.FileKey.{FileKey}
 use Rattle.pdb_functions.specs.declared.function_key.FunctionKey.{FunctionKey}
 use Rattle.pdb_addr2line.specs.Runs.{database_of}
 use Rattle.pdb_functions.specs.Databases.{Database, Keyed}
@@ -71,6 +74,15 @@ database_by s (Ok l) = database_of l.parts (scope s l)
 unfoldable pub database : Streams → Database Function
 database s = database_by s (loaded (shared s))
 
+-- the files at places, and where they may change, by what was loaded
+abbrev pub files_by : Streams → Result Loaded LoadingFault → Database FileAnswer
+files_by s (Err e) = record { answer = λ place. None; is_bound = λ place. false }
+files_by s (Ok l) = files_of l.parts (scope s l)
+
+-- the source files at places of the file's sections, and where they may change
+unfoldable pub files : Streams → Database FileAnswer
+files s = files_by s (loaded (shared s))
+
 -- what a list of functions goes over: the parts that each question goes over, what an answer in each module depends on, and the
 -- modules' entries in order
 pub record Listing : Type 0 where
@@ -110,9 +122,17 @@ function_of provided c a = function c.parts (scope_in provided c) a
 abbrev pub database_in : {P : Type 0} → (P → Provided) → Context P → Database Function
 database_in provided c = database_of c.parts (scope_in provided c)
 
--- the same by keys
+-- the functions of a context at places, by keys
 abbrev pub keyed_in : {P : Type 0} → (P → Provided) → Context P → Keyed FunctionKey Function
 keyed_in provided c = keyed_of c.parts (scope_in provided c)
+
+-- the files of a context at places, and where they may change
+abbrev pub files_in : {P : Type 0} → (P → Provided) → Context P → Database FileAnswer
+files_in provided c = files_of c.parts (scope_in provided c)
+
+-- the files of a context at places, by keys
+abbrev pub files_keyed_in : {P : Type 0} → (P → Provided) → Context P → Keyed FileKey FileAnswer
+files_keyed_in provided c = files_keyed c.parts (scope_in provided c)
 
 -- what the list of a context's functions goes over
 abbrev pub listing_of : {P : Type 0} → (P → Provided) → Context P → Listing
@@ -123,4 +143,5 @@ pub record AnswersAs {P : Type 0} (provided : P → Provided) (s : Streams) (c :
   pub frames : answer_of provided c ≡ answer s
   pub functions : function_of provided c ≡ function_at s
   pub places : database_in provided c ≡ database s
+  pub files : files_in provided c ≡ files s
   pub list : Some (listing_of provided c) ≡ listing s

@@ -14,7 +14,8 @@ ghost use Rattle.pdb_symbols_modules.specs.Streams.{Streams};
 
 use pdb_addr2line::{Context, Function, KeptModules};
 use pdb_addresses::PdbInternalSectionOffset;
-use pdb_functions::{Answer, FunctionKey, Runs, Sizes, sizes_text};
+use pdb_functions::{Answer, CountedFile, FileKey, FunctionKey, Runs, Sizes};
+use pdb_functions::{by_file_text, sizes_text};
 use std::alloc::{AllocError, Global};
 use std::marker::PhantomData;
 
@@ -109,6 +110,49 @@ impl Counted for Function {
 
     fn report_text(alloc: Global, sizes: &Sizes<Function>) -> Result<String, AllocError> {
         sizes_text(alloc, sizes)
+    }
+}
+
+/// Files, by their kind, and those that are known in the order of their texts' bytes.
+impl Counted for CountedFile {
+    ghost use Rattle.pdb_functions.specs.FileReport.{IsFileReport};
+    ghost use Rattle.pdb_report.specs.Answer.{files, files_keyed_in};
+
+    type Key = FileKey;
+
+    ghost keyed = { files_keyed_in answered_in };
+
+    ghost places = { files };
+
+    ghost is_report = { IsFileReport };
+
+    ghost of_file = { λ s c answers. answers.files };
+
+    fn run_at(
+        alloc: Global,
+        context: &mut FileContext<'_>,
+        place: PdbInternalSectionOffset,
+        limit: u32,
+    ) -> Result<(Option<FileKey>, u32), AllocError> {
+        match context.find_file_key_run(alloc, place, limit) {
+            Ok(run) => Ok(run),
+            Err(_) => Err(AllocError),
+        }
+    }
+
+    fn answer_of(
+        alloc: Global,
+        context: &mut FileContext<'_>,
+        key: &FileKey,
+    ) -> Result<Option<CountedFile>, AllocError> {
+        match context.file_by_key(alloc, key) {
+            Ok(file) => Ok(file),
+            Err(_) => Err(AllocError),
+        }
+    }
+
+    fn report_text(alloc: Global, sizes: &Sizes<CountedFile>) -> Result<String, AllocError> {
+        by_file_text(alloc, sizes)
     }
 }
 

@@ -17,7 +17,7 @@
 //! |---|---|
 //! | load a file once, for many questions | [`Symbolizer::open`], [`Symbolizer::context`] |
 //! | write the answers to lines of addresses | [`run_frames`]; [`run_frames_ending`] in a process that ends behind it |
-//! | write how many addresses of a range each function has | [`run_sizes`] |
+//! | write how many addresses of a range each function has, or each source file | [`run_sizes`], [`run_sizes_by_file`] |
 //! | read an address, as a line of input has it | [`parse_address`] |
 //! | read a file's pages, or the first 32 bytes of what is no container | [`read_file`] |
 //! | have the failures of a reader or a writer counted | [`Watched`] |
@@ -41,5 +41,5 @@ pub use pdb_engine::{ErrorOutput, Watched, parse_address};
 pub use pdb_loading::read_file;
 pub use pdb_report_texts::{LoadFault, RunFault};
 pub use report::{AtEnd, answer_lines, run_frames, run_frames_ending};
-pub use sizes::{Tally, run_sizes};
+pub use sizes::{Tally, run_sizes, run_sizes_by_file};
 pub use symbolizer::Symbolizer;

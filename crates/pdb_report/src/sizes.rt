@@ -1,10 +1,11 @@
-//! Reports on a range of addresses: how many of them each function has.
+//! Reports on a range of addresses: how many of them each function has, or each source file.
 
 ghost use Rattle.std.specs.Prelude.{◌≡◌, ℕ, ◌+◌, ◌<◌, ◌≤◌, ◌⊎◌, List, None, OnErr, OnOk, IfErr};
 ghost use Rattle.std.specs.Prelude.{IfOk};
 ghost use Rattle.pdb_addresses.specs.Addresses.{IsOrdered};
 ghost use Rattle.pdb_engine.specs.InputFaults.{IsOfWriting, OnWrite as OnInputWrite};
 ghost use Rattle.pdb_engine.specs.Watched.{CountsFailure, IsQuiet, Writes, WritesFront};
+ghost use Rattle.pdb_report.specs.FileReport.{IsSizesByFile, IsWithinFilePieces};
 ghost use Rattle.pdb_report.specs.Loading.{load_fault, IsFileFault};
 ghost use Rattle.pdb_report.specs.SizesReport.{AreWithinPieces, IsReportOn};
 ghost use Rattle.pdb_report.specs.SizesReport.{IsSizesReport, IsWithinPieces};
@@ -18,7 +19,7 @@ use crate::symbolizer::Symbolizer;
 use pdb_addr2line::Function;
 use pdb_addresses::AddressMap;
 use pdb_engine::{InputFault, Watched, write_all, write_fault};
-use pdb_functions::count_runs;
+use pdb_functions::{CountedFile, count_runs};
 use pdb_report_texts::RunFault;
 use std::alloc::Global;
 use std::io::Write;
@@ -233,4 +234,50 @@ pub fn run_sizes<W: Write>(
         × WritesFront W.contents writer.old writer.new text)) }
 {
     run_report::<Function, W>(alloc, bytes, start, end, writer)
+}
+
+/// Writes how many of the addresses from `start` on and before `end` each source file has in the
+/// program database of the bytes: a line for each file, its count and its text, in the order of the
+/// texts' bytes; and last `no file`, `none` and `unreadable` with how many addresses have a function
+/// without a known file, no function, and a function whose frames can't be read.
+///
+/// # Errors
+/// `Load` where the file has a loading fault, then `ReversedRange` where `start` is above `end`, and
+/// then nothing was written; `Write` where the writer failed in this call; `OutOfMemory`.
+pub fn run_sizes_by_file<W: Write>(
+    alloc: Global,
+    bytes: Vec<u8>,
+    start: u32,
+    end: u32,
+    writer: &mut Watched<W>,
+) -> Result<Tally, RunFault>
+    // The loading fault is returned where the file has one, with nothing written; every other end but
+    // out of memory says that there is none.
+    ensures load { IfErr result (λ fault. OnLoad fault (λ cause.
+        IsFileFault cause (load_fault (streams bytes.items)) × (writer.new ≡ writer.old))) }
+    ensures loaded { UnlessLoad result (load_fault (streams bytes.items) ≡ None) }
+    // A reversed range is refused exactly where it is one, with nothing written.
+    ensures reversed { IfErr result (λ fault. OnReversed fault
+        ((end < start) × (writer.new ≡ writer.old))) }
+    ensures order { OnCounted result (start ≤ end) }
+    ensures kind { IfErr result IsOfSizes }
+    // Out of memory is returned with nothing written, or where there is no loading fault.
+    ensures memory { IfErr result (λ fault. OnMemory fault
+        ((load_fault (streams bytes.items) ≡ None) ⊎ (writer.new ≡ writer.old))) }
+    // Where the run ends well, the report is out, the writer didn't fail, and there was at most one
+    // lookup for each piece by file.
+    ensures ok { OnOk result ((text : List ℕ) × IsSizesByFile (streams bytes.items) start end text
+        × Writes W.contents writer.old writer.new text) }
+    ensures lookups { IfOk result (λ tally.
+        IsWithinFilePieces (streams bytes.items) start end tally.lookups) }
+    ensures quiet { OnOk result (IsQuiet writer.old writer.new) }
+    // A failed write is one of this call, with its kind.
+    ensures write_fails { IfErr result (λ fault. OnWrite fault
+        (λ kind. CountsFailure writer.old writer.new kind)) }
+    // At every fault nothing is out, or a prefix of the report.
+    ensures part { OnErr result ((writer.new ≡ writer.old) ⊎ ((text : List ℕ)
+        × IsSizesByFile (streams bytes.items) start end text
+        × WritesFront W.contents writer.old writer.new text)) }
+{
+    run_report::<CountedFile, W>(alloc, bytes, start, end, writer)
 }
