@@ -1,6 +1,8 @@
-//! A search by halving among what begins somewhere, which counts its probes.
+//! A search by halving among what begins somewhere, which counts its probes; and how far it is to the
+//! next beginning.
 
 ghost use Rattle.std.specs.Prelude.{◌≡◌, ℕ, ◌+◌, ◌^◌, ◌<◌, ◌≤◌, map, length};
+ghost use Rattle.pdb_addresses.specs.SectionRun.{nearer as nearer_of, up_to_next};
 ghost use Rattle.pdb_pieces.specs.Halving.{Ascend, IsSplit};
 
 /// What begins at a place or an offset, as a number.
@@ -51,4 +53,30 @@ pub fn count_begun<T: Begins>(items: &[T], place: u64) -> (usize, u32)
         }
     }
     (low, probes)
+}
+
+/// Returns the lesser of `far` and the distance from a place to the next beginning past it, of what
+/// ascends. It halves, as `count_begun` does.
+pub fn to_next<T: Begins>(items: &[T], place: u64, far: u32) -> u32
+    requires { Ascend 0 (map T.beginning items.now) }
+    ensures { result ≡ up_to_next (map T.beginning items.now) place far }
+{
+    let passed = count_begun(items, place).0;
+    if passed < items.len() {
+        nearer(place, items[passed].begins_at(), far)
+    } else {
+        far
+    }
+}
+
+/// Returns the lesser of `far` and the distance from a place to a bound, if that lies past it.
+fn nearer(place: u64, bound: u64, far: u32) -> u32
+    ensures { result ≡ nearer_of place bound far }
+{
+    let distance = bound.saturating_sub(place);
+    if 0 < distance && distance < u64::from(far) {
+        distance as u32
+    } else {
+        far
+    }
 }

@@ -7,6 +7,6 @@ pub mod laws;
 mod search;
 mod span;
 
-pub use ascending::{Begins, count_begun};
+pub use ascending::{Begins, count_begun, to_next};
 pub use search::Pieces;
 pub use span::{Mark, Span, place_number};
