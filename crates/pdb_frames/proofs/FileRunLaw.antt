@@ -6,12 +6,16 @@ use Rattle.std.specs.List.{list_any}
 use Rattle.std.proofs.lemmas.Bool.{cases_lt}
 use Rattle.pdb_addresses.specs.Places.{Place, internal_place}
 use Rattle.pdb_addresses.specs.SectionRun.{up_to_next}
-use Rattle.pdb_addresses.specs.declared.internal_section_offset.PdbInternalSectionOffset.{PdbInternalSectionOffset}
+use Rattle.pdb_addresses.specs.declared.internal_section_offset.PdbInternalSectionOffset.{
+  PdbInternalSectionOffset,
+}
 use Rattle.pdb_choice.specs.Choice.{Parts, Chosen, chosen, start_address, function_end}
 use Rattle.pdb_choice.specs.NearBounds.{bounds_near}
 use Rattle.pdb_container.specs.Fault.{◌>>=◌}
 use Rattle.pdb_contributions.specs.Contributions.{holder}
-use Rattle.pdb_contributions.specs.declared.contribution.ModuleSectionContribution.{ModuleSectionContribution}
+use Rattle.pdb_contributions.specs.declared.contribution.ModuleSectionContribution.{
+  ModuleSectionContribution,
+}
 use Rattle.pdb_frames.proofs.FileStays.{AreClear, unnamed, frames_stay, file_stays}
 use Rattle.pdb_frames.proofs.RunLaw.{IsClear, IsBound, NoBound, on, or_true, holder_stays}
 use Rattle.pdb_frames.proofs.RunLaw.{chosen_stays, some_to_next, to_next-le, clear_to_next}
@@ -99,7 +103,7 @@ starts_by_holder p scope (Some c) place k n none lt =
     ap (starts_if_chosen known) (chosen_stays p (procedures_in known) c place k n none lt)
 
 -- where rows begin stays up to the next bound
-starts_stay : (p : Parts) (scope : ℕ → Scope) (place : PdbInternalSectionOffset) (k n : ℕ)
+pub starts_stay : (p : Parts) (scope : ℕ → Scope) (place : PdbInternalSectionOffset) (k n : ℕ)
     → NoBound p (procedures_of scope (holder p.contributions place)) place n → k < n
     → starts_here p scope (on place k) ≡ starts_here p scope place
 starts_stay p scope place k n none lt =
@@ -108,8 +112,8 @@ starts_stay p scope place k n none lt =
     let starts = starts_by p scope place h in
     let held = holder_stays p (procedures_of scope h) place k n none lt in
     let same =
-        ap (λ (o : Option ModuleSectionContribution). starts_by p scope there o) held
-        ∙ starts_by_holder p scope h place k n none lt in
+    ap (λ (o : Option ModuleSectionContribution). starts_by p scope there o) held
+    ∙ starts_by_holder p scope h place k n none lt in
     ap (λ (s : List ℕ). starts_if_frames (file_here p scope there) s) same
     ∙ by_kind (file_here p scope there) starts
     ∙ ap (λ (a : FileAnswer). starts_if_frames a starts) (kind_stays p scope place k n none lt)
@@ -152,7 +156,7 @@ by_file b NoFile starts x k kind with_rows clear = with_rows clear
 by_file b (File name) starts x k kind with_rows clear = with_rows clear
 
 -- the file stays up to the next bound or start of a row
-here_stays : (p : Parts) (scope : ℕ → Scope) (place : PdbInternalSectionOffset) (k n : ℕ)
+pub here_stays : (p : Parts) (scope : ℕ → Scope) (place : PdbInternalSectionOffset) (k n : ℕ)
     → NoBound p (procedures_of scope (holder p.contributions place)) place n → k < n
     → AreClear (starts_here p scope place) place.offset k
     → file_here p scope (on place k) ≡ file_here p scope place
@@ -178,25 +182,25 @@ ends_there p scope place limit m n run none is lt = elim (cases_lt n m) [
   | inl before ↦
       let starts = starts_here p scope place in
       let begun : IsBound starts (place.offset + n) =
-          next_is_bound starts place.offset m n is before in
+      next_is_bound starts place.offset m n is before in
       let there : IsBound (starts_here p scope (on place n)) (place.offset + n) =
-          subst (λ (s : List ℕ). IsBound s (place.offset + n))
-          (sym (starts_stay p scope place n m none before)) begun in
+      subst (λ (s : List ℕ). IsBound s (place.offset + n))
+      (sym (starts_stay p scope place n m none before)) begun in
       ap (λ (b : Bool). is_bound p scope (on place n) || b) there
       ∙ or_true (is_bound p scope (on place n))
   | inr after ↦
       let low : n ≤ m =
-          subst (λ (x : ℕ). x ≤ m) is (to_next-le (starts_here p scope place) place.offset m) in
+      subst (λ (x : ℕ). x ≤ m) is (to_next-le (starts_here p scope place) place.offset m) in
       let same : m ≡ n = omega (arith, low, after) in
       let bound = run.ends (omega (arith, same, lt)) in
       let there : is_bound p scope (on place n) ≡ true =
-          subst (λ (x : ℕ). is_bound p scope (on place x) ≡ true) same bound in
+      subst (λ (x : ℕ). is_bound p scope (on place x) ≡ true) same bound in
       let rows = list_any (λ start. place.offset + n == start) (starts_here p scope (on place n)) in
       ap (λ (b : Bool). b || rows) there
 ]
 
--- the lesser of a limit and the distances to the next bound by a place's own holder, and to the next
--- start of a row of its own function, is a run of one file
+-- the lesser of a limit and the distances to the next bound by a place's own holder, and to the
+-- next start of a row of its own function, is a run of one file
 pub file_run_to_next : (p : Parts) (scope : ℕ → Scope) (place : PdbInternalSectionOffset)
     (limit : ℕ) → 1 ≤ limit → IsOneRun (files_of p scope) (place_of place) limit
     (up_to_next (starts_here p scope place) place.offset
@@ -212,9 +216,10 @@ file_run_to_next p scope place limit some =
     let run = run_to_next p scope place limit some in
     let low : n ≤ m = to_next-le starts x m in
     let high : m ≤ limit = to_next-le bounds x limit in
-    let none : NoBound p procedures place m = λ k first lt. clear_to_next bounds x limit k first lt in
+    let none : NoBound p procedures place m =
+    λ k first lt. clear_to_next bounds x limit k first lt in
     let apart : (k : ℕ) → 1 ≤ k → k < n → IsClear starts (x + k) =
-        λ k first lt. clear_to_next starts x m k first lt in
+    λ k first lt. clear_to_next starts x m k first lt in
     record {
       some = some_to_next starts x m (some_to_next bounds x limit some);
       within = omega (arith, low, high);
@@ -224,8 +229,8 @@ file_run_to_next p scope place limit some =
       clear = λ k first lt.
           let before : k < m = omega (arith, low, lt) in
           let there : IsClear (starts_here p scope (on place k)) (x + k) =
-              subst (λ (s : List ℕ). IsClear s (x + k))
-              (sym (starts_stay p scope place k m none before)) (apart k first lt) in
+          subst (λ (s : List ℕ). IsClear s (x + k))
+          (sym (starts_stay p scope place k m none before)) (apart k first lt) in
           both_false (is_bound p scope (on place k)) _ (run.clear k first before) there;
       ends = λ lt. ends_there p scope place limit m n run none refl lt;
     }

@@ -1,18 +1,20 @@
 -- While the choice stays, the file of a place changes at starts of rows alone.
-use Rattle.std.proofs.Common.{◌≡◌, ℕ, zero, suc, ◌+◌, ◌≤◌, Bool, cond, ◌||◌, List, [], ◌∷◌, ◌++◌}
+use Rattle.std.proofs.Common.{◌≡◌, ℕ, zero, suc, ◌+◌, ◌≤◌, Bool, cond, List, [], ◌∷◌, ◌++◌}
 use Rattle.std.proofs.Common.{Result, Ok, Err, refl, sym, ap, ◌∙◌, subst, arith}
 use Rattle.std.specs.Prelude.{Option, None, Some, map, ◌==◌, option_and_then}
 use Rattle.std.specs.List.{list_any}
-use Rattle.pdb_addresses.specs.declared.internal_section_offset.PdbInternalSectionOffset.{PdbInternalSectionOffset}
+use Rattle.pdb_addresses.specs.declared.internal_section_offset.PdbInternalSectionOffset.{
+  PdbInternalSectionOffset,
+}
 use Rattle.pdb_choice.specs.Choice.{Parts, Chosen, Proc, Public, start_of, start_address}
 use Rattle.pdb_container.specs.Fault as container
 use Rattle.pdb_container.specs.Fault.{◌>>=◌}
 use Rattle.pdb_frames.proofs.RunLaw.{IsClear, on, left_false, right_false, differ, leb_step}
 use Rattle.pdb_frames.specs.ChosenNames.{name_of}
 use Rattle.pdb_frames.specs.Files.{file_or_none, last_file, file_of, starts_read}
-use Rattle.pdb_frames.specs.Files.{starts_in_extended, starts_in, starts_if_chosen}
+use Rattle.pdb_frames.specs.Files.{starts_in_extended, starts_if_chosen}
 use Rattle.pdb_frames.specs.Frames.{call_frame, function_frame, calls_in, row_and_calls}
-use Rattle.pdb_frames.specs.Frames.{frames_in_data, frames_in, found_frames, frames_of_chosen}
+use Rattle.pdb_frames.specs.Frames.{frames_in_data, found_frames, frames_of_chosen}
 use Rattle.pdb_functions.specs.FileAnswers.{FileAnswer, Nothing, Unreadable, NoFile, File}
 use Rattle.pdb_functions.specs.Frames.{Frame}
 use Rattle.pdb_inlinees.specs.Inlinees.{InlinedFunction}
@@ -108,7 +110,6 @@ row_file p program row =
 -- ---- two places in a chosen function, by what is seen of their files
 module _ (p : Parts) (env : Env) (c : Chosen) (place other : PdbInternalSectionOffset)
     (seen : FileAnswer → FileAnswer) where
-
   -- the files of their rows are seen as one, where rows can be read
   abbrev AreRowsAlike : Program → Result (List LineRow) container.Fault → Type 0
   AreRowsAlike program (Ok rows) =
@@ -242,8 +243,9 @@ frames_stay p env (Some known) place other (Some c) =
 abbrev pub AreClear : List ℕ → ℕ → ℕ → Type 0
 AreClear starts x k = (j : ℕ) → 1 ≤ j → j ≤ k → IsClear starts (x + j)
 
-same_rows : (p : Parts) (env : Env) (c : Chosen) (place : PdbInternalSectionOffset) (k : ℕ) (program : Program)
-    (rows : Result (List LineRow) container.Fault) → AreClear (starts_read rows) place.offset k
+same_rows : (p : Parts) (env : Env) (c : Chosen) (place : PdbInternalSectionOffset) (k : ℕ)
+    (program : Program) (rows : Result (List LineRow) container.Fault)
+    → AreClear (starts_read rows) place.offset k
     → AreRowsAlike p env c place (on place k) (λ a. a) program rows
 same_rows p env c place k program (Ok rows) clear =
     ap (row_file p program) (row_stays rows place.offset k clear)

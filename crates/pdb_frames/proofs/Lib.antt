@@ -1,3 +1,4 @@
+pub mod BoundsLaw
 pub mod FileRunLaw
 pub mod FileRunSteps
 pub mod FileStays

@@ -41,7 +41,7 @@ differ a b h = λ same. let e = eq-eqb a b same in (cc)
 abbrev pub IsClear : List ℕ → ℕ → Type 0
 IsClear bounds x = list_any (λ bound. x == bound) bounds ≡ false
 
-front_clear : (bs cs : List ℕ) (x : ℕ) → IsClear (bs ++ cs) x → IsClear bs x
+pub front_clear : (bs cs : List ℕ) (x : ℕ) → IsClear (bs ++ cs) x → IsClear bs x
 front_clear bs cs x h = left_false (list_any (λ bound. x == bound) bs) (list_any (λ bound. x == bound) cs) (sym (list_any-append (λ bound. x == bound) bs cs) ∙ h)
 
 rest_clear : (bs cs : List ℕ) (x : ℕ) → IsClear (bs ++ cs) x → IsClear cs x
@@ -72,7 +72,7 @@ before_step true start x h = leb_step start x (differ (x + 1) start (left_false 
 
 -- ---- one place on
 
-holder_step : (cs : List ModuleSectionContribution) (p : PdbInternalSectionOffset) → IsClear (flat_map (contribution_bounds p) cs) (p.offset + 1) → holder cs (on p 1) ≡ holder cs p
+pub holder_step : (cs : List ModuleSectionContribution) (p : PdbInternalSectionOffset) → IsClear (flat_map (contribution_bounds p) cs) (p.offset + 1) → holder cs (on p 1) ≡ holder cs p
 holder_step [] p h = refl
 holder_step (c ∷ cs) p h =
     let first : holds (on p 1) c ≡ holds p c = covers_step (c.section_index == p.section) c.start_offset c.end_offset p.offset (front_clear (contribution_bounds p c) (flat_map (contribution_bounds p) cs) (p.offset + 1) h) in
@@ -140,7 +140,7 @@ function_stays : (p : Parts) (s : Scope) (c : ModuleSectionContribution) (place 
 unfolding function_at
 function_stays p s c place k n none lt = ap (λ (o : Option Chosen). option_and_then (function_of p s.env) o) (chosen_stays p (procedures_in (module_data s.own)) c place k n none lt)
 
-by_stays : (p : Parts) (scope : ℕ → Scope) (h : Option ModuleSectionContribution) (place : PdbInternalSectionOffset) (k n : ℕ) → NoBound p (procedures_of scope h) place n → k < n → here_by p scope h (on place k) ≡ here_by p scope h place
+pub by_stays : (p : Parts) (scope : ℕ → Scope) (h : Option ModuleSectionContribution) (place : PdbInternalSectionOffset) (k n : ℕ) → NoBound p (procedures_of scope h) place n → k < n → here_by p scope h (on place k) ≡ here_by p scope h place
 by_stays p scope None place k n none lt = refl
 by_stays p scope (Some c) place k n none lt = function_stays p (scope c.module_index) c place k n none lt
 

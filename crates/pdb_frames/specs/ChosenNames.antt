@@ -1,15 +1,17 @@
 -- The names of chosen functions.
-use Rattle.std.specs.Prelude.{ℕ, ◌&&◌, not, List, ◌==◌, Option, None, Some, option_map, if◌then◌else◌}
+use Rattle.std.specs.Prelude.{ℕ, ◌&&◌, not, List, ◌==◌, Option, None, Some, option_map}
+use Rattle.std.specs.Prelude.{if◌then◌else◌}
 use Rattle.std.specs.Str.Lossy.{utf8_lossy}
 use Rattle.pdb_module_data.specs.Procedures.{Procedure}
 use Rattle.pdb_choice.specs.Choice.{Parts, Chosen, Proc, Public, is_decorated, decorated_at}
 use Rattle.pdb_names.specs.Env.{Env}
 use Rattle.pdb_names.specs.Names.{typed_name}
 
--- the decorated public name that a procedure has in place of its own: at its start, where it has no type and no decorated name
--- of its own
+-- the decorated public name that a procedure has in place of its own: at its start, where it has no
+-- type and no decorated name of its own
 abbrev pub public_name : Parts → Procedure → Option (List ℕ)
-public_name p q = if ((q.type_index).0 == 0) && not (is_decorated q.name) then decorated_at p q.offset else None
+public_name p q =
+    if ((q.type_index).0 == 0) && not (is_decorated q.name) then decorated_at p q.offset else None
 
 -- a public name as text, or else another one
 abbrev pub public_or : Option (List ℕ) → Option (List ℕ) → Option (List ℕ)

@@ -1,20 +1,32 @@
 -- The part of a module that can't be read, of those that the frames at an address are made of.
 use Rattle.std.specs.Prelude.{ℕ, Option, None, Some}
-use Rattle.pdb_addresses.specs.declared.internal_section_offset.PdbInternalSectionOffset.{PdbInternalSectionOffset}
-use Rattle.pdb_contributions.specs.declared.contribution.ModuleSectionContribution.{ModuleSectionContribution}
+use Rattle.pdb_addresses.specs.declared.internal_section_offset.PdbInternalSectionOffset.{
+  PdbInternalSectionOffset,
+}
+use Rattle.pdb_contributions.specs.declared.contribution.ModuleSectionContribution.{
+  ModuleSectionContribution,
+}
 use Rattle.pdb_known_modules.specs.Modules.{module_data, procedures_in}
 pub use Rattle.pdb_resolving.specs.declared.failures.Part.{Part}
-pub use Rattle.pdb_resolving.specs.declared.failures.Part.TheVariants.{ExtendedModule, ProcedureLines, ProcedureInlineRanges}
+pub use Rattle.pdb_resolving.specs.declared.failures.Part.TheVariants.{
+  ExtendedModule,
+  ProcedureLines,
+  ProcedureInlineRanges,
+}
 use Rattle.pdb_choice.specs.Choice.{Parts, chosen, held_at, place_of}
 use Rattle.pdb_choice.specs.Failed.{failing_of_chosen}
 use Rattle.pdb_frames.specs.Scopes.{Scope}
 
 -- the first part that fails in the module of a contribution, for a place that it holds
-abbrev pub failing_at : Parts → Scope → ModuleSectionContribution → PdbInternalSectionOffset → Option Part
-failing_at p s c place = failing_of_chosen c.module_index (module_data s.own) (chosen p (procedures_in (module_data s.own)) c place)
+abbrev pub failing_at : Parts → Scope → ModuleSectionContribution → PdbInternalSectionOffset
+    → Option Part
+failing_at p s c place =
+    failing_of_chosen c.module_index (module_data s.own)
+    (chosen p (procedures_in (module_data s.own)) c place)
 
 -- the same in the module that holds a place, where one does
-abbrev pub failing_if_held : Parts → (ℕ → Scope) → Option (ModuleSectionContribution × PdbInternalSectionOffset) → Option Part
+abbrev pub failing_if_held : Parts → (ℕ → Scope)
+    → Option (ModuleSectionContribution × PdbInternalSectionOffset) → Option Part
 failing_if_held p scope None = None
 failing_if_held p scope (Some held) = failing_at p (scope (held.0).module_index) held.0 held.1
 

@@ -3,11 +3,15 @@ use Rattle.std.specs.Prelude.{ℕ, Bool, ◌==◌, ◌||◌, List, [], ◌∷◌
 use Rattle.std.specs.Prelude.{Result, Ok, Err}
 use Rattle.std.specs.List.{list_any}
 use Rattle.pdb_addresses.specs.Places.{internal_place}
-use Rattle.pdb_addresses.specs.declared.internal_section_offset.PdbInternalSectionOffset.{PdbInternalSectionOffset}
+use Rattle.pdb_addresses.specs.declared.internal_section_offset.PdbInternalSectionOffset.{
+  PdbInternalSectionOffset,
+}
 use Rattle.pdb_choice.specs.Choice.{Parts, Chosen, chosen, held_at, start_of}
 use Rattle.pdb_container.specs.Fault as container
 use Rattle.pdb_contributions.specs.Contributions.{holder}
-use Rattle.pdb_contributions.specs.declared.contribution.ModuleSectionContribution.{ModuleSectionContribution}
+use Rattle.pdb_contributions.specs.declared.contribution.ModuleSectionContribution.{
+  ModuleSectionContribution,
+}
 use Rattle.pdb_frames.specs.Frames.{frames_if_held}
 use Rattle.pdb_frames.specs.Runs.{is_bound}
 use Rattle.pdb_frames.specs.Scopes.{Scope}

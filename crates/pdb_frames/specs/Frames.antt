@@ -1,11 +1,16 @@
 -- The answers for an address of the image: its function, and the frames at it.
-use Rattle.std.specs.Prelude.{ℕ, List, [], ◌∷◌, ◌++◌, map, Option, None, Some, option_map, option_and_then, Result, Ok}
+use Rattle.std.specs.Prelude.{ℕ, List, [], ◌∷◌, ◌++◌, map, Option, None, Some, option_map}
+use Rattle.std.specs.Prelude.{option_and_then, Result, Ok}
 use Rattle.pdb_container.specs.Fault.{◌>>=◌}
-use Rattle.pdb_addresses.specs.declared.internal_section_offset.PdbInternalSectionOffset.{PdbInternalSectionOffset}
+use Rattle.pdb_addresses.specs.declared.internal_section_offset.PdbInternalSectionOffset.{
+  PdbInternalSectionOffset,
+}
 use Rattle.pdb_lines.specs.LinesSubsections.{Program}
 use Rattle.pdb_symbols_modules.specs.ModuleStream.{ModuleStream}
 use Rattle.pdb_inlinees.specs.Inlinees.{InlinedFunction}
-use Rattle.pdb_contributions.specs.declared.contribution.ModuleSectionContribution.{ModuleSectionContribution}
+use Rattle.pdb_contributions.specs.declared.contribution.ModuleSectionContribution.{
+  ModuleSectionContribution,
+}
 use Rattle.pdb_module_data.specs.declared.function_rows.LineRow.{LineRow}
 use Rattle.pdb_module_data.specs.declared.inlined_calls.InlinedCall.{InlinedCall}
 use Rattle.pdb_module_data.specs.FunctionLine.{file_text, function_row}
@@ -18,8 +23,10 @@ use Rattle.pdb_functions.specs.declared.frames.FrameRow.{FrameRow}
 use Rattle.pdb_addresses.specs.Addresses.{outer_of_place}
 use Rattle.pdb_module_data.specs.declared.inlined_calls.CodeSpan.{CodeSpan}
 use Rattle.pdb_functions.specs.FunctionOrder.{Function}
-use Rattle.pdb_known_modules.specs.Modules.{ModuleData, ExtendedModule, module_data, procedures_in, extended_of, procedure_calls}
-use Rattle.pdb_choice.specs.Choice.{Parts, Chosen, Proc, Public, chosen, start_of, start_address, length_of, end_behind, function_end, place_of, held_at}
+use Rattle.pdb_known_modules.specs.Modules.{ModuleData, ExtendedModule, module_data}
+use Rattle.pdb_known_modules.specs.Modules.{procedures_in, extended_of, procedure_calls}
+use Rattle.pdb_choice.specs.Choice.{Parts, Chosen, Proc, Public, chosen, start_of, start_address}
+use Rattle.pdb_choice.specs.Choice.{length_of, end_behind, function_end, place_of, held_at}
 use Rattle.pdb_frames.specs.ChosenNames.{name_of}
 use Rattle.pdb_frames.specs.Scopes.{Scope}
 
@@ -64,21 +71,24 @@ function_frame p program name section row = record {
 }
 
 -- the inlined calls over a place in a chosen function, innermost first; none in a public entry
-abbrev pub calls_in : ModuleStream → (ℕ → Option InlinedFunction) → Chosen → PdbInternalSectionOffset → Result (List InlinedCall) Fault
+abbrev pub calls_in : ModuleStream → (ℕ → Option InlinedFunction) → Chosen
+    → PdbInternalSectionOffset → Result (List InlinedCall) Fault
 calls_in stream inlinees (Proc q) place = procedure_calls stream inlinees q place
 calls_in stream inlinees (Public f) place = Ok []
 
--- The line row of a place in a chosen function, and then the inlined calls over the place: the rows of the function's
--- subsection, and a procedure's sites are read in this order.
-unfoldable pub row_and_calls : ModuleStream → ExtendedModule → Chosen → PdbInternalSectionOffset → Result (Option LineRow × List InlinedCall) Fault
+-- The line row of a place in a chosen function, and then the inlined calls over the place: the rows
+-- of the function's subsection, and a procedure's sites are read in this order.
+unfoldable pub row_and_calls : ModuleStream → ExtendedModule → Chosen → PdbInternalSectionOffset
+    → Result (Option LineRow × List InlinedCall) Fault
 row_and_calls stream extended c place = do
   row ← lifted (function_row extended.program (start_of c) place)
   calls ← calls_in stream extended.inlinees c place
   Ok (row, calls)
 
--- The frames at a place in a chosen function, by its module's data: line program and inlinees are read first, then row and
--- calls.
-unfoldable pub frames_in_data : Parts → Env → ModuleData → Chosen → PdbInternalSectionOffset → Result (List Frame) Fault
+-- The frames at a place in a chosen function, by its module's data: line program and inlinees are
+-- read first, then row and calls.
+unfoldable pub frames_in_data : Parts → Env → ModuleData → Chosen → PdbInternalSectionOffset
+    → Result (List Frame) Fault
 frames_in_data p env known c place = do
   extended ← lifted (extended_of known.stream)
   found ← row_and_calls known.stream extended c place
@@ -87,39 +97,59 @@ frames_in_data p env known c place = do
 
 -- the frames at a place in a chosen function whose module may have no data: then the function
 -- alone, without file, line and row
-abbrev pub frames_in : Parts → Env → Option ModuleData → Chosen → PdbInternalSectionOffset → Result (List Frame) Fault
+abbrev pub frames_in : Parts → Env → Option ModuleData → Chosen → PdbInternalSectionOffset
+    → Result (List Frame) Fault
 frames_in p env None c place =
     Ok (record { function = name_of p env c; file = None; line = None; row = None } ∷ [])
 frames_in p env (Some known) c place = frames_in_data p env known c place
 
 -- frames of a chosen function that begins at an image address
 abbrev pub found_frames : Parts → Chosen → List Frame → Option ℕ → Option FunctionFrames
-found_frames p c frames start = option_map (λ a. record { start_rva = a; end_rva = end_behind a (length_of p c); frames = frames }) start
+found_frames p c frames start =
+    option_map (λ a. record {
+      start_rva = a;
+      end_rva = end_behind a (length_of p c);
+      frames = frames;
+    }) start
 
--- what may be chosen, with its frames: nothing without it, and nothing where its start has no image address; but a module whose
--- data can't be read comes before that
-abbrev pub frames_of_chosen : Parts → Env → Option ModuleData → PdbInternalSectionOffset → Option Chosen → Result (Option FunctionFrames) Fault
+-- what may be chosen, with its frames: nothing without it, and nothing where its start has no image
+-- address; but a module whose data can't be read comes before that
+abbrev pub frames_of_chosen : Parts → Env → Option ModuleData → PdbInternalSectionOffset
+    → Option Chosen → Result (Option FunctionFrames) Fault
 frames_of_chosen p env known place None = Ok None
-frames_of_chosen p env known place (Some c) = frames_in p env known c place >>= λ frames. Ok (found_frames p c frames (start_address p c))
+frames_of_chosen p env known place (Some c) =
+    frames_in p env known c place >>= λ frames. Ok (found_frames p c frames (start_address p c))
 
 -- the answer in the module of a contribution, for a place that it holds
-unfoldable pub frames_at : Parts → Scope → ModuleSectionContribution → PdbInternalSectionOffset → Result (Option FunctionFrames) Fault
-frames_at p s c place = frames_of_chosen p s.env (module_data s.own) place (chosen p (procedures_in (module_data s.own)) c place)
+unfoldable pub frames_at : Parts → Scope → ModuleSectionContribution → PdbInternalSectionOffset
+    → Result (Option FunctionFrames) Fault
+frames_at p s c place =
+    frames_of_chosen p s.env (module_data s.own) place
+    (chosen p (procedures_in (module_data s.own)) c place)
 
 -- ---- functions
 
 -- a chosen function
 abbrev pub function_of : Parts → Env → Chosen → Option Function
-function_of p env c = option_and_then (λ start. option_map (λ end. record { start_rva = start; end_rva = end; name = name_of p env c }) (function_end p c start)) (start_address p c)
+function_of p env c =
+    option_and_then (λ start. option_map (λ end. record {
+      start_rva = start;
+      end_rva = end;
+      name = name_of p env c;
+    }) (function_end p c start)) (start_address p c)
 
 -- the function in the module of a contribution, for a place that it holds
-unfoldable pub function_at : Parts → Scope → ModuleSectionContribution → PdbInternalSectionOffset → Option Function
-function_at p s c place = option_and_then (function_of p s.env) (chosen p (procedures_in (module_data s.own)) c place)
+unfoldable pub function_at : Parts → Scope → ModuleSectionContribution → PdbInternalSectionOffset
+    → Option Function
+function_at p s c place =
+    option_and_then (function_of p s.env) (chosen p (procedures_in (module_data s.own)) c place)
 
 -- ---- addresses
 
 -- what is answered in the module that holds a place, where one does
-abbrev pub frames_if_held : Parts → (ℕ → Scope) → Option (ModuleSectionContribution × PdbInternalSectionOffset) → Result (Option FunctionFrames) Fault
+abbrev pub frames_if_held : Parts → (ℕ → Scope)
+    → Option (ModuleSectionContribution × PdbInternalSectionOffset)
+    → Result (Option FunctionFrames) Fault
 frames_if_held p scope None = Ok None
 frames_if_held p scope (Some held) = frames_at p (scope (held.0).module_index) held.0 held.1
 
@@ -129,4 +159,6 @@ frames p scope a = frames_if_held p scope (held_at p (place_of p a))
 
 -- the function at an address of the image
 unfoldable pub function : Parts → (ℕ → Scope) → ℕ → Option Function
-function p scope a = option_and_then (λ held. function_at p (scope (held.0).module_index) held.0 held.1) (held_at p (place_of p a))
+function p scope a =
+    option_and_then (λ held. function_at p (scope (held.0).module_index) held.0 held.1)
+    (held_at p (place_of p a))

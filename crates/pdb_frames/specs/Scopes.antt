@@ -8,7 +8,8 @@ use Rattle.pdb_names.specs.Env.{Env}
 use Rattle.pdb_names.specs.Printing.{Formatting, env_of}
 use Rattle.pdb_known_modules.specs.Modules.{own_of}
 
--- what an answer in one module depends on besides: the module's own stream, and what names of types and ids are read from
+-- what an answer in one module depends on besides: the module's own stream, and what names of types
+-- and ids are read from
 pub record Scope : Type 0 where
   pub own : Result (Option ModuleStream) container.Fault
   pub env : Env
@@ -19,4 +20,5 @@ entries_of f = f.reading.modules.entries
 
 -- what an answer in the module of a number depends on
 abbrev pub scope_of : {P : Type 0} → (P → Provided) → P → Formatting P → ℕ → Scope
-scope_of provided provider f m = record { own = own_of (provided provider) (entries_of f) m; env = env_of provided f m }
+scope_of provided provider f m =
+    record { own = own_of (provided provider) (entries_of f) m; env = env_of provided f m }

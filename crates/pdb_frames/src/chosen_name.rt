@@ -3,7 +3,9 @@
 ghost use Rattle.std.specs.Prelude.{◌≡◌, IfOk, option_map};
 ghost use Rattle.std.specs.Arc.{arc_str_bytes};
 ghost use Rattle.pdb_container.specs.RawString.{raw_bytes};
-ghost use Rattle.pdb_frames.specs.ChosenNames.{name_of as name_of_chosen, procedure_name as name_of_procedure, public_name as public_name_of};
+ghost use Rattle.pdb_frames.specs.ChosenNames.{name_of as name_of_chosen};
+ghost use Rattle.pdb_frames.specs.ChosenNames.{procedure_name as name_of_procedure};
+ghost use Rattle.pdb_frames.specs.ChosenNames.{public_name as public_name_of};
 ghost use Rattle.pdb_choice.specs.Seen.{chosen_seen};
 ghost use Rattle.pdb_names.specs.Printing.{env_of};
 
@@ -15,8 +17,8 @@ use pdb_resolving::ModuleProvider;
 use std::alloc::{AllocError, Global};
 use std::sync::ArcStr;
 
-/// The decorated public name that a procedure has in place of its own: at its start, where it has no type and no decorated name
-/// of its own.
+/// The decorated public name that a procedure has in place of its own: at its start, where it has
+/// no type and no decorated name of its own.
 fn public_name<'p, 'a>(
     parts: &'p ContextParts<'a, '_>,
     procedure: &Procedure<'_>,
@@ -30,7 +32,8 @@ fn public_name<'p, 'a>(
     }
 }
 
-/// A procedure's name in the module of a number: the decorated public name in place of its own, or that by its type.
+/// A procedure's name in the module of a number: the decorated public name in place of its own, or
+/// that by its type.
 fn procedure_name<'a, P: ModuleProvider>(
     alloc: Global,
     parts: &ContextParts<'_, '_>,
@@ -40,7 +43,8 @@ fn procedure_name<'a, P: ModuleProvider>(
     procedure: &Procedure<'a>,
 ) -> Result<Option<ArcStr>, AllocError>
     ensures same { namer.new ≡ namer.old }
-    ensures name { IfOk result (λ n. option_map arc_str_bytes n ≡ name_of_procedure parts.now (env_of P.provided namer.old module_index) procedure.now) }
+    ensures name { IfOk result (λ n. option_map arc_str_bytes n
+        ≡ name_of_procedure parts.now (env_of P.provided namer.old module_index) procedure.now) }
 {
     match public_name(parts, procedure) {
         Some(name) => {
@@ -60,7 +64,9 @@ pub fn name_of<'a, P: ModuleProvider>(
     chosen: Chosen<'_, 'a>,
 ) -> Result<Option<ArcStr>, AllocError>
     ensures same { namer.new ≡ namer.old }
-    ensures name { IfOk result (λ n. option_map arc_str_bytes n ≡ name_of_chosen parts.now (env_of P.provided namer.old module_index) (chosen_seen chosen.entry)) }
+    ensures name { IfOk result (λ n. option_map arc_str_bytes n
+        ≡ name_of_chosen parts.now (env_of P.provided namer.old module_index)
+        (chosen_seen chosen.entry)) }
 {
     match chosen {
         Chosen::Procedure(number, procedure) => procedure_name(

@@ -35,7 +35,8 @@ use std::alloc::{AllocError, Global};
 use std::borrow::CowStr;
 use std::sync::ArcStr;
 
-/// The line row of a place in a procedure, and the inlined calls over the place, by what was read of the procedure.
+/// The line row of a place in a procedure, and the inlined calls over the place, by what was read
+/// of the procedure.
 fn row_and_calls_by<'a>(
     alloc: Global,
     extended: &ExtendedModuleInfo<'a>,
@@ -43,9 +44,12 @@ fn row_and_calls_by<'a>(
     read: &ExtendedProcedureInfo<'a>,
     place: PdbInternalSectionOffset,
 ) -> std::result::Result<(Option<LineRow>, Vec<InlinedCall>), AllocError>
-    requires { StandForSites (call_rows (extended_seen extended.now).inlinees procedure.now.offset) (read.now).ranges }
+    requires { StandForSites
+        (call_rows (extended_seen extended.now).inlinees procedure.now.offset) (read.now).ranges }
     ensures row { IfOk result (λ r. r.0 ≡ row_at (read.now).rows place.offset) }
-    ensures calls { IfOk result (λ r. (r.1).items ≡ calls_over (call_rows (extended_seen extended.now).inlinees procedure.now.offset) ((read.now).ranges).sites place) }
+    ensures calls { IfOk result (λ r. (r.1).items
+        ≡ calls_over (call_rows (extended_seen extended.now).inlinees procedure.now.offset)
+        ((read.now).ranges).sites place) }
 {
     let calls = read
         .ranges
@@ -53,8 +57,9 @@ fn row_and_calls_by<'a>(
     Ok((read.rows.at(place.offset), calls))
 }
 
-/// The line row of a place in a procedure, and the inlined calls over the place, innermost first, by its module's line program and
-/// inlinees: what is kept of the procedure is used, or else it is read.
+/// The line row of a place in a procedure, and the inlined calls over the place, innermost first,
+/// by its module's line program and inlinees. What is cached of the procedure is used, or else it
+/// is read.
 #[tactic(auto, using(crate::proofs::ProcedureSteps::row_and_calls_are, crate::proofs::ProcedureSteps::row_and_calls_fail))]
 fn procedure_row_and_calls<'m, I: ModuleTables>(
     alloc: Global,
@@ -65,7 +70,8 @@ fn procedure_row_and_calls<'m, I: ModuleTables>(
     place: PdbInternalSectionOffset,
 ) -> Result<(Option<LineRow>, Vec<InlinedCall>)>
     requires { extended_of (known.now).stream ≡ Ok (extended_seen extended.now) }
-    ensures { Answers (λ r. (r.0, r.1.items)) result (row_and_calls (known.now).stream (extended_seen extended.now) (choice.Proc procedure.now) place) }
+    ensures { Answers (λ r. (r.0, r.1.items)) result (row_and_calls (known.now).stream
+        (extended_seen extended.now) (choice.Proc procedure.now) place) }
 {
     if let Some(read) = known.extended_procedure(number, procedure) {
         let found = row_and_calls_by(alloc, extended, procedure, read, place)?;
@@ -76,8 +82,8 @@ fn procedure_row_and_calls<'m, I: ModuleTables>(
     Ok(found)
 }
 
-/// The line row of a place in the function that begins at another one, by its module's line program: the rows that are kept of
-/// that function are used, or else they are read.
+/// The line row of a place in the function that begins at another one, by its module's line
+/// program. The cached rows of that function are used, or else they are read.
 fn public_row<'m, I: ModuleTables>(
     alloc: Global,
     known: &BasicModuleInfo<'m, I>,
@@ -86,7 +92,8 @@ fn public_row<'m, I: ModuleTables>(
     place: PdbInternalSectionOffset,
 ) -> pdb_container::Result<Option<LineRow>>
     requires { extended_of (known.now).stream ≡ Ok (extended_seen extended.now) }
-    ensures { Gives (λ r. r) ⊥ result (function_row (extended_seen extended.now).program start place) }
+    ensures { Gives (λ r. r) ⊥ result
+        (function_row (extended_seen extended.now).program start place) }
 {
     if let Some(rows) = known.public_rows(start) {
         return Ok(rows.at(place.offset));
@@ -95,7 +102,8 @@ fn public_row<'m, I: ModuleTables>(
     Ok(rows.at(place.offset))
 }
 
-/// The line row of a place in a chosen function, and the inlined calls over the place, innermost first; none in a public entry.
+/// The line row of a place in a chosen function, and the inlined calls over the place, innermost
+/// first; none in a public entry.
 #[tactic(auto, using(pdb_resolving::proofs::Lifting::given_fails_on), unfolding(crate::specs::Frames::row_and_calls))]
 fn row_and_calls_in<'m, I: ModuleTables>(
     alloc: Global,
@@ -105,7 +113,8 @@ fn row_and_calls_in<'m, I: ModuleTables>(
     place: PdbInternalSectionOffset,
 ) -> Result<(Option<LineRow>, Vec<InlinedCall>)>
     requires { extended_of (known.now).stream ≡ Ok (extended_seen extended.now) }
-    ensures { Answers (λ r. (r.0, r.1.items)) result (row_and_calls (known.now).stream (extended_seen extended.now) (chosen_seen chosen.entry) place) }
+    ensures { Answers (λ r. (r.0, r.1.items)) result (row_and_calls (known.now).stream
+        (extended_seen extended.now) (chosen_seen chosen.entry) place) }
 {
     match chosen {
         Chosen::Procedure(number, procedure) => {
@@ -125,7 +134,8 @@ fn file_of<'a>(
     extended: &ExtendedModuleInfo<'_>,
     file: Option<FileIndex>,
 ) -> std::result::Result<Option<CowStr<'a>>, AllocError>
-    ensures { IfOk result (λ n. option_map cow_str_bytes n ≡ option_and_then (λ f. file_text (extended_seen extended.now).program parts.now.names f.0) file) }
+    ensures { IfOk result (λ n. option_map cow_str_bytes n ≡ option_and_then (λ f. file_text
+        (extended_seen extended.now).program parts.now.names f.0) file) }
 {
     match file {
         None => Ok(None),
@@ -178,7 +188,8 @@ fn call_frame<'a, P: ModuleProvider>(
     call: InlinedCall,
 ) -> std::result::Result<SharedFrame<'a>, AllocError>
     ensures same { namer.new ≡ namer.old }
-    ensures frame { IfOk result (λ f. f ≡ frame_of_call parts.now (env_of P.provided namer.old module_index) (extended_seen extended.now).program call) }
+    ensures frame { IfOk result (λ f. f ≡ frame_of_call parts.now
+        (env_of P.provided namer.old module_index) (extended_seen extended.now).program call) }
 {
     let function = namer.inlined_name(alloc, module_index, call.inlinee)?;
     let file = file_of(alloc, parts, extended, call.file)?;
@@ -200,7 +211,9 @@ fn call_frames<'a, P: ModuleProvider>(
     calls: &[InlinedCall],
 ) -> std::result::Result<Vec<SharedFrame<'a>>, AllocError>
     ensures same { namer.new ≡ namer.old }
-    ensures frames { IfOk result (λ v. v.items ≡ map (frame_of_call parts.now (env_of P.provided namer.old module_index) (extended_seen extended.now).program) calls.now) }
+    ensures frames { IfOk result (λ v. v.items ≡ map (frame_of_call parts.now
+        (env_of P.provided namer.old module_index) (extended_seen extended.now).program)
+        calls.now) }
 {
     let mut frames = Vec::with_capacity(alloc, calls.len() + 1)?;
     for call in calls {
@@ -241,8 +254,9 @@ fn function_frame<'a>(
     }
 }
 
-/// The frames at a place in a chosen function, by its module's line program and inlinees: the rows of the function's
-/// subsection and a procedure's sites are read in this order, and the first fault is returned.
+/// The frames at a place in a chosen function, by its module's line program and inlinees: the rows
+/// of the function's subsection and a procedure's sites are read in this order, and the first fault
+/// is returned.
 #[tactic(auto, using(pdb_resolving::proofs::Lifting::given_fails_on, pdb_resolving::proofs::Lifting::parsed_fails_on, pdb_resolving::proofs::Lifting::fails_on), unfolding(crate::specs::Frames::frames_in_data))]
 fn frames_by<'a, 'm, P: ModuleProvider>(
     alloc: Global,
@@ -256,7 +270,8 @@ fn frames_by<'a, 'm, P: ModuleProvider>(
 ) -> Result<Vec<SharedFrame<'a>>>
     requires extended { extended_of (known.now).stream ≡ Ok (extended_seen extended.now) }
     ensures same { namer.new ≡ namer.old }
-    ensures frames { Answers (λ v. v.items) result (frames_of_data parts.now (env_of P.provided namer.old module_index) known.now (chosen_seen chosen.entry) place) }
+    ensures frames { Answers (λ v. v.items) result (frames_of_data parts.now
+        (env_of P.provided namer.old module_index) known.now (chosen_seen chosen.entry) place) }
 {
     let (row, calls) = row_and_calls_in(alloc, known, extended, chosen, place)?;
     let mut frames = call_frames(
@@ -274,8 +289,8 @@ fn frames_by<'a, 'm, P: ModuleProvider>(
     Ok(frames)
 }
 
-/// The frames at a place in a chosen function, by its module's data: line program and inlinees are those that are kept, or
-/// else are read first, and their first fault is returned.
+/// The frames at a place in a chosen function, by its module's data: line program and inlinees are
+/// the cached ones, or else are read first, and their first fault is returned.
 #[tactic(auto, using(pdb_resolving::proofs::Lifting::given_fails_on), unfolding(crate::specs::Frames::frames_in_data))]
 fn frames_in_data<'a, P: ModuleProvider>(
     alloc: Global,
@@ -287,7 +302,8 @@ fn frames_in_data<'a, P: ModuleProvider>(
     place: PdbInternalSectionOffset,
 ) -> Result<Vec<SharedFrame<'a>>>
     ensures same { namer.new ≡ namer.old }
-    ensures frames { Answers (λ v. v.items) result (frames_of_data parts.now (env_of P.provided namer.old module_index) known.now (chosen_seen chosen.entry) place) }
+    ensures frames { Answers (λ v. v.items) result (frames_of_data parts.now
+        (env_of P.provided namer.old module_index) known.now (chosen_seen chosen.entry) place) }
 {
     let Some(extended) = known.extended() else {
         let extended = read_extended(alloc, known.module_info)?;
@@ -326,7 +342,9 @@ pub fn frames_in<'a, P: ModuleProvider>(
     place: PdbInternalSectionOffset,
 ) -> Result<Vec<SharedFrame<'a>>>
     ensures same { namer.new ≡ namer.old }
-    ensures frames { Answers (λ v. v.items) result (frames_of_module parts.now (env_of P.provided namer.old module_index) (option_copied known.entry) (chosen_seen chosen.entry) place) }
+    ensures frames { Answers (λ v. v.items) result (frames_of_module parts.now
+        (env_of P.provided namer.old module_index) (option_copied known.entry)
+        (chosen_seen chosen.entry) place) }
 {
     match known {
         None => {
