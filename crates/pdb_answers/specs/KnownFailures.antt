@@ -19,12 +19,14 @@ use Rattle.pdb_answers.specs.declared.known_failures.KnownFailure.{KnownFailure}
 use Rattle.pdb_answers.specs.declared.known_failures.KnownFailures.{KnownFailures}
 
 -- The procedure has this start and these symbols.
-pub record IsProcedure (q : Procedure) (at : PdbInternalSectionOffset) (first last : SymbolIndex) : Type 0 where
+pub record IsProcedure (q : Procedure) (at : PdbInternalSectionOffset) (first last : SymbolIndex)
+    : Type 0 where
   pub start : q.offset ≡ at
   pub symbol : q.symbol_index ≡ first
   pub end : q.end_symbol_index ≡ last
 
--- A chosen function is one of those: any one of the module, the procedure with a start and symbols, the public entry of a place.
+-- A chosen function is one of those: any one of the module, the procedure with a start and symbols,
+-- the public entry of a place.
 abbrev pub IsAbout : Asked → Chosen → Type 0
 IsAbout asked.Module c = Unit {0}
 IsAbout (asked.Procedure start symbol end) (Proc q) = IsProcedure q start symbol end
@@ -37,20 +39,25 @@ abbrev pub those_like : Chosen → Asked
 those_like (Proc q) = asked.Procedure q.offset q.symbol_index q.end_symbol_index
 those_like (Public f) = asked.Public f.start_offset
 
--- the functions in which a part fails that fails in a chosen one: where that is line program and inlinees, all of the module
+-- the functions in which a part fails that fails in a chosen one: where that is line program and
+-- inlinees, all of the module
 abbrev pub those_failing : Chosen → Part → Asked
 those_failing c (parts.ExtendedModule m) = asked.Module
 those_failing c (parts.ProcedureLines m start) = those_like c
 those_failing c (parts.ProcedureInlineRanges m start) = those_like c
 
--- The part is the first that can't be read in each function that this is about, by the data of modules.
+-- The part is the first that can't be read in each function that this is about, by the data of
+-- modules.
 pub record IsFailureOf (own : ℕ → Option ModuleData) (known : KnownFailure) : Type 0 where
-  pub each : (c : Chosen) → IsAbout known.asked c → failing_in known.module_index (own known.module_index) c ≡ Some known.part
+  pub each : (c : Chosen) → IsAbout known.asked c
+      → failing_in known.module_index (own known.module_index) c ≡ Some known.part
 
 -- All that is known is so.
 pub record AreFailuresOf (own : ℕ → Option ModuleData) (known : KnownFailures) : Type 0 where
-  pub each : (n : ℕ) (one : KnownFailure) → get nat_cmp known.by_number n ≡ Some one → IsFailureOf own one
+  pub each : (n : ℕ) (one : KnownFailure) → get nat_cmp known.by_number n ≡ Some one
+      → IsFailureOf own one
 
--- the data of the module of a number, by what gives modules, and the modules that names are made of
-unfoldable pub data_of_modules : {P : Type 0} → (P → Provided) → P → Formatting P → ℕ → Option ModuleData
+-- the data of the module with that index, by what gives modules, and the list of modules
+unfoldable pub data_of_modules :
+    {P : Type 0} → (P → Provided) → P → Formatting P → ℕ → Option ModuleData
 data_of_modules provided provider f n = module_data (own_of (provided provider) (entries_of f) n)

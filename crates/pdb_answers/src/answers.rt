@@ -1,18 +1,24 @@
-//! Answers at a place, over what is kept of modules: what isn't kept yet is read and kept, and a part that can't be read stands as
-//! failed from then on.
+//! Answers at a place, over what is cached of modules: what isn't cached yet is read and cached,
+//! and a part that can't be read stands as failed from then on.
 
 ghost use Rattle.std.specs.Prelude.{◌≡◌, ◌≤◌, ℕ, IfOk, IfSome, Ok, Option, Some, option_and_then};
 ghost use Rattle.std.specs.Prelude.{option_copied, option_map, slice_get, ◌||◌};
 ghost use Rattle.pdb_addresses.specs.SectionRun.{up_to_next};
 ghost use Rattle.pdb_answers.specs.KnownFailures.{AreFailuresOf, data_of_modules};
 ghost use Rattle.pdb_frames.specs.Choice.{chosen, held_at};
-ghost use Rattle.pdb_frames.specs.Failed.{failed_after, failing_in as failing_in_module, has_failed, told};
-ghost use Rattle.pdb_frames.specs.Failing.{failing_at, failing_if_held, ProcedureLines, ProcedureInlineRanges};
-ghost use Rattle.pdb_frames.specs.Frames.{frames_at as frames_at_place, frames_if_held, frames_of_chosen, function_at as function_at_contribution, function_of as function_of_chosen};
+ghost use Rattle.pdb_frames.specs.Failed.{failed_after, failing_in as failing_in_module};
+ghost use Rattle.pdb_frames.specs.Failed.{has_failed, told};
+ghost use Rattle.pdb_frames.specs.Failing.{failing_at, failing_if_held, ProcedureLines};
+ghost use Rattle.pdb_frames.specs.Failing.{ProcedureInlineRanges};
+ghost use Rattle.pdb_frames.specs.Frames.{frames_at as frames_at_place, frames_if_held};
+ghost use Rattle.pdb_frames.specs.Frames.{frames_of_chosen};
+ghost use Rattle.pdb_frames.specs.Frames.{function_at as function_at_contribution};
+ghost use Rattle.pdb_frames.specs.Frames.{function_of as function_of_chosen};
 ghost use Rattle.pdb_frames.specs.Keys.{chosen_by, function_by};
 ghost use Rattle.pdb_frames.specs.NearBounds.{bounds_near};
 ghost use Rattle.pdb_frames.specs.Printing.{env_of};
-ghost use Rattle.pdb_frames.specs.Runs.{database_of, function_here as function_at_place, procedures_of};
+ghost use Rattle.pdb_frames.specs.Runs.{database_of, function_here as function_at_place};
+ghost use Rattle.pdb_frames.specs.Runs.{procedures_of};
 ghost use Rattle.pdb_frames.specs.Scopes.{entries_of, scope_of};
 ghost use Rattle.pdb_frames.specs.Seen.{chosen_seen};
 ghost use Rattle.pdb_functions.specs.KeyOrder.{key_module};
@@ -36,7 +42,7 @@ use pdb_known_modules::{
 use pdb_resolving::{Error, ModuleProvider, ModuleTables, Result};
 use std::alloc::{AllocError, Global};
 
-/// Places for the modules of a namer, in which nothing is kept yet.
+/// Returns places for the modules of a namer, in which nothing is cached yet.
 pub fn empty_modules<'a, P: ModuleProvider>(
     alloc: Global,
     _provider: &'a P,
@@ -48,7 +54,8 @@ pub fn empty_modules<'a, P: ModuleProvider>(
     nothing_cached(alloc, namer.modules().len())
 }
 
-/// The frames at a place in a chosen function, if it has an RVA. Its module's data are read before that is asked.
+/// Returns the frames at a place in a chosen function, if it has an RVA. Its module's data are read
+/// before that is asked.
 fn frames_of<'a, P: ModuleProvider>(
     alloc: Global,
     parts: &ContextParts<'a, '_>,
@@ -59,7 +66,9 @@ fn frames_of<'a, P: ModuleProvider>(
     place: PdbInternalSectionOffset,
 ) -> Result<Option<SharedFunctionFrames<'a>>>
     ensures same { namer.new ≡ namer.old }
-    ensures frames { Answers (λ f. f) result (frames_of_chosen parts.now (env_of P.provided namer.old module_index) (option_copied known.entry) place (Some (chosen_seen chosen.entry))) }
+    ensures frames { Answers (λ f. f) result (frames_of_chosen parts.now
+        (env_of P.provided namer.old module_index) (option_copied known.entry) place
+        (Some (chosen_seen chosen.entry))) }
 {
     let frames = frames_in(alloc, parts, namer, module_index, known, chosen, place)?;
     match chosen.start_rva(parts) {
@@ -72,7 +81,8 @@ fn frames_of<'a, P: ModuleProvider>(
     }
 }
 
-/// The same, and the part that can't be read, if one can't, stands as failed from then on: where it did before, that is told. It is
+/// Returns the frames at a place in a chosen function, if it has an RVA. The part that can't be
+/// read, if one can't, stands as failed from then on: where it did before, that is reported. It is
 /// known from then on for the functions like the chosen one.
 #[tactic(auto, using(crate::proofs::FailedSteps::told_own, crate::proofs::FailedSteps::told_alone))]
 fn frames_told<'a, P: ModuleProvider>(
@@ -87,9 +97,14 @@ fn frames_told<'a, P: ModuleProvider>(
     place: PdbInternalSectionOffset,
 ) -> Result<Option<SharedFunctionFrames<'a>>>
     ensures same { namer.new ≡ namer.old }
-    ensures failed { failed.new ≡ failed_after (failing_in_module module_index (option_copied known.entry) (chosen_seen chosen.entry)) result failed.old }
-    ensures known { (own : ℕ → Option ModuleData) → own module_index ≡ option_copied known.entry → AreFailuresOf own known_failures.old → AreFailuresOf own known_failures.new }
-    ensures frames { Answers (λ f. f) result (told failed.old (failing_in_module module_index (option_copied known.entry) (chosen_seen chosen.entry)) (frames_of_chosen parts.now (env_of P.provided namer.old module_index) (option_copied known.entry) place (Some (chosen_seen chosen.entry)))) }
+    ensures failed { failed.new ≡ failed_after (failing_in_module module_index
+        (option_copied known.entry) (chosen_seen chosen.entry)) result failed.old }
+    ensures known { (own : ℕ → Option ModuleData) → own module_index ≡ option_copied known.entry
+        → AreFailuresOf own known_failures.old → AreFailuresOf own known_failures.new }
+    ensures frames { Answers (λ f. f) result (told failed.old
+        (failing_in_module module_index (option_copied known.entry) (chosen_seen chosen.entry))
+        (frames_of_chosen parts.now (env_of P.provided namer.old module_index)
+        (option_copied known.entry) place (Some (chosen_seen chosen.entry)))) }
 {
     let frames = frames_of(alloc, parts, namer, module_index, known, chosen, place);
     match frames {
@@ -110,7 +125,8 @@ fn frames_told<'a, P: ModuleProvider>(
     }
 }
 
-/// The same; where a part is known as the first that can't be read, and stands as failed, nothing is read.
+/// Returns the frames at a place in a chosen function, as [`frames_told`] does. Where a part is
+/// known as the first that can't be read, and stands as failed, nothing is read.
 #[tactic(auto, using(crate::proofs::FaultSteps::told_standing, crate::proofs::FaultSteps::after_standing))]
 fn frames_unless_known<'a, P: ModuleProvider>(
     alloc: Global,
@@ -124,11 +140,19 @@ fn frames_unless_known<'a, P: ModuleProvider>(
     failing: Option<Part>,
     place: PdbInternalSectionOffset,
 ) -> Result<Option<SharedFunctionFrames<'a>>>
-    requires failing { IfSome failing (λ part. failing_in_module contribution.module_index (option_copied known) (chosen_seen chosen) ≡ Some part) }
+    requires failing { IfSome failing (λ part. failing_in_module contribution.module_index
+        (option_copied known) (chosen_seen chosen) ≡ Some part) }
     ensures same { namer.new ≡ namer.old }
-    ensures failed { failed.new ≡ failed_after (failing_in_module contribution.module_index (option_copied known.entry) (chosen_seen chosen.entry)) result failed.old }
-    ensures known { (own : ℕ → Option ModuleData) → own contribution.module_index ≡ option_copied known.entry → AreFailuresOf own known_failures.old → AreFailuresOf own known_failures.new }
-    ensures frames { Answers (λ f. f) result (told failed.old (failing_in_module contribution.module_index (option_copied known.entry) (chosen_seen chosen.entry)) (frames_of_chosen parts.now (env_of P.provided namer.old contribution.module_index) (option_copied known.entry) place (Some (chosen_seen chosen.entry)))) }
+    ensures failed { failed.new ≡ failed_after (failing_in_module contribution.module_index
+        (option_copied known.entry) (chosen_seen chosen.entry)) result failed.old }
+    ensures known { (own : ℕ → Option ModuleData) → own contribution.module_index
+        ≡ option_copied known.entry → AreFailuresOf own known_failures.old
+        → AreFailuresOf own known_failures.new }
+    ensures frames { Answers (λ f. f) result (told failed.old
+        (failing_in_module contribution.module_index (option_copied known.entry)
+        (chosen_seen chosen.entry)) (frames_of_chosen parts.now
+        (env_of P.provided namer.old contribution.module_index) (option_copied known.entry) place
+        (Some (chosen_seen chosen.entry)))) }
 {
     match failing {
         Some(part) if failed.has(part) => {
@@ -151,8 +175,8 @@ fn frames_unless_known<'a, P: ModuleProvider>(
     }
 }
 
-/// Reads the rows of the public entry at a place that a contribution holds and no procedure is over, if there is one, and keeps
-/// them. Where they stand as failed nothing is read.
+/// Reads and caches the rows of the public entry at a place that a contribution holds and no
+/// procedure is over, if there is one. Where they stand as failed nothing is read.
 fn keep_public_entry<'a, I: ModuleTables>(
     alloc: Global,
     kept: &mut CachedModules<'a, I>,
@@ -172,14 +196,16 @@ fn keep_public_entry<'a, I: ModuleTables>(
     }
 }
 
-/// Whether the line rows or the inline sites of the procedure of a number stand as failed.
+/// Whether the line rows or the inline sites of the procedure with that index stand as failed.
 fn stands_in_part<I: ModuleTables>(
     failed: &Failures,
     known: Option<&BasicModuleInfo<'_, I>>,
     number: usize,
     module_index: u16,
 ) -> bool
-    ensures { IfSome (slice_get (procedures_in (option_copied known.entry)) number) (λ q. result ≡ (has_failed failed.now (ProcedureLines module_index q.offset) || has_failed failed.now (ProcedureInlineRanges module_index q.offset))) }
+    ensures { IfSome (slice_get (procedures_in (option_copied known.entry)) number)
+        (λ q. result ≡ (has_failed failed.now (ProcedureLines module_index q.offset)
+        || has_failed failed.now (ProcedureInlineRanges module_index q.offset))) }
 {
     match procedure_numbered(known, number) {
         None => false,
@@ -190,9 +216,10 @@ fn stands_in_part<I: ModuleTables>(
     }
 }
 
-/// Reads what frames at a place that a contribution holds are made of, and keeps it: line program and inlinees of its module, and
-/// the data of the procedure of a number, or, where there is none, the rows of the public entry. What stands as failed isn't read.
-fn keep_parts<'a, I: ModuleTables>(
+/// Reads and caches what frames at a place that a contribution holds are made of: line program and
+/// inlinees of its module, and the data of the procedure with that index, or, where there is none,
+/// the rows of the public entry. What stands as failed isn't read.
+pub(crate) fn keep_parts<'a, I: ModuleTables>(
     alloc: Global,
     kept: &mut CachedModules<'a, I>,
     parts: &ContextParts<'a, '_>,
@@ -218,7 +245,7 @@ fn keep_parts<'a, I: ModuleTables>(
     keep_procedure(alloc, kept, module_index, number)
 }
 
-/// The frames at a place that a contribution holds.
+/// Returns the frames at a place that a contribution holds.
 #[tactic(auto, unfolding(pdb_frames::specs::Frames::frames_at, crate::specs::KnownFailures::data_of_modules))]
 fn frames_at<'a, P: ModuleProvider>(
     alloc: Global,
@@ -231,13 +258,23 @@ fn frames_at<'a, P: ModuleProvider>(
     contribution: ModuleSectionContribution,
     place: PdbInternalSectionOffset,
 ) -> Result<Option<SharedFunctionFrames<'a>>>
-    requires kept { AreKept (λ n. module_data (own_of (P.provided provider.now) (entries_of namer.old) n)) kept.old }
-    requires known { AreFailuresOf (data_of_modules P.provided provider.now namer.old) known_failures.old }
-    ensures kept { AreKept (λ n. module_data (own_of (P.provided provider.now) (entries_of namer.old) n)) kept.new }
-    ensures known { AreFailuresOf (data_of_modules P.provided provider.now namer.old) known_failures.new }
+    requires kept { AreKept (λ n. module_data (own_of (P.provided provider.now)
+        (entries_of namer.old) n)) kept.old }
+    requires known { AreFailuresOf (data_of_modules P.provided provider.now namer.old)
+        known_failures.old }
+    ensures kept { AreKept (λ n. module_data (own_of (P.provided provider.now)
+        (entries_of namer.old) n)) kept.new }
+    ensures known { AreFailuresOf (data_of_modules P.provided provider.now namer.old)
+        known_failures.new }
     ensures same { namer.new ≡ namer.old }
-    ensures failed { failed.new ≡ failed_after (failing_at parts.now (scope_of P.provided provider.now namer.old contribution.module_index) contribution place) result failed.old }
-    ensures frames { Answers (λ f. f) result (told failed.old (failing_at parts.now (scope_of P.provided provider.now namer.old contribution.module_index) contribution place) (frames_at_place parts.now (scope_of P.provided provider.now namer.old contribution.module_index) contribution place)) }
+    ensures failed { failed.new ≡ failed_after (failing_at parts.now
+        (scope_of P.provided provider.now namer.old contribution.module_index) contribution place)
+        result failed.old }
+    ensures frames { Answers (λ f. f) result (told failed.old
+        (failing_at parts.now (scope_of P.provided provider.now namer.old contribution.module_index)
+        contribution place) (frames_at_place parts.now
+        (scope_of P.provided provider.now namer.old contribution.module_index)
+        contribution place)) }
 {
     let module_index = usize::from(contribution.module_index());
     keep_module(alloc, kept, provider, namer.modules(), module_index)?;
@@ -264,7 +301,7 @@ fn frames_at<'a, P: ModuleProvider>(
     }
 }
 
-/// A chosen function, where it has an RVA, and where the public entry behind it has one.
+/// Returns a chosen function, where it has an RVA, and where the public entry after it has one.
 fn function_of<'a, P: ModuleProvider>(
     alloc: Global,
     parts: &ContextParts<'_, '_>,
@@ -273,7 +310,9 @@ fn function_of<'a, P: ModuleProvider>(
     chosen: Chosen<'_, 'a>,
 ) -> Result<Option<Function>>
     ensures same { namer.new ≡ namer.old }
-    ensures function { Answers (λ f. f) result (Ok (function_of_chosen parts.now (env_of P.provided namer.old module_index) (chosen_seen chosen.entry))) }
+    ensures function { Answers (λ f. f) result (Ok
+        (function_of_chosen parts.now (env_of P.provided namer.old module_index)
+        (chosen_seen chosen.entry))) }
 {
     let Some(start_rva) = chosen.start_rva(parts) else {
         return Ok(None);
@@ -290,7 +329,7 @@ fn function_of<'a, P: ModuleProvider>(
     }))
 }
 
-/// The function at a place that a contribution holds.
+/// Returns the function at a place that a contribution holds.
 #[tactic(auto, unfolding(pdb_frames::specs::Frames::function_at))]
 fn function_at<'a, P: ModuleProvider>(
     alloc: Global,
@@ -301,10 +340,14 @@ fn function_at<'a, P: ModuleProvider>(
     contribution: ModuleSectionContribution,
     place: PdbInternalSectionOffset,
 ) -> Result<Option<Function>>
-    requires kept { AreKept (λ n. module_data (own_of (P.provided provider.now) (entries_of namer.old) n)) kept.old }
-    ensures kept { AreKept (λ n. module_data (own_of (P.provided provider.now) (entries_of namer.old) n)) kept.new }
+    requires kept { AreKept (λ n. module_data (own_of (P.provided provider.now)
+        (entries_of namer.old) n)) kept.old }
+    ensures kept { AreKept (λ n. module_data (own_of (P.provided provider.now)
+        (entries_of namer.old) n)) kept.new }
     ensures same { namer.new ≡ namer.old }
-    ensures function { Answers (λ f. f) result (Ok (function_at_contribution parts.now (scope_of P.provided provider.now namer.old contribution.module_index) contribution place)) }
+    ensures function { Answers (λ f. f) result (Ok
+        (function_at_contribution parts.now (scope_of P.provided provider.now namer.old
+        contribution.module_index) contribution place)) }
 {
     let module_index = usize::from(contribution.module_index());
     keep_module(alloc, kept, provider, namer.modules(), module_index)?;
@@ -316,7 +359,11 @@ fn function_at<'a, P: ModuleProvider>(
     }
 }
 
-/// The frames at a place.
+/// Returns the frames at a place.
+///
+/// # Errors
+/// The first fault of those parts of the module that the frames are made of, or that this part
+/// stands as failed; `OutOfMemory`.
 pub fn frames_here<'a, P: ModuleProvider>(
     alloc: Global,
     provider: &'a P,
@@ -327,13 +374,22 @@ pub fn frames_here<'a, P: ModuleProvider>(
     known_failures: &mut KnownFailures,
     place: PdbInternalSectionOffset,
 ) -> Result<Option<SharedFunctionFrames<'a>>>
-    requires kept { AreKept (λ n. module_data (own_of (P.provided provider.now) (entries_of namer.old) n)) kept.old }
-    requires known { AreFailuresOf (data_of_modules P.provided provider.now namer.old) known_failures.old }
-    ensures kept { AreKept (λ n. module_data (own_of (P.provided provider.now) (entries_of namer.old) n)) kept.new }
-    ensures known { AreFailuresOf (data_of_modules P.provided provider.now namer.old) known_failures.new }
+    requires kept { AreKept (λ n. module_data (own_of (P.provided provider.now)
+        (entries_of namer.old) n)) kept.old }
+    requires known { AreFailuresOf (data_of_modules P.provided provider.now namer.old)
+        known_failures.old }
+    ensures kept { AreKept (λ n. module_data (own_of (P.provided provider.now)
+        (entries_of namer.old) n)) kept.new }
+    ensures known { AreFailuresOf (data_of_modules P.provided provider.now namer.old)
+        known_failures.new }
     ensures same { namer.new ≡ namer.old }
-    ensures failed { failed.new ≡ failed_after (failing_if_held parts.now (scope_of P.provided provider.now namer.old) (held_at parts.now (Some place))) result failed.old }
-    ensures frames { Answers (λ f. f) result (told failed.old (failing_if_held parts.now (scope_of P.provided provider.now namer.old) (held_at parts.now (Some place))) (frames_if_held parts.now (scope_of P.provided provider.now namer.old) (held_at parts.now (Some place)))) }
+    ensures failed { failed.new ≡ failed_after (failing_if_held parts.now
+        (scope_of P.provided provider.now namer.old) (held_at parts.now (Some place)))
+        result failed.old }
+    ensures frames { Answers (λ f. f) result (told failed.old
+        (failing_if_held parts.now (scope_of P.provided provider.now namer.old)
+        (held_at parts.now (Some place))) (frames_if_held parts.now
+        (scope_of P.provided provider.now namer.old) (held_at parts.now (Some place)))) }
 {
     match parts.holder(place) {
         None => Ok(None),
@@ -351,7 +407,10 @@ pub fn frames_here<'a, P: ModuleProvider>(
     }
 }
 
-/// The function at a place.
+/// Returns the function at a place.
+///
+/// # Errors
+/// `OutOfMemory` alone.
 pub fn function_here<'a, P: ModuleProvider>(
     alloc: Global,
     provider: &'a P,
@@ -360,10 +419,13 @@ pub fn function_here<'a, P: ModuleProvider>(
     namer: &mut Namer<'a, '_, P>,
     place: PdbInternalSectionOffset,
 ) -> Result<Option<Function>>
-    requires kept { AreKept (λ n. module_data (own_of (P.provided provider.now) (entries_of namer.old) n)) kept.old }
-    ensures kept { AreKept (λ n. module_data (own_of (P.provided provider.now) (entries_of namer.old) n)) kept.new }
+    requires kept { AreKept (λ n. module_data (own_of (P.provided provider.now)
+        (entries_of namer.old) n)) kept.old }
+    ensures kept { AreKept (λ n. module_data (own_of (P.provided provider.now)
+        (entries_of namer.old) n)) kept.new }
     ensures same { namer.new ≡ namer.old }
-    ensures function { Answers (λ f. f) result (Ok (function_at_place parts.now (scope_of P.provided provider.now namer.old) place)) }
+    ensures function { Answers (λ f. f) result (Ok
+        (function_at_place parts.now (scope_of P.provided provider.now namer.old) place)) }
 {
     match parts.holder(place) {
         None => Ok(None),
@@ -416,7 +478,8 @@ fn choose_by<'c, 'a, I: ModuleTables>(
     }
 }
 
-/// Returns a key of the function at a place that a contribution holds, and how far it goes on.
+/// Returns a key of the function at a place that a contribution holds, and how many bytes from
+/// there on have that function.
 #[tactic(auto, unfolding(pdb_frames::specs::Frames::function_at))]
 fn key_run_at<'a, P: ModuleProvider>(
     alloc: Global,
@@ -435,7 +498,8 @@ fn key_run_at<'a, P: ModuleProvider>(
     ensures function { Answers (λ run. option_and_then (function_by parts.now
         (scope_of P.provided provider.now namer.now)) run.0) result
         (Ok (function_at_contribution parts.now
-        (scope_of P.provided provider.now namer.now contribution.module_index) contribution place)) }
+        (scope_of P.provided provider.now namer.now contribution.module_index)
+        contribution place)) }
     ensures count { IfOk result (λ run. run.1
         ≡ up_to_next (bounds_near parts.now (procedures_of
         (scope_of P.provided provider.now namer.now)
@@ -448,7 +512,10 @@ fn key_run_at<'a, P: ModuleProvider>(
     Ok((key_at(parts, known, contribution, place), count))
 }
 
-/// Returns a key of the function at a place, and how far it goes on.
+/// Returns a key of the function at a place, and how many bytes from there on have that function.
+///
+/// # Errors
+/// `OutOfMemory` alone.
 pub fn key_run_here<'a, P: ModuleProvider>(
     alloc: Global,
     provider: &'a P,
@@ -487,6 +554,9 @@ pub fn key_run_here<'a, P: ModuleProvider>(
 }
 
 /// Returns the function that a key stands for, if there is one.
+///
+/// # Errors
+/// `OutOfMemory` alone.
 pub fn function_by_key<'a, P: ModuleProvider>(
     alloc: Global,
     provider: &'a P,
@@ -511,7 +581,10 @@ pub fn function_by_key<'a, P: ModuleProvider>(
     }
 }
 
-/// The function at a place, and how far it goes on.
+/// Returns the function at a place, and how many bytes from there on have that function.
+///
+/// # Errors
+/// `OutOfMemory` alone.
 pub fn run_here<'a, P: ModuleProvider>(
     alloc: Global,
     provider: &'a P,
@@ -522,11 +595,16 @@ pub fn run_here<'a, P: ModuleProvider>(
     limit: u32,
 ) -> Result<(Option<Function>, u32)>
     requires limit { 1 ≤ limit }
-    requires kept { AreKept (λ n. module_data (own_of (P.provided provider.now) (entries_of namer.old) n)) kept.old }
-    ensures kept { AreKept (λ n. module_data (own_of (P.provided provider.now) (entries_of namer.old) n)) kept.new }
+    requires kept { AreKept (λ n. module_data (own_of (P.provided provider.now)
+        (entries_of namer.old) n)) kept.old }
+    ensures kept { AreKept (λ n. module_data (own_of (P.provided provider.now)
+        (entries_of namer.old) n)) kept.new }
     ensures same { namer.new ≡ namer.old }
-    ensures function { Answers (λ run. run.0) result (Ok (function_at_place parts.now (scope_of P.provided provider.now namer.old) place)) }
-    ensures count { IfOk result (λ run. IsOneRun (database_of parts.now (scope_of P.provided provider.now namer.old)) (as_place place) limit run.1) }
+    ensures function { Answers (λ run. run.0) result
+        (Ok (function_at_place parts.now (scope_of P.provided provider.now namer.old) place)) }
+    ensures count { IfOk result (λ run. IsOneRun
+        (database_of parts.now (scope_of P.provided provider.now namer.old)) (as_place place)
+        limit run.1) }
 {
     let (key, count) = key_run_here(alloc, provider, kept, parts, namer, place, limit)?;
     match key {

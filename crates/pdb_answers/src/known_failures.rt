@@ -5,7 +5,8 @@ ghost use Rattle.pdb_frames.specs.Failed.{failing_in};
 ghost use Rattle.pdb_frames.specs.Choice.{start_of};
 ghost use Rattle.pdb_frames.specs.Seen.{chosen_seen};
 ghost use Rattle.pdb_known_modules.specs.Modules.{ModuleData};
-ghost use Rattle.pdb_answers.specs.KnownFailures.{AreFailuresOf, IsAbout, those_failing, those_like};
+ghost use Rattle.pdb_answers.specs.KnownFailures.{AreFailuresOf, IsAbout, those_failing};
+ghost use Rattle.pdb_answers.specs.KnownFailures.{those_like};
 
 use pdb_addresses::PdbInternalSectionOffset;
 use pdb_frames::{Chosen, Part, number_of};
@@ -13,19 +14,20 @@ use pdb_indices::SymbolIndex;
 use std::alloc::{AllocError, Global};
 use std::collections::BTreeMap;
 
-/// The functions of a module that something is known of.
+/// The functions of a module of which something is known.
 #[derive(Clone, Copy)]
 pub(crate) enum Asked {
     /// All of them.
     Module,
-    /// The procedure that begins at a place, with the place of its symbol and of the symbol that ends it.
+    /// The procedure that begins at a place, with the place of its symbol and of the symbol that
+    /// ends it.
     Procedure(PdbInternalSectionOffset, SymbolIndex, SymbolIndex),
     /// The public entry of a place.
     Public(PdbInternalSectionOffset),
 }
 
 impl Asked {
-    /// Those like a chosen one.
+    /// Returns those like a chosen one.
     fn like(chosen: Chosen<'_, '_>) -> Asked
         ensures { result ≡ those_like (chosen_seen chosen.entry) }
     {
@@ -39,7 +41,7 @@ impl Asked {
         }
     }
 
-    /// Those in which a part fails that fails in a chosen one.
+    /// Returns those in which a part fails that fails in a chosen one.
     fn failing(chosen: Chosen<'_, '_>, part: Part) -> Asked
         ensures { result ≡ those_failing (chosen_seen chosen.entry) part }
     {
@@ -66,7 +68,8 @@ impl Asked {
     }
 }
 
-/// A part of the module of a number that can't be read, and the functions in whose frames it is the first such part.
+/// A part of the module with that index that can't be read, and the functions in whose frames it is
+/// the first such part.
 #[derive(Clone, Copy)]
 pub(crate) struct KnownFailure {
     module_index: u16,
@@ -81,8 +84,8 @@ pub struct KnownFailures {
     by_number: BTreeMap<u64, KnownFailure>,
 }
 
-/// The number under which something is known of functions of a module. No clause says which it is: what is kept says itself what it
-/// is about.
+/// Returns the number under which something is known of functions of a module. No clause says which
+/// it is: what is stored there says itself what it is about.
 fn number_for(module_index: u16, asked: Asked) -> u64 {
     match asked {
         Asked::Module => u64::from(module_index),
@@ -92,7 +95,7 @@ fn number_for(module_index: u16, asked: Asked) -> u64 {
 }
 
 impl KnownFailures {
-    /// Nothing is known yet.
+    /// Returns failures of which none is known yet.
     pub fn new(alloc: Global) -> KnownFailures
         ensures { (own : ℕ → Option ModuleData) → AreFailuresOf own result }
     {
@@ -101,10 +104,12 @@ impl KnownFailures {
         }
     }
 
-    /// What is known under a number of a chosen function of a module.
+    /// Returns what is known under a number of a chosen function of a module.
     #[tactic(auto, using(crate::proofs::KnownSteps::known_part))]
     fn under(&self, number: u64, module_index: u16, chosen: Chosen<'_, '_>) -> Option<Part>
-        ensures { (own : ℕ → Option ModuleData) → AreFailuresOf own self.now → IfSome result (λ part. failing_in module_index (own module_index) (chosen_seen chosen.entry) ≡ Some part) }
+        ensures { (own : ℕ → Option ModuleData) → AreFailuresOf own self.now → IfSome result
+            (λ part. failing_in module_index (own module_index) (chosen_seen chosen.entry)
+            ≡ Some part) }
     {
         match self.by_number.get(&number) {
             Some(known) if known.module_index == module_index && known.asked.is_about(chosen) => {
@@ -114,9 +119,12 @@ impl KnownFailures {
         }
     }
 
-    /// The first part that can't be read of those that the frames in a chosen function of a module are made of, if that is known.
+    /// Returns the first part that can't be read of those that the frames in a chosen function of a
+    /// module are made of, if that is known.
     pub(crate) fn part(&self, module_index: u16, chosen: Chosen<'_, '_>) -> Option<Part>
-        ensures { (own : ℕ → Option ModuleData) → AreFailuresOf own self.now → IfSome result (λ part. failing_in module_index (own module_index) (chosen_seen chosen.entry) ≡ Some part) }
+        ensures { (own : ℕ → Option ModuleData) → AreFailuresOf own self.now → IfSome result
+            (λ part. failing_in module_index (own module_index) (chosen_seen chosen.entry)
+            ≡ Some part) }
     {
         let of_module = number_for(module_index, Asked::Module);
         if let Some(part) = self.under(of_module, module_index, chosen) {
@@ -126,8 +134,11 @@ impl KnownFailures {
         self.under(of_function, module_index, chosen)
     }
 
-    /// Keeps the first part that can't be read of those that the frames in a chosen function of a module are made of. Nothing changes
-    /// of what is known where memory is short.
+    /// Stores the first part that can't be read of those that the frames in a chosen function of a
+    /// module are made of.
+    ///
+    /// # Errors
+    /// [`AllocError`] where memory is refused; then what is known stays as it was.
     #[tactic(auto, using(crate::proofs::KnownSteps::known_now, crate::proofs::KnownSteps::known_before))]
     pub(crate) fn keep(
         &mut self,
@@ -135,7 +146,9 @@ impl KnownFailures {
         chosen: Chosen<'_, '_>,
         part: Part,
     ) -> Result<(), AllocError>
-        ensures { (own : ℕ → Option ModuleData) → failing_in module_index (own module_index) (chosen_seen chosen.entry) ≡ Some part → AreFailuresOf own self.old → AreFailuresOf own self.new }
+        ensures { (own : ℕ → Option ModuleData) → failing_in module_index (own module_index)
+            (chosen_seen chosen.entry) ≡ Some part → AreFailuresOf own self.old
+            → AreFailuresOf own self.new }
     {
         let asked = Asked::failing(chosen, part);
         let known = KnownFailure {

@@ -1,4 +1,5 @@
-//! Answers at a place: the frames, the function, and how far it goes on, over what is kept of modules.
+//! Answers at a place: the frames, the function and the file, and how far these go on, over what is
+//! cached of modules.
 #![tactic(auto)]
 
 mod answers;

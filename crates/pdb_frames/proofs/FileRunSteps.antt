@@ -61,7 +61,7 @@ agree_sites : (extended : ExtendedModule) (q : Procedure) (place : PdbInternalSe
     (rows : List LineRow) (sites : Result (List Site) Fault) (over : List Site → List InlinedCall)
     → function_rows extended.program q.offset ≡ Ok rows
     → Agree extended (Proc q) place ((sites >>= read_both rows) >>= rows_of)
-      ((sites >>= λ t. Ok (over t)) >>= found (row_at rows place.offset))
+    ((sites >>= λ t. Ok (over t)) >>= found (row_at rows place.offset))
 agree_sites extended q place rows (Ok t) over is = (refl, is)
 agree_sites extended q place rows (Err e) over is = tt
 
@@ -70,7 +70,7 @@ agree_symbols : {S : Type 0} → (extended : ExtendedModule) (q : Procedure)
     (sites : S → Result (List Site) Fault) (over : List Site → List InlinedCall)
     → function_rows extended.program q.offset ≡ Ok rows
     → Agree extended (Proc q) place (((lifted symbols >>= sites) >>= read_both rows) >>= rows_of)
-      ((lifted symbols >>= λ s. sites s >>= λ t. Ok (over t)) >>= found (row_at rows place.offset))
+    ((lifted symbols >>= λ s. sites s >>= λ t. Ok (over t)) >>= found (row_at rows place.offset))
 agree_symbols extended q place rows (Ok s) sites over is =
     agree_sites extended q place rows (sites s) over is
 agree_symbols extended q place rows (Err e) sites over is = tt
@@ -79,9 +79,9 @@ agree_procedure : (stream : ModuleStream) (extended : ExtendedModule) (q : Proce
     (place : PdbInternalSectionOffset) (rows : Result (List LineRow) container.Fault)
     → function_rows extended.program q.offset ≡ rows
     → Agree extended (Proc q) place
-      ((lifted rows >>= λ r. procedure_sites stream q >>= read_both r) >>= rows_of)
-      (lifted (rows >>= λ r. Ok (row_at r place.offset))
-      >>= λ row. procedure_calls stream extended.inlinees q place >>= found row)
+    ((lifted rows >>= λ r. procedure_sites stream q >>= read_both r) >>= rows_of)
+    (lifted (rows >>= λ r. Ok (row_at r place.offset))
+    >>= λ row. procedure_calls stream extended.inlinees q place >>= found row)
 unfolding procedure_calls
 agree_procedure stream extended q place (Ok rows) is =
     agree_symbols extended q place rows (iteration_in stream 4) (λ symbols. sites_lifted
@@ -90,16 +90,17 @@ agree_procedure stream extended q place (Ok rows) is =
 agree_procedure stream extended q place (Err e) is = tt
 
 agree_public : (extended : ExtendedModule) (c : Chosen) (place : PdbInternalSectionOffset)
-    (rows : Result (List LineRow) container.Fault) → function_rows extended.program (start_of c) ≡ rows
+    (rows : Result (List LineRow) container.Fault)
+    → function_rows extended.program (start_of c) ≡ rows
     → Agree extended c place (lifted rows)
-      (lifted (rows >>= λ r. Ok (row_at r place.offset)) >>= λ row. found row [])
+    (lifted (rows >>= λ r. Ok (row_at r place.offset)) >>= λ row. found row [])
 agree_public extended c place (Ok rows) is = (refl, is)
 agree_public extended c place (Err e) is = tt
 
 agree : (stream : ModuleStream) (extended : ExtendedModule) (c : Chosen)
     (place : PdbInternalSectionOffset)
     → Agree extended c place (rows_in stream extended.program c)
-      (row_and_calls stream extended c place)
+    (row_and_calls stream extended c place)
 unfolding row_and_calls extended_procedure_of
 agree stream extended (Proc q) place =
     agree_procedure stream extended q place (function_rows extended.program q.offset) refl
@@ -114,7 +115,7 @@ row_text p program row = option_and_then (λ r. file_text program p.names (r.fil
 
 key_file : (p : Parts) (scope : ℕ → Scope) (m : ℕ) (program : Program) (row : Option LineRow)
     → ((index : ℕ) → file_in_module p index (module_data (scope m).own)
-      ≡ file_or_none (file_text program p.names index))
+    ≡ file_or_none (file_text program p.names index))
     → file_by p scope (row_key m row) ≡ Some (file_or_none (row_text p program row))
 key_file p scope m program None by = refl
 key_file p scope m program (Some row) by = ap Some (by (row.file_index).0)
@@ -147,7 +148,7 @@ module _ (p : Parts) (scope : ℕ → Scope) (m : ℕ) (place : PdbInternalSecti
   -- without data
   run_bare : (frame : Frame) (start : Option ℕ) → frame.file ≡ None
       → IsFileRun p scope place far [] (file_of (Ok (found_frames p c (frame ∷ []) start)))
-        (run_if_addressed start far (keys.NoFile, far))
+      (run_if_addressed start far (keys.NoFile, far))
   run_bare frame None none = record { file = refl; count = refl }
   run_bare frame (Some a) none = rw none (record { file = refl; count = refl })
 
@@ -155,23 +156,24 @@ module _ (p : Parts) (scope : ℕ → Scope) (m : ℕ) (place : PdbInternalSecti
   run_rows : (program : Program) (name : Option (List ℕ)) (section : ℕ) (others : List Frame)
       (row : Option LineRow) (rows : List LineRow) (start : Option ℕ)
       → ((index : ℕ) → file_in_module p index (module_data (scope m).own)
-        ≡ file_or_none (file_text program p.names index))
+      ≡ file_or_none (file_text program p.names index))
       → row ≡ row_at rows place.offset
       → IsFileRun p scope place far (row_starts rows)
-        (file_of (Ok (found_frames p c (others ++ function_frame p program name section row ∷ [])
-        start)))
-        (run_if_addressed start far (run_by_rows m place far rows))
+      (file_of (Ok (found_frames p c (others ++ function_frame p program name section row ∷ [])
+      start)))
+      (run_if_addressed start far (run_by_rows m place far rows))
   run_rows program name section others row rows None by is = record { file = refl; count = refl }
   run_rows program name section others row rows (Some a) by is =
       let text = row_text p program row in
-      let last : last_file (others ++ function_frame p program name section row ∷ []) ≡ file_or_none text =
-          last_after others (function_frame p program name section row) in
+      let last :
+      last_file (others ++ function_frame p program name section row ∷ []) ≡ file_or_none text =
+      last_after others (function_frame p program name section row) in
       record {
         file = ap (λ r. file_by p scope (row_key m r)) (sym is)
-          ∙ key_file p scope m program row by ∙ sym (counted text) ∙ ap if_any (sym last);
+            ∙ key_file p scope m program row by ∙ sym (counted text) ∙ ap if_any (sym last);
         count = ap (λ starts. up_to_next starts place.offset far)
-          (sym (starts_count text (row_starts rows))
-          ∙ ap (λ answer. starts_if_frames answer (row_starts rows)) (sym last));
+            (sym (starts_count text (row_starts rows))
+            ∙ ap (λ answer. starts_if_frames answer (row_starts rows)) (sym last));
       }
 
   -- by rows that may not be readable
@@ -179,13 +181,13 @@ module _ (p : Parts) (scope : ℕ → Scope) (m : ℕ) (place : PdbInternalSecti
       (others : List InlinedCall → List Frame) (rows : Result (List LineRow) Fault)
       (read : Result (Option LineRow × List InlinedCall) Fault)
       → ((index : ℕ) → file_in_module p index (module_data (scope m).own)
-        ≡ file_in_extended p index (Ok extended))
+      ≡ file_in_extended p index (Ok extended))
       → Agree extended c place rows read
       → IsFileRun p scope place far (starts_in_extended c (Ok extended))
-        (file_of ((read >>= λ found. Ok (others found.1
-        ++ function_frame p extended.program name (start_of c).section found.0 ∷ []))
-        >>= λ frames. Ok (found_frames p c frames (start_address p c))))
-        (run_reported (start_address p c) far (run_if_read m place far rows))
+      (file_of ((read >>= λ found. Ok (others found.1
+      ++ function_frame p extended.program name (start_of c).section found.0 ∷ []))
+      >>= λ frames. Ok (found_frames p c frames (start_address p c))))
+      (run_reported (start_address p c) far (run_if_read m place far rows))
   run_read extended name others (Ok rows) (Ok found) by agrees =
       rw agrees.1 (run_rows extended.program name (start_of c).section (others found.1) found.0 rows
       (start_address p c) by agrees.0)
@@ -197,15 +199,15 @@ module _ (p : Parts) (scope : ℕ → Scope) (m : ℕ) (place : PdbInternalSecti
   -- by line program and inlinees that may not be readable
   run_extended : (env : Env) (known : ModuleData) (extended : Result ExtendedModule container.Fault)
       → ((index : ℕ) → file_in_module p index (module_data (scope m).own)
-        ≡ file_in_extended p index extended)
+      ≡ file_in_extended p index extended)
       → IsFileRun p scope place far (starts_in_extended c extended)
-        (file_of ((lifted extended >>= λ extended. row_and_calls known.stream extended c place
-        >>= λ found. Ok (map (call_frame p env extended.program) found.1
-        ++ function_frame p extended.program (name_of p env c) (start_of c).section found.0 ∷ []))
-        >>= λ frames. Ok (found_frames p c frames (start_address p c))))
-        (run_reported (start_address p c) far
-        (lifted extended >>= λ extended.
-        run_if_read m place far (rows_in known.stream extended.program c)))
+      (file_of ((lifted extended >>= λ extended. row_and_calls known.stream extended c place
+      >>= λ found. Ok (map (call_frame p env extended.program) found.1
+      ++ function_frame p extended.program (name_of p env c) (start_of c).section found.0 ∷ []))
+      >>= λ frames. Ok (found_frames p c frames (start_address p c))))
+      (run_reported (start_address p c) far
+      (lifted extended >>= λ extended.
+      run_if_read m place far (rows_in known.stream extended.program c)))
   run_extended env known (Ok extended) by =
       run_read extended (name_of p env c) (map (call_frame p env extended.program))
       (rows_in known.stream extended.program c) (row_and_calls known.stream extended c place) by
@@ -215,8 +217,8 @@ module _ (p : Parts) (scope : ℕ → Scope) (m : ℕ) (place : PdbInternalSecti
   -- in a chosen function
   run_known : (env : Env) (known : Option ModuleData) → module_data (scope m).own ≡ known
       → IsFileRun p scope place far (starts_in known c)
-        (file_of (frames_of_chosen p env known place (Some c)))
-        (run_reported (start_address p c) far (file_run_of m known c place far))
+      (file_of (frames_of_chosen p env known place (Some c)))
+      (run_reported (start_address p c) far (file_run_of m known c place far))
   unfolding frames_in_data file_run_in
   run_known env None is =
       run_bare (record { function = name_of p env c; file = None; line = None; row = None })
@@ -228,7 +230,7 @@ run_if_chosen : (p : Parts) (scope : ℕ → Scope) (m : ℕ) (place : PdbIntern
     (far : ℕ) (env : Env) (known : Option ModuleData) (c : Option Chosen)
     → module_data (scope m).own ≡ known
     → IsFileRun p scope place far (starts_if_chosen known c)
-      (file_of (frames_of_chosen p env known place c)) (file_run_if_chosen p m known place far c)
+    (file_of (frames_of_chosen p env known place c)) (file_run_if_chosen p m known place far c)
 run_if_chosen p scope m place far env known None is = record { file = refl; count = refl }
 run_if_chosen p scope m place far env known (Some c) is =
     run_known p scope m place far c env known is
@@ -237,8 +239,8 @@ run_if_chosen p scope m place far env known (Some c) is =
 pub is_file_run : (p : Parts) (scope : ℕ → Scope) (c : ModuleSectionContribution)
     (place : PdbInternalSectionOffset) (far : ℕ)
     → IsFileRun p scope place far (starts_by p scope place (Some c))
-      (file_of (frames_at p (scope c.module_index) c place))
-      (file_run_at p (scope c.module_index) c place far)
+    (file_of (frames_at p (scope c.module_index) c place))
+    (file_run_at p (scope c.module_index) c place far)
 unfolding frames_at
 is_file_run p scope c place far =
     let s = scope c.module_index in

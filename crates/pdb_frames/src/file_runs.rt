@@ -34,12 +34,15 @@ fn row_key(module_index: u16, row: Option<LineRow>) -> FileKey
     }
 }
 
-/// A place in a function of a module, and how many bytes the function goes on from there.
+/// A place in a function of a module, and how many bytes from there on have the same function.
 #[derive(Clone, Copy)]
-struct Stretch {
-    module_index: u16,
-    place: PdbInternalSectionOffset,
-    far: u32,
+pub struct Stretch {
+    /// The module's index, counted from 0.
+    pub module_index: u16,
+    /// The place.
+    pub place: PdbInternalSectionOffset,
+    /// The number of bytes.
+    pub far: u32,
 }
 
 impl Stretch {
@@ -65,8 +68,8 @@ fn procedure_run<'m, I: ModuleTables>(
     stretch: Stretch,
 ) -> Result<(FileKey, u32)>
     requires { extended_of known.now.stream ≡ Ok (extended_seen extended.now) }
-    ensures { Answers (λ run. run) result (run_if_read stretch.module_index stretch.place stretch.far
-        (rows_in known.now.stream (extended_seen extended.now).program
+    ensures { Answers (λ run. run) result (run_if_read stretch.module_index stretch.place
+        stretch.far (rows_in known.now.stream (extended_seen extended.now).program
         (choice.Proc procedure.now))) }
 {
     if let Some(read) = known.extended_procedure(number, procedure) {
@@ -87,8 +90,8 @@ fn public_run<'m, I: ModuleTables>(
     stretch: Stretch,
 ) -> Result<(FileKey, u32)>
     requires { extended_of known.now.stream ≡ Ok (extended_seen extended.now) }
-    ensures { Answers (λ run. run) result (run_if_read stretch.module_index stretch.place stretch.far
-        (lifted (function_rows (extended_seen extended.now).program start))) }
+    ensures { Answers (λ run. run) result (run_if_read stretch.module_index stretch.place
+        stretch.far (lifted (function_rows (extended_seen extended.now).program start))) }
 {
     if let Some(rows) = known.public_rows(start) {
         return Ok(stretch.run_by_rows(rows));
@@ -107,8 +110,8 @@ fn chosen_run<'m, I: ModuleTables>(
     stretch: Stretch,
 ) -> Result<(FileKey, u32)>
     requires { extended_of known.now.stream ≡ Ok (extended_seen extended.now) }
-    ensures { Answers (λ run. run) result (run_if_read stretch.module_index stretch.place stretch.far
-        (rows_in known.now.stream (extended_seen extended.now).program
+    ensures { Answers (λ run. run) result (run_if_read stretch.module_index stretch.place
+        stretch.far (rows_in known.now.stream (extended_seen extended.now).program
         (chosen_seen chosen.entry))) }
 {
     match chosen {
@@ -138,31 +141,24 @@ fn data_run<'m, I: ModuleTables>(
     chosen_run(alloc, known, &extended, chosen, stretch)
 }
 
-/// Returns the key of the file at a place in a chosen function, and the lesser of `far` and the
-/// distance to the next line row, in bytes. No name is made, and no inlined call is looked for. A
-/// module that has no data has no files.
+/// Returns the key of the file at a place in a chosen function, and the distance to the next line
+/// row, or the whole stretch where that is shorter. No name is made, and no inlined call is looked
+/// for. A module without data has no files.
 ///
 /// # Errors
 /// The first fault of line program, inlinees, the function's rows and its inline sites, as
 /// `PdbError`; `ProcedureInlineRangesUnsuccessful`; `OutOfMemory`.
 pub fn file_run_in<I: ModuleTables>(
     alloc: Global,
-    module_index: u16,
     known: Option<&BasicModuleInfo<'_, I>>,
     chosen: Chosen<'_, '_>,
-    place: PdbInternalSectionOffset,
-    far: u32,
+    stretch: Stretch,
 ) -> Result<(FileKey, u32)>
-    ensures { Answers (λ run. run) result (file_run_of module_index (option_copied known.entry)
-        (chosen_seen chosen.entry) place far) }
+    ensures { Answers (λ run. run) result (file_run_of stretch.module_index
+        (option_copied known.entry) (chosen_seen chosen.entry) stretch.place stretch.far) }
 {
-    let stretch = Stretch {
-        module_index,
-        place,
-        far,
-    };
     match known {
-        None => Ok((FileKey::NoFile, far)),
+        None => Ok((FileKey::NoFile, stretch.far)),
         Some(known) => data_run(alloc, known, chosen, stretch),
     }
 }

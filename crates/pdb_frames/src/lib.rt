@@ -7,7 +7,7 @@ mod frames;
 pub mod laws;
 
 pub use chosen_name::name_of;
-pub use file_runs::{file_in_module, file_run_in};
+pub use file_runs::{Stretch, file_in_module, file_run_in};
 pub use frames::frames_in;
 pub use pdb_choice::{
     Chosen, ContextParts, Failures, Part, choose, failing_in, number_of, to_next_bound,

@@ -1,5 +1,4 @@
-use Rattle.std.proofs.Common.{ap, sym, ◌∙◌}
-use Rattle.std.specs.Prelude.{Ok}
+use Rattle.std.proofs.Common.{Ok, sym, ap, ◌∙◌}
 use Rattle.pdb_container.specs.Fault.{◌>>=◌}
 use Rattle.pdb_frames.specs.FileRuns.{run_if_read}
 use Rattle.pdb_known_modules.specs.Seen.{extended_seen}
@@ -7,4 +6,8 @@ use Rattle.pdb_frames.proofs.file_runs.procedure_run.Goals as goal
 
 -- what is lent are the procedure's rows
 pub returns-in-Some : goal.returns-in-Some
-returns-in-Some g c = ?
+returns-in-Some g c =
+    let s = c.args.stretch in
+    let lent = c.in-Some.ensures (extended_seen c.args.extended.now) c.requires in
+    ap (λ read. run_if_read s.module_index s.place s.far (read >>= λ both. Ok both.0)) lent.read
+    ∙ ap Ok (sym c.run_by_rows.ensures)
