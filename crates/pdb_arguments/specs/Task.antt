@@ -59,7 +59,8 @@ address_at name rows = option_and_then address_of (first_of name rows)
 
 -- whether the flag of this name was given: its value is `true` then, and else `false`
 abbrev pub flag_at : Text → List Row → Bool
-flag_at name rows = option_map_or (λ value. bytes_eq value (codes "true")) (first_of name rows) false
+flag_at name rows =
+    option_map_or (λ value. bytes_eq value (codes "true")) (first_of name rows) false
 
 -- the task has the subcommand's name, its FILE, the addresses at START and END, and the flag
 abbrev pub IsTask : Task → Option Entered → Type 0

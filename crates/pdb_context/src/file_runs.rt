@@ -29,7 +29,8 @@ impl<'a, 's, P: ModuleProvider> Context<'a, 's, P> {
             (file_by self.old.parts (scope_in P.provided self.old)) run.0) result
             (Ok (if_any (file_here self.old.parts (scope_in P.provided self.old) offset))) }
         ensures count { IfOk result (λ run. IsOneRun
-            (files_of self.old.parts (scope_in P.provided self.old)) (as_place offset) limit run.1) }
+            (files_of self.old.parts (scope_in P.provided self.old)) (as_place offset) limit
+            run.1) }
     {
         let sources = Sources {
             provider: self.provider,
@@ -75,17 +76,18 @@ impl<'a, 's, P: ModuleProvider> Context<'a, 's, P> {
         ensures file { Answers (λ run. file_seen run.0) result
             (Ok (file_here self.old.parts (scope_in P.provided self.old) offset)) }
         ensures count { IfOk result (λ run. IsOneRun
-            (files_of self.old.parts (scope_in P.provided self.old)) (as_place offset) limit run.1) }
+            (files_of self.old.parts (scope_in P.provided self.old)) (as_place offset) limit
+            run.1) }
     {
         let (key, count) = self.file_key_run_at(alloc, offset, limit)?;
         let file = self.file_of_key(alloc, key)?;
         Ok((file, count))
     }
 
-    /// Returns the source file of the function at a place, and over how many bytes from the place on
-    /// the file is the same: the lesser of `limit`, which is at least 1, and the distance to the next
-    /// place at which the function may change ([`Context::find_function_run`]) or, where there are
-    /// frames, a line row of the function begins. What stands as failed doesn't change.
+    /// Returns the source file of the function at a place, and over how many bytes from the place
+    /// on the file is the same: the lesser of `limit`, which is at least 1, and the distance to the
+    /// next place at which the function may change ([`Context::find_function_run`]) or, where there
+    /// are frames, a line row of the function begins. What stands as failed doesn't change.
     ///
     /// # Errors
     /// `OutOfMemory` alone.
@@ -101,7 +103,8 @@ impl<'a, 's, P: ModuleProvider> Context<'a, 's, P> {
         ensures file { Answers (λ run. file_seen run.0) result
             (Ok (file_here self.old.parts (scope_in P.provided self.old) offset)) }
         ensures count { IfOk result (λ run. IsOneRun
-            (files_of self.old.parts (scope_in P.provided self.old)) (as_place offset) limit run.1) }
+            (files_of self.old.parts (scope_in P.provided self.old)) (as_place offset) limit
+            run.1) }
     {
         let run = self.file_run_at(alloc, offset, limit);
         self.counted(run)
@@ -125,7 +128,8 @@ impl<'a, 's, P: ModuleProvider> Context<'a, 's, P> {
             (file_by self.old.parts (scope_in P.provided self.old)) run.0) result
             (Ok (if_any (file_here self.old.parts (scope_in P.provided self.old) offset))) }
         ensures count { IfOk result (λ run. IsOneRun
-            (files_of self.old.parts (scope_in P.provided self.old)) (as_place offset) limit run.1) }
+            (files_of self.old.parts (scope_in P.provided self.old)) (as_place offset) limit
+            run.1) }
     {
         let run = self.file_key_run_at(alloc, offset, limit);
         self.counted(run)

@@ -10,7 +10,8 @@ use Rattle.pdb_symbols_modules.specs.Streams.{Streams}
 use Rattle.pdb_report.specs.Answer.{address_map, database}
 
 -- a table has how many addresses of a range have each answer; and how many have none
-pub record AreSizes {A : Type 0} (cmp : A → A → Ordering) (m : Map) (db : Database A) (start end : ℕ)
+pub record AreSizes {A : Type 0} (cmp : A → A → Ordering) (m : Map) (db : Database A)
+    (start end : ℕ)
     (table : List (A × ℕ)) (none : ℕ) : Type 0 where
   pub in_order : IsTable cmp table
   pub each : (a : A) → count_in cmp table a ≡ count cmp m db start end a

@@ -9,7 +9,8 @@ ghost use Rattle.pdb_report.specs.FileReport.{IsSizesByFile, IsWithinFilePieces}
 ghost use Rattle.pdb_report.specs.Loading.{load_fault, IsFileFault};
 ghost use Rattle.pdb_report.specs.SizesReport.{AreWithinPieces, IsReportOn};
 ghost use Rattle.pdb_report.specs.SizesReport.{IsSizesReport, IsWithinPieces};
-ghost use Rattle.pdb_report_texts.specs.RunFaults.{OnLoad, OnMemory, OnReversed, OnWrite, OnCounted};
+ghost use Rattle.pdb_report_texts.specs.RunFaults.{OnLoad, OnMemory, OnReversed, OnWrite};
+ghost use Rattle.pdb_report_texts.specs.RunFaults.{OnCounted};
 ghost use Rattle.pdb_report_texts.specs.RunFaults.{UnlessLoad, IsOfSizes};
 ghost use Rattle.pdb_functions.specs.Counts.{pieces};
 ghost use Rattle.pdb_symbols_modules.specs.Streams.{streams};
@@ -191,13 +192,13 @@ fn run_report<A: Counted, W: Write>(
     }
 }
 
-/// Writes how many of the addresses from `start` on and before `end` each function has in the program
-/// database of the bytes: a line for each function, in the order of start, end and name, and last
-/// `none` and how many addresses have none.
+/// Writes how many of the addresses from `start` on and before `end` each function has in the
+/// program database of the bytes: a line for each function, in the order of start, end and name,
+/// and last `none` and how many addresses have none.
 ///
 /// # Errors
-/// `Load` where the file has a loading fault, then `ReversedRange` where `start` is above `end`, and
-/// then nothing was written; `Write` where the writer failed in this call; `OutOfMemory`.
+/// `Load` where the file has a loading fault, then `ReversedRange` where `start` is above `end`,
+/// and then nothing was written; `Write` where the writer failed in this call; `OutOfMemory`.
 pub fn run_sizes<W: Write>(
     alloc: Global,
     bytes: Vec<u8>,
@@ -205,8 +206,8 @@ pub fn run_sizes<W: Write>(
     end: u32,
     writer: &mut Watched<W>,
 ) -> Result<Tally, RunFault>
-    // The loading fault is returned where the file has one, with nothing written; every other end but
-    // out of memory says that there is none.
+    // The loading fault is returned where the file has one, with nothing written; every other end
+    // but out of memory says that there is none.
     ensures load { IfErr result (λ fault. OnLoad fault (λ cause.
         IsFileFault cause (load_fault (streams bytes.items)) × (writer.new ≡ writer.old))) }
     ensures loaded { UnlessLoad result (load_fault (streams bytes.items) ≡ None) }
@@ -238,12 +239,12 @@ pub fn run_sizes<W: Write>(
 
 /// Writes how many of the addresses from `start` on and before `end` each source file has in the
 /// program database of the bytes: a line for each file, its count and its text, in the order of the
-/// texts' bytes; and last `no file`, `none` and `unreadable` with how many addresses have a function
-/// without a known file, no function, and a function whose frames can't be read.
+/// texts' bytes; and last `no file`, `none` and `unreadable` with how many addresses have a
+/// function without a known file, no function, and a function whose frames can't be read.
 ///
 /// # Errors
-/// `Load` where the file has a loading fault, then `ReversedRange` where `start` is above `end`, and
-/// then nothing was written; `Write` where the writer failed in this call; `OutOfMemory`.
+/// `Load` where the file has a loading fault, then `ReversedRange` where `start` is above `end`,
+/// and then nothing was written; `Write` where the writer failed in this call; `OutOfMemory`.
 pub fn run_sizes_by_file<W: Write>(
     alloc: Global,
     bytes: Vec<u8>,
@@ -251,8 +252,8 @@ pub fn run_sizes_by_file<W: Write>(
     end: u32,
     writer: &mut Watched<W>,
 ) -> Result<Tally, RunFault>
-    // The loading fault is returned where the file has one, with nothing written; every other end but
-    // out of memory says that there is none.
+    // The loading fault is returned where the file has one, with nothing written; every other end
+    // but out of memory says that there is none.
     ensures load { IfErr result (λ fault. OnLoad fault (λ cause.
         IsFileFault cause (load_fault (streams bytes.items)) × (writer.new ≡ writer.old))) }
     ensures loaded { UnlessLoad result (load_fault (streams bytes.items) ≡ None) }

@@ -14,7 +14,7 @@ use std::process::ExitCode;
 use std::rt::Env;
 use std::{env, fs};
 
-/// What is told where a word is no text.
+/// What is reported where an argument is no text.
 const NO_TEXT: &str =
     "error: a word is no text\n\nUsage: pdb_symbolizer <COMMAND>\n\nFor more information, try '--help'.\n";
 
@@ -70,10 +70,10 @@ fn bytes_of(rt: &(impl fs::Files + AllocGlobal), file: &str) -> io::Result<Vec<u
     read_file(rt.alloc(), &mut reader)
 }
 
-/// The words behind the program's name.
+/// The arguments after the program's name.
 ///
 /// # Errors
-/// `OutOfMemory`, and another kind where a word is no text.
+/// `OutOfMemory`, and another kind where an argument is no text.
 fn given_words(rt: &(impl Env + AllocGlobal)) -> io::Result<Vec<String>> {
     let mut words = Vec::new(rt.alloc());
     for word in env::args(rt)?.skip(1) {
