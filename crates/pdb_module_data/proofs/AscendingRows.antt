@@ -3,8 +3,11 @@ use Rattle.std.proofs.Common.{◌≡◌, ℕ, zero, suc, ◌-◌, ◌<◌, ◌�
 use Rattle.std.specs.Prelude.{map, slice_get}
 use Rattle.std.specs.Option.{option_map}
 use Rattle.std.proofs.lemmas.Bool.{le-leb, lt-leb, le-ltb}
-use Rattle.std.proofs.lemmas.List.{length-map}
+use Rattle.std.proofs.lemmas.List.{length-map, map-id}
 use Rattle.std.proofs.lemmas.Option.{slice_get-get_or, slice_get-map}
+use Rattle.pdb_addresses.proofs.RunSteps.{next_in_order}
+use Rattle.pdb_addresses.specs.SectionOrder.{AreInOrder}
+use Rattle.pdb_addresses.specs.SectionRun.{up_to_next}
 use Rattle.pdb_pieces.specs.Halving.{Ascend, IsSplit}
 use Rattle.pdb_module_data.specs.declared.function_rows.LineRow.{LineRow}
 use Rattle.pdb_module_data.specs.FunctionLine.{later_row, row_at}
@@ -72,3 +75,11 @@ split_within rows offset n at = simp length-map at at.bound
 pub row_in_front : (rows : List LineRow) (n : ℕ) → (n ≡ 0 → ⊥) → row_before rows n ≡ slice_get rows (n - 1)
 row_in_front rows zero h = absurd (h refl)
 row_in_front rows (suc n) h = let e : suc n - 1 ≡ n = omega arith in rw e refl
+
+-- ---- the distance to the next start, by starts in ascending order
+
+pub next_of_ascending : (starts ascending : List ℕ) (offset far : ℕ) → AreInOrder starts ascending
+    → up_to_next (map (λ n. n) ascending) offset far ≡ up_to_next starts offset far
+next_of_ascending starts ascending offset far order =
+    ap (λ (ns : List ℕ). up_to_next ns offset far) (map-id ascending)
+    ∙ next_in_order starts ascending offset far order

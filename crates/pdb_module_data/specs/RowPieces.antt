@@ -1,30 +1,44 @@
--- How the line rows of a function are searched: as they stand where they ascend, else by pieces of offsets with the number of the
--- row at each.
-use Rattle.std.specs.Prelude.{◌≡◌, ℕ, ◌+◌, ◌^◌, ◌<◌, ◌≤◌, List, [], ◌∷◌, ◌++◌, slice_get, Option, None, Some, option_and_then}
+-- How the line rows of a function are searched: as they stand where they ascend, else by pieces of
+-- offsets with the number of the row at each, and by their starts in ascending order.
+use Rattle.std.specs.Prelude.{◌≡◌, ℕ, ◌+◌, ◌^◌, ◌<◌, ◌≤◌, List, [], ◌∷◌, ◌++◌, slice_get}
+use Rattle.std.specs.Prelude.{Option, None, Some, option_and_then}
+use Rattle.pdb_addresses.specs.SectionOrder.{AreInOrder}
 use Rattle.pdb_pieces.specs.declared.span.Span.{Span}
 use Rattle.pdb_pieces.specs.Spans.{best}
 use Rattle.pdb_module_data.specs.declared.function_rows.LineRow.{LineRow}
-use Rattle.pdb_module_data.specs.FunctionLine.{row_at}
+use Rattle.pdb_module_data.specs.FunctionLine.{row_at, row_starts}
 
 -- what a row covers: the offsets from its own on, of 32 bits; ranked by its own
 abbrev pub row_span : ℕ → LineRow → Span
-row_span number row = record { start = row.start; end = 2 ^ 32; mark = record { rank = row.start; value = number } }
+row_span number row = record {
+  start = row.start;
+  end = 2 ^ 32;
+  mark = record { rank = row.start; value = number };
+}
 
--- what rows cover, of which the first has this number; the last row comes first, since of equal ranks the first counts
+-- what rows cover, of which the first has this number; the last row comes first, since of equal
+-- ranks the first counts
 abbrev pub row_spans : ℕ → List LineRow → List Span
 row_spans number [] = []
 row_spans number (row ∷ rows) = row_spans (number + 1) rows ++ row_span number row ∷ []
 
 -- at each offset stands the number of the row there
 pub record StandForRows (pieces : List Span) (rows : List LineRow) : Type 0 where
-  pub each : (offset : ℕ) → offset < 2 ^ 32 → option_and_then (λ m. slice_get rows m.value) (best pieces offset) ≡ row_at rows offset
+  pub each : (offset : ℕ) → offset < 2 ^ 32
+      → option_and_then (λ m. slice_get rows m.value) (best pieces offset) ≡ row_at rows offset
 
 -- rows in ascending order by their offsets, none before `low`
 abbrev pub AreAscending : ℕ → List LineRow → Type 0
 AreAscending low [] = Unit {0}
 AreAscending low (row ∷ rows) = (low ≤ row.start) × AreAscending row.start rows
 
--- pieces stand for rows, or else the rows ascend
-abbrev pub AreSearchable : List LineRow → Option (List Span) → Type 0
+-- what rows that don't ascend are searched by: pieces, and where rows begin, in ascending order
+pub record Unordered : Type 0 where
+  pub pieces : List Span
+  pub starts : List ℕ
+
+-- the rows ascend, or else pieces and starts stand for them
+abbrev pub AreSearchable : List LineRow → Option Unordered → Type 0
 AreSearchable rows None = AreAscending 0 rows
-AreSearchable rows (Some pieces) = StandForRows pieces rows
+AreSearchable rows (Some unordered) =
+    StandForRows unordered.pieces rows × AreInOrder (row_starts rows) unordered.starts

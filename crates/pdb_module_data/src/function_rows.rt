@@ -1,23 +1,28 @@
-//! The line rows of a function, and a search of the one at an offset by halving.
+//! The line rows of a function, and a search of the one at an offset, and of the next one's start, by
+//! halving.
 
 ghost use Rattle.std.specs.Prelude.{◌≡◌, ℕ, ◌+◌, ◌^◌, ◌<◌, ◌≤◌, true, IfOk, length, slice_get};
+ghost use Rattle.pdb_addresses.specs.SectionOrder.{AreInOrder};
+ghost use Rattle.pdb_addresses.specs.SectionRun.{up_to_next};
 ghost use Rattle.pdb_container.specs.Fault.{Gives};
-ghost use Rattle.pdb_module_data.specs.FunctionLine.{function_rows, row_at};
-ghost use Rattle.pdb_module_data.specs.RowPieces.{row_span as span_of_row, row_spans as spans_of_rows, AreAscending, AreSearchable, StandForRows};
+ghost use Rattle.pdb_module_data.specs.FunctionLine.{function_rows, row_at, row_starts};
+ghost use Rattle.pdb_module_data.specs.RowPieces.{row_span as span_of_row};
+ghost use Rattle.pdb_module_data.specs.RowPieces.{row_spans as spans_of_rows, AreAscending};
+ghost use Rattle.pdb_module_data.specs.RowPieces.{AreSearchable, StandForRows};
 
 use crate::memory::{PIECES_OF_SPAN, memory_of};
 use pdb_addresses::PdbInternalSectionOffset;
 use pdb_container::{FallibleIterator, Result};
 use pdb_indices::FileIndex;
 use pdb_lines::LineProgram;
-use pdb_pieces::{Begins, Mark, Pieces, Span, count_begun};
+use pdb_pieces::{Begins, Mark, Pieces, Span, count_begun, to_next};
 use std::alloc::{AllocError, Global};
 use std::marker::Model;
 
 /// How many rows most functions have, so that the list of them isn't moved as it grows.
 const USUAL_ROWS: usize = 16;
 
-/// What is kept of a line row of a function: where its code begins, how many bytes it has, and its
+/// What is stored of a line row of a function: where its code begins, how many bytes it has, and its
 /// file and line.
 #[derive(Clone, Copy, Debug, PartialEq, Eq)]
 pub struct LineRow {
@@ -41,12 +46,28 @@ impl Begins for LineRow {
     }
 }
 
-/// The line rows of a function: what is kept of those of its `DEBUG_S_LINES`, in their order, and pieces of offsets for a search
-/// among them where they don't ascend.
+/// What rows that don't ascend are searched by: pieces of offsets with the number of the row at each,
+/// and where the rows begin, in ascending order.
+#[derive(Drop)]
+struct Unordered {
+    pieces: Pieces,
+    starts: Vec<u32>,
+}
+
+impl Model for Unordered {
+    ghost use Rattle.pdb_module_data.specs.RowPieces as rows;
+
+    ghost Value = { rows.Unordered };
+
+    ghost view = { λ u. record { pieces = u.pieces; starts = u.starts.items } };
+}
+
+/// The line rows of a function: what is stored of those of its `DEBUG_S_LINES`, in their order, and
+/// what they are searched by where they don't ascend.
 #[derive(Drop)]
 pub struct FunctionRows {
     rows: Vec<LineRow>,
-    pieces: Option<Pieces>,
+    unordered: Option<Unordered>,
 }
 
 impl Model for FunctionRows {
@@ -58,8 +79,8 @@ impl Model for FunctionRows {
 
     ghost view = { λ r. r.rows.items };
 
-    // At each offset stands the row there, or the rows ascend.
-    ghost invariant = { λ r. AreSearchable r.rows.items r.pieces };
+    // The rows ascend, or there is what they are searched by.
+    ghost invariant = { λ r. AreSearchable r.rows.items r.unordered };
 }
 
 /// What a row of this number covers, to the end of its section, ranked by its start.
@@ -77,7 +98,8 @@ fn row_span(number: usize, row: LineRow) -> Span
     }
 }
 
-/// What rows cover, each ranked by its start. The last row comes first, since of equal ranks the first counts.
+/// What rows cover, each ranked by its start. The last row comes first, since of equal ranks the
+/// first counts.
 fn row_spans(alloc: Global, rows: &[LineRow]) -> std::result::Result<Vec<Span>, AllocError>
     ensures { IfOk result (λ v. v.items ≡ spans_of_rows 0 rows.now) }
 {
@@ -99,7 +121,7 @@ fn row_pieces(alloc: Global, rows: &[LineRow]) -> std::result::Result<Pieces, Al
     Pieces::new(alloc, spans.as_slice())
 }
 
-/// Whether no row begins before the one in front of it.
+/// Whether no row begins before the one that precedes it.
 fn are_ascending(rows: &[LineRow]) -> bool
     ensures { result ≡ true → AreAscending 0 rows.now }
 {
@@ -113,18 +135,39 @@ fn are_ascending(rows: &[LineRow]) -> bool
     true
 }
 
-/// Pieces of offsets with the number of the row at each, unless the rows ascend.
-fn pieces_unless_ascending(
+/// Where rows begin, in their order.
+fn starts_of(alloc: Global, rows: &[LineRow]) -> std::result::Result<Vec<u32>, AllocError>
+    ensures { IfOk result (λ v. v.items ≡ row_starts rows.now) }
+{
+    let mut starts = Vec::with_capacity(alloc, rows.len())?;
+    for row in rows {
+        starts.push(row.start)?;
+    }
+    Ok(starts)
+}
+
+/// Where rows begin, in ascending order.
+fn ascending_starts(alloc: Global, rows: &[LineRow]) -> std::result::Result<Vec<u32>, AllocError>
+    ensures { IfOk result (λ v. AreInOrder (row_starts rows.now) v.items) }
+{
+    let mut starts = starts_of(alloc, rows)?;
+    starts.sort_unstable();
+    Ok(starts)
+}
+
+/// What rows are searched by, unless they ascend.
+fn unless_ascending(
     alloc: Global,
     rows: &[LineRow],
-) -> std::result::Result<Option<Pieces>, AllocError>
-    ensures { IfOk result (λ pieces. AreSearchable rows.now pieces) }
+) -> std::result::Result<Option<Unordered>, AllocError>
+    ensures { IfOk result (λ unordered. AreSearchable rows.now unordered) }
 {
     if are_ascending(rows) {
         return Ok(None);
     }
     let pieces = row_pieces(alloc, rows)?;
-    Ok(Some(pieces))
+    let starts = ascending_starts(alloc, rows)?;
+    Ok(Some(Unordered { pieces, starts }))
 }
 
 /// The row of a number, if it is there.
@@ -182,8 +225,8 @@ fn read_rows(
 }
 
 impl FunctionRows {
-    /// The line rows of the function that begins at `start`: of the rows of the last `DEBUG_S_LINES` at or before that start,
-    /// if that one is in its section; they are read to their end.
+    /// The line rows of the function that begins at `start`: of the rows of the last `DEBUG_S_LINES`
+    /// at or before that start, if that one is in its section; they are read to their end.
     ///
     /// # Errors
     /// `UnexpectedEof` where some block can't be read; `OutOfMemory`.
@@ -195,8 +238,8 @@ impl FunctionRows {
         ensures { Gives (λ r. r) ⊥ result (function_rows line_program.now start) }
     {
         let rows = read_rows(alloc, line_program, start)?;
-        let pieces = pieces_unless_ascending(alloc, rows.as_slice())?;
-        Ok(FunctionRows { rows, pieces })
+        let unordered = unless_ascending(alloc, rows.as_slice())?;
+        Ok(FunctionRows { rows, unordered })
     }
 
     /// The row at an offset: of those that begin at it or before it the one with the greatest
@@ -205,18 +248,29 @@ impl FunctionRows {
     pub fn at(&self, offset: u32) -> Option<LineRow>
         ensures { result ≡ row_at self.now offset }
     {
-        match &self.pieces {
+        match &self.unordered {
             None => row_by_halving(self.rows.as_slice(), offset).0,
-            Some(pieces) => row_by_pieces(self.rows.as_slice(), pieces, offset),
+            Some(unordered) => row_by_pieces(self.rows.as_slice(), &unordered.pieces, offset),
+        }
+    }
+
+    /// Returns the lesser of `far` and the distance, in bytes, from an offset to the next start of a
+    /// row past it. Rows, or their starts in ascending order, are halved.
+    pub fn to_next_start(&self, offset: u32, far: u32) -> u32
+        ensures { result ≡ up_to_next (row_starts self.now) offset far }
+    {
+        match &self.unordered {
+            None => to_next(self.rows.as_slice(), u64::from(offset), far),
+            Some(unordered) => to_next(unordered.starts.as_slice(), u64::from(offset), far),
         }
     }
 
     /// About how many bytes of memory they take, at most.
     pub fn memory_size(&self) -> u64 {
-        let pieces = match &self.pieces {
+        let unordered = match &self.unordered {
             None => 0,
-            Some(_) => PIECES_OF_SPAN,
+            Some(_) => PIECES_OF_SPAN + size_of::<u32>(),
         };
-        memory_of(self.rows.len(), size_of::<LineRow>() + pieces)
+        memory_of(self.rows.len(), size_of::<LineRow>() + unordered)
     }
 }
