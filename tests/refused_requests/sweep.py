@@ -71,8 +71,8 @@ class Row:
             word, _, rest = line.partition(" ")
             if word == "case":
                 self.name, self.database = rest.split()
-            elif word == "sizes":
-                self.range = rest.split()
+            elif word in ("sizes", "by-file"):
+                self.range, self.flags = rest.split(), ["--by-file"] * (word == "by-file")
             elif word == "status":
                 self.status = int(rest)
             elif word in ("prefixes", "numbers", "bytes"):
@@ -116,7 +116,7 @@ def recorded_texts():
     with open(f"{DATA}/texts.txt", encoding="ascii") as lines:
         for line in lines:
             words, _, answer = line.rstrip("\n").partition(" => ")
-            if not answer or words.startswith(("#", "all_again", "each_again", "prefixes")):
+            if not answer or words.startswith(("#", "all_again", "each_again", "file_run_again", "prefixes")):
                 continue
             word, database, module, flags, index = words.split()
             kind = "formatter" if word in ("function", "unnamed", "id", "size") else "context"
@@ -189,10 +189,10 @@ def reports(folder):
     """The program on the recorded rows, and on words that ask for no report."""
     for row in rows():
         path = row.file(folder)
-        case = Report(row.name, ["sizes", path, *row.range] if row.range else ["frames", path])
+        case = Report(row.name, ["sizes", *row.flags, path, *row.range] if row.range else ["frames", path])
         case.given, case.wanted = row.given, (row.status, row.output, row.errors)
         yield case
-    for words in ("", "help", "help sizes", "frames --help", "frames", "sizes F 10 zz", "frame F", "frames F --hlep"):
+    for words in ("", "help", "help sizes", "frames --help", "frames", "sizes F 10 zz", "sizes --by-file F 10 zz", "frame F", "frames F --hlep"):
         yield Report(f"words {words}".strip(), words.split())
 
 
@@ -222,7 +222,8 @@ def asked(folder):
         answers = texts[row.database, "23", "context"]
         for address in row.addresses():
             offset = f"{max(int(address, 16) - 0x1000, 0):x}"
-            for question in (f"frames_at 0 {address}", f"function_at 0 {address}", f"run_from 0 {offset}", "functions 0 0"):
+            places = f"frames_at 0 {address}", f"function_at 0 {address}", f"run_from 0 {offset}", f"file_run_from 0 {offset}"
+            for question in (*places, "functions 0 0"):
                 answers.setdefault(question, None)
     for (database, flags, kind), answers in texts.items():
         path = database_of(database, folder)

@@ -4,6 +4,7 @@
 //! - `function_at`: the function at an RVA, as its copy
 //! - `run_from`: the function at an offset of section 1, over how many bytes up to 256 it stays the same, and how many places
 //!   were looked up for that
+//! - `file_run_from`: the same of the function's source file
 //! - `functions`: how many entries the public list has, and all functions
 
 use crate::question::{Question, begin, end, is_refusal, print_answer, question_of, shown};
@@ -69,6 +70,7 @@ fn ask<P: ModuleProvider>(
         "shared_at" => shared_text(alloc, context, question.index),
         "function_at" => function_text(alloc, context, question.index),
         "run_from" => run_text(alloc, context, question.index),
+        "file_run_from" => file_run_text(alloc, context, question.index),
         _ => functions_text(alloc, context),
     }
 }
@@ -116,6 +118,19 @@ fn run_text<P: ModuleProvider>(
     let before = context.lookups();
     let place = PdbInternalSectionOffset { offset, section: 1 };
     let run = context.find_function_run(alloc, place, 0x100)?;
+    let lookups = context.lookups().saturating_sub(before);
+    shown(alloc, &(run, lookups))
+}
+
+/// The source file at an offset of section 1, how far it goes on, and how many places were looked up.
+fn file_run_text<P: ModuleProvider>(
+    alloc: Global,
+    context: &mut Context<'_, '_, P>,
+    offset: u32,
+) -> Result<String, Error> {
+    let before = context.lookups();
+    let place = PdbInternalSectionOffset { offset, section: 1 };
+    let run = context.find_file_run(alloc, place, 0x100)?;
     let lookups = context.lookups().saturating_sub(before);
     shown(alloc, &(run, lookups))
 }

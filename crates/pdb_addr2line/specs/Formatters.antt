@@ -15,7 +15,12 @@ use Rattle.pdb_context.specs.Context.{Context, context_over}
 -- what types and ids are read from: what is held gives the modules, by the entries in stream 3
 abbrev pub reading_of : Held → Reading (List KeptInfo)
 reading_of h = record {
-  modules = record { provider = h.infos; entries = (modules_of h.debug_information.modules).items; names = h.names; failed = none_failed };
+  modules = record {
+    provider = h.infos;
+    entries = (modules_of h.debug_information.modules).items;
+    names = h.names;
+    failed = none_failed;
+  };
   types = h.tables.types;
   ids = h.tables.ids;
   pointer_size = pointer_bytes (machine_of h.debug_information.machine);
@@ -27,7 +32,9 @@ formatting_of h flags = record { reading = reading_of h; flags = flags }
 
 -- what every question of a context goes over
 abbrev pub parts_in : Held → Result Parts Fault
-parts_in h = parts_of h.tables.map.image h.tables.map h.tables.symbol_records h.debug_information.contributions h.names
+parts_in h =
+    parts_of h.tables.map.image h.tables.map h.tables.symbol_records
+    h.debug_information.contributions h.names
 
 -- a context over what is held, whose formatter has these flags
 abbrev pub context_in : Held → ℕ → Result (Context (List KeptInfo)) Fault

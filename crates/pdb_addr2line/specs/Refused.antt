@@ -7,16 +7,19 @@ use Rattle.pdb_resolving.specs.declared.error.Error.TheVariants as errors
 
 -- A source may fail: some state of it with the same bytes has counted more failures.
 abbrev pub CanFail : {S : Type 0} → (S → List ℕ) → (S → ℕ) → S → Type 0
-CanFail {S} bytes failures before = (after : S) × (bytes after ≡ bytes before) × HasRisen (failures before) (failures after)
+CanFail {S} bytes failures before =
+    (after : S) × (bytes after ≡ bytes before) × HasRisen (failures before) (failures after)
 
--- Memory was short, the source failed, or reading has that fault. Want of memory never comes as the container's.
+-- Memory was short, the source failed, or reading has that fault. Out of memory never comes as the
+-- container's.
 abbrev pub Refuses : {Y : Type 0} → Type 0 → Error → Result Y Fault → Type 0
 Refuses failed errors.OutOfMemory read = Unit {0}
 Refuses failed (errors.PdbError causes.OutOfMemory) read = ⊥
 Refuses failed (errors.PdbError e) read = IsOutside e failed ⊎ (read ≡ Err (fault_of e))
 Refuses failed e read = ⊥
 
--- What a call returned, seen by view, is what reading gives, unless it was refused for what is outside.
+-- What a call returned, seen by view, is what reading gives, unless it was refused for what is
+-- outside.
 abbrev pub Loads : {X Y : Type 0} → (X → Y) → Type 0 → Result X Error → Result Y Fault → Type 0
 Loads view failed (Ok x) read = read ≡ Ok (view x)
 Loads view failed (Err e) read = Refuses failed e read

@@ -1,6 +1,8 @@
-//! What is held of a program database, and the formatters of types and contexts that are made of it.
+//! What is held of a program database, and the formatters of types and contexts that are made of
+//! it.
 //!
-//! A database is read once ([`ContextPdbData`]); contexts and formatters are made of what is held then:
+//! A database is read once ([`ContextPdbData`]); contexts and formatters are made of what is held
+//! then:
 //!
 //! ```text
 //! let pdb = PDB::open(alloc, bytes)?;
@@ -13,18 +15,25 @@
 //! let text = formatter.format_function(alloc, "f", 0, TypeIndex(0x1007))?;
 //! ```
 //!
-//! `Symbolizer` of `pdb_report` does the first half, and refuses a file whose address map is out of order.
+//! `Symbolizer` of `pdb_report` does the first half, and refuses a file whose address map is out of
+//! order.
 //!
 //! | to | call |
 //! |---|---|
-//! | read what is asked of a database | [`ContextPdbData::try_from_pdb`], `try_from_pdb_ref`; in two halves [`read_tables`], `try_from_tables` |
-//! | make a context | `make_context`, or with flags in place of the default ones `make_context_with_formatter_flags` |
-//! | ask for the frames at an address | [`Context::find_frames`]; [`Context::find_shared_frames`], which copies no name |
+//! | read what is asked of a database | [`ContextPdbData::try_from_pdb`], `try_from_pdb_ref` |
+//! | read it in two halves | [`read_tables`], `try_from_tables` |
+//! | make a context | `make_context` |
+//! | make one with flags in place of the default ones | `make_context_with_formatter_flags` |
+//! | ask for the frames at an address | [`Context::find_frames`] |
+//! | ask for them without copies of names | [`Context::find_shared_frames`] |
 //! | ask for the function at an address | [`Context::find_function`] |
 //! | go over all functions | [`Context::functions`] |
-//! | ask how far one answer goes | [`Context::find_function_run`] |
+//! | ask how far one function goes | [`Context::find_function_run`] |
+//! | ask for the source file of a function, and how far it goes | [`Context::find_file_run`] |
 //! | make a formatter | `make_type_formatter`, `make_type_formatter_with_flags` |
-//! | have the text of a function, of an inlined function's id | [`TypeFormatter::format_function`], `format_id`; `emit_function`, `emit_id` into a writer |
+//! | have the text of a function | [`TypeFormatter::format_function`] |
+//! | have the text of an inlined function's id | `format_id` |
+//! | write these texts | `emit_function`, `emit_id` |
 //! | have the size of a type | [`TypeFormatter::get_type_size`] |
 //! | read the database itself | [`pdb`] |
 #![tactic(auto)]
@@ -33,8 +42,9 @@ pub mod pdb;
 mod pdb_data;
 
 pub use pdb_context::{
-    Context, Frame, FrameRow, Function, FunctionFrames, FunctionIter, ModuleSectionContribution,
-    SharedFrame, SharedFunctionFrames, TextWriter, TypeFormatter, maybe_owned,
+    Context, FileAnswer, Frame, FrameRow, Function, FunctionFrames, FunctionIter,
+    ModuleSectionContribution, SharedFrame, SharedFunctionFrames, TextWriter, TypeFormatter,
+    maybe_owned,
 };
 pub use pdb_data::ContextPdbData;
 pub use pdb_loading::{KeptModules, Tables, read_tables};

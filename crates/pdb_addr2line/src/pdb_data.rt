@@ -26,8 +26,9 @@ use pdb_text_pieces::TypeFormatterFlags;
 use std::alloc::Global;
 use std::marker::{Model, PhantomData};
 
-/// What formatters and contexts are made of: everything of a program database that they go over, read once and owned. `'p` is
-/// how long the database itself may be borrowed elsewhere; nothing is read of it any more.
+/// What formatters and contexts are made of: everything of a program database that they go over,
+/// read once and owned. `'p` is how long the database itself may be borrowed elsewhere; nothing is
+/// read of it any more.
 pub struct ContextPdbData<'p, 's, S: Source> {
     debug_information: DebugInformation<'s>,
     tables: Tables<'s>,
@@ -43,7 +44,8 @@ impl<'p, 's, S: Source> Model for ContextPdbData<'p, 's, S> {
 
     ghost Value = { held.Held };
 
-    ghost view = { λ d. record { debug_information = d.debug_information; tables = d.tables; names = d.names; infos = d.modules } };
+    ghost view = { λ d. record { debug_information = d.debug_information; tables = d.tables;
+        names = d.names; infos = d.modules } };
 
     ghost invariant = { λ d. (modules_of d.debug_information.modules).fault ≡ None };
 }
@@ -64,15 +66,18 @@ impl<'p, 's, S: Source> Drop for ContextPdbData<'p, 's, S> {
     }
 }
 
-/// Reads a database: stream 3, what stands behind it, and the module list, whose first fault is the answer; then the modules'
-/// own streams and the names.
+/// Reads a database: stream 3, what comes after it, and the module list, whose first fault is the
+/// answer; then the modules' own streams and the names.
 #[tactic(auto, using(pdb_container::proofs::Outside::outside_alone, pdb_container::proofs::Outside::outside_earlier, pdb_container::proofs::Outside::outside_later), unfolding(pdb_loading::specs::Loading::loaded))]
 fn load<'p, 's, S: Source + Drop>(
     alloc: Global,
     pdb: &mut PDB<'s, S>,
 ) -> Result<ContextPdbData<'p, 's, S>>
-    ensures loads { AnswersFrom S.bytes S.failures pdb.old pdb.new loaded_in result (loaded (shared (streams (S.bytes pdb.old)))) }
-    ensures own { IfOk result (λ d. IsOwn (streams (S.bytes pdb.old)) (HasRisen (S.failures pdb.old) (S.failures pdb.new)) d) }
+    ensures loads { AnswersFrom S.bytes S.failures pdb.old pdb.new loaded_in result
+        (loaded (shared (streams (S.bytes pdb.old)))) }
+    ensures own { IfOk result
+        (λ d. IsOwn (streams (S.bytes pdb.old)) (HasRisen (S.failures pdb.old) (S.failures pdb.new))
+        d) }
 {
     let debug_information = pdb.debug_information(alloc)?;
     let tables = read_tables(pdb, alloc, &debug_information)?;
@@ -80,12 +85,13 @@ fn load<'p, 's, S: Source + Drop>(
 }
 
 impl<'p, 's, S: Source + Drop> ContextPdbData<'p, 's, S> {
-    /// Reads the rest of what formatters and contexts need, behind stream 3 and what [`read_tables`] read: the module list, the
-    /// modules' own streams and the names table. With these two calls a fault of one's own can be answered between them.
+    /// Reads the rest of what formatters and contexts need, after stream 3 and what
+    /// [`read_tables`] read: the module list, the modules' own streams and the names table. With
+    /// these two calls a fault of one's own can be answered between them.
     ///
     /// # Errors
-    /// `UnexpectedEof` of the module list; `OutOfMemory`. The names table and the modules' own streams are missing where they
-    /// can't be read.
+    /// `UnexpectedEof` of the module list; `OutOfMemory`. The names table and the modules' own
+    /// streams are missing where they can't be read.
     #[tactic(auto, using(pdb_container::proofs::Outside::outside_alone, pdb_container::proofs::Outside::outside_earlier, pdb_container::proofs::Outside::outside_later, pdb_loading::proofs::HeldSteps::list_ends, pdb_loading::proofs::HeldSteps::own_held))]
     pub fn try_from_tables(
         alloc: Global,
@@ -94,8 +100,11 @@ impl<'p, 's, S: Source + Drop> ContextPdbData<'p, 's, S> {
         tables: Tables<'s>,
     ) -> Result<ContextPdbData<'p, 's, S>>
         requires { read_dbi (shared (streams (S.bytes pdb.old))) ≡ Ok debug_information }
-        ensures loads { AnswersFrom S.bytes S.failures pdb.old pdb.new loaded_in result (loaded_behind debug_information.entry tables.entry) }
-        ensures own { IfOk result (λ d. IsOwn (streams (S.bytes pdb.old)) (HasRisen (S.failures pdb.old) (S.failures pdb.new)) d) }
+        ensures loads { AnswersFrom S.bytes S.failures pdb.old pdb.new loaded_in result
+            (loaded_behind debug_information.entry tables.entry) }
+        ensures own { IfOk result
+            (λ d. IsOwn (streams (S.bytes pdb.old))
+            (HasRisen (S.failures pdb.old) (S.failures pdb.new)) d) }
     {
         let module_infos = read_module_infos(pdb, alloc, &debug_information)?;
         let names = read_names(pdb, alloc)?;
@@ -111,22 +120,25 @@ impl<'p, 's, S: Source + Drop> ContextPdbData<'p, 's, S> {
     /// Reads what formatters and contexts need of a database that is open, and lets go of it.
     ///
     /// # Errors
-    /// The first fault in this order, as `PdbError`: stream 3 and its header; the symbol records' stream; types and ids with
-    /// their headers; the optional header, section headers, those before the image's code was moved, and, where these exist,
-    /// the map to them and the map back; the module list. `OutOfMemory`. The names table and the modules' own streams are
-    /// missing where they can't be read.
+    /// The first fault in this order, as `PdbError`: stream 3 and its header; the symbol records'
+    /// stream; types and ids with their headers; the optional header, section headers, those before
+    /// the image's code was moved, and, where these exist, the map to them and the map back; the
+    /// module list. `OutOfMemory`. The names table and the modules' own streams are missing where
+    /// they can't be read.
     #[tactic(auto, using(crate::proofs::Refusals::refused_once, crate::proofs::Refusals::own_if_loaded))]
     pub fn try_from_pdb(
         alloc: Global,
         mut pdb: PDB<'s, S>,
     ) -> std::result::Result<ContextPdbData<'p, 's, S>, Error>
-        ensures loads { Loads loaded_in (CanFail S.bytes S.failures pdb.entry) result (loaded (shared (streams (S.bytes pdb.entry)))) }
-        ensures own { IfOk result (λ d. IsOwn (streams (S.bytes pdb.entry)) (CanFail S.bytes S.failures pdb.entry) d) }
+        ensures loads { Loads loaded_in (CanFail S.bytes S.failures pdb.entry) result
+            (loaded (shared (streams (S.bytes pdb.entry)))) }
+        ensures own { IfOk result
+            (λ d. IsOwn (streams (S.bytes pdb.entry)) (CanFail S.bytes S.failures pdb.entry) d) }
     {
         ContextPdbData::try_from_pdb_ref(alloc, &mut pdb)
     }
 
-    /// The same of a database that someone else owns. It answers the same questions afterwards as before.
+    /// Reads a database that someone else owns. It answers the same questions afterwards as before.
     ///
     /// # Errors
     /// As [`ContextPdbData::try_from_pdb`].
@@ -137,8 +149,11 @@ impl<'p, 's, S: Source + Drop> ContextPdbData<'p, 's, S> {
     ) -> std::result::Result<ContextPdbData<'p, 's, S>, Error>
         ensures same { S.bytes pdb.new ≡ S.bytes pdb.old }
         ensures counts { S.failures pdb.old ≤ S.failures pdb.new }
-        ensures loads { Loads loaded_in (HasRisen (S.failures pdb.old) (S.failures pdb.new)) result (loaded (shared (streams (S.bytes pdb.old)))) }
-        ensures own { IfOk result (λ d. IsOwn (streams (S.bytes pdb.old)) (HasRisen (S.failures pdb.old) (S.failures pdb.new)) d) }
+        ensures loads { Loads loaded_in (HasRisen (S.failures pdb.old) (S.failures pdb.new)) result
+            (loaded (shared (streams (S.bytes pdb.old)))) }
+        ensures own { IfOk result
+            (λ d. IsOwn (streams (S.bytes pdb.old))
+            (HasRisen (S.failures pdb.old) (S.failures pdb.new)) d) }
     {
         match load(alloc, pdb) {
             Ok(data) => Ok(data),
@@ -148,7 +163,8 @@ impl<'p, 's, S: Source + Drop> ContextPdbData<'p, 's, S> {
 }
 
 impl<'p, 's, S: Source> ContextPdbData<'p, 's, S> {
-    /// The ways between RVAs and places in sections; whether the sources of its OMAPs decrease is asked there.
+    /// The address map, between RVAs and places in sections; whether the sources of its OMAPs
+    /// decrease is asked there.
     pub fn address_map(&self) -> &AddressMap<'s>
         ensures { result.now ≡ self.now.tables.map }
     {
@@ -196,7 +212,8 @@ impl<'p, 's, S: Source> ContextPdbData<'p, 's, S> {
         Ok(formatter)
     }
 
-    /// A context over what was read, whose formatter has the default flags. The sources of the OMAPs may not decrease.
+    /// A context over what was read, whose formatter has the default flags. The sources of the
+    /// OMAPs may not decrease.
     ///
     /// # Errors
     /// As [`Context::new_from_parts`].
@@ -210,7 +227,8 @@ impl<'p, 's, S: Source> ContextPdbData<'p, 's, S> {
         self.make_context_with_formatter_flags(alloc, TypeFormatterFlags::default())
     }
 
-    /// A context over what was read, whose formatter has these flags. The sources of the OMAPs may not decrease.
+    /// A context over what was read, whose formatter has these flags. The sources of the OMAPs may
+    /// not decrease.
     ///
     /// # Errors
     /// As [`Context::new_from_parts`].
@@ -235,8 +253,8 @@ impl<'p, 's, S: Source> ContextPdbData<'p, 's, S> {
         )
     }
 
-    /// Whether a context can be made: `Ok`, or the fault that [`ContextPdbData::make_context`] has. The sources of the OMAPs may
-    /// not decrease.
+    /// Whether a context can be made: `Ok`, or the fault that [`ContextPdbData::make_context`] has.
+    /// The sources of the OMAPs may not decrease.
     ///
     /// # Errors
     /// As [`Context::new_from_parts`].

@@ -1,8 +1,10 @@
 -- The arguments of the program, and what they ask for.
 use Rattle.std.specs.Prelude.{◌≡◌, ◌≢◌, ◌⊎◌, ⊤, ℕ, true, List, [], Option, Some, None, codes}
-use Rattle.std.specs.Prelude.{string_bytes, option_and_then}
+use Rattle.std.specs.Prelude.{Bool, false, bytes_eq, string_bytes, option_and_then}
+use Rattle.std.specs.Option.{option_map_or}
 use Rattle.clap.specs.Words.{App, IsAmong, Row, Rule, Text, fault_of, first_of, new_app, new_rule}
 use Rattle.clap.specs.Words.{subcommand_of, with_rule, with_subcommand}
+use Rattle.clap.specs.declared.builder.action.ArgAction.TheVariants.{SetTrue}
 use Rattle.clap.specs.declared.error.kind.ErrorKind.{ErrorKind}
 use Rattle.clap.specs.declared.error.kind.ErrorKind.TheVariants as kinds
 use Rattle.pdb_engine.specs.Address.{address_of}
@@ -15,15 +17,19 @@ use Rattle.pdb_arguments.specs.declared.task.WordsFault.TheVariants as faults
 abbrev pub needed : List ℕ → Rule
 needed name = record (new_rule name) { required = true }
 
+-- a flag with a long name of its own
+abbrev pub flagged : List ℕ → Rule
+flagged name = record (new_rule name) { long = Some name; action = Some SetTrue }
+
 -- `frames FILE`
 abbrev pub frames_app : App
 frames_app = with_rule (new_app (codes "frames")) (needed (codes "FILE"))
 
--- `sizes FILE START END`
+-- `sizes FILE START END`, with the flag `--by-file`
 abbrev pub sizes_app : App
 sizes_app =
-    with_rule (with_rule (with_rule (new_app (codes "sizes")) (needed (codes "FILE")))
-    (needed (codes "START"))) (needed (codes "END"))
+    with_rule (with_rule (with_rule (with_rule (new_app (codes "sizes")) (needed (codes "FILE")))
+    (needed (codes "START"))) (needed (codes "END"))) (flagged (codes "by-file"))
 
 -- a subcommand is required, no argument is the program's name, and there is a version to ask for
 abbrev pub bare_app : App
@@ -51,15 +57,21 @@ entered_by words = subcommand_of program_app words
 abbrev pub address_at : Text → List Row → Option ℕ
 address_at name rows = option_and_then address_of (first_of name rows)
 
--- the task has the subcommand's name, its FILE, and the addresses at START and END
+-- whether the flag of this name was given: its value is `true` then, and else `false`
+abbrev pub flag_at : Text → List Row → Bool
+flag_at name rows =
+    option_map_or (λ value. bytes_eq value (codes "true")) (first_of name rows) false
+
+-- the task has the subcommand's name, its FILE, the addresses at START and END, and the flag
 abbrev pub IsTask : Task → Option Entered → Type 0
 IsTask task None = ⊥
 IsTask (Frames file) (Some entered) = (entered.0 ≡ codes "frames")
     × (first_of (codes "FILE") entered.1 ≡ Some (string_bytes file))
-IsTask (Sizes file start end) (Some entered) =
+IsTask (Sizes file start end by_file) (Some entered) =
     (entered.0 ≡ codes "sizes") × (first_of (codes "FILE") entered.1 ≡ Some (string_bytes file))
     × (address_at (codes "START") entered.1 ≡ Some start)
     × (address_at (codes "END") entered.1 ≡ Some end)
+    × (by_file ≡ flag_at (codes "by-file") entered.1)
 
 -- `sizes` was entered, and START or END is no address
 abbrev pub LacksAddress : Option Entered → Type 0

@@ -4,8 +4,9 @@ ghost use Rattle.std.specs.Prelude.{◌≡◌, IfOk, false};
 ghost use Rattle.clap.specs.Words.{app_of, new_app, rule_of, with_subcommand};
 ghost use Rattle.clap.specs.declared.builder.command.Command.TheViews.{out-Command as fields_of};
 ghost use Rattle.pdb_arguments.specs.Task.{program_app, frames_app, sizes_app, bare_app, needed};
+ghost use Rattle.pdb_arguments.specs.Task.{flagged};
 
-use clap::{Arg, Command};
+use clap::{Arg, ArgAction, Command};
 use std::alloc::{AllocError, Global};
 
 /// The program's version, as the file VERSION has it.
@@ -34,7 +35,7 @@ unreadable for what is damaged, and not an address for any other line.
 Example:
   echo 1018 | pdb_symbolizer frames program.pdb";
 
-const SIZES_ABOUT: &str = "Counts the addresses of a range that each function owns";
+const SIZES_ABOUT: &str = "Counts the addresses of a range that each function or source file owns";
 
 const SIZES_EXAMPLE: &str = "\
 Addresses are image-relative (RVAs), in hexadecimal, one to eight digits, with or without the
@@ -42,10 +43,17 @@ prefix 0x. For each function that owns some, one line is written: the address wh
 how many of the range are its own (in decimal), and its name. The last line is none and the count
 of those that no function owns.
 
-Example, the addresses 1000 to 1fff:
-  pdb_symbolizer sizes program.pdb 1000 2000";
+With --by-file one line is written for each source file: how many addresses are in functions of
+that file, and its path. Last come no file, none and unreadable, with the counts of the addresses
+whose function has no known file, of those without a function, and of those with damaged data.
+
+Examples, the addresses 1000 to 1fff:
+  pdb_symbolizer sizes program.pdb 1000 2000
+  pdb_symbolizer sizes --by-file program.pdb 1000 2000";
 
 const FILE_HELP: &str = "The program database: a .pdb file, in a big MSF container";
+
+const BY_FILE_HELP: &str = "Counts for each source file instead of each function";
 
 const START_HELP: &str = "The range's first address, in hexadecimal, such as 1000 or 0x1000";
 
@@ -58,6 +66,17 @@ fn needed_word<'a>(alloc: Global, name: &'a str, help: &'a str) -> Arg<'a>
     ensures local { result.global ≡ false }
 {
     Arg::new(alloc, name).required(true).help(help)
+}
+
+/// A flag, with its help.
+fn flag<'a>(alloc: Global, name: &'a str, help: &'a str) -> Arg<'a>
+    ensures rule { rule_of result ≡ flagged name.entry.now }
+    ensures local { result.global ≡ false }
+{
+    Arg::new(alloc, name)
+        .long(name)
+        .action(ArgAction::SetTrue)
+        .help(help)
 }
 
 /// A command of this name with its help, and no arguments yet.
@@ -78,7 +97,7 @@ fn frames_command<'a>(alloc: Global) -> Result<Command<'a>, AllocError>
     Ok(frames)
 }
 
-/// The command `sizes FILE START END`.
+/// The command `sizes FILE START END`, with the flag `--by-file`.
 fn sizes_command<'a>(alloc: Global) -> Result<Command<'a>, AllocError>
     ensures app { IfOk result (λ c. app_of c ≡ sizes_app) }
     ensures local { IfOk result (λ c. (fields_of c).has_globals ≡ false) }
@@ -87,7 +106,8 @@ fn sizes_command<'a>(alloc: Global) -> Result<Command<'a>, AllocError>
     let with_file = bare.arg(needed_word(alloc, "FILE", FILE_HELP))?;
     let with_start = with_file.arg(needed_word(alloc, "START", START_HELP))?;
     let with_end = with_start.arg(needed_word(alloc, "END", END_HELP))?;
-    Ok(with_end)
+    let with_flag = with_end.arg(flag(alloc, "by-file", BY_FILE_HELP))?;
+    Ok(with_flag)
 }
 
 /// The program's command, which requires a subcommand and has none yet. Its name appears in the

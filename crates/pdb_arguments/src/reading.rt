@@ -4,7 +4,7 @@ ghost use Rattle.std.specs.Prelude.{◌≡◌, ◌↔◌, Some, IfErr, IfOk, map
 ghost use Rattle.std.specs.Prelude.{option_map};
 ghost use Rattle.clap.specs.Words.{first_of, found_of, kind_of, rows_of, subcommand_rows_of};
 ghost use Rattle.pdb_arguments.specs.Task.{IsFaultOf, IsOfTask, IsTaken, IsTask, IsToldOf};
-ghost use Rattle.pdb_arguments.specs.Task.{IsToldOfEntered, address_at, entered_by};
+ghost use Rattle.pdb_arguments.specs.Task.{IsToldOfEntered, address_at, entered_by, flag_at};
 
 use crate::command::program;
 use crate::task::{Task, WordsFault};
@@ -48,6 +48,16 @@ fn address_in(matches: &ArgMatches<'_>, name: &str) -> Option<u32>
     }
 }
 
+/// Whether the flag of a name was given.
+fn is_set(matches: &ArgMatches<'_>, name: &str) -> bool
+    ensures { result ≡ flag_at name.now (rows_of (found_of matches.now)) }
+{
+    match value_at(matches, name) {
+        Some(value) => value == "true",
+        None => false,
+    }
+}
+
 /// The task of a subcommand of this name with these values.
 ///
 /// # Errors
@@ -74,7 +84,13 @@ fn task_in(alloc: Global, name: &str, matches: &ArgMatches<'_>) -> Result<Task, 
     let Some(end) = address_in(matches, "END") else {
         return Err(WordsFault::NotAnAddress);
     };
-    Ok(Task::Sizes { file, start, end })
+    let by_file = is_set(matches, "by-file");
+    Ok(Task::Sizes {
+        file,
+        start,
+        end,
+        by_file,
+    })
 }
 
 /// The task of what the arguments entered.

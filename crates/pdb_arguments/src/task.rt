@@ -11,7 +11,7 @@ pub enum Task {
         /// The program database's file.
         file: String,
     },
-    /// Counts the addresses that each function owns in a range.
+    /// Counts the addresses that each function or source file owns in a range.
     Sizes {
         /// The program database's file.
         file: String,
@@ -19,6 +19,8 @@ pub enum Task {
         start: u32,
         /// The address after the range's last.
         end: u32,
+        /// Whether files are counted in place of functions.
+        by_file: bool,
     },
 }
 

@@ -10,8 +10,8 @@ use Rattle.pdb_answers.specs.Choice.{Parts}
 use Rattle.pdb_answers.specs.Scopes.{Scope, scope_of}
 use Rattle.pdb_answers.specs.Failed.{Failures, no_failures}
 
--- what gives modules, what every question goes over, what names are made of, how many places were looked up, and which parts of
--- modules stand as failed
+-- what gives modules, what every question goes over, what names are made of, how many places were
+-- looked up, and which parts of modules stand as failed
 pub record Context (P : Type 0) : Type 0 where
   pub provider : P
   pub parts : Parts
@@ -21,13 +21,26 @@ pub record Context (P : Type 0) : Type 0 where
 
 -- all of a context but its count: what its answers depend on
 abbrev pub uncounted : {P : Type 0} → Context P → Context P
-uncounted c = record { provider = c.provider; parts = c.parts; formatting = c.formatting; lookups = 0; failed = c.failed }
+uncounted c = record {
+  provider = c.provider;
+  parts = c.parts;
+  formatting = c.formatting;
+  lookups = 0;
+  failed = c.failed;
+}
 
 -- what no question changes: all of a context but its count and what stands as failed
 abbrev pub lasting : {P : Type 0} → Context P → Context P
-lasting c = record { provider = c.provider; parts = c.parts; formatting = c.formatting; lookups = 0; failed = no_failures }
+lasting c = record {
+  provider = c.provider;
+  parts = c.parts;
+  formatting = c.formatting;
+  lookups = 0;
+  failed = no_failures;
+}
 
--- the count behind a question: one more where there was a place to look up, unless memory ran short; it stays at 2^64 - 1
+-- the count after a question: one more where there was a place to look up, unless memory ran
+-- short; it stays at 2^64 - 1
 abbrev pub lookups_after : {A : Type 0} → Bool → Result A Error → ℕ → ℕ
 lookups_after placed (Err errors.OutOfMemory) lookups = lookups
 lookups_after placed r lookups = if placed then min (lookups + 1) (2 ^ 64 - 1) else lookups
@@ -37,5 +50,12 @@ abbrev pub scope_in : {P : Type 0} → (P → Provided) → Context P → ℕ �
 scope_in provided c m = scope_of provided c.provider c.formatting m
 
 -- a context over parts that were read, before any question
-abbrev pub context_over : {P : Type 0} → P → Formatting P → Result Parts Fault → Result (Context P) Fault
-context_over provider formatting parts = parts >>= λ p. Ok record { provider = provider; parts = p; formatting = formatting; lookups = 0; failed = no_failures }
+abbrev pub context_over : {P : Type 0} → P → Formatting P → Result Parts Fault
+    → Result (Context P) Fault
+context_over provider formatting parts = parts >>= λ p. Ok record {
+  provider = provider;
+  parts = p;
+  formatting = formatting;
+  lookups = 0;
+  failed = no_failures;
+}

@@ -1,5 +1,6 @@
 -- The functions of a file in the order of their addresses.
-use Rattle.std.specs.Prelude.{◌≡◌, ℕ, ◌+◌, ◌-◌, ◌^◌, ◌≤◌, min, List, [], ◌∷◌, length, Option, None, Some, Result, Ok, Err}
+use Rattle.std.specs.Prelude.{◌≡◌, ℕ, ◌+◌, ◌-◌, ◌^◌, ◌≤◌, min, List, [], ◌∷◌, length, Option, None}
+use Rattle.std.specs.Prelude.{Some, Result, Ok, Err}
 use Rattle.std.specs.Borrow.{MutBor}
 use Rattle.std.specs.List.{flat_map}
 use Rattle.pdb_symbols_modules.specs.Modules.{Module}
@@ -16,25 +17,32 @@ use Rattle.pdb_context.specs.Starts.{if_any, start_addresses, IsAscending}
 abbrev pub functions_at : Parts → (ℕ → Scope) → List ℕ → List Function
 functions_at p scope addresses = flat_map (λ a. if_any (function p scope a)) addresses
 
--- These are the functions of the distinct image addresses at which a public entry or a procedure begins, in ascending order, of
--- those addresses that have one.
+-- These are the functions of the distinct image addresses at which a public entry or a procedure
+-- begins, in ascending order, of those addresses that have one.
 abbrev pub AreFunctions : Parts → (ℕ → Scope) → List Module → List Function → Type 0
-AreFunctions p scope entries functions = (starts : List ℕ) × IsAscending (start_addresses p scope entries) starts × (functions ≡ functions_at p scope starts)
+AreFunctions p scope entries functions =
+    (starts : List ℕ) × IsAscending (start_addresses p scope entries) starts
+    × (functions ≡ functions_at p scope starts)
 
--- what an iterator of functions has still to give: the functions at addresses, and how many addresses these are
+-- what an iterator of functions has still to give: the functions at addresses, and how many
+-- addresses these are
 pub record FunctionsLeft : Type 0 where
   pub functions : List Function
   pub addresses : ℕ
 
 -- what is left at addresses
 abbrev pub functions_left : Parts → (ℕ → Scope) → List ℕ → FunctionsLeft
-functions_left p scope addresses = record { functions = functions_at p scope addresses; addresses = length addresses }
+functions_left p scope addresses = record {
+  functions = functions_at p scope addresses;
+  addresses = length addresses;
+}
 
 -- nothing is left
 abbrev pub none_left : FunctionsLeft
 none_left = record { functions = []; addresses = 0 }
 
--- One item: the first of the functions that were left, or out of memory, after which nothing is left; at the end nothing was.
+-- One item: the first of the functions that were left, or out of memory, after which nothing is
+-- left; at the end nothing was.
 abbrev pub GivesFunction : FunctionsLeft → Option (Result Function Error) → FunctionsLeft → Type 0
 GivesFunction old None new = (old.functions ≡ []) × (new ≡ none_left)
 GivesFunction old (Some (Ok f)) new = old.functions ≡ f ∷ new.functions

@@ -1,8 +1,10 @@
 pub mod Context
+pub mod FileRuns
 pub mod FunctionList
 pub mod Starts
 pub use Rattle.pdb_answers.specs.Choice
 pub use Rattle.pdb_answers.specs.Failed
+pub use Rattle.pdb_answers.specs.Files
 pub use Rattle.pdb_answers.specs.Frames
 pub use Rattle.pdb_answers.specs.Keys
 pub use Rattle.pdb_answers.specs.Parts

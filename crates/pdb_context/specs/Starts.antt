@@ -22,11 +22,15 @@ addresses_of map places = flat_map (λ p. if_any (outer_of_place map p.section p
 -- where the procedures of modules begin, from the module of a number on
 abbrev pub procedure_starts_from : (ℕ → Scope) → ℕ → List Module → List PdbInternalSectionOffset
 procedure_starts_from scope number [] = []
-procedure_starts_from scope number (entry ∷ entries) = map (λ q. q.offset) (procedures_in (module_data (scope number).own)) ++ procedure_starts_from scope (number + 1) entries
+procedure_starts_from scope number (entry ∷ entries) =
+    map (λ q. q.offset) (procedures_in (module_data (scope number).own))
+    ++ procedure_starts_from scope (number + 1) entries
 
 -- where public entries and procedures begin, as image addresses
 abbrev pub start_addresses : Parts → (ℕ → Scope) → List Module → List ℕ
-start_addresses p scope entries = addresses_of p.map (map (λ f. f.start_offset) p.publics) ++ addresses_of p.map (procedure_starts_from scope 0 entries)
+start_addresses p scope entries =
+    addresses_of p.map (map (λ f. f.start_offset) p.publics)
+    ++ addresses_of p.map (procedure_starts_from scope 0 entries)
 
 -- a number is among others
 abbrev pub is_among : List ℕ → ℕ → Bool

@@ -6,7 +6,8 @@ ghost use Rattle.pdb_addresses.specs.Addresses.{IsOrdered};
 ghost use Rattle.pdb_resolving.specs.Fault.{Answers, Fault};
 ghost use Rattle.pdb_answers.specs.Choice.{held_at, place_of};
 ghost use Rattle.pdb_answers.specs.Parts.{parts_of};
-ghost use Rattle.pdb_context.specs.Context.{context_over, lasting, scope_in, uncounted, lookups_after};
+ghost use Rattle.pdb_context.specs.Context.{context_over, lasting, scope_in, uncounted};
+ghost use Rattle.pdb_context.specs.Context.{lookups_after};
 ghost use Rattle.pdb_answers.specs.Failed.{Failures as FailedParts, failed_after, told};
 ghost use Rattle.pdb_answers.specs.Failing.{Part, failing, failing_if_held};
 ghost use Rattle.pdb_answers.specs.Frames.{frames, frames_if_held, function};
@@ -30,16 +31,17 @@ use pdb_symbols_modules::DebugInformation;
 use std::alloc::Global;
 use std::marker::Model;
 
-/// A context: it answers what function and which frames an address of the image has. What was asked before shows in no answer.
+/// A context: it answers what function and which frames an address of the image has. What was asked
+/// before shows in no answer.
 pub struct Context<'a, 's, P: ModuleProvider> {
     pub(crate) provider: &'a P,
     pub(crate) parts: ContextParts<'a, 's>,
     pub(crate) namer: Namer<'a, 's, P>,
-    kept: CachedModules<'a, P::Info>,
+    pub(crate) kept: CachedModules<'a, P::Info>,
     pub(crate) starts: Option<Vec<u32>>,
     lookups: u64,
-    failed: Failures,
-    known_failures: KnownFailures,
+    pub(crate) failed: Failures,
+    pub(crate) known_failures: KnownFailures,
 }
 
 impl<'a, 's, P: ModuleProvider> Model for Context<'a, 's, P> {
@@ -53,11 +55,14 @@ impl<'a, 's, P: ModuleProvider> Model for Context<'a, 's, P> {
 
     ghost Value = { contexts.Context P };
 
-    ghost view = { λ c. record { provider = c.provider.now; parts = c.parts; formatting = c.namer; lookups = c.lookups; failed = c.failed } };
+    ghost view = { λ c. record { provider = c.provider.now; parts = c.parts; formatting = c.namer;
+        lookups = c.lookups; failed = c.failed } };
 
-    // What is kept of each module is its own, the starts that are kept are those of the file's functions, and what is known to fail does.
+    // What is kept of each module is its own, the starts that are kept are those of the file's
+    // functions, and what is known to fail does.
     ghost invariant = { λ c.
-        AreKept (λ n. module_data (own_of (P.provided c.provider.now) (entries_of c.namer) n)) c.kept
+        AreKept (λ n. module_data (own_of (P.provided c.provider.now) (entries_of c.namer) n))
+        c.kept
         × AreStarts
         (start_addresses
         c.parts (scope_of P.provided c.provider.now c.namer) (entries_of c.namer))
@@ -98,8 +103,10 @@ fn owned_frames<'a>(
     alloc: Global,
     found: Result<Option<SharedFunctionFrames<'a>>>,
 ) -> Result<Option<FunctionFrames<'a>>>
-    ensures failed { (part : Option Part) (f : FailedParts) → failed_after part result f ≡ failed_after part found.entry f }
-    ensures frames { (spec : Answer (Option FramesFound) Fault) → Answers (λ f. f) found.entry spec → Answers (λ f. f) result spec }
+    ensures failed { (part : Option Part) (f : FailedParts)
+        → failed_after part result f ≡ failed_after part found.entry f }
+    ensures frames { (spec : Answer (Option FramesFound) Fault) → Answers (λ f. f) found.entry spec
+        → Answers (λ f. f) result spec }
 {
     match found? {
         None => Ok(None),
@@ -111,14 +118,14 @@ fn owned_frames<'a>(
 }
 
 impl<'a, 's, P: ModuleProvider> Context<'a, 's, P> {
-    /// A context over what gives the modules, the sections of the image, the ways between addresses, the symbol records, the
-    /// string table (`/names`), the DBI stream, and a formatter of types. The sources of the OMAPs may not decrease
-    /// ([`AddressMap::is_ordered`] tells).
+    /// A context over what gives the modules, the sections of the image, the address map, the
+    /// symbol records, the string table (`/names`), the DBI stream, and a formatter of types. The
+    /// sources of the OMAPs may not decrease ([`AddressMap::is_ordered`]).
     ///
     /// # Errors
-    /// `SymbolTooShort` and `UnexpectedEof` of the symbol records, as `PdbError`; then the section contributions' faults:
-    /// `UnimplementedFeature` and `UnexpectedEof`, as `PdbError`, `UnorderedSectionContributions`,
-    /// `OverlappingSectionContributions`. `OutOfMemory`.
+    /// `SymbolTooShort` and `UnexpectedEof` of the symbol records, as `PdbError`; then the section
+    /// contributions' faults: `UnimplementedFeature` and `UnexpectedEof`, as `PdbError`,
+    /// `UnorderedSectionContributions`, `OverlappingSectionContributions`. `OutOfMemory`.
     pub fn new_from_parts(
         alloc: Global,
         provider: &'a P,
@@ -130,7 +137,10 @@ impl<'a, 's, P: ModuleProvider> Context<'a, 's, P> {
         type_formatter: MaybeOwned<'a, TypeFormatter<'a, 's, P>>,
     ) -> Result<Context<'a, 's, P>>
         requires { IsOrdered address_map.now }
-        ensures { Answers (λ c. c) result (context_over provider.now (value_of type_formatter.entry) (parts_of sections.now address_map.now global_symbols.now debug_info.now.contributions (option_map (λ t. t.now) string_table.entry))) }
+        ensures { Answers (λ c. c) result
+            (context_over provider.now (value_of type_formatter.entry)
+            (parts_of sections.now address_map.now global_symbols.now debug_info.now.contributions
+            (option_map (λ t. t.now) string_table.entry))) }
     {
         let parts = ContextParts::new(
             alloc,
@@ -161,8 +171,9 @@ impl<'a, 's, P: ModuleProvider> Context<'a, 's, P> {
         self.parts.publics.len()
     }
 
-    /// How many places were looked up: one for each question about an RVA that has a place, and for each run, that wasn't refused
-    /// for lack of memory; at `u64::MAX` it stays. How many [`Context::functions`] adds no clause says.
+    /// How many places were looked up: one for each question about an RVA that has a place, and for
+    /// each run, that wasn't refused for lack of memory; at `u64::MAX` it stays. How many
+    /// [`Context::functions`] adds no clause says.
     pub fn lookups(&self) -> u64
         ensures { result ≡ self.now.lookups }
     {
@@ -170,7 +181,7 @@ impl<'a, 's, P: ModuleProvider> Context<'a, 's, P> {
     }
 
     /// Counts a place that was looked up, unless memory ran short.
-    fn counted<T>(&mut self, answer: Result<T>) -> Result<T>
+    pub(crate) fn counted<T>(&mut self, answer: Result<T>) -> Result<T>
         ensures answer { result ≡ answer }
         ensures same { uncounted self.new ≡ uncounted self.old }
         ensures lookups { self.new.lookups ≡ lookups_after true answer self.old.lookups }
@@ -192,8 +203,16 @@ impl<'a, 's, P: ModuleProvider> Context<'a, 's, P> {
     ) -> Result<Option<SharedFunctionFrames<'a>>>
         ensures same { lasting self.new ≡ lasting self.old }
         ensures lookups { self.new.lookups ≡ self.old.lookups }
-        ensures failed { self.new.failed ≡ failed_after (failing_if_held self.old.parts (scope_in P.provided self.old) (held_at self.old.parts (Some place))) result self.old.failed }
-        ensures frames { Answers (λ f. f) result (told self.old.failed (failing_if_held self.old.parts (scope_in P.provided self.old) (held_at self.old.parts (Some place))) (frames_if_held self.old.parts (scope_in P.provided self.old) (held_at self.old.parts (Some place)))) }
+        ensures failed { self.new.failed
+            ≡ failed_after
+            (failing_if_held self.old.parts (scope_in P.provided self.old)
+            (held_at self.old.parts (Some place))) result self.old.failed }
+        ensures frames { Answers (λ f. f) result
+            (told self.old.failed
+            (failing_if_held self.old.parts (scope_in P.provided self.old)
+            (held_at self.old.parts (Some place)))
+            (frames_if_held self.old.parts (scope_in P.provided self.old)
+            (held_at self.old.parts (Some place)))) }
     {
         frames_here(
             alloc,
@@ -207,20 +226,27 @@ impl<'a, 's, P: ModuleProvider> Context<'a, 's, P> {
         )
     }
 
-    /// The frames at an RVA: the inlined calls over it, innermost first, and then the function. `None` where there is no
-    /// function.
+    /// The frames at an RVA: the inlined calls over it, innermost first, and then the function.
+    /// `None` where there is no function.
     ///
     /// # Errors
-    /// Where the module's data are there and a part of them can't be read, the first part's fault, in the order line program,
-    /// inlinees, rows of the function's `DEBUG_S_LINES`, inline sites: `PdbError`, `ProcedureInlineRangesUnsuccessful`. From then
-    /// on the part stands as failed, and its fault is `ExtendedModuleInfoUnsuccessful`, `ProcedureLinesUnsuccessful` or
-    /// `ProcedureInlineRangesUnsuccessful`. `OutOfMemory`, and then nothing stands as failed that did not before.
+    /// Where the module's data are there and a part of them can't be read, the first part's fault,
+    /// in the order line program, inlinees, rows of the function's `DEBUG_S_LINES`, inline sites:
+    /// `PdbError`, `ProcedureInlineRangesUnsuccessful`. From then on the part stands as failed, and
+    /// its fault is `ExtendedModuleInfoUnsuccessful`, `ProcedureLinesUnsuccessful` or
+    /// `ProcedureInlineRangesUnsuccessful`. `OutOfMemory`, and then nothing stands as failed that
+    /// did not before.
     #[tactic(auto, unfolding(pdb_frames::specs::Frames::frames))]
     pub fn find_frames(&mut self, alloc: Global, probe: u32) -> Result<Option<FunctionFrames<'a>>>
         ensures same { lasting self.new ≡ lasting self.old }
-        ensures failed { self.new.failed ≡ failed_after (failing self.old.parts (scope_in P.provided self.old) probe) result self.old.failed }
-        ensures lookups { self.new.lookups ≡ lookups_after (is_some (place_of self.old.parts probe)) result self.old.lookups }
-        ensures frames { Answers (λ f. f) result (told self.old.failed (failing self.old.parts (scope_in P.provided self.old) probe) (frames self.old.parts (scope_in P.provided self.old) probe)) }
+        ensures failed { self.new.failed
+            ≡ failed_after (failing self.old.parts (scope_in P.provided self.old) probe) result
+            self.old.failed }
+        ensures lookups { self.new.lookups
+            ≡ lookups_after (is_some (place_of self.old.parts probe)) result self.old.lookups }
+        ensures frames { Answers (λ f. f) result
+            (told self.old.failed (failing self.old.parts (scope_in P.provided self.old) probe)
+            (frames self.old.parts (scope_in P.provided self.old) probe)) }
     {
         let Some(place) = place_at(&self.parts, probe) else {
             return Ok(None);
@@ -230,7 +256,8 @@ impl<'a, 's, P: ModuleProvider> Context<'a, 's, P> {
         self.counted(frames)
     }
 
-    /// The same, with names that are shared with what the context keeps, so that none is copied.
+    /// The frames at an RVA as [`Context::find_frames`] finds them, with names that are shared with
+    /// the context's cache, so that none is copied.
     ///
     /// # Errors
     /// As [`Context::find_frames`].
@@ -241,9 +268,14 @@ impl<'a, 's, P: ModuleProvider> Context<'a, 's, P> {
         probe: u32,
     ) -> Result<Option<SharedFunctionFrames<'a>>>
         ensures same { lasting self.new ≡ lasting self.old }
-        ensures failed { self.new.failed ≡ failed_after (failing self.old.parts (scope_in P.provided self.old) probe) result self.old.failed }
-        ensures lookups { self.new.lookups ≡ lookups_after (is_some (place_of self.old.parts probe)) result self.old.lookups }
-        ensures frames { Answers (λ f. f) result (told self.old.failed (failing self.old.parts (scope_in P.provided self.old) probe) (frames self.old.parts (scope_in P.provided self.old) probe)) }
+        ensures failed { self.new.failed
+            ≡ failed_after (failing self.old.parts (scope_in P.provided self.old) probe) result
+            self.old.failed }
+        ensures lookups { self.new.lookups
+            ≡ lookups_after (is_some (place_of self.old.parts probe)) result self.old.lookups }
+        ensures frames { Answers (λ f. f) result
+            (told self.old.failed (failing self.old.parts (scope_in P.provided self.old) probe)
+            (frames self.old.parts (scope_in P.provided self.old) probe)) }
     {
         let Some(place) = place_at(&self.parts, probe) else {
             return Ok(None);
@@ -259,8 +291,10 @@ impl<'a, 's, P: ModuleProvider> Context<'a, 's, P> {
     #[tactic(auto, unfolding(pdb_frames::specs::Frames::function))]
     pub fn find_function(&mut self, alloc: Global, probe: u32) -> Result<Option<Function>>
         ensures same { uncounted self.new ≡ uncounted self.old }
-        ensures lookups { self.new.lookups ≡ lookups_after (is_some (place_of self.old.parts probe)) result self.old.lookups }
-        ensures function { Answers (λ f. f) result (Ok (function self.old.parts (scope_in P.provided self.old) probe)) }
+        ensures lookups { self.new.lookups
+            ≡ lookups_after (is_some (place_of self.old.parts probe)) result self.old.lookups }
+        ensures function { Answers (λ f. f) result
+            (Ok (function self.old.parts (scope_in P.provided self.old) probe)) }
     {
         let Some(place) = place_at(&self.parts, probe) else {
             return Ok(None);
@@ -276,9 +310,10 @@ impl<'a, 's, P: ModuleProvider> Context<'a, 's, P> {
         self.counted(function)
     }
 
-    /// The function at a place, if there is one, and over how many bytes from the place on the function is the same: the lesser of
-    /// `limit`, which is at least 1, and the distance to the next place of the section at which a contribution begins or ends, a
-    /// procedure of the module that holds the place begins or ends, or a public entry begins.
+    /// The function at a place, if there is one, and over how many bytes from the place on the
+    /// function is the same: the lesser of `limit`, which is at least 1, and the distance to the
+    /// next place of the section at which a contribution begins or ends, a procedure of the module
+    /// that holds the place begins or ends, or a public entry begins.
     ///
     /// # Errors
     /// `OutOfMemory` alone.
@@ -291,8 +326,11 @@ impl<'a, 's, P: ModuleProvider> Context<'a, 's, P> {
         requires { 1 ≤ limit }
         ensures same { uncounted self.new ≡ uncounted self.old }
         ensures lookups { self.new.lookups ≡ lookups_after true result self.old.lookups }
-        ensures function { Answers (λ run. run.0) result (Ok (function_at_place self.old.parts (scope_in P.provided self.old) offset)) }
-        ensures count { IfOk result (λ run. IsOneRun (database_of self.old.parts (scope_in P.provided self.old)) (as_place offset) limit run.1) }
+        ensures function { Answers (λ run. run.0) result
+            (Ok (function_at_place self.old.parts (scope_in P.provided self.old) offset)) }
+        ensures count { IfOk result
+            (λ run. IsOneRun (database_of self.old.parts (scope_in P.provided self.old))
+            (as_place offset) limit run.1) }
     {
         let run = run_here(
             alloc,

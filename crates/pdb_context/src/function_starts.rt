@@ -3,7 +3,8 @@
 ghost use Rattle.std.specs.Prelude.{◌≡◌, ◌++◌, IfOk, OnOk, map, option_map};
 ghost use Rattle.pdb_addresses.specs.Addresses.{IsOrdered, outer_of_place};
 ghost use Rattle.pdb_answers.specs.Scopes.{scope_of, entries_of};
-ghost use Rattle.pdb_context.specs.Starts.{if_any, addresses_of, procedure_starts_from, start_addresses, AreStarts, IsAscending};
+ghost use Rattle.pdb_context.specs.Starts.{if_any, addresses_of, procedure_starts_from};
+ghost use Rattle.pdb_context.specs.Starts.{start_addresses, AreStarts, IsAscending};
 ghost use Rattle.pdb_answers.specs.Modules.{module_data, procedures_in as procedures_of_module};
 
 use pdb_addresses::{AddressMap, PdbInternalSectionOffset};
@@ -13,7 +14,7 @@ use pdb_module_data::Procedure;
 use pdb_resolving::ModuleProvider;
 use std::alloc::{AllocError, Global};
 
-/// Puts the RVA of a place behind other addresses, if it has one.
+/// Appends the RVA of a place, if it has one.
 #[tactic(auto, using(crate::proofs::StartSteps::none_added, crate::proofs::StartSteps::one_added))]
 fn push_address(
     addresses: &mut Vec<u32>,
@@ -21,7 +22,10 @@ fn push_address(
     place: PdbInternalSectionOffset,
 ) -> Result<(), AllocError>
     requires { IsOrdered address_map.now }
-    ensures { OnOk result (addresses.new.items ≡ addresses.old.items ++ if_any (outer_of_place address_map.now place.section place.offset)) }
+    ensures { OnOk result
+        (addresses.new.items
+        ≡ addresses.old.items
+        ++ if_any (outer_of_place address_map.now place.section place.offset)) }
 {
     let Some(address) = place.to_rva(address_map) else {
         return Ok(());
@@ -30,7 +34,7 @@ fn push_address(
     Ok(())
 }
 
-/// Puts the RVAs at which entries of the public list begin behind other addresses, in the order of the entries.
+/// Appends the RVAs at which entries of the public list begin, in the order of the entries.
 #[tactic(auto, using(crate::proofs::StartSteps::publics_start, crate::proofs::StartSteps::publics_more, crate::proofs::StartSteps::publics_end))]
 fn push_publics(
     addresses: &mut Vec<u32>,
@@ -38,7 +42,10 @@ fn push_publics(
     publics: &[PublicFunction<'_>],
 ) -> Result<(), AllocError>
     requires { IsOrdered address_map.now }
-    ensures { OnOk result (addresses.new.items ≡ addresses.old.items ++ addresses_of address_map.now (map (λ f. f.start_offset) publics.now)) }
+    ensures { OnOk result
+        (addresses.new.items
+        ≡ addresses.old.items
+        ++ addresses_of address_map.now (map (λ f. f.start_offset) publics.now)) }
 {
     for public in publics {
         push_address(addresses, address_map, public.start_offset)?;
@@ -46,7 +53,7 @@ fn push_publics(
     Ok(())
 }
 
-/// Puts the RVAs at which procedures begin behind other addresses, in the order of the procedures.
+/// Appends the RVAs at which procedures begin, in the order of the procedures.
 #[tactic(auto, using(crate::proofs::StartSteps::procedures_start, crate::proofs::StartSteps::procedures_more, crate::proofs::StartSteps::procedures_end))]
 fn push_procedures(
     addresses: &mut Vec<u32>,
@@ -54,7 +61,10 @@ fn push_procedures(
     procedures: &[Procedure<'_>],
 ) -> Result<(), AllocError>
     requires { IsOrdered address_map.now }
-    ensures { OnOk result (addresses.new.items ≡ addresses.old.items ++ addresses_of address_map.now (map (λ q. q.offset) procedures.now)) }
+    ensures { OnOk result
+        (addresses.new.items
+        ≡ addresses.old.items
+        ++ addresses_of address_map.now (map (λ q. q.offset) procedures.now)) }
 {
     for procedure in procedures {
         push_address(addresses, address_map, procedure.offset)?;
@@ -62,7 +72,7 @@ fn push_procedures(
     Ok(())
 }
 
-/// Puts the RVAs at which the procedures of the module of a number, counted from 0, begin behind other addresses.
+/// Appends the RVAs at which the procedures of the module of a number, counted from 0, begin.
 fn push_module<P: ModuleProvider>(
     alloc: Global,
     addresses: &mut Vec<u32>,
@@ -72,13 +82,19 @@ fn push_module<P: ModuleProvider>(
     module_index: usize,
 ) -> Result<(), AllocError>
     requires { IsOrdered address_map.now }
-    ensures { OnOk result (addresses.new.items ≡ addresses.old.items ++ addresses_of address_map.now (map (λ q. q.offset) (procedures_of_module (module_data (scope_of P.provided provider.now namer.now module_index).own)))) }
+    ensures { OnOk result
+        (addresses.new.items
+        ≡ addresses.old.items
+        ++ addresses_of address_map.now
+        (map (λ q. q.offset)
+        (procedures_of_module
+        (module_data (scope_of P.provided provider.now namer.now module_index).own)))) }
 {
     let known = get_basic_module_info(alloc, provider, namer.modules(), module_index)?;
     push_procedures(addresses, address_map, procedures_in(&known))
 }
 
-/// Puts the RVAs at which the procedures of all modules begin behind other addresses, in the order of the modules.
+/// Appends the RVAs at which the procedures of all modules begin, in the order of the modules.
 #[tactic(auto, using(crate::proofs::StartSteps::modules_start, crate::proofs::StartSteps::modules_more, crate::proofs::StartSteps::modules_end))]
 fn push_modules<P: ModuleProvider>(
     alloc: Global,
@@ -88,7 +104,12 @@ fn push_modules<P: ModuleProvider>(
     namer: &Namer<'_, '_, P>,
 ) -> Result<(), AllocError>
     requires { IsOrdered address_map.now }
-    ensures { OnOk result (addresses.new.items ≡ addresses.old.items ++ addresses_of address_map.now (procedure_starts_from (scope_of P.provided provider.now namer.now) 0 (entries_of namer.now))) }
+    ensures { OnOk result
+        (addresses.new.items
+        ≡ addresses.old.items
+        ++ addresses_of address_map.now
+        (procedure_starts_from (scope_of P.provided provider.now namer.now) 0
+        (entries_of namer.now))) }
 {
     for module_index in 0..namer.modules().len() {
         push_module(alloc, addresses, address_map, provider, namer, module_index)?;
@@ -111,7 +132,10 @@ fn function_starts<P: ModuleProvider>(
     parts: &ContextParts<'_, '_>,
     namer: &Namer<'_, '_, P>,
 ) -> Result<Vec<u32>, AllocError>
-    ensures { IfOk result (λ v. IsAscending (start_addresses parts.now (scope_of P.provided provider.now namer.now) (entries_of namer.now)) v.items) }
+    ensures { IfOk result
+        (λ v. IsAscending
+        (start_addresses parts.now (scope_of P.provided provider.now namer.now)
+        (entries_of namer.now)) v.items) }
 {
     let mut starts = Vec::new(alloc);
     push_publics(&mut starts, parts.address_map, parts.publics.as_slice())?;
@@ -129,8 +153,8 @@ fn copied(alloc: Global, numbers: &Vec<u32>) -> Result<Vec<u32>, AllocError>
     Ok(copy)
 }
 
-/// The distinct RVAs at which functions begin, in ascending order: those that are kept, or else they are found and kept. Nothing is
-/// kept where memory is short.
+/// The distinct RVAs at which functions begin, in ascending order: those that are kept, or else
+/// they are found and kept. Nothing is kept where memory is short.
 pub fn kept_starts<P: ModuleProvider>(
     alloc: Global,
     kept: &mut Option<Vec<u32>>,
@@ -138,9 +162,16 @@ pub fn kept_starts<P: ModuleProvider>(
     parts: &ContextParts<'_, '_>,
     namer: &Namer<'_, '_, P>,
 ) -> Result<Vec<u32>, AllocError>
-    requires { AreStarts (start_addresses parts.now (scope_of P.provided provider.now namer.now) (entries_of namer.now)) (option_map (λ v. v.items) kept.old) }
-    ensures kept { AreStarts (start_addresses parts.now (scope_of P.provided provider.now namer.now) (entries_of namer.now)) (option_map (λ v. v.items) kept.new) }
-    ensures starts { IfOk result (λ v. IsAscending (start_addresses parts.now (scope_of P.provided provider.now namer.now) (entries_of namer.now)) v.items) }
+    requires { AreStarts
+        (start_addresses parts.now (scope_of P.provided provider.now namer.now)
+        (entries_of namer.now)) (option_map (λ v. v.items) kept.old) }
+    ensures kept { AreStarts
+        (start_addresses parts.now (scope_of P.provided provider.now namer.now)
+        (entries_of namer.now)) (option_map (λ v. v.items) kept.new) }
+    ensures starts { IfOk result
+        (λ v. IsAscending
+        (start_addresses parts.now (scope_of P.provided provider.now namer.now)
+        (entries_of namer.now)) v.items) }
 {
     if let Some(starts) = kept {
         return copied(alloc, starts);

@@ -16,8 +16,9 @@ use pdb_resolving::{ModuleProvider, Result};
 use std::alloc::Global;
 use std::marker::Model;
 
-/// The functions of a file: that at each distinct RVA at which an entry of the public list or a procedure begins, in ascending
-/// order, where there is one. Behind an error, `OutOfMemory`, there is none.
+/// The functions of a file: that at each distinct RVA at which an entry of the public list or a
+/// procedure begins, in ascending order, where there is one. After an error, `OutOfMemory`, there
+/// is none.
 #[derive(Drop)]
 pub struct FunctionIter<'c, 'a, 's, P: ModuleProvider> {
     context: &'c mut Context<'a, 's, P>,
@@ -40,8 +41,8 @@ impl<'c, 'a, 's, P: ModuleProvider> Model for FunctionIter<'c, 'a, 's, P> {
     } };
 }
 
-/// The function at the first of the RVAs from a place of their list on at which there is one; the place goes on behind it, and
-/// behind an error to the end.
+/// The function at the first of the RVAs from a place of their list on at which there is one; the
+/// place goes on after it, and after an error to the end.
 fn next_function<P: ModuleProvider>(
     context: &mut Context<'_, '_, P>,
     alloc: Global,
@@ -52,8 +53,13 @@ fn next_function<P: ModuleProvider>(
     ensures lookups { RisesWithin
         (length (drop next.old starts.now) - length (drop next.new starts.now))
         context.old.lookups context.new.lookups }
-    ensures gives { GivesFunction (functions_left context.old.parts (scope_in P.provided context.old) (drop next.old starts.now)) result (functions_left context.old.parts (scope_in P.provided context.old) (drop next.new starts.now)) }
-    ensures nearer { OnSome result (length (drop next.new starts.now) < length (drop next.old starts.now)) }
+    ensures gives { GivesFunction
+        (functions_left context.old.parts (scope_in P.provided context.old)
+        (drop next.old starts.now)) result
+        (functions_left context.old.parts (scope_in P.provided context.old)
+        (drop next.new starts.now)) }
+    ensures nearer { OnSome result
+        (length (drop next.new starts.now) < length (drop next.old starts.now)) }
 {
     while *next < starts.len() {
         let start = starts[*next];
@@ -113,9 +119,10 @@ impl<'a, 's, P: ModuleProvider> Context<'a, 's, P> {
         Ok(starts)
     }
 
-    /// The functions of the file: [`Context::find_function`] of each distinct RVA at which an entry of the public list or a
-    /// procedure of any module begins, in ascending order, where it finds one. A module whose symbols can't be read has no
-    /// procedures here. Where they begin is found once and kept.
+    /// The functions of the file: [`Context::find_function`] of each distinct RVA at which an entry
+    /// of the public list or a procedure of any module begins, in ascending order, where it finds
+    /// one. A module whose symbols can't be read has no procedures here. Where they begin is found
+    /// once and kept.
     ///
     /// # Errors
     /// `OutOfMemory` alone.

@@ -30,8 +30,9 @@ use Rattle.pdb_addr2line.specs.Loading as kept
 use Rattle.pdb_addr2line.specs.Loading.{Tables, tables, listed}
 use Rattle.pdb_report_texts.specs.declared.fault.LoadFault.{LoadFault}
 use Rattle.pdb_report_texts.specs.declared.fault.LoadFault.TheVariants as faults
+use Rattle.pdb_addr2line.specs.Files.{files_of}
 use Rattle.pdb_addr2line.specs.Runs.{database_of}
-use Rattle.pdb_report.specs.Answer.{AnswersAs, Listing, address_map, answer, answer_by, database, database_by, function_at, function_by, given_in, listing, listing_by, map_by, scope}
+use Rattle.pdb_report.specs.Answer.{AnswersAs, Listing, address_map, answer, answer_by, database, database_by, files, files_by, function_at, function_by, given_in, listing, listing_by, map_by, scope}
 use Rattle.pdb_report_texts.specs.Faults.{LoadingFault, AddressTableDecreases, lifted, in_loading, load_fault_of, load_fault_in_context, FailsLoading}
 use Rattle.pdb_report.specs.Kept.{IsKept, AreInOrder, answered_in}
 use Rattle.pdb_report.specs.Loading.{Loaded, parts_in, none_or, loaded_behind, loaded_open, loaded, load_fault, Refuses, IsFileFault}
@@ -292,7 +293,7 @@ listing_in h parts known = record { parts = parts; scope = known; entries = (mod
 
 over_kept : (file : List ℕ) (h : Held) → IsKept file h → (parts : Parts) → held.parts_in h ≡ Ok parts
     → loaded (shared (streams file)) ≡ Ok (record { debug_information = h.debug_information; tables = h.tables; parts = parts }) → AnswersAs answered_in (streams file) (context_of h parts)
-unfolding answer function_at database listing
+unfolding answer function_at database files listing
 over_kept file h is parts parts_are loaded_is =
     let s = streams file in
     let l : Loaded = record { debug_information = h.debug_information; tables = h.tables; parts = parts } in
@@ -301,6 +302,7 @@ over_kept file h is parts parts_are loaded_is =
       frames = fun_ext (λ a. ap (λ known. frames parts known a) scopes ∙ ap (λ r. answer_by s r a) (sym loaded_is));
       functions = fun_ext (λ a. ap (λ known. function parts known a) scopes ∙ ap (λ r. function_by s r a) (sym loaded_is));
       places = ap (λ known. database_of parts known) scopes ∙ ap (λ r. database_by s r) (sym loaded_is);
+      files = ap (λ known. files_of parts known) scopes ∙ ap (λ r. files_by s r) (sym loaded_is);
       list = ap (λ known. Some (listing_in h parts known)) scopes ∙ ap (λ r. listing_by s r) (sym loaded_is);
     }
 

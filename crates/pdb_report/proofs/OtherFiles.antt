@@ -18,6 +18,7 @@ own_reports s = record {
   lists = refl;
   inputs = λ input. refl;
   ranges = λ start end text. (λ r. r, λ r. r);
+  by_file = λ start end text. (λ r. r, λ r. r);
 }
 
 -- and its reports

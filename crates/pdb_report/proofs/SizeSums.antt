@@ -1,41 +1,71 @@
 -- What the reports on the ranges of one file have, and how it adds up.
-use Rattle.std.proofs.Common.{◌≡◌, ℕ, ◌+◌, ◌-◌, ◌≤◌, List, not, sym, ap, ◌∙◌, arith}
-use Rattle.std.specs.Prelude.{Some, is_some}
+use Rattle.std.proofs.Common.{◌≡◌, ℕ, ◌+◌, ◌-◌, ◌≤◌, List, Some, Result, Ok, Err, not, sym, ap, ◌∙◌}
+use Rattle.std.proofs.Common.{true, arith}
+use Rattle.std.specs.Prelude.{is_some}
+use Rattle.std.specs.declared.cmp.Ordering.{Ordering}
 use Rattle.pdb_addresses.specs.Addresses.{Map}
-use Rattle.pdb_functions.specs.FunctionOrder.{Function, function_cmp}
+use Rattle.pdb_addresses.specs.Places.{Place}
+use Rattle.pdb_frames.proofs.FileRunLaw.{functions_have_files}
 use Rattle.pdb_functions.specs.Answers.{is_answer}
-use Rattle.pdb_functions.specs.OrderLaws.{function_total, function_exact}
 use Rattle.pdb_functions.specs.Counts.{counted_at, count, count_of_none}
-use Rattle.pdb_functions.specs.Table.{count_in, sum_of}
+use Rattle.pdb_functions.specs.Databases.{Database}
+use Rattle.pdb_functions.specs.FileAnswers.{FileAnswer, file_cmp}
+use Rattle.pdb_functions.specs.FileReport.{IsFileReport}
+use Rattle.pdb_functions.specs.Table.{count_in}
+use Rattle.pdb_functions.specs.Texts.{by_file_text}
 use Rattle.pdb_functions.proofs.HowMany.{how_many-split}
-use Rattle.pdb_functions.proofs.RangeSums.{table_fills}
+use Rattle.pdb_symbols_modules.specs.Shared.{shared}
 use Rattle.pdb_symbols_modules.specs.Streams.{Streams}
-use Rattle.pdb_report.specs.Answer.{database}
-use Rattle.pdb_report.specs.SizesReport.{IsSizesReport}
-
-pub fills : (s : Streams) (start end : ℕ) (text : List ℕ) → start ≤ end → (r : IsSizesReport s start end text) → sum_of r.report.table + count_of_none r.map (database s) start end ≡ end - start
-fills s start end text order r = table_fills function_cmp function_total function_exact (counted_at r.map (database s)) start (end - start) r.report.table r.report.in_order r.report.each
+use Rattle.pdb_report.specs.Answer.{address_map, database, database_by, files, files_by, scope}
+use Rattle.pdb_report.specs.Loading.{Loaded, loaded}
+use Rattle.pdb_report_texts.specs.Faults.{LoadingFault}
 
 same_some : (m n : Map) → Some m ≡ Some n → m ≡ n
 same_some m n h = (cc)
 
 -- reports of one file go by one address map
-one_map : (s : Streams) (a b c d : ℕ) (x y : List ℕ) (p : IsSizesReport s a b x) (q : IsSizesReport s c d y) → p.map ≡ q.map
-one_map s a b c d x y p q = same_some p.map q.map (sym p.map_is ∙ q.map_is)
+pub one_map : (s : Streams) (m n : Map) → address_map s ≡ Some m → address_map s ≡ Some n → m ≡ n
+one_map s m n m_is n_is = same_some m n (sym m_is ∙ n_is)
 
-pub each_joined : (s : Streams) (a b c : ℕ) (x y z : List ℕ) → a ≤ b → b ≤ c → (p : IsSizesReport s a b x) (q : IsSizesReport s b c y) (r : IsSizesReport s a c z) (f : Function)
-    → count_in function_cmp p.report.table f + count_in function_cmp q.report.table f ≡ count_in function_cmp r.report.table f
-each_joined s a b c x y z ab bc p q r f =
-    let first : count_in function_cmp p.report.table f ≡ count function_cmp r.map (database s) a b f = p.report.each f ∙ ap (λ (m : Map). count function_cmp m (database s) a b f) (one_map s a b a c x z p r) in
-    let second : count_in function_cmp q.report.table f ≡ count function_cmp r.map (database s) b c f = q.report.each f ∙ ap (λ (m : Map). count function_cmp m (database s) b c f) (one_map s b c a c y z q r) in
-    let both : count_in function_cmp r.report.table f ≡ count function_cmp r.map (database s) a c f = r.report.each f in
-    let all : count function_cmp r.map (database s) a b f + count function_cmp r.map (database s) b c f ≡ count function_cmp r.map (database s) a c f = how_many-split (λ x. is_answer function_cmp f (counted_at r.map (database s) x)) a b c ab bc in
-    omega (arith, first, second, both, all)
+-- two ranges, one after the other, and both
+module _ {A : Type 0} (cmp : A → A → Ordering) (s : Streams) (db : Database A) (l m n : Map)
+    (l_is : address_map s ≡ Some l) (m_is : address_map s ≡ Some m) (n_is : address_map s ≡ Some n)
+    (a b c : ℕ) (ab : a ≤ b) (bc : b ≤ c) where
+  pub each_joined : (t u v : List (A × ℕ)) (x : A) → count_in cmp t x ≡ count cmp l db a b x
+      → count_in cmp u x ≡ count cmp m db b c x → count_in cmp v x ≡ count cmp n db a c x
+      → count_in cmp t x + count_in cmp u x ≡ count_in cmp v x
+  each_joined t u v x first second both =
+      let one = ap (λ (k : Map). count cmp k db a b x) (one_map s l n l_is n_is) in
+      let other = ap (λ (k : Map). count cmp k db b c x) (one_map s m n m_is n_is) in
+      let all = how_many-split (λ y. is_answer cmp x (counted_at n db y)) a b c ab bc in
+      omega (arith, first, second, both, one, other, all)
 
-pub none_joined : (s : Streams) (a b c : ℕ) (x y z : List ℕ) → a ≤ b → b ≤ c → (p : IsSizesReport s a b x) (q : IsSizesReport s b c y) (r : IsSizesReport s a c z)
-    → count_of_none p.map (database s) a b + count_of_none q.map (database s) b c ≡ count_of_none r.map (database s) a c
-none_joined s a b c x y z ab bc p q r =
-    let first : count_of_none p.map (database s) a b ≡ count_of_none r.map (database s) a b = ap (λ (m : Map). count_of_none m (database s) a b) (one_map s a b a c x z p r) in
-    let second : count_of_none q.map (database s) b c ≡ count_of_none r.map (database s) b c = ap (λ (m : Map). count_of_none m (database s) b c) (one_map s b c a c y z q r) in
-    let all : count_of_none r.map (database s) a b + count_of_none r.map (database s) b c ≡ count_of_none r.map (database s) a c = how_many-split (λ x. not (is_some (counted_at r.map (database s) x))) a b c ab bc in
-    omega (arith, first, second, all)
+  pub none_joined : count_of_none l db a b + count_of_none m db b c ≡ count_of_none n db a c
+  none_joined =
+      let one = ap (λ (k : Map). count_of_none k db a b) (one_map s l n l_is n_is) in
+      let other = ap (λ (k : Map). count_of_none k db b c) (one_map s m n m_is n_is) in
+      let all = how_many-split (λ y. not (is_some (counted_at n db y))) a b c ab bc in
+      omega (arith, one, other, all)
+
+-- where a file has a function, it has a file of it, no known file, or frames that can't be read
+files_loaded : (s : Streams) (r : Result Loaded LoadingFault) (place : Place)
+    → is_some ((database_by s r).answer place) ≡ true
+    → is_some ((files_by s r).answer place) ≡ true
+files_loaded s (Err e) place h = h
+files_loaded s (Ok l) place h = functions_have_files l.parts (scope s l) place h
+
+pub have_files : (s : Streams) (place : Place) → is_some ((database s).answer place) ≡ true
+    → is_some ((files s).answer place) ≡ true
+unfolding database files
+have_files s place h = files_loaded s (loaded (shared s)) place h
+
+-- a report by file goes by the address map of any other report of the file
+pub by_map : (m n : Map) (db : Database FileAnswer) (start end : ℕ) (text : List ℕ) → m ≡ n
+    → IsFileReport m db start end text → IsFileReport n db start end text
+by_map m n db start end text same r = record {
+  table = r.table;
+  in_order = r.in_order;
+  each = λ f. r.each f ∙ ap (λ (k : Map). count file_cmp k db start end f) same;
+  text_is = r.text_is
+      ∙ ap (λ (k : Map). by_file_text r.table (count_of_none k db start end)) same;
+}

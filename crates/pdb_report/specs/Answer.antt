@@ -13,8 +13,11 @@ use Rattle.pdb_addr2line.specs.Choice.{Parts}
 use Rattle.pdb_addr2line.specs.Scopes.{Scope, scope_of, entries_of}
 use Rattle.pdb_addr2line.specs.Context.{Context, scope_in}
 use Rattle.pdb_functions.specs.Frames.{FunctionFrames}
+use Rattle.pdb_addr2line.specs.Files.{files_keyed, files_of}
 use Rattle.pdb_addr2line.specs.Frames.{frames, function}
 use Rattle.pdb_addr2line.specs.Keys.{keyed_of}
+use Rattle.pdb_functions.specs.FileAnswers.{FileAnswer}
+use Rattle.pdb_functions.specs.declared.file_key.FileKey.{FileKey}
 use Rattle.pdb_functions.specs.declared.function_key.FunctionKey.{FunctionKey}
 use Rattle.pdb_addr2line.specs.Runs.{database_of}
 use Rattle.pdb_functions.specs.Databases.{Database, Keyed}
@@ -31,7 +34,12 @@ given_in s number entry = given s number
 abbrev pub formatting_in : Streams → Loaded → Formatting Streams
 formatting_in s l = record {
   reading = record {
-    modules = record { provider = s; entries = (modules_of l.debug_information.modules).items; names = names_in s; failed = none_failed };
+    modules = record {
+      provider = s;
+      entries = (modules_of l.debug_information.modules).items;
+      names = names_in s;
+      failed = none_failed;
+    };
     types = l.tables.types;
     ids = l.tables.ids;
     pointer_size = pointer_bytes (machine_of l.debug_information.machine);
@@ -43,9 +51,10 @@ formatting_in s l = record {
 unfoldable pub scope : Streams → Loaded → ℕ → Scope
 scope s l = scope_of given_in s (formatting_in s l)
 
--- the answer by what was loaded: nothing, or a function with its frames; a fault is that of the first part of the module's data
--- that can't be read
-abbrev pub answer_by : Streams → Result Loaded LoadingFault → ℕ → Result (Option FunctionFrames) Fault
+-- the answer by what was loaded: nothing, or a function with its frames; a fault is that of the
+-- first part of the module's data that can't be read
+abbrev pub answer_by : Streams → Result Loaded LoadingFault → ℕ
+    → Result (Option FunctionFrames) Fault
 answer_by s (Err e) a = Ok None
 answer_by s (Ok l) a = frames l.parts (scope s l) a
 
@@ -71,8 +80,17 @@ database_by s (Ok l) = database_of l.parts (scope s l)
 unfoldable pub database : Streams → Database Function
 database s = database_by s (loaded (shared s))
 
--- what a list of functions goes over: the parts that each question goes over, what an answer in each module depends on, and the
--- modules' entries in order
+-- the files at places, and where they may change, by what was loaded
+abbrev pub files_by : Streams → Result Loaded LoadingFault → Database FileAnswer
+files_by s (Err e) = record { answer = λ place. None; is_bound = λ place. false }
+files_by s (Ok l) = files_of l.parts (scope s l)
+
+-- the source files at places of the file's sections, and where they may change
+unfoldable pub files : Streams → Database FileAnswer
+files s = files_by s (loaded (shared s))
+
+-- what a list of functions goes over: the parts that each question goes over, what an answer in
+-- each module depends on, and the modules' entries in order
 pub record Listing : Type 0 where
   pub parts : Parts
   pub scope : ℕ → Scope
@@ -81,25 +99,30 @@ pub record Listing : Type 0 where
 -- what the list of functions goes over, by what was loaded
 abbrev pub listing_by : Streams → Result Loaded LoadingFault → Option Listing
 listing_by s (Err e) = None
-listing_by s (Ok l) = Some (record { parts = l.parts; scope = scope s l; entries = (modules_of l.debug_information.modules).items })
+listing_by s (Ok l) = Some (record {
+  parts = l.parts;
+  scope = scope s l;
+  entries = (modules_of l.debug_information.modules).items;
+})
 
 -- what the list of the file's functions goes over; none where the file isn't loaded
 unfoldable pub listing : Streams → Option Listing
 listing s = listing_by s (loaded (shared s))
 
--- the ways between addresses, by what was loaded
+-- the address map, by what was loaded
 abbrev pub map_by : Result Loaded LoadingFault → Option Map
 map_by (Err e) = None
 map_by (Ok l) = Some l.tables.map
 
--- the ways between addresses of the image and places in sections; none where the file isn't loaded
+-- the map between addresses of the image and places in sections; none where the file isn't loaded
 unfoldable pub address_map : Streams → Option Map
 address_map s = map_by (loaded (shared s))
 
 -- ---- by a context
 
 -- the answer of a context for an address
-abbrev pub answer_of : {P : Type 0} → (P → Provided) → Context P → ℕ → Result (Option FunctionFrames) Fault
+abbrev pub answer_of : {P : Type 0} → (P → Provided) → Context P → ℕ
+    → Result (Option FunctionFrames) Fault
 answer_of provided c a = frames c.parts (scope_in provided c) a
 
 -- the function of a context at an address
@@ -110,17 +133,31 @@ function_of provided c a = function c.parts (scope_in provided c) a
 abbrev pub database_in : {P : Type 0} → (P → Provided) → Context P → Database Function
 database_in provided c = database_of c.parts (scope_in provided c)
 
--- the same by keys
+-- the functions of a context at places, by keys
 abbrev pub keyed_in : {P : Type 0} → (P → Provided) → Context P → Keyed FunctionKey Function
 keyed_in provided c = keyed_of c.parts (scope_in provided c)
 
+-- the files of a context at places, and where they may change
+abbrev pub files_in : {P : Type 0} → (P → Provided) → Context P → Database FileAnswer
+files_in provided c = files_of c.parts (scope_in provided c)
+
+-- the files of a context at places, by keys
+abbrev pub files_keyed_in : {P : Type 0} → (P → Provided) → Context P → Keyed FileKey FileAnswer
+files_keyed_in provided c = files_keyed c.parts (scope_in provided c)
+
 -- what the list of a context's functions goes over
 abbrev pub listing_of : {P : Type 0} → (P → Provided) → Context P → Listing
-listing_of provided c = record { parts = c.parts; scope = scope_in provided c; entries = entries_of c.formatting }
+listing_of provided c = record {
+  parts = c.parts;
+  scope = scope_in provided c;
+  entries = entries_of c.formatting;
+}
 
 -- A context answers as the file does, and lists the file's functions.
-pub record AnswersAs {P : Type 0} (provided : P → Provided) (s : Streams) (c : Context P) : Type 0 where
+pub record AnswersAs {P : Type 0} (provided : P → Provided) (s : Streams) (c : Context P) : Type 0
+    where
   pub frames : answer_of provided c ≡ answer s
   pub functions : function_of provided c ≡ function_at s
   pub places : database_in provided c ≡ database s
+  pub files : files_in provided c ≡ files s
   pub list : Some (listing_of provided c) ≡ listing s

@@ -1,5 +1,6 @@
 -- A module's answers depend on no stream that unrelated modules alone name.
-use Rattle.std.specs.Prelude.{◌≡◌, ◌==◌, if◌then◌else◌, ℕ, ◌<◌, ◌^◌, List, [], Option, None, Some, option_map, Result, Ok, Err}
+use Rattle.std.specs.Prelude.{◌≡◌, ◌==◌, if◌then◌else◌, ℕ, ◌<◌, ◌^◌, List, [], Option, None, Some}
+use Rattle.std.specs.Prelude.{option_map, Result, Ok, Err}
 use Rattle.pdb_addr2line.specs.Choice.{held_at, place_of}
 use Rattle.pdb_addr2line.specs.Held.{names_in}
 use Rattle.pdb_engine.specs.Address.{address_of}
@@ -14,7 +15,8 @@ use Rattle.pdb_resolving.specs.Resolving.{Modules, none_failed}
 use Rattle.pdb_symbols_modules.specs.DatabaseCalls.{debug_information}
 use Rattle.pdb_symbols_modules.specs.Dbi.{Dbi}
 use Rattle.pdb_symbols_modules.specs.Modules.{Module, modules_of}
-use Rattle.pdb_symbols_modules.specs.Shared.{shared, names_number, symbols_number, optional_number, module_number}
+use Rattle.pdb_symbols_modules.specs.Shared.{shared, names_number, symbols_number, optional_number}
+use Rattle.pdb_symbols_modules.specs.Shared.{module_number}
 use Rattle.pdb_symbols_modules.specs.Streams.{Streams, streams}
 
 -- ---- related modules

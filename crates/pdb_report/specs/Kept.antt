@@ -20,13 +20,17 @@ answered_in infos number entry = answered_at infos number
 -- What is kept is the file's: what was loaded, the string table, and what is given of each module.
 pub record IsKept (file : List ℕ) (h : Held) : Type 0 where
   pub parts : Parts
-  pub loaded_is : loaded (shared (streams file)) ≡ Ok record { debug_information = h.debug_information; tables = h.tables; parts = parts }
+  pub loaded_is : loaded (shared (streams file)) ≡ Ok record {
+    debug_information = h.debug_information;
+    tables = h.tables;
+    parts = parts;
+  }
   pub parts_are : kept.parts_in h ≡ Ok parts
   pub ordered : IsOrdered h.tables.map
   pub names_are : h.names ≡ names_in (streams file)
   pub modules_are : (number : ℕ) → answered_at h.infos number ≡ given (streams file) number
 
--- Stream 3 and what stands behind it are the file's, and the OMAPs are in order.
+-- Stream 3 and what comes after it are the file's, and the OMAPs are in order.
 pub record AreInOrder (s : Streams) (dbi : Dbi) (read : Tables) : Type 0 where
   pub dbi_is : debug_information (shared s) ≡ Ok dbi
   pub tables_are : tables (shared s) dbi ≡ Ok read

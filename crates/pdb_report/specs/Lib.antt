@@ -1,4 +1,5 @@
 pub mod Answer
+pub mod FileReport
 pub mod Isolation
 pub mod Kept
 pub mod Loading

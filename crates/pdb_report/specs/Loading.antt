@@ -14,20 +14,24 @@ use Rattle.pdb_addr2line.specs.Kept.{if_read}
 use Rattle.pdb_addr2line.specs.Loading.{Tables, tables, listed}
 use Rattle.pdb_report_texts.specs.declared.fault.LoadFault.{LoadFault}
 use Rattle.pdb_report_texts.specs.declared.fault.LoadFault.TheVariants as faults
-use Rattle.pdb_report_texts.specs.Faults.{LoadingFault, AddressTableDecreases, lifted, in_loading, loading_fault_of}
+use Rattle.pdb_report_texts.specs.Faults.{LoadingFault, AddressTableDecreases, lifted, in_loading}
+use Rattle.pdb_report_texts.specs.Faults.{loading_fault_of}
 
--- what was loaded: stream 3, what stands behind it, and what every question goes over
+-- what was loaded: stream 3, what comes after it, and what every question goes over
 pub record Loaded : Type 0 where
   pub debug_information : Dbi
   pub tables : Tables
   pub parts : Parts
 
--- what every question goes over, by what stands behind stream 3; a string table that can't be read is none
+-- what every question goes over, by what comes after stream 3; a string table that can't be read
+-- is none
 abbrev pub parts_in : Shared → Dbi → Tables → Result Parts LoadingFault
-parts_in c dbi read = in_loading (parts_of read.map.image read.map read.symbol_records dbi.contributions (if_read (names c)))
+parts_in c dbi read =
+    in_loading
+    (parts_of read.map.image read.map read.symbol_records dbi.contributions (if_read (names c)))
 
--- The steps behind the address tables: no OMAP's sources decrease, the module list is there to its end, and so are symbol
--- records and contributions, these in order and apart.
+-- The steps after the address tables: no OMAP's sources decrease, the module list is there to its
+-- end, and so are symbol records and contributions, these in order and apart.
 unfoldable pub loaded_behind : Shared → Dbi → Tables → Result Loaded LoadingFault
 loaded_behind c dbi read = do
   ordered ← refuse (not (is_ordered read.map)) AddressTableDecreases
@@ -35,7 +39,8 @@ loaded_behind c dbi read = do
   parts ← parts_in c dbi read
   Ok record { debug_information = dbi; tables = read; parts = parts }
 
--- The steps behind the container: stream 3; symbol records, types, ids and address tables; and those behind these.
+-- The steps after the container: stream 3; symbol records, types, ids and address tables; and
+-- those after these.
 unfoldable pub loaded_open : Shared → Result Loaded LoadingFault
 loaded_open c = do
   dbi ← lifted (debug_information c)

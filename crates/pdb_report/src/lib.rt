@@ -1,5 +1,5 @@
-//! Reports by a program database: it is loaded, and the answer to each line of an input is written, or how many addresses of a
-//! range each function has.
+//! Reports by a program database: it is loaded, and the answer to each line of an input is written,
+//! or how many addresses of a range each function has.
 //!
 //! A [`Symbolizer`] is a file that was loaded, and a context of it is asked:
 //!
@@ -16,8 +16,10 @@
 //! | to | call |
 //! |---|---|
 //! | load a file once, for many questions | [`Symbolizer::open`], [`Symbolizer::context`] |
-//! | write the answers to lines of addresses | [`run_frames`]; [`run_frames_ending`] in a process that ends behind it |
+//! | write the answers to lines of addresses | [`run_frames`] |
+//! | write them in a process that ends after that | [`run_frames_ending`] |
 //! | write how many addresses of a range each function has | [`run_sizes`] |
+//! | write how many of them each source file has | [`run_sizes_by_file`] |
 //! | read an address, as a line of input has it | [`parse_address`] |
 //! | read a file's pages, or the first 32 bytes of what is no container | [`read_file`] |
 //! | have the failures of a reader or a writer counted | [`Watched`] |
@@ -27,6 +29,7 @@
 //! What a context answers besides, and the formatter of types, is in `pdb_addr2line`.
 #![tactic(auto)]
 
+mod counted;
 mod finish;
 pub mod laws;
 mod lines;
@@ -40,5 +43,5 @@ pub use pdb_engine::{ErrorOutput, Watched, parse_address};
 pub use pdb_loading::read_file;
 pub use pdb_report_texts::{LoadFault, RunFault};
 pub use report::{AtEnd, answer_lines, run_frames, run_frames_ending};
-pub use sizes::{Tally, run_sizes};
+pub use sizes::{Tally, run_sizes, run_sizes_by_file};
 pub use symbolizer::Symbolizer;

@@ -1,24 +1,28 @@
-//! The report on a range of addresses: how many of them each function has.
+//! Reports on a range of addresses: how many of them each function has, or each source file.
 
-ghost use Rattle.std.specs.Prelude.{◌≡◌, ℕ, ◌+◌, ◌<◌, ◌≤◌, ◌⊎◌, List, None, OnErr, OnOk, IfErr, IfOk};
+ghost use Rattle.std.specs.Prelude.{◌≡◌, ℕ, ◌+◌, ◌<◌, ◌≤◌, ◌⊎◌, List, None, OnErr, OnOk, IfErr};
+ghost use Rattle.std.specs.Prelude.{IfOk};
 ghost use Rattle.pdb_addresses.specs.Addresses.{IsOrdered};
 ghost use Rattle.pdb_engine.specs.InputFaults.{IsOfWriting, OnWrite as OnInputWrite};
 ghost use Rattle.pdb_engine.specs.Watched.{CountsFailure, IsQuiet, Writes, WritesFront};
-ghost use Rattle.pdb_report.specs.Answer.{database_in};
+ghost use Rattle.pdb_report.specs.FileReport.{IsSizesByFile, IsWithinFilePieces};
 ghost use Rattle.pdb_report.specs.Loading.{load_fault, IsFileFault};
-ghost use Rattle.pdb_report_texts.specs.RunFaults.{OnLoad, OnMemory, OnReversed, OnWrite, OnCounted, UnlessLoad, IsOfSizes};
+ghost use Rattle.pdb_report.specs.SizesReport.{AreWithinPieces, IsReportOn};
 ghost use Rattle.pdb_report.specs.SizesReport.{IsSizesReport, IsWithinPieces};
+ghost use Rattle.pdb_report_texts.specs.RunFaults.{OnLoad, OnMemory, OnReversed, OnWrite};
+ghost use Rattle.pdb_report_texts.specs.RunFaults.{OnCounted};
+ghost use Rattle.pdb_report_texts.specs.RunFaults.{UnlessLoad, IsOfSizes};
 ghost use Rattle.pdb_functions.specs.Counts.{pieces};
-ghost use Rattle.pdb_functions.specs.Report.{IsReport};
 ghost use Rattle.pdb_symbols_modules.specs.Streams.{streams};
 
+use crate::counted::{ContextRuns, Counted, FileContext};
 use crate::symbolizer::Symbolizer;
-use pdb_addr2line::{Context, Function, ModuleProvider};
-use pdb_addresses::{AddressMap, PdbInternalSectionOffset};
+use pdb_addr2line::Function;
+use pdb_addresses::AddressMap;
 use pdb_engine::{InputFault, Watched, write_all, write_fault};
-use pdb_functions::{FunctionKey, Runs, count_runs, sizes_text};
+use pdb_functions::{CountedFile, count_runs};
 use pdb_report_texts::RunFault;
-use std::alloc::{AllocError, Global};
+use std::alloc::Global;
 use std::io::Write;
 
 /// What a report of sizes took.
@@ -28,78 +32,44 @@ pub struct Tally {
     pub lookups: u64,
 }
 
-/// A context that is asked for runs.
-#[derive(Drop)]
-struct ContextRuns<'a, 's, P: ModuleProvider> {
-    context: Context<'a, 's, P>,
-}
-
-impl<'a, 's, P: ModuleProvider> Runs for ContextRuns<'a, 's, P> {
-    ghost use Rattle.pdb_report.specs.Answer.{keyed_in};
-
-    type Key = FunctionKey;
-
-    type Found = Function;
-
-    ghost keyed = { λ runs. keyed_in P.provided runs.context };
-
-    ghost lookups = { λ runs. runs.context.lookups };
-
-    fn run_at(
-        &mut self,
-        alloc: Global,
-        place: PdbInternalSectionOffset,
-        limit: u32,
-    ) -> Result<(Option<FunctionKey>, u32), AllocError> {
-        match self.context.find_key_run(alloc, place, limit) {
-            Ok(run) => Ok(run),
-            Err(_) => Err(AllocError),
-        }
-    }
-
-    fn answer_of(
-        &mut self,
-        alloc: Global,
-        key: &FunctionKey,
-    ) -> Result<Option<Function>, AllocError> {
-        match self.context.function_by_key(alloc, key) {
-            Ok(function) => Ok(function),
-            Err(_) => Err(AllocError),
-        }
-    }
-}
-
-/// Counts the functions of the addresses from `start` on and before `end` by a context, and writes the report.
+/// Counts what the addresses from `start` on and before `end` have by a context, and writes the
+/// report.
 ///
 /// # Errors
 /// `Write` where a write failed; `OutOfMemory`.
-fn write_sizes<P: ModuleProvider, W: Write>(
+fn write_report<A: Counted, W: Write>(
     alloc: Global,
     map: &AddressMap<'_>,
-    context: Context<'_, '_, P>,
+    context: FileContext<'_>,
     start: u32,
     end: u32,
     writer: &mut Watched<W>,
 ) -> Result<Tally, InputFault>
     requires ordered { IsOrdered map.now }
     requires order { start ≤ end }
-    ensures ok { OnOk result ((text : List ℕ) × IsReport map.now (database_in P.provided context.entry) start end text × Writes W.contents writer.old writer.new text) }
-    ensures lookups { IfOk result (λ tally. tally.lookups ≤ context.entry.lookups + pieces map.now (database_in P.provided context.entry) start end) }
+    ensures ok { OnOk result ((text : List ℕ)
+        × A.is_report map.now (A.keyed context.entry).places start end text
+        × Writes W.contents writer.old writer.new text) }
+    ensures lookups { IfOk result (λ tally. tally.lookups ≤ context.entry.lookups
+        + pieces map.now (A.keyed context.entry).places start end) }
     ensures quiet { OnOk result (IsQuiet writer.old writer.new) }
     ensures kind { IfErr result IsOfWriting }
-    ensures write_fails { IfErr result (λ fault. OnInputWrite fault (λ kind. CountsFailure writer.old writer.new kind)) }
-    ensures part { OnErr result ((writer.new ≡ writer.old) ⊎ ((text : List ℕ) × IsReport map.now (database_in P.provided context.entry) start end text × WritesFront W.contents writer.old writer.new text)) }
+    ensures write_fails { IfErr result (λ fault. OnInputWrite fault
+        (λ kind. CountsFailure writer.old writer.new kind)) }
+    ensures part { OnErr result ((writer.new ≡ writer.old) ⊎ ((text : List ℕ)
+        × A.is_report map.now (A.keyed context.entry).places start end text
+        × WritesFront W.contents writer.old writer.new text)) }
 {
-    let mut runs = ContextRuns { context };
+    let mut runs = ContextRuns::<A>::new(context);
     let Ok(sizes) = count_runs(alloc, map, &mut runs, start, end) else {
         return Err(InputFault::OutOfMemory);
     };
-    let Ok(text) = sizes_text(alloc, &sizes) else {
+    let Ok(text) = A::report_text(alloc, &sizes) else {
         return Err(InputFault::OutOfMemory);
     };
     match write_all(writer, text.as_bytes()) {
         Ok(()) => Ok(Tally {
-            lookups: runs.context.lookups(),
+            lookups: runs.lookups(),
         }),
         Err(kind) => Err(write_fault(kind)),
     }
@@ -109,7 +79,7 @@ fn write_sizes<P: ModuleProvider, W: Write>(
 ///
 /// # Errors
 /// `Write` where a write failed; `OutOfMemory`.
-fn sizes_of<W: Write>(
+fn report_of<A: Counted, W: Write>(
     alloc: Global,
     symbolizer: &Symbolizer,
     start: u32,
@@ -117,15 +87,29 @@ fn sizes_of<W: Write>(
     writer: &mut Watched<W>,
 ) -> Result<Tally, InputFault>
     requires { start ≤ end }
-    ensures ok { OnOk result ((text : List ℕ) × IsSizesReport (streams symbolizer.now) start end text × Writes W.contents writer.old writer.new text) }
-    ensures lookups { IfOk result (λ tally. IsWithinPieces (streams symbolizer.now) start end tally.lookups) }
+    ensures ok { OnOk result ((text : List ℕ) × IsReportOn A.is_report
+        (A.places (streams symbolizer.now)) (streams symbolizer.now) start end text
+        × Writes W.contents writer.old writer.new text) }
+    ensures lookups { IfOk result (λ tally. AreWithinPieces (A.places (streams symbolizer.now))
+        (streams symbolizer.now) start end tally.lookups) }
     ensures quiet { OnOk result (IsQuiet writer.old writer.new) }
     ensures kind { IfErr result IsOfWriting }
-    ensures write_fails { IfErr result (λ fault. OnInputWrite fault (λ kind. CountsFailure writer.old writer.new kind)) }
-    ensures part { OnErr result ((writer.new ≡ writer.old) ⊎ ((text : List ℕ) × IsSizesReport (streams symbolizer.now) start end text × WritesFront W.contents writer.old writer.new text)) }
+    ensures write_fails { IfErr result (λ fault. OnInputWrite fault
+        (λ kind. CountsFailure writer.old writer.new kind)) }
+    ensures part { OnErr result ((writer.new ≡ writer.old) ⊎ ((text : List ℕ)
+        × IsReportOn A.is_report
+        (A.places (streams symbolizer.now)) (streams symbolizer.now) start end text
+        × WritesFront W.contents writer.old writer.new text)) }
 {
     match symbolizer.context(alloc) {
-        Ok(context) => write_sizes(alloc, symbolizer.address_map(), context, start, end, writer),
+        Ok(context) => write_report::<A, W>(
+            alloc,
+            symbolizer.address_map(),
+            context,
+            start,
+            end,
+            writer,
+        ),
         Err(_) => Err(InputFault::OutOfMemory),
     }
 }
@@ -134,7 +118,7 @@ fn sizes_of<W: Write>(
 ///
 /// # Errors
 /// `ReversedRange`; `Write` where a write failed; `OutOfMemory`.
-fn sizes_in_order<W: Write>(
+fn report_in_order<A: Counted, W: Write>(
     alloc: Global,
     symbolizer: &Symbolizer,
     start: u32,
@@ -142,30 +126,79 @@ fn sizes_in_order<W: Write>(
     writer: &mut Watched<W>,
 ) -> Result<Tally, RunFault>
     ensures load { IfErr result (λ fault. OnLoad fault (λ _. ⊥)) }
-    ensures reversed { IfErr result (λ fault. OnReversed fault ((end < start) × (writer.new ≡ writer.old))) }
+    ensures reversed { IfErr result (λ fault. OnReversed fault
+        ((end < start) × (writer.new ≡ writer.old))) }
     ensures order { OnCounted result (start ≤ end) }
     ensures kind { IfErr result IsOfSizes }
-    ensures ok { OnOk result ((text : List ℕ) × IsSizesReport (streams symbolizer.now) start end text × Writes W.contents writer.old writer.new text) }
-    ensures lookups { IfOk result (λ tally. IsWithinPieces (streams symbolizer.now) start end tally.lookups) }
+    ensures ok { OnOk result ((text : List ℕ) × IsReportOn A.is_report
+        (A.places (streams symbolizer.now)) (streams symbolizer.now) start end text
+        × Writes W.contents writer.old writer.new text) }
+    ensures lookups { IfOk result (λ tally. AreWithinPieces (A.places (streams symbolizer.now))
+        (streams symbolizer.now) start end tally.lookups) }
     ensures quiet { OnOk result (IsQuiet writer.old writer.new) }
-    ensures write_fails { IfErr result (λ fault. OnWrite fault (λ kind. CountsFailure writer.old writer.new kind)) }
-    ensures part { OnErr result ((writer.new ≡ writer.old) ⊎ ((text : List ℕ) × IsSizesReport (streams symbolizer.now) start end text × WritesFront W.contents writer.old writer.new text)) }
+    ensures write_fails { IfErr result (λ fault. OnWrite fault
+        (λ kind. CountsFailure writer.old writer.new kind)) }
+    ensures part { OnErr result ((writer.new ≡ writer.old) ⊎ ((text : List ℕ)
+        × IsReportOn A.is_report
+        (A.places (streams symbolizer.now)) (streams symbolizer.now) start end text
+        × WritesFront W.contents writer.old writer.new text)) }
 {
     if end < start {
         return Err(RunFault::ReversedRange);
     }
-    match sizes_of(alloc, symbolizer, start, end, writer) {
+    match report_of::<A, W>(alloc, symbolizer, start, end, writer) {
         Ok(tally) => Ok(tally),
         Err(fault) => Err(RunFault::from(fault)),
     }
 }
 
-/// Writes how many of the addresses from `start` on and before `end` each function has in the program database of the bytes: a line
-/// for each function, in the order of start, end and name, and last `none` and how many addresses have none.
+/// Writes a report on a range by the program database of the bytes.
 ///
 /// # Errors
-/// `Load` where the file has a loading fault, then `ReversedRange` where `start` is above `end`, and then nothing was written;
-/// `Write` where the writer failed in this call; `OutOfMemory`.
+/// As [`run_sizes`].
+fn run_report<A: Counted, W: Write>(
+    alloc: Global,
+    bytes: Vec<u8>,
+    start: u32,
+    end: u32,
+    writer: &mut Watched<W>,
+) -> Result<Tally, RunFault>
+    ensures load { IfErr result (λ fault. OnLoad fault (λ cause.
+        IsFileFault cause (load_fault (streams bytes.items)) × (writer.new ≡ writer.old))) }
+    ensures loaded { UnlessLoad result (load_fault (streams bytes.items) ≡ None) }
+    ensures reversed { IfErr result (λ fault. OnReversed fault
+        ((end < start) × (writer.new ≡ writer.old))) }
+    ensures order { OnCounted result (start ≤ end) }
+    ensures kind { IfErr result IsOfSizes }
+    ensures memory { IfErr result (λ fault. OnMemory fault
+        ((load_fault (streams bytes.items) ≡ None) ⊎ (writer.new ≡ writer.old))) }
+    ensures ok { OnOk result ((text : List ℕ) × IsReportOn A.is_report
+        (A.places (streams bytes.items)) (streams bytes.items) start end text
+        × Writes W.contents writer.old writer.new text) }
+    ensures lookups { IfOk result (λ tally.
+        AreWithinPieces (A.places (streams bytes.items)) (streams bytes.items) start end
+        tally.lookups) }
+    ensures quiet { OnOk result (IsQuiet writer.old writer.new) }
+    ensures write_fails { IfErr result (λ fault. OnWrite fault
+        (λ kind. CountsFailure writer.old writer.new kind)) }
+    ensures part { OnErr result ((writer.new ≡ writer.old) ⊎ ((text : List ℕ)
+        × IsReportOn A.is_report
+        (A.places (streams bytes.items)) (streams bytes.items) start end text
+        × WritesFront W.contents writer.old writer.new text)) }
+{
+    match Symbolizer::open(alloc, bytes) {
+        Ok(symbolizer) => report_in_order::<A, W>(alloc, &symbolizer, start, end, writer),
+        Err(fault) => Err(RunFault::from(fault)),
+    }
+}
+
+/// Writes how many of the addresses from `start` on and before `end` each function has in the
+/// program database of the bytes: a line for each function, in the order of start, end and name,
+/// and last `none` and how many addresses have none.
+///
+/// # Errors
+/// `Load` where the file has a loading fault, then `ReversedRange` where `start` is above `end`,
+/// and then nothing was written; `Write` where the writer failed in this call; `OutOfMemory`.
 pub fn run_sizes<W: Write>(
     alloc: Global,
     bytes: Vec<u8>,
@@ -173,27 +206,79 @@ pub fn run_sizes<W: Write>(
     end: u32,
     writer: &mut Watched<W>,
 ) -> Result<Tally, RunFault>
-    // The loading fault is returned where the file has one, with nothing written; every other end but out of memory says that
-    // there is none.
-    ensures load { IfErr result (λ fault. OnLoad fault (λ cause. IsFileFault cause (load_fault (streams bytes.items)) × (writer.new ≡ writer.old))) }
+    // The loading fault is returned where the file has one, with nothing written; every other end
+    // but out of memory says that there is none.
+    ensures load { IfErr result (λ fault. OnLoad fault (λ cause.
+        IsFileFault cause (load_fault (streams bytes.items)) × (writer.new ≡ writer.old))) }
     ensures loaded { UnlessLoad result (load_fault (streams bytes.items) ≡ None) }
     // A reversed range is refused exactly where it is one, with nothing written.
-    ensures reversed { IfErr result (λ fault. OnReversed fault ((end < start) × (writer.new ≡ writer.old))) }
+    ensures reversed { IfErr result (λ fault. OnReversed fault
+        ((end < start) × (writer.new ≡ writer.old))) }
     ensures order { OnCounted result (start ≤ end) }
     ensures kind { IfErr result IsOfSizes }
     // Out of memory is returned with nothing written, or where there is no loading fault.
-    ensures memory { IfErr result (λ fault. OnMemory fault ((load_fault (streams bytes.items) ≡ None) ⊎ (writer.new ≡ writer.old))) }
-    // Where the run ends well, the report is out, the writer didn't fail, and there was at most one lookup for each piece.
-    ensures ok { OnOk result ((text : List ℕ) × IsSizesReport (streams bytes.items) start end text × Writes W.contents writer.old writer.new text) }
-    ensures lookups { IfOk result (λ tally. IsWithinPieces (streams bytes.items) start end tally.lookups) }
+    ensures memory { IfErr result (λ fault. OnMemory fault
+        ((load_fault (streams bytes.items) ≡ None) ⊎ (writer.new ≡ writer.old))) }
+    // Where the run ends well, the report is out, the writer didn't fail, and there was at most one
+    // lookup for each piece.
+    ensures ok { OnOk result ((text : List ℕ) × IsSizesReport (streams bytes.items) start end text
+        × Writes W.contents writer.old writer.new text) }
+    ensures lookups { IfOk result (λ tally.
+        IsWithinPieces (streams bytes.items) start end tally.lookups) }
     ensures quiet { OnOk result (IsQuiet writer.old writer.new) }
     // A failed write is one of this call, with its kind.
-    ensures write_fails { IfErr result (λ fault. OnWrite fault (λ kind. CountsFailure writer.old writer.new kind)) }
-    // At every fault nothing is out, or a front of the report.
-    ensures part { OnErr result ((writer.new ≡ writer.old) ⊎ ((text : List ℕ) × IsSizesReport (streams bytes.items) start end text × WritesFront W.contents writer.old writer.new text)) }
+    ensures write_fails { IfErr result (λ fault. OnWrite fault
+        (λ kind. CountsFailure writer.old writer.new kind)) }
+    // At every fault nothing is out, or a prefix of the report.
+    ensures part { OnErr result ((writer.new ≡ writer.old) ⊎ ((text : List ℕ)
+        × IsSizesReport (streams bytes.items) start end text
+        × WritesFront W.contents writer.old writer.new text)) }
 {
-    match Symbolizer::open(alloc, bytes) {
-        Ok(symbolizer) => sizes_in_order(alloc, &symbolizer, start, end, writer),
-        Err(fault) => Err(RunFault::from(fault)),
-    }
+    run_report::<Function, W>(alloc, bytes, start, end, writer)
+}
+
+/// Writes how many of the addresses from `start` on and before `end` each source file has in the
+/// program database of the bytes: a line for each file, its count and its text, in the order of the
+/// texts' bytes; and last `no file`, `none` and `unreadable` with how many addresses have a
+/// function without a known file, no function, and a function whose frames can't be read.
+///
+/// # Errors
+/// `Load` where the file has a loading fault, then `ReversedRange` where `start` is above `end`,
+/// and then nothing was written; `Write` where the writer failed in this call; `OutOfMemory`.
+pub fn run_sizes_by_file<W: Write>(
+    alloc: Global,
+    bytes: Vec<u8>,
+    start: u32,
+    end: u32,
+    writer: &mut Watched<W>,
+) -> Result<Tally, RunFault>
+    // The loading fault is returned where the file has one, with nothing written; every other end
+    // but out of memory says that there is none.
+    ensures load { IfErr result (λ fault. OnLoad fault (λ cause.
+        IsFileFault cause (load_fault (streams bytes.items)) × (writer.new ≡ writer.old))) }
+    ensures loaded { UnlessLoad result (load_fault (streams bytes.items) ≡ None) }
+    // A reversed range is refused exactly where it is one, with nothing written.
+    ensures reversed { IfErr result (λ fault. OnReversed fault
+        ((end < start) × (writer.new ≡ writer.old))) }
+    ensures order { OnCounted result (start ≤ end) }
+    ensures kind { IfErr result IsOfSizes }
+    // Out of memory is returned with nothing written, or where there is no loading fault.
+    ensures memory { IfErr result (λ fault. OnMemory fault
+        ((load_fault (streams bytes.items) ≡ None) ⊎ (writer.new ≡ writer.old))) }
+    // Where the run ends well, the report is out, the writer didn't fail, and there was at most one
+    // lookup for each piece by file.
+    ensures ok { OnOk result ((text : List ℕ) × IsSizesByFile (streams bytes.items) start end text
+        × Writes W.contents writer.old writer.new text) }
+    ensures lookups { IfOk result (λ tally.
+        IsWithinFilePieces (streams bytes.items) start end tally.lookups) }
+    ensures quiet { OnOk result (IsQuiet writer.old writer.new) }
+    // A failed write is one of this call, with its kind.
+    ensures write_fails { IfErr result (λ fault. OnWrite fault
+        (λ kind. CountsFailure writer.old writer.new kind)) }
+    // At every fault nothing is out, or a prefix of the report.
+    ensures part { OnErr result ((writer.new ≡ writer.old) ⊎ ((text : List ℕ)
+        × IsSizesByFile (streams bytes.items) start end text
+        × WritesFront W.contents writer.old writer.new text)) }
+{
+    run_report::<CountedFile, W>(alloc, bytes, start, end, writer)
 }

@@ -23,8 +23,8 @@ use std::marker::Model;
 /// An open program database over a file's bytes.
 type Database = PDB<'static, BoundedBytes>;
 
-/// A symbolizer: a program database that was loaded, with what contexts are made of. Its value in contracts is the file's
-/// bytes.
+/// A symbolizer: a program database that was loaded, with what contexts are made of. Its value in
+/// contracts is the file's bytes.
 pub struct Symbolizer {
     pdb: Database,
     held: ContextPdbData<'static, 'static, BoundedBytes>,
@@ -49,8 +49,8 @@ impl Drop for Symbolizer {
     }
 }
 
-/// Reads stream 3 and what stands behind it. The first fault of these; `AddressTableDecreases` where the sources of an OMAP
-/// decrease; `OutOfMemory`.
+/// Reads stream 3 and what comes after it. The first fault of these; `AddressTableDecreases`
+/// where the sources of an OMAP decrease; `OutOfMemory`.
 fn read_in_order(
     alloc: Global,
     pdb: &mut Database,
@@ -108,14 +108,16 @@ fn open_file(alloc: Global, file: Bytes) -> Result<Symbolizer, LoadFault>
 }
 
 impl Symbolizer {
-    /// Loads the program database of a file's bytes: everything that keeps the file from being answered is found here, and
-    /// everything that answers need is read. A module's own stream keeps no file from being loaded. No stream is copied that lies in
-    /// the file in one piece, and copies take no more than 64 MB and seven times the file's bytes.
+    /// Loads the program database of a file's bytes: everything that keeps the file from being
+    /// answered is found here, and everything that answers need is read. A module's own stream
+    /// keeps no file from being loaded. No stream is copied that lies in the file in one piece, and
+    /// copies take no more than 64 MB and seven times the file's bytes.
     ///
     /// # Errors
-    /// The first fault, in the order in which a file is read: the container; stream 3 and its header; the stream of symbol
-    /// records, types and ids with their headers; the address tables; `AddressTableDecreases` where the sources of an OMAP
-    /// decrease; the module list; the symbol records to their end; the section contributions. `OutOfMemory`.
+    /// The first fault, in the order in which a file is read: the container; stream 3 and its
+    /// header; the stream of symbol records, types and ids with their headers; the address tables;
+    /// `AddressTableDecreases` where the sources of an OMAP decrease; the module list; the symbol
+    /// records to their end; the section contributions. `OutOfMemory`.
     pub fn open(alloc: Global, bytes: Vec<u8>) -> Result<Symbolizer, LoadFault>
         ensures ok { IfOk result (λ s. s ≡ bytes.items) }
         ensures loaded { OnOk result (load_fault (streams bytes.items) ≡ None) }
@@ -127,7 +129,8 @@ impl Symbolizer {
         }
     }
 
-    /// The ways between addresses of the image and places in sections; the sources of its OMAPs don't decrease.
+    /// The address map, between addresses of the image and places in sections; the sources of its
+    /// OMAPs don't decrease.
     pub fn address_map(&self) -> &AddressMap<'static>
         ensures map { address_map_of (streams self.now) ≡ Some result.now }
         ensures ordered { IsOrdered result.now }
@@ -135,7 +138,8 @@ impl Symbolizer {
         self.held.address_map()
     }
 
-    /// A context over the file, which answers as the file does. It was asked nothing, and nothing stands as failed in it.
+    /// A context over the file, which answers as the file does. It was asked nothing, and nothing
+    /// stands as failed in it.
     ///
     /// # Errors
     /// `OutOfMemory` alone.

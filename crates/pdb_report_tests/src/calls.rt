@@ -4,6 +4,7 @@ use crate::files::{F, run_over, told};
 use pdb_container::Error as Cause;
 use pdb_report::{
     Error, LoadFault, RunFault, Symbolizer, Watched, parse_address, read_file, run_sizes,
+    run_sizes_by_file,
 };
 use pdb_samples::Change;
 use std::alloc::Global;
@@ -30,6 +31,14 @@ fn is_counted(alloc: Global) -> Result<bool, Fail> {
     let mut writer = Watched::new(&mut report);
     run_sizes(alloc, F.made(alloc)?, 0x1018, 0x1030, &mut writer)?;
     Ok(report.as_slice() == b"0x00001010 24 f\nnone 0\n".as_slice())
+}
+
+/// Whether the addresses of a range are counted by source file.
+fn is_counted_by_file(alloc: Global) -> Result<bool, Fail> {
+    let mut report = Vec::new(alloc);
+    let mut writer = Watched::new(&mut report);
+    run_sizes_by_file(alloc, F.made(alloc)?, 0x1018, 0x1030, &mut writer)?;
+    Ok(report.as_slice() == b"24 a.c\nno file 0\nnone 0\nunreadable 0\n".as_slice())
 }
 
 /// Whether a file is read whole, one with an endless tail only to the end of its pages, and an
@@ -65,10 +74,11 @@ fn are_printed(alloc: Global) -> Result<bool, Fail> {
 }
 
 /// Whether each call answers as written.
-fn are_right(alloc: Global) -> Result<[bool; 5], Fail> {
+fn are_right(alloc: Global) -> Result<[bool; 6], Fail> {
     Ok([
         is_answered(alloc)?,
         is_counted(alloc)?,
+        is_counted_by_file(alloc)?,
         are_files_read(alloc)?,
         are_copied(alloc)?,
         are_printed(alloc)?,
@@ -78,7 +88,7 @@ fn are_right(alloc: Global) -> Result<[bool; 5], Fail> {
 // The only test that fails where some allocation is refused, and the others ask again.
 #[test]
 fn first_calls_in_ample_memory(rt: HostRuntime) -> Result<(), Fail> {
-    assert_eq!(rt; are_right(rt.alloc())?, [true; 5]);
+    assert_eq!(rt; are_right(rt.alloc())?, [true; 6]);
     Ok(())
 }
 

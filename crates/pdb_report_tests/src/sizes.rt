@@ -1,7 +1,7 @@
 //! Reports on ranges of addresses, and what was looked up for them.
 
-use crate::files::{F, File, Stop, ended};
-use pdb_report::{Tally, Watched, run_sizes};
+use crate::files::{F, F0, File, Stop, ended};
+use pdb_report::{Tally, Watched, run_sizes, run_sizes_by_file};
 use pdb_samples::Change;
 use std::alloc::Global;
 use std::test::Fail;
@@ -9,25 +9,50 @@ use std::test::Fail;
 /// How a run ends.
 type Outcome = Result<Tally, Stop>;
 
+/// What is counted.
+#[derive(Clone, Copy)]
+enum Counted {
+    Functions,
+    Files,
+}
+
 /// What a run over a range of these bytes writes, and how it ends.
-fn run_over(alloc: Global, bytes: Vec<u8>, range: (u32, u32)) -> (Vec<u8>, Outcome) {
+fn run_over(
+    alloc: Global,
+    bytes: Vec<u8>,
+    counted: Counted,
+    range: (u32, u32),
+) -> (Vec<u8>, Outcome) {
     let mut report = Vec::new(alloc);
     let mut writer = Watched::new(&mut report);
-    let outcome = run_sizes(alloc, bytes, range.0, range.1, &mut writer);
+    let outcome = match counted {
+        Counted::Functions => run_sizes(alloc, bytes, range.0, range.1, &mut writer),
+        Counted::Files => run_sizes_by_file(alloc, bytes, range.0, range.1, &mut writer),
+    };
     (report, ended(outcome))
 }
 
-/// The same of a file.
-fn run_once(alloc: Global, file: File, range: (u32, u32)) -> Result<(Vec<u8>, Outcome), Fail> {
+/// What a run over a range of a file writes, and how it ends.
+fn run_once(
+    alloc: Global,
+    file: File,
+    counted: Counted,
+    range: (u32, u32),
+) -> Result<(Vec<u8>, Outcome), Fail> {
     let bytes = file.bytes(alloc)?;
-    Ok(run_over(alloc, bytes, range))
+    Ok(run_over(alloc, bytes, counted, range))
 }
 
-/// The same; the second run where the first finds no memory.
-fn run_on(alloc: Global, file: File, range: (u32, u32)) -> Result<(Vec<u8>, Outcome), Fail> {
-    let first = run_once(alloc, file, range)?;
+/// That of the second run where the first finds no memory.
+fn run_on(
+    alloc: Global,
+    file: File,
+    counted: Counted,
+    range: (u32, u32),
+) -> Result<(Vec<u8>, Outcome), Fail> {
+    let first = run_once(alloc, file, counted, range)?;
     match &first.1 {
-        Err(Stop::OutOfMemory) => run_once(alloc, file, range),
+        Err(Stop::OutOfMemory) => run_once(alloc, file, counted, range),
         _ => Ok(first),
     }
 }
@@ -58,10 +83,41 @@ const ROWS: &[Row] = &[
     ),
 ];
 
+const ROWS_BY_FILE: &[Row] = &[
+    // A whole section: files may change at 0x1010, 0x1018, 0x1030 and 0x1040.
+    (
+        F,
+        (0x1000, 0x1100),
+        "32 a.c\nno file 0\nnone 224\nunreadable 0\n",
+        (1, 5),
+    ),
+    // No rows.
+    (
+        F0,
+        (0x1010, 0x1030),
+        "no file 32\nnone 0\nunreadable 0\n",
+        (1, 1),
+    ),
+    // Moved code.
+    (
+        File::MovedCode,
+        (0x2000, 0x2010),
+        "8 a.c\nno file 0\nnone 8\nunreadable 0\n",
+        (1, 1),
+    ),
+    // No address at all.
+    (
+        F,
+        (0x1018, 0x1018),
+        "no file 0\nnone 0\nunreadable 0\n",
+        (0, 0),
+    ),
+];
+
 /// Whether the report of a row comes, and so much was looked up.
-fn is_counted(alloc: Global, row: &Row) -> Result<bool, Fail> {
+fn is_counted(alloc: Global, counted: Counted, row: &Row) -> Result<bool, Fail> {
     let (file, range, report, (least, most)) = *row;
-    let (found, outcome) = run_on(alloc, file, range)?;
+    let (found, outcome) = run_on(alloc, file, counted, range)?;
     let lookups = outcome?.lookups;
     Ok(found.as_slice() == report.as_bytes() && least <= lookups && lookups <= most)
 }
@@ -69,7 +125,15 @@ fn is_counted(alloc: Global, row: &Row) -> Result<bool, Fail> {
 #[test]
 fn sizes(rt: HostRuntime) -> Result<(), Fail> {
     for (number, row) in ROWS.iter().enumerate() {
-        assert!(rt; is_counted(rt.alloc(), row)?, "row {number}");
+        assert!(rt; is_counted(rt.alloc(), Counted::Functions, row)?, "row {number}");
+    }
+    Ok(())
+}
+
+#[test]
+fn sizes_by_file(rt: HostRuntime) -> Result<(), Fail> {
+    for (number, row) in ROWS_BY_FILE.iter().enumerate() {
+        assert!(rt; is_counted(rt.alloc(), Counted::Files, row)?, "row {number}");
     }
     Ok(())
 }

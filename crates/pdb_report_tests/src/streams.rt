@@ -1,7 +1,7 @@
 //! Readers and writers that fail at each place, or give and take few bytes.
 
 use crate::files::{F, File, Outcome, Stop, ended, line_buffer};
-use pdb_report::{Watched, run_frames, run_sizes};
+use pdb_report::{Watched, run_frames, run_sizes, run_sizes_by_file};
 use pdb_samples::{PieceReader, PieceWriter};
 use std::alloc::Global;
 use std::io::ErrorKind;
@@ -15,6 +15,8 @@ struct Row {
     input: &'static [u8],
     /// The range whose addresses are counted, if it isn't lines that are answered.
     range: Option<(u32, u32)>,
+    /// Whether they are counted by source file.
+    by_file: bool,
     /// The texts of the report: that of each line, or that on the range.
     texts: &'static [&'static [u8]],
 }
@@ -23,6 +25,7 @@ const ODD_INPUT: Row = Row {
     file: F,
     input: b"1050\nzz\n\n1014",
     range: None,
+    by_file: false,
     texts: &[
         b"0x00001050\n  ??\n",
         b"not an address\n",
@@ -35,6 +38,7 @@ const NESTED_SITES: Row = Row {
     file: File::NestedSites,
     input: b"1019\n",
     range: None,
+    by_file: false,
     texts: &[
         b"0x00001019\n  h() at c.h:9 @0x00001018+4\n  g() at b.h:?? @??\n  \
         f at a.c:7 @0x00001018+24\n",
@@ -45,7 +49,16 @@ const PART_OF_A_FUNCTION: Row = Row {
     file: F,
     input: b"",
     range: Some((0x1018, 0x1030)),
+    by_file: false,
     texts: &[b"0x00001010 24 f\nnone 0\n"],
+};
+
+const SECTION_BY_FILE: Row = Row {
+    file: F,
+    input: b"",
+    range: Some((0x1000, 0x1100)),
+    by_file: true,
+    texts: &[b"32 a.c\nno file 0\nnone 224\nunreadable 0\n"],
 };
 
 /// A line, and one that can't be read to its end.
@@ -53,6 +66,7 @@ const CUT_LINE: Row = Row {
     file: F,
     input: b"1014\n10",
     range: None,
+    by_file: false,
     texts: &[
         b"0x00001014\n  f at a.c:5 @0x00001010+8\n",
         b"0x00000010\n  ??\n",
@@ -148,6 +162,9 @@ fn run_once(alloc: Global, row: &Row, ends: Ends) -> Result<Ran, Fail> {
     let mut writer = Watched::new(&mut inner);
     let outcome = match row.range {
         None => ended(run_frames(alloc, file, &mut reader, &mut writer)),
+        Some((start, end)) if row.by_file => {
+            ended(run_sizes_by_file(alloc, file, start, end, &mut writer)).map(|_| ())
+        }
         Some((start, end)) => { ended(run_sizes(alloc, file, start, end, &mut writer)).map(|_| ()) }
     };
     let writes = (writer.failures(), writer.last_kind());
@@ -333,7 +350,7 @@ fn first_miswritten(
 #[test]
 fn writers(rt: HostRuntime) -> Result<(), Fail> {
     for fault in FAULTS {
-        for row in [ODD_INPUT, NESTED_SITES, PART_OF_A_FUNCTION] {
+        for row in [ODD_INPUT, NESTED_SITES, PART_OF_A_FUNCTION, SECTION_BY_FILE] {
             let room = first_miswritten(rt.alloc(), &row, fault)?;
             assert!(rt;
                 room.is_none(),

@@ -1,11 +1,12 @@
-//! Answers addresses of a program by its program database: `pdb_symbolizer frames FILE`; and counts how many addresses of a range
-//! each function has: `pdb_symbolizer sizes FILE START END`.
+//! Answers addresses of a program by its program database: `pdb_symbolizer frames FILE`; and counts
+//! how many addresses of a range each function has, or with `--by-file` each source file:
+//! `pdb_symbolizer sizes FILE START END`.
 #![tactic(auto)]
 
 pub use pdb_arguments::{Task, TextOutput, WordsFault, read_words, tell_words};
 pub use pdb_report::{
     AtEnd, Error, LoadFault, RunFault, Symbolizer, Tally, Watched, finish_run, parse_address,
-    read_file, run_frames, run_frames_ending, run_sizes,
+    read_file, run_frames, run_frames_ending, run_sizes, run_sizes_by_file,
 };
 use std::alloc::Global;
 use std::io::{self, ErrorKind, Write};
@@ -13,7 +14,7 @@ use std::process::ExitCode;
 use std::rt::Env;
 use std::{env, fs};
 
-/// What is told where a word is no text.
+/// What is reported where an argument is no text.
 const NO_TEXT: &str =
     "error: a word is no text\n\nUsage: pdb_symbolizer <COMMAND>\n\nFor more information, try '--help'.\n";
 
@@ -53,7 +54,12 @@ fn main(rt: HostRuntime) -> ExitCode {
             &mut writer,
             AtEnd::LeaveToProcess,
         ),
-        Task::Sizes { start, end, .. } => count_sizes(rt.alloc(), bytes, start, end, &mut writer),
+        Task::Sizes {
+            start,
+            end,
+            by_file,
+            ..
+        } => count_sizes(rt.alloc(), bytes, start, end, by_file, &mut writer),
     };
     ExitCode::from(finish_run(outcome, &mut errors))
 }
@@ -64,10 +70,10 @@ fn bytes_of(rt: &(impl fs::Files + AllocGlobal), file: &str) -> io::Result<Vec<u
     read_file(rt.alloc(), &mut reader)
 }
 
-/// The words behind the program's name.
+/// The arguments after the program's name.
 ///
 /// # Errors
-/// `OutOfMemory`, and another kind where a word is no text.
+/// `OutOfMemory`, and another kind where an argument is no text.
 fn given_words(rt: &(impl Env + AllocGlobal)) -> io::Result<Vec<String>> {
     let mut words = Vec::new(rt.alloc());
     for word in env::args(rt)?.skip(1) {
@@ -76,7 +82,8 @@ fn given_words(rt: &(impl Env + AllocGlobal)) -> io::Result<Vec<String>> {
     Ok(words)
 }
 
-/// Writes the report on a range; how much was looked up for it isn't told.
+/// Writes the report on a range, by source file or by function; how much was looked up for it isn't
+/// reported.
 ///
 /// # Errors
 /// As [`run_sizes`].
@@ -85,9 +92,15 @@ fn count_sizes<W: Write>(
     bytes: Vec<u8>,
     start: u32,
     end: u32,
+    by_file: bool,
     writer: &mut Watched<W>,
 ) -> Result<(), RunFault> {
-    match run_sizes(alloc, bytes, start, end, writer) {
+    let outcome = if by_file {
+        run_sizes_by_file(alloc, bytes, start, end, writer)
+    } else {
+        run_sizes(alloc, bytes, start, end, writer)
+    };
+    match outcome {
         Ok(_) => Ok(()),
         Err(fault) => Err(fault),
     }

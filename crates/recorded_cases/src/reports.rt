@@ -9,6 +9,7 @@
 //! - `bytes PLACE BYTES`: it is of the file with BYTES at PLACE
 //! - `< TEXT`: a line of input, for a report on addresses
 //! - `sizes START END`: the range, both hexadecimal, for a report on how many of its addresses each function has
+//! - `by-file START END`: the range, for a report on how many of its addresses each source file has
 //! - `> TEXT`: a line of output that must come
 //! - `! TEXT`: a line of error output that must come
 //! - `status NUMBER`: the exit status that must come
@@ -45,7 +46,7 @@ use changes::{Change, changed};
 use database::database_bytes;
 use difference::print_difference;
 use input::{Input, Pace};
-use pdb_report::{RunFault, Watched, finish_run, run_frames, run_sizes};
+use pdb_report::{RunFault, Watched, finish_run, run_frames, run_sizes, run_sizes_by_file};
 use std::alloc::Global;
 use std::fs;
 use std::rt::Files;
@@ -131,7 +132,12 @@ fn report(
         });
         return run_frames(alloc, bytes, &mut reader, &mut writer);
     };
-    match run_sizes(alloc, bytes, start, end, &mut writer) {
+    let outcome = if case.by_file {
+        run_sizes_by_file(alloc, bytes, start, end, &mut writer)
+    } else {
+        run_sizes(alloc, bytes, start, end, &mut writer)
+    };
+    match outcome {
         Ok(_) => Ok(()),
         Err(fault) => Err(fault),
     }

@@ -12,6 +12,8 @@
 //! - `frames_at`: the frames at this RVA, as their copy
 //! - `run_from`: the function at this offset of section 1, over how many bytes up to 256 it stays the same, and how many
 //!   places were looked up then
+//! - `file_run_from`: the same of the function's source file; `file_run_again`: of a context that was
+//!   asked before for the frames at that offset from RVA 0x1000
 //! - `functions`: how many entries the public list has, and all functions
 //! - `all_again`: all four of these of a context that was asked them before, whether what gives modules was asked then, and
 //!   how often it is asked now

@@ -9,8 +9,10 @@ use std::test::Fail;
 enum Wanted {
     /// This task.
     Frames(&'static str),
-    /// This task.
+    /// This task, which isn't by file.
     Sizes(&'static str, u32, u32),
+    /// This task, by file.
+    SizesByFile(&'static str, u32, u32),
     /// The fault of this name.
     NotAnAddress,
     /// A text on wrong words that has these texts.
@@ -29,8 +31,11 @@ impl Wanted {
     fn came(self, outcome: &Result<Task, WordsFault>) -> bool {
         match (self, outcome) {
             (Wanted::Frames(wanted), Ok(Task::Frames { file })) => file.as_str() == wanted,
-            (Wanted::Sizes(wanted, from, to), Ok(Task::Sizes { file, start, end })) => {
-                file.as_str() == wanted && *start == from && *end == to
+            (Wanted::Sizes(wanted, from, to), Ok(Task::Sizes { file, start, end, by_file })) => {
+                file.as_str() == wanted && *start == from && *end == to && !*by_file
+            }
+            (Wanted::SizesByFile(wanted, from, to), Ok(Task::Sizes { file, start, end, by_file })) => {
+                file.as_str() == wanted && *start == from && *end == to && *by_file
             }
             (Wanted::NotAnAddress, Err(WordsFault::NotAnAddress)) => true,
             (Wanted::Words(parts), Err(WordsFault::Words(text))) => has_all(text, parts),
@@ -42,11 +47,13 @@ impl Wanted {
 
 /// What help on `sizes` has.
 const SIZES_HELP: &[&str] = &[
-    "Usage: pdb_symbolizer sizes <FILE> <START> <END>",
+    "Usage: pdb_symbolizer sizes [OPTIONS] <FILE> <START> <END>",
     "<FILE>   The program database",
     "<START>  The range's first address, in hexadecimal",
     "<END>    The address after the range's last",
+    "--by-file  Counts for each source file",
     "pdb_symbolizer sizes program.pdb 1000 2000",
+    "pdb_symbolizer sizes --by-file program.pdb 1000 2000",
 ];
 
 /// What help on `frames` has.
@@ -74,11 +81,13 @@ const ROWS: &[(&str, Wanted)] = &[
         "sizes F 10",
         Wanted::Words(&[
             "  <END>",
-            "Usage: pdb_symbolizer sizes <FILE> <START> <END>",
+            "Usage: pdb_symbolizer sizes [OPTIONS] <FILE> <START> <END>",
         ]),
     ),
     ("sizes --help", Wanted::Help(SIZES_HELP)),
     ("frames F", Wanted::Frames("F")),
+    ("sizes --by-file F 10 20", Wanted::SizesByFile("F", 16, 32)),
+    ("sizes F 10 20 --by-file", Wanted::SizesByFile("F", 16, 32)),
     ("sizes F 20 10", Wanted::Sizes("F", 32, 16)),
     ("sizes F 10 zz", Wanted::NotAnAddress),
     ("sizes F 123456789 20", Wanted::NotAnAddress),

@@ -18,6 +18,8 @@ pub struct Case<'t> {
     pub files: Vec<Changes<'t>>,
     /// The range whose sizes are asked for, its start and its end. None where addresses are asked for.
     pub range: Option<(u32, u32)>,
+    /// Whether its sizes are asked for by source file.
+    pub by_file: bool,
     /// The bytes of the input.
     pub input: Vec<u8>,
     /// The bytes of the output that must come.
@@ -39,6 +41,7 @@ impl<'t> Case<'t> {
             database: "",
             files: Vec::new(alloc),
             range: None,
+            by_file: false,
             input: Vec::new(alloc),
             output: Vec::new(alloc),
             errors: Vec::new(alloc),
@@ -69,7 +72,8 @@ impl<'t> Case<'t> {
         let (word, rest) = line.split_once(' ').unwrap_or((line, ""));
         match word {
             "case" => self.set_names(rest),
-            "sizes" => self.set_range(rest),
+            "sizes" => self.set_range(rest, false),
+            "by-file" => self.set_range(rest, true),
             "status" => self.set_status(rest),
             "prefixes" => self.add_files(changes::prefixes(rest)?),
             "numbers" => self.add_files(changes::numbers(rest)?),
@@ -86,10 +90,11 @@ impl<'t> Case<'t> {
         Ok(())
     }
 
-    /// Sets the range whose sizes are asked for.
-    fn set_range(&mut self, words: &str) -> Result<()> {
+    /// Sets the range whose sizes are asked for, by source file or by function.
+    fn set_range(&mut self, words: &str, by_file: bool) -> Result<()> {
         let (start, end) = words.split_once(' ').context("two addresses are needed")?;
         self.range = Some((address_of(start)?, address_of(end)?));
+        self.by_file = by_file;
         Ok(())
     }
 

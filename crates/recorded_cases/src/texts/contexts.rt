@@ -85,6 +85,8 @@ fn answer_by<P: ModuleProvider>(
         Asked::FunctionAt => function_text(alloc, context, question.index),
         Asked::FramesAt | Asked::Prefixes => frames_text(alloc, context, question.index),
         Asked::RunFrom => run_text(alloc, context, question.index),
+        Asked::FileRunFrom => file_run_text(alloc, context, question.index),
+        Asked::FileRunAgain => file_run_again_text(alloc, context, question.index),
         _ => functions_text(alloc, context),
     }
 }
@@ -101,6 +103,32 @@ fn run_text<P: ModuleProvider>(
         Ok(run) => shown(alloc, &(run, context.lookups())),
         Err(fault) => Err(fault),
     }
+}
+
+/// The source file at an offset of section 1, how far it goes on, and how many places were looked up.
+fn file_run_text<P: ModuleProvider>(
+    alloc: Global,
+    context: &mut Context<'_, '_, P>,
+    offset: u32,
+) -> Result<String, Error> {
+    let place = PdbInternalSectionOffset { offset, section: 1 };
+    let run = context.find_file_run(alloc, place, 0x100);
+    match run {
+        Ok(run) => shown(alloc, &(run, context.lookups())),
+        Err(fault) => Err(fault),
+    }
+}
+
+/// The source file at an offset of section 1, which begins at 0x1000, once the frames there were
+/// asked for.
+fn file_run_again_text<P: ModuleProvider>(
+    alloc: Global,
+    context: &mut Context<'_, '_, P>,
+    offset: u32,
+) -> Result<String, Error> {
+    let found = context.find_frames(alloc, offset.saturating_add(0x1000));
+    drop(found);
+    file_run_text(alloc, context, offset)
 }
 
 /// How many entries the public list has, and all functions.

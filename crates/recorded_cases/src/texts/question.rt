@@ -19,6 +19,10 @@ pub enum Asked {
     FramesAt,
     /// How far the function at a place goes on.
     RunFrom,
+    /// How far the source file of a place goes on.
+    FileRunFrom,
+    /// The same of a context that was asked for the place's frames before.
+    FileRunAgain,
     /// All functions.
     Functions,
     /// All of a context that was asked before.
@@ -38,6 +42,8 @@ const ASKED: &[(&str, Asked)] = &[
     ("function_at", Asked::FunctionAt),
     ("frames_at", Asked::FramesAt),
     ("run_from", Asked::RunFrom),
+    ("file_run_from", Asked::FileRunFrom),
+    ("file_run_again", Asked::FileRunAgain),
     ("functions", Asked::Functions),
     ("all_again", Asked::AllAgain),
     ("each_again", Asked::EachAgain),

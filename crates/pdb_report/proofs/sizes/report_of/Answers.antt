@@ -1,0 +1,38 @@
+use Rattle.pdb_engine.specs.Watched.{Writes, WritesFront}
+use Rattle.pdb_symbols_modules.specs.Streams.{streams}
+use Rattle.pdb_report.proofs.SizesSteps.{sizes_out, sizes_part, sizes_asked}
+use Rattle.pdb_report.proofs.sizes.report_of.Goals as goal
+
+-- the context counts as the file does
+pub returns-in-Ok-clause-ok : goal.returns-in-Ok-clause-ok
+returns-in-Ok-clause-ok g c =
+    let s = streams c.args.symbolizer.now in
+    let counted = g.A.Counted in
+    sizes_out counted.is_report s c.address_map.result.now
+    (counted.keyed c.in-Ok.context).places (counted.places s) c.args.start c.args.end
+    c.address_map.ensures.map
+    (g.met.A.Counted.of_file s c.in-Ok.context c.in-Ok.ensures.answers) c.write_report.result
+    (λ text. Writes g.W.Write.contents c.args.writer.now c.write_report.new.writer text)
+    c.write_report.ensures.ok
+
+pub returns-in-Ok-clause-lookups : goal.returns-in-Ok-clause-lookups
+returns-in-Ok-clause-lookups g c =
+    let s = streams c.args.symbolizer.now in
+    let counted = g.A.Counted in
+    sizes_asked counted.is_report s c.address_map.result.now
+    (counted.keyed c.in-Ok.context).places (counted.places s) c.args.start c.args.end
+    c.address_map.ensures.map
+    (g.met.A.Counted.of_file s c.in-Ok.context c.in-Ok.ensures.answers) c.write_report.result
+    c.in-Ok.context.lookups c.in-Ok.ensures.unasked c.write_report.ensures.lookups
+
+pub returns-in-Ok-clause-part : goal.returns-in-Ok-clause-part
+returns-in-Ok-clause-part g c =
+    let s = streams c.args.symbolizer.now in
+    let counted = g.A.Counted in
+    sizes_part counted.is_report s c.address_map.result.now
+    (counted.keyed c.in-Ok.context).places (counted.places s) c.args.start c.args.end
+    c.address_map.ensures.map
+    (g.met.A.Counted.of_file s c.in-Ok.context c.in-Ok.ensures.answers) c.write_report.result
+    (c.write_report.new.writer ≡ c.args.writer.now)
+    (λ text. WritesFront g.W.Write.contents c.args.writer.now c.write_report.new.writer text)
+    c.write_report.ensures.part

@@ -1,0 +1,15 @@
+-- The report on a range by source file: how many of its addresses each file has.
+use Rattle.std.specs.Prelude.{ℕ, List}
+use Rattle.pdb_functions.specs.FileReport.{IsFileReport}
+use Rattle.pdb_report.specs.Answer.{files}
+use Rattle.pdb_report.specs.SizesReport.{AreWithinPieces, IsReportOn}
+use Rattle.pdb_symbols_modules.specs.Streams.{Streams}
+
+-- The report by file: a line for each file that some of the addresses have, with how many have it,
+-- and then how many have no known file, how many have nothing, and how many can't be read.
+abbrev pub IsSizesByFile : Streams → ℕ → ℕ → List ℕ → Type 0
+IsSizesByFile s start end text = IsReportOn IsFileReport (files s) s start end text
+
+-- So many lookups are at most one for each piece of the range by file.
+abbrev pub IsWithinFilePieces : Streams → ℕ → ℕ → ℕ → Type 0
+IsWithinFilePieces s start end lookups = AreWithinPieces (files s) s start end lookups

@@ -1,0 +1,206 @@
+//! What reports of sizes count.
+
+ghost use Rattle.std.specs.Prelude.{◌≡◌, ℕ, ◌+◌, ◌-◌, ◌^◌, ◌≤◌, List, min, IfOk, OnOk};
+ghost use Rattle.std.specs.Prelude.{option_and_then};
+ghost use Rattle.std.specs.String.{string_bytes};
+ghost use Rattle.pdb_addresses.specs.Addresses.{Map};
+ghost use Rattle.pdb_addr2line.specs.Context.{Context as ContextValue};
+ghost use Rattle.pdb_addr2line.specs.Kept.{KeptInfo};
+ghost use Rattle.pdb_functions.specs.Databases.{Database, IsOneRun, Keyed, place_of};
+ghost use Rattle.pdb_report.specs.Answer.{AnswersAs};
+ghost use Rattle.pdb_report.specs.Kept.{answered_in};
+ghost use Rattle.pdb_report.specs.SizesReport.{AreSizes};
+ghost use Rattle.pdb_symbols_modules.specs.Streams.{Streams};
+
+use pdb_addr2line::{Context, Function, KeptModules};
+use pdb_addresses::PdbInternalSectionOffset;
+use pdb_functions::{Answer, CountedFile, FileKey, FunctionKey, Runs, Sizes};
+use pdb_functions::{by_file_text, sizes_text};
+use std::alloc::{AllocError, Global};
+use std::marker::PhantomData;
+
+/// A context over a file that was loaded.
+pub(crate) type FileContext<'a> = Context<'a, 'static, KeptModules<'static>>;
+
+/// What a report of sizes counts at addresses, with the text of its counts.
+pub(crate) trait Counted: Answer {
+    /// What tells answers apart run by run; each stands for one answer, or for none.
+    type Key: Answer;
+
+    ghost keyed: { ContextValue (List KeptInfo) → Keyed Self.Key Self };
+
+    ghost places: { Streams → Database Self };
+
+    ghost is_report: { Map → Database Self → ℕ → ℕ → List ℕ → Type 0 };
+
+    /// Returns a key of the answer at a place, and over how many places from it on there is no
+    /// bound, `limit` at most. It is counted as a lookup.
+    fn run_at(
+        alloc: Global,
+        context: &mut FileContext<'_>,
+        place: PdbInternalSectionOffset,
+        limit: u32,
+    ) -> Result<(Option<Self::Key>, u32), AllocError>
+        requires some { 1 ≤ limit }
+        ensures answer { IfOk result (λ run. option_and_then (keyed context.old).answer_of run.0
+            ≡ ((keyed context.old).places).answer (place_of place)) }
+        ensures count { IfOk result (λ run. IsOneRun (keyed context.old).places
+            (place_of place) limit run.1) }
+        ensures same { keyed context.new ≡ keyed context.old }
+        ensures lookups { OnOk result (context.new.lookups
+            ≡ min (context.old.lookups + 1) (2 ^ 64 - 1)) };
+
+    /// Returns the answer that a key stands for, if there is one.
+    fn answer_of(
+        alloc: Global,
+        context: &mut FileContext<'_>,
+        key: &Self::Key,
+    ) -> Result<Option<Self>, AllocError>
+        ensures answer { IfOk result (λ answer. answer ≡ (keyed context.old).answer_of key.now) }
+        ensures same { keyed context.new ≡ keyed context.old }
+        ensures lookups { OnOk result (context.new.lookups ≡ context.old.lookups) };
+
+    /// Returns the text of a report with these counts.
+    fn report_text(alloc: Global, sizes: &Sizes<Self>) -> Result<String, AllocError>
+        ensures { IfOk result (λ text. (m : Map) (db : Database Self) (start end : ℕ)
+            → AreSizes Self.cmp m db start end sizes.now.counts sizes.now.none
+            → is_report m db start end (string_bytes text)) };
+
+    ghost of_file: { (s : Streams) (c : ContextValue (List KeptInfo)) → AnswersAs answered_in s c
+        → (keyed c).places ≡ places s };
+}
+
+/// Functions, in the order of start, end and name.
+impl Counted for Function {
+    ghost use Rattle.pdb_functions.specs.Report.{IsReport};
+    ghost use Rattle.pdb_report.specs.Answer.{database, keyed_in};
+
+    type Key = FunctionKey;
+
+    ghost keyed = { keyed_in answered_in };
+
+    ghost places = { database };
+
+    ghost is_report = { IsReport };
+
+    ghost of_file = { λ s c answers. answers.places };
+
+    fn run_at(
+        alloc: Global,
+        context: &mut FileContext<'_>,
+        place: PdbInternalSectionOffset,
+        limit: u32,
+    ) -> Result<(Option<FunctionKey>, u32), AllocError> {
+        match context.find_key_run(alloc, place, limit) {
+            Ok(run) => Ok(run),
+            Err(_) => Err(AllocError),
+        }
+    }
+
+    fn answer_of(
+        alloc: Global,
+        context: &mut FileContext<'_>,
+        key: &FunctionKey,
+    ) -> Result<Option<Function>, AllocError> {
+        match context.function_by_key(alloc, key) {
+            Ok(function) => Ok(function),
+            Err(_) => Err(AllocError),
+        }
+    }
+
+    fn report_text(alloc: Global, sizes: &Sizes<Function>) -> Result<String, AllocError> {
+        sizes_text(alloc, sizes)
+    }
+}
+
+/// Files, by their kind, and those that are known in the order of their texts' bytes.
+impl Counted for CountedFile {
+    ghost use Rattle.pdb_functions.specs.FileReport.{IsFileReport};
+    ghost use Rattle.pdb_report.specs.Answer.{files, files_keyed_in};
+
+    type Key = FileKey;
+
+    ghost keyed = { files_keyed_in answered_in };
+
+    ghost places = { files };
+
+    ghost is_report = { IsFileReport };
+
+    ghost of_file = { λ s c answers. answers.files };
+
+    fn run_at(
+        alloc: Global,
+        context: &mut FileContext<'_>,
+        place: PdbInternalSectionOffset,
+        limit: u32,
+    ) -> Result<(Option<FileKey>, u32), AllocError> {
+        match context.find_file_key_run(alloc, place, limit) {
+            Ok(run) => Ok(run),
+            Err(_) => Err(AllocError),
+        }
+    }
+
+    fn answer_of(
+        alloc: Global,
+        context: &mut FileContext<'_>,
+        key: &FileKey,
+    ) -> Result<Option<CountedFile>, AllocError> {
+        match context.file_by_key(alloc, key) {
+            Ok(file) => Ok(file),
+            Err(_) => Err(AllocError),
+        }
+    }
+
+    fn report_text(alloc: Global, sizes: &Sizes<CountedFile>) -> Result<String, AllocError> {
+        by_file_text(alloc, sizes)
+    }
+}
+
+/// A context that is asked for runs of what is counted.
+#[derive(Drop)]
+pub(crate) struct ContextRuns<'a, A: Counted> {
+    context: FileContext<'a>,
+    counted: PhantomData<A>,
+}
+
+impl<'a, A: Counted> ContextRuns<'a, A> {
+    /// Runs by a context.
+    pub(crate) fn new(context: FileContext<'a>) -> ContextRuns<'a, A>
+        ensures { result.context ≡ context.entry }
+    {
+        ContextRuns {
+            context,
+            counted: PhantomData,
+        }
+    }
+
+    /// Returns how many places were looked up.
+    pub(crate) fn lookups(&self) -> u64
+        ensures { result ≡ self.now.context.lookups }
+    {
+        self.context.lookups()
+    }
+}
+
+impl<'a, A: Counted> Runs for ContextRuns<'a, A> {
+    type Key = A::Key;
+
+    type Found = A;
+
+    ghost keyed = { λ runs. A.keyed runs.context };
+
+    ghost lookups = { λ runs. runs.context.lookups };
+
+    fn run_at(
+        &mut self,
+        alloc: Global,
+        place: PdbInternalSectionOffset,
+        limit: u32,
+    ) -> Result<(Option<A::Key>, u32), AllocError> {
+        A::run_at(alloc, &mut self.context, place, limit)
+    }
+
+    fn answer_of(&mut self, alloc: Global, key: &A::Key) -> Result<Option<A>, AllocError> {
+        A::answer_of(alloc, &mut self.context, key)
+    }
+}
