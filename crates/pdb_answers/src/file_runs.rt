@@ -148,10 +148,10 @@ fn chosen_run<I: ModuleTables>(
 
 /// Whether a part of the function at a place is known to be unreadable. No clause says so: it only
 /// saves reading. The number is that of the procedure over the place, if there is one.
-fn is_known_unreadable<I: ModuleTables>(
-    parts: &ContextParts<'_, '_>,
+fn is_known_unreadable<'c, 'a, I: ModuleTables>(
+    parts: &'c ContextParts<'a, '_>,
     known_failures: &KnownFailures,
-    known: Option<&BasicModuleInfo<'_, I>>,
+    known: Option<&'c BasicModuleInfo<'a, I>>,
     number: Option<usize>,
     held: HeldPlace,
 ) -> bool

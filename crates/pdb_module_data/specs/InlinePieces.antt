@@ -1,12 +1,16 @@
--- Pieces of places for the inline sites of a procedure: at each place the number of the deepest site over it; and what is kept of
--- their rows.
-use Rattle.std.specs.Prelude.{◌≡◌, ℕ, ◌+◌, ◌-◌, ◌^◌, ◌<◌, ◌≤◌, Bool, ◌&&◌, ◌==◌, nat_le, nat_lt, List, [], ◌∷◌, ◌++◌, map, length, take, drop, slice_index, unwrap_or, Option, None, Some, option_map, if◌then◌else◌}
+-- Pieces of places for the inline sites of a procedure: at each place the number of the deepest
+-- site over it; and what is stored of their rows.
+use Rattle.std.specs.Prelude.{◌≡◌, ℕ, ◌+◌, ◌-◌, ◌^◌, ◌<◌, ◌≤◌, Bool, ◌&&◌, ◌==◌, nat_le, nat_lt}
+use Rattle.std.specs.Prelude.{List, [], ◌∷◌, ◌++◌, map, length, take, drop, slice_index, unwrap_or}
+use Rattle.std.specs.Prelude.{Option, None, Some, option_map, if◌then◌else◌}
 use Rattle.std.specs.Prelude.{◌≢◌, option_and_then, slice_get}
 use Rattle.std.specs.BTreeMap.{BTreeMap, get}
 use Rattle.std.specs.List.{find, flat_map}
 use Rattle.std.specs.Ordering.{nat_cmp}
 use Rattle.pdb_indices.specs.declared.index.IdIndex.{IdIndex}
-use Rattle.pdb_addresses.specs.declared.internal_section_offset.PdbInternalSectionOffset.{PdbInternalSectionOffset}
+use Rattle.pdb_addresses.specs.declared.internal_section_offset.PdbInternalSectionOffset.{
+  PdbInternalSectionOffset,
+}
 use Rattle.pdb_subsections.specs.declared.line_info.LineInfo.{LineInfo}
 use Rattle.pdb_symbols.specs.Forms.{InlineSiteForm}
 use Rattle.pdb_pieces.specs.declared.span.Span.{Span}
@@ -17,22 +21,32 @@ use Rattle.pdb_module_data.specs.declared.inlined_calls.InlinedCall.{InlinedCall
 use Rattle.pdb_module_data.specs.Forest.{Site}
 use Rattle.pdb_module_data.specs.InlinedCalls.{deepest, has_length}
 
--- what is kept of a row: all that an answer needs, if the row covers anything
+-- what is stored of a row: all that an answer needs, if the row covers anything
 abbrev pub kept_of : LineInfo → List CallRow
-kept_of row = if has_length row then record { offset = row.offset; length = unwrap_or row.length 0; file_index = row.file_index; line_start = row.line_start } ∷ [] else []
+kept_of row =
+    if has_length row
+    then record {
+      offset = row.offset;
+      length = unwrap_or row.length 0;
+      file_index = row.file_index;
+      line_start = row.line_start;
+    } ∷ []
+    else []
 
--- what is kept of rows
+-- what is stored of rows
 abbrev pub kept_rows : List LineInfo → List CallRow
 kept_rows rows = flat_map kept_of rows
 
--- what is kept of the rows of sites, one after another
+-- what is stored of the rows of sites, one after another
 abbrev pub rows_of_sites : (InlineSiteForm → List LineInfo) → List Site → List CallRow
 rows_of_sites rows sites = flat_map (λ site. kept_rows (rows site.call)) sites
 
--- where what is kept of the rows of each site starts, of which the first starts at a number; and where that of the last one ends
+-- where what is stored of the rows of each site starts, of which the first starts at a number; and
+-- where that of the last one ends
 abbrev pub starts_of_sites : (InlineSiteForm → List LineInfo) → ℕ → List Site → List ℕ
 starts_of_sites rows from [] = from ∷ []
-starts_of_sites rows from (site ∷ sites) = from ∷ starts_of_sites rows (from + length (kept_rows (rows site.call))) sites
+starts_of_sites rows from (site ∷ sites) =
+    from ∷ starts_of_sites rows (from + length (kept_rows (rows site.call))) sites
 
 -- the rows from a number on and before another one
 abbrev pub rows_between : List CallRow → ℕ → ℕ → List CallRow
@@ -46,12 +60,18 @@ pub record AreCut (sites : ℕ) (starts : List ℕ) (rows : ℕ) : Type 0 where
 
 -- what a row of the site with a number covers, ranked by the site's depth
 abbrev pub site_row_span : ℕ → ℕ → CallRow → Span
-site_row_span number depth row = record { start = place_number row.offset; end = place_number row.offset + row.length; mark = record { rank = depth; value = number } }
+site_row_span number depth row = record {
+  start = place_number row.offset;
+  end = place_number row.offset + row.length;
+  mark = record { rank = depth; value = number };
+}
 
 -- what sites cover by their rows, of which the first has this number
 abbrev pub site_spans : (InlineSiteForm → List LineInfo) → ℕ → List Site → List Span
 site_spans rows number [] = []
-site_spans rows number (site ∷ sites) = map (site_row_span number site.depth) (kept_rows (rows site.call)) ++ site_spans rows (number + 1) sites
+site_spans rows number (site ∷ sites) =
+    map (site_row_span number site.depth) (kept_rows (rows site.call))
+    ++ site_spans rows (number + 1) sites
 
 -- a row's start and length have 32 bits
 abbrev pub IsShortRow : CallRow → Type 0
@@ -65,11 +85,14 @@ AreShortRows (row ∷ rows) = IsShortRow row × AreShortRows rows
 -- the rows of each site are so short
 abbrev pub AreShortSites : (InlineSiteForm → List LineInfo) → List Site → Type 0
 AreShortSites rows [] = Unit {0}
-AreShortSites rows (site ∷ sites) = AreShortRows (kept_rows (rows site.call)) × AreShortSites rows sites
+AreShortSites rows (site ∷ sites) =
+    AreShortRows (kept_rows (rows site.call)) × AreShortSites rows sites
 
 -- whether a row covers a place: it covers its start and so many bytes below 2^32
 abbrev pub covers_kept : PdbInternalSectionOffset → CallRow → Bool
-covers_kept place row = ((row.offset).section == place.section) && nat_le (row.offset).offset place.offset && nat_lt place.offset ((row.offset).offset + row.length) && nat_lt place.offset (2 ^ 32)
+covers_kept place row =
+    ((row.offset).section == place.section) && nat_le (row.offset).offset place.offset
+    && nat_lt place.offset ((row.offset).offset + row.length) && nat_lt place.offset (2 ^ 32)
 
 -- rows in ascending order by their places, none before `low`, each of which begins where the one
 -- before it ends or after that
@@ -107,7 +130,7 @@ pub record AddsFound (old new : BTreeMap ℕ (List Span)) (number : ℕ) (rows :
   pub own : get nat_cmp old number ≡ None → AreFound rows (get nat_cmp new number)
   pub others : (k : ℕ) → k ≢ number → get nat_cmp new k ≡ get nat_cmp old k
 
--- a row's code, by what is kept of it
+-- a row's code, by what is stored of it
 abbrev pub kept_code : CallRow → CodeSpan
 kept_code row = record { offset = row.offset; length = row.length }
 
@@ -123,16 +146,19 @@ call_by_kept id None [] = record { inlinee = id; file = None; line = None; row =
 call_by_kept id None (first ∷ rows) =
     record { inlinee = id; file = Some first.file_index; line = None; row = None }
 
--- the sites of a procedure, what is kept of their rows, where those of each start, and pieces for a search among them
+-- the sites of a procedure, what is stored of their rows, where those of each start, and pieces for
+-- a search among them
 pub record Ranges : Type 0 where
   pub sites : List Site
   pub rows : List CallRow
   pub starts : List ℕ
   pub pieces : List Span
 
--- By the rows of calls, at each place of a section stands the number of the deepest site over it, and what is kept is kept of the
--- rows of each site.
+-- By the rows of calls, at each place of a section stands the number of the deepest site over it,
+-- and what is stored is that of the rows of each site.
 pub record StandForSites (rows : InlineSiteForm → List LineInfo) (ranges : Ranges) : Type 0 where
-  pub each : (place : PdbInternalSectionOffset) → place.offset < 2 ^ 32 → option_map (λ m. m.value) (best ranges.pieces (place_number place)) ≡ deepest rows ranges.sites place
+  pub each : (place : PdbInternalSectionOffset) → place.offset < 2 ^ 32
+      → option_map (λ m. m.value) (best ranges.pieces (place_number place))
+      ≡ deepest rows ranges.sites place
   pub kept : ranges.rows ≡ rows_of_sites rows ranges.sites
   pub starts : ranges.starts ≡ starts_of_sites rows 0 ranges.sites

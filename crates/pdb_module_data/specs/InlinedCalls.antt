@@ -1,9 +1,14 @@
--- Inlined calls over a place: the rows of a site, the deepest site with a row over the place, and the sites that it lies in.
-use Rattle.std.specs.Prelude.{◌≡◌, ℕ, zero, suc, ◌+◌, ◌<◌, ◌≤◌, Bool, true, List, [], ◌∷◌, nat_lt, ◌==◌, unwrap_or, slice_get, Option, None, Some, option_map, option_and_then, if◌then◌else◌, Result, Ok}
+-- Inlined calls over a place: the rows of a site, the deepest site with a row over the place, and
+-- the sites that it lies in.
+use Rattle.std.specs.Prelude.{◌≡◌, ℕ, zero, suc, ◌+◌, ◌<◌, ◌≤◌, Bool, true, List, [], ◌∷◌, nat_lt}
+use Rattle.std.specs.Prelude.{◌==◌, unwrap_or, slice_get, Option, None, Some, option_map}
+use Rattle.std.specs.Prelude.{option_and_then, if◌then◌else◌, Result, Ok}
 use Rattle.std.specs.Option.{option_or}
 use Rattle.std.specs.List.{list_any, find, flat_map}
 use Rattle.pdb_indices.specs.declared.index.IdIndex.{IdIndex}
-use Rattle.pdb_addresses.specs.declared.internal_section_offset.PdbInternalSectionOffset.{PdbInternalSectionOffset}
+use Rattle.pdb_addresses.specs.declared.internal_section_offset.PdbInternalSectionOffset.{
+  PdbInternalSectionOffset,
+}
 use Rattle.pdb_subsections.specs.declared.line_info.LineInfo.{LineInfo}
 use Rattle.pdb_symbols.specs.Forms.{InlineSiteForm}
 use Rattle.pdb_inlinees.specs.Inlinees.{InlinedFunction}
@@ -27,9 +32,11 @@ if_called function id = if (function.index).0 == id then Some function else None
 -- the last inlined function of an id
 abbrev pub last_inlinee : List InlinedFunction → ℕ → Option InlinedFunction
 last_inlinee [] id = None
-last_inlinee (function ∷ functions) id = option_or (last_inlinee functions id) (if_called function id)
+last_inlinee (function ∷ functions) id =
+    option_or (last_inlinee functions id) (if_called function id)
 
--- the inlined functions of a module by their ids, of one id the last; they have to be there to their end
+-- the inlined functions of a module by their ids, of one id the last; they have to be there to
+-- their end
 abbrev pub inlinees_by_id : Listing InlinedFunction → Result (ℕ → Option InlinedFunction) Fault
 inlinees_by_id functions = whole functions >>= λ all. Ok (last_inlinee all)
 
@@ -37,14 +44,17 @@ inlinees_by_id functions = whole functions >>= λ all. Ok (last_inlinee all)
 abbrev pub given_by : Inlinees → ℕ → Option InlinedFunction
 given_by inlinees id = option_map inlined_function (get nat_cmp inlinees.by_id id)
 
--- the rows of a call by its inlined function; none without one. Rows before an annotation that can't be read count, but for
--- the last of them.
-abbrev pub rows_by : Option InlinedFunction → PdbInternalSectionOffset → InlineSiteForm → List LineInfo
+-- the rows of a call by its inlined function; none without one. Rows before an annotation that
+-- can't be read count, but for the last of them.
+abbrev pub rows_by : Option InlinedFunction → PdbInternalSectionOffset → InlineSiteForm
+    → List LineInfo
 rows_by None start call = []
 rows_by (Some function) start call = (inlined_rows start function call.annotations).items
 
--- the rows of a call in the procedure that begins at a place, by what gives inlined functions by their ids
-abbrev pub call_rows : (ℕ → Option InlinedFunction) → PdbInternalSectionOffset → InlineSiteForm → List LineInfo
+-- the rows of a call in the procedure that begins at a place, by what gives inlined functions by
+-- their ids
+abbrev pub call_rows : (ℕ → Option InlinedFunction) → PdbInternalSectionOffset → InlineSiteForm
+    → List LineInfo
 call_rows inlinee start call = rows_by (inlinee (call.inlinee).0) start call
 
 -- ---- the deepest site over a place, by the rows of calls
@@ -54,8 +64,11 @@ abbrev pub is_over : (InlineSiteForm → List LineInfo) → PdbInternalSectionOf
 is_over rows place site = list_any (λ row. covers row place) (rows site.call)
 
 -- a site by its number and its depth, if it is over the place
-abbrev pub if_site_over : (InlineSiteForm → List LineInfo) → PdbInternalSectionOffset → ℕ → Site → Option (ℕ × ℕ)
-if_site_over rows place number site = if is_over rows place site then Some (number, site.depth) else None
+abbrev pub if_site_over : (InlineSiteForm → List LineInfo) → PdbInternalSectionOffset → ℕ → Site
+    → Option (ℕ × ℕ)
+if_site_over rows place number site =
+    if is_over rows place site then Some (number, site.depth)
+    else None
 
 -- the deeper one, of equals the first
 abbrev pub deeper : Option (ℕ × ℕ) → Option (ℕ × ℕ) → Option (ℕ × ℕ)
@@ -64,36 +77,46 @@ deeper (Some a) None = Some a
 deeper (Some a) (Some b) = if nat_lt a.1 b.1 then Some b else Some a
 
 -- of the sites from a number on that are over the place the deepest one, of equals the first
-abbrev pub deepest_from : (InlineSiteForm → List LineInfo) → PdbInternalSectionOffset → ℕ → List Site → Option (ℕ × ℕ)
+abbrev pub deepest_from : (InlineSiteForm → List LineInfo) → PdbInternalSectionOffset → ℕ
+    → List Site → Option (ℕ × ℕ)
 deepest_from rows place number [] = None
-deepest_from rows place number (site ∷ sites) = deeper (if_site_over rows place number site) (deepest_from rows place (number + 1) sites)
+deepest_from rows place number (site ∷ sites) =
+    deeper (if_site_over rows place number site) (deepest_from rows place (number + 1) sites)
 
 -- the number of the deepest site over the place
-abbrev pub deepest : (InlineSiteForm → List LineInfo) → List Site → PdbInternalSectionOffset → Option ℕ
+abbrev pub deepest : (InlineSiteForm → List LineInfo) → List Site → PdbInternalSectionOffset
+    → Option ℕ
 deepest rows sites place = option_map (λ found. found.0) (deepest_from rows place 0 sites)
 
 -- the depth of the deepest site over the place, 0 where there is none
 abbrev pub depth_over : (InlineSiteForm → List LineInfo) → List Site → PdbInternalSectionOffset → ℕ
-depth_over rows sites place = unwrap_or (option_map (λ found. found.1) (deepest_from rows place 0 sites)) 0
+depth_over rows sites place =
+    unwrap_or (option_map (λ found. found.1) (deepest_from rows place 0 sites)) 0
 
 -- a site over the place than which none over it is deeper, and before which none is as deep
-pub record IsDeepest (rows : InlineSiteForm → List LineInfo) (sites : List Site) (place : PdbInternalSectionOffset) (number : ℕ) : Type 0 where
+pub record IsDeepest (rows : InlineSiteForm → List LineInfo) (sites : List Site)
+    (place : PdbInternalSectionOffset) (number : ℕ) : Type 0 where
   pub site : Site
   pub is : slice_get sites number ≡ Some site
   pub over : is_over rows place site ≡ true
-  pub most : (k : ℕ) (other : Site) → slice_get sites k ≡ Some other → is_over rows place other ≡ true → other.depth ≤ site.depth
-  pub first : (k : ℕ) (other : Site) → slice_get sites k ≡ Some other → is_over rows place other ≡ true → k < number → other.depth < site.depth
+  pub most : (k : ℕ) (other : Site) → slice_get sites k ≡ Some other
+      → is_over rows place other ≡ true → other.depth ≤ site.depth
+  pub first : (k : ℕ) (other : Site) → slice_get sites k ≡ Some other
+      → is_over rows place other ≡ true → k < number → other.depth < site.depth
 
 -- ---- a site and those that it lies in
 
--- a site in no other has depth 1, another one lies one deeper than its parent, which comes before it
+-- a site in no other has depth 1, another one lies one deeper than its parent, which comes before
+-- it
 abbrev pub FitsParent : List Site → ℕ → Option ℕ → ℕ → Type 0
 FitsParent sites number None depth = depth ≡ 1
-FitsParent sites number (Some parent) depth = (parent < number) × (s : Site) × (slice_get sites parent ≡ Some s) × (depth ≡ s.depth + 1)
+FitsParent sites number (Some parent) depth =
+    (parent < number) × (s : Site) × (slice_get sites parent ≡ Some s) × (depth ≡ s.depth + 1)
 
 -- each site fits its parent
 pub record IsNested (sites : List Site) : Type 0 where
-  pub each : (number : ℕ) (s : Site) → slice_get sites number ≡ Some s → FitsParent sites number s.parent s.depth
+  pub each : (number : ℕ) (s : Site) → slice_get sites number ≡ Some s
+      → FitsParent sites number s.parent s.depth
 
 -- the site that a site lies in
 abbrev pub parent_of : List Site → ℕ → Option ℕ
@@ -103,9 +126,11 @@ parent_of sites number = option_and_then (λ s. s.parent) (slice_get sites numbe
 abbrev pub chain_from : List Site → ℕ → Option ℕ → List ℕ
 chain_from sites steps None = []
 chain_from sites zero (Some number) = []
-chain_from sites (suc steps) (Some number) = number ∷ chain_from sites steps (parent_of sites number)
+chain_from sites (suc steps) (Some number) =
+    number ∷ chain_from sites steps (parent_of sites number)
 
--- a site and those that it lies in, innermost first; each has a lesser number, so that there are no more
+-- a site and those that it lies in, innermost first; each has a lesser number, so that there are no
+-- more
 abbrev pub chain : List Site → ℕ → List ℕ
 chain sites number = chain_from sites (suc number) (Some number)
 
@@ -136,11 +161,14 @@ call_by id None long = record {
 
 -- a call over a place: file, line and code of its first row over the place; else the file of its
 -- first row that has a length, no line and no code
-abbrev pub call_over : (InlineSiteForm → List LineInfo) → PdbInternalSectionOffset → InlineSiteForm → InlinedCall
-call_over rows place call = call_by call.inlinee (find (λ row. covers row place) (rows call)) (find has_length (rows call))
+abbrev pub call_over : (InlineSiteForm → List LineInfo) → PdbInternalSectionOffset → InlineSiteForm
+    → InlinedCall
+call_over rows place call =
+    call_by call.inlinee (find (λ row. covers row place) (rows call)) (find has_length (rows call))
 
 -- the call of a site that may be there
-abbrev pub calls_of : (InlineSiteForm → List LineInfo) → PdbInternalSectionOffset → Option Site → List InlinedCall
+abbrev pub calls_of : (InlineSiteForm → List LineInfo) → PdbInternalSectionOffset → Option Site
+    → List InlinedCall
 calls_of rows place None = []
 calls_of rows place (Some site) = call_over rows place site.call ∷ []
 
@@ -149,6 +177,10 @@ abbrev pub chain_at : List Site → Option ℕ → List ℕ
 chain_at sites None = []
 chain_at sites (Some number) = chain sites number
 
--- the calls over a place, innermost first: that of the deepest site over it, and those of the sites that it lies in
-abbrev pub calls_over : (InlineSiteForm → List LineInfo) → List Site → PdbInternalSectionOffset → List InlinedCall
-calls_over rows sites place = flat_map (λ number. calls_of rows place (slice_get sites number)) (chain_at sites (deepest rows sites place))
+-- the calls over a place, innermost first: that of the deepest site over it, and those of the sites
+-- that it lies in
+abbrev pub calls_over : (InlineSiteForm → List LineInfo) → List Site → PdbInternalSectionOffset
+    → List InlinedCall
+calls_over rows sites place =
+    flat_map (λ number. calls_of rows place (slice_get sites number))
+    (chain_at sites (deepest rows sites place))

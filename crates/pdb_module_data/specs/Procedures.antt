@@ -1,6 +1,8 @@
 -- The procedures of a module, and the one over a place.
--- What counts as a procedure, and that separated code goes by the one before it, is what the pdb-addr2line crate does.
-use Rattle.std.specs.Prelude.{ℕ, ◌+◌, Bool, ◌&&◌, ◌||◌, List, [], ◌∷◌, ◌++◌, nat_lt, nat_le, ◌==◌, Option, None, Some, if◌then◌else◌, Result, Ok}
+-- What counts as a procedure, and that separated code goes by the one before it, is what the
+-- pdb-addr2line crate does.
+use Rattle.std.specs.Prelude.{ℕ, ◌+◌, Bool, ◌&&◌, ◌||◌, List, [], ◌∷◌, ◌++◌, nat_lt, nat_le, ◌==◌}
+use Rattle.std.specs.Prelude.{Option, None, Some, if◌then◌else◌, Result, Ok}
 use Rattle.std.specs.List.{list_any}
 use Rattle.std.specs.declared.cmp.Ordering.{Ordering}
 use Rattle.std.specs.Ordering.{nat_cmp, ordering_then}
@@ -8,7 +10,9 @@ use Rattle.pdb_container.specs.Fault.{Fault, ◌>>=◌}
 use Rattle.pdb_container.specs.Listing.{Listing, whole}
 use Rattle.pdb_indices.specs.declared.index.TypeIndex.{TypeIndex}
 use Rattle.pdb_indices.specs.declared.numbers.SymbolIndex.{SymbolIndex}
-use Rattle.pdb_addresses.specs.declared.internal_section_offset.PdbInternalSectionOffset.{PdbInternalSectionOffset}
+use Rattle.pdb_addresses.specs.declared.internal_section_offset.PdbInternalSectionOffset.{
+  PdbInternalSectionOffset,
+}
 use Rattle.pdb_symbols.specs.declared.symbol_data.SeparatedCodeSymbol.{SeparatedCodeSymbol}
 use Rattle.pdb_symbols.specs.Forms as forms
 use Rattle.pdb_symbols.specs.Forms.{SymbolForm}
@@ -16,8 +20,8 @@ use Rattle.pdb_symbols.specs.Kinds.{is_procedure, is_thunk, is_separated_code}
 use Rattle.pdb_symbols.specs.Records.{symbol_form_of}
 use Rattle.pdb_symbols.specs.Symbols.{Symbol}
 
--- a procedure of a module: its symbol and the symbol that ends it, where its code begins, how many bytes of code it has,
--- the index of its type, and its name
+-- a procedure of a module: its symbol and the symbol that ends it, where its code begins, how many
+-- bytes of code it has, the index of its type, and its name
 pub record Procedure : Type 0 where
   pub symbol_index : SymbolIndex
   pub end_symbol_index : SymbolIndex
@@ -32,25 +36,46 @@ is_at a b = (a.section == b.section) && (a.offset == b.offset)
 
 -- ---- the procedures that are kept
 
--- separated code by the procedure that was kept last: it has that one's name and type, if that one begins at its parent's
--- place
+-- separated code by the procedure that was kept last: it has that one's name and type, if that one
+-- begins at its parent's place
 abbrev pub separated_from : Option Procedure → ℕ → SeparatedCodeSymbol → Option Procedure
 separated_from None index code = None
 separated_from (Some q) index code =
     if is_at q.offset code.parent_offset
-    then Some record { symbol_index = record { 0 = index }; end_symbol_index = code.end; offset = code.offset; len = code.len; type_index = q.type_index; name = q.name }
+    then Some record {
+      symbol_index = record { 0 = index };
+      end_symbol_index = code.end;
+      offset = code.offset;
+      len = code.len;
+      type_index = q.type_index;
+      name = q.name;
+    }
     else None
 
 -- whether a symbol of a kind may say a procedure
 abbrev pub is_procedure_kind : ℕ → Bool
 is_procedure_kind kind = is_procedure kind || is_thunk kind || is_separated_code kind
 
--- what a symbol says as a procedure, behind the procedure that was kept last; a thunk has type 0
+-- what a symbol says as a procedure, after the procedure that was kept last; a thunk has type 0
 abbrev pub said_procedure : Option Procedure → ℕ → Result SymbolForm Fault → Option Procedure
 said_procedure last index (Ok (forms.Procedure p)) =
-    Some record { symbol_index = record { 0 = index }; end_symbol_index = p.end; offset = p.offset; len = p.len; type_index = p.type_index; name = p.name }
+    Some record {
+      symbol_index = record { 0 = index };
+      end_symbol_index = p.end;
+      offset = p.offset;
+      len = p.len;
+      type_index = p.type_index;
+      name = p.name;
+    }
 said_procedure last index (Ok (forms.Thunk t)) =
-    Some record { symbol_index = record { 0 = index }; end_symbol_index = t.end; offset = t.offset; len = t.len; type_index = record { 0 = 0 }; name = t.name }
+    Some record {
+      symbol_index = record { 0 = index };
+      end_symbol_index = t.end;
+      offset = t.offset;
+      len = t.len;
+      type_index = record { 0 = 0 };
+      name = t.name;
+    }
 said_procedure last index (Ok (forms.SeparatedCode code)) = separated_from last index code
 said_procedure last index other = None
 
@@ -63,15 +88,17 @@ with_code (Some q) = if q.len == 0 then None else Some q
 abbrev pub kept_of : Option Procedure → Symbol → Option Procedure
 kept_of last s = with_code (said_procedure last s.index (symbol_form_of s))
 
--- a procedure that may be kept, and those behind it by the one that is kept last then
-abbrev pub kept_before : Option Procedure → Option Procedure → (Option Procedure → List Procedure) → List Procedure
+-- a procedure that may be kept, and those after it by the one that is kept last then
+abbrev pub kept_before : Option Procedure → Option Procedure → (Option Procedure → List Procedure)
+    → List Procedure
 kept_before None last others = others last
 kept_before (Some q) last others = q ∷ others (Some q)
 
--- the procedures that are kept of symbols in their order, behind the one that was kept last
+-- the procedures that are kept of symbols in their order, after the one that was kept last
 abbrev pub kept_behind : Option Procedure → List Symbol → List Procedure
 kept_behind last [] = []
-kept_behind last (s ∷ symbols) = kept_before (kept_of last s) last (λ kept. kept_behind kept symbols)
+kept_behind last (s ∷ symbols) =
+    kept_before (kept_of last s) last (λ kept. kept_behind kept symbols)
 
 -- ---- of one start the first
 
@@ -87,7 +114,7 @@ has_start procedures p = list_any (λ q. is_at q.offset p) procedures
 abbrev pub onto_new : List Procedure → Procedure → List Procedure
 onto_new procedures q = if has_start procedures q.offset then procedures else procedures ++ q ∷ []
 
--- procedures, and of others behind them those that begin where none did before
+-- procedures, and of others after them those that begin where none did before
 abbrev pub firsts_onto : List Procedure → List Procedure → List Procedure
 firsts_onto procedures [] = procedures
 firsts_onto procedures (q ∷ others) = firsts_onto (onto_new procedures q) others
@@ -104,7 +131,9 @@ procedures_of symbols = whole symbols >>= λ all. Ok (procedures_among all)
 
 -- the place lies in the procedure, whose end may lie past 32 bits
 abbrev pub contains : Procedure → PdbInternalSectionOffset → Bool
-contains q p = ((q.offset).section == p.section) && (nat_le (q.offset).offset p.offset && nat_lt p.offset ((q.offset).offset + q.len))
+contains q p =
+    ((q.offset).section == p.section)
+    && (nat_le (q.offset).offset p.offset && nat_lt p.offset ((q.offset).offset + q.len))
 
 -- a procedure, if it contains the place
 abbrev pub if_over : Procedure → PdbInternalSectionOffset → Option Procedure

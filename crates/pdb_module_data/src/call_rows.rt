@@ -1,10 +1,12 @@
-//! What is kept of the rows of an inlined call, and a search of the one over a place by halving.
+//! What is stored of the rows of an inlined call, and a search of the one over a place by halving.
 
 ghost use Rattle.std.specs.Prelude.{◌≡◌, ◌+◌, ◌++◌, IfOk, OnOk, map, option_map, slice_get, true};
 ghost use Rattle.std.specs.List.{find};
 ghost use Rattle.pdb_pieces.specs.Spans.{place_number as number_of_place};
 ghost use Rattle.pdb_module_data.specs.InlinedCalls.{given_by, call_rows};
-ghost use Rattle.pdb_module_data.specs.InlinePieces.{kept_rows as kept_of_rows, site_row_span, call_by_kept, covers_kept, AreShortRows, IsShortRow};
+ghost use Rattle.pdb_module_data.specs.InlinePieces.{kept_rows as kept_of_rows, site_row_span};
+ghost use Rattle.pdb_module_data.specs.InlinePieces.{call_by_kept, covers_kept, AreShortRows};
+ghost use Rattle.pdb_module_data.specs.InlinePieces.{IsShortRow};
 ghost use Rattle.pdb_module_data.specs.InlinePieces.{row_spans, AreApart, AreFound, StandForFirst};
 
 use crate::inline_sites::Site;
@@ -17,7 +19,8 @@ use pdb_inlinees::InlineeLineIterator;
 use pdb_pieces::{Begins, Mark, Pieces, Span, count_begun, place_number};
 use std::alloc::{AllocError, Global};
 
-/// A row of an inlined call that covers something: where its code begins, how many bytes it has, and its file and line.
+/// A row of an inlined call that covers something: where its code begins, how many bytes it has,
+/// and its file and line.
 #[derive(Clone, Copy, Debug, PartialEq, Eq)]
 pub struct CallRow {
     /// Where the code begins: a section's number, counted from 1, and an offset in bytes.
@@ -41,7 +44,7 @@ impl Begins for CallRow {
     }
 }
 
-/// What is kept of rows, behind what stands there; a fault ends them.
+/// Appends what is stored of rows; a fault ends them.
 fn push_kept(kept: &mut Vec<CallRow>, mut rows: InlineeLineIterator<'_>) -> Result<(), AllocError>
     ensures { OnOk result (kept.new.items ≡ kept.old.items ++ kept_of_rows rows.entry.items) }
 {
@@ -59,14 +62,16 @@ fn push_kept(kept: &mut Vec<CallRow>, mut rows: InlineeLineIterator<'_>) -> Resu
     Ok(())
 }
 
-/// What is kept of the rows of a site, where its procedure begins at `start`, behind what stands there.
+/// Appends what is stored of the rows of a site, where its procedure begins at `start`.
 pub fn push_site_rows<'a>(
     kept: &mut Vec<CallRow>,
     site: &Site<'a>,
     inlinees: &Inlinees<'a>,
     start: PdbInternalSectionOffset,
 ) -> Result<(), AllocError>
-    ensures { OnOk result (kept.new.items ≡ kept.old.items ++ kept_of_rows (call_rows (given_by inlinees.now) start (site.now).call)) }
+    ensures { OnOk result
+        (kept.new.items ≡ kept.old.items
+        ++ kept_of_rows (call_rows (given_by inlinees.now) start (site.now).call)) }
 {
     match inlinees.get(site.call.inlinee) {
         None => Ok(()),
@@ -90,14 +95,15 @@ fn row_span(number: usize, depth: usize, row: CallRow) -> Span
     }
 }
 
-/// What the rows of a site cover, behind what stands there.
+/// Appends what the rows of a site cover.
 pub fn push_spans(
     spans: &mut Vec<Span>,
     number: usize,
     depth: usize,
     rows: &[CallRow],
 ) -> Result<(), AllocError>
-    ensures spans { OnOk result (spans.new.items ≡ spans.old.items ++ map (site_row_span number depth) rows.now) }
+    ensures spans { OnOk result
+        (spans.new.items ≡ spans.old.items ++ map (site_row_span number depth) rows.now) }
     ensures short { OnOk result (AreShortRows rows.now) }
 {
     for row in rows {
@@ -222,7 +228,7 @@ fn row_over(
     }
 }
 
-/// A call over a place, by what is kept of its rows, and by pieces where these don't lie apart.
+/// A call over a place, by what is stored of its rows, and by pieces where these don't lie apart.
 pub fn call_over(
     inlinee: IdIndex,
     rows: &[CallRow],

@@ -164,10 +164,12 @@ impl<'t, 's> FileNames<'t, 's> {
         })
     }
 
-    /// The name at an offset as text, with U+FFFD for what is no character; `None` where there is no string table or no such
-    /// name. `AllocError` alone is returned where memory ran out.
+    /// The name at an offset as text, with U+FFFD for what is no character; `None` where there is
+    /// no string table or no such name. `AllocError` alone is returned where memory ran out.
     pub fn text(&self, alloc: Global, name: StringRef) -> Result<Option<CowStr<'t>>, AllocError>
-        ensures { IfOk result (λ text. option_map cow_str_bytes text ≡ option_and_then (λ names. if_read (text_in names name.0)) self.now) }
+        ensures { IfOk result
+            (λ text. option_map cow_str_bytes text
+            ≡ option_and_then (λ names. if_read (text_in names name.0)) self.now) }
     {
         let Some(table) = self.strings else {
             return Ok(None);

@@ -10,9 +10,9 @@ use pdb_lines::LineProgram;
 use std::alloc::{AllocError, Global};
 use std::borrow::CowStr;
 
-/// The name of a source file of a line program as text: that of its entry in `DEBUG_S_FILECHKSMS`, in the string table
-/// (`/names`). `None` where there is no string table, no such entry, or no such name. `AllocError` alone is returned where
-/// memory ran out.
+/// The name of a source file of a line program as text: that of its entry in `DEBUG_S_FILECHKSMS`,
+/// in the string table (`/names`). `None` where there is no string table, no such entry, or no such
+/// name. `AllocError` alone is returned where memory ran out.
 #[tactic(auto, using(crate::proofs::KnownNames::no_entry, crate::proofs::KnownNames::entry_named))]
 pub fn file_name<'t>(
     alloc: Global,
@@ -20,7 +20,8 @@ pub fn file_name<'t>(
     names: &FileNames<'t, '_>,
     index: FileIndex,
 ) -> Result<Option<CowStr<'t>>, AllocError>
-    ensures { IfOk result (λ name. option_map cow_str_bytes name ≡ file_text line_program.now names.now index.0) }
+    ensures { IfOk result
+        (λ name. option_map cow_str_bytes name ≡ file_text line_program.now names.now index.0) }
 {
     match line_program.get_file_info(index) {
         Err(_) => Ok(None),

@@ -1,5 +1,5 @@
-//! The line rows of a function, and a search of the one at an offset, and of the next one's start, by
-//! halving.
+//! The line rows of a function, and a search of the one at an offset, and of the next one's start,
+//! by halving.
 
 ghost use Rattle.std.specs.Prelude.{◌≡◌, ℕ, ◌+◌, ◌^◌, ◌<◌, ◌≤◌, true, IfOk, length, slice_get};
 ghost use Rattle.pdb_addresses.specs.SectionOrder.{AreInOrder};
@@ -22,8 +22,8 @@ use std::marker::Model;
 /// How many rows most functions have, so that the list of them isn't moved as it grows.
 const USUAL_ROWS: usize = 16;
 
-/// What is stored of a line row of a function: where its code begins, how many bytes it has, and its
-/// file and line.
+/// What is stored of a line row of a function: where its code begins, how many bytes it has, and
+/// its file and line.
 #[derive(Clone, Copy, Debug, PartialEq, Eq)]
 pub struct LineRow {
     /// Where the code begins: an offset in the function's section, in bytes.
@@ -46,8 +46,8 @@ impl Begins for LineRow {
     }
 }
 
-/// What rows that don't ascend are searched by: pieces of offsets with the number of the row at each,
-/// and where the rows begin, in ascending order.
+/// What rows that don't ascend are searched by: pieces of offsets with the number of the row at
+/// each, and where the rows begin, in ascending order.
 #[derive(Drop)]
 struct Unordered {
     pieces: Pieces,
@@ -225,8 +225,9 @@ fn read_rows(
 }
 
 impl FunctionRows {
-    /// The line rows of the function that begins at `start`: of the rows of the last `DEBUG_S_LINES`
-    /// at or before that start, if that one is in its section; they are read to their end.
+    /// The line rows of the function that begins at `start`: of the rows of the last
+    /// `DEBUG_S_LINES` at or before that start, if that one is in its section; they are read to
+    /// their end.
     ///
     /// # Errors
     /// `UnexpectedEof` where some block can't be read; `OutOfMemory`.
@@ -254,8 +255,8 @@ impl FunctionRows {
         }
     }
 
-    /// Returns the lesser of `far` and the distance, in bytes, from an offset to the next start of a
-    /// row past it. Rows, or their starts in ascending order, are halved.
+    /// Returns the lesser of `far` and the distance, in bytes, from an offset to the next start of
+    /// a row past it. Rows, or their starts in ascending order, are halved.
     pub fn to_next_start(&self, offset: u32, far: u32) -> u32
         ensures { result ≡ up_to_next (row_starts self.now) offset far }
     {

@@ -2,8 +2,11 @@
 
 ghost use Rattle.std.specs.Prelude.{◌≡◌, ◌++◌, IfOk, OnOk, map};
 ghost use Rattle.pdb_module_data.specs.Forest.{sites_of};
-ghost use Rattle.pdb_module_data.specs.InlinedCalls.{given_by, call_rows, calls_over as calls_over_place};
-ghost use Rattle.pdb_module_data.specs.InlinePieces.{kept_rows, rows_of_sites, starts_of_sites, site_row_span, site_spans as spans_of_sites, AreShortRows, AreShortSites, StandForSites};
+ghost use Rattle.pdb_module_data.specs.InlinedCalls.{given_by, call_rows};
+ghost use Rattle.pdb_module_data.specs.InlinedCalls.{calls_over as calls_over_place};
+ghost use Rattle.pdb_module_data.specs.InlinePieces.{kept_rows, rows_of_sites, starts_of_sites};
+ghost use Rattle.pdb_module_data.specs.InlinePieces.{site_row_span, site_spans as spans_of_sites};
+ghost use Rattle.pdb_module_data.specs.InlinePieces.{AreShortRows, AreShortSites, StandForSites};
 ghost use Rattle.pdb_module_data.specs.SitesFaults.{Reads};
 
 use crate::call_rows::{CallRow, push_site_rows, push_spans};
@@ -23,8 +26,8 @@ use std::marker::Model;
 const ROWS_OF_SITE: usize = 4;
 
 /// The inline sites of a procedure (`S_INLINESITE`, `S_INLINESITE2`) in the order of the file, what
-/// is kept of the rows of all of them, and pieces of places for a search of the deepest one over a
-/// place.
+/// is stored of the rows of all of them, and pieces of places for a search of the deepest one over
+/// a place.
 #[derive(Drop)]
 pub struct InlineRanges<'t> {
     sites: InlineSites<'t>,
@@ -47,10 +50,12 @@ impl<'t> Model for InlineRanges<'t> {
     } };
 
     // The row of each site over a place is found by halving.
-    ghost invariant = { λ r. AreAllFound (length r.sites) r.rows.rows.items r.rows.starts.items r.rows.pieces };
+    ghost invariant = { λ r.
+        AreAllFound (length r.sites) r.rows.rows.items r.rows.starts.items r.rows.pieces };
 }
 
-/// What is kept of the rows of sites, where those of each start, and what they cover, each ranked by its site's depth.
+/// What is stored of the rows of sites, where those of each start, and what they cover, each ranked
+/// by its site's depth.
 #[derive(Drop)]
 struct RowsAndSpans {
     rows: Vec<CallRow>,
@@ -58,7 +63,7 @@ struct RowsAndSpans {
     spans: Vec<Span>,
 }
 
-/// What is kept of the rows of the site of this number, and what they cover, behind what stands there.
+/// Appends what is stored of the rows of the site of this number, and what they cover.
 fn push_site<'a>(
     rows: &mut Vec<CallRow>,
     spans: &mut Vec<Span>,
@@ -67,9 +72,15 @@ fn push_site<'a>(
     inlinees: &Inlinees<'a>,
     start: PdbInternalSectionOffset,
 ) -> Result<(), AllocError>
-    ensures rows { OnOk result (rows.new.items ≡ rows.old.items ++ kept_rows (call_rows (given_by inlinees.now) start (site.now).call)) }
-    ensures spans { OnOk result (spans.new.items ≡ spans.old.items ++ map (site_row_span number (site.now).depth) (kept_rows (call_rows (given_by inlinees.now) start (site.now).call))) }
-    ensures short { OnOk result (AreShortRows (kept_rows (call_rows (given_by inlinees.now) start (site.now).call))) }
+    ensures rows { OnOk result
+        (rows.new.items ≡ rows.old.items
+        ++ kept_rows (call_rows (given_by inlinees.now) start (site.now).call)) }
+    ensures spans { OnOk result
+        (spans.new.items ≡ spans.old.items
+        ++ map (site_row_span number (site.now).depth)
+        (kept_rows (call_rows (given_by inlinees.now) start (site.now).call))) }
+    ensures short { OnOk result
+        (AreShortRows (kept_rows (call_rows (given_by inlinees.now) start (site.now).call))) }
 {
     let from = rows.len();
     push_site_rows(rows, site, inlinees, start)?;
@@ -83,10 +94,16 @@ fn rows_and_spans<'a>(
     inlinees: &Inlinees<'a>,
     start: PdbInternalSectionOffset,
 ) -> Result<RowsAndSpans, AllocError>
-    ensures rows { IfOk result (λ r. r.rows.items ≡ rows_of_sites (call_rows (given_by inlinees.now) start) sites.now) }
-    ensures starts { IfOk result (λ r. r.starts.items ≡ starts_of_sites (call_rows (given_by inlinees.now) start) 0 sites.now) }
-    ensures spans { IfOk result (λ r. r.spans.items ≡ spans_of_sites (call_rows (given_by inlinees.now) start) 0 sites.now) }
-    ensures short { IfOk result (λ r. AreShortSites (call_rows (given_by inlinees.now) start) sites.now) }
+    ensures rows { IfOk result
+        (λ r. r.rows.items ≡ rows_of_sites (call_rows (given_by inlinees.now) start) sites.now) }
+    ensures starts { IfOk result
+        (λ r. r.starts.items
+        ≡ starts_of_sites (call_rows (given_by inlinees.now) start) 0 sites.now) }
+    ensures spans { IfOk result
+        (λ r. r.spans.items ≡ spans_of_sites (call_rows (given_by inlinees.now) start) 0
+        sites.now) }
+    ensures short { IfOk result
+        (λ r. AreShortSites (call_rows (given_by inlinees.now) start) sites.now) }
 {
     let usual = sites.len().saturating_mul(ROWS_OF_SITE);
     let mut rows = Vec::with_capacity(alloc, usual)?;
@@ -105,8 +122,9 @@ fn rows_and_spans<'a>(
 }
 
 impl<'t> InlineRanges<'t> {
-    /// The inline sites of a procedure, as [`InlineSites::read`] says, and pieces of places by the rows that the module's inlinees
-    /// give them. A row before an annotation that can't be read counts, but for the last of them.
+    /// The inline sites of a procedure, as [`InlineSites::read`] says, and pieces of places by the
+    /// rows that the module's inlinees give them. A row before an annotation that can't be read
+    /// counts, but for the last of them.
     ///
     /// # Errors
     /// Those of [`InlineSites::read`].
@@ -116,8 +134,11 @@ impl<'t> InlineRanges<'t> {
         procedure: &Procedure<'_>,
         inlinees: &Inlinees<'t>,
     ) -> Result<InlineRanges<'t>, SitesError>
-        ensures sites { Reads (λ r. r.sites) result (sites_of symbols.entry.bytes procedure.now.symbol_index.0 procedure.now.end_symbol_index.0) }
-        ensures stand { IfOk result (λ r. StandForSites (call_rows (given_by inlinees.now) procedure.now.offset) r) }
+        ensures sites { Reads (λ r. r.sites) result
+            (sites_of symbols.entry.bytes procedure.now.symbol_index.0
+            procedure.now.end_symbol_index.0) }
+        ensures stand { IfOk result
+            (λ r. StandForSites (call_rows (given_by inlinees.now) procedure.now.offset) r) }
     {
         let sites = InlineSites::read(alloc, symbols, procedure)?;
         let read = rows_and_spans(alloc, sites.as_slice(), inlinees, procedure.offset)?;
@@ -135,10 +156,11 @@ impl<'t> InlineRanges<'t> {
         })
     }
 
-    /// The inlined calls over a place, innermost first, where the procedure begins at `start` and these are the inlinees that the
-    /// pieces were made by: that of the deepest site with a row over the place, of equally deep ones the first in the order of
-    /// the file, and those of the sites that it lies in. None where no row covers the place. The
-    /// deepest site is found by halving, and so is the row of each over the place.
+    /// The inlined calls over a place, innermost first, where the procedure begins at `start` and
+    /// these are the inlinees that the pieces were made by: that of the deepest site with a row
+    /// over the place, of equally deep ones the first in the order of the file, and those of the
+    /// sites that it lies in. None where no row covers the place. The deepest site is found by
+    /// halving, and so is the row of each over the place.
     #[tactic(auto, using(crate::proofs::Deepest::deepest_within, crate::proofs::KeptRows::are_cut))]
     pub fn calls_over(
         &self,
@@ -148,7 +170,9 @@ impl<'t> InlineRanges<'t> {
         place: PdbInternalSectionOffset,
     ) -> Result<Vec<InlinedCall>, AllocError>
         requires { StandForSites (call_rows (given_by inlinees.now) start) self.now }
-        ensures { IfOk result (λ v. v.items ≡ calls_over_place (call_rows (given_by inlinees.now) start) (self.now).sites place) }
+        ensures { IfOk result
+            (λ v. v.items ≡ calls_over_place (call_rows (given_by inlinees.now) start)
+            (self.now).sites place) }
     {
         match self.pieces.value_at(place) {
             None => Ok(Vec::new(alloc)),

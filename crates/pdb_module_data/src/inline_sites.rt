@@ -26,7 +26,8 @@ const MAXIMUM_DEPTH: usize = 65_535;
 pub enum SitesError {
     /// A symbol can't be read, or memory ran out.
     Pdb(Error),
-    /// A nested procedure doesn't end behind its own symbol, or sites lie in one another more than 65,535 deep.
+    /// A nested procedure doesn't end after its own symbol, or sites lie in one another more than
+    /// 65,535 deep.
     Unsuccessful,
 }
 
@@ -62,12 +63,14 @@ impl<T: Drop> From<AllocFailed<T>> for SitesError {
     }
 }
 
-/// An inline site (`S_INLINESITE`, `S_INLINESITE2`): an inlined call, with the call that it lies in.
+/// An inline site (`S_INLINESITE`, `S_INLINESITE2`): an inlined call, with the call that it lies
+/// in.
 #[derive(Debug, Drop)]
 pub struct Site<'t> {
     /// The fields of its symbol.
     pub call: InlineSiteSymbol<'t>,
-    /// The number of the site that it lies in, counted from 0 in the order of the file; `None` directly in the procedure.
+    /// The number of the site that it lies in, counted from 0 in the order of the file; `None`
+    /// directly in the procedure.
     pub parent: Option<usize>,
     /// How deep it lies: 1 directly in the procedure.
     pub depth: usize,
@@ -79,7 +82,11 @@ impl<'t> Model for Site<'t> {
 
     ghost Value = { forest.Site };
 
-    ghost view = { λ s. record { call = inline_site_form s.call; parent = s.parent; depth = s.depth } };
+    ghost view = { λ s. record {
+      call = inline_site_form s.call;
+      parent = s.parent;
+      depth = s.depth;
+    } };
 }
 
 /// The inline sites of a procedure, in the order of the file.
@@ -131,9 +138,11 @@ fn parse_element<'t>(symbol: &Symbol<'t>) -> Element<'t>
     }
 }
 
-/// Goes on behind a nested procedure, with the symbol at its end, which has to stand behind the procedure's own.
+/// Goes on after a nested procedure and the symbol at its end, which has to stand after the
+/// procedure's own.
 fn skip_nested(symbols: &mut SymbolIter<'_>, index: SymbolIndex, end: u32) -> Result<(), SitesError>
-    ensures place { Reads (λ _. symbols.new.place) result (nested_past symbols.old.bytes index.0 end) }
+    ensures place { Reads (λ _. symbols.new.place) result
+        (nested_past symbols.old.bytes index.0 end) }
     ensures bytes { symbols.new.bytes ≡ symbols.old.bytes }
 {
     if end <= index.0 {
@@ -150,7 +159,8 @@ fn push_site<'t>(
     below: usize,
     call: InlineSiteSymbol<'t>,
 ) -> Result<usize, SitesError>
-    ensures { Reads (λ number. (number, sites.new.items)) result (with_site sites.old.items parent below (inline_site_form call.entry)) }
+    ensures { Reads (λ number. (number, sites.new.items)) result
+        (with_site sites.old.items parent below (inline_site_form call.entry)) }
 {
     if below >= MAXIMUM_DEPTH {
         return Err(SitesError::Unsuccessful);
@@ -165,13 +175,14 @@ fn push_site<'t>(
     Ok(number)
 }
 
-/// The sites behind where the iterator stands, of the body that closes at a limit.
+/// The sites from where the iterator stands on, of the body that closes at a limit.
 fn scan_sites<'t>(
     alloc: Global,
     mut symbols: SymbolIter<'t>,
     limit: u32,
 ) -> Result<Vec<Site<'t>>, SitesError>
-    ensures { Reads (λ v. v.items) result (sites_from symbols.entry.bytes limit symbols.entry.place) }
+    ensures { Reads (λ v. v.items) result
+        (sites_from symbols.entry.bytes limit symbols.entry.place) }
 {
     let mut sites = Vec::with_capacity(alloc, SITES_AHEAD)?;
     let mut below = Vec::new(alloc);
@@ -203,19 +214,22 @@ fn scan_sites<'t>(
 }
 
 impl<'t> InlineSites<'t> {
-    /// The inline sites of a procedure: those of the symbols behind its own and before the one that ends it.
-    /// An inline site is closed by the first symbol at its end or past it, whatever that is; a nested procedure is passed
-    /// over, with the symbol at its end; the end of the symbols closes all.
+    /// The inline sites of a procedure: those of the symbols after its own and before the one that
+    /// ends it. An inline site is closed by the first symbol at its end or past it, whatever that
+    /// is; a nested procedure is passed over, with the symbol at its end; the end of the symbols
+    /// closes all.
     ///
     /// # Errors
-    /// `Unsuccessful` where a nested procedure doesn't end behind its own symbol, and where sites lie in one another more
-    /// than 65,535 deep; a symbol's fault, or `OutOfMemory`, as `Pdb`.
+    /// `Unsuccessful` where a nested procedure doesn't end after its own symbol, and where sites
+    /// lie in one another more than 65,535 deep; a symbol's fault, or `OutOfMemory`, as `Pdb`.
     pub fn read(
         alloc: Global,
         mut symbols: SymbolIter<'t>,
         procedure: &Procedure<'_>,
     ) -> Result<InlineSites<'t>, SitesError>
-        ensures { Reads (λ s. s) result (sites_of symbols.entry.bytes procedure.now.symbol_index.0 procedure.now.end_symbol_index.0) }
+        ensures { Reads (λ s. s) result
+            (sites_of symbols.entry.bytes procedure.now.symbol_index.0
+            procedure.now.end_symbol_index.0) }
     {
         symbols.skip_to(procedure.symbol_index)?;
         let mut found = scan_sites(alloc, symbols, procedure.end_symbol_index.0)?;
@@ -224,7 +238,7 @@ impl<'t> InlineSites<'t> {
         Ok(InlineSites { sites })
     }
 
-    /// The sites in the order of the file, each behind the one that it lies in.
+    /// The sites in the order of the file, each after the one that it lies in.
     pub fn as_slice(&self) -> &[Site<'t>]
         ensures sites { result.now ≡ self.now }
         ensures nested { IsNested result.now }

@@ -1,6 +1,7 @@
 //! Inlined calls over a place.
 
-ghost use Rattle.std.specs.Prelude.{◌≡◌, ◌+◌, ◌<◌, ◌≤◌, List, IfOk, IfSome, length, slice_get, slice_index, vec_len};
+ghost use Rattle.std.specs.Prelude.{◌≡◌, ◌+◌, ◌<◌, ◌≤◌, List, IfOk, IfSome, length, slice_get};
+ghost use Rattle.std.specs.Prelude.{slice_index, vec_len};
 ghost use Rattle.std.specs.List.{flat_map};
 ghost use Rattle.pdb_symbols.specs.Forms.{InlineSiteForm};
 ghost use Rattle.pdb_subsections.specs.declared.line_info.LineInfo.{LineInfo};
@@ -38,7 +39,8 @@ pub struct InlinedCall {
     pub row: Option<CodeSpan>,
 }
 
-/// The calls of a site and of those that it lies in, innermost first, by what is kept of the rows of each site.
+/// The calls of a site and of those that it lies in, innermost first, by what is stored of the rows
+/// of each site.
 pub fn calls_from(
     alloc: Global,
     sites: &[Site<'_>],
@@ -55,8 +57,10 @@ pub fn calls_from(
     ensures calls { IfOk result (λ v. (lines : InlineSiteForm → List LineInfo)
         → of_sites.now.rows.items ≡ rows_of_sites lines sites.now
         → of_sites.now.starts.items ≡ starts_of_sites lines 0 sites.now
-        → v.items ≡ flat_map (λ k. calls_of lines place (slice_get sites.now k)) (chain_of sites.now number)) }
-    ensures deep { IfOk result (λ v. IfSome (slice_get sites.now number) (λ s. vec_len v ≡ s.depth)) }
+        → v.items ≡ flat_map (λ k. calls_of lines place (slice_get sites.now k))
+        (chain_of sites.now number)) }
+    ensures deep { IfOk result
+        (λ v. IfSome (slice_get sites.now number) (λ s. vec_len v ≡ s.depth)) }
 {
     let deepest = &sites[number];
     let mut calls = Vec::with_capacity(alloc, deepest.depth)?;

@@ -12,7 +12,8 @@ use pdb_inlinees::{Inlinee, InlineeIterator};
 use std::alloc::Global;
 use std::collections::BTreeMap;
 
-/// The inlinees of a module (`DEBUG_S_INLINEELINES`) by their ids; of those of one id the last counts.
+/// The inlinees of a module (`DEBUG_S_INLINEELINES`) by their ids; of those of one id the last
+/// counts.
 #[derive(Debug, Drop)]
 pub struct Inlinees<'a> {
     by_id: BTreeMap<u32, Inlinee<'a>>,

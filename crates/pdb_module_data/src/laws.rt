@@ -1,31 +1,46 @@
 //! What the definitions say, in other words.
 
 ghost use Rattle.std.specs.Prelude.{◌≡◌, ◌↔◌, ℕ, List, Some, None, Ok, true, length, slice_get};
-ghost use Rattle.pdb_addresses.specs.declared.internal_section_offset.PdbInternalSectionOffset.{PdbInternalSectionOffset};
+ghost use Rattle.pdb_addresses.specs.declared.internal_section_offset.PdbInternalSectionOffset.{
+  PdbInternalSectionOffset,
+};
 ghost use Rattle.pdb_subsections.specs.declared.line_info.LineInfo.{LineInfo};
 ghost use Rattle.pdb_symbols.specs.Forms.{InlineSiteForm};
 ghost use Rattle.pdb_module_data.specs.Forest.{Site, IsForest, sites_from};
-ghost use Rattle.pdb_module_data.specs.InlinedCalls.{IsNested, IsDeepest, is_over, deepest, depth_over, calls_over};
+ghost use Rattle.pdb_module_data.specs.InlinedCalls.{IsNested, IsDeepest, is_over, deepest};
+ghost use Rattle.pdb_module_data.specs.InlinedCalls.{depth_over, calls_over};
 
 /// The sites from a place on are those that the grammar gives, and no others.
 pub fn forest_is_grammar()
-    ensures { (bytes : List ℕ) (limit start : ℕ) (sites : List Site) → (sites_from bytes limit start ≡ Ok sites) ↔ IsForest bytes limit start sites }
+    ensures { (bytes : List ℕ) (limit start : ℕ) (sites : List Site)
+        → (sites_from bytes limit start ≡ Ok sites) ↔ IsForest bytes limit start sites }
 {}
 
 /// Sites lie in sites before them, each one deeper than the one that it lies in.
 pub fn forest_is_nested()
-    ensures { (bytes : List ℕ) (limit start : ℕ) (sites : List Site) → sites_from bytes limit start ≡ Ok sites → IsNested sites }
+    ensures { (bytes : List ℕ) (limit start : ℕ) (sites : List Site)
+        → sites_from bytes limit start ≡ Ok sites → IsNested sites }
 {}
 
-/// The deepest site over a place is over it, none over it is deeper, and none before it is as deep. Where there is none, no
-/// site is over the place.
+/// The deepest site over a place is over it, none over it is deeper, and none before it is as deep.
+/// Where there is none, no site is over the place.
 pub fn deepest_is_deepest()
-    ensures deepest { (rows : InlineSiteForm → List LineInfo) (sites : List Site) (place : PdbInternalSectionOffset) (number : ℕ) → deepest rows sites place ≡ Some number → IsDeepest rows sites place number }
-    ensures none { (rows : InlineSiteForm → List LineInfo) (sites : List Site) (place : PdbInternalSectionOffset) → deepest rows sites place ≡ None → (k : ℕ) (site : Site) → slice_get sites k ≡ Some site → is_over rows place site ≡ true → ⊥ }
+    ensures deepest { (rows : InlineSiteForm → List LineInfo) (sites : List Site)
+        (place : PdbInternalSectionOffset) (number : ℕ) → deepest rows sites place ≡ Some number
+        → IsDeepest rows sites place number }
+    ensures none { (rows : InlineSiteForm → List LineInfo) (sites : List Site)
+        (place : PdbInternalSectionOffset) → deepest rows sites place ≡ None → (k : ℕ) (site : Site)
+        → slice_get sites k ≡ Some site → is_over rows place site ≡ true → ⊥ }
 {}
 
-/// There are as many calls over a place as the deepest site over it is deep; none where there is no such site.
+/// There are as many calls over a place as the deepest site over it is deep; none where there is no
+/// such site.
 pub fn calls_as_deep()
-    ensures calls { (rows : InlineSiteForm → List LineInfo) (sites : List Site) (place : PdbInternalSectionOffset) → IsNested sites → length (calls_over rows sites place) ≡ depth_over rows sites place }
-    ensures depth { (rows : InlineSiteForm → List LineInfo) (sites : List Site) (place : PdbInternalSectionOffset) (number : ℕ) (site : Site) → deepest rows sites place ≡ Some number → slice_get sites number ≡ Some site → depth_over rows sites place ≡ site.depth }
+    ensures calls { (rows : InlineSiteForm → List LineInfo) (sites : List Site)
+        (place : PdbInternalSectionOffset) → IsNested sites
+        → length (calls_over rows sites place) ≡ depth_over rows sites place }
+    ensures depth { (rows : InlineSiteForm → List LineInfo) (sites : List Site)
+        (place : PdbInternalSectionOffset) (number : ℕ) (site : Site)
+        → deepest rows sites place ≡ Some number → slice_get sites number ≡ Some site
+        → depth_over rows sites place ≡ site.depth }
 {}

@@ -1,5 +1,6 @@
-//! What a module's own stream says of a place in it: the procedure over it, the line there, and the inlined calls over it.
-//! It goes by symbols, line program, inlinees and string table, and knows nothing of files, caches or types.
+//! What a module's own stream says of a place in it: the procedure over it, the line there, and the
+//! inlined calls over it. It goes by symbols, line program, inlinees and string table, and knows
+//! nothing of files, caches or types.
 #![tactic(auto)]
 
 mod call_rows;

@@ -2,7 +2,9 @@
 
 ghost use Rattle.std.specs.Prelude.{◌≡◌, IfOk, option_map, option_and_then, slice_get};
 ghost use Rattle.pdb_container.specs.Fault.{Gives};
-ghost use Rattle.pdb_module_data.specs.ProcedurePieces.{procedure_span as span_of_procedure, procedure_spans as spans_of_procedures, IsShort, AreShort, StandFor};
+ghost use Rattle.pdb_module_data.specs.ProcedurePieces.{procedure_span as span_of_procedure};
+ghost use Rattle.pdb_module_data.specs.ProcedurePieces.{procedure_spans as spans_of_procedures};
+ghost use Rattle.pdb_module_data.specs.ProcedurePieces.{IsShort, AreShort, StandFor};
 ghost use Rattle.pdb_module_data.specs.Procedures.{procedures_of, over as over_of};
 ghost use Rattle.pdb_symbols.specs.Iteration.{symbols_left};
 
@@ -15,7 +17,8 @@ use pdb_symbols::SymbolIter;
 use std::alloc::{AllocError, Global};
 use std::marker::Model;
 
-/// The procedures of a module in their order, of those of one start the first, and pieces of places for a search among them.
+/// The procedures of a module in their order, of those of one start the first, and pieces of places
+/// for a search among them.
 #[derive(Drop)]
 pub struct Procedures<'t> {
     list: Vec<Procedure<'t>>,
@@ -80,7 +83,8 @@ fn procedure_pieces(
 }
 
 impl<'t> Procedures<'t> {
-    /// The procedures among a module's symbols, which are read to their end, as [`read_procedures`] says.
+    /// The procedures among a module's symbols, which are read to their end, as [`read_procedures`]
+    /// says.
     ///
     /// # Errors
     /// The first fault of the symbols: `SymbolTooShort`, `UnexpectedEof`. `OutOfMemory`.
@@ -99,8 +103,9 @@ impl<'t> Procedures<'t> {
         self.list.as_slice()
     }
 
-    /// The number of the procedure over a place, counted from 0 in their order: of those that contain it the one with the
-    /// greatest start. It takes as many steps as the number of pieces has binary digits.
+    /// The number of the procedure over a place, counted from 0 in their order: of those that
+    /// contain it the one with the greatest start. It takes as many steps as the number of pieces
+    /// has binary digits.
     pub fn number_over(&self, place: PdbInternalSectionOffset) -> Option<usize>
         ensures { option_and_then (λ k. slice_get self.now k) result ≡ over_of self.now place }
     {

@@ -2,9 +2,14 @@
 
 ghost use Rattle.std.specs.Prelude.{◌≡◌, OnOk, Some, option_map};
 ghost use Rattle.std.specs.BTreeSet.{contains};
-ghost use Rattle.pdb_addresses.specs.declared.internal_section_offset.PdbInternalSectionOffset.{PdbInternalSectionOffset};
+ghost use Rattle.pdb_addresses.specs.declared.internal_section_offset.PdbInternalSectionOffset.{
+  PdbInternalSectionOffset,
+};
 ghost use Rattle.pdb_container.specs.Fault.{Gives};
-ghost use Rattle.pdb_module_data.specs.Procedures.{place_cmp, has_start, is_procedure_kind, separated_from, said_procedure, kept_of as kept_of_symbol, onto_new, procedures_of};
+ghost use Rattle.pdb_module_data.specs.Procedures.{place_cmp, has_start, is_procedure_kind};
+ghost use Rattle.pdb_module_data.specs.Procedures.{separated_from, said_procedure};
+ghost use Rattle.pdb_module_data.specs.Procedures.{kept_of as kept_of_symbol, onto_new};
+ghost use Rattle.pdb_module_data.specs.Procedures.{procedures_of};
 ghost use Rattle.pdb_symbols.specs.Iteration.{symbols_left};
 ghost use Rattle.pdb_symbols.specs.Records.{symbol_form_of};
 
@@ -17,7 +22,8 @@ use std::alloc::{AllocError, Global};
 use std::collections::BTreeSet;
 use std::marker::Model;
 
-/// A procedure of a module: a function's code, by a procedure symbol, a thunk (`S_THUNK32`) or separated code (`S_SEPCODE`).
+/// A procedure of a module: a function's code, by a procedure symbol, a thunk (`S_THUNK32`) or
+/// separated code (`S_SEPCODE`).
 #[derive(Debug, Drop)]
 pub struct Procedure<'t> {
     /// The place of its symbol in the module's symbols, in bytes.
@@ -40,11 +46,18 @@ impl<'t> Model for Procedure<'t> {
 
     ghost Value = { procedures.Procedure };
 
-    ghost view = { λ q. record { symbol_index = q.symbol_index; end_symbol_index = q.end_symbol_index; offset = q.offset; len = q.len; type_index = q.type_index; name = raw_bytes q.name } };
+    ghost view = { λ q. record {
+      symbol_index = q.symbol_index;
+      end_symbol_index = q.end_symbol_index;
+      offset = q.offset;
+      len = q.len;
+      type_index = q.type_index;
+      name = raw_bytes q.name;
+    } };
 }
 
-/// Separated code by the procedure that was kept last: with that one's name and type, if that one begins at its parent's
-/// place.
+/// Separated code by the procedure that was kept last: with that one's name and type, if that one
+/// begins at its parent's place.
 fn separated_code<'t>(
     last: Option<&Procedure<'t>>,
     index: SymbolIndex,
@@ -73,10 +86,12 @@ fn may_be_procedure(kind: u16) -> bool
     is_procedure(kind) || is_thunk(kind) || is_separated_code(kind)
 }
 
-/// What a symbol says as a procedure, behind the procedure that was kept last. No symbol of another kind is parsed.
+/// What a symbol says as a procedure, after the procedure that was kept last. No symbol of another
+/// kind is parsed.
 #[tactic(auto, using(crate::proofs::ProcedureSteps::no_procedure))]
 fn parse_procedure<'t>(last: Option<&Procedure<'t>>, symbol: &Symbol<'t>) -> Option<Procedure<'t>>
-    ensures { result ≡ said_procedure (option_map (λ q. q.now) last.entry) symbol.now.index (symbol_form_of symbol.now) }
+    ensures { result ≡ said_procedure (option_map (λ q. q.now) last.entry) symbol.now.index
+        (symbol_form_of symbol.now) }
 {
     if !may_be_procedure(symbol.raw_kind()) {
         return None;
@@ -103,7 +118,7 @@ fn parse_procedure<'t>(last: Option<&Procedure<'t>>, symbol: &Symbol<'t>) -> Opt
     }
 }
 
-/// The procedure that is kept of a symbol, behind the one that was kept last: one that has code.
+/// The procedure that is kept of a symbol, after the one that was kept last: one that has code.
 fn kept_procedure<'t>(last: Option<&Procedure<'t>>, symbol: &Symbol<'t>) -> Option<Procedure<'t>>
     ensures { result ≡ kept_of_symbol (option_map (λ q. q.now) last.entry) symbol.now }
 {
@@ -114,7 +129,7 @@ fn kept_procedure<'t>(last: Option<&Procedure<'t>>, symbol: &Symbol<'t>) -> Opti
     Some(procedure)
 }
 
-/// The same procedure once more.
+/// A copy of a procedure.
 fn same<'t>(procedure: &Procedure<'t>) -> Procedure<'t>
     ensures { result ≡ procedure.now }
 {
@@ -135,9 +150,13 @@ fn push_new<'t>(
     procedures: &mut Vec<Procedure<'t>>,
     procedure: Procedure<'t>,
 ) -> std::result::Result<(), AllocError>
-    requires { (p : PdbInternalSectionOffset) → contains place_cmp starts.old (p.section, p.offset) ≡ has_start procedures.old.items p }
-    ensures ok { OnOk result (procedures.new.items ≡ onto_new procedures.old.items procedure.entry) }
-    ensures starts { OnOk result ((p : PdbInternalSectionOffset) → contains place_cmp starts.new (p.section, p.offset) ≡ has_start procedures.new.items p) }
+    requires { (p : PdbInternalSectionOffset)
+        → contains place_cmp starts.old (p.section, p.offset) ≡ has_start procedures.old.items p }
+    ensures ok { OnOk result
+        (procedures.new.items ≡ onto_new procedures.old.items procedure.entry) }
+    ensures starts { OnOk result
+        ((p : PdbInternalSectionOffset)
+        → contains place_cmp starts.new (p.section, p.offset) ≡ has_start procedures.new.items p) }
 {
     if starts.insert((procedure.offset.section, procedure.offset.offset))? {
         procedures.push(procedure)?;
@@ -145,9 +164,10 @@ fn push_new<'t>(
     Ok(())
 }
 
-/// The procedures among a module's symbols, which are read to their end: procedure symbols, thunks and separated code that
-/// can be read and have code, in their order; of those with one start the first. Separated code takes name and type of the
-/// procedure kept last before it, if that one begins at its parent's place; else it isn't kept.
+/// The procedures among a module's symbols, which are read to their end: procedure symbols, thunks
+/// and separated code that can be read and have code, in their order; of those with one start the
+/// first. Separated code takes name and type of the procedure kept last before it, if that one
+/// begins at its parent's place; else it isn't kept.
 ///
 /// # Errors
 /// The first fault of the symbols: `SymbolTooShort`, `UnexpectedEof`. `OutOfMemory`.

@@ -1,4 +1,4 @@
-//! What is kept of the rows of a procedure's inline sites, and pieces for a search among those of
+//! What is stored of the rows of a procedure's inline sites, and pieces for a search among those of
 //! each.
 
 ghost use Rattle.std.specs.Prelude.{◌≡◌, ◌+◌, ◌<◌, ◌≤◌, IfOk, OnOk};
@@ -12,9 +12,9 @@ use pdb_pieces::Pieces;
 use std::alloc::{AllocError, Global};
 use std::collections::BTreeMap;
 
-/// What is kept of the rows of sites, one after another, with where those of each start; and pieces
-/// of places for a search among those of a site, under its number, where they don't lie apart in
-/// ascending order.
+/// What is stored of the rows of sites, one after another, with where those of each start; and
+/// pieces of places for a search among those of a site, under its number, where they don't lie
+/// apart in ascending order.
 #[derive(Drop)]
 pub struct SiteRows {
     pub rows: Vec<CallRow>,
@@ -23,12 +23,13 @@ pub struct SiteRows {
 }
 
 impl SiteRows {
-    /// What is kept of the rows of the site with that number.
+    /// What is stored of the rows of the site with that number.
     pub fn rows_of(&self, number: usize) -> &[CallRow]
         requires there { number + 1 < length self.now.starts.items }
         requires ascend { slice_index self.now.starts.items number
             ≤ slice_index self.now.starts.items (number + 1) }
-        requires bound { slice_index self.now.starts.items (number + 1) ≤ length self.now.rows.items }
+        requires bound { slice_index self.now.starts.items (number + 1)
+            ≤ length self.now.rows.items }
         ensures { result.now ≡ rows_between self.now.rows.items
             (slice_index self.now.starts.items number)
             (slice_index self.now.starts.items (number + 1)) }
@@ -49,7 +50,9 @@ fn rows_of_site<'r>(rows: &'r [CallRow], starts: &[usize], number: usize) -> &'r
     requires there { number + 1 < length starts.now }
     requires ascend { slice_index starts.now number ≤ slice_index starts.now (number + 1) }
     requires bound { slice_index starts.now (number + 1) ≤ length rows.now }
-    ensures { result.now ≡ rows_between rows.now (slice_index starts.now number) (slice_index starts.now (number + 1)) }
+    ensures { result.now
+        ≡ rows_between rows.now (slice_index starts.now number)
+        (slice_index starts.now (number + 1)) }
 {
     &rows[starts[number]..starts[number + 1]]
 }
