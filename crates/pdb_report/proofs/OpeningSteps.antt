@@ -302,7 +302,7 @@ over_kept file h is parts parts_are loaded_is =
       frames = fun_ext (λ a. ap (λ known. frames parts known a) scopes ∙ ap (λ r. answer_by s r a) (sym loaded_is));
       functions = fun_ext (λ a. ap (λ known. function parts known a) scopes ∙ ap (λ r. function_by s r a) (sym loaded_is));
       places = ap (λ known. database_of parts known) scopes ∙ ap (λ r. database_by s r) (sym loaded_is);
-      files = ap (λ known. files_of parts known) scopes ∙ ap (λ r. files_by s r) (sym loaded_is);
+      by_file = ap (λ known. files_of parts known) scopes ∙ ap (λ r. files_by s r) (sym loaded_is);
       list = ap (λ known. Some (listing_in h parts known)) scopes ∙ ap (λ r. listing_by s r) (sym loaded_is);
     }
 

@@ -159,5 +159,5 @@ pub record AnswersAs {P : Type 0} (provided : P → Provided) (s : Streams) (c :
   pub frames : answer_of provided c ≡ answer s
   pub functions : function_of provided c ≡ function_at s
   pub places : database_in provided c ≡ database s
-  pub files : files_in provided c ≡ files s
+  pub by_file : files_in provided c ≡ files s
   pub list : Some (listing_of provided c) ≡ listing s

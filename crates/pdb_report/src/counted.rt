@@ -126,7 +126,7 @@ impl Counted for CountedFile {
 
     ghost is_report = { IsFileReport };
 
-    ghost of_file = { λ s c answers. answers.files };
+    ghost of_file = { λ s c answers. answers.by_file };
 
     fn run_at(
         alloc: Global,
