@@ -1,8 +1,8 @@
 //! The request of a line.
 
-ghost use Rattle.std.specs.Prelude.{◌≡◌, option_map, result_ok};
-ghost use Rattle.pdb_llvm_requests.specs.Number.{number_of};
-ghost use Rattle.pdb_llvm_requests.specs.Words.{trimmed, word_end as word_end_of};
+ghost use Rattle.std.specs.Prelude.{◌≡◌, ◌==◌, option_map, position};
+ghost use Rattle.std.specs.List.{list_all};
+ghost use Rattle.std.specs.Result.{result_ok};
 ghost use Rattle.pdb_llvm_requests.specs.Request.{Returns, address_of, command_of, file_of};
 ghost use Rattle.pdb_llvm_requests.specs.Request.{quoted_of, request_of, seen};
 
@@ -71,13 +71,20 @@ fn split_command(line: &[u8]) -> (Command, &[u8])
     }
 }
 
+/// Where the first byte of this value stands.
+fn first_of(byte: u8, text: &[u8]) -> Option<usize>
+    ensures { result ≡ position (λ b. b == byte) text.now }
+{
+    text.iter().position(|other| *other == byte)
+}
+
 /// The name before a quote, and what comes after it. An empty name where the quote is missing.
 #[tactic(auto, unfolding(crate::specs::Request::quoted_of))]
 fn split_quoted(quote: u8, text: &[u8]) -> (&[u8], &[u8])
     ensures name { result.0.now ≡ (quoted_of quote text.now).0 }
     ensures rest { result.1.now ≡ (quoted_of quote text.now).1 }
 {
-    match text.iter().position(|byte| *byte == quote) {
+    match first_of(quote, text) {
         Some(end) => (&text[..end], &text[end + 1..]),
         None => (&[], text),
     }
@@ -115,6 +122,13 @@ fn read_address(text: &[u8]) -> Result<u64, RequestFault>
     }
 }
 
+/// Whether a line has no byte, carriage returns aside.
+fn is_empty(line: &[u8]) -> bool
+    ensures { result ≡ list_all (λ b. b == 13) line.now }
+{
+    line.iter().all(|byte| *byte == b'\r')
+}
+
 /// The request of a line, where the file is given beside the lines (`file_given`) or else stands in
 /// the line: a command and one space, if any, the file, a word or in quotes, and the address. What
 /// follows the address doesn't count.
@@ -125,7 +139,7 @@ fn read_address(text: &[u8]) -> Result<u64, RequestFault>
 pub fn read_request(line: &[u8], file_given: bool) -> Result<LineRequest<'_>, RequestFault>
     ensures { Returns result (request_of line.now file_given) }
 {
-    if line.iter().all(|byte| *byte == b'\r') {
+    if is_empty(line) {
         return Err(RequestFault::EmptyLine);
     }
     let (command, rest) = split_command(line);
