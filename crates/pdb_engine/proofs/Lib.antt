@@ -2,6 +2,7 @@ pub mod AddressLemmas
 pub mod Faults
 pub mod Hex
 pub mod LineLemmas
+pub mod LineStarts
 pub mod Pumped
 pub mod Puts
 pub mod RequestSteps

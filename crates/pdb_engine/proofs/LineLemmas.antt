@@ -1,29 +1,30 @@
 -- The lines that the engine keeps are those of the definition.
-use Rattle.std.proofs.Common.{◌≡◌, ℕ, zero, suc, ◌+◌, ◌<◌, true, false, cond, List, [], ◌∷◌, ◌++◌, refl, sym, ap, ◌∙◌, append_assoc, append-nil, length, take, get_or}
+use Rattle.std.proofs.Common.{◌≡◌, ℕ, zero, suc, ◌+◌, ◌<◌, true, false, cond, List, [], ◌∷◌, ◌++◌, refl, sym, ap, ◌∙◌, append_assoc, append-nil, length, take, get_or, arith}
 use Rattle.std.specs.Prelude.{◌==◌, Option, Result, Ok, Err, OnErr}
 use Rattle.std.specs.Io.KnownBytes.{Appends}
 use Rattle.std.specs.List.{flat_map}
+use Rattle.std.proofs.Math.Seq.{take-nil}
 use Rattle.std.proofs.lemmas.Grind.{flat_map-append}
 use Rattle.std.proofs.lemmas.List.{take_more}
 use Rattle.pdb_engine.specs.InputLines.{onto, input_lines, onto_ended, ended_input_lines, report, report_of_ended, kept_lines, kept_rest, Begins}
 
 -- bytes that come in two pieces
-pub kept_lines-append : (kept xs ys : List ℕ) → kept_lines kept (xs ++ ys) ≡ kept_lines kept xs ++ kept_lines (kept_rest kept xs) ys
-kept_lines-append kept [] ys = refl
-kept_lines-append kept (x ∷ xs) ys =
-    elim (x == 10) as (λ b. cond b (kept ∷ kept_lines [] (xs ++ ys)) (kept_lines (take 12 (kept ++ x ∷ [])) (xs ++ ys))
-    ≡ cond b (kept ∷ kept_lines [] xs) (kept_lines (take 12 (kept ++ x ∷ [])) xs) ++ kept_lines (cond b (kept_rest [] xs) (kept_rest (take 12 (kept ++ x ∷ [])) xs)) ys) [
-      | true ↦ ap (λ l. kept ∷ l) (kept_lines-append [] xs ys)
-      | false ↦ kept_lines-append (take 12 (kept ++ x ∷ [])) xs ys
+pub kept_lines-append : (room : ℕ) (kept xs ys : List ℕ) → kept_lines room kept (xs ++ ys) ≡ kept_lines room kept xs ++ kept_lines room (kept_rest room kept xs) ys
+kept_lines-append room kept [] ys = refl
+kept_lines-append room kept (x ∷ xs) ys =
+    elim (x == 10) as (λ b. cond b (kept ∷ kept_lines room [] (xs ++ ys)) (kept_lines room (take room (kept ++ x ∷ [])) (xs ++ ys))
+    ≡ cond b (kept ∷ kept_lines room [] xs) (kept_lines room (take room (kept ++ x ∷ [])) xs) ++ kept_lines room (cond b (kept_rest room [] xs) (kept_rest room (take room (kept ++ x ∷ [])) xs)) ys) [
+      | true ↦ ap (λ l. kept ∷ l) (kept_lines-append room [] xs ys)
+      | false ↦ kept_lines-append room (take room (kept ++ x ∷ [])) xs ys
     ]
 
 -- what is kept behind bytes and further ones is kept in two steps
-pub kept_rest-append : (kept xs ys : List ℕ) → kept_rest kept (xs ++ ys) ≡ kept_rest (kept_rest kept xs) ys
-kept_rest-append kept [] ys = refl
-kept_rest-append kept (x ∷ xs) ys =
-    elim (x == 10) as (λ b. cond b (kept_rest [] (xs ++ ys)) (kept_rest (take 12 (kept ++ x ∷ [])) (xs ++ ys)) ≡ kept_rest (cond b (kept_rest [] xs) (kept_rest (take 12 (kept ++ x ∷ [])) xs)) ys) [
-      | true ↦ kept_rest-append [] xs ys
-      | false ↦ kept_rest-append (take 12 (kept ++ x ∷ [])) xs ys
+pub kept_rest-append : (room : ℕ) (kept xs ys : List ℕ) → kept_rest room kept (xs ++ ys) ≡ kept_rest room (kept_rest room kept xs) ys
+kept_rest-append room kept [] ys = refl
+kept_rest-append room kept (x ∷ xs) ys =
+    elim (x == 10) as (λ b. cond b (kept_rest room [] (xs ++ ys)) (kept_rest room (take room (kept ++ x ∷ [])) (xs ++ ys)) ≡ kept_rest room (cond b (kept_rest room [] xs) (kept_rest room (take room (kept ++ x ∷ [])) xs)) ys) [
+      | true ↦ kept_rest-append room [] xs ys
+      | false ↦ kept_rest-append room (take room (kept ++ x ∷ [])) xs ys
     ]
 
 -- whole lines, with the line so far
@@ -40,24 +41,33 @@ take_front zero xs ys = refl
 take_front (suc n) [] ys = refl
 take_front (suc n) (x ∷ xs) ys = ap (λ l. x ∷ l) (take_front n xs ys)
 
--- the first twelve bytes are enough where they determine the text
-kept_report : (text : List ℕ → List ℕ) → ((line : List ℕ) → text (take 12 line) ≡ text line) → (line bs : List ℕ) → flat_map text (kept_lines (take 12 line) bs) ≡ flat_map text (ended_from line bs)
+-- the first bytes are enough where they determine the text
+kept_report : (room : ℕ) (text : List ℕ → List ℕ) → ((line : List ℕ) → text (take room line) ≡ text line) → (line bs : List ℕ) → flat_map text (kept_lines room (take room line) bs) ≡ flat_map text (ended_from line bs)
 unfolding ended_from
-kept_report text short line [] = refl
-kept_report text short line (b ∷ bs) =
-    elim (b == 10) as (λ t. flat_map text (cond t (take 12 line ∷ kept_lines [] bs) (kept_lines (take 12 (take 12 line ++ b ∷ [])) bs)) ≡ flat_map text (cond t (line ∷ ended_from [] bs) (ended_from (line ++ b ∷ []) bs))) [
-      | true ↦ ap (λ l. l ++ flat_map text (kept_lines [] bs)) (short line) ∙ ap (λ l. text line ++ l) (kept_report text short [] bs)
-      | false ↦ ap (λ l. flat_map text (kept_lines l bs)) (take_front 12 line (b ∷ [])) ∙ kept_report text short (line ++ b ∷ []) bs
+kept_report room text short line [] = refl
+kept_report room text short line (b ∷ bs) =
+    elim (b == 10) as (λ t. flat_map text (cond t (take room line ∷ kept_lines room [] bs) (kept_lines room (take room (take room line ++ b ∷ [])) bs)) ≡ flat_map text (cond t (line ∷ ended_from [] bs) (ended_from (line ++ b ∷ []) bs))) [
+      | true ↦ ap (λ l. l ++ flat_map text (kept_lines room [] bs)) (short line)
+          ∙ ap (λ l. text line ++ l) (ap (λ k. flat_map text (kept_lines room k bs)) (sym (take-nil room)) ∙ kept_report room text short [] bs)
+      | false ↦ ap (λ l. flat_map text (kept_lines room l bs)) (take_front room line (b ∷ [])) ∙ kept_report room text short (line ++ b ∷ []) bs
     ]
 
-kept_rest_is : (line bs : List ℕ) → kept_rest (take 12 line) bs ≡ take 12 (rest_from line bs)
+-- ..where no byte of a line came before
+from_none : (room : ℕ) (text : List ℕ → List ℕ) → ((line : List ℕ) → text (take room line) ≡ text line) → (bs : List ℕ) → flat_map text (kept_lines room [] bs) ≡ flat_map text (ended_from [] bs)
+from_none room text short bs = ap (λ k. flat_map text (kept_lines room k bs)) (sym (take-nil room)) ∙ kept_report room text short [] bs
+
+kept_rest_is : (room : ℕ) (line bs : List ℕ) → kept_rest room (take room line) bs ≡ take room (rest_from line bs)
 unfolding rest_from
-kept_rest_is line [] = refl
-kept_rest_is line (b ∷ bs) =
-    elim (b == 10) as (λ t. cond t (kept_rest [] bs) (kept_rest (take 12 (take 12 line ++ b ∷ [])) bs) ≡ take 12 (cond t (rest_from [] bs) (rest_from (line ++ b ∷ []) bs))) [
-      | true ↦ kept_rest_is [] bs
-      | false ↦ ap (λ l. kept_rest l bs) (take_front 12 line (b ∷ [])) ∙ kept_rest_is (line ++ b ∷ []) bs
+kept_rest_is room line [] = refl
+kept_rest_is room line (b ∷ bs) =
+    elim (b == 10) as (λ t. cond t (kept_rest room [] bs) (kept_rest room (take room (take room line ++ b ∷ [])) bs) ≡ take room (cond t (rest_from [] bs) (rest_from (line ++ b ∷ []) bs))) [
+      | true ↦ ap (λ k. kept_rest room k bs) (sym (take-nil room)) ∙ kept_rest_is room [] bs
+      | false ↦ ap (λ l. kept_rest room l bs) (take_front room line (b ∷ [])) ∙ kept_rest_is room (line ++ b ∷ []) bs
     ]
+
+-- ..where no byte of a line came before
+rest_none : (room : ℕ) (bs : List ℕ) → kept_rest room [] bs ≡ take room (rest_from [] bs)
+rest_none room bs = ap (λ k. kept_rest room k bs) (sym (take-nil room)) ∙ kept_rest_is room [] bs
 
 front_ended : List ℕ → List (List ℕ) → List (List ℕ)
 front_ended line [] = []
@@ -117,32 +127,33 @@ lines_split line (b ∷ bs) =
 -- ---- what the engine writes
 
 -- for the lines that a newline ends
-pub report_of_ended_is : (text : List ℕ → List ℕ) → ((line : List ℕ) → text (take 12 line) ≡ text line) → (bs : List ℕ) → flat_map text (kept_lines [] bs) ≡ report_of_ended text bs
-report_of_ended_is text short bs = kept_report text short [] bs ∙ ap (flat_map text) (ended_is [] bs ∙ front_ended-nil (ended_input_lines bs))
+pub report_of_ended_is : (room : ℕ) (text : List ℕ → List ℕ) → ((line : List ℕ) → text (take room line) ≡ text line) → (bs : List ℕ) → flat_map text (kept_lines room [] bs) ≡ report_of_ended text bs
+report_of_ended_is room text short bs = from_none room text short bs ∙ ap (flat_map text) (ended_is [] bs ∙ front_ended-nil (ended_input_lines bs))
 
-last_short : (text : List ℕ → List ℕ) → ((line : List ℕ) → text (take 12 line) ≡ text line) → (line : List ℕ) → flat_map text (last_line (take 12 line)) ≡ flat_map text (last_line line)
-last_short text short [] = refl
-last_short text short (x ∷ xs) = ap (λ l. l ++ []) (short (x ∷ xs))
+last_short : (room : ℕ) → 0 < room → (text : List ℕ → List ℕ) → ((line : List ℕ) → text (take room line) ≡ text line) → (line : List ℕ) → flat_map text (last_line (take room line)) ≡ flat_map text (last_line line)
+last_short zero some text short line = absurd (omega arith)
+last_short (suc n) some text short [] = refl
+last_short (suc n) some text short (x ∷ xs) = ap (λ l. l ++ []) (short (x ∷ xs))
 
 -- for all
-pub report_is : (text : List ℕ → List ℕ) → ((line : List ℕ) → text (take 12 line) ≡ text line) → (bs : List ℕ) → report text bs ≡ flat_map text (kept_lines [] bs) ++ flat_map text (last_line (kept_rest [] bs))
-report_is text short bs =
+pub report_is : (room : ℕ) → 0 < room → (text : List ℕ → List ℕ) → ((line : List ℕ) → text (take room line) ≡ text line) → (bs : List ℕ) → report text bs ≡ flat_map text (kept_lines room [] bs) ++ flat_map text (last_line (kept_rest room [] bs))
+report_is room some text short bs =
     ap (flat_map text) (sym (front-nil (input_lines bs)) ∙ lines_split [] bs)
     ∙ flat_map-append text (ended_from [] bs) (last_line (rest_from [] bs))
-    ∙ ap (λ l. l ++ flat_map text (last_line (rest_from [] bs))) (sym (kept_report text short [] bs))
-    ∙ ap (λ l. flat_map text (kept_lines [] bs) ++ l) (sym (last_short text short (rest_from [] bs)) ∙ ap (λ l. flat_map text (last_line l)) (sym (kept_rest_is [] bs)))
+    ∙ ap (λ l. l ++ flat_map text (last_line (rest_from [] bs))) (sym (from_none room text short bs))
+    ∙ ap (λ l. flat_map text (kept_lines room [] bs) ++ l) (sym (last_short room some text short (rest_from [] bs)) ∙ ap (λ l. flat_map text (last_line l)) (sym (rest_none room bs)))
 
 -- ---- one byte more
 
-pub kept_lines-more : (kept bytes : List ℕ) (i : ℕ) → i < length bytes → kept_lines kept (take (i + 1) bytes) ≡ kept_lines kept (take i bytes) ++ kept_lines (kept_rest kept (take i bytes)) (get_or bytes i 0 ∷ [])
-kept_lines-more kept bytes i h = ap (kept_lines kept) (take_more bytes i 0 h) ∙ kept_lines-append kept (take i bytes) (get_or bytes i 0 ∷ [])
+pub kept_lines-more : (room : ℕ) (kept bytes : List ℕ) (i : ℕ) → i < length bytes → kept_lines room kept (take (i + 1) bytes) ≡ kept_lines room kept (take i bytes) ++ kept_lines room (kept_rest room kept (take i bytes)) (get_or bytes i 0 ∷ [])
+kept_lines-more room kept bytes i h = ap (kept_lines room kept) (take_more bytes i 0 h) ∙ kept_lines-append room kept (take i bytes) (get_or bytes i 0 ∷ [])
 
-pub kept_rest-more : (kept bytes : List ℕ) (i : ℕ) → i < length bytes → kept_rest kept (take (i + 1) bytes) ≡ kept_rest (kept_rest kept (take i bytes)) (get_or bytes i 0 ∷ [])
-kept_rest-more kept bytes i h = ap (kept_rest kept) (take_more bytes i 0 h) ∙ kept_rest-append kept (take i bytes) (get_or bytes i 0 ∷ [])
+pub kept_rest-more : (room : ℕ) (kept bytes : List ℕ) (i : ℕ) → i < length bytes → kept_rest room kept (take (i + 1) bytes) ≡ kept_rest room (kept_rest room kept (take i bytes)) (get_or bytes i 0 ∷ [])
+kept_rest-more room kept bytes i h = ap (kept_rest room kept) (take_more bytes i 0 h) ∙ kept_rest-append room kept (take i bytes) (get_or bytes i 0 ∷ [])
 
 -- what is kept behind one byte more
-pub rest_more : (kept kept' kept'' bytes : List ℕ) (i : ℕ) → i < length bytes → kept' ≡ kept_rest kept (take i bytes) → kept'' ≡ kept_rest kept' (get_or bytes i 0 ∷ []) → kept'' ≡ kept_rest kept (take (i + 1) bytes)
-rest_more kept kept' kept'' bytes i h e e' = e' ∙ ap (λ k. kept_rest k (get_or bytes i 0 ∷ [])) e ∙ sym (kept_rest-more kept bytes i h)
+pub rest_more : (room : ℕ) (kept kept' kept'' bytes : List ℕ) (i : ℕ) → i < length bytes → kept' ≡ kept_rest room kept (take i bytes) → kept'' ≡ kept_rest room kept' (get_or bytes i 0 ∷ []) → kept'' ≡ kept_rest room kept (take (i + 1) bytes)
+rest_more room kept kept' kept'' bytes i h e e' = e' ∙ ap (λ k. kept_rest room k (get_or bytes i 0 ∷ [])) e ∙ sym (kept_rest-more room kept bytes i h)
 
 -- a front of a text is one of the text with more behind it
 pub front_of_more : (a b : Option (List ℕ)) (text more : List ℕ) → ((out : List ℕ) × Appends a b out × Begins out text) → (out : List ℕ) × Appends a b out × Begins out (text ++ more)

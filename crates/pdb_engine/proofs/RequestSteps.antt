@@ -13,16 +13,16 @@ use Rattle.pdb_engine.specs.Requests.{lines_of, IsMade}
 use Rattle.pdb_engine.proofs.LineLemmas.{kept_lines-more}
 
 -- a request takes the place of one of the same line
-pub lines_set : (requests : List Request) (i : ℕ) (r d : Request) → r.line ≡ (slice_index_or requests i d).line → lines_of (slice_set requests i r) ≡ lines_of requests
-lines_set requests i r d same = map-set_same (λ (q : Request). q.line) requests i r d same
+pub lines_set : {L : Type 0} (view : L → List ℕ) (requests : List (Request L)) (i : ℕ) (r d : Request L) → view r.line ≡ view ((slice_index_or requests i d).line) → lines_of view (slice_set requests i r) ≡ lines_of view requests
+lines_set {L = L} view requests i r d same = map-set_same (λ (q : Request L). view q.line) requests i r d same
 
 -- one byte more
-pub lines_more : (lines lines' : List (List ℕ)) (kept kept' bytes : List ℕ) (i : ℕ) → i < length bytes → lines ≡ kept_lines kept (take i bytes) → kept' ≡ kept_rest kept (take i bytes)
-    → lines' ≡ lines ++ kept_lines kept' (get_or bytes i 0 ∷ []) → lines' ≡ kept_lines kept (take (i + 1) bytes)
-lines_more lines lines' kept kept' bytes i h e ek more =
-    more ∙ ap (λ l. l ++ kept_lines kept' (get_or bytes i 0 ∷ [])) e
-    ∙ ap (λ k. kept_lines kept (take i bytes) ++ kept_lines k (get_or bytes i 0 ∷ [])) ek
-    ∙ sym (kept_lines-more kept bytes i h)
+pub lines_more : (room : ℕ) (lines lines' : List (List ℕ)) (kept kept' bytes : List ℕ) (i : ℕ) → i < length bytes → lines ≡ kept_lines room kept (take i bytes) → kept' ≡ kept_rest room kept (take i bytes)
+    → lines' ≡ lines ++ kept_lines room kept' (get_or bytes i 0 ∷ []) → lines' ≡ kept_lines room kept (take (i + 1) bytes)
+lines_more room lines lines' kept kept' bytes i h e ek more =
+    more ∙ ap (λ l. l ++ kept_lines room kept' (get_or bytes i 0 ∷ [])) e
+    ∙ ap (λ k. kept_lines room kept (take i bytes) ++ kept_lines room k (get_or bytes i 0 ∷ [])) ek
+    ∙ sym (kept_lines-more room kept bytes i h)
 
 -- ---- texts that were made
 
@@ -46,67 +46,67 @@ abbrev pub AllBut : Option (List ℕ) → Option (List ℕ) → List ℕ → Lis
 AllBut a b pending text = (out : List ℕ) × Appends a b out × (text ≡ out ++ pending)
 
 -- the answers to lines, and to more of them
-answers-append : (text : List ℕ → List ℕ) (xs ys : List Request) → flat_map text (lines_of (xs ++ ys)) ≡ flat_map text (lines_of xs) ++ flat_map text (lines_of ys)
-answers-append text xs ys = ap (flat_map text) (map-append (λ (r : Request). r.line) xs ys) ∙ flat_map-append text (lines_of xs) (lines_of ys)
+answers-append : {L : Type 0} (view : L → List ℕ) (text : List ℕ → List ℕ) (xs ys : List (Request L)) → flat_map text (lines_of view (xs ++ ys)) ≡ flat_map text (lines_of view xs) ++ flat_map text (lines_of view ys)
+answers-append {L = L} view text xs ys = ap (flat_map text) (map-append (λ (r : Request L). view r.line) xs ys) ∙ flat_map-append text (lines_of view xs) (lines_of view ys)
 
 -- those to one line more
-answers-more : (text : List ℕ → List ℕ) (requests : List Request) (i : ℕ) (r : Request) → i < length requests → r ≡ get_or requests i r
-    → flat_map text (lines_of (take (i + 1) requests)) ≡ flat_map text (lines_of (take i requests)) ++ text r.line
-answers-more text requests i r h is =
-    ap (λ l. flat_map text (lines_of l)) (take_more requests i r h ∙ ap (λ q. take i requests ++ q ∷ []) (sym is))
-    ∙ answers-append text (take i requests) (r ∷ [])
-    ∙ ap (λ l. flat_map text (lines_of (take i requests)) ++ l) (append-nil (text r.line))
+answers-more : {L : Type 0} (view : L → List ℕ) (text : List ℕ → List ℕ) (requests : List (Request L)) (i : ℕ) (r : Request L) → i < length requests → r ≡ get_or requests i r
+    → flat_map text (lines_of view (take (i + 1) requests)) ≡ flat_map text (lines_of view (take i requests)) ++ text (view r.line)
+answers-more view text requests i r h is =
+    ap (λ l. flat_map text (lines_of view l)) (take_more requests i r h ∙ ap (λ q. take i requests ++ q ∷ []) (sym is))
+    ∙ answers-append view text (take i requests) (r ∷ [])
+    ∙ ap (λ l. flat_map text (lines_of view (take i requests)) ++ l) (append-nil (text (view r.line)))
 
 -- the answers to all are those to the lines before one, then its own, then those to the rest
-answers-around : (text : List ℕ → List ℕ) (requests : List Request) (i : ℕ) (r : Request) → i < length requests → r ≡ get_or requests i r
-    → flat_map text (lines_of requests) ≡ flat_map text (lines_of (take i requests)) ++ (text r.line ++ flat_map text (lines_of (drop (i + 1) requests)))
-answers-around text requests i r h is =
-    ap (λ l. flat_map text (lines_of l)) (sym (take-append-drop (i + 1) requests))
-    ∙ answers-append text (take (i + 1) requests) (drop (i + 1) requests)
-    ∙ ap (λ l. l ++ flat_map text (lines_of (drop (i + 1) requests))) (answers-more text requests i r h is)
-    ∙ append_assoc (flat_map text (lines_of (take i requests))) (text r.line) _
+answers-around : {L : Type 0} (view : L → List ℕ) (text : List ℕ → List ℕ) (requests : List (Request L)) (i : ℕ) (r : Request L) → i < length requests → r ≡ get_or requests i r
+    → flat_map text (lines_of view requests) ≡ flat_map text (lines_of view (take i requests)) ++ (text (view r.line) ++ flat_map text (lines_of view (drop (i + 1) requests)))
+answers-around view text requests i r h is =
+    ap (λ l. flat_map text (lines_of view l)) (sym (take-append-drop (i + 1) requests))
+    ∙ answers-append view text (take (i + 1) requests) (drop (i + 1) requests)
+    ∙ ap (λ l. l ++ flat_map text (lines_of view (drop (i + 1) requests))) (answers-more view text requests i r h is)
+    ∙ append_assoc (flat_map text (lines_of view (take i requests))) (text (view r.line)) _
 
 -- One line more, as what a writer holds and what is pending; the text may have another name at that call.
-pub out_more : (text text' : List ℕ → List ℕ) (a b c : Option (List ℕ)) (pending pending' : List ℕ) (requests : List Request) (i : ℕ) (r : Request) → i < length requests → r ≡ get_or requests i r → text' ≡ text
-    → AllBut a b pending (flat_map text (lines_of (take i requests))) → AllBut b c pending' (pending ++ text' r.line) → AllBut a c pending' (flat_map text (lines_of (take (i + 1) requests)))
-out_more text text' a b c pending pending' requests i r h is et (out, p, e) (out', q, e') =
-    let answer = text r.line in (
+pub out_more : {L : Type 0} (view : L → List ℕ) (text text' : List ℕ → List ℕ) (a b c : Option (List ℕ)) (pending pending' : List ℕ) (requests : List (Request L)) (i : ℕ) (r : Request L) → i < length requests → r ≡ get_or requests i r → text' ≡ text
+    → AllBut a b pending (flat_map text (lines_of view (take i requests))) → AllBut b c pending' (pending ++ text' (view r.line)) → AllBut a c pending' (flat_map text (lines_of view (take (i + 1) requests)))
+out_more view text text' a b c pending pending' requests i r h is et (out, p, e) (out', q, e') =
+    let answer = text (view r.line) in (
       out ++ out',
       Appends-trans a b c out out' p q,
-      answers-more text requests i r h is ∙ ap (λ l. l ++ answer) e ∙ append_assoc out pending answer
-          ∙ ap (λ l. out ++ l) (ap (λ (t : List ℕ → List ℕ). pending ++ t r.line) (sym et) ∙ e')
+      answers-more view text requests i r h is ∙ ap (λ l. l ++ answer) e ∙ append_assoc out pending answer
+          ∙ ap (λ l. out ++ l) (ap (λ (t : List ℕ → List ℕ). pending ++ t (view r.line)) (sym et) ∙ e')
           ∙ sym (append_assoc out out' pending'),
     )
 
 -- a front of what is pending and of one line's answer, behind what is out, is a front of the answers to all
-pub part_more : (text text' : List ℕ → List ℕ) (a b c : Option (List ℕ)) (pending : List ℕ) (requests : List Request) (i : ℕ) (r : Request) → i < length requests → r ≡ get_or requests i r → text' ≡ text
-    → AllBut a b pending (flat_map text (lines_of (take i requests)))
-    → ((out : List ℕ) × Appends b c out × Begins out (pending ++ text' r.line))
-    → (out : List ℕ) × Appends a c out × Begins out (flat_map text (lines_of requests))
-part_more text text' a b c pending requests i r h is et (out, p, e) (out', q, (more, begins)) =
-    let answer = text r.line in
-    let rest = flat_map text (lines_of (drop (i + 1) requests)) in
-    let now : pending ++ answer ≡ out' ++ more = ap (λ (t : List ℕ → List ℕ). pending ++ t r.line) (sym et) ∙ begins in (
+pub part_more : {L : Type 0} (view : L → List ℕ) (text text' : List ℕ → List ℕ) (a b c : Option (List ℕ)) (pending : List ℕ) (requests : List (Request L)) (i : ℕ) (r : Request L) → i < length requests → r ≡ get_or requests i r → text' ≡ text
+    → AllBut a b pending (flat_map text (lines_of view (take i requests)))
+    → ((out : List ℕ) × Appends b c out × Begins out (pending ++ text' (view r.line)))
+    → (out : List ℕ) × Appends a c out × Begins out (flat_map text (lines_of view requests))
+part_more view text text' a b c pending requests i r h is et (out, p, e) (out', q, (more, begins)) =
+    let answer = text (view r.line) in
+    let rest = flat_map text (lines_of view (drop (i + 1) requests)) in
+    let now : pending ++ answer ≡ out' ++ more = ap (λ (t : List ℕ → List ℕ). pending ++ t (view r.line)) (sym et) ∙ begins in (
       out ++ out',
       Appends-trans a b c out out' p q,
       (
         more ++ rest,
-        answers-around text requests i r h is ∙ ap (λ l. l ++ (answer ++ rest)) e ∙ append_assoc out pending (answer ++ rest)
+        answers-around view text requests i r h is ∙ ap (λ l. l ++ (answer ++ rest)) e ∙ append_assoc out pending (answer ++ rest)
             ∙ ap (λ l. out ++ l) (sym (append_assoc pending answer rest) ∙ ap (λ l. l ++ rest) now ∙ append_assoc out' more rest)
             ∙ sym (append_assoc out out' (more ++ rest)),
       ),
     )
 
 -- a front of what is pending behind the answers to all
-pub part_last : {T E : Type 0} (r : Result T E) (text : List ℕ → List ℕ) (a b c : Option (List ℕ)) (pending : List ℕ) (requests : List Request) (i : ℕ) → length requests ≤ i
-    → AllBut a b pending (flat_map text (lines_of (take i requests)))
-    → OnErr r ((out : List ℕ) × Appends b c out × Begins out pending) → OnErr r ((out : List ℕ) × Appends a c out × Begins out (flat_map text (lines_of requests)))
-part_last (Ok x) text a b c pending requests i past so_far h = tt
-part_last (Err x) text a b c pending requests i past (out, p, e) (out', q, (more, begins)) = (
+pub part_last : {T E L : Type 0} (view : L → List ℕ) (r : Result T E) (text : List ℕ → List ℕ) (a b c : Option (List ℕ)) (pending : List ℕ) (requests : List (Request L)) (i : ℕ) → length requests ≤ i
+    → AllBut a b pending (flat_map text (lines_of view (take i requests)))
+    → OnErr r ((out : List ℕ) × Appends b c out × Begins out pending) → OnErr r ((out : List ℕ) × Appends a c out × Begins out (flat_map text (lines_of view requests)))
+part_last view (Ok x) text a b c pending requests i past so_far h = tt
+part_last view (Err x) text a b c pending requests i past (out, p, e) (out', q, (more, begins)) = (
   out ++ out',
   Appends-trans a b c out out' p q,
   (
     more,
-    ap (λ l. flat_map text (lines_of l)) (sym (take_all i requests past)) ∙ e ∙ ap (λ l. out ++ l) begins ∙ sym (append_assoc out out' more),
+    ap (λ l. flat_map text (lines_of view l)) (sym (take_all i requests past)) ∙ e ∙ ap (λ l. out ++ l) begins ∙ sym (append_assoc out out' more),
   ),
 )

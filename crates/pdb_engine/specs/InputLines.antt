@@ -34,12 +34,16 @@ report_of_ended text input = flat_map text (ended_input_lines input)
 abbrev pub Begins : List ℕ → List ℕ → Type 0
 Begins out whole = (more : List ℕ) × (whole ≡ out ++ more)
 
--- the lines that bytes end, each by its first twelve bytes, where `kept` has those of the line before the bytes
-abbrev pub kept_lines : List ℕ → List ℕ → List (List ℕ)
-kept_lines kept [] = []
-kept_lines kept (b ∷ bs) = if b == 10 then kept ∷ kept_lines [] bs else kept_lines (take 12 (kept ++ b ∷ [])) bs
+-- the lines that bytes end, each by its first bytes, at most limit, where `kept` has those of the
+-- line before the bytes
+abbrev pub kept_lines : ℕ → List ℕ → List ℕ → List (List ℕ)
+kept_lines limit kept [] = []
+kept_lines limit kept (b ∷ bs) =
+    if b == 10 then kept ∷ kept_lines limit [] bs
+    else kept_lines limit (take limit (kept ++ b ∷ [])) bs
 
--- what is kept behind them: the first twelve bytes of the line that has not ended
-abbrev pub kept_rest : List ℕ → List ℕ → List ℕ
-kept_rest kept [] = kept
-kept_rest kept (b ∷ bs) = if b == 10 then kept_rest [] bs else kept_rest (take 12 (kept ++ b ∷ [])) bs
+-- what is kept after them: the first bytes, at most limit, of the line that has not ended
+abbrev pub kept_rest : ℕ → List ℕ → List ℕ → List ℕ
+kept_rest limit kept [] = kept
+kept_rest limit kept (b ∷ bs) =
+    if b == 10 then kept_rest limit [] bs else kept_rest limit (take limit (kept ++ b ∷ [])) bs

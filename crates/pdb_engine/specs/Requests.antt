@@ -4,9 +4,9 @@ use Rattle.std.specs.List.{All, slice_range}
 use Rattle.pdb_engine.specs.declared.requests.Made.{Made}
 use Rattle.pdb_engine.specs.declared.requests.Request.{Request}
 
--- the lines of requests, each by its first twelve bytes
-abbrev pub lines_of : List Request → List (List ℕ)
-lines_of requests = map (λ r. r.line) requests
+-- the lines of requests, each by its first bytes
+abbrev pub lines_of : {L : Type 0} → (L → List ℕ) → List (Request L) → List (List ℕ)
+lines_of kept requests = map (λ r. kept r.line) requests
 
 -- the text from one place of others on and before another is the answer to the line; it begins
 -- where the others take less than 8 MB
@@ -17,9 +17,11 @@ pub record IsMade (text : List ℕ → List ℕ) (texts line : List ℕ) (made :
   pub is : slice_range texts made.start made.end ≡ text line
 
 -- a text that was made for a line is its answer
-abbrev pub IsAnswered : (List ℕ → List ℕ) → List ℕ → Request → Type 0
-IsAnswered text texts r = IfSome r.made (IsMade text texts r.line)
+abbrev pub IsAnswered : {L : Type 0} → (L → List ℕ) → (List ℕ → List ℕ) → List ℕ → Request L
+    → Type 0
+IsAnswered kept text texts r = IfSome r.made (IsMade text texts (kept r.line))
 
 -- each text that was made is the answer to its line
-abbrev pub AreAnswered : (List ℕ → List ℕ) → List ℕ → List Request → Type 0
-AreAnswered text texts requests = All (IsAnswered text texts) requests
+abbrev pub AreAnswered : {L : Type 0} → (L → List ℕ) → (List ℕ → List ℕ) → List ℕ
+    → List (Request L) → Type 0
+AreAnswered kept text texts requests = All (IsAnswered kept text texts) requests

@@ -24,8 +24,8 @@ const LONG_ROOM: usize = 1_048_576;
 
 /// The start of a line, and room for what a read takes and for texts, kept from read to read.
 #[derive(Drop)]
-struct Buffers {
-    start: LineStart,
+struct Buffers<L: LineStart> {
+    start: L,
     chunk: Vec<u8>,
     texts: Vec<u8>,
 }
@@ -46,7 +46,8 @@ pub fn run<A: Answers, R: Read, W: Write>(
     limit: u64,
 ) -> Result<(), InputFault>
     // Every line is answered, and nothing else is written.
-    requires { (line : List ℕ) → A.text answers.old (take 12 line) ≡ A.text answers.old line }
+    requires { (line : List ℕ) → A.text answers.old (take A.Start.limit line)
+        ≡ A.text answers.old line }
     ensures ok { OnOk result (IfSome (R.remaining (inner_of reader.old)) (λ input. (length input ≤ limit)
         × Writes W.contents writer.old writer.new (report (A.text answers.old) input))) }
     // Running changes no answer.
@@ -68,7 +69,7 @@ pub fn run<A: Answers, R: Read, W: Write>(
         return Err(InputFault::OutOfMemory);
     };
     let texts = Vec::new(alloc);
-    let start = LineStart::new();
+    let start = A::Start::new(alloc);
     let mut buffers = Buffers {
         start,
         chunk,
@@ -97,15 +98,17 @@ fn pump<A: Answers, R: Read, W: Write>(
     answers: &mut A,
     reader: &mut Watched<R>,
     writer: &mut Watched<W>,
-    buffers: &mut Buffers,
+    buffers: &mut Buffers<A::Start>,
     limit: u64,
 ) -> Result<(), InputFault>
     requires { 0 < length buffers.old.chunk.items }
     ensures ok { OnOk result ((taken : List ℕ) × Takes R.remaining reader.old reader.new taken
         × IsAtEnd (R.remaining (inner_of reader.new)) × (length taken ≤ limit)
         × Writes W.contents writer.old writer.new
-        (flat_map (A.text answers.old) (kept_lines buffers.old.start taken))
-        × (buffers.new.start ≡ kept_rest buffers.old.start taken)) }
+        (flat_map (A.text answers.old) (kept_lines A.Start.limit
+        (A.Start.kept buffers.old.start) taken))
+        × (A.Start.kept buffers.new.start ≡ kept_rest A.Start.limit
+        (A.Start.kept buffers.old.start) taken)) }
     ensures quiet { OnOk result (IsQuiet reader.old reader.new × IsQuiet writer.old writer.new) }
     ensures same { A.text answers.new ≡ A.text answers.old }
     ensures kind { IfErr result IsOfRunning }
@@ -116,15 +119,18 @@ fn pump<A: Answers, R: Read, W: Write>(
     ensures read_out { IfErr result (λ fault. OnRead fault (λ _.
         (taken : List ℕ) × Takes R.remaining reader.old reader.new taken
         × Writes W.contents writer.old writer.new
-        (flat_map (A.text answers.old) (kept_lines buffers.old.start taken)))) }
+        (flat_map (A.text answers.old) (kept_lines A.Start.limit
+        (A.Start.kept buffers.old.start) taken)))) }
     ensures too_long { IfErr result (λ fault. OnTooLong fault
         ((taken : List ℕ) × Takes R.remaining reader.old reader.new taken
         × (limit < length taken)
         × Writes W.contents writer.old writer.new
-        (flat_map (A.text answers.old) (kept_lines buffers.old.start (take limit taken))))) }
+        (flat_map (A.text answers.old) (kept_lines A.Start.limit (A.Start.kept buffers.old.start)
+        (take limit taken))))) }
     ensures part { OnErr result ((taken : List ℕ) × Takes R.remaining reader.old reader.new taken
         × WritesFront W.contents writer.old writer.new
-        (flat_map (A.text answers.old) (kept_lines buffers.old.start taken))) }
+        (flat_map (A.text answers.old) (kept_lines A.Start.limit
+        (A.Start.kept buffers.old.start) taken))) }
 {
     let mut left = limit;
     'reads: loop {
@@ -146,7 +152,7 @@ fn answer_read<A: Answers, R: Read, W: Write>(
     answers: &mut A,
     reader: &mut Watched<R>,
     writer: &mut Watched<W>,
-    buffers: &mut Buffers,
+    buffers: &mut Buffers<A::Start>,
     left: u64,
 ) -> Result<u64, InputFault>
     requires { 0 < length buffers.old.chunk.items }
@@ -156,8 +162,10 @@ fn answer_read<A: Answers, R: Read, W: Write>(
         (taken : List ℕ) × Takes R.remaining reader.old reader.new taken
         × (length taken ≡ count) × (count ≤ left)
         × Writes W.contents writer.old writer.new
-        (flat_map (A.text answers.old) (kept_lines buffers.old.start taken))
-        × (buffers.new.start ≡ kept_rest buffers.old.start taken)) }
+        (flat_map (A.text answers.old) (kept_lines A.Start.limit
+        (A.Start.kept buffers.old.start) taken))
+        × (A.Start.kept buffers.new.start ≡ kept_rest A.Start.limit
+        (A.Start.kept buffers.old.start) taken)) }
     ensures end { IfOk result (λ count. count ≡ 0 → IsAtEnd (R.remaining (inner_of reader.new))) }
     ensures quiet { OnOk result (IsQuiet reader.old reader.new × IsQuiet writer.old writer.new) }
     ensures same { A.text answers.new ≡ A.text answers.old }
@@ -173,10 +181,12 @@ fn answer_read<A: Answers, R: Read, W: Write>(
         ((taken : List ℕ) × Takes R.remaining reader.old reader.new taken
         × (left < length taken)
         × Writes W.contents writer.old writer.new
-        (flat_map (A.text answers.old) (kept_lines buffers.old.start (take left taken))))) }
+        (flat_map (A.text answers.old) (kept_lines A.Start.limit (A.Start.kept buffers.old.start)
+        (take left taken))))) }
     ensures part { OnErr result ((taken : List ℕ) × Takes R.remaining reader.old reader.new taken
         × WritesFront W.contents writer.old writer.new
-        (flat_map (A.text answers.old) (kept_lines buffers.old.start taken))) }
+        (flat_map (A.text answers.old) (kept_lines A.Start.limit
+        (A.Start.kept buffers.old.start) taken))) }
 {
     let count = match reader.read(&mut buffers.chunk) {
         Ok(count) => count,
@@ -210,17 +220,20 @@ fn feed<A: Answers, W: Write>(
     alloc: Global,
     answers: &mut A,
     writer: &mut Watched<W>,
-    start: &mut LineStart,
+    start: &mut A::Start,
     texts: &mut Vec<u8>,
     bytes: &[u8],
 ) -> Result<(), InputFault>
-    ensures ok { OnOk result (Writes W.contents writer.old writer.new (flat_map (A.text answers.old) (kept_lines start.old bytes.now))) }
-    ensures rest { OnOk result (start.new ≡ kept_rest start.old bytes.now) }
+    ensures ok { OnOk result (Writes W.contents writer.old writer.new (flat_map (A.text answers.old)
+        (kept_lines A.Start.limit (A.Start.kept start.old) bytes.now))) }
+    ensures rest { OnOk result (A.Start.kept start.new ≡ kept_rest A.Start.limit
+        (A.Start.kept start.old) bytes.now) }
     ensures same { A.text answers.new ≡ A.text answers.old }
     ensures quiet { OnOk result (IsQuiet writer.old writer.new) }
     ensures kind { IfErr result IsOfWriting }
     ensures fails { IfErr result (λ fault. OnWrite fault (λ kind. CountsFailure writer.old writer.new kind)) }
-    ensures part { OnErr result (WritesFront W.contents writer.old writer.new (flat_map (A.text answers.old) (kept_lines start.old bytes.now))) }
+    ensures part { OnErr result (WritesFront W.contents writer.old writer.new (flat_map
+        (A.text answers.old) (kept_lines A.Start.limit (A.Start.kept start.old) bytes.now))) }
 {
     let Ok(mut requests) = split(alloc, start, bytes) else {
         return Err(InputFault::OutOfMemory);
@@ -239,16 +252,18 @@ fn write_answers<A: Answers, W: Write>(
     alloc: Global,
     answers: &mut A,
     writer: &mut Watched<W>,
-    requests: &[Request],
+    requests: &[Request<A::Start>],
     texts: &[u8],
 ) -> Result<(), InputFault>
-    requires { AreAnswered (A.text answers.old) texts.now requests.now }
-    ensures ok { OnOk result (Writes W.contents writer.old writer.new (flat_map (A.text answers.old) (lines_of requests.now))) }
+    requires { AreAnswered A.Start.kept (A.text answers.old) texts.now requests.now }
+    ensures ok { OnOk result (Writes W.contents writer.old writer.new (flat_map (A.text answers.old)
+        (lines_of A.Start.kept requests.now))) }
     ensures same { A.text answers.new ≡ A.text answers.old }
     ensures quiet { OnOk result (IsQuiet writer.old writer.new) }
     ensures kind { IfErr result IsOfWriting }
     ensures fails { IfErr result (λ fault. OnWrite fault (λ kind. CountsFailure writer.old writer.new kind)) }
-    ensures part { OnErr result (WritesFront W.contents writer.old writer.new (flat_map (A.text answers.old) (lines_of requests.now))) }
+    ensures part { OnErr result (WritesFront W.contents writer.old writer.new (flat_map
+        (A.text answers.old) (lines_of A.Start.kept requests.now))) }
 {
     let mut pending = Vec::new(alloc);
     for request in requests {
@@ -266,18 +281,20 @@ fn gather_answer<A: Answers, W: Write>(
     answers: &mut A,
     writer: &mut Watched<W>,
     pending: &mut Vec<u8>,
-    request: &Request,
+    request: &Request<A::Start>,
     texts: &[u8],
 ) -> Result<(), InputFault>
-    requires { IsAnswered (A.text answers.old) texts.now request.now }
-    ensures ok { OnOk result (WritesAllBut W.contents writer.old writer.new pending.new.items (pending.old.items ++ A.text answers.old request.now.line)) }
+    requires { IsAnswered A.Start.kept (A.text answers.old) texts.now request.now }
+    ensures ok { OnOk result (WritesAllBut W.contents writer.old writer.new pending.new.items
+        (pending.old.items ++ A.text answers.old (A.Start.kept request.now.line))) }
     // What is pending stays short.
     ensures short { OnOk result (length pending.new.items < 65536) }
     ensures same { A.text answers.new ≡ A.text answers.old }
     ensures quiet { OnOk result (IsQuiet writer.old writer.new) }
     ensures kind { IfErr result IsOfWriting }
     ensures fails { IfErr result (λ fault. OnWrite fault (λ kind. CountsFailure writer.old writer.new kind)) }
-    ensures part { OnErr result (WritesFront W.contents writer.old writer.new (pending.old.items ++ A.text answers.old request.now.line)) }
+    ensures part { OnErr result (WritesFront W.contents writer.old writer.new (pending.old.items
+        ++ A.text answers.old (A.Start.kept request.now.line))) }
 {
     let Ok(()) = append_answer(alloc, answers, request, texts, pending) else {
         return Err(write_last(alloc, writer, pending));

@@ -16,5 +16,6 @@ pub use address::parse_address;
 pub use answers::Answers;
 pub use engine::{run, write_all};
 pub use fault::{InputFault, write_fault};
+pub use line_start::{AddressStart, LineStart, LongStart};
 pub use output::ErrorOutput;
 pub use watched::Watched;

@@ -7,6 +7,7 @@ ghost use Rattle.pdb_engine.specs.Requests.{lines_of, AreAnswered, IsAnswered};
 use crate::answers::Answers;
 use crate::line_start::LineStart;
 use std::alloc::{AllocError, Global};
+use std::mem::replace;
 
 /// From how many bytes on, taken together, no more texts are made before their turn to be written.
 const AHEAD_SIZE: usize = 8_388_608;
@@ -20,8 +21,8 @@ pub struct Made {
 
 /// A line, and where the text that answers it stands, if that was made before its turn to be written.
 #[derive(Drop)]
-pub struct Request {
-    pub line: LineStart,
+pub struct Request<L: LineStart> {
+    pub line: L,
     pub made: Option<Made>,
 }
 
@@ -44,33 +45,44 @@ struct Turn {
 }
 
 /// Puts the line that the byte ends behind other requests, or keeps the byte.
-fn split_byte(
-    requests: &mut Vec<Request>,
-    start: &mut LineStart,
+fn split_byte<L: LineStart>(
+    alloc: Global,
+    requests: &mut Vec<Request<L>>,
+    start: &mut L,
     byte: u8,
 ) -> Result<(), AllocError>
-    ensures lines { OnOk result (lines_of requests.new.items ≡ lines_of requests.old.items ++ kept_lines start.old (byte ∷ [])) }
-    ensures rest { OnOk result (start.new ≡ kept_rest start.old (byte ∷ [])) }
-    ensures unanswered { (text : List ℕ → List ℕ) (texts : List ℕ) → AreAnswered text texts requests.old.items → OnOk result (AreAnswered text texts requests.new.items) }
+    ensures lines { OnOk result (lines_of L.kept requests.new.items
+        ≡ lines_of L.kept requests.old.items ++ kept_lines L.limit (L.kept start.old) (byte ∷ [])) }
+    ensures rest { OnOk result (L.kept start.new
+        ≡ kept_rest L.limit (L.kept start.old) (byte ∷ [])) }
+    ensures unanswered { (text : List ℕ → List ℕ) (texts : List ℕ)
+        → AreAnswered L.kept text texts requests.old.items
+        → OnOk result (AreAnswered L.kept text texts requests.new.items) }
 {
     if byte != b'\n' {
-        start.push(byte);
-        return Ok(());
+        return start.push(byte);
     }
-    let line = start.take();
+    let line = replace(start, L::new(alloc));
     requests.push(Request { line, made: None })?;
     Ok(())
 }
 
 /// The lines that the bytes end, of which none is answered yet; the start of the one behind them is kept.
-pub fn split(alloc: Global, start: &mut LineStart, bytes: &[u8]) -> Result<Vec<Request>, AllocError>
-    ensures lines { IfOk result (λ requests. lines_of requests.items ≡ kept_lines start.old bytes.now) }
-    ensures rest { OnOk result (start.new ≡ kept_rest start.old bytes.now) }
-    ensures unanswered { (text : List ℕ → List ℕ) (texts : List ℕ) → IfOk result (λ requests. AreAnswered text texts requests.items) }
+pub fn split<L: LineStart>(
+    alloc: Global,
+    start: &mut L,
+    bytes: &[u8],
+) -> Result<Vec<Request<L>>, AllocError>
+    ensures lines { IfOk result (λ requests. lines_of L.kept requests.items
+        ≡ kept_lines L.limit (L.kept start.old) bytes.now) }
+    ensures rest { OnOk result (L.kept start.new
+        ≡ kept_rest L.limit (L.kept start.old) bytes.now) }
+    ensures unanswered { (text : List ℕ → List ℕ) (texts : List ℕ)
+        → IfOk result (λ requests. AreAnswered L.kept text texts requests.items) }
 {
     let mut requests = Vec::new(alloc);
     for byte in bytes {
-        split_byte(&mut requests, start, *byte)?;
+        split_byte(alloc, &mut requests, start, *byte)?;
     }
     Ok(requests)
 }
@@ -79,7 +91,7 @@ pub fn split(alloc: Global, start: &mut LineStart, bytes: &[u8]) -> Result<Vec<R
 fn turns<A: Answers>(
     alloc: Global,
     answers: &A,
-    requests: &[Request],
+    requests: &[Request<A::Start>],
 ) -> Result<Vec<Turn>, AllocError> {
     let mut turns = Vec::with_capacity(alloc, requests.len())?;
     for (index, request) in requests.iter().enumerate() {
@@ -95,12 +107,12 @@ fn turns<A: Answers>(
 fn answer_request<A: Answers>(
     alloc: Global,
     answers: &mut A,
-    request: &mut Request,
+    request: &mut Request<A::Start>,
     texts: &mut Vec<u8>,
 ) -> Result<bool, AllocError>
-    requires { IsAnswered (A.text answers.old) texts.old.items request.old }
+    requires { IsAnswered A.Start.kept (A.text answers.old) texts.old.items request.old }
     ensures line { request.new.line ≡ request.old.line }
-    ensures answered { IsAnswered (A.text answers.old) texts.new.items request.new }
+    ensures answered { IsAnswered A.Start.kept (A.text answers.old) texts.new.items request.new }
     ensures grown { (more : List ℕ) × (texts.new.items ≡ texts.old.items ++ more) }
     ensures same { A.text answers.new ≡ A.text answers.old }
 {
@@ -118,13 +130,15 @@ fn answer_request<A: Answers>(
 fn answer_numbered<A: Answers>(
     alloc: Global,
     answers: &mut A,
-    requests: &mut Vec<Request>,
+    requests: &mut Vec<Request<A::Start>>,
     index: usize,
     texts: &mut Vec<u8>,
 ) -> Result<bool, AllocError>
-    requires { AreAnswered (A.text answers.old) texts.old.items requests.old.items }
-    ensures lines { lines_of requests.new.items ≡ lines_of requests.old.items }
-    ensures answered { AreAnswered (A.text answers.old) texts.new.items requests.new.items }
+    requires { AreAnswered A.Start.kept (A.text answers.old) texts.old.items requests.old.items }
+    ensures lines { lines_of A.Start.kept requests.new.items
+        ≡ lines_of A.Start.kept requests.old.items }
+    ensures answered { AreAnswered A.Start.kept
+        (A.text answers.old) texts.new.items requests.new.items }
     ensures same { A.text answers.new ≡ A.text answers.old }
 {
     match requests.get_mut(index) {
@@ -137,13 +151,15 @@ fn answer_numbered<A: Answers>(
 fn answer_in_turn<A: Answers>(
     alloc: Global,
     answers: &mut A,
-    requests: &mut Vec<Request>,
+    requests: &mut Vec<Request<A::Start>>,
     turns: &[Turn],
     texts: &mut Vec<u8>,
 ) -> Result<(), AllocError>
-    requires { AreAnswered (A.text answers.old) texts.old.items requests.old.items }
-    ensures lines { lines_of requests.new.items ≡ lines_of requests.old.items }
-    ensures answered { AreAnswered (A.text answers.old) texts.new.items requests.new.items }
+    requires { AreAnswered A.Start.kept (A.text answers.old) texts.old.items requests.old.items }
+    ensures lines { lines_of A.Start.kept requests.new.items
+        ≡ lines_of A.Start.kept requests.old.items }
+    ensures answered { AreAnswered A.Start.kept
+        (A.text answers.old) texts.new.items requests.new.items }
     ensures same { A.text answers.new ≡ A.text answers.old }
 {
     for turn in turns {
@@ -162,12 +178,15 @@ fn answer_in_turn<A: Answers>(
 pub fn answer_ahead<A: Answers>(
     alloc: Global,
     answers: &mut A,
-    requests: &mut Vec<Request>,
+    requests: &mut Vec<Request<A::Start>>,
     texts: &mut Vec<u8>,
 ) -> Result<(), AllocError>
-    requires { (made : List ℕ) → AreAnswered (A.text answers.old) made requests.old.items }
-    ensures lines { lines_of requests.new.items ≡ lines_of requests.old.items }
-    ensures answered { AreAnswered (A.text answers.old) texts.new.items requests.new.items }
+    requires { (made : List ℕ) → AreAnswered A.Start.kept
+        (A.text answers.old) made requests.old.items }
+    ensures lines { lines_of A.Start.kept requests.new.items
+        ≡ lines_of A.Start.kept requests.old.items }
+    ensures answered { AreAnswered A.Start.kept
+        (A.text answers.old) texts.new.items requests.new.items }
     ensures same { A.text answers.new ≡ A.text answers.old }
 {
     clear_room(alloc, texts, AHEAD_SIZE);
@@ -186,12 +205,13 @@ pub fn answer_ahead<A: Answers>(
 pub fn append_answer<A: Answers>(
     alloc: Global,
     answers: &mut A,
-    request: &Request,
+    request: &Request<A::Start>,
     texts: &[u8],
     output: &mut Vec<u8>,
 ) -> Result<(), AllocError>
-    requires { IsAnswered (A.text answers.old) texts.now request.now }
-    ensures text { OnOk result (output.new.items ≡ output.old.items ++ A.text answers.old request.now.line) }
+    requires { IsAnswered A.Start.kept (A.text answers.old) texts.now request.now }
+    ensures text { OnOk result (output.new.items ≡ output.old.items ++ A.text answers.old
+        (A.Start.kept request.now.line)) }
     ensures refused { OnErr result (output.new.items ≡ output.old.items) }
     ensures same { A.text answers.new ≡ A.text answers.old }
 {

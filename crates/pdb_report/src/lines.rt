@@ -6,7 +6,7 @@ ghost use Rattle.pdb_report.specs.Answer.{answer_of};
 ghost use Rattle.pdb_report_texts.specs.AddressText.{line_text as text_of_line, text_at};
 
 use pdb_addr2line::{Context, Error, ModuleProvider};
-use pdb_engine::{Answers, parse_address};
+use pdb_engine::{AddressStart, Answers, parse_address};
 use pdb_report_texts::{append_address, append_unreadable};
 use std::alloc::{AllocError, Global};
 use std::mem::replace;
@@ -81,6 +81,8 @@ pub struct LineAnswers<'a, 's, P: ModuleProvider> {
 }
 
 impl<'a, 's, P: ModuleProvider> Answers for LineAnswers<'a, 's, P> {
+    type Start = AddressStart;
+
     ghost use Rattle.pdb_report_texts.specs.AddressText.{line_text};
     ghost use Rattle.pdb_report.specs.Answer.{answer_of};
 

@@ -11,9 +11,11 @@ invariant-reads g l =
     let contents = g.W.Write.contents in
     let remaining = g.R.Read.remaining in
     let text = g.A.Answers.text in
+    let room = g.A.Start.LineStart.limit in
+    let kept = g.A.Start.LineStart.kept in
     record {
       out : (taken : List ℕ) × Consumes (remaining (inner_of l.fn.reader)) (remaining (inner_of l.reader)) taken × (length taken + l.left ≡ l.limit)
-          × Appends (contents (inner_of l.fn.writer)) (contents (inner_of l.writer)) (flat_map (text l.fn.answers) (kept_lines l.fn.buffers.start taken)) × (l.buffers.start ≡ kept_rest l.fn.buffers.start taken);
+          × Appends (contents (inner_of l.fn.writer)) (contents (inner_of l.writer)) (flat_map (text l.fn.answers) (kept_lines room (kept l.fn.buffers.start) taken)) × (kept l.buffers.start ≡ kept_rest room (kept l.fn.buffers.start) taken);
       room : length l.buffers.chunk.items ≡ length l.fn.buffers.chunk.items;
       same : text l.answers ≡ text l.fn.answers;
       quiet_reader : IsQuiet l.fn.reader l.reader;

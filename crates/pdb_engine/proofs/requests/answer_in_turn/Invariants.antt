@@ -6,8 +6,9 @@ use Rattle.pdb_engine.proofs.requests.answer_in_turn.Given as goal
 abbrev pub invariant-loop-turn : goal.invariant-loop-turn
 invariant-loop-turn g l =
     let text = g.A.Answers.text in
+    let kept = g.A.Start.LineStart.kept in
     record {
-      lines : lines_of l.requests.items ≡ lines_of l.fn.requests.items;
-      answered : AreAnswered (text l.fn.answers) l.texts.items l.requests.items;
+      lines : lines_of kept l.requests.items ≡ lines_of kept l.fn.requests.items;
+      answered : AreAnswered kept (text l.fn.answers) l.texts.items l.requests.items;
       same : text l.answers ≡ text l.fn.answers;
     }

@@ -5,8 +5,8 @@ use Rattle.pdb_engine.proofs.requests.split.Given as goal
 
 -- the requests are the lines that the bytes so far end
 abbrev pub invariant-loop-byte : goal.invariant-loop-byte
-invariant-loop-byte l = record {
-  lines : lines_of l.requests.items ≡ kept_lines l.fn.start (take l.byte-index l.bytes);
-  rest : l.start ≡ kept_rest l.fn.start (take l.byte-index l.bytes);
-  unanswered : (text : List ℕ → List ℕ) (texts : List ℕ) → AreAnswered text texts l.requests.items;
+invariant-loop-byte g l = record {
+  lines : lines_of g.L.LineStart.kept l.requests.items ≡ kept_lines g.L.LineStart.limit (g.L.LineStart.kept l.fn.start) (take l.byte-index l.bytes);
+  rest : g.L.LineStart.kept l.start ≡ kept_rest g.L.LineStart.limit (g.L.LineStart.kept l.fn.start) (take l.byte-index l.bytes);
+  unanswered : (text : List ℕ → List ℕ) (texts : List ℕ) → AreAnswered g.L.LineStart.kept text texts l.requests.items;
 }

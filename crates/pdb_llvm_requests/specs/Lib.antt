@@ -1,0 +1,4 @@
+pub mod ImageAddress
+pub mod Number
+pub mod Request
+pub mod Words

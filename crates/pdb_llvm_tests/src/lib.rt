@@ -1,0 +1,5 @@
+//! Tests of the calls of the drop-in for `llvm-symbolizer`.
+#![tactic(auto)]
+
+#[cfg(test)]
+mod requests;
