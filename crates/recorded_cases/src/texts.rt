@@ -18,6 +18,8 @@
 //! - `each_again`: of each of the four, at how many of the 288 addresses from this RVA on a new context
 //!   asks for modules, and how often such contexts do when they are asked the same again; and how often
 //!   one context does that was asked everything of each
+//! - `forgotten`: at how many of the 288 addresses from this RVA on a context's frames are those of a
+//!   new context, and at how many it asks for modules; and the same once it was asked all of them
 //! - `prefixes`: the frames at this RVA in the file's first so many bytes, for each number of them: each
 //!   number, in hexadecimal, from which on the answer is another one, and that answer
 //!
@@ -26,6 +28,7 @@
 mod calls;
 mod contexts;
 mod each_address;
+mod forgotten;
 mod formatters;
 mod prefixes;
 mod question;
@@ -77,7 +80,7 @@ fn told(alloc: Global, answer: Result<String, Error>) -> Result<String, AllocErr
 /// The answer to a question of a file's bytes.
 fn answer(alloc: Global, bytes: Vec<u8>, question: &Question<'_>) -> Result<String, Error> {
     match question.asked {
-        Asked::AllAgain | Asked::EachAgain => calls::ask(alloc, bytes, question),
+        Asked::AllAgain | Asked::EachAgain | Asked::Forgotten => calls::ask(alloc, bytes, question),
         Asked::Prefixes => prefixes::ask(alloc, &bytes, question),
         _ => ask(alloc, bytes, question),
     }
