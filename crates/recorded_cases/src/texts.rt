@@ -18,8 +18,8 @@
 //! - `each_again`: of each of the four, at how many of the 288 addresses from this RVA on a new context
 //!   asks for modules, and how often such contexts do when they are asked the same again; and how often
 //!   one context does that was asked everything of each
-//! - `forgotten`: at how many of the 288 addresses from this RVA on a context's frames are those of a
-//!   new context, and at how many it asks for modules; and the same once it was asked all of them
+//! - `forgotten`: at how many of the 288 addresses from this RVA on a context that is asked for the
+//!   frames asks for modules; and then, at how many of every eighth its frames are those of a new one
 //! - `prefixes`: the frames at this RVA in the file's first so many bytes, for each number of them: each
 //!   number, in hexadecimal, from which on the answer is another one, and that answer
 //!
