@@ -1,3 +1,4 @@
+pub mod DigitSteps
 pub mod FrameSteps
 pub mod InputFaultSteps
 pub mod Pieces

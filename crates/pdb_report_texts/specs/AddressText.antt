@@ -34,7 +34,8 @@ frame_text f =
     ++ codes " at " ++ text_or f.file ++ codes ":" ++ number_text f.line
     ++ row_text f.row ++ 10 ∷ []
 
--- the lines of an answer: one for each frame, or what is written for nothing, and for what can't be read
+-- the lines of an answer: one for each frame, or what is written for nothing, and for what can't
+-- be read
 unfoldable pub answer_text : Result (Option FunctionFrames) Fault → List ℕ
 answer_text (Ok None) = codes "  ??\n"
 answer_text (Ok (Some f)) = flat_map frame_text f.frames

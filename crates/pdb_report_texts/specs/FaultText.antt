@@ -9,30 +9,37 @@ use Rattle.pdb_report_texts.specs.declared.fault.LoadFault.TheVariants as faults
 use Rattle.pdb_report_texts.specs.declared.fault.RunFault.{RunFault}
 use Rattle.pdb_report_texts.specs.declared.fault.RunFault.TheVariants.{Load, ReversedRange, Read, Write, InputTooLong, OutOfMemory}
 
--- one value and two, in parentheses behind a name that ends with the opening one
+-- one value in parentheses, after a name that ends with the opening one
 abbrev pub with_number : List ℕ → ℕ → List ℕ
 with_number name n = name ++ decimal n ++ codes ")"
 
--- the same with two numbers
+-- two values
 abbrev pub with_numbers : List ℕ → ℕ → ℕ → List ℕ
 with_numbers name n m = name ++ decimal n ++ codes ", " ++ decimal m ++ codes ")"
 
--- the cause in the container prints as it does there, any other as its name and, in parentheses, its values
+-- a cause in the container prints as it does there, any other as its name and, in parentheses,
+-- its values
 abbrev pub cause_text : context.Error → List ℕ
 cause_text (contexts.PdbError e) = error_text e
 cause_text (contexts.FormatError e) = codes "FormatError"
 cause_text contexts.ArgumentTypeNotArgumentList = codes "ArgumentTypeNotArgumentList"
 cause_text contexts.FunctionIdIsNotProcedureType = codes "FunctionIdIsNotProcedureType"
-cause_text contexts.MemberFunctionIdIsNotMemberFunctionType = codes "MemberFunctionIdIsNotMemberFunctionType"
-cause_text (contexts.UnorderedSectionContributions n m) = with_numbers (codes "UnorderedSectionContributions(") n m
-cause_text (contexts.OverlappingSectionContributions n m k) = codes "OverlappingSectionContributions(" ++ decimal n ++ codes ", " ++ decimal m ++ codes ", " ++ decimal k ++ codes ")"
+cause_text contexts.MemberFunctionIdIsNotMemberFunctionType =
+    codes "MemberFunctionIdIsNotMemberFunctionType"
+cause_text (contexts.UnorderedSectionContributions n m) =
+    with_numbers (codes "UnorderedSectionContributions(") n m
+cause_text (contexts.OverlappingSectionContributions n m k) =
+    codes "OverlappingSectionContributions(" ++ decimal n ++ codes ", " ++ decimal m
+    ++ codes ", " ++ decimal k ++ codes ")"
 cause_text contexts.ProcedureLinesUnsuccessful = codes "ProcedureLinesUnsuccessful"
 cause_text contexts.ProcedureInlineRangesUnsuccessful = codes "ProcedureInlineRangesUnsuccessful"
 cause_text contexts.ExtendedModuleInfoUnsuccessful = codes "ExtendedModuleInfoUnsuccessful"
 cause_text contexts.ModuleImportsUnsuccessful = codes "ModuleImportsUnsuccessful"
 cause_text contexts.ModuleExportsUnsuccessful = codes "ModuleExportsUnsuccessful"
-cause_text contexts.CantResolveCrossModuleRefWithoutStringTable = codes "CantResolveCrossModuleRefWithoutStringTable"
-cause_text (contexts.ModuleNameNotFound name) = codes "ModuleNameNotFound(" ++ string_bytes name ++ codes ")"
+cause_text contexts.CantResolveCrossModuleRefWithoutStringTable =
+    codes "CantResolveCrossModuleRefWithoutStringTable"
+cause_text (contexts.ModuleNameNotFound name) =
+    codes "ModuleNameNotFound(" ++ string_bytes name ++ codes ")"
 cause_text (contexts.LocalIndexNotInExports n) = with_number (codes "LocalIndexNotInExports(") n
 cause_text (contexts.OutOfRangeModuleIndex n) = with_number (codes "OutOfRangeModuleIndex(") n
 cause_text (contexts.ModuleInfoNotFound n) = with_number (codes "ModuleInfoNotFound(") n

@@ -14,12 +14,14 @@ pub data LoadingFault : Type 0 where
   Pdb : answers.Fault → LoadingFault
   AddressTableDecreases : LoadingFault
 
--- an error of the reader as a fault of loading; out of memory is one of its own, whichever way it came
+-- an error of the reader as a fault of loading; out of memory is one of its own, whichever way it
+-- came
 abbrev pub load_fault_of : container.Error → LoadFault
 load_fault_of errors.OutOfMemory = faults.OutOfMemory
 load_fault_of e = faults.Pdb (contexts.PdbError e)
 
--- what fault a fault of the code is; out of memory is none, and its value there stands in no promise
+-- what fault a fault of the code is; out of memory is none, and its value there stands in no
+-- promise
 abbrev pub loading_fault_of : LoadFault → LoadingFault
 loading_fault_of (faults.Pdb e) = Pdb (answers.fault_of e)
 loading_fault_of faults.AddressTableDecreases = AddressTableDecreases

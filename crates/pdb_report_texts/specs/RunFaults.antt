@@ -94,7 +94,8 @@ OnReversed (Write kind) P = Unit {0}
 OnReversed InputTooLong P = Unit {0}
 OnReversed OutOfMemory P = Unit {0}
 
--- this is said of every end of a run on a range behind its checks: all is counted, or a write has failed
+-- this is said of every end of a run on a range after its checks: all is counted, or a write has
+-- failed
 abbrev pub OnCounted : {A : Type 0} → Result A RunFault → Type 0 → Type 0
 OnCounted (Ok done) P = P
 OnCounted (Err (Write kind)) P = P

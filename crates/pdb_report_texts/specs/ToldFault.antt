@@ -1,4 +1,4 @@
--- What is told of a fault.
+-- What is reported of a fault.
 use Rattle.std.specs.Prelude.{◌⊎◌, ℕ, List, [], ◌∷◌, ◌++◌, Option, codes}
 use Rattle.std.specs.Fmt.{decimal}
 use Rattle.std.specs.declared.io.ErrorKind.{ErrorKind}
@@ -16,7 +16,9 @@ piece_text (pieces.Number n) = decimal n
 
 -- a fault's text, by its pieces
 abbrev pub text_of : Told → List ℕ
-text_of t = (t.name).now ++ piece_text t.first ++ (t.between).now ++ piece_text t.second ++ (t.behind).now ++ piece_text t.third ++ (t.end).now
+text_of t =
+    (t.name).now ++ piece_text t.first ++ (t.between).now ++ piece_text t.second ++ (t.behind).now
+    ++ piece_text t.third ++ (t.end).now
 
 -- the line on a fault
 abbrev pub fault_line : RunFault → List ℕ

@@ -22,8 +22,8 @@ pub enum LoadFault {
     OutOfMemory,
 }
 
-/// Why a run ended early. `Load` prints what it holds, any other as its name and, in parentheses, its
-/// values.
+/// Why a run ended early. `Load` prints what it holds, any other as its name and, in parentheses,
+/// its values.
 #[derive(Debug, Drop, PartialEq)]
 pub enum RunFault {
     /// The program database wasn't loaded, for this cause, which is never out of memory.

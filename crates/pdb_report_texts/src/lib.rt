@@ -1,6 +1,8 @@
-//! The texts of a report: the lines of an answer, and why a program database isn't loaded or a run ends early.
+//! The texts of a report: the lines of an answer, and why a program database isn't loaded or a run
+//! ends early.
 #![tactic(auto)]
 
+mod digits;
 mod fault;
 mod texts;
 mod told;

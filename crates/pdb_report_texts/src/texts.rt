@@ -8,6 +8,7 @@ ghost use Rattle.pdb_report_texts.specs.AddressText.{number_text, row_text, text
 ghost use Rattle.std.specs.Cow.{cow_str_bytes};
 ghost use Rattle.std.specs.Arc.{arc_str_bytes};
 
+use crate::digits::{append_address_line, append_row_start};
 use itoa::Buffer;
 use pdb_functions::{FrameRow, SharedFrame, SharedFunctionFrames};
 use std::alloc::AllocError;
@@ -41,14 +42,6 @@ fn append_number(text: &mut String, number: Option<u32>) -> Result<(), AllocErro
     }
 }
 
-/// Appends the eight digits of an address.
-fn append_digits(text: &mut String, address: u32) -> Result<(), AllocError>
-    ensures { OnOk result (string_bytes text.new ≡
-        string_bytes text.old ++ eight_digits address) }
-{
-    write!(text, "{address:08x}")
-}
-
 /// Appends a row: where it begins, and how many bytes it has; or that there is none.
 fn append_row(text: &mut String, row: Option<FrameRow>) -> Result<(), AllocError>
     ensures { OnOk result (string_bytes text.new ≡ string_bytes text.old ++ row_text row) }
@@ -56,9 +49,7 @@ fn append_row(text: &mut String, row: Option<FrameRow>) -> Result<(), AllocError
     match row {
         None => text.push_str(" @??"),
         Some(row) => {
-            text.push_str(" @0x")?;
-            append_digits(text, row.start_rva)?;
-            text.push_str("+")?;
+            append_row_start(text, row.start_rva)?;
             append_number(text, row.length)
         }
     }
@@ -91,7 +82,8 @@ fn append_answer(
     text: &mut String,
     answer: &Option<SharedFunctionFrames<'_>>,
 ) -> Result<(), AllocError>
-    ensures { OnOk result (string_bytes text.new ≡ string_bytes text.old ++ answer_text (Ok answer.now)) }
+    ensures { OnOk result (string_bytes text.new ≡
+        string_bytes text.old ++ answer_text (Ok answer.now)) }
 {
     match answer {
         None => text.push_str("  ??\n"),
@@ -102,19 +94,13 @@ fn append_answer(
 /// Appends the lines of frames.
 #[tactic(auto, using(crate::proofs::FrameSteps::lines_more, crate::proofs::FrameSteps::lines_all))]
 fn append_frames(text: &mut String, frames: &[SharedFrame<'_>]) -> Result<(), AllocError>
-    ensures { OnOk result (string_bytes text.new ≡ string_bytes text.old ++ flat_map frame_text frames.now) }
+    ensures { OnOk result (string_bytes text.new ≡
+        string_bytes text.old ++ flat_map frame_text frames.now) }
 {
     for frame in frames {
         append_frame(text, frame)?;
     }
     Ok(())
-}
-
-/// Appends the line of an address itself.
-fn append_address_alone(text: &mut String, address: u32) -> Result<(), AllocError>
-    ensures { OnOk result (string_bytes text.new ≡ string_bytes text.old ++ (codes "0x" ++ eight_digits address ++ 10 ∷ [])) }
-{
-    write!(text, "0x{address:08x}\n")
 }
 
 /// Appends the lines of an address: itself, and its answer.
@@ -123,9 +109,10 @@ pub fn append_address(
     address: u32,
     answer: &Option<SharedFunctionFrames<'_>>,
 ) -> Result<(), AllocError>
-    ensures { OnOk result (string_bytes text.new ≡ string_bytes text.old ++ (codes "0x" ++ eight_digits address ++ 10 ∷ answer_text (Ok answer.now))) }
+    ensures { OnOk result (string_bytes text.new ≡ string_bytes text.old
+        ++ (codes "0x" ++ eight_digits address ++ 10 ∷ answer_text (Ok answer.now))) }
 {
-    append_address_alone(text, address)?;
+    append_address_line(text, address)?;
     append_answer(text, answer)?;
     Ok(())
 }
@@ -133,9 +120,10 @@ pub fn append_address(
 /// Appends the lines of an address whose answer can't be read.
 #[tactic(auto, unfolding(crate::specs::AddressText::answer_text))]
 pub fn append_unreadable(text: &mut String, address: u32) -> Result<(), AllocError>
-    ensures { OnOk result ((e : Fault) → string_bytes text.new ≡ string_bytes text.old ++ (codes "0x" ++ eight_digits address ++ 10 ∷ answer_text (Err e))) }
+    ensures { OnOk result ((e : Fault) → string_bytes text.new ≡ string_bytes text.old
+        ++ (codes "0x" ++ eight_digits address ++ 10 ∷ answer_text (Err e))) }
 {
-    append_address_alone(text, address)?;
+    append_address_line(text, address)?;
     text.push_str("  unreadable\n")?;
     Ok(())
 }

@@ -23,7 +23,8 @@ pub enum Piece<'t> {
     Number(u64),
 }
 
-/// A fault's text: its name, up to its values; these, and what stands between them; and what ends it.
+/// A fault's text: its name, up to its values; these, and what stands between them; and what ends
+/// it.
 #[derive(Drop)]
 pub struct Told<'t> {
     name: &'static str,
@@ -67,7 +68,8 @@ impl<'t> Told<'t> {
 
     /// One with two numbers.
     fn numbers(name: &'static str, first: u64, second: u64) -> Told<'t>
-        ensures { text_of result ≡ name.now ++ decimal first ++ codes ", " ++ decimal second ++ codes ")" }
+        ensures { text_of result ≡
+            name.now ++ decimal first ++ codes ", " ++ decimal second ++ codes ")" }
     {
         Told {
             name,
@@ -82,7 +84,8 @@ impl<'t> Told<'t> {
 
     /// One with three numbers.
     fn three(name: &'static str, first: u64, second: u64, third: u64) -> Told<'t>
-        ensures { text_of result ≡ name.now ++ decimal first ++ codes ", " ++ decimal second ++ codes ", " ++ decimal third ++ codes ")" }
+        ensures { text_of result ≡ name.now ++ decimal first ++ codes ", " ++ decimal second
+            ++ codes ", " ++ decimal third ++ codes ")" }
     {
         Told {
             name,
@@ -103,7 +106,7 @@ impl<'t> Told<'t> {
     }
 }
 
-/// The text of a fault that is kept of a module.
+/// The text of a fault that is cached of a module.
 #[tactic(auto, using(std::proofs::Common::append_assoc))]
 fn kept_told(fault: ModuleFault) -> Told<'static>
     ensures { text_of result ≡ codes "Kept(" ++ module_fault_text fault ++ codes ")" }
@@ -263,7 +266,8 @@ fn run_told(fault: &RunFault) -> Told<'_>
 /// # Errors
 /// The kind of that failure.
 fn write_piece<W: ErrorOutput>(output: &mut W, piece: Piece<'_>) -> Result<(), ErrorKind>
-    ensures { Puts W.contents W.failures W.has_failed output.old output.new result (piece_text piece.entry) }
+    ensures { Puts W.contents W.failures W.has_failed output.old output.new result
+        (piece_text piece.entry) }
 {
     match piece {
         Piece::Text(text) => output.put(text.as_bytes()),
@@ -271,25 +275,27 @@ fn write_piece<W: ErrorOutput>(output: &mut W, piece: Piece<'_>) -> Result<(), E
     }
 }
 
-/// Does so for a number.
+/// Writes a number in decimal, and stops at the first failure.
 ///
 /// # Errors
 /// As [`write_piece`].
 fn write_number<W: ErrorOutput>(output: &mut W, number: u64) -> Result<(), ErrorKind>
-    ensures { Puts W.contents W.failures W.has_failed output.old output.new result (decimal number) }
+    ensures { Puts W.contents W.failures W.has_failed output.old output.new result
+        (decimal number) }
 {
     let mut buffer = Buffer::new();
     let digits = buffer.format(number);
     output.put(digits.as_bytes())
 }
 
-/// Writes pieces, one behind the other, and stops at the first failure.
+/// Writes pieces, one after the other, and stops at the first failure.
 ///
 /// # Errors
 /// The kind of that failure.
 #[tactic(auto, using(crate::proofs::Pieces::pieces_more, crate::proofs::Pieces::pieces_all, crate::proofs::Pieces::pieces_part))]
 fn write_pieces<W: ErrorOutput>(output: &mut W, pieces: &[Piece<'_>]) -> Result<(), ErrorKind>
-    ensures { Puts W.contents W.failures W.has_failed output.old output.new result (flat_map piece_text pieces.now) }
+    ensures { Puts W.contents W.failures W.has_failed output.old output.new result
+        (flat_map piece_text pieces.now) }
 {
     for piece in pieces {
         match write_piece(output, *piece) {
@@ -319,12 +325,13 @@ fn line_pieces(fault: &RunFault) -> [Piece<'_>; 9]
     ]
 }
 
-/// Tells a fault in one line, and stops at the first failure. It takes no memory.
+/// Reports a fault in one line, and stops at the first failure. It takes no memory.
 ///
 /// # Errors
 /// The kind of that failure.
 pub fn tell<W: ErrorOutput>(fault: &RunFault, output: &mut W) -> Result<(), ErrorKind>
-    ensures { Puts W.contents W.failures W.has_failed output.old output.new result (fault_line fault.now) }
+    ensures { Puts W.contents W.failures W.has_failed output.old output.new result
+        (fault_line fault.now) }
 {
     let pieces = line_pieces(fault);
     write_pieces(output, &pieces)

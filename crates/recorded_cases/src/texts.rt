@@ -20,6 +20,8 @@
 //! - `each_again`: of each of the four, at how many of the 288 addresses from this RVA on a new context
 //!   asks for modules, and how often such contexts do when they are asked the same again; and how often
 //!   one context does that was asked everything of each
+//! - `forgotten`: at how many of the 288 addresses from this RVA on a context that is asked for the
+//!   frames asks for modules; and then, at how many of every eighth its frames are those of a new one
 //! - `prefixes`: the frames at this RVA in the file's first so many bytes, for each number of them: each
 //!   number, in hexadecimal, from which on the answer is another one, and that answer
 //!
@@ -28,6 +30,7 @@
 mod calls;
 mod contexts;
 mod each_address;
+mod forgotten;
 mod formatters;
 mod prefixes;
 mod question;
@@ -79,7 +82,7 @@ fn told(alloc: Global, answer: Result<String, Error>) -> Result<String, AllocErr
 /// The answer to a question of a file's bytes.
 fn answer(alloc: Global, bytes: Vec<u8>, question: &Question<'_>) -> Result<String, Error> {
     match question.asked {
-        Asked::AllAgain | Asked::EachAgain => calls::ask(alloc, bytes, question),
+        Asked::AllAgain | Asked::EachAgain | Asked::Forgotten => calls::ask(alloc, bytes, question),
         Asked::Prefixes => prefixes::ask(alloc, &bytes, question),
         _ => ask(alloc, bytes, question),
     }

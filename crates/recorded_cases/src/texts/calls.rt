@@ -1,8 +1,8 @@
 //! How often a context asks for modules.
 
 use crate::texts::contexts::{functions_text, told};
-use crate::texts::each_address;
 use crate::texts::question::{Asked, Question};
+use crate::texts::{each_address, forgotten};
 use pdb_addr2line::maybe_owned::MaybeOwned;
 use pdb_addr2line::pdb::{
     self, DebugInformation, FallibleIterator, Module, ModuleInfo, PDB, PdbInternalSectionOffset,
@@ -176,6 +176,7 @@ fn ask_over<P: ModuleProvider>(
 ) -> Result<String, Error> {
     match question.asked {
         Asked::EachAgain => each_address::ask(alloc, provider, calls, parts, question),
+        Asked::Forgotten => forgotten::ask(alloc, provider, calls, parts, question),
         _ => {
             let mut context = context_of(alloc, provider, parts, question)?;
             ask_twice(alloc, &mut context, calls, question.index)

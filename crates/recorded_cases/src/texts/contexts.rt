@@ -66,7 +66,7 @@ fn function_text<P: ModuleProvider>(
 }
 
 /// The frames that a context finds at an address, as their copy.
-fn frames_text<P: ModuleProvider>(
+pub fn frames_text<P: ModuleProvider>(
     alloc: Global,
     context: &mut Context<'_, '_, P>,
     address: u32,

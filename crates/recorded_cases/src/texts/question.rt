@@ -29,6 +29,8 @@ pub enum Asked {
     AllAgain,
     /// How often contexts that were asked before ask for modules, at each of many addresses.
     EachAgain,
+    /// The frames at each of many addresses, of a context that forgets.
+    Forgotten,
     /// The frames at an RVA, in every prefix of the file.
     Prefixes,
 }
@@ -47,6 +49,7 @@ const ASKED: &[(&str, Asked)] = &[
     ("functions", Asked::Functions),
     ("all_again", Asked::AllAgain),
     ("each_again", Asked::EachAgain),
+    ("forgotten", Asked::Forgotten),
     ("prefixes", Asked::Prefixes),
 ];
 

@@ -6,4 +6,7 @@ use Rattle.pdb_report_texts.proofs.texts.append_address.Goals as goal
 pub returns : goal.returns
 returns c =
     let more = answer_text (Ok c.args.answer.now) in
-    c.in_ok-append_answer.ensures ∙ ap (λ bs. bs ++ more) c.in_ok-append_address_alone.ensures ∙ address_more (string_bytes c.args.text.now) (codes "0x" ++ eight_digits c.args.address) more
+    c.in_ok-append_answer.ensures
+    ∙ ap (λ bs. bs ++ more) c.in_ok-append_address_line.ensures
+    ∙ address_more (string_bytes c.args.text.now)
+    (codes "0x" ++ eight_digits c.args.address) more

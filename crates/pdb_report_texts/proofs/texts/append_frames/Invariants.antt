@@ -5,4 +5,6 @@ use Rattle.pdb_report_texts.proofs.texts.append_frames.Given as goal
 
 -- the lines of the frames so far stand behind the text
 abbrev pub invariant-loop-frame : goal.invariant-loop-frame
-invariant-loop-frame l = string_bytes l.text ≡ string_bytes l.fn.text ++ flat_map frame_text (take l.frame-index l.frames)
+invariant-loop-frame l =
+    string_bytes l.text ≡ string_bytes l.fn.text
+    ++ flat_map frame_text (take l.frame-index l.frames)

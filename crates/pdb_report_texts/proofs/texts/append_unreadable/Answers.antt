@@ -7,4 +7,7 @@ pub returns : goal.returns
 unfolding answer_text
 returns c e =
     let more = codes "  unreadable\n" in
-    c.in_ok-push_str.ensures.bytes ∙ ap (λ bs. bs ++ more) c.in_ok-append_address_alone.ensures ∙ address_more (string_bytes c.args.text.now) (codes "0x" ++ eight_digits c.args.address) more
+    c.in_ok-push_str.ensures.bytes
+    ∙ ap (λ bs. bs ++ more) c.in_ok-append_address_line.ensures
+    ∙ address_more (string_bytes c.args.text.now)
+    (codes "0x" ++ eight_digits c.args.address) more

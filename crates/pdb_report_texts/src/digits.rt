@@ -1,0 +1,83 @@
+//! The hexadecimal digits of addresses, in lines of a report.
+
+ghost use Rattle.std.specs.Prelude.{◌≡◌, ◌++◌, ◌∷◌, [], ◌<◌, OnOk, false, codes};
+ghost use Rattle.std.specs.Fmt.{digit_glyph};
+ghost use Rattle.std.specs.Str.{IsUtf8};
+ghost use Rattle.std.specs.String.{string_bytes};
+ghost use Rattle.pdb_report_texts.specs.AddressText.{eight_digits};
+
+use std::alloc::AllocError;
+
+/// The hexadecimal digits, each at its value.
+static DIGITS: [u8; 16] = *b"0123456789abcdef";
+
+/// Returns the hexadecimal digit of a value.
+#[tactic(auto, using(crate::proofs::DigitSteps::digit_is))]
+fn digit(value: u32) -> u8
+    requires { value < 16 }
+    ensures { result ≡ digit_glyph false value }
+{
+    DIGITS[value as usize]
+}
+
+/// Returns the eight digits of an address.
+#[tactic(auto, using(crate::proofs::DigitSteps::digits_are))]
+fn digits_of(address: u32) -> [u8; 8]
+    ensures { result ≡ eight_digits address }
+{
+    [
+        digit(address / 0x1000_0000),
+        digit(address / 0x100_0000 % 16),
+        digit(address / 0x10_0000 % 16),
+        digit(address / 0x1_0000 % 16),
+        digit(address / 0x1000 % 16),
+        digit(address / 0x100 % 16),
+        digit(address / 16 % 16),
+        digit(address % 16),
+    ]
+}
+
+/// Returns the line of an address itself.
+fn address_line(address: u32) -> [u8; 11]
+    ensures { result ≡ codes "0x" ++ eight_digits address ++ 10 ∷ [] }
+{
+    let mut line = *b"0x00000000\n";
+    line[2..10].copy_from_slice(&digits_of(address));
+    line
+}
+
+/// Returns where a row begins, with what stands before and after it.
+fn row_start(start: u32) -> [u8; 13]
+    ensures { result ≡ codes " @0x" ++ eight_digits start ++ codes "+" }
+{
+    let mut text = *b" @0x00000000+";
+    text[4..12].copy_from_slice(&digits_of(start));
+    text
+}
+
+/// Appends bytes that are UTF-8.
+fn append_bytes(text: &mut String, bytes: &[u8]) -> Result<(), AllocError>
+    requires { IsUtf8 bytes.now }
+    ensures { OnOk result (string_bytes text.new ≡ string_bytes text.old ++ bytes.now) }
+{
+    match std::str::from_utf8(bytes) {
+        Ok(bytes) => text.push_str(bytes),
+        Err(_) => unreachable!(),
+    }
+}
+
+/// Appends the line of an address itself.
+pub fn append_address_line(text: &mut String, address: u32) -> Result<(), AllocError>
+    ensures { OnOk result (string_bytes text.new ≡
+        string_bytes text.old ++ (codes "0x" ++ eight_digits address ++ 10 ∷ [])) }
+{
+    append_bytes(text, &address_line(address))
+}
+
+/// Appends where a row begins, with what stands before and after it.
+pub fn append_row_start(text: &mut String, start: u32) -> Result<(), AllocError>
+    ensures { OnOk result (string_bytes text.new ≡
+        string_bytes text.old ++ (codes " @0x" ++ eight_digits start ++ codes "+")) }
+{
+    append_bytes(text, &row_start(start))
+}
