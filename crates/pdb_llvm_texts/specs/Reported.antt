@@ -1,0 +1,75 @@
+-- Which frames are reported of those that were found, and what of each.
+use Rattle.std.specs.Prelude.{ℕ, Bool, true, false, ◌+◌, ◌-◌, ◌==◌, nat_lt, nat_le, ◌&&◌, ◌||◌, not}
+use Rattle.std.specs.Prelude.{if◌then◌else◌, List, [], ◌∷◌, ◌++◌, length, take, drop, map}
+use Rattle.std.specs.Prelude.{Option, None, Some, option_map, unwrap_or}
+use Rattle.pdb_functions.specs.Frames.{Frame, FunctionFrames}
+use Rattle.pdb_functions.specs.declared.frames.FrameRow.{FrameRow}
+use Rattle.pdb_llvm_texts.specs.Frames.{ReportedFrame}
+use Rattle.pdb_llvm_texts.specs.declared.reported.ReportOptions.{ReportOptions}
+
+-- a slash or a backslash
+abbrev pub is_separator : ℕ → Bool
+is_separator b = (b == 47) || (b == 92)
+
+-- the name at the end of a path, where `name` is what stands after the last separator so far
+abbrev pub name_from : List ℕ → List ℕ → List ℕ
+name_from name [] = name
+name_from name (b ∷ bs) = if is_separator b then name_from bs bs else name_from name bs
+
+-- what stands after the last separator of a path
+abbrev pub base_name : List ℕ → List ℕ
+base_name path = name_from path path
+
+-- a row of this length, if it is known, goes on past the address
+abbrev pub goes_past : ℕ → ℕ → Option ℕ → Bool
+goes_past address start None = true
+goes_past address start (Some n) = nat_lt address (start + n)
+
+-- the row begins in the function, and goes on past the address
+abbrev pub is_own : ℕ → ℕ → FrameRow → Bool
+is_own start address row =
+    nat_le start row.start_rva && goes_past address row.start_rva row.length
+
+-- the frame's line isn't left out: it comes from no row, or from one of the function's own
+abbrev pub has_line : ℕ → ℕ → Option FrameRow → Bool
+has_line start address None = true
+has_line start address (Some row) = is_own start address row
+
+-- a frame at an address in a function with this start
+abbrev pub reported : Bool → ℕ → ℕ → Frame → ReportedFrame
+reported base_names start address f =
+    if has_line start address f.row
+    then record {
+      function = f.function;
+      file = if base_names then option_map base_name f.file else f.file;
+      line = unwrap_or f.line 0;
+    }
+    else record { function = f.function; file = None; line = 0 }
+
+-- the inlined calls of the frames, which are all but the last
+abbrev pub calls_of : List Frame → List Frame
+calls_of frames = take (length frames - 1) frames
+
+-- the function's own frame, which is the last
+abbrev pub own_of : List Frame → List Frame
+own_of frames = drop (length frames - 1) frames
+
+-- a frame under another name
+abbrev pub named : Option (List ℕ) → ReportedFrame → ReportedFrame
+named name f = record { function = name; file = f.file; line = f.line }
+
+-- a function without file and line
+abbrev pub function_alone : Option (List ℕ) → ReportedFrame
+function_alone name = record { function = name; file = None; line = 0 }
+
+-- the frames of a function at an address: the calls, if they are asked for, and the function
+abbrev pub reported_frames : ReportOptions → Option (List ℕ) → ℕ → FunctionFrames → List ReportedFrame
+reported_frames o name a f =
+    (if o.inlines then map (reported o.base_names f.start_rva a) (calls_of f.frames) else [])
+    ++ map (λ own. named name (reported o.base_names f.start_rva a own)) (own_of f.frames)
+
+-- the frames that are reported for an address
+abbrev pub reported_found : ReportOptions → Option (List ℕ) → ℕ → Option FunctionFrames
+    → List ReportedFrame
+reported_found o name a None = function_alone name ∷ []
+reported_found o name a (Some f) = reported_frames o name a f

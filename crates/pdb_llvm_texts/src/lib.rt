@@ -1,0 +1,16 @@
+//! The texts of answers, as `llvm-symbolizer` 19 writes them.
+//!
+//! Frames as they were found become frames as they are reported by [`report_frames`]. What is
+//! written of them is that of [`append_frames`], by [`TextOptions`]. The other calls write what
+//! stands for a request that has no frames.
+#![tactic(auto)]
+
+mod json;
+mod options;
+mod plain;
+mod reported;
+mod texts;
+
+pub use options::{Style, TextOptions};
+pub use reported::{ReportOptions, ReportedFrame, report_frames};
+pub use texts::{append_error, append_frames, append_no_data, append_no_locals};

@@ -1,0 +1,28 @@
+//! How answers are written.
+
+/// The style of answers.
+#[derive(Clone, Copy, Debug, PartialEq, Eq)]
+pub enum Style {
+    /// A name, then file, line and column, and an empty line after each answer.
+    Llvm,
+    /// As `addr2line` of GNU writes: no column, and no empty line.
+    Gnu,
+    /// An object for each answer.
+    Json,
+}
+
+/// How answers are written.
+#[derive(Clone, Copy, Debug, PartialEq, Eq)]
+pub struct TextOptions {
+    /// The style.
+    pub style: Style,
+    /// Whether names of functions are written. In JSON they always are.
+    pub functions: bool,
+    /// Whether the address is written before its answer. In JSON it always is.
+    pub addresses: bool,
+    /// Whether each frame has one line; in JSON, whether each member has one.
+    pub pretty: bool,
+    /// In JSON, whether the answers are elements of an array, which the caller opens, parts by
+    /// commas and closes. Otherwise a newline ends each.
+    pub in_array: bool,
+}
