@@ -253,7 +253,6 @@ fn file_key_run_at<'a, P: ModuleProvider>(
 ///
 /// # Errors
 /// `OutOfMemory` alone.
-#[tactic(auto, using(crate::proofs::FileKeySteps::run_count, pdb_frames::proofs::FileRunLaw::file_run_by_holder))]
 pub fn file_key_run_here<'a, P: ModuleProvider>(
     alloc: Global,
     sources: &Sources<'_, 'a, '_, P>,
