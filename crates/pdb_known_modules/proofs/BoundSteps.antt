@@ -1,14 +1,11 @@
 -- The distance to the next bound, by sorted numbers.
-use Rattle.std.proofs.Common.{◌≡◌, ℕ, ◌+◌, ◌-◌, ◌^◌, ◌<◌, ◌≤◌, min, inl, inr, zero, suc, false, List, [], ◌∷◌, ◌++◌, length, get_or, drop, refl, sym, ap, ◌∙◌, append_assoc, arith}
+use Rattle.std.proofs.Common.{◌≡◌, ℕ, ◌+◌, ◌^◌, ◌<◌, ◌≤◌, inl, inr, false, List, [], ◌∷◌, ◌++◌, length, get_or, drop, refl, sym, ap, ◌∙◌, append_assoc, arith}
 use Rattle.std.specs.Prelude.{◌==◌}
-use Rattle.std.specs.List.{flat_map, AllWithin}
-use Rattle.std.specs.List.Sorted.{IsPermutation, IsSorted}
-use Rattle.std.specs.Ordering.{nat_cmp}
-use Rattle.std.proofs.lemmas.Bool.{lt-ltb, le-ltb, cases_lt, cases_Bool}
+use Rattle.std.specs.List.{flat_map}
+use Rattle.std.proofs.lemmas.Bool.{cases_lt, cases_Bool}
 use Rattle.std.proofs.lemmas.Bool.Decides.{nat_tests}
 use Rattle.std.proofs.lemmas.List.{append-nil, drop_more, drop_all}
-use Rattle.std.proofs.lemmas.List.Elements.{All-get_or, All-from_get_or}
-use Rattle.std.proofs.lemmas.List.Sorted.{All-permutation, IsPermutation-sym, IsNonDecreasingBy-from_sort}
+use Rattle.pdb_addresses.proofs.RunSteps.{past, passed, next_in_order}
 use Rattle.pdb_addresses.specs.SectionRun.{nearer, up_to_next}
 use Rattle.pdb_addresses.specs.declared.internal_section_offset.PdbInternalSectionOffset.{PdbInternalSectionOffset}
 use Rattle.pdb_contributions.specs.declared.contribution.ModuleSectionContribution.{ModuleSectionContribution}
@@ -16,12 +13,6 @@ use Rattle.pdb_module_data.specs.Procedures.{Procedure}
 use Rattle.pdb_known_modules.specs.Bounds.{bound_number, numbers_of, contribution_numbers, procedure_numbers, AreContributionBounds, AreProcedureBounds}
 use Rattle.pdb_known_modules.specs.SectionBounds.{if_there, contribution_bounds, procedure_bounds}
 use Rattle.pdb_known_modules.proofs.NextBounds.{last_asked}
-
-past : (x b far : ℕ) → x < b → nearer x b far ≡ min far (b - x)
-past x b far lt = rw (lt-ltb x b lt) refl
-
-passed : (x b far : ℕ) → b ≤ x → nearer x b far ≡ far
-passed x b far le = rw (le-ltb x b le) refl
 
 -- ---- what the distance is
 
@@ -32,62 +23,6 @@ at_most (b ∷ bs) x far = elim (cases_lt x b) [
   | inl lt ↦ let e = past x b (up_to_next bs x far) lt in let h = at_most bs x far in omega arith
   | inr le ↦ let e = passed x b (up_to_next bs x far) le in let h = at_most bs x far in omega arith
 ]
-
--- it leads no further than to a bound past the place
-reaches : (bs : List ℕ) (x far i d : ℕ) → i < length bs → x < get_or bs i d → up_to_next bs x far + x ≤ get_or bs i d
-reaches [] x far i d lt h = absurd (omega arith)
-reaches (b ∷ bs) x far zero d lt h = let e = past x b (up_to_next bs x far) h in omega arith
-reaches (b ∷ bs) x far (suc i) d lt h = let r = reaches bs x far i d (omega arith) h in elim (cases_lt x b) [
-  | inl low ↦ let e = past x b (up_to_next bs x far) low in omega arith
-  | inr high ↦ let e = passed x b (up_to_next bs x far) high in omega arith
-]
-
--- what leads no further than to any bound past the place is at most it
-least : (bs : List ℕ) (x far n d : ℕ) → n ≤ far → ((i : ℕ) → i < length bs → x < get_or bs i d → n + x ≤ get_or bs i d) → n ≤ up_to_next bs x far
-least [] x far n d le h = le
-least (b ∷ bs) x far n d le h = let r = least bs x far n d le (λ i lt. h (suc i) (omega arith)) in elim (cases_lt x b) [
-  | inl low ↦ let e = past x b (up_to_next bs x far) low in let f = h 0 (omega arith) low in omega arith
-  | inr high ↦ let e = passed x b (up_to_next bs x far) high in omega arith
-]
-
--- ---- in another order
-
-at_most_moved : (bs cs : List ℕ) (x far : ℕ) → IsPermutation bs cs → up_to_next bs x far ≤ up_to_next cs x far
-at_most_moved bs cs x far moved =
-    let all = All-permutation (λ b. x < b → up_to_next bs x far + x ≤ b) bs cs moved (All-from_get_or (λ b. x < b → up_to_next bs x far + x ≤ b) bs 0 (λ i lt. reaches bs x far i 0 lt)) in
-    least cs x far (up_to_next bs x far) 0 (at_most bs x far) (λ i lt. All-get_or (λ b. x < b → up_to_next bs x far + x ≤ b) cs i 0 lt all)
-
--- the distance is the same in whatever order bounds stand
-pub same_moved : (bs cs : List ℕ) (x far : ℕ) → IsPermutation bs cs → up_to_next cs x far ≡ up_to_next bs x far
-same_moved bs cs x far moved =
-    let one = at_most_moved bs cs x far moved in
-    let other = at_most_moved cs bs x far (IsPermutation-sym bs cs moved) in
-    omega arith
-
--- ---- in ascending order
-
--- a bound past the place is no nearer than the first one past it
-from_first : (bs : List ℕ) (x far k i d : ℕ) → IsSorted nat_cmp bs → k < length bs → i < length bs → AllWithin (λ n. n ≤ x) bs 0 k → x < get_or bs k d → x < get_or bs i d → min far (get_or bs k d - x) + x ≤ get_or bs i d
-from_first bs x far k i d sorted lt i_lt low past_k past_i = elim (cases_lt i k) [
-  | inl before ↦ let h = low i d (omega arith) before in absurd (omega arith)
-  | inr behind ↦ let rise = IsNonDecreasingBy-from_sort (λ n. n) bs sorted in let h : get_or bs k d ≤ get_or bs i d = rise k i d behind i_lt in omega arith
-]
-
--- the first number past the place is the next bound
-pub next_is : (bs : List ℕ) (x far k d : ℕ) → IsSorted nat_cmp bs → k < length bs → AllWithin (λ n. n ≤ x) bs 0 k → AllWithin (λ n. x < n) bs k (length bs) → nearer x (get_or bs k d) far ≡ up_to_next bs x far
-next_is bs x far k d sorted lt low high =
-    let e = past x (get_or bs k d) far (high k d (omega arith) lt) in
-    let to = reaches bs x far k d lt (high k d (omega arith) lt) in
-    let most = at_most bs x far in
-    let from = least bs x far (min far (get_or bs k d - x)) d (omega arith) (λ i i_lt past_it. from_first bs x far k i d sorted lt i_lt low (high k d (omega arith) lt) past_it) in
-    e ∙ (omega arith)
-
--- without one there is none
-pub none_is : (bs : List ℕ) (x far k : ℕ) → length bs ≤ k → AllWithin (λ n. n ≤ x) bs 0 k → far ≡ up_to_next bs x far
-none_is bs x far k le low =
-    let most = at_most bs x far in
-    let from = least bs x far far 0 (omega arith) (λ i lt past_it. let h = low i 0 (omega arith) (omega arith) in absurd (omega arith)) in
-    omega arith
 
 -- ---- numbers of bounds in sections
 
@@ -131,14 +66,14 @@ numbers_alike {A} section start end (a ∷ xs) s x far lx lf =
 pub contributions_alike : (cs : List ModuleSectionContribution) (sorted : List ℕ) (p : PdbInternalSectionOffset) (far : ℕ) → p.offset < 2 ^ 32 → far < 2 ^ 32 → AreContributionBounds cs sorted
     → up_to_next sorted (bound_number p.section p.offset) far ≡ up_to_next (flat_map (contribution_bounds p) cs) p.offset far
 contributions_alike cs sorted p far lx lf moved =
-    same_moved (flat_map contribution_numbers cs) sorted (bound_number p.section p.offset) far moved
+    next_in_order (flat_map contribution_numbers cs) sorted (bound_number p.section p.offset) far moved
     ∙ numbers_alike (λ (c : ModuleSectionContribution). c.section_index) (λ (c : ModuleSectionContribution). c.start_offset) (λ (c : ModuleSectionContribution). c.end_offset) cs p.section p.offset far lx lf
 
 -- the distance to the next start or end of a procedure, by their numbers in order
 pub procedures_alike : (qs : List Procedure) (sorted : List ℕ) (p : PdbInternalSectionOffset) (far : ℕ) → p.offset < 2 ^ 32 → far < 2 ^ 32 → AreProcedureBounds qs sorted
     → up_to_next sorted (bound_number p.section p.offset) far ≡ up_to_next (flat_map (procedure_bounds p) qs) p.offset far
 procedures_alike qs sorted p far lx lf moved =
-    same_moved (flat_map procedure_numbers qs) sorted (bound_number p.section p.offset) far moved
+    next_in_order (flat_map procedure_numbers qs) sorted (bound_number p.section p.offset) far moved
     ∙ numbers_alike (λ (q : Procedure). (q.offset).section) (λ (q : Procedure). (q.offset).offset) (λ (q : Procedure). (q.offset).offset + q.len) qs p.section p.offset far lx lf
 
 -- ---- gathering numbers

@@ -1,15 +1,10 @@
 -- The distance to the next of several bounds.
-use Rattle.std.proofs.Common.{◌≡◌, ℕ, ◌-◌, ◌<◌, ◌≤◌, min, inl, inr, List, [], ◌∷◌, ◌++◌, refl, sym, ap, ◌∙◌, arith}
-use Rattle.std.proofs.lemmas.Bool.{lt-ltb, le-ltb, cases_lt}
+use Rattle.std.proofs.Common.{◌≡◌, ℕ, ◌-◌, min, inl, inr, List, [], ◌∷◌, ◌++◌, refl, sym, ap, ◌∙◌, arith}
+use Rattle.std.proofs.lemmas.Bool.{cases_lt}
+use Rattle.pdb_addresses.proofs.RunSteps.{past, passed}
 use Rattle.pdb_addresses.specs.SectionRun.{nearer, up_to_next}
 
--- ---- one bound
-
-past : (x b far : ℕ) → x < b → nearer x b far ≡ min far (b - x)
-past x b far lt = rw (lt-ltb x b lt) refl
-
-passed : (x b far : ℕ) → b ≤ x → nearer x b far ≡ far
-passed x b far le = rw (le-ltb x b le) refl
+-- ---- one bound and another
 
 -- two bounds in either order
 commute : (x b c far : ℕ) → nearer x b (nearer x c far) ≡ nearer x c (nearer x b far)

@@ -1,11 +1,14 @@
 -- Bounds in sections as numbers in one row, so that they can be sorted and searched.
 use Rattle.std.specs.Prelude.{ℕ, ◌+◌, ◌-◌, ◌*◌, ◌^◌, min, List, [], ◌∷◌}
 use Rattle.std.specs.List.{flat_map}
-use Rattle.std.specs.List.Sorted.{IsPermutation}
-use Rattle.pdb_contributions.specs.declared.contribution.ModuleSectionContribution.{ModuleSectionContribution}
+use Rattle.pdb_addresses.specs.SectionOrder.{AreInOrder}
+use Rattle.pdb_contributions.specs.declared.contribution.ModuleSectionContribution.{
+  ModuleSectionContribution,
+}
 use Rattle.pdb_module_data.specs.Procedures.{Procedure}
 
--- A bound's number: each section has 2^34 of them, so that none of another section is as near as 32 bits reach.
+-- A bound's number: each section has 2^34 of them, so that none of another section is as near as 32
+-- bits reach.
 abbrev pub bound_number : ℕ → ℕ → ℕ
 bound_number section offset = section * 2 ^ 34 + min offset (2 ^ 34 - 1)
 
@@ -21,10 +24,12 @@ contribution_numbers c = numbers_of c.section_index c.start_offset c.end_offset
 abbrev pub procedure_numbers : Procedure → List ℕ
 procedure_numbers q = numbers_of (q.offset).section (q.offset).offset ((q.offset).offset + q.len)
 
--- these are the numbers of contributions' starts and ends, in whatever order
+-- these are the numbers of contributions' starts and ends, in ascending order
 abbrev pub AreContributionBounds : List ModuleSectionContribution → List ℕ → Type 0
-AreContributionBounds contributions numbers = IsPermutation (flat_map contribution_numbers contributions) numbers
+AreContributionBounds contributions numbers =
+    AreInOrder (flat_map contribution_numbers contributions) numbers
 
--- these are the numbers of procedures' starts and ends, in whatever order
+-- these are the numbers of procedures' starts and ends, in ascending order
 abbrev pub AreProcedureBounds : List Procedure → List ℕ → Type 0
-AreProcedureBounds procedures numbers = IsPermutation (flat_map procedure_numbers procedures) numbers
+AreProcedureBounds procedures numbers =
+    AreInOrder (flat_map procedure_numbers procedures) numbers

@@ -1,19 +1,23 @@
-//! Offsets at which answers may change, of all sections in one row, and how far it is to the next of them.
+//! Offsets at which answers may change, of all sections in one row, and how far it is to the next of
+//! them.
 
-ghost use Rattle.std.specs.Prelude.{◌≡◌, ◌<◌, ◌≤◌, ◌++◌, OnOk, IfOk, length};
-ghost use Rattle.std.specs.List.{AllWithin, flat_map};
-ghost use Rattle.std.specs.List.Sorted.{IsPermutation, IsSorted};
-ghost use Rattle.std.specs.Ordering.{nat_cmp};
-ghost use Rattle.pdb_addresses.specs.SectionRun.{nearer as nearer_of, up_to_next};
-ghost use Rattle.pdb_known_modules.specs.Bounds.{bound_number as number_of_bound, numbers_of, contribution_numbers, procedure_numbers, AreContributionBounds, AreProcedureBounds};
+ghost use Rattle.std.specs.Prelude.{◌≡◌, ◌++◌, OnOk, IfOk};
+ghost use Rattle.std.specs.List.{flat_map};
+ghost use Rattle.pdb_addresses.specs.SectionOrder.{AreInOrder};
+ghost use Rattle.pdb_addresses.specs.SectionRun.{up_to_next};
+ghost use Rattle.pdb_known_modules.specs.Bounds.{bound_number as number_of_bound, numbers_of};
+ghost use Rattle.pdb_known_modules.specs.Bounds.{contribution_numbers, procedure_numbers};
+ghost use Rattle.pdb_known_modules.specs.Bounds.{AreContributionBounds, AreProcedureBounds};
 
 use pdb_addresses::PdbInternalSectionOffset;
 use pdb_contributions::ModuleSectionContribution;
 use pdb_module_data::Procedure;
+use pdb_pieces::to_next;
 use std::alloc::{AllocError, Global};
 use std::marker::Model;
 
-/// How many numbers each section has: no offset's distance to a bound of another section is as short as 32 bits.
+/// How many numbers each section has: no offset's distance to a bound of another section is as
+/// short as 32 bits.
 const SECTION_NUMBERS: u64 = 1 << 34;
 
 /// The number of an offset in a section.
@@ -23,7 +27,7 @@ fn bound_number(section: u16, offset: u64) -> u64
     u64::from(section) * SECTION_NUMBERS + offset.min(SECTION_NUMBERS - 1)
 }
 
-/// Puts the numbers of a start and an end in a section behind others.
+/// Appends the numbers of a start and an end in a section.
 fn push_bounds(numbers: &mut Vec<u64>, section: u16, start: u64, end: u64) -> Result<(), AllocError>
     ensures { OnOk result (numbers.new.items ≡ numbers.old.items ++ numbers_of section start end) }
 {
@@ -40,20 +44,19 @@ pub struct SortedBounds {
 
 impl Model for SortedBounds {
     ghost use Rattle.std.specs.Prelude.{List, ℕ};
-    ghost use Rattle.std.specs.List.Sorted.{IsSorted};
-    ghost use Rattle.std.specs.Ordering.{nat_cmp};
+    ghost use Rattle.std.specs.List.Sorted.{IsNonDecreasing};
 
     ghost Value = { List ℕ };
 
     ghost view = { λ s. s.numbers.items };
 
-    ghost invariant = { λ s. IsSorted nat_cmp s.numbers.items };
+    ghost invariant = { λ s. IsNonDecreasing s.numbers.items };
 }
 
 impl SortedBounds {
-    /// Brings the numbers of bounds into order.
+    /// Sorts the numbers of bounds.
     pub fn new(mut numbers: Vec<u64>) -> SortedBounds
-        ensures { IsPermutation numbers.items result }
+        ensures { AreInOrder numbers.items result }
     {
         numbers.sort_unstable();
         SortedBounds { numbers }
@@ -64,43 +67,7 @@ impl SortedBounds {
         ensures { result ≡ up_to_next self.now (number_of_bound place.section place.offset) far }
     {
         let number = bound_number(place.section, u64::from(place.offset));
-        next_in(&self.numbers, number, far)
-    }
-}
-
-/// How many numbers of a list in order are at most a number. It halves.
-fn count_up_to(numbers: &[u64], number: u64) -> usize
-    requires { IsSorted nat_cmp numbers.now }
-    ensures bound { result ≤ length numbers.now }
-    ensures low { AllWithin (λ n. n ≤ number) numbers.now 0 result }
-    ensures high { AllWithin (λ n. number < n) numbers.now result (length numbers.now) }
-{
-    numbers.partition_point(|n| *n <= number)
-}
-
-/// The lesser of `far` and the distance from a number to the next one past it in a list in order.
-#[tactic(auto, using(crate::proofs::BoundSteps::next_is, crate::proofs::BoundSteps::none_is))]
-fn next_in(numbers: &[u64], number: u64, far: u32) -> u32
-    requires { IsSorted nat_cmp numbers.now }
-    ensures { result ≡ up_to_next numbers.now number far }
-{
-    let passed = count_up_to(numbers, number);
-    if passed < numbers.len() {
-        nearer(number, numbers[passed], far)
-    } else {
-        far
-    }
-}
-
-/// The lesser of `far` and the distance from a number to a bound, if that lies past it.
-fn nearer(number: u64, bound: u64, far: u32) -> u32
-    ensures { result ≡ nearer_of number bound far }
-{
-    let distance = bound.saturating_sub(number);
-    if 0 < distance && distance < u64::from(far) {
-        distance as u32
-    } else {
-        far
+        to_next(self.numbers.as_slice(), number, far)
     }
 }
 
@@ -132,7 +99,7 @@ pub fn contribution_bounds(
     Ok(SortedBounds::new(numbers))
 }
 
-/// Puts the numbers of a procedure's start and end, which may lie past 32 bits, behind others.
+/// Appends the numbers of a procedure's start and end, which may lie past 32 bits.
 fn push_procedure(numbers: &mut Vec<u64>, procedure: &Procedure<'_>) -> Result<(), AllocError>
     ensures { OnOk result (numbers.new.items ≡ numbers.old.items ++ procedure_numbers procedure.now) }
 {
