@@ -44,8 +44,12 @@ impl<'p, 's, S: Source> Model for ContextPdbData<'p, 's, S> {
 
     ghost Value = { held.Held };
 
-    ghost view = { λ d. record { debug_information = d.debug_information; tables = d.tables;
-        names = d.names; infos = d.modules } };
+    ghost view = { λ d. record {
+      debug_information = d.debug_information;
+      tables = d.tables;
+      names = d.names;
+      infos = d.modules;
+    } };
 
     ghost invariant = { λ d. (modules_of d.debug_information.modules).fault ≡ None };
 }

@@ -55,8 +55,13 @@ impl<'a, 's, P: ModuleProvider> Model for Context<'a, 's, P> {
 
     ghost Value = { contexts.Context P };
 
-    ghost view = { λ c. record { provider = c.provider.now; parts = c.parts; formatting = c.namer;
-        lookups = c.lookups; failed = c.failed } };
+    ghost view = { λ c. record {
+      provider = c.provider.now;
+      parts = c.parts;
+      formatting = c.namer;
+      lookups = c.lookups;
+      failed = c.failed;
+    } };
 
     // What is kept of each module is its own, the starts that are kept are those of the file's
     // functions, and what is known to fail does.

@@ -155,9 +155,9 @@ listing_of provided c = record {
 
 -- A context answers as the file does, and lists the file's functions.
 pub record AnswersAs {P : Type 0} (provided : P → Provided) (s : Streams) (c : Context P) : Type 0
-    where
-  pub frames : answer_of provided c ≡ answer s
-  pub functions : function_of provided c ≡ function_at s
-  pub places : database_in provided c ≡ database s
-  pub by_file : files_in provided c ≡ files s
-  pub list : Some (listing_of provided c) ≡ listing s
+  where
+    pub frames : answer_of provided c ≡ answer s
+    pub functions : function_of provided c ≡ function_at s
+    pub places : database_in provided c ≡ database s
+    pub by_file : files_in provided c ≡ files s
+    pub list : Some (listing_of provided c) ≡ listing s

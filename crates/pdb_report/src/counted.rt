@@ -14,8 +14,9 @@ ghost use Rattle.pdb_symbols_modules.specs.Streams.{Streams};
 
 use pdb_addr2line::{Context, Function, KeptModules};
 use pdb_addresses::PdbInternalSectionOffset;
-use pdb_functions::{Answer, CountedFile, FileKey, FunctionKey, Runs, Sizes};
-use pdb_functions::{by_file_text, sizes_text};
+use pdb_functions::{
+    Answer, CountedFile, FileKey, FunctionKey, Runs, Sizes, by_file_text, sizes_text,
+};
 use std::alloc::{AllocError, Global};
 use std::marker::PhantomData;
 

@@ -21,8 +21,12 @@ Told = Text × Option Text × Option ℕ × Option ℕ
 
 -- what words enter
 abbrev pub told_of : List Text → Option Told
-told_of words = option_map (λ e. (e.0, first_of (codes "FILE") e.1,
-    address_at (codes "START") e.1, address_at (codes "END") e.1)) (entered_by words)
+told_of words = option_map (λ e. (
+  e.0,
+  first_of (codes "FILE") e.1,
+  address_at (codes "START") e.1,
+  address_at (codes "END") e.1,
+)) (entered_by words)
 
 -- whether words enter the flag `--by-file`
 abbrev pub is_by_file : List Text → Option Bool

@@ -125,7 +125,10 @@ fn is_counted(alloc: Global, counted: Counted, row: &Row) -> Result<bool, Fail> 
 #[test]
 fn sizes(rt: HostRuntime) -> Result<(), Fail> {
     for (number, row) in ROWS.iter().enumerate() {
-        assert!(rt; is_counted(rt.alloc(), Counted::Functions, row)?, "row {number}");
+        assert!(rt;
+            is_counted(rt.alloc(), Counted::Functions, row)?,
+            "row {number}"
+        );
     }
     Ok(())
 }
@@ -133,7 +136,10 @@ fn sizes(rt: HostRuntime) -> Result<(), Fail> {
 #[test]
 fn sizes_by_file(rt: HostRuntime) -> Result<(), Fail> {
     for (number, row) in ROWS_BY_FILE.iter().enumerate() {
-        assert!(rt; is_counted(rt.alloc(), Counted::Files, row)?, "row {number}");
+        assert!(rt;
+            is_counted(rt.alloc(), Counted::Files, row)?,
+            "row {number}"
+        );
     }
     Ok(())
 }

@@ -31,12 +31,28 @@ impl Wanted {
     fn came(self, outcome: &Result<Task, WordsFault>) -> bool {
         match (self, outcome) {
             (Wanted::Frames(wanted), Ok(Task::Frames { file })) => file.as_str() == wanted,
-            (Wanted::Sizes(wanted, from, to), Ok(Task::Sizes { file, start, end, by_file })) => {
-                file.as_str() == wanted && *start == from && *end == to && !*by_file
-            }
-            (Wanted::SizesByFile(wanted, from, to), Ok(Task::Sizes { file, start, end, by_file })) => {
-                file.as_str() == wanted && *start == from && *end == to && *by_file
-            }
+            (
+                Wanted::Sizes(wanted, from, to),
+                Ok(
+                    Task::Sizes {
+                        file,
+                        start,
+                        end,
+                        by_file,
+                    },
+                ),
+            ) => { file.as_str() == wanted && *start == from && *end == to && !*by_file }
+            (
+                Wanted::SizesByFile(wanted, from, to),
+                Ok(
+                    Task::Sizes {
+                        file,
+                        start,
+                        end,
+                        by_file,
+                    },
+                ),
+            ) => { file.as_str() == wanted && *start == from && *end == to && *by_file }
             (Wanted::NotAnAddress, Err(WordsFault::NotAnAddress)) => true,
             (Wanted::Words(parts), Err(WordsFault::Words(text))) => has_all(text, parts),
             (Wanted::Help(parts), Err(WordsFault::Help(text))) => has_all(text, parts),

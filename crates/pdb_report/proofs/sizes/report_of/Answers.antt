@@ -1,3 +1,4 @@
+use Rattle.std.proofs.Common.{◌≡◌}
 use Rattle.pdb_engine.specs.Watched.{Writes, WritesFront}
 use Rattle.pdb_symbols_modules.specs.Streams.{streams}
 use Rattle.pdb_report.proofs.SizesSteps.{sizes_out, sizes_part, sizes_asked}
