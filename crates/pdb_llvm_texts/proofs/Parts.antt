@@ -10,7 +10,7 @@ pub parts_of : (frames calls : List Frame) (own : Frame) → frames ≡ calls ++
 parts_of frames calls own split count =
     let before : length frames - 1 ≡ length calls = omega (arith, count) in (
       ap (λ n. take n frames) before ∙ ap (take (length calls)) split
-      ∙ take-append_seam calls (own ∷ []),
+          ∙ take-append_seam calls (own ∷ []),
       ap (λ n. drop n frames) before ∙ ap (drop (length calls)) split
-      ∙ drop-append_seam calls (own ∷ []),
+          ∙ drop-append_seam calls (own ∷ []),
     )

@@ -63,7 +63,8 @@ abbrev pub function_alone : Option (List ℕ) → ReportedFrame
 function_alone name = record { function = name; file = None; line = 0 }
 
 -- the frames of a function at an address: the calls, if they are asked for, and the function
-abbrev pub reported_frames : ReportOptions → Option (List ℕ) → ℕ → FunctionFrames → List ReportedFrame
+abbrev pub reported_frames : ReportOptions → Option (List ℕ) → ℕ → FunctionFrames
+    → List ReportedFrame
 reported_frames o name a f =
     (if o.inlines then map (reported o.base_names f.start_rva a) (calls_of f.frames) else [])
     ++ map (λ own. named name (reported o.base_names f.start_rva a own)) (own_of f.frames)

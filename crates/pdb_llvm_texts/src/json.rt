@@ -81,11 +81,7 @@ fn append_indents(output: &mut Vec<u8>, depth: usize) -> Result<(), AllocError>
 }
 
 /// Appends what stands before a member or an element at a depth.
-pub(crate) fn append_gap(
-    output: &mut Vec<u8>,
-    pretty: bool,
-    depth: usize,
-) -> Result<(), AllocError>
+pub(crate) fn append_gap(output: &mut Vec<u8>, pretty: bool, depth: usize) -> Result<(), AllocError>
     ensures { OnOk result (output.new.items ≡ output.old.items ++ gap pretty depth) }
 {
     if !pretty {
@@ -206,11 +202,7 @@ fn append_function_members(
 
 /// Appends the members of where a function starts, of which nothing is known.
 #[tactic(auto, unfolding(crate::specs::Json::start_members))]
-fn append_start_members(
-    output: &mut Vec<u8>,
-    pretty: bool,
-    depth: usize,
-) -> Result<(), AllocError>
+fn append_start_members(output: &mut Vec<u8>, pretty: bool, depth: usize) -> Result<(), AllocError>
     ensures { OnOk result (output.new.items ≡ output.old.items ++ start_members pretty depth) }
 {
     append_string_member(output, pretty, depth, "StartAddress", b"")?;

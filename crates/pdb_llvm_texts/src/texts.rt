@@ -56,11 +56,7 @@ fn append_start(
 
 /// Appends the member of a module.
 #[tactic(auto, unfolding(crate::specs::Texts::module_member))]
-fn append_module(
-    output: &mut Vec<u8>,
-    options: TextOptions,
-    file: &str,
-) -> Result<(), AllocError>
+fn append_module(output: &mut Vec<u8>, options: TextOptions, file: &str) -> Result<(), AllocError>
     ensures { OnOk result (output.new.items
         ≡ output.old.items ++ module_member options file.now) }
 {
@@ -148,7 +144,13 @@ fn append_error_object(
     append_start(alloc, output, options, Some(address))?;
     append_key(output, options.pretty, inner, "Error")?;
     append(output, "{")?;
-    append_string_member(output, options.pretty, inner + 1, "Message", message.as_bytes())?;
+    append_string_member(
+        output,
+        options.pretty,
+        inner + 1,
+        "Message",
+        message.as_bytes(),
+    )?;
     append_gap(output, options.pretty, inner)?;
     append(output, "},")?;
     append_module(output, options, file)?;
@@ -202,11 +204,7 @@ fn append_plain(
 
 /// Appends the members of data of which nothing is known.
 #[tactic(auto, unfolding(crate::specs::Texts::data_members))]
-fn append_data_members(
-    output: &mut Vec<u8>,
-    pretty: bool,
-    depth: usize,
-) -> Result<(), AllocError>
+fn append_data_members(output: &mut Vec<u8>, pretty: bool, depth: usize) -> Result<(), AllocError>
     ensures { OnOk result (output.new.items ≡ output.old.items ++ data_members pretty depth) }
 {
     append_string_member(output, pretty, depth, "Name", b"")?;
