@@ -88,6 +88,59 @@ fn lines_of_functions(rt: HostRuntime) -> Result<(), Fail> {
     Ok(())
 }
 
+/// The same code in one block of file 0: line 4 at 0, and line 7 at 8.
+const ONE_BLOCK: &[u32] = &[
+    0xf2,
+    40,
+    0x10,
+    1,
+    0x20,
+    0,
+    2,
+    28,
+    0,
+    0x8000_0004,
+    8,
+    0x8000_0007,
+];
+
+/// The distance from an offset to the next start of a row of the function at 1:0x10.
+fn to_next_start(alloc: Global, line_data: &[u32], offset: u32, limit: u32) -> Result<u32, Fail> {
+    let mut bytes = Vec::new(alloc);
+    push_u32(&mut bytes, line_data)?;
+    let program = LineProgram::parse(alloc, &bytes)?;
+    let start = PdbInternalSectionOffset {
+        offset: 0x10,
+        section: 1,
+    };
+    let rows = FunctionRows::read(alloc, &program, start)?;
+    Ok(rows.to_next_start(offset, limit))
+}
+
+/// An offset, a limit, and the distance to the next start, where rows begin at 0x10 and at 0x18.
+const NEXT_STARTS: &[(u32, u32, u32)] = &[
+    (0, 100, 16),
+    (0x10, 100, 8),
+    (0x17, 100, 1),
+    // No row begins after the last one, nor within a limit that is nearer.
+    (0x18, 100, 100),
+    (0x10, 8, 8),
+    (0x10, 5, 5),
+    (0x10, 0, 0),
+];
+
+#[test]
+fn next_starts_of_rows(rt: HostRuntime) -> Result<(), Fail> {
+    for (offset, limit, wanted) in NEXT_STARTS {
+        // Rows that ascend, and rows that don't.
+        let ascending = to_next_start(rt.alloc(), ONE_BLOCK, *offset, *limit)?;
+        assert_eq!(rt; ascending, *wanted);
+        let unordered = to_next_start(rt.alloc(), TWO_BLOCKS, *offset, *limit)?;
+        assert_eq!(rt; unordered, *wanted);
+    }
+    Ok(())
+}
+
 /// The stream of a database's first module.
 fn first_info(alloc: Global, pdb: &mut Database) -> Result<Option<ModuleInfo<'static>>, Fail> {
     let debug_information = pdb.debug_information(alloc)?;
