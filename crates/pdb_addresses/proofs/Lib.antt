@@ -8,3 +8,4 @@ pub mod PlaceSteps
 pub mod RangeSteps
 pub mod RunLemmas
 pub mod RunSteps
+pub mod Stable

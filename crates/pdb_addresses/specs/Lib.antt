@@ -1,6 +1,7 @@
 pub mod Addresses
 pub mod ComparedLaws
 pub mod Cursor
+pub mod InOrder
 pub mod PartedRuns
 pub mod Numbers
 pub mod Omap

@@ -1,10 +1,14 @@
 -- The streams of an MSF container, as a function of the file's bytes.
 -- The layout is that of MSF in microsoft-pdb's msf.h, which LLVM's The MSF File Format describes.
-use Rattle.std.specs.Prelude.{ℕ, ◌+◌, ◌-◌, ◌*◌, ◌/◌, ◌^◌, ◌&&◌, Bool, zero, suc, List, [], ◌∷◌, ◌++◌, codes, length, take, drop, map, min, slice_index, nat_lt, nat_le, nat_eq, ◌==◌, if◌then◌else◌, Option, Some, None, Result, Ok, Err}
+use Rattle.std.specs.Prelude.{ℕ, ◌+◌, ◌-◌, ◌*◌, ◌/◌, ◌^◌, ◌&&◌, Bool, zero, suc, List, [], ◌∷◌}
+use Rattle.std.specs.Prelude.{◌++◌, codes, length, take, drop, map, min, slice_index, nat_lt}
+use Rattle.std.specs.Prelude.{nat_le, nat_eq, ◌==◌, if◌then◌else◌, Option, Some, None, Result, Ok}
+use Rattle.std.specs.Prelude.{Err}
 use Rattle.std.specs.List.{range_with_len, sum_by, starts_with}
 use Rattle.std.specs.Int.{w16, w32, from_le_bytes, is_power_of_two, div_ceil}
 use Rattle.pdb_container.specs.Fault.{Fault}
-use Rattle.pdb_container.specs.Fault.{UnrecognizedFileFormat, InvalidPageSize, PageReferenceOutOfRange, StreamNotFound, UnexpectedEof}
+use Rattle.pdb_container.specs.Fault.{UnrecognizedFileFormat, InvalidPageSize}
+use Rattle.pdb_container.specs.Fault.{PageReferenceOutOfRange, StreamNotFound, UnexpectedEof}
 use Rattle.pdb_container.specs.Fault.{◌>>=◌, guard, refuse}
 use Rattle.pdb_container.specs.Places.{bytes_at, page_places}
 
@@ -61,8 +65,14 @@ unfoldable pub header_in : List ℕ → Result Layout Fault
 header_in front = do
   known ← guard (starts_with nat_eq front magic) UnrecognizedFileFormat
   sized ← guard (IsPageSize (word_at front 32)) (InvalidPageSize (word_at front 32))
-  list ← pages_in (word_at front 40) (list_count (word_at front 32) (word_at front 44)) (words (behind_header front))
-  Ok (record { page_size = word_at front 32; pages_used = word_at front 40; directory_size = word_at front 44; list_pages = list })
+  list ← pages_in (word_at front 40) (list_count (word_at front 32) (word_at front 44))
+      (words (behind_header front))
+  Ok (record {
+    page_size = word_at front 32;
+    pages_used = word_at front 40;
+    directory_size = word_at front 44;
+    list_pages = list;
+  })
 
 -- the byte at which the pages end that a header counts, from page 0 to the last that may be used
 abbrev pub pages_end : List ℕ → ℕ
@@ -70,7 +80,8 @@ pages_end header = (word_at header 40 + 1) * word_at header 32
 
 -- the first bytes, which have to be there
 unfoldable pub front_in : List ℕ → Result (List ℕ) Fault
-front_in file = if nat_lt (length file) 4096 then Err UnrecognizedFileFormat else Ok (take 4096 file)
+front_in file =
+    if nat_lt (length file) 4096 then Err UnrecognizedFileFormat else Ok (take 4096 file)
 
 -- what the MSF header of a file says, or its first fault
 unfoldable pub layout_of : List ℕ → Result Layout Fault
@@ -81,7 +92,8 @@ layout_of file = do
 -- the directory, as numbers
 unfoldable pub directory_of : Layout → List ℕ → Result (List ℕ) Fault
 directory_of h file = do
-  list ← bytes_at file (page_places h.page_size h.list_pages (4 * div_ceil h.directory_size h.page_size))
+  list ← bytes_at file
+      (page_places h.page_size h.list_pages (4 * div_ceil h.directory_size h.page_size))
   pages ← pages_in h.pages_used (div_ceil h.directory_size h.page_size) (words list)
   bytes ← bytes_at file (page_places h.page_size pages h.directory_size)
   Ok (words bytes)
@@ -94,15 +106,16 @@ absent = 2 ^ 32 - 1
 abbrev pub page_count : ℕ → ℕ → ℕ
 page_count page_size size = if size == absent then 0 else div_ceil size page_size
 
--- The size and the pages of stream n, in the directory's numbers: a count, so many sizes, and then the
--- page numbers of each stream in order.
+-- The size and the pages of stream n, in the directory's numbers: a count, so many sizes, and then
+-- the page numbers of each stream in order.
 unfoldable pub stream_pages_in : ℕ → ℕ → ℕ → List ℕ → Result (ℕ × List ℕ) Fault
 stream_pages_in page_size used n [] = Err UnexpectedEof
 stream_pages_in page_size used n (count ∷ numbers) = do
   known ← refuse (nat_le count n) (StreamNotFound n)
   whole ← refuse (nat_lt (length numbers) count) UnexpectedEof
   present ← refuse (slice_index numbers n == absent) (StreamNotFound n)
-  pages ← pages_in used (page_count page_size (slice_index numbers n)) (drop (count + sum_by (page_count page_size) (take n numbers)) numbers)
+  pages ← pages_in used (page_count page_size (slice_index numbers n))
+      (drop (count + sum_by (page_count page_size) (take n numbers)) numbers)
   Ok (slice_index numbers n, pages)
 
 -- a size in bytes, cut to a limit if there is one

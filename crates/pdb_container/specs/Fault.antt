@@ -1,5 +1,6 @@
 -- Faults: what an error of the system counts as, and when a call may fail for another cause.
-use Rattle.std.specs.Prelude.{◌≡◌, ◌≢◌, ℕ, ◌+◌, ◌-◌, ◌^◌, ◌≤◌, ◌⊎◌, min, Bool, if◌then◌else◌, Option, Some, None, Result, Ok, Err}
+use Rattle.std.specs.Prelude.{◌≡◌, ◌≢◌, ℕ, ◌+◌, ◌-◌, ◌^◌, ◌≤◌, ◌⊎◌, min, Bool, if◌then◌else◌}
+use Rattle.std.specs.Prelude.{Option, Some, None, Result, Ok, Err}
 use Rattle.std.specs.declared.io.ErrorKind.{ErrorKind}
 use Rattle.std.specs.declared.io.ErrorKind.TheVariants as kinds
 use Rattle.std.specs.declared.io.Error as io
@@ -10,7 +11,8 @@ use Rattle.std.specs.Prelude.{List}
 use Rattle.pdb_container.specs.declared.error.ModuleFault.{ModuleFault}
 use Rattle.pdb_container.specs.declared.error.ModuleFault.TheVariants as kept
 
--- a fault of a definition: one for each variant of the crate's error but out of memory, which is in no definition
+-- a fault of a definition: one for each variant of the crate's error but out of memory, which is in
+-- no definition
 pub data Fault : Type 0 where
   UnrecognizedFileFormat : Fault
   InvalidPageSize : ℕ → Fault
@@ -107,13 +109,15 @@ error_of cause = error_of_kind (error_kind cause)
 abbrev pub HasRisen : ℕ → ℕ → Type 0
 HasRisen old new = min (old + 1) (2 ^ 64 - 1) ≤ new
 
--- what the file does not decide: that memory was short, or that the source failed, which it has counted
+-- what the file does not decide: that memory was short, or that the source failed, which it has
+-- counted
 abbrev pub IsOutside : Error → Type 0 → Type 0
 IsOutside errors.OutOfMemory failed = Unit {0}
 IsOutside (errors.IoError kind) failed = (kind ≢ kinds.UnexpectedEof) × failed
 IsOutside e failed = ⊥
 
--- What a call returned, seen by view, is what reading gives, unless memory was short or the source failed.
+-- What a call returned, seen by view, is what reading gives, unless memory was short or the source
+-- failed.
 abbrev pub Gives : {X Y : Type 0} → (X → Y) → Type 0 → Result X Error → Result Y Fault → Type 0
 Gives view failed (Ok x) read = read ≡ Ok (view x)
 Gives view failed (Err e) read = IsOutside e failed ⊎ (read ≡ Err (fault_of e))
@@ -123,7 +127,8 @@ abbrev pub IsOfBytes : Error → Type 0
 IsOfBytes errors.OutOfMemory = ⊥
 IsOfBytes e = Unit {0}
 
--- What a call that takes no memory and reads from no source returned, seen by view, always is what reading gives.
+-- What a call that takes no memory and reads from no source returned, seen by view, always is what
+-- reading gives.
 abbrev pub Parses : {X Y : Type 0} → (X → Y) → Result X Error → Result Y Fault → Type 0
 Parses view (Ok x) read = read ≡ Ok (view x)
 Parses view (Err e) read = IsOfBytes e × (read ≡ Err (fault_of e))

@@ -6,7 +6,12 @@ use Rattle.pdb_container.specs.Container.{Layout}
 
 -- the code's MSF header, as the definitions see it
 abbrev pub layout : Header → Layout
-layout h = record { page_size = h.page_size; pages_used = h.pages_used; directory_size = h.directory_size; list_pages = h.list_pages.items }
+layout h = record {
+  page_size = h.page_size;
+  pages_used = h.pages_used;
+  directory_size = h.directory_size;
+  list_pages = h.list_pages.items;
+}
 
 -- the page size is a page's and a multiple of 4, and the pages that list the directory's are enough
 pub record IsSound (h : Layout) : Type 0 where

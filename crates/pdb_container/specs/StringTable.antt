@@ -6,13 +6,14 @@ use Rattle.std.specs.Str.Lossy.{utf8_lossy}
 use Rattle.pdb_container.specs.Fault.{Fault, UnimplementedFeature, ◌>>=◌, refuse}
 use Rattle.pdb_container.specs.Fields.{number_at, bytes_of, c_string_at}
 
--- the bytes of the names: behind signature, version and their size, and all there
+-- the bytes of the names: after signature, version and their size, and all there
 unfoldable pub names_of : List ℕ → Result (List ℕ) Fault
 names_of bytes = do
   signature ← number_at w32 bytes
   version ← number_at w32 signature.1
   size ← number_at w32 version.1
-  known ← refuse (not ((signature.0 == 0xeffeeffe) && ((version.0 == 1) || (version.0 == 2)))) (UnimplementedFeature (codes "string table"))
+  known ← refuse (not ((signature.0 == 0xeffeeffe) && ((version.0 == 1) || (version.0 == 2))))
+      (UnimplementedFeature (codes "string table"))
   names ← bytes_of size.0 size.1
   Ok names.0
 

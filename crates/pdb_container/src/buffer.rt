@@ -2,9 +2,11 @@
 
 ghost use Rattle.std.specs.Prelude.{◌≡◌, ◌<◌, ◌-◌, drop, length, min, ◌==◌, ◌+◌, IfOk};
 ghost use Rattle.std.specs.Int.{w8, w16, w32, w64};
-ghost use Rattle.pdb_container.specs.Buffer.{rest, Reads, ReadsInSteps, Moves, peeked, truncated, aligned};
+ghost use Rattle.pdb_container.specs.Buffer.{rest, Reads, ReadsInSteps, Moves, peeked, truncated};
+ghost use Rattle.pdb_container.specs.Buffer.{aligned};
 ghost use Rattle.pdb_container.specs.Fault.{Parses};
-ghost use Rattle.pdb_container.specs.Fields.{Reader, bytes_of, number_at, signed_at, c_string_at, pascal_string_at};
+ghost use Rattle.pdb_container.specs.Fields.{Reader, bytes_of, number_at, signed_at, c_string_at};
+ghost use Rattle.pdb_container.specs.Fields.{pascal_string_at};
 ghost use Rattle.pdb_container.specs.RawString.{raw_bytes};
 
 use crate::error::{Error, Result};
@@ -12,7 +14,8 @@ use crate::numbers::nul_in;
 use crate::raw_string::RawString;
 use std::marker::Model;
 
-/// A parse buffer: bytes that are read in order. A call that is refused leaves them and the place in them as they were.
+/// A parse buffer: bytes that are read in order. A call that is refused leaves them and the place
+/// in them as they were.
 #[derive(Debug, Drop)]
 pub struct ParseBuffer<'b> {
     bytes: &'b [u8],
@@ -33,7 +36,8 @@ impl<'b> Model for ParseBuffer<'b> {
 impl<'b> From<&'b [u8]> for ParseBuffer<'b> {
     ghost use Rattle.pdb_container.specs.Buffer.{rest};
 
-    ghost from_gives = { λ bytes b. (b ≡ record { bytes = bytes.now; pos = 0 }) × (rest b ≡ bytes.now) };
+    ghost from_gives = { λ bytes b. (b ≡ record { bytes = bytes.now; pos = 0 })
+        × (rest b ≡ bytes.now) };
 
     #[tactic(auto, unfolding(crate::specs::Buffer::rest))]
     fn from(bytes: &'b [u8]) -> ParseBuffer<'b> {
@@ -43,7 +47,7 @@ impl<'b> From<&'b [u8]> for ParseBuffer<'b> {
 
 /// A value that can be read at the place of a parse buffer.
 pub trait FromBuffer {
-    /// What the bytes that are left say: a value and the bytes behind it, or the fault.
+    /// What the bytes that are left say: a value and the bytes after it, or the fault.
     ghost read: { Reader Self };
 
     /// The value at the buffer's place. Where it is refused, the place may have moved.
@@ -79,13 +83,19 @@ impl<'b> ParseBuffer<'b> {
     /// Goes to a place in bytes, or to the end where the place lies past it.
     #[tactic(auto, using(crate::proofs::Taking::drop_within), unfolding(crate::specs::Buffer::rest))]
     pub fn seek(&mut self, pos: usize)
-        ensures place { self.new ≡ record { bytes = self.old.bytes; pos = min pos (length self.old.bytes) } }
+        ensures place { self.new ≡ record {
+          bytes = self.old.bytes;
+          pos = min pos (length self.old.bytes);
+        } }
         ensures left { rest self.new ≡ drop pos self.old.bytes }
     {
         self.pos = pos.min(self.bytes.len());
     }
 
-    /// Keeps the first `len` bytes alone; `UnexpectedEof` where the place lies behind them, or fewer are there.
+    /// Drops all bytes but the first `len`.
+    ///
+    /// # Errors
+    /// `UnexpectedEof` where the place lies past them, or fewer are there.
     #[tactic(auto, unfolding(crate::specs::Buffer::truncated))]
     pub fn truncate(&mut self, len: usize) -> Result<()>
         ensures { Moves result self.old self.new (truncated len self.old) }
@@ -97,8 +107,10 @@ impl<'b> ParseBuffer<'b> {
         Ok(())
     }
 
-    /// Goes to the least multiple of `alignment`, which is at least 1, at or past the place; `UnexpectedEof` past the
-    /// end.
+    /// Goes to the least multiple of `alignment`, which is at least 1, at or past the place.
+    ///
+    /// # Errors
+    /// `UnexpectedEof` past the end.
     #[tactic(auto, unfolding(crate::specs::Buffer::aligned))]
     pub fn align(&mut self, alignment: usize) -> Result<()>
         requires { 0 < alignment }
@@ -114,7 +126,10 @@ impl<'b> ParseBuffer<'b> {
         Ok(())
     }
 
-    /// The next `size` bytes; `UnexpectedEof` where fewer are left.
+    /// The next `size` bytes.
+    ///
+    /// # Errors
+    /// `UnexpectedEof` where fewer are left.
     #[tactic(auto, unfolding(crate::specs::Buffer::rest))]
     pub fn take(&mut self, size: usize) -> Result<&'b [u8]>
         ensures value { Reads (λ part. part.now) result self.old self.new (bytes_of size) }
@@ -129,7 +144,10 @@ impl<'b> ParseBuffer<'b> {
         Ok(&self.bytes[start..start + size])
     }
 
-    /// The value that a type reads here, or its fault.
+    /// The value that a type reads here.
+    ///
+    /// # Errors
+    /// The fault of that reading.
     pub fn parse<T: FromBuffer>(&mut self) -> Result<T>
         ensures { Reads (λ x. x) result self.old self.new T.read }
     {
@@ -143,7 +161,10 @@ impl<'b> ParseBuffer<'b> {
         }
     }
 
-    /// The next byte as a number; `UnexpectedEof` where none is left.
+    /// The next byte as a number.
+    ///
+    /// # Errors
+    /// `UnexpectedEof` where none is left.
     pub fn parse_u8(&mut self) -> Result<u8>
         ensures value { Reads (λ x. x) result self.old self.new (number_at w8) }
         ensures taken { IfOk result (λ _. length (rest self.new) + 1 ≡ length (rest self.old)) }
@@ -154,7 +175,10 @@ impl<'b> ParseBuffer<'b> {
         }
     }
 
-    /// The next two bytes as a number, the lowest first; `UnexpectedEof` where fewer are left.
+    /// The next two bytes as a number, the lowest first.
+    ///
+    /// # Errors
+    /// `UnexpectedEof` where fewer are left.
     pub fn parse_u16(&mut self) -> Result<u16>
         ensures value { Reads (λ x. x) result self.old self.new (number_at w16) }
         ensures taken { IfOk result (λ _. length (rest self.new) + 2 ≡ length (rest self.old)) }
@@ -165,7 +189,10 @@ impl<'b> ParseBuffer<'b> {
         }
     }
 
-    /// The next four bytes as a number, the lowest first; `UnexpectedEof` where fewer are left.
+    /// The next four bytes as a number, the lowest first.
+    ///
+    /// # Errors
+    /// `UnexpectedEof` where fewer are left.
     pub fn parse_u32(&mut self) -> Result<u32>
         ensures value { Reads (λ x. x) result self.old self.new (number_at w32) }
         ensures taken { IfOk result (λ _. length (rest self.new) + 4 ≡ length (rest self.old)) }
@@ -176,7 +203,10 @@ impl<'b> ParseBuffer<'b> {
         }
     }
 
-    /// The next eight bytes as a number, the lowest first; `UnexpectedEof` where fewer are left.
+    /// The next eight bytes as a number, the lowest first.
+    ///
+    /// # Errors
+    /// `UnexpectedEof` where fewer are left.
     pub fn parse_u64(&mut self) -> Result<u64>
         ensures value { Reads (λ x. x) result self.old self.new (number_at w64) }
         ensures taken { IfOk result (λ _. length (rest self.new) + 8 ≡ length (rest self.old)) }
@@ -189,7 +219,10 @@ impl<'b> ParseBuffer<'b> {
         }
     }
 
-    /// The next byte in two's complement; `UnexpectedEof` where none is left.
+    /// The next byte in two's complement.
+    ///
+    /// # Errors
+    /// `UnexpectedEof` where none is left.
     pub fn parse_i8(&mut self) -> Result<i8>
         ensures value { Reads (λ x. x) result self.old self.new (signed_at w8) }
         ensures taken { IfOk result (λ _. length (rest self.new) + 1 ≡ length (rest self.old)) }
@@ -200,7 +233,10 @@ impl<'b> ParseBuffer<'b> {
         }
     }
 
-    /// The next two bytes in two's complement, the lowest first; `UnexpectedEof` where fewer are left.
+    /// The next two bytes in two's complement, the lowest first.
+    ///
+    /// # Errors
+    /// `UnexpectedEof` where fewer are left.
     pub fn parse_i16(&mut self) -> Result<i16>
         ensures value { Reads (λ x. x) result self.old self.new (signed_at w16) }
         ensures taken { IfOk result (λ _. length (rest self.new) + 2 ≡ length (rest self.old)) }
@@ -211,7 +247,10 @@ impl<'b> ParseBuffer<'b> {
         }
     }
 
-    /// The next four bytes in two's complement, the lowest first; `UnexpectedEof` where fewer are left.
+    /// The next four bytes in two's complement, the lowest first.
+    ///
+    /// # Errors
+    /// `UnexpectedEof` where fewer are left.
     pub fn parse_i32(&mut self) -> Result<i32>
         ensures value { Reads (λ x. x) result self.old self.new (signed_at w32) }
         ensures taken { IfOk result (λ _. length (rest self.new) + 4 ≡ length (rest self.old)) }
@@ -222,7 +261,10 @@ impl<'b> ParseBuffer<'b> {
         }
     }
 
-    /// The next eight bytes in two's complement, the lowest first; `UnexpectedEof` where fewer are left.
+    /// The next eight bytes in two's complement, the lowest first.
+    ///
+    /// # Errors
+    /// `UnexpectedEof` where fewer are left.
     pub fn parse_i64(&mut self) -> Result<i64>
         ensures value { Reads (λ x. x) result self.old self.new (signed_at w64) }
         ensures taken { IfOk result (λ _. length (rest self.new) + 8 ≡ length (rest self.old)) }
@@ -233,14 +275,20 @@ impl<'b> ParseBuffer<'b> {
         }
     }
 
-    /// The next byte, which isn't taken; `UnexpectedEof` where none is left.
+    /// The next byte, which isn't taken.
+    ///
+    /// # Errors
+    /// `UnexpectedEof` where none is left.
     pub fn peek_u8(&self) -> Result<u8>
         ensures { Parses (λ x. x) result (peeked (number_at w8) (rest self.now)) }
     {
         self.ahead().parse_u8()
     }
 
-    /// The next two bytes as a number, the lowest first, which aren't taken; `UnexpectedEof` where fewer are left.
+    /// The next two bytes as a number, the lowest first, which aren't taken.
+    ///
+    /// # Errors
+    /// `UnexpectedEof` where fewer are left.
     pub fn peek_u16(&self) -> Result<u16>
         ensures { Parses (λ x. x) result (peeked (number_at w16) (rest self.now)) }
     {
@@ -265,7 +313,10 @@ impl<'b> ParseBuffer<'b> {
         }
     }
 
-    /// A C string: the bytes before the next NUL, which is read too; `UnexpectedEof` where there is no NUL.
+    /// A C string: the bytes before the next NUL, which is read too.
+    ///
+    /// # Errors
+    /// `UnexpectedEof` where there is no NUL.
     #[tactic(auto, unfolding(crate::specs::Buffer::rest, crate::specs::Fields::c_string_at))]
     pub fn parse_cstring(&mut self) -> Result<RawString<'b>>
         ensures value { Reads raw_bytes result self.old self.new c_string_at }
@@ -279,7 +330,10 @@ impl<'b> ParseBuffer<'b> {
         Ok(RawString::from(&left[..end]))
     }
 
-    /// A Pascal string: a length in one byte and so many bytes; `UnexpectedEof` where any is missing.
+    /// A Pascal string: a length in one byte and so many bytes.
+    ///
+    /// # Errors
+    /// `UnexpectedEof` where any is missing.
     #[tactic(auto, unfolding(crate::specs::Buffer::rest, crate::specs::Fields::pascal_string_at))]
     pub fn parse_u8_pascal_string(&mut self) -> Result<RawString<'b>>
         ensures value { Reads raw_bytes result self.old self.new pascal_string_at }

@@ -28,6 +28,9 @@ pub struct Directory {
 impl Directory {
     /// A directory of these numbers. Memory is taken for the sizes that are there, whatever the
     /// count says: 8 bytes for 256 of them.
+    ///
+    /// # Errors
+    /// `OutOfMemory`.
     pub fn new(alloc: Global, page_size: u32, numbers: PagedNumbers) -> Result<Directory>
         requires { 0 < page_size }
         ensures numbers { Gives (λ d. d.numbers) ⊥ result (Ok numbers) }
@@ -53,7 +56,8 @@ impl Directory {
     ) -> Result<(u32, Vec<u32>)>
         requires size { 0 < page_size }
         requires starts { HasStarts page_size self.now }
-        ensures exact { Gives (λ found. (found.0, found.1.items)) ⊥ result (stream_pages_in page_size used number self.now.numbers) }
+        ensures exact { Gives (λ found. (found.0, found.1.items)) ⊥ result
+            (stream_pages_in page_size used number self.now.numbers) }
         ensures enough { IfOk result (λ found. found.0 ≤ vec_len found.1 * page_size) }
         ensures few { IfOk result (λ found. vec_len found.1 < 2 ^ 32) }
     {
@@ -111,8 +115,8 @@ fn counted(numbers: &PagedNumbers) -> usize
     (numbers.at(0) as usize).min(numbers.len() - 1)
 }
 
-/// For the first of each 256 streams that the directory counts and has a size of, how many pages the
-/// streams before it have.
+/// For the first of each 256 streams that the directory counts and has a size of, how many pages
+/// the streams before it have.
 #[tactic(auto, using(crate::proofs::Starts::starts_none, crate::proofs::Starts::starts_more))]
 fn starts_of(alloc: Global, page_size: u32, numbers: &PagedNumbers) -> Result<Vec<usize>>
     requires { 0 < page_size }
@@ -161,6 +165,10 @@ fn pages_for(page_size: u32, size: u32) -> u32
 }
 
 /// The first `count` numbers, which have to be page numbers.
+///
+/// # Errors
+/// `UnexpectedEof` where fewer are there; `PageReferenceOutOfRange` of the first that is none;
+/// `OutOfMemory`.
 #[tactic(auto, using(crate::proofs::Words::pages_start))]
 pub fn pages_of(alloc: Global, used: u32, count: usize, numbers: &[u32]) -> Result<Vec<u32>>
     ensures exact { Gives (λ v. v.items) ⊥ result (pages_in used count numbers.now) }

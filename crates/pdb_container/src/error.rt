@@ -13,11 +13,12 @@ use std::{fmt, io};
 /// What a call on a program database returns.
 pub type Result<T> = std::result::Result<T, Error>;
 
-/// Why a call on a program database failed. It prints, by `Debug` too, as its variant's name and, in parentheses, its
-/// values.
+/// Why a call on a program database failed. It prints, by `Debug` too, as its variant's name and,
+/// in parentheses, its values.
 #[derive(Clone, Copy, PartialEq, Eq)]
 pub enum Error {
-    /// The file's first 4096 bytes are not there, or don't begin with the magic of a big MSF container.
+    /// The file's first 4096 bytes are not there, or don't begin with the magic of a big MSF
+    /// container.
     UnrecognizedFileFormat,
     /// An MSF page size in bytes that is no power of two from 0x100 to 0x800000.
     InvalidPageSize(u32),
@@ -264,8 +265,8 @@ impl From<ModuleFault> for Error {
     }
 }
 
-/// The fault of a module's stream, as it is kept. Out of memory, and whatever else is no fault of a stream, stays an
-/// error.
+/// The fault of a module's stream, as it is kept. Out of memory, and whatever else is no fault of a
+/// stream, stays an error.
 impl TryFrom<Error> for ModuleFault {
     type Error = Error;
 

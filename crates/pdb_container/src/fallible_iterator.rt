@@ -13,7 +13,7 @@ pub trait FallibleIterator {
     /// Whether it returns nothing more: it does so from its first error on.
     ghost has_ended: { Self → Type 0 };
 
-    /// What may be returned at a state, and the state behind it.
+    /// What may be returned at a state, and the state after it.
     ghost next_gives: { Self → Result (Option Self.Item) Self.Error → Self → Type 0 };
 
     /// The next item; `None` at the end, and after an error.

@@ -20,28 +20,32 @@ use crate::source::SourceSlice;
 use crate::string_table::StringRef;
 use std::hash::Hash;
 
-/// What pages hold is so many bytes, and byte i is the file's byte in page number i / size, at i % size; and bytes of
-/// which this is true are what the pages hold.
+/// What pages hold is so many bytes, and byte i is the file's byte in page number i / size, at i %
+/// size; and bytes of which this is true are what the pages hold.
 pub fn paged()
     ensures { (file pages bytes : List ℕ) (size count : ℕ)
-        → (bytes_at file (page_places size pages count) ≡ Ok bytes) ↔ IsPaged file size pages count bytes }
+        → (bytes_at file (page_places size pages count) ≡ Ok bytes)
+        ↔ IsPaged file size pages count bytes }
 {}
 
-/// A stream has the length that the directory says, or the limit, and byte i of it is the file's byte in the stream's
-/// page number i / P, at i % P, where P is the size of a page; and bytes of which this is true are the stream.
+/// A stream has the length that the directory says, or the limit, and byte i of it is the file's
+/// byte in the stream's page number i / P, at i % P, where P is the size of a page; and bytes of
+/// which this is true are the stream.
 pub fn stream_byte_by_byte()
     ensures { (file : List ℕ) (n : ℕ) (limit : Option ℕ) (bytes : List ℕ)
         → (stream file n limit ≡ Ok bytes) ↔ IsStream file n limit bytes }
 {}
 
-/// A limit cuts a stream that is there to its first bytes. The directory, the stream's number and all its page numbers
-/// are checked before it cuts, and each fault under a limit is the whole stream's.
+/// A limit cuts a stream that is there to its first bytes. The directory, the stream's number and
+/// all its page numbers are checked before it cuts, and each fault under a limit is the whole
+/// stream's.
 pub fn limited()
     ensures { (file : List ℕ) (n : ℕ) → IsLimited file n }
 {}
 
-/// Two files that read alike at a number have the same stream there. Two that open alike, and read alike at every
-/// number, have the same fault in opening, or none, and the same streams, however their pages lie.
+/// Two files that read alike at a number have the same stream there. Two that open alike, and read
+/// alike at every number, have the same fault in opening, or none, and the same streams, however
+/// their pages lie.
 pub fn page_layout()
     ensures at_one_number { (a b : List ℕ) (n : ℕ) → ReadAlike a b n → HaveSameStream a b n }
     ensures at_every_number { (a b : List ℕ) → AreAlike a b → HaveSameStreams a b }
@@ -59,18 +63,23 @@ pub fn tail_of_no_stream()
 
 /// Raw strings are equal exactly where their bytes are, and equal ones hash alike.
 pub fn equal_texts_hash_alike()
-    ensures equal { (a b : Text) → (⟦<RawString<'static> as PartialEq>⟧.eq a b ≡ true) ↔ (raw_bytes a ≡ raw_bytes b) }
-    ensures hash { (a b : Text) → raw_bytes a ≡ raw_bytes b → ⟦<RawString<'static> as Hash>⟧.hash_input a ≡ ⟦<RawString<'static> as Hash>⟧.hash_input b }
+    ensures equal { (a b : Text) → (⟦<RawString<'static> as PartialEq>⟧.eq a b ≡ true)
+        ↔ (raw_bytes a ≡ raw_bytes b) }
+    ensures hash { (a b : Text) → raw_bytes a ≡ raw_bytes b
+        → ⟦<RawString<'static> as Hash>⟧.hash_input a
+        ≡ ⟦<RawString<'static> as Hash>⟧.hash_input b }
 {}
 
-/// Offsets of names, slices and kept faults are equal exactly where they are one and the same, and errors where they
-/// say the same fault, or both that memory ran out: `==` leaves out no part of them. Offsets come in the order of their
-/// numbers.
+/// Offsets of names, slices and kept faults are equal exactly where they are one and the same, and
+/// errors where they say the same fault, or both that memory ran out: `==` leaves out no part of
+/// them. Offsets come in the order of their numbers.
 pub fn equal_values_are_one()
     ensures offsets { (a b : Offset) → (⟦<StringRef as PartialEq>⟧.eq a b ≡ true) ↔ (a ≡ b) }
     ensures order { (a b : Offset) → ⟦<StringRef as Ord>⟧.cmp a b ≡ nat_cmp a.0 b.0 }
     ensures slices { (a b : Slice) → (⟦<SourceSlice as PartialEq>⟧.eq a b ≡ true) ↔ (a ≡ b) }
     ensures kept { (a b : KeptFault) → (⟦<ModuleFault as PartialEq>⟧.eq a b ≡ true) ↔ (a ≡ b) }
-    ensures equal_errors { (a b : AnyError) → ⟦<Error as PartialEq>⟧.eq a b ≡ true → said a ≡ said b }
-    ensures same_faults { (a b : AnyError) → said a ≡ said b → ⟦<Error as PartialEq>⟧.eq a b ≡ true }
+    ensures equal_errors { (a b : AnyError) → ⟦<Error as PartialEq>⟧.eq a b ≡ true
+        → said a ≡ said b }
+    ensures same_faults { (a b : AnyError) → said a ≡ said b
+        → ⟦<Error as PartialEq>⟧.eq a b ≡ true }
 {}

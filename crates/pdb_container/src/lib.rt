@@ -1,5 +1,6 @@
-//! The MSF container of a program database: a file's pages, the streams that lie in them, and the numbers in a stream's
-//! bytes. The format is that of microsoft-pdb's msf.h and of LLVM's The MSF File Format.
+//! The MSF container of a program database: a file's pages, the streams that lie in them, and the
+//! numbers in a stream's bytes. The format is that of microsoft-pdb's msf.h and of LLVM's The MSF
+//! File Format.
 #![tactic(auto)]
 
 mod bounded_bytes;

@@ -3,13 +3,17 @@
 ghost use Rattle.std.specs.Prelude.{◌≡◌, ◌+◌, ◌*◌, ◌%◌, ◌<◌, ◌≤◌, ◌^◌, ◌⊎◌, length, vec_len};
 ghost use Rattle.std.specs.Prelude.{take, drop, Some, Ok, IfOk, IfErr, IsOk};
 ghost use Rattle.std.specs.Int.{div_ceil};
-ghost use Rattle.pdb_container.specs.Container.{words, pages_in, header_in, front_in, behind_header as behind, layout_of, directory_of, stream_in, stream, at_most, list_count as lists_for};
+ghost use Rattle.pdb_container.specs.Container.{words, pages_in, header_in, front_in};
+ghost use Rattle.pdb_container.specs.Container.{behind_header as behind, layout_of, directory_of};
+ghost use Rattle.pdb_container.specs.Container.{stream_in, stream, at_most};
+ghost use Rattle.pdb_container.specs.Container.{list_count as lists_for};
 ghost use Rattle.pdb_container.specs.Directory.{IsKept};
 ghost use Rattle.pdb_container.specs.SourceAnswers.{AnswersFrom};
 ghost use Rattle.pdb_container.specs.Header.{layout, IsSound};
 ghost use Rattle.std.specs.declared.io.ErrorKind.TheVariants.{UnexpectedEof};
 ghost use Rattle.pdb_container.specs.declared.error.Error.TheVariants.{OutOfMemory};
-ghost use Rattle.pdb_container.specs.Fault.{error_of, fault_of, IoError, ◌>>=◌ as and_then, Gives, HasRisen, IsOutside};
+ghost use Rattle.pdb_container.specs.Fault.{error_of, fault_of, IoError, ◌>>=◌ as and_then, Gives};
+ghost use Rattle.pdb_container.specs.Fault.{HasRisen, IsOutside};
 ghost use Rattle.pdb_container.specs.Places.{bytes_at, page_places, IsPaged};
 
 use crate::directory::{Directory, pages_of};
@@ -31,7 +35,8 @@ const HEADER_SIZE: usize = 52;
 /// How many bytes the header and its list of pages lie in.
 const HEADER_VIEW: usize = 4096;
 
-/// The MSF header, as far as it is used: page size in bytes, pages used, directory size in bytes, and its list pages.
+/// The MSF header, as far as it is used: page size in bytes, pages used, directory size in bytes,
+/// and its list pages.
 #[derive(Drop)]
 pub struct Header {
     page_size: u32,
@@ -58,7 +63,7 @@ impl<'s> Model for Stream<'s> {
 }
 
 impl<'s> Stream<'s> {
-    /// The bytes, fewer than 2^32: a directory tells a stream's size in 32 bits.
+    /// The bytes, fewer than 2^32: a directory gives a stream's size in 32 bits.
     pub fn as_slice(&self) -> &[u8]
         ensures bytes { result.now ≡ self.now }
         ensures few { length result.now < 2 ^ 32 }
@@ -108,7 +113,10 @@ fn list_of(alloc: Global, page_size: u32, pages: &[u32], size: usize) -> Result<
     requires page_size { (0 < page_size) × (page_size ≤ 0x800000) }
     requires enough { size ≤ length pages.now * page_size }
     requires few { length pages.now < 2 ^ 32 }
-    ensures { Gives (λ l. l) ⊥ result (Ok (record { page_size = page_size; places = page_places page_size pages.now size })) }
+    ensures { Gives (λ l. l) ⊥ result (Ok (record {
+      page_size = page_size;
+      places = page_places page_size pages.now size;
+    })) }
 {
     let mut list = PageList::new(alloc, page_size as usize);
     for page in pages {
@@ -130,7 +138,8 @@ fn read_words<S: Source>(
     requires enough { size ≤ length pages.now * page_size }
     requires few { length pages.now < 2 ^ 32 }
     ensures answer { AnswersFrom S.bytes S.failures source.old source.new (λ v. v.items) result
-        (and_then (bytes_at (S.bytes source.old) (page_places page_size pages.now size)) (λ bytes. Ok (words bytes))) }
+        (and_then (bytes_at (S.bytes source.old) (page_places page_size pages.now size))
+        (λ bytes. Ok (words bytes))) }
 {
     match read_pages(source, alloc, page_size, pages, size) {
         Ok(bytes) => words_of(alloc, bytes.as_slice()),
@@ -143,9 +152,14 @@ fn read_words<S: Source>(
 fn directory_pages<S: Source>(source: &mut S, alloc: Global, header: &Header) -> Result<Vec<u32>>
     requires { IsSound (layout header.now) }
     ensures answer { AnswersFrom S.bytes S.failures source.old source.new (λ v. v.items) result
-        (and_then (bytes_at (S.bytes source.old) (page_places header.now.page_size header.now.list_pages.items (4 * div_ceil header.now.directory_size header.now.page_size)))
-        (λ list. pages_in header.now.pages_used (div_ceil header.now.directory_size header.now.page_size) (words list))) }
-    ensures len { IfOk result (λ v. vec_len v ≡ div_ceil header.now.directory_size header.now.page_size) }
+        (and_then
+        (bytes_at (S.bytes source.old)
+        (page_places header.now.page_size header.now.list_pages.items
+        (4 * div_ceil header.now.directory_size header.now.page_size)))
+        (λ list. pages_in header.now.pages_used
+        (div_ceil header.now.directory_size header.now.page_size) (words list))) }
+    ensures len { IfOk result
+        (λ v. vec_len v ≡ div_ceil header.now.directory_size header.now.page_size) }
 {
     let count = header.directory_size.div_ceil(header.page_size) as usize;
     let list = header.list_pages.as_slice();
@@ -155,8 +169,8 @@ fn directory_pages<S: Source>(source: &mut S, alloc: Global, header: &Header) ->
     }
 }
 
-/// The numbers that the first `size` bytes of the pages spell. Each page is read once, however often
-/// the list names it.
+/// The numbers that the first `size` bytes of the pages spell. Each page is read once, however
+/// often the list names it.
 #[tactic(auto, using(crate::proofs::PagedNumbers::read_words))]
 fn read_paged<S: Source>(
     source: &mut S,
@@ -197,7 +211,8 @@ fn read_numbers<S: Source>(source: &mut S, alloc: Global, header: &Header) -> Re
     }
 }
 
-/// The directory, or its fault, to be kept. `OutOfMemory`, and `IoError` where the source failed, are not kept.
+/// The directory, or its fault, to be kept. `OutOfMemory`, and `IoError` where the source failed,
+/// are not kept.
 #[tactic(auto, using(crate::proofs::Outside::outside_alone, crate::proofs::Outside::outside_earlier, crate::proofs::Outside::outside_later))]
 fn read_directory<S: Source>(
     source: &mut S,
@@ -207,8 +222,10 @@ fn read_directory<S: Source>(
     requires { IsSound (layout header.now) }
     ensures same { S.bytes source.new ≡ S.bytes source.old }
     ensures counts { S.failures source.old ≤ S.failures source.new }
-    ensures kept { IfOk result (λ kept. IsKept (layout header.now) (S.bytes source.old) (Some kept)) }
-    ensures err { IfErr result (λ e. IsOutside e (HasRisen (S.failures source.old) (S.failures source.new))
+    ensures kept { IfOk result
+        (λ kept. IsKept (layout header.now) (S.bytes source.old) (Some kept)) }
+    ensures err { IfErr result
+        (λ e. IsOutside e (HasRisen (S.failures source.old) (S.failures source.new))
         ⊎ (directory_of (layout header.now) (S.bytes source.old) ≡ Err (fault_of e))) }
 {
     match read_numbers(source, alloc, header) {
@@ -356,11 +373,14 @@ fn list_count(page_size: u32, directory_size: u32) -> usize
 fn read_first<S: Source>(source: &mut S, alloc: Global, size: usize) -> io::Result<ReadView>
     requires { 0 < size }
     ensures same { S.bytes source.new ≡ S.bytes source.old }
-    ensures ok { IfOk result (λ v. (size ≤ length (S.bytes source.old)) × (v ≡ take size (S.bytes source.old))) }
+    ensures ok { IfOk result
+        (λ v. (size ≤ length (S.bytes source.old)) × (v ≡ take size (S.bytes source.old))) }
     ensures len { IfOk result (λ v. length v ≡ size) }
     ensures counts { S.failures source.old ≤ S.failures source.new }
-    ensures err { IfErr result (λ e. IsOutside (error_of e) (HasRisen (S.failures source.old) (S.failures source.new))
-        ⊎ ((length (S.bytes source.old) < size) × (fault_of (error_of e) ≡ IoError UnexpectedEof))) }
+    ensures err { IfErr result
+        (λ e. IsOutside (error_of e) (HasRisen (S.failures source.old) (S.failures source.new))
+        ⊎ ((length (S.bytes source.old) < size)
+        × (fault_of (error_of e) ≡ IoError UnexpectedEof))) }
 {
     let slices = [SourceSlice { offset: 0, size }];
     source.view(alloc, &slices)
@@ -386,10 +406,11 @@ pub trait Msf<'s, S: Source> {
     /// The source of the container's bytes.
     ghost source: { Self → S };
 
-    /// An MSF stream by its number, or its first `limit` bytes. It views the stream's own pages alone, unless the source
-    /// failed each time that the directory was read before; then it reads that first. A call that is refused changes no
-    /// later result. `StreamNotFound`, `PageReferenceOutOfRange`, `UnexpectedEof`; `IoError` past the file's
-    /// end, and where the source failed.
+    /// An MSF stream by its number, or its first `limit` bytes. It views the stream's own pages
+    /// alone, unless the source failed each time that the directory was read before; then it reads
+    /// that first. A call that is refused changes no later result. `StreamNotFound`,
+    /// `PageReferenceOutOfRange`, `UnexpectedEof`; `IoError` past the file's end, and where the
+    /// source failed.
     fn get(&mut self, alloc: Global, stream_number: u32, limit: Option<usize>) -> Result<Stream<'s>>
         ensures { AnswersFrom S.bytes S.failures (source self.old) (source self.new) (λ s. s) result
             (stream (S.bytes (source self.old)) stream_number limit) };
@@ -414,7 +435,8 @@ impl<'s, S: Source> Model for BigMSF<'s, S> {
 
     ghost view = { λ m. m.source };
 
-    ghost invariant = { λ m. (layout_of (S.bytes m.source) ≡ Ok (layout m.header)) × IsSound (layout m.header)
+    ghost invariant = { λ m. (layout_of (S.bytes m.source) ≡ Ok (layout m.header))
+        × IsSound (layout m.header)
         × IsKept (layout m.header) (S.bytes m.source) m.directory };
 }
 
@@ -481,7 +503,8 @@ fn first_directory<S: Source>(
 /// The header of a source.
 #[tactic(auto, using(crate::proofs::Outside::outside_alone), unfolding(crate::specs::Container::layout_of))]
 fn read_header<S: Source>(source: &mut S, alloc: Global) -> Result<Header>
-    ensures answer { AnswersFrom S.bytes S.failures source.old source.new layout result (layout_of (S.bytes source.old)) }
+    ensures answer { AnswersFrom S.bytes S.failures source.old source.new layout result
+        (layout_of (S.bytes source.old)) }
     ensures sound { IfOk result (λ h. IsSound (layout h)) }
 {
     match read_front(source, alloc) {
@@ -490,14 +513,23 @@ fn read_header<S: Source>(source: &mut S, alloc: Global) -> Result<Header>
     }
 }
 
-/// Opens the MSF container that a source holds: its header and the numbers of its list pages, in the first 4096 bytes.
-/// The directory is read here too, and a fault of it is answered by every `get`; where the source fails in that, the
-/// next `get` tries again. `UnrecognizedFileFormat`, `InvalidPageSize`, `PageReferenceOutOfRange`, `UnexpectedEof`;
-/// `IoError` where the source failed.
+/// Opens the MSF container that a source holds: its header and the numbers of its list pages, in
+/// the first 4096 bytes. The directory is read here too, and a fault of it is returned by every
+/// `get`; where the source fails in that, the next `get` tries again.
+///
+/// # Errors
+/// `UnrecognizedFileFormat`, `InvalidPageSize`, `PageReferenceOutOfRange`, `UnexpectedEof`;
+/// `IoError` where the source failed; `OutOfMemory`.
 #[tactic(auto, using(crate::proofs::Outside::outside_with))]
 pub fn open_msf<'s, S: Source + Drop>(alloc: Global, mut source: S) -> Result<BigMSF<'s, S>>
-    ensures file { IfOk result (λ m. (S.bytes m ≡ S.bytes source) × (S.failures source ≤ S.failures m) × IsOk (layout_of (S.bytes source))) }
-    ensures err { IfErr result (λ e. IsOutside e ((after : S) × (S.bytes after ≡ S.bytes source) × HasRisen (S.failures source) (S.failures after)) ⊎ (layout_of (S.bytes source) ≡ Err (fault_of e))) }
+    ensures file { IfOk result
+        (λ m. (S.bytes m ≡ S.bytes source) × (S.failures source ≤ S.failures m)
+        × IsOk (layout_of (S.bytes source))) }
+    ensures err { IfErr result
+        (λ e. IsOutside e
+        ((after : S) × (S.bytes after ≡ S.bytes source)
+        × HasRisen (S.failures source) (S.failures after))
+        ⊎ (layout_of (S.bytes source) ≡ Err (fault_of e))) }
 {
     match read_header(&mut source, alloc) {
         Ok(header) => match first_directory(&mut source, alloc, &header) {

@@ -1,6 +1,7 @@
 //! Lists of MSF pages, joined into slices of the source.
 
-ghost use Rattle.std.specs.Prelude.{[], ◌≡◌, ◌+◌, ◌*◌, ◌<◌, ◌≤◌, ◌^◌, ◌++◌, length, take, OnOk, OnErr, IsOkUnless};
+ghost use Rattle.std.specs.Prelude.{[], ◌≡◌, ◌+◌, ◌*◌, ◌<◌, ◌≤◌, ◌^◌, ◌++◌, length, take, OnOk};
+ghost use Rattle.std.specs.Prelude.{OnErr, IsOkUnless};
 ghost use Rattle.pdb_container.specs.Pages.{page, AreApart};
 ghost use Rattle.pdb_container.specs.Places.{slice_places, places_of};
 
@@ -26,7 +27,8 @@ impl Model for PageList {
 
     ghost view = { λ p. record { page_size = p.page_size; places = places_of p.slices.items } };
 
-    ghost invariant = { λ p. (0 < p.page_size) × (p.page_size ≤ 0x800000) × (p.len ≡ length (places_of p.slices.items)) × AreApart p.slices.items };
+    ghost invariant = { λ p. (0 < p.page_size) × (p.page_size ≤ 0x800000)
+        × (p.len ≡ length (places_of p.slices.items)) × AreApart p.slices.items };
 }
 
 impl PageList {
@@ -49,15 +51,19 @@ impl PageList {
         self.len
     }
 
-    /// One more page by its number, to a list of fewer than 2^62 bytes. Adjacent pages join into one slice.
+    /// One more page by its number, to a list of fewer than 2^62 bytes. Adjacent pages join into
+    /// one slice.
     ///
     /// # Errors
     /// `OutOfMemory` alone, with the list as before.
     #[tactic(auto, using(crate::proofs::Slices::length_pushed))]
     pub fn push(&mut self, number: u32) -> Result<()>
         requires { length self.old.places < 2 ^ 62 }
-        ensures ok { OnOk result (self.new ≡ record self.old { places = self.old.places ++ page self.old.page_size number }) }
-        ensures len { OnOk result (length self.new.places ≡ length self.old.places + self.old.page_size) }
+        ensures ok { OnOk result
+            (self.new
+            ≡ record self.old { places = self.old.places ++ page self.old.page_size number }) }
+        ensures len { OnOk result
+            (length self.new.places ≡ length self.old.places + self.old.page_size) }
         ensures err { OnErr result (self.new ≡ self.old) }
         ensures memory { IsOkUnless result Error.OutOfMemory }
     {
@@ -82,8 +88,8 @@ impl PageList {
         self.len = self.len.min(bytes);
     }
 
-    /// The slices whose bytes, joined end to end, are those of the pages. None is empty, and none ends where the next
-    /// begins.
+    /// The slices whose bytes, joined end to end, are those of the pages. None is empty, and none
+    /// ends where the next begins.
     pub fn source_slices(&self) -> &[SourceSlice]
         ensures joined { places_of result.now ≡ self.now.places }
         ensures apart { AreApart result.now }
@@ -96,7 +102,8 @@ impl PageList {
 fn add_slice(slices: &mut Vec<SourceSlice>, slice: SourceSlice) -> Result<()>
     requires few { length (places_of slices.old.items) + slice.size < 2 ^ 64 }
     requires full { 0 < slice.size }
-    ensures ok { OnOk result (places_of slices.new.items ≡ places_of slices.old.items ++ slice_places slice) }
+    ensures ok { OnOk result
+        (places_of slices.new.items ≡ places_of slices.old.items ++ slice_places slice) }
     ensures apart { AreApart slices.old.items → AreApart slices.new.items }
     ensures err { OnErr result (slices.new.items ≡ slices.old.items) }
     ensures memory { IsOkUnless result Error.OutOfMemory }

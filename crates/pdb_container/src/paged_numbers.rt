@@ -66,7 +66,10 @@ impl PagedNumbers {
         word_at(self.bytes.as_slice(), place * page_size + at % page_size)
     }
 
-    /// A copy of at most `count` numbers from an index on. `OutOfMemory` alone.
+    /// A copy of at most `count` numbers from an index on.
+    ///
+    /// # Errors
+    /// `OutOfMemory`, and no other.
     #[tactic(auto, using(crate::proofs::PagedNumbers::taken))]
     pub fn copied(&self, alloc: Global, from: usize, count: usize) -> Result<Vec<u32>>
         ensures { Gives (λ v. v.items) ⊥ result (Ok (take count (drop from self.now))) }

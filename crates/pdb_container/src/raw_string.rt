@@ -12,8 +12,8 @@ use std::alloc::Global;
 use std::borrow::CowStr;
 use std::fmt;
 
-/// A raw string: a text whose encoding isn't known, mostly UTF-8, as the name of a symbol, a type, a module or a file.
-/// It prints as UTF-8 with U+FFFD for what is no character.
+/// A raw string: a text whose encoding isn't known, mostly UTF-8, as the name of a symbol, a type,
+/// a module or a file. It prints as UTF-8 with U+FFFD for what is no character.
 #[derive(Clone, Copy, PartialEq, Eq, Hash)]
 pub struct RawString<'b>(&'b [u8]);
 
@@ -55,13 +55,15 @@ impl<'b> RawString<'b> {
         self.0.is_empty()
     }
 
-    /// The text, with U+FFFD for what is no character; borrowed where the bytes are UTF-8, and then without memory.
+    /// The text, with U+FFFD for what is no character; borrowed where the bytes are UTF-8, and then
+    /// without memory.
     ///
     /// # Errors
     /// `OutOfMemory` alone.
     pub fn to_string(&self, alloc: Global) -> Result<CowStr<'b>>
         ensures text { IfOk result (λ text. cow_str_bytes text ≡ utf8_lossy (raw_bytes self.now)) }
-        ensures borrowed { IsUtf8 (raw_bytes self.now) → IsOk result × IfOk result (λ text. IsBorrowedStr text) }
+        ensures borrowed { IsUtf8 (raw_bytes self.now)
+            → IsOk result × IfOk result (λ text. IsBorrowedStr text) }
         ensures memory { IsOkUnless result Error.OutOfMemory }
     {
         Ok(self.0.to_str_lossy(alloc)?)

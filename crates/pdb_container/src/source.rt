@@ -1,6 +1,7 @@
 //! Sources: where a container's bytes come from.
 
-ghost use Rattle.std.specs.Prelude.{◌≡◌, ℕ, ◌+◌, ◌≤◌, ◌-◌, ◌^◌, List, length, min, is_ok, IsOk, IfSome, IfOk, IfErr, MatchOption, ◌⊎◌};
+ghost use Rattle.std.specs.Prelude.{◌≡◌, ℕ, ◌+◌, ◌≤◌, ◌-◌, ◌^◌, List, length, min, is_ok, IsOk};
+ghost use Rattle.std.specs.Prelude.{IfSome, IfOk, IfErr, MatchOption, ◌⊎◌};
 ghost use Rattle.std.specs.declared.io.ErrorKind.TheVariants.{UnexpectedEof};
 ghost use Rattle.pdb_container.specs.Fault.{error_of, fault_of, IoError, HasRisen, IsOutside};
 ghost use Rattle.pdb_container.specs.Places.{slice_places, places_of, bytes_at};
@@ -36,6 +37,9 @@ impl Model for ReadView {
 
 impl ReadView {
     /// A view of these bytes.
+    ///
+    /// # Errors
+    /// `AllocError` when memory runs out.
     pub fn new(bytes: Vec<u8>) -> Result<ReadView, AllocError>
         ensures { IfOk result (λ v. v ≡ bytes.items) }
     {
@@ -69,12 +73,14 @@ pub trait Source {
     /// The bytes at the slices, joined.
     ///
     /// # Errors
-    /// `UnexpectedEof` past the end, and only there. Any other failure but out of memory raises the count of failures.
+    /// `UnexpectedEof` past the end, and only there. Any other failure but out of memory raises the
+    /// count of failures.
     fn view(&mut self, alloc: Global, slices: &[SourceSlice]) -> io::Result<ReadView>
         ensures same { bytes self.new ≡ bytes self.old }
         ensures counts { failures self.old ≤ failures self.new }
         ensures ok { IfOk result (λ v. bytes_at (bytes self.old) (places_of slices.now) ≡ Ok v) }
-        ensures err { IfErr result (λ e. IsOutside (error_of e) (HasRisen (failures self.old) (failures self.new))
+        ensures err { IfErr result
+            (λ e. IsOutside (error_of e) (HasRisen (failures self.old) (failures self.new))
             ⊎ (bytes_at (bytes self.old) (places_of slices.now) ≡ Err (fault_of (error_of e)))) };
 
     /// How often a view failed otherwise than by memory or past the end; at `u64::MAX` it stays.
@@ -133,7 +139,9 @@ fn only_slice(slices: &[SourceSlice]) -> Option<SourceSlice>
 #[tactic(auto, using(crate::proofs::Bytes::bytes_at_none, crate::proofs::Bytes::bytes_at_range, crate::proofs::Bytes::ok_fits, crate::proofs::Bytes::not_ok_ends))]
 fn share_slice(file: &Bytes, slice: SourceSlice) -> io::Result<ReadView>
     ensures ok { IfOk result (λ v. bytes_at file.now (slice_places slice) ≡ Ok v) }
-    ensures err { IfErr result (λ e. (error_of e ≡ OutOfMemory) ⊎ (bytes_at file.now (slice_places slice) ≡ Err (fault_of (error_of e)))) }
+    ensures err { IfErr result
+        (λ e. (error_of e ≡ OutOfMemory)
+        ⊎ (bytes_at file.now (slice_places slice) ≡ Err (fault_of (error_of e)))) }
 {
     if !is_within(file.as_slice(), slice) {
         return Err(ErrorKind::UnexpectedEof.into());
@@ -146,10 +154,13 @@ fn share_slice(file: &Bytes, slice: SourceSlice) -> io::Result<ReadView>
     Ok(ReadView::shared(part))
 }
 
-/// The bytes at the slices, joined, copied. Memory is taken only for bytes that are there, once and for all of them.
+/// The bytes at the slices, joined, copied. Memory is taken only for bytes that are there, once and
+/// for all of them.
 fn copy_slices(alloc: Global, file: &[u8], slices: &[SourceSlice]) -> io::Result<ReadView>
     ensures ok { IfOk result (λ v. bytes_at file.now (places_of slices.now) ≡ Ok v) }
-    ensures err { IfErr result (λ e. (error_of e ≡ OutOfMemory) ⊎ (bytes_at file.now (places_of slices.now) ≡ Err (fault_of (error_of e)))) }
+    ensures err { IfErr result
+        (λ e. (error_of e ≡ OutOfMemory)
+        ⊎ (bytes_at file.now (places_of slices.now) ≡ Err (fault_of (error_of e)))) }
 {
     let Some(size) = size_within(file, slices) else {
         return Err(ErrorKind::UnexpectedEof.into());
@@ -162,10 +173,12 @@ fn copy_slices(alloc: Global, file: &[u8], slices: &[SourceSlice]) -> io::Result
     Ok(view)
 }
 
-/// How many bytes the slices have, at most `usize::MAX`; `None` where one doesn't lie within the file.
+/// How many bytes the slices have, at most `usize::MAX`; `None` where one doesn't lie within the
+/// file.
 #[tactic(auto, using(crate::proofs::Bytes::within_more, crate::proofs::Bytes::within_fail, crate::proofs::Bytes::within_done, crate::proofs::Slices::places_len_more))]
 pub fn size_within(file: &[u8], slices: &[SourceSlice]) -> Option<usize>
-    ensures within { MatchOption result (bytes_at file.now (places_of slices.now) ≡ Err (IoError UnexpectedEof))
+    ensures within { MatchOption result
+        (bytes_at file.now (places_of slices.now) ≡ Err (IoError UnexpectedEof))
         (λ _. IsOk (bytes_at file.now (places_of slices.now))) }
     ensures size { IfSome result (λ size. size ≡ min (length (places_of slices.now)) (2 ^ 64 - 1)) }
 {

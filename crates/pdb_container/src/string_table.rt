@@ -1,4 +1,5 @@
-//! The string table (`/names`): the names that lines and modules refer to. Its layout is microsoft-pdb's nmt.h.
+//! The string table (`/names`): the names that lines and modules refer to. Its layout is
+//! microsoft-pdb's nmt.h.
 
 ghost use Rattle.std.specs.Prelude.{◌≡◌, ◌<◌, ◌^◌, ◌≤◌, ◌==◌, ◌&&◌, ◌||◌, length, take, drop, IfOk};
 ghost use Rattle.std.specs.Cow.{cow_str_bytes};
@@ -21,7 +22,8 @@ const SIGNATURE: u32 = 0xeffe_effe;
 /// How many bytes lie before the names.
 const HEADER_SIZE: usize = 12;
 
-/// An offset into the string table (`/names`): where a name begins among the table's names, in bytes.
+/// An offset into the string table (`/names`): where a name begins among the table's names, in
+/// bytes.
 #[derive(Clone, Copy, Debug, PartialEq, Eq, PartialOrd, Ord, Hash)]
 pub struct StringRef(pub u32);
 
@@ -43,7 +45,10 @@ impl<'s> Model for StringTable<'s> {
 }
 
 impl<'s> StringTable<'s> {
-    /// The table in a stream. `UnexpectedEof`; `UnimplementedFeature` for another signature or version than 1 and 2.
+    /// The table in a stream.
+    ///
+    /// # Errors
+    /// `UnexpectedEof`; `UnimplementedFeature` for another signature or version than 1 and 2.
     pub fn parse(stream: Stream<'s>) -> Result<StringTable<'s>>
         ensures { Parses (λ t. t) result (names_of stream.entry) }
     {
@@ -53,7 +58,10 @@ impl<'s> StringTable<'s> {
         }
     }
 
-    /// The name at a place among the names; `UnexpectedEof` outside them, and where no NUL among them ends it.
+    /// The name at a place among the names.
+    ///
+    /// # Errors
+    /// `UnexpectedEof` outside them, and where no NUL among them ends it.
     #[tactic(auto, unfolding(crate::specs::StringTable::name_in))]
     pub fn get(&self, offset: StringRef) -> Result<RawString<'_>>
         ensures { Parses raw_bytes result (name_in self.now offset.0) }
@@ -75,15 +83,20 @@ impl<'s> StringTable<'s> {
 }
 
 impl StringRef {
-    /// The name in a table, as [`StringTable::get`].
+    /// The name in a table.
+    ///
+    /// # Errors
+    /// Those of [`StringTable::get`].
     pub fn to_raw_string<'t>(self, strings: &'t StringTable<'_>) -> Result<RawString<'t>>
         ensures { Parses raw_bytes result (name_in strings.now self.0) }
     {
         strings.get(self)
     }
 
-    /// The name in a table as text, with U+FFFD for what is no character. `UnexpectedEof` as [`StringTable::get`], and
-    /// `OutOfMemory`.
+    /// The name in a table as text, with U+FFFD for what is no character.
+    ///
+    /// # Errors
+    /// Those of [`StringTable::get`], and `OutOfMemory`.
     pub fn to_string_lossy<'t>(
         self,
         alloc: Global,

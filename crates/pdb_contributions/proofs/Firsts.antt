@@ -9,7 +9,8 @@ use Rattle.std.specs.Ordering.{is_lt, is_gt, is_eq, ordering_reverse, ordering_t
 use Rattle.std.specs.List.{dedup, dedup_from}
 use Rattle.std.proofs.lemmas.Bool.{cases_Bool}
 use Rattle.std.proofs.lemmas.Cmp.{then_total, tied_back, alike_right}
-use Rattle.pdb_contributions.proofs.Stable.{inserted, in_order, Low, Up, up_in_order}
+use Rattle.pdb_addresses.specs.InOrder.{inserted, in_order}
+use Rattle.pdb_addresses.proofs.Stable.{Low, Up, up_in_order}
 
 -- what an answer is
 data Answer (r : Ordering) : Type 0 where

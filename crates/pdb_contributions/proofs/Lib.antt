@@ -8,4 +8,3 @@ pub mod Order
 pub mod PieceSteps
 pub mod PublicOrder
 pub mod PublicSteps
-pub mod Stable

@@ -13,7 +13,7 @@ use Rattle.pdb_addresses.specs.declared.internal_section_offset.PdbInternalSecti
   PdbInternalSectionOffset,
 }
 use Rattle.pdb_contributions.specs.Publics.{PublicFunction, is_before, publics_among, StandsNamed}
-use Rattle.pdb_contributions.proofs.Stable.{gt_turned}
+use Rattle.pdb_addresses.proofs.Stable.{gt_turned}
 use Rattle.pdb_contributions.proofs.Firsts.{entered, firsts}
 use Rattle.pdb_contributions.proofs.PublicOrder.{place_cmp, name_cmp, place_total, name_total}
 use Rattle.pdb_contributions.proofs.PublicOrder.{before_is, among_is}

@@ -10,7 +10,7 @@ use Rattle.std.specs.List.Sorted.{IsStable}
 use Rattle.std.proofs.lemmas.Bool.{cases_Bool}
 use Rattle.std.proofs.lemmas.Cmp.{nat_cmp_total, on_total, then_total}
 use Rattle.pdb_contributions.specs.Publics.{PublicFunction, is_before, with_entry, publics_among}
-use Rattle.pdb_contributions.proofs.Stable.{is_in_order}
+use Rattle.pdb_addresses.proofs.Stable.{is_in_order}
 use Rattle.pdb_contributions.proofs.Firsts.{same, entered, firsts, firsts_are}
 
 -- by the section's number, and then by the offset

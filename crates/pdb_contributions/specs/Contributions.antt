@@ -6,13 +6,14 @@ use Rattle.std.specs.Prelude.{drop, nat_lt, nat_le, ◌==◌, Option, None, Some
 use Rattle.std.specs.Prelude.{if◌then◌else◌}
 use Rattle.std.specs.List.{filter, find}
 use Rattle.std.specs.declared.cmp.Ordering.{Ordering}
-use Rattle.std.specs.Ordering.{nat_cmp, is_gt, ordering_then}
+use Rattle.std.specs.Ordering.{nat_cmp, ordering_then}
 use Rattle.pdb_container.specs.Fault.{◌>>=◌}
 use Rattle.pdb_container.specs.Listing.{Listing, whole}
 use Rattle.pdb_addresses.specs.declared.sections.ImageSectionHeader.{ImageSectionHeader}
 use Rattle.pdb_addresses.specs.declared.internal_section_offset.PdbInternalSectionOffset.{
   PdbInternalSectionOffset,
 }
+use Rattle.pdb_addresses.specs.InOrder.{in_order}
 use Rattle.pdb_addresses.specs.Sections.{section_at, may_execute}
 use Rattle.pdb_symbols_modules.specs.declared.contributions.DBISectionContribution.{
   DBISectionContribution,
@@ -106,19 +107,6 @@ contribution_cmp a b =
     (ordering_then (nat_cmp a.start_offset b.start_offset)
     (ordering_then (nat_cmp a.end_offset b.end_offset) (nat_cmp a.module_index b.module_index)))
 
--- a contribution among others in order
-abbrev pub inserted : ModuleSectionContribution → List ModuleSectionContribution
-    → List ModuleSectionContribution
-inserted c [] = c ∷ []
-inserted c (other ∷ others) =
-    if is_gt (contribution_cmp c other) then other ∷ inserted c others
-    else c ∷ other ∷ others
-
--- contributions by section, start, end and module
-abbrev pub in_order : List ModuleSectionContribution → List ModuleSectionContribution
-in_order [] = []
-in_order (c ∷ others) = inserted c (in_order others)
-
 -- one begins before the end of the one before it, in one section
 abbrev pub overlaps : ModuleSectionContribution → ModuleSectionContribution → Bool
 overlaps a b = (b.section_index == a.section_index) && nat_lt b.start_offset a.end_offset
@@ -163,8 +151,11 @@ merged_by sections entries = do
 -- what modules hold, in order and without overlaps
 abbrev pub in_order_apart : Held → Result Held Fault
 in_order_apart held = do
-  checked ← apart (in_order held.contributions)
-  Ok record { contributions = in_order held.contributions; later_starts = held.later_starts }
+  checked ← apart (in_order contribution_cmp held.contributions)
+  Ok record {
+    contributions = in_order contribution_cmp held.contributions;
+    later_starts = held.later_starts;
+  }
 
 -- What modules hold by the entries of a list, and by its end; an overlap is reported after the
 -- faults of these.

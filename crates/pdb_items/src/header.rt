@@ -18,8 +18,10 @@ pub struct Header {
     pub maximum_index: u32,
 }
 
-/// The header of a TPI or IPI stream; an empty stream is a table without indices. `UnexpectedEof`,
-/// `InvalidTypeInformationHeader`.
+/// The header of a TPI or IPI stream; an empty stream is a table without indices.
+///
+/// # Errors
+/// `UnexpectedEof`, `InvalidTypeInformationHeader`.
 #[tactic(auto, unfolding(crate::specs::Items::item_header_of))]
 pub fn parse_header(bytes: &[u8]) -> Result<Header>
     ensures header { Parses (λ h. h) result (item_header_of bytes.now) }

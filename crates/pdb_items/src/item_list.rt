@@ -24,8 +24,11 @@ fn parse_piece<'b>(buffer: &mut ParseBuffer<'b>, lengths: &mut u32) -> Result<&'
     buffer.take(usize::from(size))
 }
 
-/// The item at the buffer's place, which would get this index; `None` at the end. At an end the
+/// The item at the buffer's place, which would get this index; `None` at the end, and then the
 /// place stays. Counts a length that it reads.
+///
+/// # Errors
+/// The item's fault, `InvalidTypeInformationHeader` where no index is left; the place stays.
 #[tactic(auto, using(crate::proofs::Pieces::items_end, crate::proofs::Pieces::items_full, crate::proofs::Pieces::items_next, crate::proofs::Pieces::items_fail, crate::proofs::Pieces::piece_takes))]
 pub fn next_piece<'b>(
     buffer: &mut ParseBuffer<'b>,
@@ -52,8 +55,11 @@ pub fn next_piece<'b>(
     }
 }
 
-/// The item `skip` items after the first one, whose index is `first`. Counts the lengths that it
-/// reads, at most eight.
+/// The item `skip` items after the first one, whose index is `first`; `None` past the end. Counts
+/// the lengths that it reads, at most eight.
+///
+/// # Errors
+/// The fault of the first item on the way that has one.
 #[tactic(auto, using(crate::proofs::Walks::walk_start, crate::proofs::Walks::walk_more, crate::proofs::Walks::walk_end, crate::proofs::Walks::walk_fault, crate::proofs::Walks::walk_last))]
 pub fn walk<'b>(
     bytes: &'b [u8],

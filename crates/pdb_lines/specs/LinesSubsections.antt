@@ -1,11 +1,14 @@
 -- Lines subsections (DEBUG_S_LINES): their headers, and their order.
 -- The layout is that of CV_DebugSLinesHeader_t in microsoft-pdb's cvinfo.h.
-use Rattle.std.specs.Prelude.{ℕ, ◌+◌, ◌*◌, ◌^◌, ◌%◌, Bool, List, [], ◌∷◌, nat_le, ◌==◌}
+use Rattle.std.specs.Prelude.{ℕ, ◌+◌, ◌*◌, ◌^◌, ◌%◌, Bool, List, [], ◌∷◌, ◌==◌}
 use Rattle.std.specs.Prelude.{if◌then◌else◌, Option, Some, None, Result, Ok, Err}
+use Rattle.std.specs.declared.cmp.Ordering.{Ordering}
 use Rattle.std.specs.Int.{w16, w32}
+use Rattle.std.specs.Ordering.{nat_cmp}
 use Rattle.pdb_container.specs.Fault.{Fault, ◌>>=◌}
 use Rattle.pdb_container.specs.Fields.{number_at}
 use Rattle.pdb_container.specs.Listing.{Listing}
+use Rattle.pdb_addresses.specs.InOrder.{in_order}
 use Rattle.pdb_subsections.specs.Subsections.{lines_kind, files_kind, Subsection, subsections_of}
 use Rattle.pdb_subsections.specs.Subsections.{first_of}
 
@@ -57,21 +60,14 @@ place_rank section offset = section * 2 ^ 32 + offset
 abbrev pub rank : LinesSubsection → ℕ
 rank r = place_rank r.section r.offset
 
--- a subsection among others in order: before those that begin where it does
-abbrev pub inserted : LinesSubsection → List LinesSubsection → List LinesSubsection
-inserted r [] = r ∷ []
-inserted r (other ∷ others) =
-    if nat_le (rank r) (rank other) then r ∷ other ∷ others
-    else other ∷ inserted r others
+-- by section and offset
+abbrev pub place_cmp : LinesSubsection → LinesSubsection → Ordering
+place_cmp a b = nat_cmp (rank a) (rank b)
 
--- subsections by section and offset; those that begin at one place stay in their order
-abbrev pub in_order : List LinesSubsection → List LinesSubsection
-in_order [] = []
-in_order (r ∷ subsections) = inserted r (in_order subsections)
-
--- the subsections, by section and offset
+-- the subsections by section and offset; those that begin at one place stay in their order
 abbrev pub sorted_subsections_of : Listing Subsection → Result (List LinesSubsection) Fault
-sorted_subsections_of l = lines_subsections_of l >>= λ subsections. Ok (in_order subsections)
+sorted_subsections_of l = lines_subsections_of l
+    >>= λ subsections. Ok (in_order place_cmp subsections)
 
 -- the subsections of a module's line data in order, and the list of its files
 pub record Program : Type 0 where

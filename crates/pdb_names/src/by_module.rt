@@ -49,7 +49,10 @@ impl<V: Drop> ByModule<V> {
     }
 
     /// Caches a value under a number in the module at `module_index`, in place of any that was
-    /// cached there. When memory runs out, what is cached stays as it was.
+    /// cached there.
+    ///
+    /// # Errors
+    /// `AllocError` when memory runs out. What is cached stays as it was then.
     pub fn insert(
         &mut self,
         alloc: Global,

@@ -72,8 +72,10 @@ impl<V: Drop> ByNumber<V> {
     }
 
     /// Caches a value at a number in the module at `module_index`, in place of any that was cached
-    /// there, and returns how many places were made for it. When memory runs out, what is cached
-    /// stays as it was.
+    /// there, and returns how many places were made for it.
+    ///
+    /// # Errors
+    /// `AllocError` when memory runs out. What is cached stays as it was then.
     pub fn insert(
         &mut self,
         alloc: Global,

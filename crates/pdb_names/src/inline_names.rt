@@ -22,7 +22,8 @@ pub struct InlineNames {
     by_id: ByModule<Option<ArcStr>>,
     /// About how many bytes they take.
     cached: u64,
-    /// The most that one of them took: it may come on top, or two long names would forget each other.
+    /// The most that one of them took: it may come on top, or two long names would forget each
+    /// other.
     greatest: u64,
 }
 
@@ -51,8 +52,10 @@ impl InlineNames {
 
     /// The name of an inlined function by its id in the IPI, as the module at `module_index` names
     /// it; `None` where the id has no text. It is made and cached, unless it was cached before.
-    /// Where the names take more memory than they may, they are forgotten first. Nothing is cached
-    /// when memory runs out.
+    /// Where the names take more memory than they may, they are forgotten first.
+    ///
+    /// # Errors
+    /// `AllocError` when memory runs out. Nothing is cached then.
     pub fn name<P: ModuleProvider>(
         &mut self,
         alloc: Global,

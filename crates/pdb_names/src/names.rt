@@ -41,6 +41,9 @@ fn raw_text<'n>(alloc: Global, name: &RawString<'n>) -> std::result::Result<CowS
 
 /// The name of an inlined function by its id in the IPI, as the module at `module_index` names it;
 /// `None` where the id has no text.
+///
+/// # Errors
+/// `AllocError` when memory runs out.
 pub fn inlinee_name<P: ModuleProvider>(
     alloc: Global,
     formatter: &mut TypeFormatter<'_, '_, P>,
@@ -56,6 +59,9 @@ pub fn inlinee_name<P: ModuleProvider>(
 }
 
 /// The name of a procedure by its type; `None` where it has no text.
+///
+/// # Errors
+/// `AllocError` when memory runs out.
 pub fn typed_name<P: ModuleProvider>(
     alloc: Global,
     formatter: &mut TypeFormatter<'_, '_, P>,
@@ -112,6 +118,9 @@ pub fn shared_raw_name(
 }
 
 /// A name that may be missing, copied to be shared: the copy takes no more room than it needs.
+///
+/// # Errors
+/// `AllocError` when memory runs out.
 pub fn shared_name(
     alloc: Global,
     name: &Option<String>,
@@ -140,6 +149,9 @@ pub fn name_size(name: &Option<ArcStr>, place: usize) -> u64 {
 }
 
 /// Shares a name once more, if there is one.
+///
+/// # Errors
+/// `AllocError` when memory runs out.
 pub fn share_name(name: &Option<ArcStr>) -> std::result::Result<Option<ArcStr>, AllocError>
     ensures { IfOk result (λ n. option_map arc_str_bytes n ≡ option_map arc_str_bytes name.now) }
 {

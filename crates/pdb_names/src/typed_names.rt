@@ -72,9 +72,11 @@ impl<'a> TypedNames<'a> {
     }
 
     /// The name of a procedure by its type in the module at `module_index`; `None` where it has no
-    /// text. It is made and cached at the procedure's number, unless it was cached before. Where the
-    /// names take more memory than they may, they are forgotten first. Nothing is cached when memory
-    /// runs out.
+    /// text. It is made and cached at the procedure's number, unless it was cached before. Where
+    /// the names take more memory than they may, they are forgotten first.
+    ///
+    /// # Errors
+    /// `AllocError` when memory runs out. Nothing is cached then.
     pub fn name<P: ModuleProvider>(
         &mut self,
         alloc: Global,

@@ -1,4 +1,4 @@
--- What ends a text, and when a call that makes a part of one may answer it.
+-- What ends a text, and when a call that makes a part of one may return it.
 use Rattle.std.specs.Prelude.{◌≡◌, Result, Ok, Err}
 use Rattle.pdb_container.specs.declared.error.Error.TheVariants as causes
 use Rattle.pdb_resolving.specs.declared.error.Error.{Error}
@@ -28,7 +28,7 @@ abbrev pub of_table : {A : Type 0} → Table → Result A Fault → Result A Cau
 of_table table (Ok x) = Ok x
 of_table table (Err fault) = Err (ByTable table fault)
 
--- the same, whatever table a fault is of
+-- what was read, whatever table a fault is of
 abbrev pub of_any : {A : Type 0} → Result A Cause → Result A Fault
 of_any (Ok x) = Ok x
 of_any (Err cause) = Err (fault_in cause)
@@ -47,7 +47,7 @@ IsOfFault (errors.PdbError causes.OutOfMemory) = ⊥
 IsOfFault (errors.FormatError e) = ⊥
 IsOfFault e = Unit {0}
 
--- A call is ended: memory was short, or what is read has that cause. Want of memory is no table's.
+-- A call is ended: memory was short, or what is read has that cause. Out of memory is no table's.
 abbrev pub Ends : {Y : Type 0} → Stop → Result Y Cause → Type 0
 Ends (stops.ByError errors.OutOfMemory) read = Unit {0}
 Ends (stops.ByError (errors.PdbError causes.OutOfMemory)) read = ⊥

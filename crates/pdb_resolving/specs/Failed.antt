@@ -5,7 +5,7 @@ use Rattle.std.specs.List.{list_any}
 use Rattle.std.specs.BTreeMap.{is_at}
 use Rattle.std.specs.BTreeSet.{insert_key}
 
--- whether the part of a number stands as failed
+-- whether the part with that number stands as failed
 abbrev pub stands : List ℕ → ℕ → Bool
 stands failed number = list_any (is_at (nat_cmp number)) failed
 

@@ -1,12 +1,18 @@
--- The parts of modules that stand as failed since they were asked for.
+-- The parts of modules that could not be read when they were asked for: they stand as failed.
 use Rattle.std.specs.Prelude.{ℕ, ◌+◌, ◌*◌, ◌^◌, ◌<◌, Bool, List, []}
-use Rattle.pdb_addresses.specs.declared.internal_section_offset.PdbInternalSectionOffset.{PdbInternalSectionOffset}
+use Rattle.pdb_addresses.specs.declared.internal_section_offset.PdbInternalSectionOffset.{
+  PdbInternalSectionOffset,
+}
 use Rattle.pdb_resolving.specs.Failed.{stands, with_part}
 pub use Rattle.pdb_resolving.specs.declared.failures.Part.{Part}
-pub use Rattle.pdb_resolving.specs.declared.failures.Part.TheVariants.{ExtendedModule, ProcedureLines, ProcedureInlineRanges}
+pub use Rattle.pdb_resolving.specs.declared.failures.Part.TheVariants.{
+  ExtendedModule,
+  ProcedureLines,
+  ProcedureInlineRanges,
+}
 
--- the parts that stand as failed: line programs with inlinees by the numbers of their modules, rows of functions and inline sites
--- of procedures by the numbers of their starts
+-- the parts that stand as failed: line programs with inlinees by the numbers of their modules, rows
+-- of functions and inline sites of procedures by the numbers of their starts
 pub record Failures : Type 0 where
   pub modules : List ℕ
   pub lines : List ℕ
@@ -38,6 +44,18 @@ has_failed f (ProcedureInlineRanges m start) = stands f.inline_ranges (number_of
 
 -- what stands as failed with one more part
 abbrev pub with_failed : Failures → Part → Failures
-with_failed f (ExtendedModule m) = record { modules = with_part f.modules m; lines = f.lines; inline_ranges = f.inline_ranges }
-with_failed f (ProcedureLines m start) = record { modules = f.modules; lines = with_part f.lines (number_of m start); inline_ranges = f.inline_ranges }
-with_failed f (ProcedureInlineRanges m start) = record { modules = f.modules; lines = f.lines; inline_ranges = with_part f.inline_ranges (number_of m start) }
+with_failed f (ExtendedModule m) = record {
+  modules = with_part f.modules m;
+  lines = f.lines;
+  inline_ranges = f.inline_ranges;
+}
+with_failed f (ProcedureLines m start) = record {
+  modules = f.modules;
+  lines = with_part f.lines (number_of m start);
+  inline_ranges = f.inline_ranges;
+}
+with_failed f (ProcedureInlineRanges m start) = record {
+  modules = f.modules;
+  lines = f.lines;
+  inline_ranges = with_part f.inline_ranges (number_of m start);
+}

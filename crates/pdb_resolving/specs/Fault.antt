@@ -1,4 +1,5 @@
--- Faults of answers about types, functions and addresses: what an error counts as, and when a call may answer one.
+-- Faults of answers about types, functions and addresses: what an error counts as, and when a call
+-- may return one.
 use Rattle.std.specs.Prelude.{◌≡◌, ℕ, List, Result, Ok, Err}
 use Rattle.std.specs.String.{string_bytes}
 use Rattle.pdb_container.specs.declared.error.Error as container
@@ -7,8 +8,8 @@ use Rattle.pdb_container.specs.Fault as container_fault
 use Rattle.pdb_resolving.specs.declared.error.Error.{Error}
 use Rattle.pdb_resolving.specs.declared.error.Error.TheVariants as errors
 
--- a fault of a definition: one for each variant of the crate's error but out of memory and a writer that refused a text, which
--- are in no definition
+-- a fault of a definition: one for each variant of the crate's error but out of memory and a writer
+-- that refused a text, which are in no definition
 pub data Fault : Type 0 where
   PdbError : container_fault.Fault → Fault
   ArgumentTypeNotArgumentList : Fault
@@ -33,7 +34,8 @@ abbrev pub error_of : container.Error → Error
 error_of causes.OutOfMemory = errors.OutOfMemory
 error_of e = errors.PdbError e
 
--- what fault an error is; out of memory and a writer's refusal are none, and its values there stand in no promise
+-- what fault an error is; out of memory and a writer's refusal are none, and its values there stand
+-- in no promise
 abbrev pub fault_of : Error → Fault
 fault_of (errors.FormatError e) = CantResolveCrossModuleRefWithoutStringTable
 fault_of (errors.PdbError e) = PdbError (container_fault.fault_of e)
@@ -47,7 +49,8 @@ fault_of errors.ProcedureInlineRangesUnsuccessful = ProcedureInlineRangesUnsucce
 fault_of errors.ExtendedModuleInfoUnsuccessful = ExtendedModuleInfoUnsuccessful
 fault_of errors.ModuleImportsUnsuccessful = ModuleImportsUnsuccessful
 fault_of errors.ModuleExportsUnsuccessful = ModuleExportsUnsuccessful
-fault_of errors.CantResolveCrossModuleRefWithoutStringTable = CantResolveCrossModuleRefWithoutStringTable
+fault_of errors.CantResolveCrossModuleRefWithoutStringTable =
+    CantResolveCrossModuleRefWithoutStringTable
 fault_of (errors.ModuleNameNotFound name) = ModuleNameNotFound (string_bytes name)
 fault_of (errors.LocalIndexNotInExports a) = LocalIndexNotInExports a
 fault_of (errors.OutOfRangeModuleIndex a) = OutOfRangeModuleIndex a
@@ -60,7 +63,8 @@ abbrev pub lifted : {A : Type 0} → Result A container_fault.Fault → Result A
 lifted (Ok x) = Ok x
 lifted (Err e) = Err (PdbError e)
 
--- A call fails: memory was short, or reading has that fault. Want of memory never comes as the container's, and no writer is asked.
+-- A call fails: memory was short, or reading has that fault. Out of memory never comes as the
+-- container's, and no writer is asked.
 abbrev pub Fails : {Y : Type 0} → Error → Result Y Fault → Type 0
 Fails errors.OutOfMemory read = Unit {0}
 Fails (errors.PdbError causes.OutOfMemory) read = ⊥
@@ -72,7 +76,8 @@ abbrev pub Answers : {X Y : Type 0} → (X → Y) → Result X Error → Result 
 Answers view (Ok x) read = read ≡ Ok (view x)
 Answers view (Err e) read = Fails e read
 
--- a fault that what gives modules may answer: never one that could be taken for a type's own, nor a failed read
+-- a fault that what gives modules may return: never one that could be taken for a type's own, nor a
+-- failed read
 abbrev pub IsOfModules : container_fault.Fault → Type 0
 IsOfModules (container_fault.TypeNotFound index) = ⊥
 IsOfModules (container_fault.UnimplementedTypeKind leaf) = ⊥

@@ -1,4 +1,5 @@
--- What is kept of the modules among which indices are resolved: the tables that were read, and the numbers of modules by their names.
+-- What is cached of the modules among which indices are resolved: the tables that were read, and
+-- the indices of modules by their names.
 use Rattle.std.specs.Prelude.{◌≡◌, ℕ, ◌≤◌, List, Some, Result, Ok, Err, String, string_bytes}
 use Rattle.std.specs.declared.alloc.Global.{Global}
 use Rattle.std.specs.BTreeMap.{BTreeMap, get, get_by_text}
@@ -16,15 +17,18 @@ use Rattle.pdb_resolving.specs.declared.module_names.ModuleNames.{ModuleNames}
 use Rattle.pdb_resolving.specs.declared.named_modules.MissingName.{MissingName}
 use Rattle.pdb_resolving.specs.declared.named_modules.NamedModules.{NamedModules}
 use Rattle.pdb_resolving.specs.Cause.{Cause, of_no_table}
-use Rattle.pdb_resolving.specs.Fault.{Fault, CantResolveCrossModuleRefWithoutStringTable, ModuleNameNotFound, LocalIndexNotInExports, lifted}
+use Rattle.pdb_resolving.specs.Fault.{Fault, CantResolveCrossModuleRefWithoutStringTable}
+use Rattle.pdb_resolving.specs.Fault.{ModuleNameNotFound, LocalIndexNotInExports, lifted}
 use Rattle.pdb_resolving.specs.Fault.{PdbError}
 use Rattle.pdb_resolving.specs.Resolving.{Modules, last_named, imports_of, exports_of}
 
--- Each table that is kept is what reading gives of its module.
+-- Each table that is cached is what reading gives of its module.
 pub record AreRead {T : Type 0} (read : ℕ → Result T Fault) (tables : BTreeMap ℕ T) : Type 0 where
-  pub each : (number : ℕ) (table : T) → get nat_cmp tables number ≡ Some table → read number ≡ Ok table
+  pub each : (number : ℕ) (table : T) → get nat_cmp tables number ≡ Some table
+      → read number ≡ Ok table
 
--- the entry of an export: its index as the module names it, and its index in the table of types or of ids
+-- the entry of an export: its index as the module names it, and its index in the table of types or
+-- of ids
 abbrev pub entry_of : CrossModuleExport → Entry
 entry_of (forms.OfType local global) = record { local = local.0.0; global = global.0 }
 entry_of (forms.Id local global) = record { local = local.0.0; global = global.0 }
@@ -33,13 +37,16 @@ entry_of (forms.Id local global) = record { local = local.0.0; global = global.0
 pub record AreFirst (exports : List Entry) (firsts : BTreeMap ℕ ℕ) : Type 0 where
   pub each : (local : ℕ) → get nat_cmp firsts local ≡ first_export exports local
 
--- Each name in ASCII lower case has the number of the last module of that name.
+-- Each name in ASCII lower case has the index of the last module with that name.
 pub record AreLast (entries : List Module) (numbers : BTreeMap (String Global) ℕ) : Type 0 where
-  pub each : (name : List ℕ) → get_by_text numbers (str_to_ascii_lowercase name) ≡ last_named name entries
+  pub each : (name : List ℕ)
+      → get_by_text numbers (str_to_ascii_lowercase name) ≡ last_named name entries
 
--- The numbers of modules that are kept by their names, if any are, are those of the last module of each name.
+-- The indices of modules that are cached by their names, if any are, are those of the last module
+-- with each name.
 pub record AreNames (entries : List Module) (names : ModuleNames) : Type 0 where
-  pub each : (numbers : BTreeMap (String Global) ℕ) → names.numbers ≡ Some numbers → AreLast entries numbers
+  pub each : (numbers : BTreeMap (String Global) ℕ) → names.numbers ≡ Some numbers
+      → AreLast entries numbers
 
 -- ---- an index that leads into another module, in the steps that are gone
 
@@ -49,11 +56,12 @@ import_of modules asking index = do
   imports ← imports_of modules asking
   of_no_table (lifted (imported imports index))
 
--- the number of the last module of a name
+-- the index of the last module with that name
 abbrev pub numbered : List ℕ → List Module → Result ℕ Fault
-numbered name entries = ok_or (last_named name entries) (ModuleNameNotFound (str_to_ascii_lowercase name))
+numbered name entries =
+    ok_or (last_named name entries) (ModuleNameNotFound (str_to_ascii_lowercase name))
 
--- the number of the last module of the name at a place among the names
+-- the index of the last module with the name at a place among the names
 abbrev pub named_at : List ℕ → List Module → ℕ → Result ℕ Fault
 named_at names entries place = lifted (text_in names place) >>= λ name. numbered name entries
 

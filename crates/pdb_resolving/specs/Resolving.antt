@@ -1,5 +1,6 @@
 -- Indices that lead into another module, and what they stand for in the tables of types and ids.
-use Rattle.std.specs.Prelude.{ℕ, ◌+◌, Bool, List, [], ◌∷◌, Option, None, Some, Result, Ok, Err, slice_get, if◌then◌else◌}
+use Rattle.std.specs.Prelude.{ℕ, ◌+◌, Bool, List, [], ◌∷◌, Option, None, Some, Result, Ok, Err}
+use Rattle.std.specs.Prelude.{slice_get, if◌then◌else◌}
 use Rattle.std.specs.Option.{ok_or}
 use Rattle.std.specs.Str.{str_eq_ignore_ascii_case, str_to_ascii_lowercase}
 use Rattle.std.specs.Str.Lossy.{utf8_lossy}
@@ -15,13 +16,17 @@ use Rattle.pdb_symbols_modules.specs.Modules.{Module}
 use Rattle.pdb_resolving.specs.declared.table.Table.{Table}
 use Rattle.pdb_resolving.specs.declared.table.Table.TheVariants as tables
 use Rattle.pdb_resolving.specs.Cause.{Cause, ByFault, of_no_table, of_table}
-use Rattle.pdb_resolving.specs.Fault.{Fault, ModuleImportsUnsuccessful, ModuleExportsUnsuccessful, CantResolveCrossModuleRefWithoutStringTable, ModuleNameNotFound, LocalIndexNotInExports, OutOfRangeModuleIndex, ModuleInfoNotFound, lifted}
+use Rattle.pdb_resolving.specs.Fault.{Fault, ModuleImportsUnsuccessful, ModuleExportsUnsuccessful}
+use Rattle.pdb_resolving.specs.Fault.{CantResolveCrossModuleRefWithoutStringTable}
+use Rattle.pdb_resolving.specs.Fault.{ModuleNameNotFound, LocalIndexNotInExports}
+use Rattle.pdb_resolving.specs.Fault.{OutOfRangeModuleIndex, ModuleInfoNotFound, lifted}
 
--- what gives modules: by a module's number and entry what its own stream holds, if it has one, or the fault
+-- what gives modules: by a module's index and entry what its own stream holds, if it has one, or
+-- the fault
 abbrev pub Provided : Type 0
 Provided = ℕ → Module → Result (Option ModuleStream) container_fault.Fault
 
--- the tables of imports and of exports that stand as failed, each by its module's number
+-- the tables of imports and of exports that stand as failed, each by its module's index
 pub record FailedTables : Type 0 where
   pub imports : List ℕ
   pub exports : List ℕ
@@ -30,8 +35,8 @@ pub record FailedTables : Type 0 where
 abbrev pub none_failed : FailedTables
 none_failed = record { imports = []; exports = [] }
 
--- the modules of a database: their entries in order, what is given of each, the names by which they refer to one another, and
--- which of their tables stand as failed
+-- the modules of a database: their entries in order, what is given of each, the names by which they
+-- refer to one another, and which of their tables stand as failed
 pub record Modules : Type 0 where
   pub entries : List Module
   pub provided : Provided
@@ -44,7 +49,8 @@ pub record Modules : Type 0 where
 abbrev pub is_named : List ℕ → Module → Bool
 is_named name m = str_eq_ignore_ascii_case (utf8_lossy m.module_name) name
 
--- the place behind one more element, of which is known whether it is the one that is looked for, if none is behind it
+-- the place after one more element, of which is known whether it is the one that is looked for, if
+-- none is after it
 abbrev pub place_from : Bool → Option ℕ → Option ℕ
 place_from here (Some n) = Some (n + 1)
 place_from here None = if here then Some 0 else None
@@ -54,47 +60,47 @@ unfoldable pub last_place : {A : Type 0} → (A → Bool) → List A → Option 
 last_place test [] = None
 last_place test (x ∷ xs) = place_from (test x) (last_place test xs)
 
--- the number of the last module of a name
+-- the index of the last module with that name
 abbrev pub last_named : List ℕ → List Module → Option ℕ
 last_named name entries = last_place (is_named name) entries
 
 -- ---- indices
 
--- what the module of a number holds
+-- what the module with that index holds
 unfoldable pub module_numbered : Provided → List Module → ℕ → Result ModuleStream Fault
 module_numbered provided entries number = do
   entry ← ok_or (slice_get entries number) (OutOfRangeModuleIndex number)
   stream ← lifted (provided number entry)
   ok_or stream (ModuleInfoNotFound number)
 
--- what the module of a number imports, as its stream says
+-- what the module with that index imports, as its stream says
 unfoldable pub imports_read : Provided → List Module → ℕ → Result (List Import) Fault
 imports_read provided entries number = do
   own ← module_numbered provided entries number
   lifted (imports_in own)
 
--- what the module of a number exports, as its stream says
+-- what the module with that index exports, as its stream says
 unfoldable pub exports_read : Provided → List Module → ℕ → Result (List Entry) Fault
 exports_read provided entries number = do
   own ← module_numbered provided entries number
   lifted (exports_in own)
 
--- what the module of a number imports, unless that stands as failed
+-- what the module with that index imports, unless that stands as failed
 abbrev pub imports_of : Modules → ℕ → Result (List Import) Cause
 imports_of modules number =
     if stands modules.failed.imports number
     then Err (ByFault ModuleImportsUnsuccessful)
     else of_table (tables.Imports number) (imports_read modules.provided modules.entries number)
 
--- what the module of a number exports, unless that stands as failed
+-- what the module with that index exports, unless that stands as failed
 abbrev pub exports_of : Modules → ℕ → Result (List Entry) Cause
 exports_of modules number =
     if stands modules.failed.exports number
     then Err (ByFault ModuleExportsUnsuccessful)
     else of_table (tables.Exports number) (exports_read modules.provided modules.entries number)
 
--- What an index of the asking module stands for that leads into another one: that module's first export of what the asking
--- module imports. The other module is the last one of the imported name.
+-- What an index of the asking module stands for that leads into another one: that module's first
+-- export of what the asking module imports. The other module is the last one of the imported name.
 unfoldable pub resolved_elsewhere : Modules → ℕ → ℕ → Result ℕ Cause
 resolved_elsewhere modules asking index = do
   names ← of_no_table (ok_or modules.names CantResolveCrossModuleRefWithoutStringTable)
@@ -108,28 +114,37 @@ resolved_elsewhere modules asking index = do
 
 -- what an index stands for as a module has it: without bit 31 itself
 abbrev pub resolve : Modules → ℕ → ℕ → Result ℕ Cause
-resolve modules asking index = if is_cross_module index then resolved_elsewhere modules asking index else Ok index
+resolve modules asking index =
+    if is_cross_module index then resolved_elsewhere modules asking index else Ok index
 
--- ---- modules as they are kept
+-- ---- modules as they are stored
 
--- what resolving keeps: what gives modules, their entries, the names, and the tables that stand as failed
+-- what resolving goes by: what gives modules, their entries, the names, and the tables that stand
+-- as failed
 pub record Kept (P : Type 0) : Type 0 where
   pub provider : P
   pub entries : List Module
   pub names : Option (List ℕ)
   pub failed : FailedTables
 
--- the same, by what the provider gives
+-- these modules, by what the provider gives
 abbrev pub modules_by : {P : Type 0} → (P → Provided) → Kept P → Modules
-modules_by provided kept = record { entries = kept.entries; provided = provided kept.provider; names = kept.names; failed = kept.failed }
+modules_by provided kept = record {
+  entries = kept.entries;
+  provided = provided kept.provider;
+  names = kept.names;
+  failed = kept.failed;
+}
 
 -- ---- tables that fail
 
 -- the tables that stand as failed, with one more
 abbrev pub with_table : FailedTables → Table → FailedTables
-with_table failed (tables.Imports number) = record failed { imports = with_part failed.imports number }
-with_table failed (tables.Exports number) = record failed { exports = with_part failed.exports number }
+with_table failed (tables.Imports number) =
+    record failed { imports = with_part failed.imports number }
+with_table failed (tables.Exports number) =
+    record failed { exports = with_part failed.exports number }
 
--- what resolving keeps, with one more table that stands as failed
+-- what resolving goes by, with one more table that stands as failed
 abbrev pub with_failed : {P : Type 0} → Kept P → Table → Kept P
 with_failed kept table = record kept { failed = with_table kept.failed table }

@@ -1,4 +1,4 @@
-//! Why an answer about a type, a function or an address can't be given.
+//! Why a call about a type, a function or an address fails.
 
 ghost use Rattle.std.specs.Prelude.{◌≡◌};
 ghost use Rattle.pdb_resolving.specs.declared.error.Error.TheVariants as errors;
@@ -7,7 +7,7 @@ use std::alloc::{AllocError, AllocFailed};
 use std::fmt;
 use thiserror::Error as ThisError;
 
-/// What a call answers, or why it can't.
+/// What a call returns, or why it fails.
 pub type Result<T> = std::result::Result<T, Error>;
 
 /// Why a type, a function or an address has no answer.
@@ -28,7 +28,8 @@ pub enum Error {
     /// The type of a method's id is no method.
     #[error("Id of type MemberFunction doesn't have type of MemberFunction")]
     MemberFunctionIdIsNotMemberFunctionType,
-    /// Two contributions of this module to this section, one behind the other, of which the second ends before the first.
+    /// Two contributions of this module to this section, one after the other, of which the second
+    /// ends before the first.
     #[error("There are consecutive section contributions for module {0} and section {1} which are not ordered by offset")]
     UnorderedSectionContributions(usize, u16),
     /// In this section the contributions of these two modules overlap.
@@ -49,7 +50,7 @@ pub enum Error {
     /// A module's exports couldn't be read when they were asked for before.
     #[error("Getting the module exports was unsuccessful")]
     ModuleExportsUnsuccessful,
-    /// The index leads into another module, and there is no table of names that could say into which.
+    /// The index leads into another module, and there is no string table that says into which.
     #[error("Could not resolve cross-module reference due to missing string table")]
     CantResolveCrossModuleRefWithoutStringTable,
     /// No module has this name, which is in ASCII lower case.
@@ -58,16 +59,16 @@ pub enum Error {
     /// The other module exports no such index as it names it.
     #[error("The local index {0} was not found in the module exports")]
     LocalIndexNotInExports(u32),
-    /// There is no module of this number, counted from 0.
+    /// There is no module with this index, counted from 0.
     #[error("The module index {0} was out-of-range.")]
     OutOfRangeModuleIndex(usize),
-    /// The module of this number has no stream of its own.
+    /// The module with this index has no stream of its own.
     #[error("Could not get the ModuleInfo for module index {0}")]
     ModuleInfoNotFound(usize),
-    /// The type or id of this index holds itself, or stands too deep.
+    /// The type or id with this index holds itself, or stands too deep.
     #[error("Type with index {0} is circular")]
     CircularTypeDefinition(u32),
-    /// Memory was refused.
+    /// Out of memory.
     #[error("Out of memory")]
     OutOfMemory,
 }

@@ -31,14 +31,17 @@ impl FailedParts {
         }
     }
 
-    /// Whether the part of a number stands as failed.
+    /// Whether the part with that number stands as failed.
     pub fn stands(&self, number: u64) -> bool
         ensures { result ≡ stands_among self.now number }
     {
         self.numbers.contains(&number)
     }
 
-    /// Keeps the part of a number as failed. Nothing changes where memory is short.
+    /// Stores the part with that number as failed. Nothing changes when memory runs out.
+    ///
+    /// # Errors
+    /// `AllocError` when memory runs out.
     pub fn keep(&mut self, number: u64) -> Result<(), AllocError>
         ensures kept { OnOk result (self.new ≡ with_part self.old number) }
         ensures same { OnErr result (self.new ≡ self.old) }

@@ -1,14 +1,15 @@
-//! The parts of modules that stand as failed since they were asked for.
+//! The parts of modules that could not be read when they were asked for: they stand as failed.
 
 ghost use Rattle.std.specs.Prelude.{◌≡◌, OnErr, OnOk};
-ghost use Rattle.pdb_resolving.specs.Failures.{has_failed, no_failures, number_of as number_at, with_failed};
+ghost use Rattle.pdb_resolving.specs.Failures.{has_failed, no_failures, number_of as number_at};
+ghost use Rattle.pdb_resolving.specs.Failures.{with_failed};
 
 use crate::failed_parts::FailedParts;
 use pdb_addresses::PdbInternalSectionOffset;
 use std::alloc::{AllocError, Global};
 use std::marker::Model;
 
-/// A part of the module of a number that frames are made of.
+/// A part of the module with that index that frames are made of.
 #[derive(Clone, Copy)]
 pub enum Part {
     /// Its line program and inlinees.
@@ -32,7 +33,11 @@ impl Model for Failures {
 
     ghost Value = { failures.Failures };
 
-    ghost view = { λ f. record { modules = f.modules; lines = f.lines; inline_ranges = f.inline_ranges } };
+    ghost view = { λ f. record {
+      modules = f.modules;
+      lines = f.lines;
+      inline_ranges = f.inline_ranges;
+    } };
 }
 
 /// The number of a place in a module, which no other place and no place in another module has.
@@ -44,7 +49,7 @@ pub fn number_of(module_index: u16, place: PdbInternalSectionOffset) -> u64
 }
 
 impl Failures {
-    /// Nothing stands as failed.
+    /// The value in which nothing stands as failed.
     pub fn new(alloc: Global) -> Failures
         ensures { result ≡ no_failures }
     {
@@ -68,7 +73,10 @@ impl Failures {
         }
     }
 
-    /// Keeps a part as failed. Nothing changes where memory is short.
+    /// Stores a part as failed. Nothing changes when memory runs out.
+    ///
+    /// # Errors
+    /// `AllocError` when memory runs out.
     pub fn keep(&mut self, part: Part) -> Result<(), AllocError>
         ensures kept { OnOk result (self.new ≡ with_failed self.old part) }
         ensures same { OnErr result (self.new ≡ self.old) }

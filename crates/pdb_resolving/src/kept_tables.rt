@@ -1,4 +1,4 @@
-//! The imports and exports of modules, as they are read and kept.
+//! The imports and exports of modules, as they are read and cached.
 
 ghost use Rattle.std.specs.Prelude.{◌≡◌, IfErr, IsSome, OnOk, option_map, slice_get};
 ghost use Rattle.std.specs.BTreeMap.{get};
@@ -14,14 +14,16 @@ use pdb_symbols_modules::{CrossModuleImports, Module};
 use std::alloc::Global;
 use std::collections::BTreeMap;
 
-/// The imports of modules that were read, each under its module's number.
+/// The imports of modules that were read, each under its module's index.
 pub type KeptImports<'a> = BTreeMap<usize, CrossModuleImports<'a>>;
 
-/// The exports of modules that were read, each under its module's number.
+/// The exports of modules that were read, each under its module's index.
 pub type KeptExports<'a> = BTreeMap<usize, ModuleExports<'a>>;
 
-/// Reads and keeps what the module of a number imports, unless it is kept. The module's fault, or that of its imports; nothing
-/// changes then, nor where memory is short.
+/// Reads and caches what the module with that index imports, unless it is cached.
+///
+/// # Errors
+/// The module's fault, or that of its imports; `OutOfMemory`. Nothing is cached then.
 pub fn keep_imports<'a, P: ModuleProvider>(
     kept: &mut KeptImports<'a>,
     alloc: Global,
@@ -32,7 +34,8 @@ pub fn keep_imports<'a, P: ModuleProvider>(
     requires { AreRead (imports_read (P.provided provider.now) modules.now) kept.old }
     ensures right { AreRead (imports_read (P.provided provider.now) modules.now) kept.new }
     ensures there { OnOk result (IsSome (get nat_cmp kept.new number)) }
-    ensures fails { IfErr result (λ e. Fails e (imports_read (P.provided provider.now) modules.now number)) }
+    ensures fails { IfErr result
+        (λ e. Fails e (imports_read (P.provided provider.now) modules.now number)) }
 {
     if kept.contains_key(&number) {
         return Ok(());
@@ -42,7 +45,10 @@ pub fn keep_imports<'a, P: ModuleProvider>(
     Ok(())
 }
 
-/// Reads and keeps what the module of a number exports, as [`keep_imports`].
+/// Reads and caches what the module with that index exports, unless it is cached.
+///
+/// # Errors
+/// The module's fault, or that of its exports; `OutOfMemory`. Nothing is cached then.
 pub fn keep_exports<'a, P: ModuleProvider>(
     kept: &mut KeptExports<'a>,
     alloc: Global,
@@ -53,7 +59,8 @@ pub fn keep_exports<'a, P: ModuleProvider>(
     requires { AreRead (exports_read (P.provided provider.now) modules.now) kept.old }
     ensures right { AreRead (exports_read (P.provided provider.now) modules.now) kept.new }
     ensures there { OnOk result (IsSome (get nat_cmp kept.new number)) }
-    ensures fails { IfErr result (λ e. Fails e (exports_read (P.provided provider.now) modules.now number)) }
+    ensures fails { IfErr result
+        (λ e. Fails e (exports_read (P.provided provider.now) modules.now number)) }
 {
     if kept.contains_key(&number) {
         return Ok(());
@@ -63,7 +70,10 @@ pub fn keep_exports<'a, P: ModuleProvider>(
     Ok(())
 }
 
-/// What the module of a number imports. The module's fault, or that of its imports.
+/// What the module with that index imports.
+///
+/// # Errors
+/// The module's fault, or that of its imports; `OutOfMemory`.
 #[tactic(auto, using(crate::proofs::Lifting::fails_on, crate::proofs::Lifting::given_fails), unfolding(crate::specs::Resolving::imports_read))]
 fn read_imports<'p, P: ModuleProvider>(
     alloc: Global,
@@ -77,7 +87,10 @@ fn read_imports<'p, P: ModuleProvider>(
     Ok(own.imports(alloc)?)
 }
 
-/// What the module of a number exports. The module's fault, or that of its exports.
+/// What the module with that index exports.
+///
+/// # Errors
+/// The module's fault, or that of its exports; `OutOfMemory`.
 #[tactic(auto, using(crate::proofs::Lifting::fails_on, crate::proofs::Lifting::parsed_fails), unfolding(crate::specs::Resolving::exports_read))]
 fn read_exports<'p, P: ModuleProvider>(
     alloc: Global,
@@ -92,14 +105,18 @@ fn read_exports<'p, P: ModuleProvider>(
     Ok(ModuleExports::read(alloc, exports)?)
 }
 
-/// What the module of a number holds. `OutOfRangeModuleIndex`, the provider's fault, `ModuleInfoNotFound`.
+/// What the module with that index holds.
+///
+/// # Errors
+/// `OutOfRangeModuleIndex`, the provider's fault, `ModuleInfoNotFound`.
 #[tactic(auto, using(crate::proofs::ModuleSteps::module_past, crate::proofs::ModuleSteps::module_given, crate::proofs::ModuleSteps::module_missing, crate::proofs::ModuleSteps::module_fails))]
 fn module_info<'p, P: ModuleProvider>(
     provider: &'p P,
     modules: &[Module<'_>],
     number: usize,
 ) -> Result<&'p P::Info>
-    ensures { Answers (λ info. P.Info.held info.now) result (module_numbered (P.provided provider.now) modules.now number) }
+    ensures { Answers (λ info. P.Info.held info.now) result
+        (module_numbered (P.provided provider.now) modules.now number) }
 {
     let Some(module) = module_at(modules, number) else {
         return Err(Error::OutOfRangeModuleIndex(number));
@@ -111,19 +128,23 @@ fn module_info<'p, P: ModuleProvider>(
     }
 }
 
-/// What the module of a number and an entry holds, if it has a stream of its own. The provider's fault.
+/// What the module with that index and entry holds, if it has a stream of its own.
+///
+/// # Errors
+/// The provider's fault.
 #[tactic(auto, using(crate::proofs::Lifting::parsed_fails))]
 fn info_of<'p, P: ModuleProvider>(
     provider: &'p P,
     module: &Module<'_>,
     number: usize,
 ) -> Result<Option<&'p P::Info>>
-    ensures { Answers (option_map (λ info. P.Info.held info.now)) result (lifted (P.provided provider.now number «module».now)) }
+    ensures { Answers (option_map (λ info. P.Info.held info.now)) result
+        (lifted (P.provided provider.now number «module».now)) }
 {
     Ok(provider.get_module_info(number, module)?)
 }
 
-/// The module of a number, counted from 0.
+/// The module with that index, counted from 0.
 fn module_at<'m, 'a>(modules: &'m [Module<'a>], number: usize) -> Option<&'m Module<'a>>
     ensures { option_map (λ m. m.now) result ≡ slice_get modules.now number }
 {

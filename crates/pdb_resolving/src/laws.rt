@@ -1,23 +1,33 @@
 //! Laws of the definitions: functions that do nothing, whose contracts are proved.
 
 ghost use Rattle.std.specs.Prelude.{◌≡◌, ◌==◌, ◌||◌, ◌⊎◌, ℕ, true, List};
-ghost use Rattle.pdb_addresses.specs.declared.internal_section_offset.PdbInternalSectionOffset.{PdbInternalSectionOffset};
+ghost use Rattle.pdb_addresses.specs.declared.internal_section_offset.PdbInternalSectionOffset.{
+  PdbInternalSectionOffset,
+};
 ghost use Rattle.pdb_resolving.specs.Failed.{stands, with_part};
-ghost use Rattle.pdb_resolving.specs.Failures.{Failures, Part, IsPart, IsPlace, has_failed, number_of, with_failed};
+ghost use Rattle.pdb_resolving.specs.Failures.{Failures, Part, IsPart, IsPlace, has_failed};
+ghost use Rattle.pdb_resolving.specs.Failures.{number_of, with_failed};
 
-/// Once the part of a number is kept, it stands as failed; so does each that stood before, and no other.
+/// Once the part with that number is stored, it stands as failed; so does each that stood before,
+/// and no other.
 pub fn kept_numbers_stand()
-    ensures { (failed : List ℕ) (number other : ℕ) → stands (with_part failed number) other ≡ ((other == number) || stands failed other) }
+    ensures { (failed : List ℕ) (number other : ℕ)
+        → stands (with_part failed number) other ≡ ((other == number) || stands failed other) }
 {}
 
 /// No two places in modules have one number.
 pub fn places_have_own_numbers()
-    ensures { (m n : ℕ) (p q : PdbInternalSectionOffset) → IsPlace p → IsPlace q → number_of m p ≡ number_of n q → (m ≡ n) × (p ≡ q) }
+    ensures { (m n : ℕ) (p q : PdbInternalSectionOffset) → IsPlace p → IsPlace q
+        → number_of m p ≡ number_of n q → (m ≡ n) × (p ≡ q) }
 {}
 
-/// A part of a module that is kept stands as failed; so does each that stood before, and no other.
+/// A part of a module that is stored stands as failed; so does each that stood before, and no
+/// other.
 pub fn kept_parts_stand()
     ensures kept { (f : Failures) (part : Part) → has_failed (with_failed f part) part ≡ true }
-    ensures stay { (f : Failures) (part other : Part) → has_failed f other ≡ true → has_failed (with_failed f part) other ≡ true }
-    ensures others { (f : Failures) (part other : Part) → IsPart part → IsPart other → has_failed (with_failed f part) other ≡ true → (other ≡ part) ⊎ (has_failed f other ≡ true) }
+    ensures stay { (f : Failures) (part other : Part) → has_failed f other ≡ true
+        → has_failed (with_failed f part) other ≡ true }
+    ensures others { (f : Failures) (part other : Part) → IsPart part → IsPart other
+        → has_failed (with_failed f part) other ≡ true
+        → (other ≡ part) ⊎ (has_failed f other ≡ true) }
 {}

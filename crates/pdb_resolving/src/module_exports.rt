@@ -14,7 +14,8 @@ use std::marker::Model;
 #[derive(Drop)]
 pub struct ModuleExports<'a> {
     exports: CrossModuleExports<'a>,
-    /// Under each index as the module names it, the index in the database's table by the first export of it.
+    /// Under each index as the module names it, the index in the database's table by the first
+    /// export of it.
     firsts: BTreeMap<u32, u32>,
 }
 
@@ -31,7 +32,10 @@ impl<'a> Model for ModuleExports<'a> {
 }
 
 impl<'a> ModuleExports<'a> {
-    /// These exports, which are gone over once.
+    /// The exports of a module. They are gone over once.
+    ///
+    /// # Errors
+    /// `AllocError` when memory runs out.
     pub fn read(
         alloc: Global,
         exports: CrossModuleExports<'a>,
@@ -50,7 +54,8 @@ impl<'a> ModuleExports<'a> {
     }
 }
 
-/// Under each index as the module names it, the index in the database's table by the first of these exports of it.
+/// Under each index as the module names it, the index in the database's table by the first of these
+/// exports of it.
 fn first_exports(
     alloc: Global,
     exports: &CrossModuleExports<'_>,

@@ -13,23 +13,27 @@ use pdb_symbols_modules::Module;
 use std::alloc::{AllocError, Global};
 use std::collections::BTreeMap;
 
-/// The numbers of modules by their names.
+/// The indices of modules by their names.
 #[derive(Drop)]
 pub struct ModuleNames {
-    /// Under each name, in ASCII lower case, the number of the last module of that name. `None` until a module was looked for.
+    /// Under each name, in ASCII lower case, the index of the last module with that name. `None`
+    /// until a module was looked for.
     numbers: Option<BTreeMap<String, usize>>,
 }
 
 impl ModuleNames {
-    /// No name was read yet.
+    /// The value in which no name was read yet.
     pub fn new() -> ModuleNames
         ensures { (modules : List entries.Module) → AreNames modules result }
     {
         ModuleNames { numbers: None }
     }
 
-    /// The number of the last module of a name, upper and lower case of ASCII letters apart. The names of the modules are read
-    /// once and kept. `ModuleNameNotFound`, `OutOfMemory`.
+    /// The index of the last module with that name, without regard to ASCII case. The names of the
+    /// modules are read once and cached.
+    ///
+    /// # Errors
+    /// `ModuleNameNotFound`, `OutOfMemory`.
     #[tactic(auto, using(crate::proofs::Steps::number_kept, crate::proofs::Steps::number_missing))]
     pub fn number(&mut self, alloc: Global, modules: &[Module<'_>], name: &str) -> Result<usize>
         requires { AreNames modules.now self.old }
@@ -44,7 +48,8 @@ impl ModuleNames {
         }
     }
 
-    /// Keeps the names of the modules, unless they are kept. Nothing changes where memory is short.
+    /// Caches the names of the modules, unless they are cached. Nothing changes when memory runs
+    /// out.
     fn read(&mut self, alloc: Global, modules: &[Module<'_>]) -> std::result::Result<(), AllocError>
         requires { AreNames modules.now self.old }
         ensures kept { AreNames modules.now self.new }
@@ -57,9 +62,10 @@ impl ModuleNames {
         Ok(())
     }
 
-    /// The number that is kept under a name in ASCII lower case.
+    /// The index that is cached under a name in ASCII lower case.
     fn find(&self, name: &str) -> Option<usize>
-        ensures { result ≡ option_and_then (λ numbers. get_by_text numbers name.now) self.now.numbers }
+        ensures { result
+            ≡ option_and_then (λ numbers. get_by_text numbers name.now) self.now.numbers }
     {
         match &self.numbers {
             None => None,
@@ -68,7 +74,7 @@ impl ModuleNames {
     }
 }
 
-/// Under each name, in ASCII lower case, the number of the last module of that name.
+/// Under each name, in ASCII lower case, the index of the last module with that name.
 #[tactic(auto, using(crate::proofs::LastPlaces::last_start, crate::proofs::LastPlaces::last_further))]
 fn numbers_by_name(
     alloc: Global,
@@ -86,7 +92,8 @@ fn numbers_by_name(
 
 /// The name of a module in ASCII lower case.
 fn lower_name(alloc: Global, module: &Module<'_>) -> std::result::Result<String, AllocError>
-    ensures { IfOk result (λ name. string_bytes name ≡ str_to_ascii_lowercase (utf8_lossy «module».now.module_name)) }
+    ensures { IfOk result
+        (λ name. string_bytes name ≡ str_to_ascii_lowercase (utf8_lossy «module».now.module_name)) }
 {
     match module.module_name(alloc) {
         Ok(name) => name.as_str().to_ascii_lowercase(alloc),

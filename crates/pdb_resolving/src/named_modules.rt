@@ -21,11 +21,11 @@ pub struct MissingName {
     pub name: String,
 }
 
-/// The modules that names of the string table lead to, by the place of the name. Each is stored once
-/// it was found; so is from where on no name ends, and the last name that no module has.
+/// The modules that names of the string table lead to, by the place of the name. Each is stored
+/// once it was found; so is from where on no name ends, and the last name that no module has.
 #[derive(Drop)]
 pub struct NamedModules {
-    /// For the place of a name, the number of the last module of that name.
+    /// For the place of a name, the index of the last module with that name.
     numbers: BTreeMap<u32, usize>,
     /// A place from which on no name ends.
     unended: Option<u32>,
@@ -34,7 +34,7 @@ pub struct NamedModules {
 }
 
 impl NamedModules {
-    /// Returns the value in which nothing is stored.
+    /// The value in which nothing is stored.
     pub fn new(alloc: Global) -> NamedModules
         ensures { (names : List ℕ) (modules : List entries.Module) → AreNamed names modules result }
     {
@@ -45,7 +45,7 @@ impl NamedModules {
         }
     }
 
-    /// Returns the number of the last module of the name at a place, without regard to ASCII case.
+    /// The index of the last module with the name at a place, without regard to ASCII case.
     ///
     /// # Errors
     /// The name's fault, `ModuleNameNotFound`, `OutOfMemory`.

@@ -2,7 +2,9 @@
 
 ghost use Rattle.std.specs.Prelude.{ℕ, Option, Result, option_map, IfErr};
 ghost use Rattle.pdb_container.specs.Fault.{Fault, Gives, Parses};
-ghost use Rattle.pdb_symbols_modules.specs.ModuleStream.{ModuleStream, iteration_in, line_program_in, inlinees_in, imports_in, exports_in};
+ghost use Rattle.pdb_symbols_modules.specs.ModuleStream.{ModuleStream, iteration_in};
+ghost use Rattle.pdb_symbols_modules.specs.ModuleStream.{line_program_in, inlinees_in, imports_in};
+ghost use Rattle.pdb_symbols_modules.specs.ModuleStream.{exports_in};
 ghost use Rattle.pdb_symbols_modules.specs.Modules as entries;
 ghost use Rattle.pdb_resolving.specs.Fault.{IsOfModules};
 
@@ -63,26 +65,30 @@ impl<'s> ModuleTables for ModuleInfo<'s> {
     }
 }
 
-/// Gives what the modules of a database hold: the same answer for the same arguments.
+/// Gives what the modules of a database hold: the same result for the same arguments.
 pub trait ModuleProvider {
     /// What a module's own stream holds.
     type Info: ModuleTables;
 
-    /// What the module of a number and an entry holds in its own stream, if it has one, or the fault.
+    /// What the module with that index and entry holds in its own stream, if it has one, or the
+    /// fault.
     ghost provided: { Self → ℕ → entries.Module → Result (Option ModuleStream) Fault };
 
-    /// What a module's own stream holds, by the module's number, counted from 0, and its entry; `None` where it has none.
+    /// What a module's own stream holds, by the module's index, counted from 0, and its entry;
+    /// `None` where it has none.
     ///
     /// # Errors
-    /// The fault of the module's stream; never `TypeNotFound`, `UnimplementedTypeKind`, `IoError` or `OutOfMemory`. A fault
-    /// that was kept is `Kept`.
+    /// The fault of the module's stream; never `TypeNotFound`, `UnimplementedTypeKind`, `IoError`
+    /// or `OutOfMemory`. A fault that was stored is `Kept`.
     fn get_module_info(
         &self,
         module_index: usize,
         module: &Module<'_>,
     ) -> std::result::Result<Option<&Self::Info>, Error>
-        ensures { Parses (option_map (λ info. Self.Info.held info.now)) result (provided self.now module_index «module».now) };
+        ensures { Parses (option_map (λ info. Self.Info.held info.now)) result
+            (provided self.now module_index «module».now) };
 
     /// No fault could be taken for a type's own, or for a failed read.
-    ghost faults_of_modules: { (p : Self) (number : ℕ) (entry : entries.Module) → IfErr (provided p number entry) IsOfModules };
+    ghost faults_of_modules: { (p : Self) (number : ℕ) (entry : entries.Module)
+        → IfErr (provided p number entry) IsOfModules };
 }

@@ -27,14 +27,14 @@ use std::alloc::{AllocError, Global};
 use std::collections::BTreeMap;
 use std::marker::Model;
 
-/// The modules of a database, by which indices are resolved that lead from one into another. Imports, exports and names of modules
-/// that were read are kept, each once it was asked for.
+/// The modules of a database, by which indices are resolved that lead from one into another.
+/// Imports, exports and names of modules are read and cached once they are asked for.
 #[derive(Drop)]
 pub struct Resolver<'a, 's, P: ModuleProvider> {
     provider: &'a P,
     modules: Vec<Module<'a>>,
     string_table: Option<&'a StringTable<'s>>,
-    /// The numbers of the modules by their names.
+    /// The indices of the modules by their names.
     names: ModuleNames,
     /// The modules that names of the string table lead to.
     named: NamedModules,
@@ -55,9 +55,14 @@ impl<'a, 's, P: ModuleProvider> Model for Resolver<'a, 's, P> {
 
     ghost Value = { Kept P };
 
-    ghost view = { λ r. record { provider = r.provider.now; entries = r.modules.items; names = option_map (λ t. t.now) r.string_table; failed = record { imports = r.failed_imports; exports = r.failed_exports } } };
+    ghost view = { λ r. record {
+      provider = r.provider.now;
+      entries = r.modules.items;
+      names = option_map (λ t. t.now) r.string_table;
+      failed = record { imports = r.failed_imports; exports = r.failed_exports };
+    } };
 
-    // What is kept is what reading gives, so that it shows nowhere.
+    // What is cached is what reading gives, so that it shows nowhere.
     ghost invariant = { λ r. AreNames r.modules.items r.names
         × IfSome (option_map (λ t. t.now) r.string_table)
         (λ names. AreNamed names r.modules.items r.named)
@@ -66,15 +71,20 @@ impl<'a, 's, P: ModuleProvider> Model for Resolver<'a, 's, P> {
 }
 
 impl<'a, 's, P: ModuleProvider> Resolver<'a, 's, P> {
-    /// What gives the modules, their entries in order, and the table of names by which they refer to one another, if there is
-    /// one. No table stands as failed.
+    /// A resolver over what gives the modules, their entries in order, and the string table by
+    /// which they refer to one another, if there is one. No table stands as failed.
     pub fn new(
         alloc: Global,
         provider: &'a P,
         modules: Vec<Module<'a>>,
         string_table: Option<&'a StringTable<'s>>,
     ) -> Resolver<'a, 's, P>
-        ensures { result ≡ record { provider = provider.now; entries = modules.entry.items; names = option_map (λ t. t.now) string_table.entry; failed = none_failed } }
+        ensures { result ≡ record {
+          provider = provider.now;
+          entries = modules.entry.items;
+          names = option_map (λ t. t.now) string_table.entry;
+          failed = none_failed;
+        } }
     {
         Resolver {
             provider,
@@ -96,15 +106,17 @@ impl<'a, 's, P: ModuleProvider> Resolver<'a, 's, P> {
         self.modules.as_slice()
     }
 
-    /// What an index of a type or of an id stands for in the database's table of these, as the module of a number, counted
-    /// from 0, has the index: without bit 31 itself, else the first export that the module which it imports has of it.
-    /// Modules are named without regard to the case of ASCII letters, and of equal names the last counts.
+    /// What an index of a type or of an id stands for in the database's table of these. The module
+    /// at `module_index`, counted from 0, has the index. Without bit 31 it stands for itself, else
+    /// for the first export of it that the module has from which it is imported. Modules are named
+    /// without regard to ASCII case, and of equal names the last counts.
     ///
     /// # Errors
-    /// The first fault of: `CantResolveCrossModuleRefWithoutStringTable`; the asking module's imports (`OutOfRangeModuleIndex`,
-    /// the provider's fault, `ModuleInfoNotFound`, their own); `CrossModuleRefNotFound`; the module's name in the table of
-    /// names; `ModuleNameNotFound`; the other module's exports, as its imports; `LocalIndexNotInExports`. Imports and exports
-    /// that stand as failed are `ModuleImportsUnsuccessful` and `ModuleExportsUnsuccessful`; a fault of
+    /// The first fault of: `CantResolveCrossModuleRefWithoutStringTable`; the asking module's
+    /// imports (`OutOfRangeModuleIndex`, the provider's fault, `ModuleInfoNotFound`, their own);
+    /// `CrossModuleRefNotFound`; the module's name in the string table; `ModuleNameNotFound`; the
+    /// other module's exports, as its imports; `LocalIndexNotInExports`. Imports and exports that
+    /// stand as failed are `ModuleImportsUnsuccessful` and `ModuleExportsUnsuccessful`; a fault of
     /// others comes with their table. `OutOfMemory`.
     #[tactic(auto, using(crate::proofs::Steps::by_steps))]
     pub fn resolve(&mut self, alloc: Global, module_index: usize, index: u32) -> stop::Result<u32>
@@ -118,7 +130,10 @@ impl<'a, 's, P: ModuleProvider> Resolver<'a, 's, P> {
         self.resolve_elsewhere(alloc, module_index, TypeIndex(index))
     }
 
-    /// Keeps a table as failed. Nothing changes where memory is short.
+    /// Stores a table as failed. Nothing changes when memory runs out.
+    ///
+    /// # Errors
+    /// `AllocError` when memory runs out.
     pub fn keep_failed(&mut self, table: Table) -> std::result::Result<(), AllocError>
         ensures kept { OnOk result (self.new ≡ with_failed self.old table) }
         ensures same { OnErr result (self.new ≡ self.old) }
@@ -149,9 +164,11 @@ impl<'a, 's, P: ModuleProvider> Resolver<'a, 's, P> {
         self.export_of(alloc, number, local)
     }
 
-    /// What an index stands for as the module of a number imports it. `ModuleImportsUnsuccessful` where the module's imports stand
-    /// as failed, else the module's fault or that of its imports, with this table, or
-    /// `CrossModuleRefNotFound`.
+    /// What an index stands for as the module with that index imports it.
+    ///
+    /// # Errors
+    /// `ModuleImportsUnsuccessful` where the module's imports stand as failed, else the module's
+    /// fault or that of its imports, with this table, or `CrossModuleRefNotFound`; `OutOfMemory`.
     #[tactic(auto, using(crate::proofs::Ending::ends_by_table_on))]
     fn import_of(
         &mut self,
@@ -174,8 +191,10 @@ impl<'a, 's, P: ModuleProvider> Resolver<'a, 's, P> {
         }
     }
 
-    /// The number of the last module of a name in the table of names. The name's fault,
-    /// `ModuleNameNotFound`, `OutOfMemory`.
+    /// The index of the last module with a name of the string table.
+    ///
+    /// # Errors
+    /// The name's fault, `ModuleNameNotFound`, `OutOfMemory`.
     fn number_of(
         &mut self,
         alloc: Global,
@@ -191,8 +210,11 @@ impl<'a, 's, P: ModuleProvider> Resolver<'a, 's, P> {
             .number(alloc, strings, modules, &mut self.names, name)
     }
 
-    /// What the module of a number exports first under an index as it names it, as [`Resolver::import_of`].
-    /// `LocalIndexNotInExports`.
+    /// What the module with that index exports first under an index as it names it.
+    ///
+    /// # Errors
+    /// `ModuleExportsUnsuccessful` where the module's exports stand as failed, else the module's
+    /// fault or that of its exports, with this table, or `LocalIndexNotInExports`; `OutOfMemory`.
     #[tactic(auto, using(crate::proofs::Ending::ends_by_table_on))]
     fn export_of(
         &mut self,
@@ -216,7 +238,10 @@ impl<'a, 's, P: ModuleProvider> Resolver<'a, 's, P> {
     }
 }
 
-/// What an index stands for by what a module imports. `CrossModuleRefNotFound`.
+/// What an index stands for by what a module imports.
+///
+/// # Errors
+/// `CrossModuleRefNotFound`.
 #[tactic(auto, using(crate::proofs::Ending::ends_by_parsed))]
 fn imported(
     imports: &CrossModuleImports<'_>,
@@ -228,10 +253,14 @@ fn imported(
     Ok(imports.resolve_import(index)?)
 }
 
-/// The index in the database's table by a module's first export of an index as it names it. `LocalIndexNotInExports`.
+/// The index in the database's table by a module's first export of an index as it names it.
+///
+/// # Errors
+/// `LocalIndexNotInExports`.
 fn exported(exports: &ModuleExports<'_>, local: Local<TypeIndex>) -> stop::Result<u32>
     ensures { Finds (λ n. n) result
-        (of_no_table (ok_or (first_export exports.now local.0.0) (LocalIndexNotInExports local.0.0))) }
+        (of_no_table
+        (ok_or (first_export exports.now local.0.0) (LocalIndexNotInExports local.0.0))) }
 {
     match exports.first(local.0.0) {
         Some(index) => Ok(index),

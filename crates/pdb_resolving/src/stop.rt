@@ -8,7 +8,7 @@ use crate::error::Error;
 use crate::table::Table;
 use std::alloc::{AllocError, AllocFailed};
 
-/// What a call that makes a part of a text answers, or what ends the text.
+/// What a call that makes a part of a text returns, or what ends the text.
 pub type Result<T> = std::result::Result<T, Stop>;
 
 /// What ends a text.

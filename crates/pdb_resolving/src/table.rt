@@ -1,6 +1,6 @@
 //! Tables by which modules refer to one another.
 
-/// A table of the module of a number, counted from 0.
+/// A table of the module with that index, counted from 0.
 #[derive(Clone, Copy)]
 pub enum Table {
     /// What the module imports.

@@ -2,6 +2,7 @@ use crate::bytes::push_u32;
 use crate::database::ProgramDatabase;
 use crate::debug_information::Module;
 use crate::error::Result;
+use crate::line_data::{BLOCK_SIZE, lines_of_f};
 use crate::records::Record;
 use crate::rows::{
     Change, INLINE_SITE, INLINE_SITE_END, SCOPE_END, file_with, module_of_symbols, push_scope,
@@ -19,18 +20,18 @@ const NAMES: &[u8] = b"\0a.c\0c.obj\0b.h\0";
 /// What the second module contributes to section 1: 0x40 bytes at 0x80.
 const SECOND: [u32; 7] = [1, 0x80, 0x40, 0x6000_0020, 1, 0, 0];
 
-/// The line data of the first module, in numbers of four bytes, written by hand from the format:
-/// those of file F and a file `b.h`, its inlinee at line 3 of that, and an import from `c.obj`.
+/// The checksums of the first module, in numbers of four bytes, written by hand from the format: of
+/// file F's file and of a file `b.h`.
 #[rattlefmt::skip]
-const FIRST_LINES: [u32; 29] = [
+const FIRST_CHECKSUMS: [u32; 6] = [
     // DEBUG_S_FILECHKSMS of 0x10 bytes: the names at 1 and 0xb, no checksums.
     0xf4, 0x10, 0x01, 0x00, 0x0b, 0x00,
-    // DEBUG_S_LINES of 0x28 bytes: at 0x10 of section 1, without columns, 0x20 bytes of code.
-    0xf2, 0x28, 0x10, 0x01, 0x20,
-    // Its block of 0x1c bytes: of the file at 0, two rows.
-    0x00, 0x02, 0x1c,
-    // The rows: at 0 line 5, at 8 line 7. Bit 31 marks statements.
-    0x00, 0x8000_0005, 0x08, 0x8000_0007,
+];
+
+/// What comes after file F's lines in the first module: its inlinee at line 3 of `b.h`, and an
+/// import from `c.obj`.
+#[rattlefmt::skip]
+const FIRST_INLINEES: [u32; 11] = [
     // DEBUG_S_INLINEELINES of 0x10 bytes, without further files: the inlinee, its file at 8, its
     // line.
     0xf6, 0x10, 0x00, 0x8000_0000, 0x08, 0x03,
@@ -119,7 +120,9 @@ fn imports(alloc: Global, has_stream: bool) -> Result<ProgramDatabase> {
     database.names.extend_from_slice(NAMES)?;
     push_u32(&mut database.debug.contributions, &SECOND)?;
     database.modules.clear();
-    let first = module_with_site(alloc, b"a.obj", b"f", 0x10, &FIRST_LINES)?;
+    let mut first = module_with_site(alloc, b"a.obj", b"f", 0x10, &FIRST_CHECKSUMS)?;
+    push_u32(&mut first.c13, &lines_of_f(BLOCK_SIZE))?;
+    push_u32(&mut first.c13, &FIRST_INLINEES)?;
     database.modules.push(first)?;
     let second = module_with_site(alloc, b"b.obj", b"k", 0x90, &SECOND_LINES)?;
     database.modules.push(second)?;

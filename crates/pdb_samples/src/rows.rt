@@ -3,7 +3,7 @@ use crate::container::PageOrder;
 use crate::database::ProgramDatabase;
 use crate::debug_information::{DebugInformation, Module, NO_STREAM};
 use crate::error::{Result, SampleError};
-use crate::line_data::{LINE_DATA_OF_F, SHORT_LINE_BLOCK};
+use crate::line_data::{BLOCK_SIZE, CHECKSUMS_OF_F, lines_of_f};
 use crate::records::ItemTable;
 use crate::symbols::{FIRST_PLACE, Procedure, begin_record, end_record, push_end, push_record};
 use std::alloc::Global;
@@ -269,8 +269,8 @@ impl Change {
             return Ok(());
         };
         match self {
-            Change::LineData => push_u32(&mut module.c13, &LINE_DATA_OF_F),
-            Change::ShortLineBlock => push_u32(&mut module.c13, &SHORT_LINE_BLOCK),
+            Change::LineData => push_lines(module, BLOCK_SIZE),
+            Change::ShortLineBlock => push_lines(module, 8),
             Change::OlderLines => push_u32(&mut module.c11, &[0]),
             _ => {
                 module.object_name.resize(400, b'x')?;
@@ -292,6 +292,12 @@ impl Change {
         database.order = PageOrder::DirectoryReversed;
         Ok(())
     }
+}
+
+/// Adds the line data of file F, whose block of lines says that it has `block_size` bytes.
+fn push_lines(module: &mut Module, block_size: u32) -> Result<()> {
+    push_u32(&mut module.c13, &CHECKSUMS_OF_F)?;
+    push_u32(&mut module.c13, &lines_of_f(block_size))
 }
 
 /// Adds a stream of 4096 zeros.

@@ -1,6 +1,7 @@
 use crate::bytes::push_u32;
 use crate::error::Result;
 use crate::formatter_rows::{IDS, TYPES, file_of_items};
+use crate::line_data::{BLOCK_SIZE, lines_of_f};
 use crate::rows::{INLINE_SITE, INLINE_SITE_END, SCOPE_END, module_of_symbols, push_scope};
 use crate::symbols::{Procedure, push_end, push_record};
 use std::alloc::Global;
@@ -16,18 +17,17 @@ const INNER_SITE: &[u8; 15] = b"\x30\0\0\0\0\0\0\0\x01\x10\0\0\x0c\x04\x08";
 /// The names: nothing at 0, `a.c` at 1, `b.h` at 5 and `c.h` at 9.
 const NAMES: &[u8] = b"\0a.c\0b.h\0c.h\0";
 
-/// The line data of file F and two more files, in numbers of four bytes, written by hand from the
-/// format; the inlinee 0x1000 at line 3 of `b.h`, 0x1001 at line 9 of `c.h`.
+/// The checksums of file F's file and two more, in numbers of four bytes, written by hand from the
+/// format.
 #[rattlefmt::skip]
-const LINES: [u32; 29] = [
+const CHECKSUMS: [u32; 8] = [
     // DEBUG_S_FILECHKSMS of 0x18 bytes: the names at 1, 5 and 9, no checksums.
     0xf4, 0x18, 0x01, 0x00, 0x05, 0x00, 0x09, 0x00,
-    // DEBUG_S_LINES of 0x28 bytes: at 0x10 of section 1, without columns, 0x20 bytes of code.
-    0xf2, 0x28, 0x10, 0x01, 0x20,
-    // Its block of 0x1c bytes: of the file at 0, two rows.
-    0x00, 0x02, 0x1c,
-    // The rows: at 0 line 5, at 8 line 7. Bit 31 marks statements.
-    0x00, 0x8000_0005, 0x08, 0x8000_0007,
+];
+
+/// The inlinees: 0x1000 at line 3 of `b.h`, 0x1001 at line 9 of `c.h`.
+#[rattlefmt::skip]
+const INLINEES: [u32; 9] = [
     // DEBUG_S_INLINEELINES of 0x1c bytes, without further files: each inlinee, its file, its line.
     0xf6, 0x1c, 0x00, 0x1000, 0x08, 0x03, 0x1001, 0x10, 0x09,
 ];
@@ -41,7 +41,9 @@ pub fn nested_sites(alloc: Global) -> Result<Vec<u8>> {
     let mut records = Vec::new(alloc);
     push_symbols(&mut records)?;
     let mut module = module_of_symbols(alloc, b"a.obj", records)?;
-    push_u32(&mut module.c13, &LINES)?;
+    push_u32(&mut module.c13, &CHECKSUMS)?;
+    push_u32(&mut module.c13, &lines_of_f(BLOCK_SIZE))?;
+    push_u32(&mut module.c13, &INLINEES)?;
     let mut database = file_of_items(alloc, TYPES, IDS)?;
     database.names.clear();
     database.names.extend_from_slice(NAMES)?;

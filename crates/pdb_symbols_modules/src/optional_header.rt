@@ -21,8 +21,11 @@ pub const SECTION_HEADERS: usize = 5;
 /// The place of the section headers before the image's code was moved.
 pub const ORIGINAL_SECTION_HEADERS: usize = 10;
 
-/// The number at a place of the optional debug header, counted from 0; the one of no stream where
-/// the header ends before it. `InvalidStreamLength` where the header isn't made of whole numbers.
+/// The number at a place of the optional debug header, counted from 0; that of no stream where the
+/// header ends before it.
+///
+/// # Errors
+/// `InvalidStreamLength` where the header isn't made of whole numbers.
 #[tactic(auto, unfolding(crate::specs::OptionalHeader::optional_at))]
 pub fn number_at_place(optional_header: &[u8], place: usize) -> Result<StreamIndex>
     requires { place ≤ 10 }

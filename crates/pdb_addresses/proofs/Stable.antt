@@ -1,7 +1,7 @@
--- A list that was sorted stably by a total order is the only one.
+-- A list that was sorted stably by a total order is the only one: the list in order.
 use Rattle.std.proofs.Common.{◌≡◌, ℕ, suc, ◌<◌, ◌≤◌, inl, inr, Bool, true, false, cond, not, ◌&&◌}
 use Rattle.std.proofs.Common.{List, [], ◌∷◌, length, get_or, refl, sym, ap, ◌∙◌, arith}
-use Rattle.std.specs.Prelude.{IsSorted}
+use Rattle.std.specs.Prelude.{IsSorted, IsPermutation, replicate}
 use Rattle.std.specs.Cmp.{IsTotalOrder}
 use Rattle.std.specs.declared.cmp.Ordering.{Ordering}
 use Rattle.std.specs.declared.cmp.Ordering.TheVariants.{Less, Equal, Greater}
@@ -11,7 +11,9 @@ use Rattle.std.specs.List.Sorted.{ties, IsStable}
 use Rattle.std.proofs.lemmas.Bool.{cases_Bool}
 use Rattle.std.proofs.lemmas.Cmp.{upto, tied_itself, alike_right}
 use Rattle.std.proofs.lemmas.List.MinMax.{ranks_by}
-use Rattle.std.proofs.lemmas.List.Sorted.{sorted_far}
+use Rattle.std.proofs.lemmas.List.Sorted.{sorted_far, sum_by-IsPermutation}
+use Rattle.std.proofs.lemmas.List.Sums.{length-filter}
+use Rattle.pdb_addresses.specs.InOrder.{inserted, in_order}
 
 -- ---- answers of an order, and their turns
 
@@ -49,16 +51,6 @@ is_equal Equal e = refl
 is_equal Greater e = absurd cc
 
 module _ {X : Type 0} (R : X → X → Ordering) where
-  -- an element among others in order: before those that tie with it
-  abbrev pub inserted : X → List X → List X
-  inserted x [] = x ∷ []
-  inserted x (y ∷ ys) = cond (is_gt (R x y)) (y ∷ inserted x ys) (x ∷ y ∷ ys)
-
-  -- elements in order; those that tie stay in theirs
-  abbrev pub in_order : List X → List X
-  in_order [] = []
-  in_order (x ∷ xs) = inserted x (in_order xs)
-
   -- none is before an element
   abbrev pub Low : X → List X → Type 0
   Low a [] = Unit {0}
@@ -88,7 +80,7 @@ module _ {X : Type 0} (R : X → X → Ordering) where
     up_to_other a b h = gt_turned (R b a) (R a b) (o.antisymm b a) h
 
     low_inserted : (a c : X) (xs : List X) → is_gt (R a c) ≡ false → Low a xs
-        → Low a (inserted c xs)
+        → Low a (inserted R c xs)
     low_inserted a c [] le low = (le, tt)
     low_inserted a c (x ∷ xs) le low = elim (cases_Bool (is_gt (R c x))) [
       | inl behind ↦ rw behind (low.0, low_inserted a c xs le low.1)
@@ -96,7 +88,7 @@ module _ {X : Type 0} (R : X → X → Ordering) where
     ]
 
     -- an element inserted where it belongs leaves the list in order
-    pub up_inserted : (c : X) (xs : List X) → Up xs → Up (inserted c xs)
+    pub up_inserted : (c : X) (xs : List X) → Up xs → Up (inserted R c xs)
     up_inserted c [] up = (tt, tt)
     up_inserted c (x ∷ xs) up = elim (cases_Bool (is_gt (R c x))) [
       | inl behind ↦
@@ -105,9 +97,9 @@ module _ {X : Type 0} (R : X → X → Ordering) where
     ]
 
     -- elements in order rise
-    pub up_in_order : (xs : List X) → Up (in_order xs)
+    pub up_in_order : (xs : List X) → Up (in_order R xs)
     up_in_order [] = tt
-    up_in_order (x ∷ xs) = up_inserted x (in_order xs) (up_in_order xs)
+    up_in_order (x ∷ xs) = up_inserted x (in_order R xs) (up_in_order xs)
 
     low_from : (c : X) (xs : List X)
         → ((j : ℕ) → j < length xs → is_gt (R c (get_or xs j c)) ≡ false) → Low c xs
@@ -156,20 +148,20 @@ module _ {X : Type 0} (R : X → X → Ordering) where
       | inr h ↦ rw h refl
     ]
 
-    kept_inserted : (k r : X) (xs : List X) → filter (tie k) (inserted r xs)
+    kept_inserted : (k r : X) (xs : List X) → filter (tie k) (inserted R r xs)
         ≡ filter (tie k) (r ∷ xs)
     kept_inserted k r [] = refl
     kept_inserted k r (x ∷ xs) = elim (cases_Bool (is_gt (R r x))) [
       | inl behind ↦
-          rw behind (onto_same k x (inserted r xs) (r ∷ xs) (kept_inserted k r xs)
+          rw behind (onto_same k x (inserted R r xs) (r ∷ xs) (kept_inserted k r xs)
           ∙ swapped k r x xs behind)
       | inr not_behind ↦ rw not_behind refl
     ]
 
-    kept_in_order : (k : X) (xs : List X) → filter (tie k) (in_order xs) ≡ filter (tie k) xs
+    kept_in_order : (k : X) (xs : List X) → filter (tie k) (in_order R xs) ≡ filter (tie k) xs
     kept_in_order k [] = refl
-    kept_in_order k (x ∷ xs) = kept_inserted k x (in_order xs)
-        ∙ onto_same k x (in_order xs) xs (kept_in_order k xs)
+    kept_in_order k (x ∷ xs) = kept_inserted k x (in_order R xs)
+        ∙ onto_same k x (in_order R xs) xs (kept_in_order k xs)
 
     before_too : (k m x : X) → is_gt (R m k) ≡ true → is_gt (R m x) ≡ false → tie k x ≡ false
     before_too k m x behind low = elim (cases_Bool (tie k x)) [
@@ -240,6 +232,28 @@ module _ {X : Type 0} (R : X → X → Ordering) where
         rw (f, the_only_one ys zs up.1 up'.1 others) refl
 
     -- elements that were sorted stably are those in order
-    pub is_in_order : (xs ys : List X) → IsSorted R ys → IsStable R xs ys → ys ≡ in_order xs
-    is_in_order xs ys sorted stable = the_only_one ys (in_order xs) (up_sorted ys sorted)
+    pub is_in_order : (xs ys : List X) → IsSorted R ys → IsStable R xs ys → ys ≡ in_order R xs
+    is_in_order xs ys sorted stable = the_only_one ys (in_order R xs) (up_sorted ys sorted)
         (up_in_order xs) (λ k. stable k ∙ sym (kept_in_order k xs))
+
+    -- ---- where only an element itself ties with it
+
+    ties_are : ((x y : X) → R x y ≡ Equal → x ≡ y) → (k : X) (xs : List X)
+        → filter (tie k) xs ≡ replicate (length (filter (tie k) xs)) k
+    ties_are only k [] = refl
+    ties_are only k (x ∷ xs) = elim (cases_Bool (tie k x)) [
+      | inl h ↦
+          rw h (ap (λ (y : X). y ∷ filter (tie k) xs) (sym (only k x (tied k x h)))
+          ∙ ap (λ (l : List X). k ∷ l) (ties_are only k xs))
+      | inr h ↦ rw h (ties_are only k xs)
+    ]
+
+    -- elements that were sorted by any sort are those in order
+    pub is_in_order_of_equals : ((x y : X) → R x y ≡ Equal → x ≡ y) → (xs ys : List X)
+        → IsPermutation xs ys → IsSorted R ys → ys ≡ in_order R xs
+    is_in_order_of_equals only xs ys permutation sorted =
+        is_in_order xs ys sorted (λ k. ties_are only k ys
+        ∙ ap (λ n. replicate n k) (length-filter (tie k) ys
+        ∙ sum_by-IsPermutation (λ x. cond (tie k x) 1 0) xs ys permutation
+        ∙ sym (length-filter (tie k) xs))
+        ∙ sym (ties_are only k xs))
