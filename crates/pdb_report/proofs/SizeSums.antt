@@ -60,7 +60,7 @@ unfolding database files
 have_files s place h = files_loaded s (loaded (shared s)) place h
 
 -- a report by file goes by the address map of any other report of the file
-pub by_map : (m n : Map) (db : Database FileAnswer) (start end : ℕ) (text : List ℕ) → m ≡ n
+abbrev pub by_map : (m n : Map) (db : Database FileAnswer) (start end : ℕ) (text : List ℕ) → m ≡ n
     → IsFileReport m db start end text → IsFileReport n db start end text
 by_map m n db start end text same r = record {
   table = r.table;
