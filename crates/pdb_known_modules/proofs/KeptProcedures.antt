@@ -1,4 +1,4 @@
--- What is kept of procedures stays the stream's.
+-- What is cached of procedures stays the stream's.
 use Rattle.std.proofs.Common.{◌≡◌, ◌≢◌, ℕ, ◌<◌, List, [], replicate, length, None, Some, Ok, refl, sym, ap, subst, ◌∙◌, inl, inr, arith}
 use Rattle.std.specs.Prelude.{Option, slice_get, slice_set}
 use Rattle.std.specs.Box.{box_value}
@@ -16,7 +16,7 @@ use Rattle.pdb_known_modules.specs.declared.procedure_data.ExtendedProcedureInfo
 use Rattle.pdb_known_modules.specs.Modules.{ExtendedModule, extended_of, extended_procedure_of}
 use Rattle.pdb_known_modules.specs.ProcedureData.{IsReadBy, IsOfProcedure, IsOfStream, AreOfStream}
 
--- what is kept in a place
+-- what is cached in a place
 abbrev Kept : Type 0
 Kept = Box ExtendedProcedureInfo
 
@@ -62,7 +62,7 @@ each_now stream places n info kept lt is k other e = elim (eqb_tells k n) [
   | inr apart ↦ kept.each k other (sym (set_other places n k (Some info) (apart.1)) ∙ e)
 ]
 
--- with what was read now, all that is kept is still the stream's
+-- with what was read now, all that is cached is still the stream's
 pub kept_now : (stream : ModuleStream) (places : List (Option Kept)) (n : ℕ) (info : Kept) → AreOfStream stream places → slice_get places n ≡ Some None → IsOfStream stream (box_value info)
     → AreOfStream stream (slice_set places n (Some info))
 kept_now stream places n info kept empty is =
@@ -87,7 +87,7 @@ nothing_kept stream count = record { each = λ k info e. absurd (nothing_at coun
 pub no_places : (stream : ModuleStream) → AreOfStream stream []
 no_places stream = record { each = λ k info e. cc }
 
--- what is kept of a procedure is the procedure's
+-- what is cached of a procedure is the procedure's
 pub lent_of : (stream : ModuleStream) (places : List (Option Kept)) (k : ℕ) (info : Kept) (q : Procedure) → AreOfStream stream places → slice_get places k ≡ Some (Some info) → IsReadBy q (box_value info)
     → (extended : ExtendedModule) → extended_of stream ≡ Ok extended → IsOfProcedure stream extended q (box_value info)
 lent_of stream places k info q kept at has extended is = (kept.each k info at).each extended q is has

@@ -1,4 +1,4 @@
--- What is kept of rows stays the stream's.
+-- What is cached of rows stays the stream's.
 use Rattle.std.proofs.Common.{◌≡◌, ◌≢◌, ℕ, ◌^◌, ◌<◌, List, None, Some, false, sym, ap, subst, ◌∙◌, inl, inr, arith}
 use Rattle.std.specs.Borrow.{Bor}
 use Rattle.std.specs.Prelude.{Option, option_map}
@@ -35,7 +35,7 @@ each_now stream old new start rows short updates are kept other found other_shor
   | inr apart ↦ kept.each other found other_short (sym (updates.2 (place_number other) (apart_is_not_at (place_number start) (place_number other) (apart.1))) ∙ at)
 ]
 
--- with rows that were read now, all that is kept is still the stream's
+-- with rows that were read now, all that is cached is still the stream's
 pub kept_now : (stream : ModuleStream) (old new : PublicRows) (start : PdbInternalSectionOffset) (rows : List LineRow) → start.offset < 2 ^ 32 → Updates nat_cmp old.by_start new.by_start (place_number start) (Some rows)
     → AreRowsAt stream start rows → AreRowsOfStream stream old → AreRowsOfStream stream new
 kept_now stream old new start rows short updates are kept = record { each = each_now stream old new start rows short updates are kept }
@@ -44,7 +44,7 @@ kept_now stream old new start rows short updates are kept = record { each = each
 pub kept_before : (stream : ModuleStream) (old new : PublicRows) → IsUnchanged old.by_start new.by_start → AreRowsOfStream stream old → AreRowsOfStream stream new
 kept_before stream old new same kept = record { each = λ start rows short at. kept.each start rows short (rw (← same) at) }
 
--- what is lent of what the stream that is held keeps are the rows there
+-- what is lent of the stream's cached rows are the rows there
 pub lent_at : (held stream : ModuleStream) (kept : PublicRows) (start : PdbInternalSectionOffset) (found : Option (Bor (List LineRow))) → held ≡ stream → AreRowsOfStream held kept → start.offset < 2 ^ 32
     → option_map (λ r. r.now) found ≡ get nat_cmp kept.by_start (place_number start) → AreLentAt stream start found
 lent_at held stream kept start None same are short at = tt

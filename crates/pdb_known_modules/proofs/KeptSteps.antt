@@ -1,4 +1,4 @@
--- What is kept of modules stays theirs.
+-- What is cached of modules stays theirs.
 use Rattle.std.proofs.Common.{◌≡◌, ◌≢◌, true, false, ℕ, ◌<◌, List, length, None, Some, refl, sym, ap, ◌∙◌, inl, inr, arith}
 use Rattle.std.specs.Prelude.{Option, replicate, slice_get, slice_set}
 use Rattle.std.proofs.lemmas.Bool.{cases_lt}
@@ -66,7 +66,7 @@ each_now own places n known kept lt is k other e = elim (eqb_tells k n) [
   | inr apart ↦ kept.each k other (sym (set_other places n k (Some known) (apart.1)) ∙ e)
 ]
 
--- and what is kept is each module's own, still
+-- and what is cached is each module's own, still
 pub kept_now : (own : ℕ → Option ModuleData) (places : Places) (n : ℕ) (known : Option ModuleData) → AreKept own places → slice_get places n ≡ Some None → known ≡ own n → AreKept own (slice_set places n (Some known))
 kept_now own places n known kept empty is =
     let lt = slice_get_within places n None empty in
@@ -75,7 +75,7 @@ kept_now own places n known kept empty is =
 abbrev empty_place : Option (Option ModuleData)
 empty_place = None
 
--- at none of so many empty places anything is kept
+-- at none of so many empty places anything is cached
 empty_at_all : (count n : ℕ) (known : Option ModuleData) → slice_get (replicate count empty_place) n ≢ Some (Some known)
 empty_at_all count n known e = elim (cases_lt n count) [
   | inl lt ↦

@@ -20,7 +20,8 @@ use Rattle.pdb_resolving.specs.Fault.{Fault, PdbError, ProcedureInlineRangesUnsu
 -- ---- a module's data
 
 -- what a provider gives of the module of a number with an entry, if it has one
-abbrev pub given_if_listed : Provided → ℕ → Option Module → Result (Option ModuleStream) container.Fault
+abbrev pub given_if_listed :
+    Provided → ℕ → Option Module → Result (Option ModuleStream) container.Fault
 given_if_listed provided number None = Ok None
 given_if_listed provided number (Some entry) = provided number entry
 
@@ -45,7 +46,8 @@ abbrev pub data_if_there : Option ModuleStream → Option ModuleData
 data_if_there None = None
 data_if_there (Some stream) = if_read (data_of_stream stream)
 
--- The data of a module: none where it has no stream, and where that or its symbols can't be read to the end.
+-- The data of a module: none where it has no stream, and where that or its symbols can't be read to
+-- the end.
 abbrev pub module_data : Result (Option ModuleStream) container.Fault → Option ModuleData
 module_data (Ok found) = data_if_there found
 module_data (Err e) = None
@@ -82,17 +84,20 @@ sites_lifted (Err Unsuccessful) = Err ProcedureInlineRangesUnsuccessful
 
 -- the inline sites of a procedure among the symbols of its module
 abbrev pub procedure_sites : ModuleStream → Procedure → Result (List Site) Fault
-procedure_sites stream q = lifted (iteration_in stream 4) >>= λ symbols. sites_lifted (sites_of symbols.bytes (q.symbol_index).0 (q.end_symbol_index).0)
+procedure_sites stream q = lifted (iteration_in stream 4) >>= λ symbols.
+    sites_lifted (sites_of symbols.bytes (q.symbol_index).0 (q.end_symbol_index).0)
 
 -- The line rows of a procedure, and then its inline sites.
-unfoldable pub extended_procedure_of : ModuleStream → Program → Procedure → Result (List LineRow × List Site) Fault
+unfoldable pub extended_procedure_of :
+    ModuleStream → Program → Procedure → Result (List LineRow × List Site) Fault
 extended_procedure_of stream program q = do
   rows ← lifted (function_rows program q.offset)
   sites ← procedure_sites stream q
   Ok (rows, sites)
 
 -- the inlined calls over a place in a procedure, innermost first
-unfoldable pub procedure_calls : ModuleStream → (ℕ → Option InlinedFunction) → Procedure → PdbInternalSectionOffset → Result (List InlinedCall) Fault
+unfoldable pub procedure_calls : ModuleStream → (ℕ → Option InlinedFunction) → Procedure
+    → PdbInternalSectionOffset → Result (List InlinedCall) Fault
 procedure_calls stream inlinees q place = do
   symbols ← lifted (iteration_in stream 4)
   sites ← sites_lifted (sites_of symbols.bytes (q.symbol_index).0 (q.end_symbol_index).0)

@@ -1,4 +1,4 @@
--- What is kept of procedures that were asked for.
+-- What is cached of procedures that were asked for.
 use Rattle.std.specs.Prelude.{◌≡◌, ℕ, List, slice_get, Option, None, Some, Ok}
 use Rattle.std.specs.Borrow.{Bor}
 use Rattle.std.specs.Box.{box_value}
@@ -16,21 +16,26 @@ pub record IsReadBy (q : Procedure) (info : ExtendedProcedureInfo) : Type 0 wher
   pub symbol : q.symbol_index ≡ info.symbol_index
   pub end : q.end_symbol_index ≡ info.end_symbol_index
 
--- These data are a procedure's, by a line program and what gives inlined functions: its rows and its sites, with pieces that
--- stand for these.
-pub record IsOfProcedure (stream : ModuleStream) (extended : ExtendedModule) (q : Procedure) (info : ExtendedProcedureInfo) : Type 0 where
+-- These data are a procedure's, by a line program and what gives inlined functions: its rows and
+-- its sites, with pieces that stand for these.
+pub record IsOfProcedure (stream : ModuleStream) (extended : ExtendedModule) (q : Procedure)
+    (info : ExtendedProcedureInfo) : Type 0 where
   pub read : extended_procedure_of stream extended.program q ≡ Ok (info.rows, info.ranges.sites)
   pub stand : StandForSites (call_rows extended.inlinees q.offset) info.ranges
 
 -- These data are the stream's: those of each procedure that they are read by.
 pub record IsOfStream (stream : ModuleStream) (info : ExtendedProcedureInfo) : Type 0 where
-  pub each : (extended : ExtendedModule) (q : Procedure) → extended_of stream ≡ Ok extended → IsReadBy q info → IsOfProcedure stream extended q info
+  pub each : (extended : ExtendedModule) (q : Procedure) → extended_of stream ≡ Ok extended
+      → IsReadBy q info → IsOfProcedure stream extended q info
 
--- What is kept in places is the stream's.
-pub record AreOfStream (stream : ModuleStream) (places : List (Option (Box ExtendedProcedureInfo))) : Type 0 where
-  pub each : (k : ℕ) (info : Box ExtendedProcedureInfo) → slice_get places k ≡ Some (Some info) → IsOfStream stream (box_value info)
+-- What is cached in places is the stream's.
+pub record AreOfStream (stream : ModuleStream)
+    (places : List (Option (Box ExtendedProcedureInfo))) : Type 0 where
+  pub each : (k : ℕ) (info : Box ExtendedProcedureInfo) → slice_get places k ≡ Some (Some info)
+      → IsOfStream stream (box_value info)
 
 -- What is lent of a procedure, if something is, is the procedure's.
 abbrev pub IsLentOf : ModuleStream → Procedure → Option (Bor ExtendedProcedureInfo) → Type 0
 IsLentOf stream q None = Unit {0}
-IsLentOf stream q (Some info) = (extended : ExtendedModule) → extended_of stream ≡ Ok extended → IsOfProcedure stream extended q info.now
+IsLentOf stream q (Some info) = (extended : ExtendedModule) → extended_of stream ≡ Ok extended
+    → IsOfProcedure stream extended q info.now

@@ -10,12 +10,12 @@ use Rattle.pdb_known_modules.specs.declared.modules.ExtendedModuleInfo.{Extended
 abbrev pub extended_seen : ExtendedModuleInfo → ExtendedModule
 extended_seen m = record { program = m.line_program; inlinees = given_by m.inlinees }
 
--- what is kept of a stream's line program and inlinees, if something is, is the stream's
+-- what is cached of a stream's line program and inlinees, if something is, is the stream's
 abbrev pub AreExtended : ModuleStream → Option ExtendedModuleInfo → Type 0
 AreExtended stream None = Unit {0}
 AreExtended stream (Some m) = extended_of stream ≡ Ok (extended_seen m)
 
--- the same of what is lent
+-- what is lent of a stream's line program and inlinees, if something is, is the stream's
 abbrev pub AreExtendedHere : ModuleStream → Option (Bor ExtendedModuleInfo) → Type 0
 AreExtendedHere stream None = Unit {0}
 AreExtendedHere stream (Some m) = extended_of stream ≡ Ok (extended_seen m.now)

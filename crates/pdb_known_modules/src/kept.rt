@@ -13,7 +13,8 @@ use pdb_symbols_modules::Module;
 use std::alloc::{AllocError, Global};
 use std::marker::Model;
 
-/// A place for a module's data, which are kept there once they were read: `Some(None)` of a module without data.
+/// A place for a module's data, which are cached there once they were read: `Some(None)` of a
+/// module without data.
 type KeptModule<'a, I> = Option<Option<BasicModuleInfo<'a, I>>>;
 
 /// What is cached of the modules that were asked for, each at its index, and how many bytes that
@@ -113,9 +114,12 @@ pub fn keep_module<'a, P: ModuleProvider>(
     modules: &[Module<'_>],
     module_index: usize,
 ) -> Result<(), AllocError>
-    requires { AreKept (λ n. module_data (own_of (P.provided provider.now) modules.now n)) kept.old }
-    ensures kept { AreKept (λ n. module_data (own_of (P.provided provider.now) modules.now n)) kept.new }
-    ensures known { IfOk result (λ _. known_in kept.new module_index ≡ module_data (own_of (P.provided provider.now) modules.now module_index)) }
+    requires { AreKept
+        (λ n. module_data (own_of (P.provided provider.now) modules.now n)) kept.old }
+    ensures kept { AreKept
+        (λ n. module_data (own_of (P.provided provider.now) modules.now n)) kept.new }
+    ensures known { IfOk result (λ _. known_in kept.new module_index
+        ≡ module_data (own_of (P.provided provider.now) modules.now module_index)) }
 {
     forget_if_full(kept);
     if !is_empty_at(&kept.places, module_index) {
@@ -141,7 +145,8 @@ fn keep_lines_at<'a, I: ModuleTables>(
     }
 }
 
-/// Reads line program and inlinees of the module of a number, if its data are kept, and keeps them too.
+/// Reads line program and inlinees of the module with that index, if its data are cached, and
+/// caches them too.
 pub fn keep_lines<'a, I: ModuleTables>(
     alloc: Global,
     kept: &mut CachedModules<'a, I>,
@@ -171,7 +176,8 @@ fn keep_procedure_at<'a, I: ModuleTables>(
     }
 }
 
-/// Reads the data of the procedure of a number in the module of a number, if the module's data are kept, and keeps them too.
+/// Reads the data of the procedure with that index in the module with that index, if the module's
+/// data are cached, and caches them too.
 pub fn keep_procedure<'a, I: ModuleTables>(
     alloc: Global,
     kept: &mut CachedModules<'a, I>,
@@ -202,8 +208,8 @@ fn keep_public_rows_at<'a, I: ModuleTables>(
     }
 }
 
-/// Reads the line rows of the function that begins at a place in the module of a number, if the module's data are kept, and keeps
-/// them too.
+/// Reads the line rows of the function that begins at a place in the module with that index, if the
+/// module's data are cached, and caches them too.
 pub fn keep_public_rows<'a, I: ModuleTables>(
     alloc: Global,
     kept: &mut CachedModules<'a, I>,
@@ -219,7 +225,7 @@ pub fn keep_public_rows<'a, I: ModuleTables>(
     Ok(())
 }
 
-/// The data that are kept of the module of a number, if there are some.
+/// The data that are cached of the module with that index, if there are some.
 pub fn known_at<'m, 'a, I: ModuleTables>(
     kept: &'m CachedModules<'a, I>,
     module_index: usize,

@@ -40,9 +40,11 @@ pub struct BasicModuleInfo<'a, I: ModuleTables> {
     bounds: SortedBounds,
     /// Its line program and inlinees, once they were read.
     extended: Option<ExtendedModuleInfo<'a>>,
-    /// For each procedure a place, in which its data are kept once they were read; no place before line program and inlinees are.
+    /// For each procedure a place, in which its data are cached once they were read; no place
+    /// before line program and inlinees are.
     kept_procedures: Vec<Option<Box<ExtendedProcedureInfo<'a>>>>,
-    /// The line rows of functions that begin at public entries, once they were read; none before line program and inlinees are.
+    /// The line rows of functions that begin at public entries, once they were read; none before
+    /// line program and inlinees are.
     public_rows: PublicRows,
     /// How many bytes its line data have.
     line_data_size: u32,
@@ -59,9 +61,12 @@ impl<'a, I: ModuleTables> Model for BasicModuleInfo<'a, I> {
 
     ghost view = { λ m. record { stream = I.held m.module_info.now; procedures = m.procedures } };
 
-    // The bounds are those of the procedures. What is kept of lines and inlinees is the stream's, and so is what is kept of procedures
-    // and of public entries.
-    ghost invariant = { λ m. AreProcedureBounds m.procedures m.bounds × AreExtended (I.held m.module_info.now) m.extended × AreOfStream (I.held m.module_info.now) m.kept_procedures.items × AreRowsOfStream (I.held m.module_info.now) m.public_rows };
+    // The bounds are those of the procedures. What is cached of lines and inlinees is the stream's,
+    // and so is what is cached of procedures and of public entries.
+    ghost invariant = { λ m. AreProcedureBounds m.procedures m.bounds
+        × AreExtended (I.held m.module_info.now) m.extended
+        × AreOfStream (I.held m.module_info.now) m.kept_procedures.items
+        × AreRowsOfStream (I.held m.module_info.now) m.public_rows };
 }
 
 impl<'a, I: ModuleTables> Drop for BasicModuleInfo<'a, I> {
@@ -84,8 +89,8 @@ impl<'a, I: ModuleTables> Drop for BasicModuleInfo<'a, I> {
 }
 
 impl<'a, I: ModuleTables> BasicModuleInfo<'a, I> {
-    /// The data of a module's stream, whose symbols are read to their end. The faults of [`ModuleTables::symbols`],
-    /// `SymbolTooShort`, `UnexpectedEof`; `OutOfMemory`.
+    /// The data of a module's stream, whose symbols are read to their end. The faults of
+    /// [`ModuleTables::symbols`], `SymbolTooShort`, `UnexpectedEof`; `OutOfMemory`.
     #[tactic(auto, using(crate::proofs::KeptProcedures::no_places), unfolding(crate::specs::Modules::data_of_stream))]
     fn try_from_module_info(
         alloc: Global,
@@ -111,7 +116,8 @@ impl<'a, I: ModuleTables> BasicModuleInfo<'a, I> {
     /// The lesser of `far` and the distance from a place to the next start or end of a procedure.
     #[tactic(auto, using(crate::proofs::BoundSteps::procedures_alike))]
     pub fn to_next_procedure(&self, place: PdbInternalSectionOffset, far: u32) -> u32
-        ensures { result ≡ up_to_next (flat_map (bounds_of_procedure place) (self.now).procedures) place.offset far }
+        ensures { result ≡ up_to_next
+            (flat_map (bounds_of_procedure place) (self.now).procedures) place.offset far }
     {
         self.bounds.up_to_next(place, far)
     }
@@ -145,16 +151,16 @@ impl<'a, I: ModuleTables> BasicModuleInfo<'a, I> {
         }
     }
 
-    /// The line program and the inlinees, if they are kept.
+    /// The line program and the inlinees, if they are cached.
     pub fn extended(&self) -> Option<&ExtendedModuleInfo<'a>>
         ensures { AreExtendedHere (self.now).stream result }
     {
         self.extended.as_ref()
     }
 
-    /// Reads the data of the procedure with that index, if line program and inlinees are cached, and
-    /// caches them, unless they were cached before. Where they have a fault nothing is cached, and
-    /// so where memory is short. Returns about how many bytes were cached.
+    /// Reads the data of the procedure with that index, if line program and inlinees are cached,
+    /// and caches them, unless they were cached before. Where they have a fault nothing is cached,
+    /// and so where memory is short. Returns about how many bytes were cached.
     #[tactic(auto, using(crate::proofs::KeptProcedures::kept_now))]
     pub fn keep_procedure(
         &mut self,
@@ -176,15 +182,16 @@ impl<'a, I: ModuleTables> BasicModuleInfo<'a, I> {
         }
     }
 
-    /// The data of the procedure of a number; `None` where line program and inlinees aren't kept, where there is no such procedure,
-    /// and where its data have a fault.
+    /// The data of the procedure with that index; `None` where line program and inlinees aren't
+    /// cached, where there is no such procedure, and where its data have a fault.
     #[tactic(auto, using(crate::proofs::KeptProcedures::of_stream))]
     fn read_procedure(
         &self,
         alloc: Global,
         number: usize,
     ) -> std::result::Result<Option<Box<ExtendedProcedureInfo<'a>>>, AllocError>
-        ensures { IfOk result (λ d. IfSome d (λ info. IsOfStream (self.now).stream (box_value info))) }
+        ensures { IfOk result (λ d. IfSome d
+            (λ info. IsOfStream (self.now).stream (box_value info))) }
     {
         let Some(extended) = self.extended() else {
             return Ok(None);
@@ -202,7 +209,7 @@ impl<'a, I: ModuleTables> BasicModuleInfo<'a, I> {
         }
     }
 
-    /// The data that are kept at a procedure's number, if they are the procedure's own.
+    /// The data that are cached at a procedure's index, if they are the procedure's own.
     #[tactic(auto, using(crate::proofs::KeptProcedures::lent_of))]
     pub fn extended_procedure(
         &self,
@@ -240,8 +247,8 @@ impl<'a, I: ModuleTables> BasicModuleInfo<'a, I> {
         }
     }
 
-    /// The line rows of the function that begins at a place; `None` where line program and inlinees aren't kept, and where the rows
-    /// have a fault.
+    /// The line rows of the function that begins at a place; `None` where line program and inlinees
+    /// aren't cached, and where the rows have a fault.
     fn read_public_rows(
         &self,
         alloc: Global,
@@ -259,7 +266,7 @@ impl<'a, I: ModuleTables> BasicModuleInfo<'a, I> {
         }
     }
 
-    /// The line rows of the function that begins at a place, if they are kept.
+    /// The line rows of the function that begins at a place, if they are cached.
     pub fn public_rows(&self, start: PdbInternalSectionOffset) -> Option<&FunctionRows>
         ensures { AreLentAt (self.now).stream start result }
     {
@@ -299,15 +306,16 @@ fn data_if_read<'a, I: ModuleTables>(
     }
 }
 
-/// The data of the module of a number, counted from 0; `None` past the list, where it has no stream, and where that or its
-/// symbols can't be read to the end.
+/// The data of the module with that index, counted from 0; `None` past the list, where it has no
+/// stream, and where that or its symbols can't be read to the end.
 pub fn get_basic_module_info<'a, P: ModuleProvider>(
     alloc: Global,
     provider: &'a P,
     modules: &[Module<'_>],
     module_index: usize,
 ) -> std::result::Result<Option<BasicModuleInfo<'a, P::Info>>, AllocError>
-    ensures { IfOk result (λ m. m ≡ module_data (own_of (P.provided provider.now) modules.now module_index)) }
+    ensures { IfOk result (λ m. m
+        ≡ module_data (own_of (P.provided provider.now) modules.now module_index)) }
 {
     let Some(module) = modules.get(module_index) else {
         return Ok(None);
@@ -319,7 +327,8 @@ pub fn get_basic_module_info<'a, P: ModuleProvider>(
     }
 }
 
-/// A module's line program (`DEBUG_S_LINES`, `DEBUG_S_FILECHKSMS`) and inlinees (`DEBUG_S_INLINEELINES`).
+/// A module's line program (`DEBUG_S_LINES`, `DEBUG_S_FILECHKSMS`) and inlinees
+/// (`DEBUG_S_INLINEELINES`).
 #[derive(Drop)]
 pub struct ExtendedModuleInfo<'a> {
     /// The line program.
@@ -338,8 +347,8 @@ fn extended_size(extended: &ExtendedModuleInfo<'_>, line_data_size: u32, count: 
         .saturating_add(places)
 }
 
-/// The line program of a module, and then its inlinees, each to its end. The faults of [`ModuleTables::line_program`] and
-/// [`ModuleTables::inlinees`], `UnexpectedEof`; `OutOfMemory`.
+/// The line program of a module, and then its inlinees, each to its end. The faults of
+/// [`ModuleTables::line_program`] and [`ModuleTables::inlinees`], `UnexpectedEof`; `OutOfMemory`.
 #[tactic(auto, unfolding(crate::specs::Modules::extended_of))]
 pub fn read_extended<'a, I: ModuleTables>(
     alloc: Global,
@@ -367,12 +376,14 @@ pub fn procedures_in<'m, 'a, I: ModuleTables>(
     }
 }
 
-/// The number of the procedure of a module over a place, counted from 0 in the order of the module's procedures; none without data.
+/// The index of the procedure of a module over a place, counted from 0 in the order of the module's
+/// procedures; none without data.
 pub fn number_over<'a, I: ModuleTables>(
     known: Option<&BasicModuleInfo<'a, I>>,
     place: PdbInternalSectionOffset,
 ) -> Option<usize>
-    ensures { procedure_if_numbered (procedures_of_module (option_copied known.entry)) result ≡ over (procedures_of_module (option_copied known.entry)) place }
+    ensures { procedure_if_numbered (procedures_of_module (option_copied known.entry)) result
+        ≡ over (procedures_of_module (option_copied known.entry)) place }
 {
     match known {
         None => None,
@@ -380,12 +391,13 @@ pub fn number_over<'a, I: ModuleTables>(
     }
 }
 
-/// The procedure of a number in a module; none without data.
+/// The procedure with that index in a module; none without data.
 pub fn procedure_numbered<'m, 'a, I: ModuleTables>(
     known: Option<&'m BasicModuleInfo<'a, I>>,
     number: usize,
 ) -> Option<&'m Procedure<'a>>
-    ensures { option_map (λ q. q.now) result ≡ slice_get (procedures_of_module (option_copied known.entry)) number }
+    ensures { option_map (λ q. q.now) result
+        ≡ slice_get (procedures_of_module (option_copied known.entry)) number }
 {
     match known {
         None => None,

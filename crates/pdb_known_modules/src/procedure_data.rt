@@ -20,8 +20,8 @@ use std::alloc::{AllocError, Global};
 /// About how many bytes of memory the data of a procedure take besides its rows and sites.
 const PROCEDURE_SIZE: u64 = 300;
 
-/// What the line and the inlined calls at each place of a procedure are found by: the rows of its `DEBUG_S_LINES`, and its
-/// inline sites.
+/// What the line and the inlined calls at each place of a procedure are found by: the rows of its
+/// `DEBUG_S_LINES`, and its inline sites.
 #[derive(Drop)]
 pub struct ExtendedProcedureInfo<'a> {
     /// Where the procedure begins.
@@ -54,7 +54,8 @@ impl<'a> ExtendedProcedureInfo<'a> {
     }
 }
 
-/// The inline sites of a procedure among the symbols of its module, with pieces for a search of the deepest one.
+/// The inline sites of a procedure among the symbols of its module, with pieces for a search of the
+/// deepest one.
 #[tactic(auto, using(crate::proofs::SitesSteps::sites_fail))]
 fn read_ranges<'a>(
     alloc: Global,
@@ -62,8 +63,10 @@ fn read_ranges<'a>(
     procedure: &Procedure<'_>,
     inlinees: &Inlinees<'a>,
 ) -> Result<InlineRanges<'a>>
-    ensures sites { Answers (λ r. r.sites) result (sites_lifted (sites_of symbols.entry.bytes procedure.now.symbol_index.0 procedure.now.end_symbol_index.0)) }
-    ensures stand { IfOk result (λ r. StandForSites (call_rows (given_by inlinees.now) procedure.now.offset) r) }
+    ensures sites { Answers (λ r. r.sites) result (sites_lifted (sites_of symbols.entry.bytes
+        procedure.now.symbol_index.0 procedure.now.end_symbol_index.0)) }
+    ensures stand { IfOk result (λ r.
+        StandForSites (call_rows (given_by inlinees.now) procedure.now.offset) r) }
 {
     match InlineRanges::read(alloc, symbols, procedure, inlinees) {
         Ok(ranges) => Ok(ranges),
@@ -75,8 +78,8 @@ fn read_ranges<'a>(
 /// The line rows of a procedure, and then its inline sites, each read to its end.
 ///
 /// # Errors
-/// `UnexpectedEof` of the rows; the faults of [`ModuleTables::symbols`] and of the sites, as `PdbError`;
-/// `ProcedureInlineRangesUnsuccessful`; `OutOfMemory`.
+/// `UnexpectedEof` of the rows; the faults of [`ModuleTables::symbols`] and of the sites, as
+/// `PdbError`; `ProcedureInlineRangesUnsuccessful`; `OutOfMemory`.
 #[tactic(auto, using(pdb_resolving::proofs::Lifting::given_fails_on, pdb_resolving::proofs::Lifting::parsed_fails_on, pdb_resolving::proofs::Lifting::fails_on), unfolding(crate::specs::Modules::extended_procedure_of))]
 pub fn read_extended_procedure<'a, I: ModuleTables>(
     alloc: Global,
@@ -84,8 +87,10 @@ pub fn read_extended_procedure<'a, I: ModuleTables>(
     extended: &ExtendedModuleInfo<'a>,
     procedure: &Procedure<'_>,
 ) -> Result<ExtendedProcedureInfo<'a>>
-    ensures read { Answers (λ d. (d.rows, d.ranges.sites)) result (extended_procedure_of (I.held module_info.now) (extended_seen extended.now).program procedure.now) }
-    ensures stand { IfOk result (λ d. StandForSites (call_rows (extended_seen extended.now).inlinees procedure.now.offset) d.ranges) }
+    ensures read { Answers (λ d. (d.rows, d.ranges.sites)) result (extended_procedure_of
+        (I.held module_info.now) (extended_seen extended.now).program procedure.now) }
+    ensures stand { IfOk result (λ d. StandForSites
+        (call_rows (extended_seen extended.now).inlinees procedure.now.offset) d.ranges) }
     ensures key { IfOk result (λ d. IsReadBy procedure.now d) }
 {
     let rows = FunctionRows::read(alloc, &extended.line_program, procedure.offset)?;

@@ -29,21 +29,24 @@ impl PublicRows {
         }
     }
 
-    /// The rows of the function that begins at a place, if they are kept.
+    /// The rows of the function that begins at a place, if they are cached.
     pub fn get(&self, start: PdbInternalSectionOffset) -> Option<&FunctionRows>
-        ensures { option_map (λ r. r.now) result ≡ get nat_cmp (self.now).by_start (number_of_place start) }
+        ensures { option_map (λ r. r.now) result
+            ≡ get nat_cmp (self.now).by_start (number_of_place start) }
     {
         self.by_start.get(&place_number(start))
     }
 
-    /// Keeps the rows of the function that begins at a place. Nothing changes of what is kept where memory is short.
+    /// Caches the rows of the function that begins at a place. Nothing changes of what is cached
+    /// where memory is short.
     #[tactic(auto, using(crate::proofs::KeptRows::kept_now, crate::proofs::KeptRows::kept_before))]
     pub fn keep(
         &mut self,
         start: PdbInternalSectionOffset,
         rows: FunctionRows,
     ) -> Result<(), AllocError>
-        ensures { (stream : ModuleStream) → AreRowsAt stream start rows → AreRowsOfStream stream self.old → AreRowsOfStream stream self.new }
+        ensures { (stream : ModuleStream) → AreRowsAt stream start rows
+            → AreRowsOfStream stream self.old → AreRowsOfStream stream self.new }
     {
         self.by_start.insert(place_number(start), rows)?;
         Ok(())
