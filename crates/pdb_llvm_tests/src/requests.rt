@@ -20,11 +20,7 @@ const CODE: [(&[u8], &[u8], u64); 16] = [
     (b"t.exe 0o10000", b"t.exe", 0x1000),
     (b"t.exe 0X1aBc", b"t.exe", 0x1abc),
     (b"t.exe 0B101", b"t.exe", 5),
-    (
-        b"t.exe 0xffffffffffffffff",
-        b"t.exe",
-        0xffff_ffff_ffff_ffff,
-    ),
+    (b"t.exe 0xffffffffffffffff", b"t.exe", 0xffff_ffff_ffff_ffff),
 ];
 
 /// Lines that are no requests, each with its fault. `llvm-symbolizer` writes no error for the empty
@@ -50,9 +46,11 @@ const REFUSED: [(&[u8], RequestFault); 14] = [
 fn requests_of_code(rt: HostRuntime) {
     for (line, file, address) in CODE {
         let request = read_request(line, false);
-        assert!(rt; request.is_ok_and(|found| found.command == Command::Code
-            && found.file == Some(file)
-            && found.address == address));
+        assert!(rt;
+            request.is_ok_and(|found| found.command == Command::Code
+                && found.file == Some(file)
+                && found.address == address)
+        );
     }
 }
 
@@ -110,8 +108,14 @@ fn addresses_in_an_image(rt: HostRuntime) {
 fn texts_of_faults(rt: HostRuntime) {
     let texts = [
         (RequestFault::NoFile, "no input filename has been specified"),
-        (RequestFault::NoAddress, "no module offset has been specified"),
-        (RequestFault::NotANumber, "expected a number as module offset"),
+        (
+            RequestFault::NoAddress,
+            "no module offset has been specified",
+        ),
+        (
+            RequestFault::NotANumber,
+            "expected a number as module offset",
+        ),
     ];
     for (fault, text) in texts {
         let printed = format!(in rt.alloc(); "{fault}");
