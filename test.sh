@@ -1,8 +1,9 @@
 #!/usr/bin/env bash
 # The command that passes all tests: `rt ci` (every proof, must-fail edit, test and program), then
 # each request for memory of the proved programs refused in turn (tests/refused_requests), the
-# commands of README.md, docs/GUIDE.md and CONTRIBUTING.md as they stand (tests/commands.sh), and the
-# manual page (tests/manual.sh). It fails where one fails; the last line counts all.
+# commands of README.md, docs/GUIDE.md and CONTRIBUTING.md as they stand (tests/commands.sh), the
+# manual page (tests/manual.sh), and pdb_llvm_symbolizer beside llvm-symbolizer
+# (tests/llvm_symbolizer.sh). It fails where one fails; the last line counts all.
 set -u
 cd "$(dirname "$0")"
 log=$(mktemp)
@@ -37,6 +38,7 @@ count rt ci
 count python3 tests/refused_requests/sweep.py
 count tests/commands.sh
 count tests/manual.sh
+count tests/llvm_symbolizer.sh
 tests/version.sh || { failed=$((failed + 1)); status=1; }
 echo "$passed passed, $failed failed"
 exit "$status"

@@ -8,7 +8,8 @@
 # are in examples/source; no Windows SDK is needed. lld's own, of 76 and 80 KB, are laid out in pages
 # of 1,024 bytes (repage.py), which takes 21 and 22 KB. With --store the databases are copied to
 # where programs read them: crates/pdb_symbolizer/data, crates/recorded_cases/data and
-# crates/example_calls/data. GNU ld writes the time into its own, so each one made differs in that.
+# crates/example_calls/data, and x64 and i386 with their images to crates/pdb_llvm_symbolizer/data.
+# GNU ld writes the time into its own, so each one made differs in that.
 #
 # The stored ones were made on Debian 12 by clang-19 and lld-19 (19.1.7) and binutils-mingw-w64-x86-64 (2.40+10.4):
 #   apt-get install clang-19 lld-19 binutils-mingw-w64-x86-64
@@ -74,5 +75,6 @@ if [ "${2:-}" = --store ]; then
         cp "$out/$name.pdb" "$here/../crates/recorded_cases/data/real_$name.pdb"
     done
     cp "$out/x64.pdb" "$here/../crates/example_calls/data/"
+    cp "$out"/{x64,i386}.{pdb,exe} "$here/../crates/pdb_llvm_symbolizer/data/"
 fi
 ls -l "$out"

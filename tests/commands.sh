@@ -5,9 +5,10 @@
 #   tests/commands.sh [--write] [--slow] [PROGRAM]
 #
 # PROGRAM is the built pdb_symbolizer; if left out, the proved one, crates/pdb_symbolizer/out/pdb_symbolizer.
+# pdb_llvm_symbolizer is always the proved one.
 # A block of a document that begins with `    $ ` is a transcript: each such line is a command, and
 # the lines below it are what it prints, on standard error too. A command with nothing below it has
-# to end with status 0. Each transcript runs in a new folder, with pdb_symbolizer on the path and its
+# to end with status 0. Each transcript runs in a new folder, with both programs on the path and their
 # data in data/; what compiles or copies runs in a copy of the repository. What proves or measures
 # isn't run: the gate and the stored run do that. CONTRIBUTING's command that tries a thousand files
 # runs with --slow alone. Each block ```rust has to stand in crates/example_calls. With --write what
@@ -23,6 +24,7 @@ programs = [it for it in words if not it.startswith("--")]
 program = os.path.abspath((programs or [f"{top}/crates/pdb_symbolizer/out/pdb_symbolizer"])[0])
 if not os.access(program, os.X_OK):
     sys.exit(f"no program at {program}: build it by rt run in crates/pdb_symbolizer, or name one")
+drop_in = f"{top}/crates/pdb_llvm_symbolizer/out/pdb_llvm_symbolizer"
 LONG = re.compile(r"rt (run|ci|check|test|must-fail|plant)\b|bench/")
 SLOW = re.compile(r"rt try\b|examples/|tests/|\./|install ")
 
@@ -69,11 +71,13 @@ def run_transcript(lines, room, name):
         return None, "without --slow"
     os.makedirs(f"{room}/bin")
     os.symlink(program, f"{room}/bin/pdb_symbolizer")
+    os.symlink(drop_in, f"{room}/bin/pdb_llvm_symbolizer")
     if slow:
         folder = copied(f"{room}/copy")
     else:
         folder = f"{room}/work"
-        shutil.copytree(f"{top}/crates/pdb_symbolizer/data", f"{folder}/data")
+        for name in ("pdb_symbolizer", "pdb_llvm_symbolizer"):
+            shutil.copytree(f"{top}/crates/{name}/data", f"{folder}/data", dirs_exist_ok=True)
     came = []
     for command, wanted in commands:
         if command.startswith("cd "):
@@ -85,7 +89,7 @@ def run_transcript(lines, room, name):
         how["env"] = {**os.environ, "PATH": path, "HOME": room}
         ran = subprocess.run(["bash", "-c", command], cwd=folder, **how)
         text = ran.stdout.decode(errors="replace")
-        came.append((command, wanted, text.splitlines(), ran.returncode))
+        came.append((command, wanted, text.rstrip("\n").splitlines(), ran.returncode))
     return came, None
 
 
@@ -129,7 +133,8 @@ def copies_differ():
     """The stored databases that aren't the same wherever they stand."""
     read = lambda file: open(f"{top}/crates/{file}", "rb").read()
     for name in os.listdir(f"{top}/crates/pdb_symbolizer/data"):
-        others = [f"recorded_cases/data/real_{name}", f"example_calls/data/{name}"]
+        others = [f"recorded_cases/data/real_{name}"]
+        others += [f"{it}/data/{name}" for it in ("example_calls", "pdb_llvm_symbolizer")]
         for other in others:
             there = os.path.exists(f"{top}/crates/{other}")
             if there and read(other) != read(f"pdb_symbolizer/data/{name}"):

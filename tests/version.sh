@@ -1,5 +1,5 @@
 #!/usr/bin/env bash
-# Checks that CHANGELOG.md's newest heading, and the version that the program prints, are the version
+# Checks that CHANGELOG.md's newest heading, and the version that each program prints, are the version
 # in VERSION, and that no other document names it.
 set -eu
 cd "$(dirname "$0")/.."
@@ -12,10 +12,12 @@ case $newest in
         exit 1
         ;;
 esac
-if ! grep -qF "const VERSION: &str = \"$version\";" crates/pdb_arguments/src/command.rt; then
-    echo "crates/pdb_arguments/src/command.rt has another version than VERSION, $version"
-    exit 1
-fi
+for file in crates/pdb_arguments/src/command.rt crates/pdb_llvm_symbolizer/src/arguments.rt; do
+    if ! grep -qF "const VERSION: &str = \"$version\";" "$file"; then
+        echo "$file has another version than VERSION, $version"
+        exit 1
+    fi
+done
 if grep -nF "$version" README.md CONTRIBUTING.md docs/*.md | grep -vE '[0-9.]'"${version//./\\.}"'|'"${version//./\\.}"'[.0-9]'; then
     echo "these name the version, which VERSION has"
     exit 1
