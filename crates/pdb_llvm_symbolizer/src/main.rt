@@ -116,8 +116,11 @@ fn answer_input<R: Read, W: Write>(
         if count == 0 {
             break;
         }
+        let is_ended = chunk[..count].iter().any(|byte| *byte == b'\n');
         start.extend_from_slice(&chunk[..count])?;
-        start = answer_ended(rt, files, start, writer)?;
+        if is_ended {
+            start = answer_ended(rt, files, start, writer)?;
+        }
     }
     if !start.is_empty() {
         let mut output = Vec::new(rt.alloc());
