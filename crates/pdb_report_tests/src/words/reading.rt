@@ -97,7 +97,7 @@ const ROWS: &[(&str, Wanted)] = &[
         "sizes F 10",
         Wanted::Words(&[
             "  <END>",
-            "Usage: pdb_symbolizer sizes [OPTIONS] <FILE> <START> <END>",
+            "Usage: pdb_symbolizer sizes <FILE> <START> <END>",
         ]),
     ),
     ("sizes --help", Wanted::Help(SIZES_HELP)),
