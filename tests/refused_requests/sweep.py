@@ -34,6 +34,8 @@ SECONDS = 60
 GREATEST = 100_000
 # The longest answer of a recorded read, in bytes: a text of it is made piece by piece.
 LONGEST = 1_000
+# Recorded texts that ask a context several times, which the program itself does here, and comments.
+LEFT_OUT = ("#", "all_again", "each_again", "file_run_again", "forgotten", "prefixes")
 
 
 # Recorded cases
@@ -116,7 +118,7 @@ def recorded_texts():
     with open(f"{DATA}/texts.txt", encoding="ascii") as lines:
         for line in lines:
             words, _, answer = line.rstrip("\n").partition(" => ")
-            if not answer or words.startswith(("#", "all_again", "each_again", "file_run_again", "prefixes")):
+            if not answer or words.startswith(LEFT_OUT):
                 continue
             word, database, module, flags, index = words.split()
             kind = "formatter" if word in ("function", "unnamed", "id", "size") else "context"
