@@ -7,7 +7,7 @@ use Rattle.pdb_addresses.specs.Places.{Place}
 use Rattle.pdb_functions.specs.Databases.{IsOneRun}
 use Rattle.pdb_addr2line_tests.specs.OneFunction.{one_function, function_f}
 
--- in another section, or behind the function
+-- in another section, or after the function
 pub elsewhere : (p : Place) (limit : ℕ) → 1 ≤ limit → p.section ≢ 1 → IsOneRun one_function p limit limit
 elsewhere p limit some other = record {
   some = some;

@@ -10,23 +10,24 @@ use std::test::Fail;
 /// What a context is asked for.
 #[derive(Clone, Copy)]
 enum Question {
-    /// The first function, and once the list of all is gone that at 0x1014, each told of its copy.
+    /// The first function, and after the list of all is dropped the one at 0x1014, each as its
+    /// copy.
     Functions,
-    /// The frames at 0x1014, told of their copy.
+    /// The frames at 0x1014, as their copy.
     Frames,
     /// The frames at 0x1014 with shared names, which may go to another thread.
     SharedFrames,
-    /// Twice the frames at 0x1014, whose lines can't be read.
+    /// The frames at 0x1014, whose lines can't be read, twice.
     FailedLines,
 }
 
-/// A function, told of its copy.
+/// Returns the text of a function's copy.
 fn told_function(alloc: Global, function: &Function) -> Result<String, Error> {
     let copy = function.try_clone(alloc)?;
     Ok(format!(in alloc; "{copy:?}")?)
 }
 
-/// The first function of a context, told of its copy.
+/// Returns the first function of a context, as its copy.
 fn first_function<P: ModuleProvider>(
     alloc: Global,
     context: &mut Context<'_, '_, P>,
@@ -38,7 +39,7 @@ fn first_function<P: ModuleProvider>(
     }
 }
 
-/// The function that a context finds at 0x1014, told of its copy.
+/// Returns the function that a context finds at 0x1014, as its copy.
 fn function_by<P: ModuleProvider>(
     alloc: Global,
     context: &mut Context<'_, '_, P>,
@@ -50,7 +51,7 @@ fn function_by<P: ModuleProvider>(
     }
 }
 
-/// The first function of a context, and once the list of all is gone that at 0x1014.
+/// Returns the first function of a context, and after the list of all is dropped the one at 0x1014.
 fn functions_by<P: ModuleProvider>(
     alloc: Global,
     context: &mut Context<'_, '_, P>,
@@ -60,13 +61,13 @@ fn functions_by<P: ModuleProvider>(
     Ok(format!(in alloc; "{first}; {second}")?)
 }
 
-/// Frames, told of their copy.
+/// Returns the text of the copy of frames.
 fn told_frames(alloc: Global, found: &FunctionFrames<'_>) -> Result<String, Error> {
     let copy = found.try_clone(alloc)?;
     Ok(format!(in alloc; "{copy:?}")?)
 }
 
-/// The frames that a context finds at 0x1014, told of their copy.
+/// Returns the frames that a context finds at 0x1014, as their copy.
 fn frames_by<P: ModuleProvider>(
     alloc: Global,
     context: &mut Context<'_, '_, P>,
@@ -78,10 +79,11 @@ fn frames_by<P: ModuleProvider>(
     }
 }
 
-/// Takes what may go to another thread.
+/// Takes a value that may go to another thread.
 fn takes_sendable<T: Send>(_value: &T) {}
 
-/// The frames with shared names that a context finds at 0x1014, told; both may go to another thread.
+/// Returns the frames with shared names that a context finds at 0x1014. They may go to another
+/// thread.
 fn shared_frames_by<P: ModuleProvider>(
     alloc: Global,
     context: &mut Context<'_, '_, P>,
@@ -95,7 +97,8 @@ fn shared_frames_by<P: ModuleProvider>(
     }
 }
 
-/// What is told of lines that can't be read: their own fault, or that they stand as failed.
+/// Returns what is reported of lines that can't be read: their own fault, or that they stand as
+/// failed.
 fn lines_fault<P: ModuleProvider>(alloc: Global, context: &mut Context<'_, '_, P>) -> &'static str {
     match context.find_frames(alloc, 0x1014) {
         Err(Error::PdbError(Cause::UnexpectedEof)) => "their own",
@@ -104,7 +107,7 @@ fn lines_fault<P: ModuleProvider>(alloc: Global, context: &mut Context<'_, '_, P
     }
 }
 
-/// The same twice.
+/// Returns what is reported of lines that can't be read, for each of two questions.
 fn lines_faults<P: ModuleProvider>(
     alloc: Global,
     context: &mut Context<'_, '_, P>,
@@ -114,7 +117,7 @@ fn lines_faults<P: ModuleProvider>(
     Ok(format!(in alloc; "{first}, {second}")?)
 }
 
-/// What a context answers.
+/// Asks a context a question.
 fn asked<P: ModuleProvider>(
     alloc: Global,
     mut context: Context<'_, '_, P>,
@@ -128,7 +131,7 @@ fn asked<P: ModuleProvider>(
     }
 }
 
-/// A context over what was read, whose address map is in order.
+/// Makes a context over what was read, if the address map is in order.
 fn context_of(
     alloc: Global,
     data: &Data,
@@ -139,14 +142,14 @@ fn context_of(
     data.make_context(alloc)
 }
 
-/// What a context over what was read answers.
+/// Asks a context over what was read a question.
 fn asked_over(alloc: Global, data: &Data, question: Question) -> Result<String, Error> {
     let context = context_of(alloc, data)?;
     takes_sendable(&context);
     asked(alloc, context, question)
 }
 
-/// What a context over a file's bytes answers.
+/// Asks a context over a file's bytes a question.
 fn answer(alloc: Global, bytes: Vec<u8>, question: Question) -> Result<String, Error> {
     let data = data_of(alloc, bytes)?;
     asked_over(alloc, &data, question)
@@ -157,7 +160,8 @@ fn functions_and_then_one(rt: HostRuntime) -> Result<(), Fail> {
     let text = answer(rt.alloc(), cross_imports(rt.alloc())?, Question::Functions)?;
     assert_eq!(rt;
         text.as_str(),
-        r#"Function { start_rva: 4112, end_rva: Some(4144), name: Some("f") }; Function { start_rva: 4112, end_rva: Some(4144), name: Some("f") }"#
+        "Function { start_rva: 4112, end_rva: Some(4144), name: Some(\"f\") }; \
+        Function { start_rva: 4112, end_rva: Some(4144), name: Some(\"f\") }"
     );
     Ok(())
 }
@@ -194,7 +198,7 @@ fn frames_with_shared_names(rt: HostRuntime) -> Result<(), Fail> {
     Ok(())
 }
 
-// Lines that can't be read are told by their own fault, and as such from the second time on.
+// Lines that can't be read are reported by their own fault, and as failed from the second time on.
 #[test]
 fn lines_that_failed_before(rt: HostRuntime) -> Result<(), Fail> {
     let text = answer(

@@ -6,7 +6,7 @@ use std::alloc::Global;
 use std::fmt;
 use std::test::Fail;
 
-/// The error of a number from 0 to 18, and its text.
+/// Returns the error with that index, from 0 to 18, and its text.
 fn error_of(alloc: Global, number: u32) -> Result<(Error, &'static str), Fail> {
     Ok(match number {
         0 => (
@@ -31,7 +31,8 @@ fn error_of(alloc: Global, number: u32) -> Result<(Error, &'static str), Fail> {
         ),
         5 => (
             Error::UnorderedSectionContributions(7, 3),
-            "There are consecutive section contributions for module 7 and section 3 which are not ordered by offset",
+            "There are consecutive section contributions for module 7 and section 3 which are not \
+            ordered by offset",
         ),
         6 => (
             Error::OverlappingSectionContributions(3, 7, 8),

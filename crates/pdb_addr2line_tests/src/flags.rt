@@ -1,4 +1,4 @@
-//! Flags of formatters, by their operators, by the calls of `Flags`, and by what is printed.
+//! Flags of formatters: their operators, the calls of `Flags`, and what is printed under them.
 
 use crate::files::data_of;
 use pdb_addr2line::pdb::TypeIndex;
@@ -13,8 +13,9 @@ const COMMA: TypeFormatterFlags = TypeFormatterFlags::SPACE_AFTER_COMMA;
 
 const ARGUMENTS: TypeFormatterFlags = TypeFormatterFlags::NO_ARGUMENTS;
 
-/// The bits that the operators leave: of two flags together, of what two sets have in common, of what one of them alone has, of one
-/// set without the other, and of what a set lacks.
+/// Returns the bits that the operators leave: of two flags together, of the flags that two sets
+/// have in common, of those that only one of them has, of one set without the other, and of the
+/// flags that a set lacks.
 fn bits_of_operators() -> [u32; 5] {
     let both = STATIC | COMMA;
     let other = COMMA | ARGUMENTS;
@@ -27,7 +28,7 @@ fn bits_of_operators() -> [u32; 5] {
     ]
 }
 
-/// The same by the operators that assign.
+/// Returns the bits that the assigning operators leave.
 fn bits_of_assignments() -> [u32; 4] {
     let mut together = STATIC;
     together |= COMMA;
@@ -50,13 +51,13 @@ fn operators_on_flags(rt: HostRuntime) -> Result<(), Fail> {
     Ok(())
 }
 
-/// The types of a class `A`, of the arguments `int`, `char*` and `A`, and of a function of these that
-/// returns nothing, each after its length.
+/// The types of a class `A`, of the arguments `int`, `char*` and `A`, and of a function with these
+/// arguments that returns nothing, each after its length.
 const TYPES: &[u8; 60] = b"\x16\0\x04\x15\0\0\0\0\0\0\0\0\0\0\0\0\0\0\0\0\x01\0A\0\
     \x12\0\x01\x12\x03\0\0\0\x74\0\0\0\x70\x04\0\0\0\x10\0\0\
     \x0e\0\x08\x10\x03\0\0\0\0\0\x03\0\x01\x10\0\0";
 
-/// The signature of `f` as that function, under each flag alone.
+/// The signature of `f` as a function of that type, under each flag alone.
 const SIGNATURES: [(TypeFormatterFlags, &str); 6] = [
     (
         TypeFormatterFlags::NO_FUNCTION_RETURN,
@@ -78,7 +79,7 @@ const SIGNATURES: [(TypeFormatterFlags, &str); 6] = [
     (TypeFormatterFlags::NO_ARGUMENTS, "void f"),
 ];
 
-/// The signature of `f` as the function of these types.
+/// Returns the signature of `f` as the function of these types.
 fn signature<P: ModuleProvider>(
     alloc: Global,
     mut formatter: TypeFormatter<'_, '_, P>,
@@ -86,7 +87,7 @@ fn signature<P: ModuleProvider>(
     formatter.format_function(alloc, "f", 0, TypeIndex(0x1002))
 }
 
-/// File F0 with these types.
+/// Makes file F0 with these types.
 fn file_of_types(alloc: Global) -> Result<Vec<u8>, Fail> {
     let mut database = file_with(alloc, Change::Nothing)?;
     database.types.records.extend_from_slice(TYPES)?;

@@ -13,11 +13,11 @@ use std::test::Fail;
 /// What a formatter is asked for.
 #[derive(Clone, Copy)]
 enum Question {
-    /// To hand a function and an id over to a writer.
+    /// To write a function and an id to a writer.
     Emitted,
-    /// To hand both over to a writer that refuses them.
+    /// To write both to a writer that refuses them.
     Refused,
-    /// Ids whose imports can't be read, and then one whose can.
+    /// Ids whose imports can't be read, and then one whose imports can.
     FailedImports,
     /// Ids whose exports can't be read.
     FailedExports,
@@ -45,7 +45,8 @@ impl TextWriter for Refusing {
 /// The id of the inlined calls.
 const INLINEE: IdIndex = IdIndex(0x8000_0000);
 
-/// Whether a formatter hands a function, and then an id in the second module, over to a writer, and whether that has their texts.
+/// Returns whether a formatter writes a function to a writer, and then an id in the second module,
+/// and whether the writer has their texts.
 fn are_emitted<P: ModuleProvider>(
     alloc: Global,
     formatter: &mut TypeFormatter<'_, '_, P>,
@@ -56,8 +57,8 @@ fn are_emitted<P: ModuleProvider>(
     (function.is_ok(), id.is_ok(), text.as_str() == "f()h()")
 }
 
-/// Whether a formatter answers that a function, and then an id, was refused, and whether the writer was
-/// asked once for each.
+/// Returns whether a formatter reports that a function, and then an id, was refused, and whether
+/// the writer was asked once for each.
 fn are_refused<P: ModuleProvider>(
     alloc: Global,
     formatter: &mut TypeFormatter<'_, '_, P>,
@@ -72,7 +73,8 @@ fn are_refused<P: ModuleProvider>(
     )
 }
 
-/// Whether imports that couldn't be read are told by their own fault, and as such from the second time on.
+/// Returns whether imports that can't be read are reported by their own fault, and as failed from
+/// the second time on. At last returns whether a module whose imports can be read has its text.
 fn are_imports_failed<P: ModuleProvider>(
     alloc: Global,
     formatter: &mut TypeFormatter<'_, '_, P>,
@@ -87,7 +89,8 @@ fn are_imports_failed<P: ModuleProvider>(
     )
 }
 
-/// Whether exports that can't be read are told by their own fault, and as such from the second time on, whichever module asks.
+/// Returns whether exports that can't be read are reported by their own fault, and as failed from
+/// the second time on, whichever module asks.
 fn are_exports_failed<P: ModuleProvider>(
     alloc: Global,
     formatter: &mut TypeFormatter<'_, '_, P>,
@@ -102,7 +105,7 @@ fn are_exports_failed<P: ModuleProvider>(
     )
 }
 
-/// What a formatter answers.
+/// Asks a formatter a question.
 fn asked<P: ModuleProvider>(
     alloc: Global,
     mut formatter: TypeFormatter<'_, '_, P>,
@@ -116,13 +119,13 @@ fn asked<P: ModuleProvider>(
     }
 }
 
-/// What a formatter over what was read answers.
+/// Asks a formatter over what was read a question.
 fn asked_over(alloc: Global, data: &Data, question: Question) -> Result<(bool, bool, bool), Error> {
     let formatter = data.make_type_formatter(alloc)?;
     Ok(asked(alloc, formatter, question))
 }
 
-/// What a formatter over a file's bytes answers.
+/// Asks a formatter over a file's bytes a question.
 fn answer(alloc: Global, bytes: Vec<u8>, question: Question) -> Result<(bool, bool, bool), Error> {
     let data = data_of(alloc, bytes)?;
     asked_over(alloc, &data, question)
@@ -164,19 +167,19 @@ fn exports_that_failed_before(rt: HostRuntime) -> Result<(), Fail> {
     Ok(())
 }
 
-/// The name of a file's names table at 5.
+/// Returns the name at 5 of a names table.
 fn name_at_five(alloc: Global, table: &StringTable<'_>) -> Result<String, Error> {
     let name = table.get(StringRef(5))?;
     Ok(format!(in alloc; "{name}")?)
 }
 
-/// The same of an open database.
+/// Returns the name at 5 of an open database's names table.
 fn name_of_module(alloc: Global, pdb: &mut PDB<'static, Vec<u8>>) -> Result<String, Error> {
     let table = pdb.string_table(alloc)?;
     name_at_five(alloc, &table)
 }
 
-/// What a formatter answers of the inlined call's id in the first module.
+/// Returns the text of the inlined calls' id in the first module.
 fn inlinee_text<P: ModuleProvider>(
     alloc: Global,
     mut formatter: TypeFormatter<'_, '_, P>,
@@ -184,19 +187,20 @@ fn inlinee_text<P: ModuleProvider>(
     formatter.format_id(alloc, 0, INLINEE)
 }
 
-/// The same over what was read.
+/// Returns the text of the inlined calls' id over what was read.
 fn text_of(alloc: Global, data: &Data) -> Result<String, Error> {
     let formatter = data.make_type_formatter(alloc)?;
     inlinee_text(alloc, formatter)
 }
 
-/// The same over a database that is only lent.
+/// Returns the text of the inlined calls' id over a database that is only lent.
 fn text_of_lent(alloc: Global, pdb: &mut PDB<'static, Vec<u8>>) -> Result<String, Error> {
     let data: Data = ContextPdbData::try_from_pdb_ref(alloc, pdb)?;
     text_of(alloc, &data)
 }
 
-/// A name of the names table, a text over the database while it is lent, and the name again.
+/// Returns a name of the names table, a text over the database while it is lent, and the name
+/// again.
 fn lent_and_back(alloc: Global, pdb: &mut PDB<'static, Vec<u8>>) -> Result<String, Error> {
     let before = name_of_module(alloc, pdb)?;
     let text = text_of_lent(alloc, pdb)?;
@@ -204,13 +208,13 @@ fn lent_and_back(alloc: Global, pdb: &mut PDB<'static, Vec<u8>>) -> Result<Strin
     Ok(format!(in alloc; "{before} {text} {after}")?)
 }
 
-/// The same of a file's bytes.
+/// Opens a file's bytes, and returns the texts of [`lent_and_back`].
 fn texts_of_file(alloc: Global, bytes: Vec<u8>) -> Result<String, Error> {
     let mut pdb = PDB::open(alloc, bytes)?;
     lent_and_back(alloc, &mut pdb)
 }
 
-// What was read outlives nothing of the database, and leaves it as it was.
+// What was read borrows nothing of the database, and leaves it as it was.
 #[test]
 fn lent_database(rt: HostRuntime) -> Result<(), Fail> {
     let texts = texts_of_file(rt.alloc(), cross_imports(rt.alloc())?)?;

@@ -1,5 +1,5 @@
-//! Tests of formatters and contexts by their public calls, where recorded cases can't show it; and
-//! of the counts of ranges, over a database with one function.
+//! Tests of formatters and contexts by their public calls, where recorded cases can't show it. Also
+//! tests of the counts of ranges, over a database with one function.
 #![tactic(auto)]
 
 #[cfg(test)]

@@ -8,7 +8,7 @@ use pdb_addresses::PdbInternalSectionOffset;
 use pdb_functions::{Function, Runs};
 use std::alloc::{AllocError, Global};
 
-/// The function f at offsets 0x10 to 0x30 of section 1, and how often it was asked for.
+/// The function f at offsets 0x10 to 0x30 of section 1, and how many places were looked up.
 #[derive(Drop)]
 pub(crate) struct OneFunction {
     pub(crate) lookups: u64,
@@ -43,7 +43,7 @@ impl Runs for OneFunction {
     }
 }
 
-/// The function at a place.
+/// Returns the function at a place.
 fn function_at(
     alloc: Global,
     place: PdbInternalSectionOffset,
@@ -62,7 +62,7 @@ fn function_at(
     }
 }
 
-/// How far its answer goes on.
+/// Returns how far the answer at a place goes on.
 #[tactic(auto, using(crate::proofs::OneFunctionSteps::elsewhere, crate::proofs::OneFunctionSteps::behind, crate::proofs::OneFunctionSteps::before, crate::proofs::OneFunctionSteps::inside))]
 fn run_at(place: PdbInternalSectionOffset, limit: u32) -> u32
     requires { 1 ≤ limit }

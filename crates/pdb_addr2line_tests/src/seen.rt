@@ -1,13 +1,13 @@
-//! The indices on a path, which each level takes back.
+//! The indices on a path, which each level removes when it ends.
 
 use pdb_addr2line::Error;
-use pdb_text_pieces::Seen;
+use pdb_text_pieces::{IndexPath, Seen};
 use std::alloc::Global;
 use std::test::Fail;
 
-/// Begins a level of the index 1 on a path, inserts 0 and 2 at it, and 3 at a further one. Whether 0 is
-/// refused, and what is on the path once the further level is gone.
-fn inserted(alloc: Global, path: &mut Vec<u32>) -> Result<(bool, Vec<u32>), Fail> {
+/// Begins a level with the index 1 on a path, inserts 0 and 2 at it, and 3 at a further level.
+/// Returns whether 0 is refused, and what is on the path after the further level has ended.
+fn inserted(alloc: Global, path: &mut IndexPath) -> Result<(bool, Vec<u32>), Fail> {
     let mut first = Seen::new(path);
     let mut second = Seen::insert_one(&mut *first.path, 1)?;
     let is_refused = matches!(&second.insert(0), Err(Error::CircularTypeDefinition(0)));
@@ -17,7 +17,7 @@ fn inserted(alloc: Global, path: &mut Vec<u32>) -> Result<(bool, Vec<u32>), Fail
     Ok((is_refused, indices))
 }
 
-/// Inserts an index at a further level, which ends.
+/// Inserts an index at a further level, which then ends.
 fn insert_further(level: &mut Seen<'_>, index: u32) -> Result<(), Error> {
     let mut further = level.new_level();
     further.insert(index)
@@ -25,12 +25,43 @@ fn insert_further(level: &mut Seen<'_>, index: u32) -> Result<(), Error> {
 
 #[test]
 fn levels_of_a_path(rt: HostRuntime) -> Result<(), Fail> {
-    let mut path = Vec::from_slice(rt.alloc(), &[0u32])?;
+    let mut path = IndexPath::new(rt.alloc());
+    path.push(0)?;
     let (is_refused, indices) = inserted(rt.alloc(), &mut path)?;
     assert!(rt; is_refused);
     assert_eq!(rt;
         (indices.as_slice(), path.as_slice()),
         ([0, 1, 2].as_slice(), [0].as_slice())
     );
+    Ok(())
+}
+
+/// Puts 40 indices on a path, each 2,048 greater than the one before: they have two forms of low bits.
+fn push_all(path: &mut IndexPath) -> Result<(), Fail> {
+    for k in 0..40u32 {
+        if path.may_enter(2048 * k) {
+            path.push(2048 * k)?;
+        }
+    }
+    Ok(())
+}
+
+#[test]
+fn long_path(rt: HostRuntime) -> Result<(), Fail> {
+    let mut path = IndexPath::new(rt.alloc());
+    push_all(&mut path)?;
+    let whole = (
+        path.contains(2048 * 39),
+        path.contains(2048 * 40),
+        path.contains(1),
+    );
+    path.truncate(33);
+    let cut = (
+        path.contains(2048 * 32),
+        path.contains(2048 * 33),
+        path.len(),
+    );
+    assert_eq!(rt; whole, (true, false, false));
+    assert_eq!(rt; cut, (true, false, 33));
     Ok(())
 }

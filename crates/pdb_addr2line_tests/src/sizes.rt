@@ -1,4 +1,4 @@
-//! The counts of worked ranges.
+//! The counts of ranges.
 
 use crate::one_function::OneFunction;
 use pdb_addresses::{AddressMap, ImageSectionHeader, OMAPRecord};
@@ -6,7 +6,7 @@ use pdb_functions::{count_runs, sizes_text};
 use std::alloc::{AllocError, Global};
 use std::test::Fail;
 
-/// Records of a map.
+/// Makes the records of a map.
 fn records(alloc: Global, pairs: &[(u32, u32)]) -> Result<Vec<OMAPRecord>, AllocError> {
     let mut records = Vec::new(alloc);
     for (source_address, target_address) in pairs {
@@ -18,7 +18,7 @@ fn records(alloc: Global, pairs: &[(u32, u32)]) -> Result<Vec<OMAPRecord>, Alloc
     Ok(records)
 }
 
-/// One section of 0x100 bytes at 0x1000.
+/// Makes one section of 0x100 bytes at 0x1000.
 fn section(alloc: Global) -> Result<Vec<ImageSectionHeader>, AllocError> {
     let mut sections = Vec::new(alloc);
     sections.push(ImageSectionHeader {
@@ -29,7 +29,7 @@ fn section(alloc: Global) -> Result<Vec<ImageSectionHeader>, AllocError> {
     Ok(sections)
 }
 
-/// The section, with a map to it and back.
+/// Makes the address map of the section, with OMAPs to it and back.
 fn moved(alloc: Global) -> Result<AddressMap<'static>, AllocError> {
     let inward = records(alloc, &[(0x2000, 0x1010), (0x2008, 0)])?;
     let outward = records(alloc, &[(0x1010, 0x2000)])?;
@@ -42,7 +42,7 @@ fn moved(alloc: Global) -> Result<AddressMap<'static>, AllocError> {
     )
 }
 
-/// The report's text and the lookups.
+/// Returns the report's text, and how many places were looked up.
 fn sizes(
     alloc: Global,
     map: &AddressMap<'_>,
@@ -57,7 +57,7 @@ fn sizes(
     Ok((sizes_text(alloc, &sizes)?, runs.lookups))
 }
 
-/// One section, and no map.
+/// Makes the address map of the section, without OMAPs.
 fn plain(alloc: Global) -> Result<AddressMap<'static>, AllocError> {
     AddressMap::new(alloc, None, section(alloc)?, None, None)
 }

@@ -8,7 +8,7 @@ use std::cell::Cell;
 use std::io;
 use std::test::Fail;
 
-/// The bytes of a file, where the views that begin at a place are counted.
+/// The bytes of a file, and a count of the views that begin at a place.
 #[derive(Drop)]
 struct Counted<'c> {
     bytes: Vec<u8>,
@@ -33,7 +33,7 @@ impl<'c> Source for Counted<'c> {
     }
 }
 
-/// Whether the first slice begins at a place.
+/// Returns whether the first slice begins at a place.
 fn begin_at(slices: &[SourceSlice], place: u64) -> bool {
     match slices.first() {
         None => false,
@@ -41,19 +41,19 @@ fn begin_at(slices: &[SourceSlice], place: u64) -> bool {
     }
 }
 
-/// The place of the number of the second module's stream: in page 5, behind the header's 64 bytes, the first module's 76, and
-/// 34 of its own.
+/// The offset of the number of the second module's stream: in page 5, after the header's 64 bytes,
+/// the first module's 76, and 34 of its own.
 const SECOND_STREAM: usize = 0x5ae;
 
-/// A file of two modules that name stream 7. Pages 4 to 9 are stream 2, stream 3, which has two, and streams 4, 6 and 7; stream 5 is
-/// empty.
+/// Makes a file of two modules that name stream 7. Page 4 is stream 2, pages 5 and 6 are stream 3,
+/// and pages 7 to 9 are streams 4, 6 and 7. Stream 5 is empty.
 fn shared_stream(alloc: Global) -> Result<Vec<u8>, SampleError> {
     let mut file = file_with(alloc, Change::MissingModule)?.bytes(alloc)?;
     overwrite(file.as_mut_slice(), SECOND_STREAM, &7u16.to_le_bytes())?;
     Ok(file)
 }
 
-/// Loads a file, and keeps nothing of it.
+/// Loads a file, and stores nothing of it.
 fn load(alloc: Global, source: Counted<'_>) -> Result<(), Error> {
     match PDB::open(alloc, source) {
         Err(error) => Err(Error::from(error)),
@@ -64,7 +64,7 @@ fn load(alloc: Global, source: Counted<'_>) -> Result<(), Error> {
     }
 }
 
-/// How many views of the file begin at a place while it is loaded.
+/// Returns how many views of the file begin at a place while it is loaded.
 fn views_at(alloc: Global, place: u64) -> Result<u64, Fail> {
     let views = Cell::new(0);
     let bytes = shared_stream(alloc)?;

@@ -8,6 +8,7 @@ ghost use Rattle.pdb_resolving.specs.Cause.{ByFault};
 ghost use Rattle.pdb_resolving.specs.Fault.{CircularTypeDefinition};
 ghost use Rattle.pdb_text_pieces.specs.Printed.{Prints, Stopped, say};
 ghost use Rattle.pdb_text_pieces.specs.Paths.{may_enter};
+ghost use Rattle.pdb_type_printing.specs.Level.{KeepsLevel};
 ghost use Rattle.pdb_type_printing.specs.Types.{Whole, visiting};
 ghost use Rattle.pdb_function_text.specs.Ids.{visiting_id, id_form_text, scoped_text, scope_text};
 ghost use Rattle.pdb_function_text.specs.Ids.{method_id_printed, string_list_text, parts};
@@ -20,7 +21,8 @@ use pdb_records::{FunctionId, IdData, MemberFunctionId, ProcedureType, TypeData}
 use pdb_resolving::stop::{Result, Stop};
 use pdb_resolving::{Error, ModuleProvider};
 use pdb_text_pieces::{
-    Seen, emit, emit_between_strings, emit_scope_end, emit_string, emit_unhandled_id, emit_unread,
+    IndexPath, Seen, emit, emit_between_strings, emit_scope_end, emit_string, emit_unhandled_id,
+    emit_unread,
 };
 use pdb_type_printing::Asker;
 
@@ -36,9 +38,7 @@ impl<'a, 's, P: ModuleProvider> FunctionPrinter<'a, 's, P> {
     ) -> Result<()>
         requires { length ids.old.path.now.items ≤ 1024 }
         ensures same { self.new ≡ self.old }
-        ensures same_reference { ids.new.path.ghost_name ≡ ids.old.path.ghost_name }
-        ensures level { ids.new.level ≡ ids.old.level }
-        ensures path { ids.new.path.now.items ≡ ids.old.path.now.items }
+        ensures level { KeepsLevel ids.old ids.new }
         ensures text { Prints result (string_bytes w.new)
             ((visiting_id (env_of P.provided self.old asker.module_index) ids.old.path.now.items)
             ids.old.path.now.items index.0 (string_bytes w.old)) }
@@ -61,9 +61,7 @@ impl<'a, 's, P: ModuleProvider> FunctionPrinter<'a, 's, P> {
     ) -> Result<()>
         requires { length ids.old.path.now.items ≤ 1024 }
         ensures same { self.new ≡ self.old }
-        ensures same_reference { ids.new.path.ghost_name ≡ ids.old.path.ghost_name }
-        ensures level { ids.new.level ≡ ids.old.level }
-        ensures path { ids.new.path.now.items ≡ ids.old.path.now.items }
+        ensures level { KeepsLevel ids.old ids.new }
         ensures text { Prints result (string_bytes w.new)
             (if may_enter ids.old.path.now.items index.0
             then id_form_text (env_of P.provided self.old asker.module_index)
@@ -88,9 +86,7 @@ impl<'a, 's, P: ModuleProvider> FunctionPrinter<'a, 's, P> {
     ) -> Result<()>
         requires { length ids.old.path.now.items ≤ 1024 }
         ensures same { self.new ≡ self.old }
-        ensures same_reference { ids.new.path.ghost_name ≡ ids.old.path.ghost_name }
-        ensures level { ids.new.level ≡ ids.old.level }
-        ensures path { ids.new.path.now.items ≡ ids.old.path.now.items }
+        ensures level { KeepsLevel ids.old ids.new }
         ensures text { Prints result (string_bytes w.new)
             (id_form_text (env_of P.provided self.old asker.module_index)
             (visiting_id (env_of P.provided self.old asker.module_index) ids.old.path.now.items)
@@ -120,9 +116,7 @@ impl<'a, 's, P: ModuleProvider> FunctionPrinter<'a, 's, P> {
     ) -> Result<()>
         requires { length ids.old.path.now.items ≤ 1024 }
         ensures same { self.new ≡ self.old }
-        ensures same_reference { ids.new.path.ghost_name ≡ ids.old.path.ghost_name }
-        ensures level { ids.new.level ≡ ids.old.level }
-        ensures path { ids.new.path.now.items ≡ ids.old.path.now.items }
+        ensures level { KeepsLevel ids.old ids.new }
         ensures text { Prints result (string_bytes w.new)
             (id_form_text (env_of P.provided self.old asker.module_index)
             (visiting_id (env_of P.provided self.old asker.module_index) ids.old.path.now.items)
@@ -147,16 +141,14 @@ impl<'a, 's, P: ModuleProvider> FunctionPrinter<'a, 's, P> {
     ) -> Result<()>
         requires { length ids.old.path.now.items ≤ 1024 }
         ensures same { self.new ≡ self.old }
-        ensures same_reference { ids.new.path.ghost_name ≡ ids.old.path.ghost_name }
-        ensures level { ids.new.level ≡ ids.old.level }
-        ensures path { ids.new.path.now.items ≡ ids.old.path.now.items }
+        ensures level { KeepsLevel ids.old ids.new }
         ensures text { Prints result (string_bytes w.new)
             (scoped_text (env_of P.provided self.old asker.module_index)
             (visiting_id (env_of P.provided self.old asker.module_index) ids.old.path.now.items)
             ids.old.path.now.items (id.now.function_type.0 ∷ []) (function_form id.now) t.now
             (string_bytes w.old)) }
     {
-        let mut path = Vec::new(asker.alloc);
+        let mut path = IndexPath::new(asker.alloc);
         path.push(id.function_type.0)?;
         let mut seen = Seen::new(&mut path);
         self.printer
@@ -177,9 +169,7 @@ impl<'a, 's, P: ModuleProvider> FunctionPrinter<'a, 's, P> {
     ) -> Result<()>
         requires { length ids.old.path.now.items ≤ 1024 }
         ensures same { self.new ≡ self.old }
-        ensures same_reference { ids.new.path.ghost_name ≡ ids.old.path.ghost_name }
-        ensures level { ids.new.level ≡ ids.old.level }
-        ensures path { ids.new.path.now.items ≡ ids.old.path.now.items }
+        ensures level { KeepsLevel ids.old ids.new }
         ensures text { Prints result (string_bytes w.new)
             (scope_text (visiting_id (env_of P.provided self.old asker.module_index)
             ids.old.path.now.items) ids.old.path.now.items scope (string_bytes w.old)) }
@@ -207,7 +197,7 @@ impl<'a, 's, P: ModuleProvider> FunctionPrinter<'a, 's, P> {
         let TypeData::MemberFunction(t) = self.printer.read(asker, id.function_type)? else {
             return Err(Stop::ByError(Error::MemberFunctionIdIsNotMemberFunctionType));
         };
-        let mut path = Vec::new(asker.alloc);
+        let mut path = IndexPath::new(asker.alloc);
         path.push(id.function_type.0)?;
         let mut seen = Seen::new(&mut path);
         let name = id.name.to_string(asker.alloc)?;
@@ -260,7 +250,7 @@ impl<'a, 's, P: ModuleProvider> FunctionPrinter<'a, 's, P> {
             (visiting (env_of P.provided self.old asker.module_index) [] Whole [] index.0
             (string_bytes w.old)) }
     {
-        let mut path = Vec::new(asker.alloc);
+        let mut path = IndexPath::new(asker.alloc);
         let mut seen = Seen::new(&mut path);
         self.printer.emit_type_index(asker, w, index, &mut seen)
     }

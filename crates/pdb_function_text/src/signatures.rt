@@ -4,6 +4,7 @@ ghost use Rattle.std.specs.Prelude.{◌≡◌, ◌≤◌, ◌==◌, ◌++◌, �
 ghost use Rattle.std.specs.Prelude.{if◌then◌else◌};
 ghost use Rattle.pdb_records.specs.Shapes.{shape};
 ghost use Rattle.pdb_text_pieces.specs.Printed.{Prints, say};
+ghost use Rattle.pdb_type_printing.specs.Level.{KeepsLevel};
 ghost use Rattle.pdb_type_printing.specs.Types.{Whole, visiting, returned_unless, method_arguments};
 ghost use Rattle.pdb_function_text.specs.Functions.{parent_text, method_text, arguments_unless};
 ghost use Rattle.pdb_function_text.specs.Functions.{name_and_arguments, signature};
@@ -15,7 +16,9 @@ use pdb_indices::TypeIndex;
 use pdb_records::{MemberFunctionType, ProcedureType, TypeData};
 use pdb_resolving::ModuleProvider;
 use pdb_resolving::stop::Result;
-use pdb_text_pieces::{Seen, emit, emit_name, emit_scope_end, emit_static, leaves_out_arguments};
+use pdb_text_pieces::{
+    IndexPath, Seen, emit, emit_name, emit_scope_end, emit_static, leaves_out_arguments,
+};
 use pdb_type_printing::Asker;
 
 impl<'a, 's, P: ModuleProvider> FunctionPrinter<'a, 's, P> {
@@ -37,7 +40,7 @@ impl<'a, 's, P: ModuleProvider> FunctionPrinter<'a, 's, P> {
             return emit_name(w, name);
         }
         let found = self.printer.read(asker, index)?;
-        let mut path = Vec::new(asker.alloc);
+        let mut path = IndexPath::new(asker.alloc);
         path.push(index.0)?;
         let mut seen = Seen::new(&mut path);
         self.emit_signature_of(asker, w, name, &found, &mut seen)
@@ -54,9 +57,7 @@ impl<'a, 's, P: ModuleProvider> FunctionPrinter<'a, 's, P> {
     ) -> Result<()>
         requires { length seen.old.path.now.items ≤ 1024 }
         ensures same { self.new ≡ self.old }
-        ensures same_reference { seen.new.path.ghost_name ≡ seen.old.path.ghost_name }
-        ensures level { seen.new.level ≡ seen.old.level }
-        ensures path { seen.new.path.now.items ≡ seen.old.path.now.items }
+        ensures level { KeepsLevel seen.old seen.new }
         ensures text { Prints result (string_bytes w.new)
             (signature (env_of P.provided self.old asker.module_index) seen.old.path.now.items
             name.now (shape found.now) (string_bytes w.old)) }
@@ -84,9 +85,7 @@ impl<'a, 's, P: ModuleProvider> FunctionPrinter<'a, 's, P> {
     ) -> Result<()>
         requires { length seen.old.path.now.items ≤ 1024 }
         ensures same { self.new ≡ self.old }
-        ensures same_reference { seen.new.path.ghost_name ≡ seen.old.path.ghost_name }
-        ensures level { seen.new.level ≡ seen.old.level }
-        ensures path { seen.new.path.now.items ≡ seen.old.path.now.items }
+        ensures level { KeepsLevel seen.old seen.new }
         ensures text { Prints result (string_bytes w.new)
             (method_text (env_of P.provided self.old asker.module_index) seen.old.path.now.items
             parent name.now t.now (string_bytes w.old)) }
@@ -109,9 +108,7 @@ impl<'a, 's, P: ModuleProvider> FunctionPrinter<'a, 's, P> {
     ) -> Result<()>
         requires { length seen.old.path.now.items ≤ 1024 }
         ensures same { self.new ≡ self.old }
-        ensures same_reference { seen.new.path.ghost_name ≡ seen.old.path.ghost_name }
-        ensures level { seen.new.level ≡ seen.old.level }
-        ensures path { seen.new.path.now.items ≡ seen.old.path.now.items }
+        ensures level { KeepsLevel seen.old seen.new }
         ensures text { Prints result (string_bytes w.new)
             (parent_text (env_of P.provided self.old asker.module_index) seen.old.path.now.items
             parent (string_bytes w.old)) }
@@ -134,9 +131,7 @@ impl<'a, 's, P: ModuleProvider> FunctionPrinter<'a, 's, P> {
     ) -> Result<()>
         requires { length seen.old.path.now.items ≤ 1024 }
         ensures same { self.new ≡ self.old }
-        ensures same_reference { seen.new.path.ghost_name ≡ seen.old.path.ghost_name }
-        ensures level { seen.new.level ≡ seen.old.level }
-        ensures path { seen.new.path.now.items ≡ seen.old.path.now.items }
+        ensures level { KeepsLevel seen.old seen.new }
         ensures text { Prints result (string_bytes w.new)
             (name_and_arguments (env_of P.provided self.old asker.module_index)
             seen.old.path.now.items name.now t.now (string_bytes w.old)) }
@@ -155,9 +150,7 @@ impl<'a, 's, P: ModuleProvider> FunctionPrinter<'a, 's, P> {
     ) -> Result<()>
         requires { length seen.old.path.now.items ≤ 1024 }
         ensures same { self.new ≡ self.old }
-        ensures same_reference { seen.new.path.ghost_name ≡ seen.old.path.ghost_name }
-        ensures level { seen.new.level ≡ seen.old.level }
-        ensures path { seen.new.path.now.items ≡ seen.old.path.now.items }
+        ensures level { KeepsLevel seen.old seen.new }
         ensures text { Prints result (string_bytes w.new)
             (arguments_unless (env_of P.provided self.old asker.module_index)
             seen.old.path.now.items list (string_bytes w.old)) }

@@ -10,7 +10,7 @@ use crate::printer::FunctionPrinter;
 use pdb_indices::{IdIndex, TypeIndex};
 use pdb_resolving::ModuleProvider;
 use pdb_resolving::stop::Result;
-use pdb_text_pieces::Seen;
+use pdb_text_pieces::{IndexPath, Seen};
 use pdb_type_printing::Asker;
 
 /// How many bytes most texts fit into, so that they aren't moved as they grow.
@@ -50,7 +50,7 @@ impl<'a, 's, P: ModuleProvider> FunctionPrinter<'a, 's, P> {
             (id_made (env_of P.provided self.old asker.module_index) id_index.0) }
     {
         let mut text = String::with_capacity(asker.alloc, USUAL_LENGTH)?;
-        let mut path = Vec::new(asker.alloc);
+        let mut path = IndexPath::new(asker.alloc);
         let mut ids = Seen::new(&mut path);
         self.emit_id_index(asker, &mut text, id_index, &mut ids)?;
         Ok(text)

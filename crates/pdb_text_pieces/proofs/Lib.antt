@@ -1,2 +1,5 @@
+pub mod Copies
 pub mod Digits
+pub mod Placed
 pub mod PointerSteps
+pub mod Repeats

@@ -1,21 +1,19 @@
 -- Further levels on a path: what the path and the level below are once one is gone, and why none
 -- was begun.
 use Rattle.std.specs.Prelude.{◌≡◌, ℕ, false, [], Result}
-use Rattle.std.specs.Borrow.{Fml, MutBor, Lends, RestsIfErr, RattleType, u32}
+use Rattle.std.specs.Borrow.{Fml, MutBor, Lends, RestsIfErr, RattleType}
 use mir.Syntax.{named}
-use Rattle.std.specs.contracts.alloc.Global as global
-use Rattle.std.specs.contracts.vec.Vec as vec
-use Rattle.std.specs.contracts.impls.GlobalAllocator.TheImpl.{ghosts}
 use Rattle.pdb_resolving.specs.declared.error.Error.{Error}
 use Rattle.pdb_resolving.specs.declared.error.Error.TheVariants.{CircularTypeDefinition}
 use Rattle.pdb_resolving.specs.declared.error.Error.TheVariants.{OutOfMemory}
 use Rattle.pdb_text_pieces.specs.Paths.{Path, may_enter}
 use Rattle.pdb_text_pieces.specs.declared.path.Seen.{Seen}
+use Rattle.pdb_text_pieces.specs.contracts.index_path.IndexPath as index_path
 use Rattle.pdb_text_pieces.specs.contracts.path.Seen.{the_row}
 
 -- the type of a path, and that of a level, as borrows name them
 abbrev pub path_type : RattleType
-path_type = vec.the_row u32 global.the_row ghosts
+path_type = index_path.the_row
 
 abbrev pub level_type : RattleType
 level_type = the_row (record { mir = named 1; lft = [] })

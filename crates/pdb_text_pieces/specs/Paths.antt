@@ -10,6 +10,10 @@ use Rattle.pdb_resolving.specs.declared.error.Error.TheVariants.{OutOfMemory}
 abbrev pub Path : Type 0
 Path = List ℕ
 
+-- a path as clauses see it
+pub record Indices : Type 0 where
+  pub items : Path
+
 -- whether an index is on the path
 abbrev pub is_on : Path → ℕ → Bool
 is_on path i = list_any (λ p. p == i) path

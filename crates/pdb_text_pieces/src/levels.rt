@@ -4,6 +4,7 @@ ghost use Rattle.std.specs.Prelude.{◌≡◌, ◌++◌, [], ◌∷◌, length, 
 ghost use Rattle.std.specs.Borrow.{sem};
 ghost use Rattle.pdb_text_pieces.specs.Levels.{IsBlocked, LendsPath, RestsIfRefused};
 
+use crate::index_path::IndexPath;
 use crate::path::{Seen, enter};
 use pdb_resolving::Result;
 
@@ -21,7 +22,7 @@ impl<'a> Seen<'a> {
     ///
     /// # Errors
     /// Those of [`Seen::insert`], and then no level is begun.
-    pub fn insert_one(path: &'a mut Vec<u32>, index: u32) -> Result<Seen<'a>>
+    pub fn insert_one(path: &'a mut IndexPath, index: u32) -> Result<Seen<'a>>
         ensures* refused { sem 𝓛 (RestsIfRefused path.entry result) }
         ensures same_reference { IfOk result (λ s. s.path.ghost_name ≡ path.entry.ghost_name) }
         ensures path { IfOk result (λ s. s.path.now.items ≡ path.old.items ++ index ∷ []) }

@@ -10,16 +10,12 @@ ghost use Rattle.pdb_text_pieces.specs.Names.{name_or_omitted, digit_of, is_numb
 ghost use Rattle.pdb_text_pieces.specs.Names.{is_anonymous_namespace, string_text};
 ghost use Rattle.pdb_text_pieces.specs.FormNames.{form_name, unhandled, id_form_name, unhandled_id};
 
+use crate::flags::TypeFormatterFlags;
 use crate::text::emit;
+use bitflags::Flags;
 use pdb_container::RawString;
 use pdb_records::{ClassKind, IdData, PrimitiveKind, PrimitiveType, TypeData};
 use pdb_resolving::stop::Result;
-
-/// The flag that puts a space before `*` and `&`.
-const SPACE_BEFORE_POINTER: u32 = 8;
-
-/// The flag that leaves out `class` and its like.
-const NAME_ONLY: u32 = 16;
 
 fn primitive_name(kind: PrimitiveKind) -> &'static str
     ensures { result.now ≡ primitive_name kind }
@@ -72,12 +68,12 @@ fn primitive_name(kind: PrimitiveKind) -> &'static str
 /// `OutOfMemory`.
 pub fn emit_primitive(
     w: &mut String,
-    flags: u32,
+    flags: TypeFormatterFlags,
     primitive: PrimitiveType,
     is_constant: bool,
 ) -> Result<()>
     ensures { Prints result (string_bytes w.new)
-        (say (primitive_text flags is_constant primitive) (string_bytes w.old)) }
+        (say (primitive_text flags.bits is_constant primitive) (string_bytes w.old)) }
 {
     let name = primitive_name(primitive.kind);
     if primitive.indirection.is_none() {
@@ -92,7 +88,7 @@ pub fn emit_primitive(
     }
     emit(
         w,
-        if flags & SPACE_BEFORE_POINTER != 0 {
+        if flags.intersects(TypeFormatterFlags::SPACE_BEFORE_POINTER) {
             " *"
         } else {
             "*"
@@ -115,11 +111,16 @@ pub fn class_word(kind: ClassKind) -> &'static str
 ///
 /// # Errors
 /// `OutOfMemory`.
-pub fn emit_named(w: &mut String, flags: u32, word: &str, name: RawString<'_>) -> Result<()>
+pub fn emit_named(
+    w: &mut String,
+    flags: TypeFormatterFlags,
+    word: &str,
+    name: RawString<'_>,
+) -> Result<()>
     ensures { Prints result (string_bytes w.new)
-        (named flags word.now (raw_bytes name.entry) (string_bytes w.old)) }
+        (named flags.bits word.now (raw_bytes name.entry) (string_bytes w.old)) }
 {
-    if flags & NAME_ONLY == 0 {
+    if !flags.intersects(TypeFormatterFlags::NAME_ONLY) {
         emit(w, word)?;
     }
     write!(w, "{name}")?;

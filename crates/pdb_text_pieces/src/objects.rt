@@ -5,22 +5,22 @@ ghost use Rattle.pdb_records.specs.Shapes.{shape};
 ghost use Rattle.pdb_text_pieces.specs.Objects.{static_word, this_to_modified};
 ghost use Rattle.pdb_text_pieces.specs.Printed.{Done, Prints, say};
 
+use crate::flags::TypeFormatterFlags;
 use crate::text::emit;
+use bitflags::Flags;
 use pdb_indices::TypeIndex;
 use pdb_records::TypeData;
 use pdb_resolving::stop::Result;
-
-/// The flag that leaves out `static`.
-const NO_MEMBER_FUNCTION_STATIC: u32 = 2;
 
 /// Appends `static ` for a method without a pointer to its object, where no flag leaves it out.
 ///
 /// # Errors
 /// `OutOfMemory`.
-pub fn emit_static(w: &mut String, flags: u32, this: Option<TypeIndex>) -> Result<()>
-    ensures { Prints result (string_bytes w.new) (static_word flags this (string_bytes w.old)) }
+pub fn emit_static(w: &mut String, flags: TypeFormatterFlags, this: Option<TypeIndex>) -> Result<()>
+    ensures { Prints result (string_bytes w.new)
+        (static_word flags.bits this (string_bytes w.old)) }
 {
-    if this.is_some() || flags & NO_MEMBER_FUNCTION_STATIC != 0 {
+    if this.is_some() || flags.intersects(TypeFormatterFlags::NO_MEMBER_FUNCTION_STATIC) {
         return Ok(());
     }
     emit(w, "static ")

@@ -1,20 +1,10 @@
-//! The path of indices to a type or an id.
+//! Levels of indices on a path.
 
-ghost use Rattle.std.specs.Prelude.{◌≡◌, ◌≤◌, ◌==◌, ◌-◌, length, take};
-ghost use Rattle.std.specs.List.{list_any};
-ghost use Rattle.pdb_text_pieces.specs.Paths.{Enters, is_on};
+ghost use Rattle.std.specs.Prelude.{◌≡◌, length, take};
+ghost use Rattle.pdb_text_pieces.specs.Paths.{Enters};
 
+use crate::index_path::IndexPath;
 use pdb_resolving::{Error, Result};
-
-/// How many indices a path may have.
-const MAX_LENGTH: usize = 1024;
-
-/// Whether an index is on a path.
-pub fn is_on(path: &[u32], index: u32) -> bool
-    ensures { result ≡ is_on path.now index }
-{
-    path.iter().any(|p| *p == index)
-}
 
 /// An index that is on the path already, or that a full path can't take.
 #[derive(Clone, Copy, Debug, PartialEq, Eq)]
@@ -35,10 +25,10 @@ impl From<AlreadySeenError> for Error {
 ///
 /// # Errors
 /// Those of [`Seen::insert`].
-pub(crate) fn enter(path: &mut Vec<u32>, index: u32) -> Result<()>
+pub(crate) fn enter(path: &mut IndexPath, index: u32) -> Result<()>
     ensures { Enters result path.old.items path.new.items index }
 {
-    if path.len() >= MAX_LENGTH || is_on(path, index) {
+    if !path.may_enter(index) {
         return Err(Error::from(AlreadySeenError(index)));
     }
     path.push(index)?;
@@ -49,14 +39,14 @@ pub(crate) fn enter(path: &mut Vec<u32>, index: u32) -> Result<()>
 /// dropped.
 pub struct Seen<'a> {
     /// The path, with the indices of all levels.
-    pub path: &'a mut Vec<u32>,
+    pub path: &'a mut IndexPath,
     /// How many indices the path had when the level began.
     pub level: usize,
 }
 
 impl<'a> Seen<'a> {
     /// A level at which nothing is inserted yet.
-    pub fn new(path: &'a mut Vec<u32>) -> Seen<'a>
+    pub fn new(path: &'a mut IndexPath) -> Seen<'a>
         ensures same_reference { result.path.ghost_name ≡ path.entry.ghost_name }
         ensures path { result.path.now.items ≡ path.old.items }
         ensures level { result.level ≡ length path.old.items }

@@ -6,12 +6,11 @@ ghost use Rattle.pdb_text_pieces.specs.Pointers.{level_of, leading_to, sigil, en
 ghost use Rattle.pdb_text_pieces.specs.Pointers.{target_text, space_text, pointer_text};
 ghost use Rattle.pdb_text_pieces.specs.Pointers.{pointers_text};
 
+use crate::flags::TypeFormatterFlags;
 use crate::text::emit;
+use bitflags::Flags;
 use pdb_records::{PointerMode, PointerType};
 use pdb_resolving::stop::Result;
-
-/// The flag that puts a space before `*` and `&`.
-const SPACE_BEFORE_POINTER: u32 = 8;
 
 /// One of several pointers on one another.
 #[derive(Clone, Copy)]
@@ -70,18 +69,18 @@ pub fn ends_in_sigil(text: &[u8]) -> bool
 /// before it where `is_behind_sigil`.
 fn emit_pointer(
     w: &mut String,
-    flags: u32,
+    flags: TypeFormatterFlags,
     may_space: bool,
     is_behind_sigil: bool,
     pointer: PointerLevel,
 ) -> Result<()>
     ensures { Prints result (string_bytes w.new)
-        (say (pointer_text flags may_space is_behind_sigil pointer) (string_bytes w.old)) }
+        (say (pointer_text flags.bits may_space is_behind_sigil pointer) (string_bytes w.old)) }
 {
     if pointer.leads_to_constant {
         emit(w, if may_space { " const" } else { "const" })?;
     }
-    if flags & SPACE_BEFORE_POINTER != 0
+    if flags.intersects(TypeFormatterFlags::SPACE_BEFORE_POINTER)
         && (pointer.leads_to_constant || (may_space && !is_behind_sigil))
     {
         emit(w, " ")?;
@@ -99,13 +98,13 @@ fn emit_pointer(
 /// `OutOfMemory`.
 pub fn emit_pointers(
     w: &mut String,
-    flags: u32,
+    flags: TypeFormatterFlags,
     pointers: &[PointerLevel],
     may_space: bool,
     is_behind_sigil: bool,
 ) -> Result<()>
     ensures { Prints result (string_bytes w.new)
-        (say (pointers_text flags may_space is_behind_sigil (reverse pointers.now))
+        (say (pointers_text flags.bits may_space is_behind_sigil (reverse pointers.now))
         (string_bytes w.old)) }
 {
     let mut may_space = may_space;

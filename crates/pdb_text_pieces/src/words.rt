@@ -4,13 +4,12 @@ ghost use Rattle.std.specs.Prelude.{◌≡◌, ◌++◌, codes, string_bytes, if
 ghost use Rattle.pdb_text_pieces.specs.Printed.{Done, Prints, say};
 ghost use Rattle.pdb_text_pieces.specs.Returns.{shown_return};
 
+use crate::flags::TypeFormatterFlags;
 use crate::text::emit;
+use bitflags::Flags;
 use pdb_indices::TypeIndex;
 use pdb_records::FunctionAttributes;
 use pdb_resolving::stop::Result;
-
-/// The flag that leaves out the return type of the function asked for.
-const NO_FUNCTION_RETURN: u32 = 1;
 
 /// Appends what stands for the name in a method's type on its own.
 ///
@@ -71,15 +70,15 @@ pub fn emit_between_strings(w: &mut String) -> Result<()>
 /// The type with which a function's text begins. It is none for a constructor, and where a flag
 /// leaves it out. The flag doesn't apply to a function that pointers point to.
 pub fn shown_return(
-    flags: u32,
+    flags: TypeFormatterFlags,
     index: Option<TypeIndex>,
     attributes: FunctionAttributes,
     is_behind_pointers: bool,
 ) -> Option<TypeIndex>
-    ensures { result ≡ shown_return flags index attributes is_behind_pointers }
+    ensures { result ≡ shown_return flags.bits index attributes is_behind_pointers }
 {
-    let is_left_out = flags & NO_FUNCTION_RETURN != 0 && !is_behind_pointers;
-    if is_left_out || attributes.is_constructor() {
+    let is_unwanted = flags.intersects(TypeFormatterFlags::NO_FUNCTION_RETURN);
+    if (is_unwanted && !is_behind_pointers) || attributes.is_constructor() {
         return None;
     }
     index

@@ -1,6 +1,9 @@
 pub mod Chains
+pub mod Copies
 pub mod Failing
 pub mod Others
 pub mod Returns
 pub mod Steps
+pub mod Uniform
+pub mod UniformTypes
 pub mod Visits

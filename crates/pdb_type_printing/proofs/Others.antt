@@ -81,6 +81,23 @@ stops_on (stops.ByError (errors.FormatError cause)) new p more h = h
 stops_on (stops.ByError e) new p more h = ap (λ x. x >>= more) h
 stops_on (stops.ByTable table e) new p more h = (h.0, ap (λ x. x >>= more) h.1)
 
+-- what pointers point to is the same by a formatter, a record and pointers that are the same
+pointed_same : {F : Type 0} (env : F → Env) (f f' : F) (path : Path) (w : Text) (t t' : TypeData)
+    (ps all : List PointerLevel) {A : Type 0} (r : Result A Stop) (new : Text)
+    → f' ≡ f → t' ≡ t → ps ≡ all
+    → Prints r new (pointed_text (env f') (visiting (env f') path) path ps (shape t') w)
+    → Prints r new (pointed_text (env f) (visiting (env f) path) path all (shape t) w)
+pointed_same {F} env f f' path w t t' ps all r new same is are printed =
+    let q1 =
+    subst
+    (λ (x : F). Prints r new
+    (pointed_text (env x) (visiting (env x) path) path ps (shape t') w)) same printed in
+    let q2 =
+    subst (λ (x : List PointerLevel). Prints r new
+    (pointed_text (env f) (visiting (env f) path) path x (shape t') w)) are q1 in
+    subst (λ (x : TypeData). Prints r new
+    (pointed_text (env f) (visiting (env f) path) path all (shape x) w)) is q2
+
 -- what pointers point to, once an index was read: neither a pointer nor a Modifier
 pub other_pointee : {F : Type 0} (env : F → Env) (f f' : F) (before : List PointerLevel)
     (p : PointerLevel) (path : Path) (i : ℕ) (w : Text) (t t' : TypeData) (ps : List PointerLevel)
@@ -91,19 +108,10 @@ pub other_pointee : {F : Type 0} (env : F → Env) (f f' : F) (before : List Poi
     → Prints r new (pointed_text (env f') (visiting (env f') path) path ps (shape t') w)
     → Prints r new (inside_text (env f) (PointedTo before p) path i w)
 other_pointee {F} env f f' before p path i w t t' ps r new same read is all h h' printed =
-    let q1 =
-    subst
-    (λ (x : F). Prints r new
-    (pointed_text (env x) (visiting (env x) path) path ps (shape t') w)) same printed in
-    let q2 =
-    subst (λ (x : List PointerLevel). Prints r new
-    (pointed_text (env f) (visiting (env f) path) path x (shape t') w)) all q1 in
-    let q3 =
-    subst (λ (x : TypeData). Prints r new
-    (pointed_text (env f) (visiting (env f) path) path (before ++ p ∷ []) (shape x) w)) is q2 in
-    let q4 = subst (λ (x : Printed). Prints r new x)
-    (sym (no_pointee (env f) (visiting (env f) path) before p path t w h h')) q3 in
-    rw read q4
+    let q = subst (λ (x : Printed). Prints r new x)
+    (sym (no_pointee (env f) (visiting (env f) path) before p path t w h h'))
+    (pointed_same env f f' path w t t' ps (before ++ p ∷ []) r new same is all printed) in
+    rw read q
 
 -- what pointers point to through a Modifier, once an index was read: no pointer
 pub other_modified_pointee : {F : Type 0} (env : F → Env) (f f' : F) (before : List PointerLevel)
@@ -114,19 +122,10 @@ pub other_modified_pointee : {F : Type 0} (env : F → Env) (f f' : F) (before :
     → Prints r new (pointed_text (env f') (visiting (env f') path) path ps (shape t') w)
     → Prints r new (inside_text (env f) (PointedModified before p) path i w)
 other_modified_pointee {F} env f f' before p path i w t t' ps r new same read is all h printed =
-    let q1 =
-    subst
-    (λ (x : F). Prints r new
-    (pointed_text (env x) (visiting (env x) path) path ps (shape t') w)) same printed in
-    let q2 =
-    subst (λ (x : List PointerLevel). Prints r new
-    (pointed_text (env f) (visiting (env f) path) path x (shape t') w)) all q1 in
-    let q3 =
-    subst (λ (x : TypeData). Prints r new
-    (pointed_text (env f) (visiting (env f) path) path (before ++ p ∷ []) (shape x) w)) is q2 in
-    let q4 = subst (λ (x : Printed). Prints r new x)
-    (sym (no_pointer (env f) (visiting (env f) path) before p path t w h)) q3 in
-    rw read q4
+    let q = subst (λ (x : Printed). Prints r new x)
+    (sym (no_pointer (env f) (visiting (env f) path) before p path t w h))
+    (pointed_same env f f' path w t t' ps (before ++ p ∷ []) r new same is all printed) in
+    rw read q
 
 -- under a Modifier, once an index was read: neither a pointer nor a type without a record
 pub other_modified : {F : Type 0} (env : F → Env) (f f' : F) (constant : Bool) (path : Path) (i : ℕ)

@@ -1,5 +1,6 @@
 pub mod Arrays
 pub mod Env
+pub mod Level
 pub mod Printing
 pub mod This
 pub mod Types

@@ -1,6 +1,7 @@
 //! Printing types: the texts of types on their own, with what stands before and after them.
 #![tactic(auto)]
 
+mod arguments;
 mod asker;
 mod elements;
 mod printer;

@@ -16,7 +16,7 @@ use pdb_records::{ArrayType, IdData, TypeData};
 use pdb_resolving::stop::{Result, Stop};
 use pdb_resolving::{Error, ModuleProvider, Table};
 use pdb_symbols_modules::Module;
-use pdb_text_pieces::{first_or_zero, is_on, this_behind};
+use pdb_text_pieces::{IndexPath, TypeFormatterFlags, first_or_zero, this_behind};
 use pdb_type_sizes::ItemReader;
 use std::alloc::AllocError;
 use std::marker::Model;
@@ -24,7 +24,7 @@ use std::marker::Model;
 /// Prints types by their indices, as the modules of a database have them.
 pub struct TypePrinter<'a, 's, P: ModuleProvider> {
     pub(crate) reader: ItemReader<'a, 's, P>,
-    pub(crate) flags: u32,
+    pub(crate) flags: TypeFormatterFlags,
 }
 
 impl<'a, 's, P: ModuleProvider> Model for TypePrinter<'a, 's, P> {
@@ -32,7 +32,7 @@ impl<'a, 's, P: ModuleProvider> Model for TypePrinter<'a, 's, P> {
 
     ghost Value = { Formatting P };
 
-    ghost view = { λ f. record { reading = f.reader; flags = f.flags } };
+    ghost view = { λ f. record { reading = f.reader; flags = f.flags.bits } };
 }
 
 impl<'a, 's, P: ModuleProvider> Drop for TypePrinter<'a, 's, P> {
@@ -43,16 +43,16 @@ impl<'a, 's, P: ModuleProvider> Drop for TypePrinter<'a, 's, P> {
 }
 
 impl<'a, 's, P: ModuleProvider> TypePrinter<'a, 's, P> {
-    /// Prints what a reader reads, by the bits of a formatter's flags.
-    pub fn new(reader: ItemReader<'a, 's, P>, flags: u32) -> TypePrinter<'a, 's, P>
-        ensures { result ≡ record { reading = reader.entry; flags = flags } }
+    /// A printer of what a reader reads, with a formatter's flags.
+    pub fn new(reader: ItemReader<'a, 's, P>, flags: TypeFormatterFlags) -> TypePrinter<'a, 's, P>
+        ensures { result ≡ record { reading = reader.entry; flags = flags.bits } }
     {
         TypePrinter { reader, flags }
     }
 
-    /// The bits of a formatter's flags.
-    pub fn flags(&self) -> u32
-        ensures { result ≡ self.now.flags }
+    /// The formatter's flags.
+    pub fn flags(&self) -> TypeFormatterFlags
+        ensures { result.bits ≡ self.now.flags }
     {
         self.flags
     }
@@ -117,6 +117,7 @@ impl<'a, 's, P: ModuleProvider> TypePrinter<'a, 's, P> {
     /// # Errors
     /// `CircularTypeDefinition` where an element comes again, and after 1,024 elements; the fault
     /// of an element that can't be read.
+    #[inline(never)]
     pub(crate) fn elements_of(&mut self, asker: Asker, array: &ArrayType) -> Result<Elements<'a>>
         ensures same { self.new ≡ self.old }
         ensures value { Finds
@@ -128,12 +129,12 @@ impl<'a, 's, P: ModuleProvider> TypePrinter<'a, 's, P> {
             result
             (elements_of (env_of P.provided self.old asker.module_index) (array_form array.now)) }
     {
-        let mut passed = Vec::new(asker.alloc);
+        let mut passed = IndexPath::new(asker.alloc);
         let mut dimensions = Vec::new(asker.alloc);
         dimensions.push(first_or_zero(&array.dimensions))?;
         let mut index = array.element_type;
         for _ in 0..MAX_ELEMENTS {
-            if is_on(&passed, index.0) {
+            if passed.contains(index.0) {
                 return Err(Stop::ByError(Error::CircularTypeDefinition(index.0)));
             }
             passed.push(index.0)?;

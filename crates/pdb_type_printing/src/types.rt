@@ -10,10 +10,10 @@ ghost use Rattle.pdb_resolving.specs.Fault.{CircularTypeDefinition};
 ghost use Rattle.pdb_text_pieces.specs.Printed.{Prints, Stopped, caught, read_or};
 ghost use Rattle.pdb_text_pieces.specs.Paths.{may_enter};
 ghost use Rattle.pdb_type_printing.specs.Arrays.{elements_of};
+ghost use Rattle.pdb_type_printing.specs.Level.{KeepsLevel};
 ghost use Rattle.pdb_type_printing.specs.Types.{Whole, Modified, PointedTo, PointedModified};
 ghost use Rattle.pdb_type_printing.specs.Types.{MethodArguments, visiting, inside_text, shown_text};
-ghost use Rattle.pdb_type_printing.specs.Types.{returned, returned_unless, arguments};
-ghost use Rattle.pdb_type_printing.specs.Types.{more_arguments, with_extra, in_brackets};
+ghost use Rattle.pdb_type_printing.specs.Types.{returned, returned_unless, in_brackets};
 ghost use Rattle.pdb_type_printing.specs.Types.{method_arguments, plain_text, array_text};
 ghost use Rattle.pdb_type_printing.specs.Types.{record_text, modified_text, pointed_text};
 ghost use Rattle.pdb_type_printing.specs.Printing.{env_of};
@@ -26,9 +26,9 @@ use pdb_resolving::stop::{Result, Stop};
 use pdb_resolving::{Error, ModuleProvider};
 use pdb_text_pieces::{
     PointerLevel, Seen, class_word, emit, emit_bare_function, emit_bare_method, emit_brackets,
-    emit_comma, emit_constant, emit_constant_object, emit_missing, emit_named, emit_pointers,
-    emit_primitive, emit_unhandled, emit_unread, ends_in_sigil, leading_to, leaves_out_arguments,
-    level_of, shown_return,
+    emit_constant, emit_constant_object, emit_missing, emit_named, emit_pointers, emit_primitive,
+    emit_unhandled, emit_unread, ends_in_sigil, leading_to, leaves_out_arguments, level_of,
+    shown_return,
 };
 
 impl<'a, 's, P: ModuleProvider> TypePrinter<'a, 's, P> {
@@ -47,9 +47,7 @@ impl<'a, 's, P: ModuleProvider> TypePrinter<'a, 's, P> {
     ) -> Result<()>
         requires { length seen.old.path.now.items ≤ 1024 }
         ensures same { self.new ≡ self.old }
-        ensures same_reference { seen.new.path.ghost_name ≡ seen.old.path.ghost_name }
-        ensures level { seen.new.level ≡ seen.old.level }
-        ensures path { seen.new.path.now.items ≡ seen.old.path.now.items }
+        ensures level { KeepsLevel seen.old seen.new }
         ensures text { Prints result (string_bytes w.new)
             ((visiting (env_of P.provided self.old asker.module_index) seen.old.path.now.items)
             Whole seen.old.path.now.items index.0 (string_bytes w.old)) }
@@ -72,9 +70,7 @@ impl<'a, 's, P: ModuleProvider> TypePrinter<'a, 's, P> {
     ) -> Result<()>
         requires { length seen.old.path.now.items ≤ 1024 }
         ensures same { self.new ≡ self.old }
-        ensures same_reference { seen.new.path.ghost_name ≡ seen.old.path.ghost_name }
-        ensures level { seen.new.level ≡ seen.old.level }
-        ensures path { seen.new.path.now.items ≡ seen.old.path.now.items }
+        ensures level { KeepsLevel seen.old seen.new }
         ensures text { Prints result (string_bytes w.new)
             (if may_enter seen.old.path.now.items index.0
             then caught
@@ -101,9 +97,7 @@ impl<'a, 's, P: ModuleProvider> TypePrinter<'a, 's, P> {
     ) -> Result<()>
         requires { length seen.old.path.now.items ≤ 1024 }
         ensures same { self.new ≡ self.old }
-        ensures same_reference { seen.new.path.ghost_name ≡ seen.old.path.ghost_name }
-        ensures level { seen.new.level ≡ seen.old.level }
-        ensures path { seen.new.path.now.items ≡ seen.old.path.now.items }
+        ensures level { KeepsLevel seen.old seen.new }
         ensures text { Prints result (string_bytes w.new)
             (caught
             (record_text (env_of P.provided self.old asker.module_index)
@@ -129,9 +123,7 @@ impl<'a, 's, P: ModuleProvider> TypePrinter<'a, 's, P> {
     ) -> Result<()>
         requires { length seen.old.path.now.items ≤ 1024 }
         ensures same { self.new ≡ self.old }
-        ensures same_reference { seen.new.path.ghost_name ≡ seen.old.path.ghost_name }
-        ensures level { seen.new.level ≡ seen.old.level }
-        ensures path { seen.new.path.now.items ≡ seen.old.path.now.items }
+        ensures level { KeepsLevel seen.old seen.new }
         ensures text { Prints result (string_bytes w.new)
             (record_text (env_of P.provided self.old asker.module_index)
             (visiting (env_of P.provided self.old asker.module_index) seen.old.path.now.items)
@@ -154,9 +146,7 @@ impl<'a, 's, P: ModuleProvider> TypePrinter<'a, 's, P> {
     ) -> Result<()>
         requires { length seen.old.path.now.items ≤ 1024 }
         ensures same { self.new ≡ self.old }
-        ensures same_reference { seen.new.path.ghost_name ≡ seen.old.path.ghost_name }
-        ensures level { seen.new.level ≡ seen.old.level }
-        ensures path { seen.new.path.now.items ≡ seen.old.path.now.items }
+        ensures level { KeepsLevel seen.old seen.new }
         ensures text { Prints result (string_bytes w.new)
             (record_text (env_of P.provided self.old asker.module_index)
             (visiting (env_of P.provided self.old asker.module_index) seen.old.path.now.items)
@@ -180,9 +170,7 @@ impl<'a, 's, P: ModuleProvider> TypePrinter<'a, 's, P> {
     ) -> Result<()>
         requires { length seen.old.path.now.items ≤ 1024 }
         ensures same { self.new ≡ self.old }
-        ensures same_reference { seen.new.path.ghost_name ≡ seen.old.path.ghost_name }
-        ensures level { seen.new.level ≡ seen.old.level }
-        ensures path { seen.new.path.now.items ≡ seen.old.path.now.items }
+        ensures level { KeepsLevel seen.old seen.new }
         ensures text { Prints result (string_bytes w.new)
             (caught
             (plain_text (env_of P.provided self.old asker.module_index)
@@ -208,9 +196,7 @@ impl<'a, 's, P: ModuleProvider> TypePrinter<'a, 's, P> {
     ) -> Result<()>
         requires { length seen.old.path.now.items ≤ 1024 }
         ensures same { self.new ≡ self.old }
-        ensures same_reference { seen.new.path.ghost_name ≡ seen.old.path.ghost_name }
-        ensures level { seen.new.level ≡ seen.old.level }
-        ensures path { seen.new.path.now.items ≡ seen.old.path.now.items }
+        ensures level { KeepsLevel seen.old seen.new }
         ensures text { Prints result (string_bytes w.new)
             (plain_text (env_of P.provided self.old asker.module_index)
             (visiting (env_of P.provided self.old asker.module_index) seen.old.path.now.items)
@@ -254,9 +240,7 @@ impl<'a, 's, P: ModuleProvider> TypePrinter<'a, 's, P> {
     ) -> Result<()>
         requires { length seen.old.path.now.items ≤ 1024 }
         ensures same { self.new ≡ self.old }
-        ensures same_reference { seen.new.path.ghost_name ≡ seen.old.path.ghost_name }
-        ensures level { seen.new.level ≡ seen.old.level }
-        ensures path { seen.new.path.now.items ≡ seen.old.path.now.items }
+        ensures level { KeepsLevel seen.old seen.new }
         ensures text { Prints result (string_bytes w.new)
             (plain_text (env_of P.provided self.old asker.module_index)
             (visiting (env_of P.provided self.old asker.module_index) seen.old.path.now.items)
@@ -278,9 +262,7 @@ impl<'a, 's, P: ModuleProvider> TypePrinter<'a, 's, P> {
     ) -> Result<()>
         requires { length seen.old.path.now.items ≤ 1024 }
         ensures same { self.new ≡ self.old }
-        ensures same_reference { seen.new.path.ghost_name ≡ seen.old.path.ghost_name }
-        ensures level { seen.new.level ≡ seen.old.level }
-        ensures path { seen.new.path.now.items ≡ seen.old.path.now.items }
+        ensures level { KeepsLevel seen.old seen.new }
         ensures text { Prints result (string_bytes w.new)
             (plain_text (env_of P.provided self.old asker.module_index)
             (visiting (env_of P.provided self.old asker.module_index) seen.old.path.now.items)
@@ -306,9 +288,7 @@ impl<'a, 's, P: ModuleProvider> TypePrinter<'a, 's, P> {
     ) -> Result<()>
         requires { length seen.old.path.now.items ≤ 1024 }
         ensures same { self.new ≡ self.old }
-        ensures same_reference { seen.new.path.ghost_name ≡ seen.old.path.ghost_name }
-        ensures level { seen.new.level ≡ seen.old.level }
-        ensures path { seen.new.path.now.items ≡ seen.old.path.now.items }
+        ensures level { KeepsLevel seen.old seen.new }
         ensures text { Prints result (string_bytes w.new)
             (returned_unless (env_of P.provided self.old asker.module_index)
             (visiting (env_of P.provided self.old asker.module_index) seen.old.path.now.items)
@@ -331,9 +311,7 @@ impl<'a, 's, P: ModuleProvider> TypePrinter<'a, 's, P> {
     ) -> Result<()>
         requires { length seen.old.path.now.items ≤ 1024 }
         ensures same { self.new ≡ self.old }
-        ensures same_reference { seen.new.path.ghost_name ≡ seen.old.path.ghost_name }
-        ensures level { seen.new.level ≡ seen.old.level }
-        ensures path { seen.new.path.now.items ≡ seen.old.path.now.items }
+        ensures level { KeepsLevel seen.old seen.new }
         ensures text { Prints result (string_bytes w.new)
             (returned
             (visiting (env_of P.provided self.old asker.module_index) seen.old.path.now.items)
@@ -354,9 +332,7 @@ impl<'a, 's, P: ModuleProvider> TypePrinter<'a, 's, P> {
     ) -> Result<()>
         requires { length seen.old.path.now.items ≤ 1024 }
         ensures same { self.new ≡ self.old }
-        ensures same_reference { seen.new.path.ghost_name ≡ seen.old.path.ghost_name }
-        ensures level { seen.new.level ≡ seen.old.level }
-        ensures path { seen.new.path.now.items ≡ seen.old.path.now.items }
+        ensures level { KeepsLevel seen.old seen.new }
         ensures text { Prints result (string_bytes w.new)
             (shown_text (visiting (env_of P.provided self.old asker.module_index)
             seen.old.path.now.items) seen.old.path.now.items shown (string_bytes w.old)) }
@@ -366,85 +342,6 @@ impl<'a, 's, P: ModuleProvider> TypePrinter<'a, 's, P> {
         };
         self.emit_type_index(asker, w, index, seen)?;
         emit(w, " ")
-    }
-
-    /// Appends arguments with commas between them.
-    #[cycle(printing)]
-    fn emit_arguments(
-        &mut self,
-        asker: Asker,
-        w: &mut String,
-        list: &[TypeIndex],
-        seen: &mut Seen<'_>,
-    ) -> Result<()>
-        requires { length seen.old.path.now.items ≤ 1024 }
-        ensures same { self.new ≡ self.old }
-        ensures same_reference { seen.new.path.ghost_name ≡ seen.old.path.ghost_name }
-        ensures level { seen.new.level ≡ seen.old.level }
-        ensures path { seen.new.path.now.items ≡ seen.old.path.now.items }
-        ensures text { Prints result (string_bytes w.new)
-            (arguments (env_of P.provided self.old asker.module_index)
-            (visiting (env_of P.provided self.old asker.module_index) seen.old.path.now.items)
-            seen.old.path.now.items list.now (string_bytes w.old)) }
-    {
-        let [first, more @ ..] = list else {
-            return Ok(());
-        };
-        self.emit_type_index(asker, w, *first, seen)?;
-        self.emit_more_arguments(asker, w, more, seen)
-    }
-
-    /// Appends arguments with a comma before each.
-    #[cycle(printing)]
-    fn emit_more_arguments(
-        &mut self,
-        asker: Asker,
-        w: &mut String,
-        list: &[TypeIndex],
-        seen: &mut Seen<'_>,
-    ) -> Result<()>
-        requires { length seen.old.path.now.items ≤ 1024 }
-        ensures same { self.new ≡ self.old }
-        ensures same_reference { seen.new.path.ghost_name ≡ seen.old.path.ghost_name }
-        ensures level { seen.new.level ≡ seen.old.level }
-        ensures path { seen.new.path.now.items ≡ seen.old.path.now.items }
-        ensures text { Prints result (string_bytes w.new)
-            (more_arguments (env_of P.provided self.old asker.module_index)
-            (visiting (env_of P.provided self.old asker.module_index) seen.old.path.now.items)
-            seen.old.path.now.items list.now (string_bytes w.old)) }
-    {
-        for index in list {
-            emit_comma(w, self.flags)?;
-            self.emit_type_index(asker, w, *index, seen)?;
-        }
-        Ok(())
-    }
-
-    /// Appends an extra first argument, if there is one, and the other arguments.
-    #[cycle(printing)]
-    fn emit_extra_and_arguments(
-        &mut self,
-        asker: Asker,
-        w: &mut String,
-        extra: Option<TypeIndex>,
-        list: &[TypeIndex],
-        seen: &mut Seen<'_>,
-    ) -> Result<()>
-        requires { length seen.old.path.now.items ≤ 1024 }
-        ensures same { self.new ≡ self.old }
-        ensures same_reference { seen.new.path.ghost_name ≡ seen.old.path.ghost_name }
-        ensures level { seen.new.level ≡ seen.old.level }
-        ensures path { seen.new.path.now.items ≡ seen.old.path.now.items }
-        ensures text { Prints result (string_bytes w.new)
-            (arguments (env_of P.provided self.old asker.module_index)
-            (visiting (env_of P.provided self.old asker.module_index) seen.old.path.now.items)
-            seen.old.path.now.items (with_extra extra list.now) (string_bytes w.old)) }
-    {
-        let Some(first) = extra else {
-            return self.emit_arguments(asker, w, list, seen);
-        };
-        self.emit_type_index(asker, w, first, seen)?;
-        self.emit_more_arguments(asker, w, list, seen)
     }
 
     /// Appends a method's arguments, in brackets, where no flag leaves them out.
@@ -462,9 +359,7 @@ impl<'a, 's, P: ModuleProvider> TypePrinter<'a, 's, P> {
     ) -> Result<()>
         requires { length seen.old.path.now.items ≤ 1024 }
         ensures same { self.new ≡ self.old }
-        ensures same_reference { seen.new.path.ghost_name ≡ seen.old.path.ghost_name }
-        ensures level { seen.new.level ≡ seen.old.level }
-        ensures path { seen.new.path.now.items ≡ seen.old.path.now.items }
+        ensures level { KeepsLevel seen.old seen.new }
         ensures text { Prints result (string_bytes w.new)
             (method_arguments (env_of P.provided self.old asker.module_index)
             (visiting (env_of P.provided self.old asker.module_index) seen.old.path.now.items)
@@ -488,9 +383,7 @@ impl<'a, 's, P: ModuleProvider> TypePrinter<'a, 's, P> {
     ) -> Result<()>
         requires { length seen.old.path.now.items ≤ 1024 }
         ensures same { self.new ≡ self.old }
-        ensures same_reference { seen.new.path.ghost_name ≡ seen.old.path.ghost_name }
-        ensures level { seen.new.level ≡ seen.old.level }
-        ensures path { seen.new.path.now.items ≡ seen.old.path.now.items }
+        ensures level { KeepsLevel seen.old seen.new }
         ensures text { Prints result (string_bytes w.new)
             ((visiting (env_of P.provided self.old asker.module_index) seen.old.path.now.items)
             (MethodArguments t.now.class_type t.now.this_pointer_type says_constant)
@@ -514,9 +407,7 @@ impl<'a, 's, P: ModuleProvider> TypePrinter<'a, 's, P> {
     ) -> Result<()>
         requires { length seen.old.path.now.items ≤ 1024 }
         ensures same { self.new ≡ self.old }
-        ensures same_reference { seen.new.path.ghost_name ≡ seen.old.path.ghost_name }
-        ensures level { seen.new.level ≡ seen.old.level }
-        ensures path { seen.new.path.now.items ≡ seen.old.path.now.items }
+        ensures level { KeepsLevel seen.old seen.new }
         ensures text { Prints result (string_bytes w.new)
             (inside_text (env_of P.provided self.old asker.module_index)
             (MethodArguments t.now.class_type t.now.this_pointer_type says_constant)
@@ -543,9 +434,7 @@ impl<'a, 's, P: ModuleProvider> TypePrinter<'a, 's, P> {
     ) -> Result<()>
         requires { length seen.old.path.now.items ≤ 1024 }
         ensures same { self.new ≡ self.old }
-        ensures same_reference { seen.new.path.ghost_name ≡ seen.old.path.ghost_name }
-        ensures level { seen.new.level ≡ seen.old.level }
-        ensures path { seen.new.path.now.items ≡ seen.old.path.now.items }
+        ensures level { KeepsLevel seen.old seen.new }
         ensures text { Prints result (string_bytes w.new)
             (in_brackets (env_of P.provided self.old asker.module_index)
             (visiting (env_of P.provided self.old asker.module_index) seen.old.path.now.items)
@@ -570,9 +459,7 @@ impl<'a, 's, P: ModuleProvider> TypePrinter<'a, 's, P> {
     ) -> Result<()>
         requires { length seen.old.path.now.items ≤ 1024 }
         ensures same { self.new ≡ self.old }
-        ensures same_reference { seen.new.path.ghost_name ≡ seen.old.path.ghost_name }
-        ensures level { seen.new.level ≡ seen.old.level }
-        ensures path { seen.new.path.now.items ≡ seen.old.path.now.items }
+        ensures level { KeepsLevel seen.old seen.new }
         ensures text { Prints result (string_bytes w.new)
             ((visiting (env_of P.provided self.old asker.module_index) seen.old.path.now.items)
             (Modified is_constant) seen.old.path.now.items index.0 (string_bytes w.old)) }
@@ -594,9 +481,7 @@ impl<'a, 's, P: ModuleProvider> TypePrinter<'a, 's, P> {
     ) -> Result<()>
         requires { length seen.old.path.now.items ≤ 1024 }
         ensures same { self.new ≡ self.old }
-        ensures same_reference { seen.new.path.ghost_name ≡ seen.old.path.ghost_name }
-        ensures level { seen.new.level ≡ seen.old.level }
-        ensures path { seen.new.path.now.items ≡ seen.old.path.now.items }
+        ensures level { KeepsLevel seen.old seen.new }
         ensures text { Prints result (string_bytes w.new)
             (inside_text (env_of P.provided self.old asker.module_index) (Modified is_constant)
             seen.old.path.now.items index.0 (string_bytes w.old)) }
@@ -630,9 +515,7 @@ impl<'a, 's, P: ModuleProvider> TypePrinter<'a, 's, P> {
     ) -> Result<()>
         requires { length seen.old.path.now.items ≤ 1024 }
         ensures same { self.new ≡ self.old }
-        ensures same_reference { seen.new.path.ghost_name ≡ seen.old.path.ghost_name }
-        ensures level { seen.new.level ≡ seen.old.level }
-        ensures path { seen.new.path.now.items ≡ seen.old.path.now.items }
+        ensures level { KeepsLevel seen.old seen.new }
         ensures text { Prints result (string_bytes w.new)
             (modified_text (env_of P.provided self.old asker.module_index)
             (visiting (env_of P.provided self.old asker.module_index) seen.old.path.now.items)
@@ -655,9 +538,7 @@ impl<'a, 's, P: ModuleProvider> TypePrinter<'a, 's, P> {
     ) -> Result<()>
         requires { length seen.old.path.now.items ≤ 1024 }
         ensures same { self.new ≡ self.old }
-        ensures same_reference { seen.new.path.ghost_name ≡ seen.old.path.ghost_name }
-        ensures level { seen.new.level ≡ seen.old.level }
-        ensures path { seen.new.path.now.items ≡ seen.old.path.now.items }
+        ensures level { KeepsLevel seen.old seen.new }
         ensures text { Prints result (string_bytes w.new)
             ((visiting (env_of P.provided self.old asker.module_index) seen.old.path.now.items)
             (PointedTo before.old.items last) seen.old.path.now.items index.0
@@ -681,9 +562,7 @@ impl<'a, 's, P: ModuleProvider> TypePrinter<'a, 's, P> {
     ) -> Result<()>
         requires { length seen.old.path.now.items ≤ 1024 }
         ensures same { self.new ≡ self.old }
-        ensures same_reference { seen.new.path.ghost_name ≡ seen.old.path.ghost_name }
-        ensures level { seen.new.level ≡ seen.old.level }
-        ensures path { seen.new.path.now.items ≡ seen.old.path.now.items }
+        ensures level { KeepsLevel seen.old seen.new }
         ensures text { Prints result (string_bytes w.new)
             (inside_text (env_of P.provided self.old asker.module_index)
             (PointedTo before.old.items last) seen.old.path.now.items index.0
@@ -730,9 +609,7 @@ impl<'a, 's, P: ModuleProvider> TypePrinter<'a, 's, P> {
     ) -> Result<()>
         requires { length seen.old.path.now.items ≤ 1024 }
         ensures same { self.new ≡ self.old }
-        ensures same_reference { seen.new.path.ghost_name ≡ seen.old.path.ghost_name }
-        ensures level { seen.new.level ≡ seen.old.level }
-        ensures path { seen.new.path.now.items ≡ seen.old.path.now.items }
+        ensures level { KeepsLevel seen.old seen.new }
         ensures text { Prints result (string_bytes w.new)
             ((visiting (env_of P.provided self.old asker.module_index) seen.old.path.now.items)
             (PointedModified before.old.items last) seen.old.path.now.items index.0
@@ -756,9 +633,7 @@ impl<'a, 's, P: ModuleProvider> TypePrinter<'a, 's, P> {
     ) -> Result<()>
         requires { length seen.old.path.now.items ≤ 1024 }
         ensures same { self.new ≡ self.old }
-        ensures same_reference { seen.new.path.ghost_name ≡ seen.old.path.ghost_name }
-        ensures level { seen.new.level ≡ seen.old.level }
-        ensures path { seen.new.path.now.items ≡ seen.old.path.now.items }
+        ensures level { KeepsLevel seen.old seen.new }
         ensures text { Prints result (string_bytes w.new)
             (inside_text (env_of P.provided self.old asker.module_index)
             (PointedModified before.old.items last) seen.old.path.now.items index.0
@@ -793,9 +668,7 @@ impl<'a, 's, P: ModuleProvider> TypePrinter<'a, 's, P> {
     ) -> Result<()>
         requires { length seen.old.path.now.items ≤ 1024 }
         ensures same { self.new ≡ self.old }
-        ensures same_reference { seen.new.path.ghost_name ≡ seen.old.path.ghost_name }
-        ensures level { seen.new.level ≡ seen.old.level }
-        ensures path { seen.new.path.now.items ≡ seen.old.path.now.items }
+        ensures level { KeepsLevel seen.old seen.new }
         ensures text { Prints result (string_bytes w.new)
             (pointed_text (env_of P.provided self.old asker.module_index)
             (visiting (env_of P.provided self.old asker.module_index) seen.old.path.now.items)
@@ -824,9 +697,7 @@ impl<'a, 's, P: ModuleProvider> TypePrinter<'a, 's, P> {
     ) -> Result<()>
         requires { length seen.old.path.now.items ≤ 1024 }
         ensures same { self.new ≡ self.old }
-        ensures same_reference { seen.new.path.ghost_name ≡ seen.old.path.ghost_name }
-        ensures level { seen.new.level ≡ seen.old.level }
-        ensures path { seen.new.path.now.items ≡ seen.old.path.now.items }
+        ensures level { KeepsLevel seen.old seen.new }
         ensures text { Prints result (string_bytes w.new)
             (pointed_text (env_of P.provided self.old asker.module_index)
             (visiting (env_of P.provided self.old asker.module_index) seen.old.path.now.items)
@@ -853,9 +724,7 @@ impl<'a, 's, P: ModuleProvider> TypePrinter<'a, 's, P> {
     ) -> Result<()>
         requires { length seen.old.path.now.items ≤ 1024 }
         ensures same { self.new ≡ self.old }
-        ensures same_reference { seen.new.path.ghost_name ≡ seen.old.path.ghost_name }
-        ensures level { seen.new.level ≡ seen.old.level }
-        ensures path { seen.new.path.now.items ≡ seen.old.path.now.items }
+        ensures level { KeepsLevel seen.old seen.new }
         ensures text { Prints result (string_bytes w.new)
             (pointed_text (env_of P.provided self.old asker.module_index)
             (visiting (env_of P.provided self.old asker.module_index) seen.old.path.now.items)

@@ -17,7 +17,6 @@ ghost use Rattle.pdb_type_text.specs.Written.{Emits};
 
 use crate::formatter::TypeFormatter;
 use crate::writer::TextWriter;
-use bitflags::Flags;
 use pdb_container::StringTable;
 use pdb_function_text::{Asker, FunctionPrinter, ItemReader, TypePrinter};
 use pdb_indices::{IdIndex, TypeIndex};
@@ -72,7 +71,7 @@ impl<'a, 's, P: ModuleProvider> TypeFormatter<'a, 's, P> {
             string_table,
         )?;
         Ok(TypeFormatter {
-            printer: FunctionPrinter::new(TypePrinter::new(reader, flags.bits())),
+            printer: FunctionPrinter::new(TypePrinter::new(reader, flags)),
         })
     }
 

@@ -6,7 +6,7 @@ use Rattle.pdb_function_text.proofs.printer.FunctionPrinter.emit_method.Goals as
 
 pub returns-in_err-emit_static-clause-text : goal.returns-in_err-emit_static-clause-text
 returns-in_err-emit_static-clause-text g c =
-    let flags : c.flags.result ≡ c.args.self.now.flags =
+    let flags : c.flags.result.bits ≡ c.args.self.now.flags =
     c.flags.ensures ∙ ap (λ (f : Formatting _). f.flags) c.self.view_is in
     failed _ _ _ _ c.from_residual.ensures.1
     (stops_on _ _ _ _ (rw flags at c.in_err-emit_static.ensures))
@@ -14,7 +14,7 @@ returns-in_err-emit_static-clause-text g c =
 pub returns-in_err-maybe_emit_return_type-clause-text :
     goal.returns-in_err-maybe_emit_return_type-clause-text
 returns-in_err-maybe_emit_return_type-clause-text g c =
-    let flags : c.flags.result ≡ c.args.self.now.flags =
+    let flags : c.flags.result.bits ≡ c.args.self.now.flags =
     c.flags.ensures ∙ ap (λ (f : Formatting _). f.flags) c.self.view_is in
     failed _ _ _ _ c.from_residual-in_err-maybe_emit_return_type.ensures.1
     (stops_later _ _ _ _ _ (rw flags at c.in_ok-emit_static.ensures)
@@ -27,7 +27,7 @@ returns-in_err-emit_name-clause-text g c =
 
 pub returns-in_err-emit_parent-clause-text : goal.returns-in_err-emit_parent-clause-text
 returns-in_err-emit_parent-clause-text g c =
-    let flags : c.flags.result ≡ c.args.self.now.flags =
+    let flags : c.flags.result.bits ≡ c.args.self.now.flags =
     c.flags.ensures ∙ ap (λ (f : Formatting _). f.flags) c.self.view_is in
     failed _ _ _ _ c.from_residual-in_err-emit_parent.ensures.1
     (stops_later _ _ _ _ _ (rw flags at c.in_ok-emit_static.ensures)
@@ -35,6 +35,6 @@ returns-in_err-emit_parent-clause-text g c =
     (stops_on _ _ _ _
     (rw (
       c.maybe_emit_return_type.ensures.same,
-      c.maybe_emit_return_type.ensures.path,
+      c.maybe_emit_return_type.ensures.level.path,
       c.self.view_is,
     ) at c.in_err-emit_parent.ensures.text))))

@@ -2,8 +2,11 @@ use Rattle.std.proofs.Common.{◌≡◌, ℕ, false, [], ◌∷◌, ◌++◌, st
 use Rattle.std.specs.Prelude.{Option}
 use Rattle.std.proofs.lemmas.Result.{err_from_is_err_and}
 use Rattle.pdb_indices.specs.declared.index.TypeIndex.{TypeIndex}
+use Rattle.pdb_text_pieces.specs.Paths.{room}
 use Rattle.pdb_text_pieces.specs.Printed.{Printed, Prints, Stops}
 use Rattle.pdb_text_pieces.specs.Returns.{shown_return}
+use Rattle.pdb_type_printing.proofs.Copies.{stops_in_copy, copied, first_stops, first_goes_on}
+use Rattle.pdb_type_printing.proofs.Copies.{run_stops, run_goes_on}
 use Rattle.pdb_type_printing.proofs.Failing.{fails_stops, sure_stops}
 use Rattle.pdb_type_printing.proofs.Others.{no_array, no_function, stops_on, other_modified}
 use Rattle.pdb_type_printing.proofs.Others.{other_pointee, other_modified_pointee}
@@ -218,7 +221,7 @@ emit_procedure-returns-in_err-emit_bare_function-clause-text g t c =
 
 pub maybe_emit_return_type-returns-clause-text : goal.maybe_emit_return_type-returns-clause-text
 maybe_emit_return_type-returns-clause-text g t c =
-    let flags : c.self.inside.flags ≡ c.args.self.now.flags =
+    let flags : c.self.inside.flags.bits ≡ c.args.self.now.flags =
     ap (λ (f : Formatting _). f.flags) c.self.view_is in
     let shown : c.shown_return-shown.result ≡ shown_return c.args.self.now.flags c.args.index
     c.args.attributes false = c.shown_return-shown.ensures
@@ -240,7 +243,7 @@ emit_return_type-returns-clause-text g t c =
     subst (λ (x : Printed). Prints c.emit_shown_return.result
     (string_bytes c.emit_shown_return.new.w) x)
     (sym
-    (shown_behind c.self.inside.flags
+    (shown_behind c.self.inside.flags.bits
     (visiting (env_of g.P.ModuleProvider.provided c.args.self.now c.args.asker.module_index)
     c.args.seen.now.path.now.items) c.args.seen.now.path.now.items c.args.index
     c.args.attributes (string_bytes c.args.w.now)
@@ -329,3 +332,80 @@ pub emit_procedure_pointer-returns-in_err-emit_return_type-clause-text :
 emit_procedure_pointer-returns-in_err-emit_return_type-clause-text g t c =
     failed _ _ _ _ c.from_residual.ensures.1
     (stops_on _ _ _ _ c.in_err-emit_return_type.ensures.text)
+
+pub emit_copied-returns-in_err-printed-clause-text :
+    goal.emit_copied-returns-in_err-printed-clause-text
+emit_copied-returns-in_err-printed-clause-text g t c =
+    failed _ _ _ _ c.from_residual-in_err-printed.ensures.1
+    (stops_in_copy (env_of g.P.ModuleProvider.provided c.args.self.now c.args.asker.module_index)
+    (room c.args.seen.now.path.now.items) c.args.seen.now.path.now.items c.args.index _
+    (string_bytes c.new-argument.result) (string_bytes c.args.w.now) (string_bytes c.emit.new.w)
+    (string_bytes c.emit_type_index-printed.new.w) c.deref.result.now _ c.requires.no_sign
+    c.new-argument.ensures.bytes c.deref.ensures c.in_ok-emit.ensures
+    c.in_err-printed.ensures.text)
+
+pub emit_copied-returns-clause-text : goal.emit_copied-returns-clause-text
+emit_copied-returns-clause-text g t c =
+    copied (env_of g.P.ModuleProvider.provided c.args.self.now c.args.asker.module_index)
+    (room c.args.seen.now.path.now.items) c.args.seen.now.path.now.items c.args.index
+    c.args.repeats c.flags.result.bits (string_bytes c.new-argument.result)
+    (string_bytes c.args.w.now) (string_bytes c.emit.new.w)
+    (string_bytes c.emit_type_index-printed.new.w) c.deref.result.now c.deref-2.result.now
+    c.emit_copies.result (string_bytes c.emit_copies.new.w) c.requires.no_sign
+    c.new-argument.ensures.bytes c.deref.ensures c.deref-2.ensures
+    (c.flags.ensures ∙ ap (λ (f : Formatting _). f.flags) c.in_ok-printed.ensures.same)
+    c.in_ok-printed.ensures.text c.in_ok-emit.ensures c.emit_copies.ensures
+
+pub emit_first_and_more-returns-in_err-emit_repeated-clause-text :
+    goal.emit_first_and_more-returns-in_err-emit_repeated-clause-text
+emit_first_and_more-returns-in_err-emit_repeated-clause-text g t c =
+    failed _ _ _ _ c.from_residual-in_err-emit_repeated.ensures.1
+    (first_stops (env_of g.P.ModuleProvider.provided c.args.self.now c.args.asker.module_index)
+    (visiting (env_of g.P.ModuleProvider.provided c.args.self.now c.args.asker.module_index)
+    c.args.seen.now.path.now.items) c.args.seen.now.path.now.items c.args.first
+    c.run_within-run.result.repeats c.args.more.now c.run_within-run.result.rest.now
+    (string_bytes c.args.w.now) (string_bytes c.emit_repeated.new.w) _
+    c.run_within-run.ensures.list c.in_err-emit_repeated.ensures.text)
+
+pub emit_first_and_more-returns-clause-text : goal.emit_first_and_more-returns-clause-text
+emit_first_and_more-returns-clause-text g t c =
+    first_goes_on (λ f. env_of g.P.ModuleProvider.provided f c.args.asker.module_index)
+    c.args.self.now c.emit_repeated.new.self c.args.seen.now.path.now.items
+    c.emit_repeated.new.seen.path.now.items c.args.first c.run_within-run.result.repeats
+    c.args.more.now c.run_within-run.result.rest.now (string_bytes c.args.w.now)
+    (string_bytes c.emit_repeated.new.w) c.emit_more_arguments-2.result
+    (string_bytes c.emit_more_arguments-2.new.w) c.in_ok-emit_repeated.ensures.same
+    c.in_ok-emit_repeated.ensures.level.path c.run_within-run.ensures.list
+    c.in_ok-emit_repeated.ensures.text c.emit_more_arguments-2.ensures.text
+
+pub emit_more_arguments-returns-in_err-emit_repeated-clause-text :
+    goal.emit_more_arguments-returns-in_err-emit_repeated-clause-text
+emit_more_arguments-returns-in_err-emit_repeated-clause-text g t c =
+    failed _ _ _ _ c.from_residual-in_err-emit_repeated.ensures.1
+    (run_stops (λ f. env_of g.P.ModuleProvider.provided f c.args.asker.module_index)
+    c.args.self.now c.loop-run.self c.args.seen.now.path.now.items
+    c.loop-run.seen.path.now.items c.flags.result.bits c.in-Some.run'.argument
+    c.in-Some.run'.repeats c.loop-run.rest.now c.in-Some.run'.rest.now
+    (string_bytes c.loop-run.w) (string_bytes c.emit_comma.new.w)
+    (string_bytes c.emit_repeated.new.w) _ _ c.loop-run.invariant.same
+    c.loop-run.invariant.level.path c.flags.ensures c.in-Some.ensures c.in_ok-emit_comma.ensures
+    c.in_err-emit_repeated.ensures.text c.loop-run.invariant.text)
+
+pub emit_more_arguments-loop-run-preserved : goal.emit_more_arguments-loop-run-preserved
+emit_more_arguments-loop-run-preserved g t c = record {
+  same = c.in_ok-emit_repeated.ensures.same ∙ c.loop-run.invariant.same;
+  level = record {
+    same_reference = c.in_ok-emit_repeated.ensures.level.same_reference
+        ∙ c.loop-run.invariant.level.same_reference;
+    level = c.in_ok-emit_repeated.ensures.level.level ∙ c.loop-run.invariant.level.level;
+    path = c.in_ok-emit_repeated.ensures.level.path ∙ c.loop-run.invariant.level.path;
+  };
+  text = run_goes_on (λ f. env_of g.P.ModuleProvider.provided f c.args.asker.module_index)
+      c.args.self.now c.loop-run.self c.args.seen.now.path.now.items
+      c.loop-run.seen.path.now.items c.flags.result.bits c.in-Some.run'.argument
+      c.in-Some.run'.repeats c.loop-run.rest.now c.in-Some.run'.rest.now
+      (string_bytes c.loop-run.w) (string_bytes c.emit_comma.new.w)
+      (string_bytes c.emit_repeated.new.w) _ c.loop-run.invariant.same
+      c.loop-run.invariant.level.path c.flags.ensures c.in-Some.ensures c.in_ok-emit_comma.ensures
+      c.in_ok-emit_repeated.ensures.text c.loop-run.invariant.text;
+}

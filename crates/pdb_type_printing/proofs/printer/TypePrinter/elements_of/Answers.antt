@@ -1,4 +1,5 @@
-use Rattle.std.proofs.Common.{◌≡◌, true, false, sym, ◌∙◌, Ok}
+use Rattle.std.proofs.Common.{◌≡◌, true, false, sym, ◌∙◌, Ok, arith}
+use Rattle.std.proofs.lemmas.Grind.{common_steps}
 use Rattle.std.proofs.lemmas.Result.{err_from_is_err_and}
 use Rattle.pdb_records.specs.Shapes.{shape}
 use Rattle.pdb_resolving.specs.Cause.{Ends}
@@ -10,8 +11,8 @@ use Rattle.pdb_type_printing.proofs.Chains.{chain_circular, chain_goes_on, chain
 use Rattle.pdb_type_printing.proofs.Chains.{chain_fails}
 use Rattle.pdb_type_printing.proofs.printer.TypePrinter.elements_of.Goals as goal
 
-pub returns-then-is_on-clause-value : goal.returns-then-is_on-clause-value
-returns-then-is_on-clause-value g c =
+pub returns-then-contains-clause-value : goal.returns-then-contains-clause-value
+returns-then-contains-clause-value g c =
     let on : is_on c.loop.passed.items c.loop.index.0 ≡ true = cc in
     chain_circular (env_of g.P.ModuleProvider.provided c.args.self.now c.args.asker.module_index)
     c.loop.counter c.loop.passed.items c.loop.dimensions.items c.loop.index.0 _ c.loop-test.true
@@ -46,6 +47,7 @@ loop-preserved g c =
     ≡ Some (c.in-Some.dimension, c.in-Some.element) = cc in
     record {
       same = c.read.ensures.same ∙ c.loop.invariant.same;
+      many = grind (arith, common_steps);
       value = rw (c.in_ok-push-in-Some.ensures.items, c.in_ok-push-2.ensures.items)
           (chain_goes_on
           (env_of g.P.ModuleProvider.provided c.args.self.now c.args.asker.module_index)

@@ -1,0 +1,177 @@
+//! Arguments as text. An argument that a list names several times in a row is printed once, and its
+//! text is copied.
+
+ghost use Rattle.std.specs.Prelude.{◌≡◌, ◌≤◌, ◌∷◌, false, length, replicate, string_bytes};
+ghost use Rattle.pdb_text_pieces.specs.Pointers.{ends_in_sigil};
+ghost use Rattle.pdb_text_pieces.specs.Printed.{Prints};
+ghost use Rattle.pdb_type_printing.specs.Level.{KeepsLevel};
+ghost use Rattle.pdb_type_printing.specs.Types.{visiting, arguments, more_arguments, with_extra};
+ghost use Rattle.pdb_type_printing.specs.Printing.{env_of};
+
+use crate::asker::Asker;
+use crate::printer::TypePrinter;
+use pdb_indices::TypeIndex;
+use pdb_resolving::ModuleProvider;
+use pdb_resolving::stop::Result;
+use pdb_text_pieces::{
+    Seen, emit, emit_comma, emit_copies, ends_in_sigil, first_and_more, first_run, run_within,
+};
+
+impl<'a, 's, P: ModuleProvider> TypePrinter<'a, 's, P> {
+    /// Appends arguments with commas between them.
+    #[cycle(printing)]
+    pub(crate) fn emit_arguments(
+        &mut self,
+        asker: Asker,
+        w: &mut String,
+        list: &[TypeIndex],
+        seen: &mut Seen<'_>,
+    ) -> Result<()>
+        requires { length seen.old.path.now.items ≤ 1024 }
+        ensures same { self.new ≡ self.old }
+        ensures level { KeepsLevel seen.old seen.new }
+        ensures text { Prints result (string_bytes w.new)
+            (arguments (env_of P.provided self.old asker.module_index)
+            (visiting (env_of P.provided self.old asker.module_index) seen.old.path.now.items)
+            seen.old.path.now.items list.now (string_bytes w.old)) }
+    {
+        match first_and_more(list) {
+            None => Ok(()),
+            Some((first, more)) => self.emit_first_and_more(asker, w, first, more, seen),
+        }
+    }
+
+    /// Appends an extra first argument, if there is one, and the other arguments.
+    #[cycle(printing)]
+    pub(crate) fn emit_extra_and_arguments(
+        &mut self,
+        asker: Asker,
+        w: &mut String,
+        extra: Option<TypeIndex>,
+        list: &[TypeIndex],
+        seen: &mut Seen<'_>,
+    ) -> Result<()>
+        requires { length seen.old.path.now.items ≤ 1024 }
+        ensures same { self.new ≡ self.old }
+        ensures level { KeepsLevel seen.old seen.new }
+        ensures text { Prints result (string_bytes w.new)
+            (arguments (env_of P.provided self.old asker.module_index)
+            (visiting (env_of P.provided self.old asker.module_index) seen.old.path.now.items)
+            seen.old.path.now.items (with_extra extra list.now) (string_bytes w.old)) }
+    {
+        let Some(first) = extra else {
+            return self.emit_arguments(asker, w, list, seen);
+        };
+        self.emit_first_and_more(asker, w, first, list, seen)
+    }
+
+    /// Appends an argument, and further ones with a comma before each.
+    #[cycle(printing)]
+    #[inline(always)]
+    fn emit_first_and_more(
+        &mut self,
+        asker: Asker,
+        w: &mut String,
+        first: TypeIndex,
+        more: &[TypeIndex],
+        seen: &mut Seen<'_>,
+    ) -> Result<()>
+        requires { length seen.old.path.now.items ≤ 1024 }
+        ensures same { self.new ≡ self.old }
+        ensures level { KeepsLevel seen.old seen.new }
+        ensures text { Prints result (string_bytes w.new)
+            (arguments (env_of P.provided self.old asker.module_index)
+            (visiting (env_of P.provided self.old asker.module_index) seen.old.path.now.items)
+            seen.old.path.now.items (first ∷ more.now) (string_bytes w.old)) }
+    {
+        if ends_in_sigil(w.as_bytes()) {
+            self.emit_type_index(asker, w, first, seen)?;
+            return self.emit_more_arguments(asker, w, more, seen);
+        }
+        let run = run_within(first, more, seen.path.len());
+        self.emit_repeated(asker, w, first, run.repeats, seen)?;
+        self.emit_more_arguments(asker, w, run.rest, seen)
+    }
+
+    /// Appends arguments with a comma before each.
+    #[cycle(printing)]
+    fn emit_more_arguments(
+        &mut self,
+        asker: Asker,
+        w: &mut String,
+        list: &[TypeIndex],
+        seen: &mut Seen<'_>,
+    ) -> Result<()>
+        requires { length seen.old.path.now.items ≤ 1024 }
+        ensures same { self.new ≡ self.old }
+        ensures level { KeepsLevel seen.old seen.new }
+        ensures text { Prints result (string_bytes w.new)
+            (more_arguments (env_of P.provided self.old asker.module_index)
+            (visiting (env_of P.provided self.old asker.module_index) seen.old.path.now.items)
+            seen.old.path.now.items list.now (string_bytes w.old)) }
+    {
+        let mut rest = list;
+        while let Some(run) = first_run(rest, seen.path.len()) {
+            emit_comma(w, self.flags())?;
+            self.emit_repeated(asker, w, run.argument, run.repeats, seen)?;
+            rest = run.rest;
+        }
+        Ok(())
+    }
+
+    /// Appends an argument and that many more of the same, with a comma before each of these. No
+    /// sign of a pointer or reference stands before the first: the text of a type depends on that
+    /// alone of the text before it, and so each has the text of a type that stands at the very
+    /// beginning.
+    #[cycle(printing)]
+    #[inline(always)]
+    fn emit_repeated(
+        &mut self,
+        asker: Asker,
+        w: &mut String,
+        index: TypeIndex,
+        repeats: usize,
+        seen: &mut Seen<'_>,
+    ) -> Result<()>
+        requires room { length seen.old.path.now.items ≤ 1024 }
+        requires no_sign { ends_in_sigil (string_bytes w.old) ≡ false }
+        ensures same { self.new ≡ self.old }
+        ensures level { KeepsLevel seen.old seen.new }
+        ensures text { Prints result (string_bytes w.new)
+            (arguments (env_of P.provided self.old asker.module_index)
+            (visiting (env_of P.provided self.old asker.module_index) seen.old.path.now.items)
+            seen.old.path.now.items (index ∷ replicate repeats index) (string_bytes w.old)) }
+    {
+        if repeats == 0 {
+            return self.emit_type_index(asker, w, index, seen);
+        }
+        self.emit_copied(asker, w, index, repeats, seen)
+    }
+
+    /// Appends an argument and copies of it, as [`TypePrinter::emit_repeated`].
+    #[cycle(printing)]
+    #[inline(never)]
+    fn emit_copied(
+        &mut self,
+        asker: Asker,
+        w: &mut String,
+        index: TypeIndex,
+        repeats: usize,
+        seen: &mut Seen<'_>,
+    ) -> Result<()>
+        requires room { length seen.old.path.now.items ≤ 1024 }
+        requires no_sign { ends_in_sigil (string_bytes w.old) ≡ false }
+        ensures same { self.new ≡ self.old }
+        ensures level { KeepsLevel seen.old seen.new }
+        ensures text { Prints result (string_bytes w.new)
+            (arguments (env_of P.provided self.old asker.module_index)
+            (visiting (env_of P.provided self.old asker.module_index) seen.old.path.now.items)
+            seen.old.path.now.items (index ∷ replicate repeats index) (string_bytes w.old)) }
+    {
+        let mut argument = String::new(asker.alloc);
+        let printed = self.emit_type_index(asker, &mut argument, index, seen);
+        emit(w, &argument)?;
+        printed?;
+        emit_copies(w, self.flags(), &argument, repeats)
+    }
+}
