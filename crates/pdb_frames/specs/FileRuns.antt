@@ -1,10 +1,14 @@
 -- Runs of files: the key of the file at a place in a chosen function, and how far it goes on.
 use Rattle.std.specs.Prelude.{ℕ, List, Option, None, Some, Result, Ok, Err}
 use Rattle.pdb_addresses.specs.SectionRun.{up_to_next}
-use Rattle.pdb_addresses.specs.declared.internal_section_offset.PdbInternalSectionOffset.{PdbInternalSectionOffset}
+use Rattle.pdb_addresses.specs.declared.internal_section_offset.PdbInternalSectionOffset.{
+  PdbInternalSectionOffset,
+}
 use Rattle.pdb_choice.specs.Choice.{Parts, Chosen, Proc, Public, chosen, start_address}
 use Rattle.pdb_container.specs.Fault.{◌>>=◌}
-use Rattle.pdb_contributions.specs.declared.contribution.ModuleSectionContribution.{ModuleSectionContribution}
+use Rattle.pdb_contributions.specs.declared.contribution.ModuleSectionContribution.{
+  ModuleSectionContribution,
+}
 use Rattle.pdb_frames.specs.Files.{row_key}
 use Rattle.pdb_frames.specs.Scopes.{Scope}
 use Rattle.pdb_functions.specs.declared.file_key.FileKey.{FileKey}

@@ -73,7 +73,7 @@ fn procedure_run<'m, I: ModuleTables>(
         (choice.Proc procedure.now))) }
 {
     if let Some(read) = known.extended_procedure(number, procedure) {
-        return Ok(stretch.run_by_rows(&read.rows));
+        return Ok(stretch.run_by_rows(read.rows));
     }
     let read = read_extended_procedure(alloc, known.module_info, extended, procedure)?;
     Ok(stretch.run_by_rows(&read.rows))

@@ -25,36 +25,36 @@ use pdb_choice::{Chosen, ContextParts, rva_of};
 use pdb_functions::{FrameRow, SharedFrame};
 use pdb_indices::FileIndex;
 use pdb_known_modules::{
-    BasicModuleInfo, ExtendedModuleInfo, ExtendedProcedureInfo, read_extended,
-    read_extended_procedure,
+    BasicModuleInfo, ExtendedModuleInfo, read_extended, read_extended_procedure,
 };
-use pdb_module_data::{CodeSpan, FunctionRows, InlinedCall, LineRow, Procedure, file_name};
+use pdb_module_data::{
+    CodeSpan, FunctionRows, InlineRanges, InlinedCall, LineRow, Procedure, file_name,
+};
 use pdb_names::Namer;
 use pdb_resolving::{ModuleProvider, ModuleTables, Result};
 use std::alloc::{AllocError, Global};
 use std::borrow::CowStr;
 use std::sync::ArcStr;
 
-/// The line row of a place in a procedure, and the inlined calls over the place, by what was read
-/// of the procedure.
+/// The line row of a place in a procedure, and the inlined calls over the place, by the procedure's
+/// rows and sites.
 fn row_and_calls_by<'a>(
     alloc: Global,
     extended: &ExtendedModuleInfo<'a>,
     procedure: &Procedure<'_>,
-    read: &ExtendedProcedureInfo<'a>,
+    rows: &FunctionRows,
+    ranges: &InlineRanges<'a>,
     place: PdbInternalSectionOffset,
 ) -> std::result::Result<(Option<LineRow>, Vec<InlinedCall>), AllocError>
     requires { StandForSites
-        (call_rows (extended_seen extended.now).inlinees procedure.now.offset) (read.now).ranges }
-    ensures row { IfOk result (λ r. r.0 ≡ row_at (read.now).rows place.offset) }
+        (call_rows (extended_seen extended.now).inlinees procedure.now.offset) ranges.now }
+    ensures row { IfOk result (λ r. r.0 ≡ row_at rows.now place.offset) }
     ensures calls { IfOk result (λ r. (r.1).items
         ≡ calls_over (call_rows (extended_seen extended.now).inlinees procedure.now.offset)
-        ((read.now).ranges).sites place) }
+        ranges.now.sites place) }
 {
-    let calls = read
-        .ranges
-        .calls_over(alloc, &extended.inlinees, procedure.offset, place)?;
-    Ok((read.rows.at(place.offset), calls))
+    let calls = ranges.calls_over(alloc, &extended.inlinees, procedure.offset, place)?;
+    Ok((rows.at(place.offset), calls))
 }
 
 /// The line row of a place in a procedure, and the inlined calls over the place, innermost first,
@@ -74,11 +74,11 @@ fn procedure_row_and_calls<'m, I: ModuleTables>(
         (extended_seen extended.now) (choice.Proc procedure.now) place) }
 {
     if let Some(read) = known.extended_procedure(number, procedure) {
-        let found = row_and_calls_by(alloc, extended, procedure, read, place)?;
+        let found = row_and_calls_by(alloc, extended, procedure, read.rows, read.ranges, place)?;
         return Ok(found);
     }
     let read = read_extended_procedure(alloc, known.module_info, extended, procedure)?;
-    let found = row_and_calls_by(alloc, extended, procedure, &read, place)?;
+    let found = row_and_calls_by(alloc, extended, procedure, &read.rows, &read.ranges, place)?;
     Ok(found)
 }
 

@@ -27,8 +27,8 @@ pub fn functions_have_files()
         → is_some ((files_of parts scope).answer place) ≡ true }
 {}
 
-/// Answers change at bounds alone: a place that is none has the function, and the file, of the place
-/// before it in its section.
+/// Answers change at bounds alone: a place that is none has the function, and the file, of the
+/// place before it in its section.
 pub fn answers_change_at_bounds()
     ensures functions { (parts : Parts) (scope : ℕ → Scope) (place : Place)
         → (database_of parts scope).is_bound (on place 1) ≡ false

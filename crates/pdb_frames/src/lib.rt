@@ -11,7 +11,7 @@ pub use chosen_name::name_of;
 pub use file_runs::{Stretch, file_in_module, file_run_in};
 pub use frames::frames_in;
 pub use pdb_choice::{
-    Chosen, ContextParts, Failures, Part, choose, failing_in, number_of, to_next_bound,
-    to_next_shared_bound, unsuccessful,
+    Chosen, ContextParts, Failures, FunctionEnd, Part, choose, failing_in, number_of,
+    to_next_bound, to_next_shared_bound, unsuccessful,
 };
 pub use pdb_names::{Namer, TextWriter, TypeFormatter, maybe_owned};

@@ -1,5 +1,6 @@
-pub mod BoundSteps
 mod Fills
+pub mod BoundSteps
+pub mod KeptPlaces
 pub mod KeptProcedures
 pub mod KeptRows
 pub mod KeptSteps

@@ -2,6 +2,6 @@ pub mod Bounds
 pub mod Kept
 pub mod Modules
 pub mod ProcedureData
-pub mod PublicRows
 pub mod SectionBounds
 pub mod Seen
+pub mod SubsectionRows

@@ -203,7 +203,7 @@ fn keep_public_rows_at<'a, I: ModuleTables>(
     ensures { kept_module.new ≡ kept_module.old }
 {
     match kept_module {
-        Some(Some(known)) => known.keep_public_rows(alloc, start),
+        Some(Some(known)) => known.keep_rows(alloc, start),
         _ => Ok(0),
     }
 }

@@ -1,15 +1,16 @@
 //! One cache of modules that were asked for: a place for each, in which the data of its stream, of
-//! its line program and inlinees, and of its procedures stand once they were read; and where
-//! contributions and procedures begin and end in sections, and how far it is to the next such
-//! place. It knows no names and no addresses of an image.
+//! its line program and inlinees, of its line rows by subsection, and of its procedures stand once
+//! they were read; and where contributions and procedures begin and end in sections, and how far it
+//! is to the next such place. It knows no names and no addresses of an image.
 #![tactic(auto)]
 
 mod bounds;
 mod kept;
 mod meter;
 mod modules;
+mod places;
 mod procedure_data;
-mod public_rows;
+mod subsection_rows;
 
 pub use bounds::{SortedBounds, contribution_bounds, procedure_bounds};
 pub use kept::{
@@ -20,4 +21,4 @@ pub use modules::{
     BasicModuleInfo, ExtendedModuleInfo, get_basic_module_info, number_over, procedure_numbered,
     procedures_in, read_extended,
 };
-pub use procedure_data::{ExtendedProcedureInfo, read_extended_procedure};
+pub use procedure_data::{ExtendedProcedureInfo, LentProcedure, read_extended_procedure};

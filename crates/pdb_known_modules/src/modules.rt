@@ -7,14 +7,15 @@ ghost use Rattle.pdb_addresses.specs.SectionRun.{up_to_next};
 ghost use Rattle.pdb_known_modules.specs.SectionBounds.{procedure_bounds as bounds_of_procedure};
 ghost use Rattle.pdb_container.specs.Fault.{Gives};
 ghost use Rattle.pdb_module_data.specs.Procedures.{over};
-ghost use Rattle.pdb_known_modules.specs.ProcedureData.{IsLentOf, IsOfStream};
-ghost use Rattle.pdb_known_modules.specs.PublicRows.{AreLentAt, AreRowsAt};
+ghost use Rattle.pdb_known_modules.specs.ProcedureData.{IsKeptOf, IsLentOf, IsOfStream};
+ghost use Rattle.pdb_known_modules.specs.SubsectionRows.{AreLentAt, AreRowsAt, IsNumberAt};
 ghost use Rattle.pdb_known_modules.specs.Seen.{extended_seen, AreExtendedHere};
 ghost use Rattle.pdb_known_modules.specs.Modules.{data_of_stream, data_if_there, extended_of, module_data, own_of, procedure_if_numbered, procedures_in as procedures_of_module};
 
 use crate::bounds::{SortedBounds, procedure_bounds};
-use crate::procedure_data::{ExtendedProcedureInfo, empty_procedures, read_extended_procedure};
-use crate::public_rows::PublicRows;
+use crate::places::{empty_places, place_at};
+use crate::procedure_data::{KeptProcedure, LentProcedure, procedure_ranges};
+use crate::subsection_rows::SubsectionRows;
 use pdb_addresses::PdbInternalSectionOffset;
 use pdb_container::{Error, Result};
 use pdb_lines::LineProgram;
@@ -27,8 +28,8 @@ use std::marker::Model;
 /// How many bytes of memory the bounds of a procedure take.
 const BOUNDS_SIZE: usize = 2 * size_of::<u64>();
 
-/// About how many bytes of memory the rows of a public entry take besides the rows themselves.
-const PUBLIC_ROWS_SIZE: u64 = 200;
+/// About how many bytes of memory the rows of a subsection take besides the rows themselves.
+const SUBSECTION_ROWS_SIZE: u64 = 100;
 
 /// A module's data: its stream, and its procedures.
 pub struct BasicModuleInfo<'a, I: ModuleTables> {
@@ -42,10 +43,10 @@ pub struct BasicModuleInfo<'a, I: ModuleTables> {
     extended: Option<ExtendedModuleInfo<'a>>,
     /// For each procedure a place, in which its data are cached once they were read; no place
     /// before line program and inlinees are.
-    kept_procedures: Vec<Option<Box<ExtendedProcedureInfo<'a>>>>,
-    /// The line rows of functions that begin at public entries, once they were read; none before
-    /// line program and inlinees are.
-    public_rows: PublicRows,
+    kept_procedures: Vec<Option<Box<KeptProcedure<'a>>>>,
+    /// For each `DEBUG_S_LINES` a place, in which its rows are cached once they were read; no place
+    /// before line program and inlinees are.
+    subsection_rows: SubsectionRows,
     /// How many bytes its line data have.
     line_data_size: u32,
 }
@@ -54,7 +55,7 @@ impl<'a, I: ModuleTables> Model for BasicModuleInfo<'a, I> {
     ghost use Rattle.pdb_known_modules.specs.Bounds.{AreProcedureBounds};
     ghost use Rattle.pdb_known_modules.specs.Modules as modules;
     ghost use Rattle.pdb_known_modules.specs.ProcedureData.{AreOfStream};
-    ghost use Rattle.pdb_known_modules.specs.PublicRows.{AreRowsOfStream};
+    ghost use Rattle.pdb_known_modules.specs.SubsectionRows.{AreRowsOfStream};
     ghost use Rattle.pdb_known_modules.specs.Seen.{AreExtended};
 
     ghost Value = { modules.ModuleData };
@@ -62,11 +63,11 @@ impl<'a, I: ModuleTables> Model for BasicModuleInfo<'a, I> {
     ghost view = { λ m. record { stream = I.held m.module_info.now; procedures = m.procedures } };
 
     // The bounds are those of the procedures. What is cached of lines and inlinees is the stream's,
-    // and so is what is cached of procedures and of public entries.
+    // and so is what is cached of procedures and of the rows of subsections.
     ghost invariant = { λ m. AreProcedureBounds m.procedures m.bounds
         × AreExtended (I.held m.module_info.now) m.extended
         × AreOfStream (I.held m.module_info.now) m.kept_procedures.items
-        × AreRowsOfStream (I.held m.module_info.now) m.public_rows };
+        × AreRowsOfStream (I.held m.module_info.now) m.subsection_rows.places.items };
 }
 
 impl<'a, I: ModuleTables> Drop for BasicModuleInfo<'a, I> {
@@ -77,14 +78,14 @@ impl<'a, I: ModuleTables> Drop for BasicModuleInfo<'a, I> {
             bounds,
             extended,
             kept_procedures,
-            public_rows,
+            subsection_rows,
             line_data_size: _,
         } = self;
         drop(procedures);
         drop(bounds);
         drop(extended);
         drop(kept_procedures);
-        drop(public_rows);
+        drop(subsection_rows);
     }
 }
 
@@ -108,7 +109,7 @@ impl<'a, I: ModuleTables> BasicModuleInfo<'a, I> {
             bounds,
             extended: None,
             kept_procedures: Vec::new(alloc),
-            public_rows: PublicRows::new(alloc),
+            subsection_rows: SubsectionRows::new(alloc),
             line_data_size,
         })
     }
@@ -142,7 +143,9 @@ impl<'a, I: ModuleTables> BasicModuleInfo<'a, I> {
             Ok(extended) => {
                 let count = self.procedures.as_slice().len();
                 let bytes = extended_size(&extended, self.line_data_size, count);
-                self.kept_procedures = empty_procedures(alloc, count)?;
+                let subsections = extended.line_program.subsection_count();
+                self.kept_procedures = empty_places(alloc, count)?;
+                self.subsection_rows = SubsectionRows::with_places(alloc, subsections)?;
                 self.extended = Some(extended);
                 Ok(bytes)
             }
@@ -158,15 +161,34 @@ impl<'a, I: ModuleTables> BasicModuleInfo<'a, I> {
         self.extended.as_ref()
     }
 
-    /// Reads the data of the procedure with that index, if line program and inlinees are cached,
-    /// and caches them, unless they were cached before. Where they have a fault nothing is cached,
-    /// and so where memory is short. Returns about how many bytes were cached.
-    #[tactic(auto, using(crate::proofs::KeptProcedures::kept_now))]
+    /// Reads the line rows and the inline sites of the procedure with that index, if line program
+    /// and inlinees are cached, and caches them, unless they were cached before. Where rows or
+    /// sites have a fault these aren't cached, and so where memory is short; after a fault of the
+    /// rows no sites are read. Returns about how many bytes were cached.
     pub fn keep_procedure(
         &mut self,
         alloc: Global,
         number: usize,
     ) -> std::result::Result<u64, AllocError>
+        ensures { self.new ≡ self.old }
+    {
+        if !is_empty_at(&self.kept_procedures, number) {
+            return Ok(0);
+        }
+        let Some(procedure) = self.procedures.as_slice().get(number) else {
+            return Ok(0);
+        };
+        let start = procedure.offset;
+        let bytes = self.keep_rows(alloc, start)?;
+        let more = self.keep_sites(alloc, number)?;
+        Ok(bytes.saturating_add(more))
+    }
+
+    /// Reads the inline sites of the procedure with that index, if its line rows are cached, and
+    /// caches them, unless they were cached before. Where they have a fault nothing is cached, and
+    /// so where memory is short. Returns about how many bytes were cached.
+    #[tactic(auto, using(crate::proofs::KeptProcedures::kept_now))]
+    fn keep_sites(&mut self, alloc: Global, number: usize) -> std::result::Result<u64, AllocError>
         ensures { self.new ≡ self.old }
     {
         if !is_empty_at(&self.kept_procedures, number) {
@@ -182,14 +204,14 @@ impl<'a, I: ModuleTables> BasicModuleInfo<'a, I> {
         }
     }
 
-    /// The data of the procedure with that index; `None` where line program and inlinees aren't
-    /// cached, where there is no such procedure, and where its data have a fault.
-    #[tactic(auto, using(crate::proofs::KeptProcedures::of_stream))]
+    /// What is cached of the procedure with that index; `None` where line program and inlinees
+    /// aren't cached, where there is no such procedure, where its line rows aren't cached, and
+    /// where its sites have a fault.
     fn read_procedure(
         &self,
         alloc: Global,
         number: usize,
-    ) -> std::result::Result<Option<Box<ExtendedProcedureInfo<'a>>>, AllocError>
+    ) -> std::result::Result<Option<Box<KeptProcedure<'a>>>, AllocError>
         ensures { IfOk result (λ d. IfSome d
             (λ info. IsOfStream (self.now).stream (box_value info))) }
     {
@@ -199,9 +221,13 @@ impl<'a, I: ModuleTables> BasicModuleInfo<'a, I> {
         let Some(procedure) = self.procedures.as_slice().get(number) else {
             return Ok(None);
         };
-        match read_extended_procedure(alloc, self.module_info, extended, procedure) {
-            Ok(data) => {
-                let data = Box::new(alloc, data)?;
+        let subsection = extended.line_program.subsection_number(procedure.offset);
+        if self.subsection_rows.get(subsection).is_none() {
+            return Ok(None);
+        }
+        match procedure_ranges(alloc, self.module_info, extended, procedure) {
+            Ok(ranges) => {
+                let data = Box::new(alloc, KeptProcedure::new(procedure, subsection, ranges))?;
                 Ok(Some(data))
             }
             Err(pdb_resolving::Error::OutOfMemory) => Err(AllocError),
@@ -210,13 +236,8 @@ impl<'a, I: ModuleTables> BasicModuleInfo<'a, I> {
     }
 
     /// The data that are cached at a procedure's index, if they are the procedure's own.
-    #[tactic(auto, using(crate::proofs::KeptProcedures::lent_of))]
-    pub fn extended_procedure(
-        &self,
-        number: usize,
-        procedure: &Procedure<'_>,
-    ) -> Option<&ExtendedProcedureInfo<'a>>
-        ensures { IsLentOf (self.now).stream procedure.now result }
+    fn kept_procedure(&self, number: usize, procedure: &Procedure<'_>) -> Option<&KeptProcedure<'a>>
+        ensures { IsKeptOf (self.now).stream procedure.now result }
     {
         match place_at(&self.kept_procedures, number) {
             Some(Some(data)) if data.is_of(procedure) => Some(data.as_ref()),
@@ -224,32 +245,64 @@ impl<'a, I: ModuleTables> BasicModuleInfo<'a, I> {
         }
     }
 
+    /// The line rows and the inline sites that are cached of a procedure with that index.
+    pub fn extended_procedure(
+        &self,
+        number: usize,
+        procedure: &Procedure<'_>,
+    ) -> Option<LentProcedure<'_, 'a>>
+        ensures { IsLentOf (self.now).stream procedure.now result }
+    {
+        let kept = self.kept_procedure(number, procedure)?;
+        let rows = self.subsection_rows.get(kept.subsection)?;
+        Some(LentProcedure {
+            rows,
+            ranges: &kept.ranges,
+        })
+    }
+
+    /// The number of the `DEBUG_S_LINES` of the function that begins at a place, if line program
+    /// and inlinees are cached.
+    fn subsection_number(&self, start: PdbInternalSectionOffset) -> Option<usize>
+        ensures { IsNumberAt (self.now).stream start result }
+    {
+        match self.extended() {
+            None => None,
+            Some(extended) => Some(extended.line_program.subsection_number(start)),
+        }
+    }
+
     /// Reads the line rows of the function that begins at a place, if line program and inlinees are
-    /// cached, and caches them, unless they were cached before. Where they have a fault nothing is
-    /// cached, and so where memory is short. Returns about how many bytes were cached.
-    pub fn keep_public_rows(
+    /// cached, and caches them for all functions of their `DEBUG_S_LINES`, unless they were cached
+    /// before. Where they have a fault nothing is cached, and so where memory is short. Returns
+    /// about how many bytes were cached.
+    pub fn keep_rows(
         &mut self,
         alloc: Global,
         start: PdbInternalSectionOffset,
     ) -> std::result::Result<u64, AllocError>
         ensures { self.new ≡ self.old }
     {
-        if self.public_rows.get(start).is_some() {
+        let Some(number) = self.subsection_number(start) else {
+            return Ok(0);
+        };
+        if self.subsection_rows.get(number).is_some() {
             return Ok(0);
         }
-        match self.read_public_rows(alloc, start)? {
+        match self.read_rows(alloc, start)? {
             None => Ok(0),
             Some(rows) => {
                 let bytes = rows.memory_size();
-                self.public_rows.keep(start, rows)?;
-                Ok(bytes.saturating_add(PUBLIC_ROWS_SIZE))
+                let rows = Box::new(alloc, rows)?;
+                self.subsection_rows.keep(number, rows);
+                Ok(bytes.saturating_add(SUBSECTION_ROWS_SIZE))
             }
         }
     }
 
     /// The line rows of the function that begins at a place; `None` where line program and inlinees
     /// aren't cached, and where the rows have a fault.
-    fn read_public_rows(
+    fn read_rows(
         &self,
         alloc: Global,
         start: PdbInternalSectionOffset,
@@ -270,22 +323,13 @@ impl<'a, I: ModuleTables> BasicModuleInfo<'a, I> {
     pub fn public_rows(&self, start: PdbInternalSectionOffset) -> Option<&FunctionRows>
         ensures { AreLentAt (self.now).stream start result }
     {
-        self.public_rows.get(start)
+        let number = self.subsection_number(start)?;
+        self.subsection_rows.get(number)
     }
 }
 
-/// The place of a number, if it is there.
-fn place_at<'m, 'a>(
-    places: &'m Vec<Option<Box<ExtendedProcedureInfo<'a>>>>,
-    number: usize,
-) -> Option<&'m Option<Box<ExtendedProcedureInfo<'a>>>>
-    ensures { option_map (λ p. p.now) result ≡ slice_get places.now.items number }
-{
-    places.get(number)
-}
-
 /// Whether the place of a number is there and empty.
-fn is_empty_at(places: &[Option<Box<ExtendedProcedureInfo<'_>>>], number: usize) -> bool
+fn is_empty_at(places: &[Option<Box<KeptProcedure<'_>>>], number: usize) -> bool
     ensures { (result ≡ true) ↔ (slice_get places.now number ≡ Some None) }
 {
     matches!(places.get(number), Some(None))
@@ -338,7 +382,8 @@ pub struct ExtendedModuleInfo<'a> {
 }
 
 /// About how many bytes of memory line program and inlinees of a module take, at most, with the
-/// places for the data of so many procedures. A subsection of 20 bytes or more takes 32.
+/// places for the data of so many procedures. A subsection of 20 bytes or more takes 32, and 8 for
+/// the place of its rows.
 fn extended_size(extended: &ExtendedModuleInfo<'_>, line_data_size: u32, count: usize) -> u64 {
     let lines = u64::from(line_data_size) * 2;
     let places = memory_of(count, size_of::<usize>());

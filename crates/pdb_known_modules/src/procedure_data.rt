@@ -1,11 +1,12 @@
 //! What is read of a procedure once, for all places in it.
 
-ghost use Rattle.std.specs.Prelude.{◌≡◌, ◌↔◌, true, IfOk, None, replicate, slice_get, Some};
+ghost use Rattle.std.specs.Prelude.{◌≡◌, ◌↔◌, true, IfOk};
 ghost use Rattle.pdb_module_data.specs.Forest.{sites_of};
 ghost use Rattle.pdb_module_data.specs.InlinedCalls.{given_by, call_rows};
 ghost use Rattle.pdb_module_data.specs.InlinePieces.{StandForSites};
 ghost use Rattle.pdb_resolving.specs.Fault.{Answers};
-ghost use Rattle.pdb_known_modules.specs.Modules.{extended_procedure_of, sites_lifted};
+ghost use Rattle.pdb_known_modules.specs.Modules.{extended_procedure_of, procedure_sites};
+ghost use Rattle.pdb_known_modules.specs.Modules.{sites_lifted};
 ghost use Rattle.pdb_known_modules.specs.ProcedureData.{IsReadBy};
 ghost use Rattle.pdb_known_modules.specs.Seen.{extended_seen};
 
@@ -15,28 +16,67 @@ use pdb_indices::SymbolIndex;
 use pdb_module_data::{FunctionRows, InlineRanges, Inlinees, Procedure, SitesError};
 use pdb_resolving::{Error, ModuleTables, Result};
 use pdb_symbols::SymbolIter;
-use std::alloc::{AllocError, Global};
+use std::alloc::Global;
 
-/// About how many bytes of memory the data of a procedure take besides its rows and sites.
-const PROCEDURE_SIZE: u64 = 300;
+/// About how many bytes of memory the data of a procedure take besides its sites.
+const PROCEDURE_SIZE: u64 = 200;
 
 /// What the line and the inlined calls at each place of a procedure are found by: the rows of its
 /// `DEBUG_S_LINES`, and its inline sites.
 #[derive(Drop)]
 pub struct ExtendedProcedureInfo<'a> {
-    /// Where the procedure begins.
-    pub offset: PdbInternalSectionOffset,
-    /// The place of its symbol in the module's symbols, in bytes.
-    pub symbol_index: SymbolIndex,
-    /// The place of the symbol that ends it, in bytes.
-    pub end_symbol_index: SymbolIndex,
     /// Its line rows.
     pub rows: FunctionRows,
     /// Its inline sites.
     pub ranges: InlineRanges<'a>,
 }
 
-impl<'a> ExtendedProcedureInfo<'a> {
+/// The same, lent of what is cached.
+#[derive(Clone, Copy)]
+pub struct LentProcedure<'m, 'a> {
+    /// Its line rows.
+    pub rows: &'m FunctionRows,
+    /// Its inline sites.
+    pub ranges: &'m InlineRanges<'a>,
+}
+
+/// What is cached of a procedure: its inline sites, and the number of the `DEBUG_S_LINES` that has
+/// its rows. These are cached under that number.
+#[derive(Drop)]
+pub struct KeptProcedure<'a> {
+    /// Where the procedure begins.
+    pub offset: PdbInternalSectionOffset,
+    /// The place of its symbol in the module's symbols, in bytes.
+    pub symbol_index: SymbolIndex,
+    /// The place of the symbol that ends it, in bytes.
+    pub end_symbol_index: SymbolIndex,
+    /// The number of its `DEBUG_S_LINES`, counted from 1; 0 where it has none.
+    pub subsection: usize,
+    /// Its inline sites.
+    pub ranges: InlineRanges<'a>,
+}
+
+impl<'a> KeptProcedure<'a> {
+    /// What is cached of a procedure with these sites, and with the rows of the `DEBUG_S_LINES` of
+    /// that number.
+    pub fn new(
+        procedure: &Procedure<'_>,
+        subsection: usize,
+        ranges: InlineRanges<'a>,
+    ) -> KeptProcedure<'a>
+        ensures key { IsReadBy procedure.now result }
+        ensures number { result.subsection ≡ subsection }
+        ensures ranges { result.ranges ≡ ranges.entry }
+    {
+        KeptProcedure {
+            offset: procedure.offset,
+            symbol_index: procedure.symbol_index,
+            end_symbol_index: procedure.end_symbol_index,
+            subsection,
+            ranges,
+        }
+    }
+
     /// Whether it was read by the start and the symbols of a procedure.
     pub fn is_of(&self, procedure: &Procedure<'_>) -> bool
         ensures { (result ≡ true) ↔ IsReadBy procedure.now self.now }
@@ -46,11 +86,9 @@ impl<'a> ExtendedProcedureInfo<'a> {
             && procedure.end_symbol_index == self.end_symbol_index
     }
 
-    /// About how many bytes of memory they take, at most.
-    pub(crate) fn memory_size(&self) -> u64 {
-        let rows = self.rows.memory_size();
-        let ranges = self.ranges.memory_size();
-        rows.saturating_add(ranges).saturating_add(PROCEDURE_SIZE)
+    /// About how many bytes of memory it takes, at most.
+    pub fn memory_size(&self) -> u64 {
+        self.ranges.memory_size().saturating_add(PROCEDURE_SIZE)
     }
 }
 
@@ -75,12 +113,31 @@ fn read_ranges<'a>(
     }
 }
 
+/// The inline sites of a procedure of a module, read to their end. The faults of
+/// [`ModuleTables::symbols`] and of the sites, as `PdbError`; `ProcedureInlineRangesUnsuccessful`;
+/// `OutOfMemory`.
+#[tactic(auto, using(pdb_resolving::proofs::Lifting::parsed_fails_on, pdb_resolving::proofs::Lifting::fails_on))]
+pub fn procedure_ranges<'a, I: ModuleTables>(
+    alloc: Global,
+    module_info: &'a I,
+    extended: &ExtendedModuleInfo<'a>,
+    procedure: &Procedure<'_>,
+) -> Result<InlineRanges<'a>>
+    ensures sites { Answers (λ r. r.sites) result
+        (procedure_sites (I.held module_info.now) procedure.now) }
+    ensures stand { IfOk result (λ r. StandForSites
+        (call_rows (extended_seen extended.now).inlinees procedure.now.offset) r) }
+{
+    let symbols = module_info.symbols()?;
+    read_ranges(alloc, symbols, procedure, &extended.inlinees)
+}
+
 /// The line rows of a procedure, and then its inline sites, each read to its end.
 ///
 /// # Errors
 /// `UnexpectedEof` of the rows; the faults of [`ModuleTables::symbols`] and of the sites, as
 /// `PdbError`; `ProcedureInlineRangesUnsuccessful`; `OutOfMemory`.
-#[tactic(auto, using(pdb_resolving::proofs::Lifting::given_fails_on, pdb_resolving::proofs::Lifting::parsed_fails_on, pdb_resolving::proofs::Lifting::fails_on), unfolding(crate::specs::Modules::extended_procedure_of))]
+#[tactic(auto, using(pdb_resolving::proofs::Lifting::given_fails_on, pdb_resolving::proofs::Lifting::fails_on), unfolding(crate::specs::Modules::extended_procedure_of))]
 pub fn read_extended_procedure<'a, I: ModuleTables>(
     alloc: Global,
     module_info: &'a I,
@@ -91,30 +148,8 @@ pub fn read_extended_procedure<'a, I: ModuleTables>(
         (I.held module_info.now) (extended_seen extended.now).program procedure.now) }
     ensures stand { IfOk result (λ d. StandForSites
         (call_rows (extended_seen extended.now).inlinees procedure.now.offset) d.ranges) }
-    ensures key { IfOk result (λ d. IsReadBy procedure.now d) }
 {
     let rows = FunctionRows::read(alloc, &extended.line_program, procedure.offset)?;
-    let symbols = module_info.symbols()?;
-    let ranges = read_ranges(alloc, symbols, procedure, &extended.inlinees)?;
-    Ok(ExtendedProcedureInfo {
-        offset: procedure.offset,
-        symbol_index: procedure.symbol_index,
-        end_symbol_index: procedure.end_symbol_index,
-        rows,
-        ranges,
-    })
-}
-
-/// Empty places for the data of so many procedures.
-pub fn empty_procedures<'a>(
-    alloc: Global,
-    count: usize,
-) -> std::result::Result<Vec<Option<Box<ExtendedProcedureInfo<'a>>>>, AllocError>
-    ensures { IfOk result (λ v. v.items ≡ replicate count None) }
-{
-    let mut places = Vec::with_capacity(alloc, count)?;
-    for _ in 0..count {
-        places.push(None)?;
-    }
-    Ok(places)
+    let ranges = procedure_ranges(alloc, module_info, extended, procedure)?;
+    Ok(ExtendedProcedureInfo { rows, ranges })
 }

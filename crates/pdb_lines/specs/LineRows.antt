@@ -1,6 +1,7 @@
 -- Rows: what begins at an entry, and how far it is from there to the marks after it. That a row
 -- goes on to the next entry or its subsection's end is what the pdb crate's lines say, too.
 use Rattle.std.specs.Prelude.{◌≡◌, Result, Ok, Err, ℕ, ◌-◌, ◌^◌, ◌&&◌, Bool, true, false, List, []}
+use Rattle.std.specs.Prelude.{drop, take}
 use Rattle.std.specs.Prelude.{◌∷◌, nat_lt, nat_le, ◌==◌, min, if◌then◌else◌, Option, Some, None}
 use Rattle.pdb_container.specs.declared.error.Error.{Error}
 use Rattle.pdb_container.specs.Fault.{Fault, fault_of, IsOfBytes}
@@ -127,6 +128,10 @@ subsection_in_section section (Some subsection) =
 abbrev pub subsections_for : Program → PdbInternalSectionOffset → List LinesSubsection
 subsections_for p place = subsection_in_section place.section
     (last_subsection_at (place_rank place.section place.offset) p.subsections)
+
+-- the subsection of a number, these counted from 1 in their order; none of 0
+abbrev pub subsection_numbered : Program → ℕ → List LinesSubsection
+subsection_numbered p number = drop (number - 1) (take number p.subsections)
 
 -- the rows of a place's subsection alone
 abbrev pub lines_for : Program → PdbInternalSectionOffset → Listing LineInfo

@@ -6,7 +6,8 @@ ghost use Rattle.std.specs.List.Sorted.{IsNonDecreasingBy};
 ghost use Rattle.pdb_container.specs.Fault.{Parses, Gives};
 ghost use Rattle.pdb_lines.specs.Checksums.{files_of, file_in, file_seen};
 ghost use Rattle.pdb_lines.specs.LinesSubsections.{rank, program_of, or_nothing};
-ghost use Rattle.pdb_lines.specs.LineRows.{subsections_for, line_rows, lines_for};
+ghost use Rattle.pdb_lines.specs.LineRows.{subsection_numbered, subsections_for};
+ghost use Rattle.pdb_lines.specs.LineRows.{line_rows, lines_for};
 ghost use Rattle.pdb_subsections.specs.Subsections.{bytes_seen};
 
 use crate::checksum::{FileInfo, FileIterator, file_in_list};
@@ -72,13 +73,35 @@ impl<'a> LineProgram<'a> {
         Ok(LineProgram { subsections, files })
     }
 
-    /// The subsections of a place: the last one at or before it, where that one is in its section.
+    /// How many `DEBUG_S_LINES` there are.
+    pub fn subsection_count(&self) -> usize
+        ensures { result ≡ length self.now.subsections }
+    {
+        self.subsections.len()
+    }
+
+    /// The number of a place's `DEBUG_S_LINES`, these by section and offset and counted from 1: of
+    /// the last one at or before the place; 0 where that one isn't in the place's section. It is a
+    /// binary search.
     #[tactic(auto, using(crate::proofs::Halving::no_subsection, crate::proofs::Halving::other_section, crate::proofs::Halving::one_subsection))]
-    fn subsections_at(&self, place: PdbInternalSectionOffset) -> &[LinesSubsection<'a>]
-        ensures { result.now ≡ subsections_for self.now place }
+    pub fn subsection_number(&self, place: PdbInternalSectionOffset) -> usize
+        ensures bound { result ≤ length self.now.subsections }
+        ensures number { subsection_numbered self.now result ≡ subsections_for self.now place }
     {
         let number = number_at(&self.subsections, rank_of(place.section, place.offset));
         if number == 0 || self.subsections[number - 1].section() != place.section {
+            return 0;
+        }
+        number
+    }
+
+    /// The subsections of a place: the last one at or before it, where that one is in its section.
+    #[tactic(auto, using(crate::proofs::Halving::in_row))]
+    fn subsections_at(&self, place: PdbInternalSectionOffset) -> &[LinesSubsection<'a>]
+        ensures { result.now ≡ subsections_for self.now place }
+    {
+        let number = self.subsection_number(place);
+        if number == 0 {
             return &[];
         }
         &self.subsections[number - 1..number]

@@ -19,3 +19,4 @@ pub mod ProcedureSteps
 pub mod RowPieceSteps
 pub mod RowSteps
 pub mod SiteRowSteps
+pub mod SubsectionRows

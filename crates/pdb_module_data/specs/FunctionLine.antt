@@ -12,7 +12,8 @@ use Rattle.pdb_addresses.specs.declared.internal_section_offset.PdbInternalSecti
 use Rattle.pdb_subsections.specs.declared.line_info.LineInfo.{LineInfo}
 use Rattle.pdb_lines.specs.Checksums.{file_in}
 use Rattle.pdb_lines.specs.LinesSubsections.{Program}
-use Rattle.pdb_lines.specs.LineRows.{lines_for}
+use Rattle.pdb_lines.specs.LineMarks.{marks_of}
+use Rattle.pdb_lines.specs.LineRows.{lines_for, rows_of, subsection_numbered}
 use Rattle.pdb_module_data.specs.declared.function_rows.LineRow.{LineRow}
 
 -- what is stored of a row: all that an answer needs
@@ -44,6 +45,12 @@ row_at (row ∷ rows) offset = later_row (if_begun row offset) (row_at rows offs
 -- to their end
 abbrev pub function_rows : Program → PdbInternalSectionOffset → Result (List LineRow) Fault
 function_rows program start = whole (lines_for program start) >>= λ rows. Ok (map row_of rows)
+
+-- the rows of the subsection of a number, which have to be there to their end; none of 0
+abbrev pub numbered_rows : Program → ℕ → Result (List LineRow) Fault
+numbered_rows program number =
+    whole (rows_of (marks_of (subsection_numbered program number))) >>= λ rows.
+    Ok (map row_of rows)
 
 -- where rows begin
 abbrev pub row_starts : List LineRow → List ℕ

@@ -2,6 +2,8 @@
 -- offsets with the number of the row at each, and by their starts in ascending order.
 use Rattle.std.specs.Prelude.{◌≡◌, ℕ, ◌+◌, ◌^◌, ◌<◌, ◌≤◌, List, [], ◌∷◌, ◌++◌, slice_get}
 use Rattle.std.specs.Prelude.{Option, None, Some, option_and_then}
+use Rattle.std.specs.Box.{box_value}
+use Rattle.std.specs.Global.{Box}
 use Rattle.pdb_addresses.specs.SectionOrder.{AreInOrder}
 use Rattle.pdb_pieces.specs.declared.span.Span.{Span}
 use Rattle.pdb_pieces.specs.Spans.{best}
@@ -38,7 +40,8 @@ pub record Unordered : Type 0 where
   pub starts : List ℕ
 
 -- the rows ascend, or else pieces and starts stand for them
-abbrev pub AreSearchable : List LineRow → Option Unordered → Type 0
+abbrev pub AreSearchable : List LineRow → Option (Box Unordered) → Type 0
 AreSearchable rows None = AreAscending 0 rows
 AreSearchable rows (Some unordered) =
-    StandForRows unordered.pieces rows × AreInOrder (row_starts rows) unordered.starts
+    StandForRows (box_value unordered).pieces rows
+    × AreInOrder (row_starts rows) (box_value unordered).starts

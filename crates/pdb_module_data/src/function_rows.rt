@@ -67,7 +67,7 @@ impl Model for Unordered {
 #[derive(Drop)]
 pub struct FunctionRows {
     rows: Vec<LineRow>,
-    unordered: Option<Unordered>,
+    unordered: Option<Box<Unordered>>,
 }
 
 impl Model for FunctionRows {
@@ -159,7 +159,7 @@ fn ascending_starts(alloc: Global, rows: &[LineRow]) -> std::result::Result<Vec<
 fn unless_ascending(
     alloc: Global,
     rows: &[LineRow],
-) -> std::result::Result<Option<Unordered>, AllocError>
+) -> std::result::Result<Option<Box<Unordered>>, AllocError>
     ensures { IfOk result (λ unordered. AreSearchable rows.now unordered) }
 {
     if are_ascending(rows) {
@@ -167,7 +167,8 @@ fn unless_ascending(
     }
     let pieces = row_pieces(alloc, rows)?;
     let starts = ascending_starts(alloc, rows)?;
-    Ok(Some(Unordered { pieces, starts }))
+    let unordered = Box::new(alloc, Unordered { pieces, starts })?;
+    Ok(Some(unordered))
 }
 
 /// The row of a number, if it is there.

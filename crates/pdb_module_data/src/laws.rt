@@ -6,7 +6,10 @@ ghost use Rattle.pdb_addresses.specs.declared.internal_section_offset.PdbInterna
 };
 ghost use Rattle.pdb_subsections.specs.declared.line_info.LineInfo.{LineInfo};
 ghost use Rattle.pdb_symbols.specs.Forms.{InlineSiteForm};
+ghost use Rattle.pdb_lines.specs.LinesSubsections.{Program};
+ghost use Rattle.pdb_lines.specs.LineRows.{subsection_numbered, subsections_for};
 ghost use Rattle.pdb_module_data.specs.Forest.{Site, IsForest, sites_from};
+ghost use Rattle.pdb_module_data.specs.FunctionLine.{function_rows, numbered_rows};
 ghost use Rattle.pdb_module_data.specs.InlinedCalls.{IsNested, IsDeepest, is_over, deepest};
 ghost use Rattle.pdb_module_data.specs.InlinedCalls.{depth_over, calls_over};
 
@@ -43,4 +46,12 @@ pub fn calls_as_deep()
         (place : PdbInternalSectionOffset) (number : ℕ) (site : Site)
         → deepest rows sites place ≡ Some number → slice_get sites number ≡ Some site
         → depth_over rows sites place ≡ site.depth }
+{}
+
+/// The rows of a function are those of its subsection's number, and so of every function that has
+/// that subsection.
+pub fn rows_of_a_subsection()
+    ensures { (program : Program) (start : PdbInternalSectionOffset) (number : ℕ)
+        → subsection_numbered program number ≡ subsections_for program start
+        → numbered_rows program number ≡ function_rows program start }
 {}

@@ -1,9 +1,11 @@
 //! Goes through recorded cases: `recorded_cases reports FILE.. texts FILE..`.
 //!
-//! The cases of a FILE behind the word `reports` are of reports, and `reports.rt` says what they look like; those of one behind
-//! `texts` are of formatters and contexts, as `texts.rt` says. A FILE in front of these words holds cases of reports.
+//! The cases of a FILE after the argument `reports` are of reports, in the form that `reports.rt`
+//! describes. Those of a FILE after `texts` are of formatters and contexts, in the form that
+//! `texts.rt` describes. A FILE before both holds cases of reports.
 //!
-//! Each case that is answered otherwise than recorded is printed, and at last how many cases there are of each kind.
+//! Each case whose answer isn't as recorded is printed, and at last the number of cases of each
+//! kind.
 #![tactic(auto)]
 
 mod reports;
@@ -13,19 +15,19 @@ use anyhow::Result;
 use std::env;
 use std::rt::{Env, Files};
 
-/// What a file's cases are of.
+/// The kind of a file's cases.
 #[derive(Clone, Copy)]
 enum Kind {
-    /// Of reports.
+    /// Cases of reports.
     Reports,
-    /// Of formatters and contexts.
+    /// Cases of formatters and contexts.
     Texts,
 }
 
-/// The kinds by their words.
+/// The kinds by their names.
 const KINDS: &[(&str, Kind)] = &[("reports", Kind::Reports), ("texts", Kind::Texts)];
 
-/// The kind that a word names, if it names one.
+/// Returns the kind that an argument names, if it names one.
 fn kind_of(word: &str) -> Option<Kind> {
     for (name, kind) in KINDS {
         if word == *name {
@@ -35,7 +37,7 @@ fn kind_of(word: &str) -> Option<Kind> {
     None
 }
 
-/// What the cases of the next file are of, and how many cases there were of each kind.
+/// The kind of the next file's cases, and how many cases of each kind there were.
 #[derive(Clone, Copy)]
 struct Progress {
     kind: Kind,
@@ -62,7 +64,7 @@ fn run_file(
     Ok(())
 }
 
-/// Takes a word: that of a kind, or a file.
+/// Takes an argument: a kind, or a file.
 fn take_word(
     rt: &(impl Files + Print + AllocGlobal),
     progress: &mut Progress,

@@ -1,37 +1,42 @@
 //! Cases of reports on addresses and on ranges.
 //!
-//! A file of them is a text of paragraphs, with an empty line between two. One that begins with `#` is a note, any other a case. A
-//! case has lines of these forms:
+//! A file of them is a text of paragraphs, with an empty line between two. A paragraph that begins
+//! with `#` is a note, and any other a case. A case has lines of these forms:
 //!
 //! - `case NAME DATABASE`: its name, and the file of its program database
-//! - `prefixes FIRST LAST`: the case is of the file's first so many bytes, for each number of them
-//! - `numbers PLACE FIRST LAST`: it is of the file with each of these numbers in the four bytes at PLACE
-//! - `bytes PLACE BYTES`: it is of the file with BYTES at PLACE
+//! - `prefixes FIRST LAST`: the case is of the file's prefixes, of each length from FIRST to LAST
+//! - `numbers PLACE FIRST LAST`: the case is of the file with each of these numbers in the four
+//!   bytes at PLACE
+//! - `bytes PLACE BYTES`: the case is of the file with BYTES at PLACE
 //! - `< TEXT`: a line of input, for a report on addresses
-//! - `sizes START END`: the range, both hexadecimal, for a report on how many of its addresses each function has
-//! - `by-file START END`: the range, for a report on how many of its addresses each source file has
+//! - `sizes START END`: the range, in hexadecimal, for a report on how many of its addresses each
+//!   function has
+//! - `by-file START END`: the range, in hexadecimal, for a report on how many of its addresses each
+//!   source file has
 //! - `> TEXT`: a line of output that must come
 //! - `! TEXT`: a line of error output that must come
 //! - `status NUMBER`: the exit status that must come
 //!
-//! Lines `prefixes`, `numbers` and `bytes`, whose numbers and bytes are hexadecimal, name files in the
-//! place of the database's own, and the answer must be the same for each of them.
+//! Lines `prefixes`, `numbers` and `bytes` have hexadecimal numbers and bytes. They name files that
+//! take the place of the database's own, and the answer must be the same for each of them.
 //!
-//! An input of several lines is handed over twice, each time to a run of its own: as one read, whose
-//! lines are answered in the order of their addresses, and a line a read, each of which is answered
-//! after those before it.
+//! An input of several lines is handed over twice, each time to a run of its own. The first time it
+//! is one read, whose lines are answered in the order of their addresses. The second time each line
+//! is a read, and is answered after those before it.
 //!
-//! The lines of input are one text in their order, and so are those of output and of error output: an answer can stand
-//! below its address. TEXT is printable ASCII: `\r` stands for a carriage return, and `\xNN` for a byte that is no such
-//! character, for a backslash or for a space at the end. Where a number stands behind the sign, as in `>3 TEXT`, the line
-//! comes so often; where `-` stands there, as in `<- TEXT`, it ends without a newline.
+//! The lines of input are one text in their order, and so are those of output and of error output.
+//! So an answer can stand below its address. TEXT is printable ASCII. `\r` stands for a carriage
+//! return, and `\xNN` for any other byte, for a backslash, or for a space at the end. With a number
+//! after the sign, as in `>3 TEXT`, the line comes that often. With `-` there, as in `<- TEXT`, it
+//! ends without a newline.
 //!
-//! A DATABASE whose name ends in `.pdb` is the file as it is. Any other is a text of it: `length NUMBER`, and below that
-//! lines `PLACE BYTES`, both hexadecimal: what stands in the file from this place on. Bytes that no line names are zero.
+//! A DATABASE whose name ends in `.pdb` is the file as it is. Any other is a text of the file:
+//! `length NUMBER`, and below that lines `PLACE BYTES`, both hexadecimal, with the bytes from that
+//! place on. Bytes that no line names are zero.
 //!
 //! A case whose output, error output or status isn't as recorded is printed by its name, the file's
 //! difference and how its input was handed over, with the first line that differs. A file or a
-//! DATABASE that can't be read so is an error.
+//! DATABASE that has another form is an error.
 
 mod case;
 mod changes;
@@ -52,6 +57,9 @@ use std::fs;
 use std::rt::Files;
 
 /// Goes through the cases of a file, and returns how many there are.
+///
+/// # Errors
+/// A file that can't be read, a case without the form above; out of memory.
 pub fn run_file(rt: &(impl Files + Print + AllocGlobal), file: &str) -> Result<u64> {
     let text = fs::read_to_string(rt, file).context(format_args!("reading {file}"))?;
     let mut count = 0u64;
@@ -116,7 +124,7 @@ fn run_report(
     Ok(())
 }
 
-/// Writes the report that a case asks for. What was looked up for it is no part of that.
+/// Writes the report that a case asks for.
 fn report(
     alloc: Global,
     case: &Case<'_>,

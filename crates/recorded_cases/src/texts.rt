@@ -1,31 +1,34 @@
 //! Cases of texts: what formatters of types print, and what contexts answer about addresses.
 //!
-//! A line of a file is a case if it holds ` => `. Before that stand five words: what is asked; a DATABASE, as in cases of
-//! reports; the number of a module, counted from 0; the flags; an index or an RVA in hexadecimal. Behind it stands the
-//! answer that must come, or `fault: ` and the fault. What is asked:
+//! A line of a file is a case if it contains ` => `. Before that stand five words: what is asked; a
+//! DATABASE, as in cases of reports; the index of a module; the flags; and an index or an RVA, in
+//! hexadecimal. After it stands the answer that must come, or `fault: ` and the fault. What is
+//! asked:
 //!
-//! - `function`: the signature of a function `f` whose type has this index
-//! - `unnamed`: the same of a function whose name is empty
-//! - `id`: the text of the id of this index
-//! - `size`: the size in bytes of the type of this index
-//! - `function_at`: the function at this RVA, as its copy
-//! - `frames_at`: the frames at this RVA, as their copy
-//! - `run_from`: the function at this offset of section 1, over how many bytes up to 256 it stays the same, and how many
-//!   places were looked up then
-//! - `file_run_from`: the same of the function's source file; `file_run_again`: of a context that was
-//!   asked before for the frames at that offset from RVA 0x1000
+//! - `function`: the signature of a function `f` whose type has that index
+//! - `unnamed`: the signature of a function without a name whose type has that index
+//! - `id`: the text of the id with that index
+//! - `size`: the size in bytes of the type with that index
+//! - `function_at`: the function at that RVA, as its copy
+//! - `frames_at`: the frames at that RVA, as their copy
+//! - `run_from`: the function at that offset of section 1, over how many bytes up to 256 it stays
+//!   the same, and how many places were looked up for that
+//! - `file_run_from`: the source file at that offset of section 1, over how many bytes up to 256 it
+//!   stays the same, and how many places were looked up for that
+//! - `file_run_again`: what `file_run_from` asks, of a context that was asked before for the frames
+//!   at that offset from RVA 0x1000
 //! - `functions`: how many entries the public list has, and all functions
-//! - `all_again`: all four of these of a context that was asked them before, whether what gives modules was asked then, and
-//!   how often it is asked now
-//! - `each_again`: of each of the four, at how many of the 288 addresses from this RVA on a new context
-//!   asks for modules, and how often such contexts do when they are asked the same again; and how often
-//!   one context does that was asked everything of each
-//! - `forgotten`: at how many of the 288 addresses from this RVA on a context that is asked for the
-//!   frames asks for modules; and then, at how many of every eighth its frames are those of a new one
-//! - `prefixes`: the frames at this RVA in the file's first so many bytes, for each number of them: each
-//!   number, in hexadecimal, from which on the answer is another one, and that answer
+//! - `all_again`: frames, function, run and functions, of a context that was asked for them before;
+//!   whether it asked for modules then, and how often it asks for them now
+//! - `each_again`: for each of these four, at how many of the 288 addresses from that RVA on a new
+//!   context asks for modules, and how often such contexts ask when they are asked again. Then how
+//!   often one context asks that was asked for all four at each address
+//! - `forgotten`: at how many of the 288 addresses from that RVA on a context that is asked for the
+//!   frames asks for modules. Then at how many of every eighth its frames are those of a new one
+//! - `prefixes`: the frames at that RVA in each prefix of the file: each length, in hexadecimal,
+//!   from which on the answer is another one, and that answer
 //!
-//! A case that is answered otherwise is printed.
+//! A case whose answer isn't as recorded is printed.
 
 mod calls;
 mod contexts;
@@ -44,10 +47,13 @@ use std::alloc::{AllocError, Global};
 use std::fs;
 use std::rt::Files;
 
-/// What was read of a database.
+/// The data that were read of a database.
 type Data = ContextPdbData<'static, 'static, Vec<u8>>;
 
 /// Goes through the cases of a file, and returns how many there are.
+///
+/// # Errors
+/// A file that can't be read; out of memory.
 pub fn run_file(rt: &(impl Files + Print + AllocGlobal), file: &str) -> Result<u64> {
     let text = fs::read_to_string(rt, file)?;
     let mut count = 0u64;
@@ -60,7 +66,7 @@ pub fn run_file(rt: &(impl Files + Print + AllocGlobal), file: &str) -> Result<u
     Ok(count)
 }
 
-/// Prints a case that is answered otherwise.
+/// Answers a case, and prints it if the answer isn't as recorded.
 fn run_case(rt: &(impl Files + Print + AllocGlobal), words: &str, wanted: &str) -> Result<()> {
     let question = question_of(words);
     let bytes = database_bytes(rt, question.file)?;
@@ -71,7 +77,7 @@ fn run_case(rt: &(impl Files + Print + AllocGlobal), words: &str, wanted: &str) 
     Ok(println!(rt; "{words}\n  gives {answer}\n  and not {wanted}")?)
 }
 
-/// An answer, or the fault behind `fault: `.
+/// Returns the text of an answer, or its fault after `fault: `.
 fn told(alloc: Global, answer: Result<String, Error>) -> Result<String, AllocError> {
     match answer {
         Ok(text) => Ok(text),
@@ -79,7 +85,7 @@ fn told(alloc: Global, answer: Result<String, Error>) -> Result<String, AllocErr
     }
 }
 
-/// The answer to a question of a file's bytes.
+/// Answers a question by a file's bytes.
 fn answer(alloc: Global, bytes: Vec<u8>, question: &Question<'_>) -> Result<String, Error> {
     match question.asked {
         Asked::AllAgain | Asked::EachAgain | Asked::Forgotten => calls::ask(alloc, bytes, question),
@@ -88,13 +94,13 @@ fn answer(alloc: Global, bytes: Vec<u8>, question: &Question<'_>) -> Result<Stri
     }
 }
 
-/// The answer by what is read of a database.
+/// Reads the data of a database, and answers a question by them.
 fn ask(alloc: Global, bytes: Vec<u8>, question: &Question<'_>) -> Result<String, Error> {
     let data = data_of(alloc, bytes)?;
     ask_over(alloc, &data, question)
 }
 
-/// The answer by what was read of a database.
+/// Answers a question by the data that were read of a database.
 fn ask_over(alloc: Global, data: &Data, question: &Question<'_>) -> Result<String, Error> {
     match question.asked {
         Asked::Function | Asked::Unnamed | Asked::Id | Asked::Size => {
@@ -104,7 +110,7 @@ fn ask_over(alloc: Global, data: &Data, question: &Question<'_>) -> Result<Strin
     }
 }
 
-/// What is read of a database.
+/// Reads the data of a database.
 fn data_of(alloc: Global, bytes: Vec<u8>) -> Result<Data, Error> {
     let database = PDB::open(alloc, bytes)?;
     ContextPdbData::try_from_pdb(alloc, database)

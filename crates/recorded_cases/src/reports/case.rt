@@ -7,18 +7,19 @@ use anyhow::{Context, Result, bail, ensure};
 use pdb_report::parse_address;
 use std::alloc::Global;
 
-/// A case: what is asked of a program database, and what must come.
+/// A case: what a program database is asked for, and what must come.
 #[derive(Drop)]
 pub struct Case<'t> {
-    /// Its name.
+    /// The case's name.
     pub name: &'t str,
     /// The file of the program database.
     pub database: &'t str,
     /// The files that the case is of.
     pub files: Vec<Changes<'t>>,
-    /// The range whose sizes are asked for, its start and its end. None where addresses are asked for.
+    /// The start and the end of the range whose sizes are asked for. It is `None` where addresses
+    /// are asked for.
     pub range: Option<(u32, u32)>,
-    /// Whether its sizes are asked for by source file.
+    /// Whether the range's sizes are asked for by source file.
     pub by_file: bool,
     /// The bytes of the input.
     pub input: Vec<u8>,
@@ -31,10 +32,10 @@ pub struct Case<'t> {
 }
 
 impl<'t> Case<'t> {
-    /// The case of a paragraph.
+    /// Reads the case of a paragraph.
     ///
     /// # Errors
-    /// A line of no such form, no line of names; out of memory.
+    /// A line of another form, no line of names; out of memory.
     pub fn read(alloc: Global, paragraph: &'t str) -> Result<Case<'t>> {
         let mut case = Case {
             name: "",
@@ -57,7 +58,7 @@ impl<'t> Case<'t> {
         Ok(case)
     }
 
-    /// How the input is handed over: at once, and line by line where it has several lines.
+    /// Returns how the input is handed over: at once, and line by line if it has several lines.
     pub fn paces(&self) -> &'static [Pace] {
         let lines = self.input.split_inclusive(|byte| *byte == b'\n').count();
         if lines > 1 {
@@ -122,7 +123,7 @@ impl<'t> Case<'t> {
     }
 }
 
-/// The address of a word.
+/// Returns the address of a word.
 fn address_of(word: &str) -> Result<u32> {
     parse_address(word.as_bytes()).context("an address is needed")
 }

@@ -1,4 +1,4 @@
-//! Files that a case is of in the place of its database's own.
+//! Files that take the place of a case's own database.
 
 use crate::reports::database::write_piece;
 use anyhow::{Context, Result};
@@ -9,16 +9,16 @@ use std::alloc::Global;
 pub enum Change<'t> {
     /// Nothing.
     Nothing,
-    /// The file ends after so many bytes.
+    /// The file is a prefix whose length is the number.
     Prefix,
-    /// The four bytes at this place hold the number.
+    /// The four bytes at that place hold the number.
     Number(usize),
-    /// Bytes stand at this place, which are told by their hexadecimal digits.
+    /// Bytes stand at that place, given by their hexadecimal digits.
     Bytes(usize, &'t str),
 }
 
-/// Files that differ from the database's own in one thing, one for each number from the first to the
-/// last.
+/// Files that differ from the database's own by one change, one file for each number from the first
+/// to the last.
 #[derive(Clone, Copy)]
 pub struct Changes<'t> {
     /// What differs.
@@ -29,24 +29,33 @@ pub struct Changes<'t> {
     pub last: u32,
 }
 
-/// The files of a line `prefixes`.
+/// Reads the files of a line `prefixes`.
+///
+/// # Errors
+/// A line of another form.
 pub fn prefixes(range: &str) -> Result<Changes<'_>> {
     files_of(Change::Prefix, range)
 }
 
-/// The files of a line `numbers`.
+/// Reads the files of a line `numbers`.
+///
+/// # Errors
+/// A line of another form.
 pub fn numbers(words: &str) -> Result<Changes<'_>> {
     let (place, range) = place_of(words)?;
     files_of(Change::Number(place), range)
 }
 
-/// The file of a line `bytes`.
+/// Reads the file of a line `bytes`.
+///
+/// # Errors
+/// A line of another form.
 pub fn bytes(words: &str) -> Result<Changes<'_>> {
     let (place, digits) = place_of(words)?;
     Ok(one_file(Change::Bytes(place, digits)))
 }
 
-/// One file that differs so.
+/// Returns the one file with a change.
 pub fn one_file(change: Change<'_>) -> Changes<'_> {
     Changes {
         change,
@@ -55,7 +64,7 @@ pub fn one_file(change: Change<'_>) -> Changes<'_> {
     }
 }
 
-/// The files that differ so, one for each number of a range.
+/// Reads a range, and returns the files with a change, one for each number of it.
 fn files_of<'t>(change: Change<'t>, range: &str) -> Result<Changes<'t>> {
     let (first, last) = range.split_once(' ').context("two numbers are needed")?;
     Ok(Changes {
@@ -65,16 +74,16 @@ fn files_of<'t>(change: Change<'t>, range: &str) -> Result<Changes<'t>> {
     })
 }
 
-/// The place that words begin with, and the words after it.
+/// Returns the place with which words begin, and the words after it.
 fn place_of(words: &str) -> Result<(usize, &str)> {
     let (place, rest) = words.split_once(' ').context("a place is needed")?;
     Ok((usize::from_str_radix(place, 16)?, rest))
 }
 
-/// The bytes of the file of a number, those of the database's own being given.
+/// Makes the bytes of the file for a number, from those of the database's own file.
 ///
 /// # Errors
-/// Numbers and places past the end, digits that are none; out of memory.
+/// Lengths and places past the end, digits that aren't hexadecimal; out of memory.
 pub fn changed(alloc: Global, original: &[u8], change: Change<'_>, number: u32) -> Result<Vec<u8>> {
     let end = match change {
         Change::Prefix => number as usize,

@@ -5,7 +5,10 @@ use std::alloc::Global;
 use std::fs;
 use std::rt::Files;
 
-/// The bytes of a program database, of its own file or of a text of that.
+/// Reads the bytes of a program database, from its own file or from a text of it.
+///
+/// # Errors
+/// A file that can't be read, a text of another form; out of memory.
 pub fn database_bytes(rt: &(impl Files + AllocGlobal), file: &str) -> Result<Vec<u8>> {
     if file.ends_with(".pdb") {
         return fs::read(rt, file).context(format_args!("reading {file}"));
@@ -14,7 +17,8 @@ pub fn database_bytes(rt: &(impl Files + AllocGlobal), file: &str) -> Result<Vec
     bytes_of(rt.alloc(), text.as_str()).context(format_args!("the text {file}"))
 }
 
-/// The bytes that a text tells: their number in the first line, and in each other a place and what stands there.
+/// Returns the bytes that a text describes. Its first line has their number, and each other line
+/// has a place and the bytes there.
 fn bytes_of(alloc: Global, text: &str) -> Result<Vec<u8>> {
     let (length, lines) = text.split_once('\n').context("a line is needed")?;
     let length = length
@@ -46,7 +50,7 @@ fn write_line(alloc: Global, bytes: &mut [u8], line: &str) -> Result<()> {
 /// Writes a piece over the bytes from a place on.
 ///
 /// # Errors
-/// It reaches past the end.
+/// A piece that reaches past the end.
 pub fn write_piece(bytes: &mut [u8], place: usize, piece: &[u8]) -> Result<()> {
     let (_, rest) = bytes
         .split_at_mut_checked(place)

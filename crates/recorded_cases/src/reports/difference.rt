@@ -3,7 +3,10 @@
 use crate::reports::text::shown;
 use anyhow::Result;
 
-/// Prints the first line in which a case's text differs from what must come, if one does.
+/// Prints the first line in which a case's text differs from what must come, if any does.
+///
+/// # Errors
+/// A failed write; out of memory.
 pub fn print_difference(
     rt: &(impl Print + AllocGlobal),
     case: &str,
@@ -22,7 +25,7 @@ pub fn print_difference(
     Ok(())
 }
 
-/// How many lines two texts begin with alike.
+/// Returns how many lines at the start of two texts are equal.
 fn equal_lines(one: &[u8], other: &[u8]) -> usize {
     let mut count = 0usize;
     for (byte, other) in one.iter().zip(other) {
@@ -36,7 +39,7 @@ fn equal_lines(one: &[u8], other: &[u8]) -> usize {
     count
 }
 
-/// The line of a text behind so many others, with its newline, or nothing past the end.
+/// Returns the line with that index, with its newline, or nothing past the end.
 fn line_at(text: &[u8], number: usize) -> &[u8] {
     text.split_inclusive(|byte| *byte == b'\n')
         .nth(number)

@@ -2,7 +2,7 @@
 
 use std::io::{self, Read};
 
-/// How much of an input a read gives.
+/// The part of an input that a read gives.
 #[derive(Clone, Copy, Debug)]
 pub enum Pace {
     /// As much as there is room for.
@@ -16,11 +16,11 @@ pub enum Pace {
 pub struct Input<'t> {
     /// The bytes that are still to come.
     pub bytes: &'t [u8],
-    /// How much of them a read gives.
+    /// The part of them that a read gives.
     pub pace: Pace,
 }
 
-/// How many bytes a read gives at most.
+/// Returns how many bytes a read gives at most.
 fn length_at(bytes: &[u8], pace: Pace) -> usize {
     match pace {
         Pace::AtOnce => bytes.len(),

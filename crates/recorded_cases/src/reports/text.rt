@@ -1,9 +1,12 @@
-//! How texts stand in a file of cases.
+//! The form of texts in a file of cases.
 
 use anyhow::{Context, Result};
 use std::alloc::{AllocError, Global};
 
-/// Appends a line as often as its mark says, or with the mark `-` without a newline.
+/// Appends a line as often as its mark says, or without a newline if the mark is `-`.
+///
+/// # Errors
+/// A mark or a text of another form; out of memory.
 pub fn push_lines(bytes: &mut Vec<u8>, mark: &str, text: &str) -> Result<()> {
     match mark {
         "-" => push_text(bytes, text),
@@ -12,7 +15,7 @@ pub fn push_lines(bytes: &mut Vec<u8>, mark: &str, text: &str) -> Result<()> {
     }
 }
 
-/// Appends a line so many times.
+/// Appends a line `times` times.
 fn push_repeated(bytes: &mut Vec<u8>, times: u32, text: &str) -> Result<()> {
     for _ in 0..times {
         push_line(bytes, text)?;
@@ -39,7 +42,8 @@ fn push_text(bytes: &mut Vec<u8>, text: &str) -> Result<()> {
     Ok(())
 }
 
-/// The byte for which a backslash and what begins this text stand, and the rest of the text.
+/// Returns the byte for which the start of this text stands after a backslash, and the rest of the
+/// text.
 fn escaped(text: &str) -> Result<(u8, &str)> {
     if let Some(rest) = text.strip_prefix('r') {
         return Ok((b'\r', rest));
@@ -49,7 +53,10 @@ fn escaped(text: &str) -> Result<(u8, &str)> {
     Ok((u8::from_str_radix(digits, 16)?, rest))
 }
 
-/// The text that stands for bytes, a newline being `\n`.
+/// Returns the text that stands for bytes, with `\n` for a newline.
+///
+/// # Errors
+/// `AllocError` when memory runs out.
 pub fn shown(alloc: Global, bytes: &[u8]) -> Result<String, AllocError> {
     let mut text = String::new(alloc);
     for byte in bytes {
@@ -58,7 +65,7 @@ pub fn shown(alloc: Global, bytes: &[u8]) -> Result<String, AllocError> {
     Ok(text)
 }
 
-/// Appends what stands for a byte.
+/// Appends the text that stands for a byte.
 fn push_shown(text: &mut String, byte: u8) -> Result<(), AllocError> {
     match byte {
         b'\n' => text.push_str("\\n"),

@@ -14,7 +14,7 @@ use pdb_addr2line::{
 use std::alloc::Global;
 use std::cell::Cell;
 
-/// Gives the modules of what was read of a database, and counts how often it is asked.
+/// Gives the modules of the data of a database, and counts how often it is asked.
 #[derive(Drop)]
 struct CountingProvider {
     inner: Data,
@@ -22,7 +22,7 @@ struct CountingProvider {
 }
 
 impl ModuleProvider for CountingProvider {
-    ghost use Rattle.pdb_addr2line.specs.Kept.{answered_at};
+    ghost use Rattle.pdb_addr2line.specs.ModuleInfos.{answered_at};
     ghost use Rattle.pdb_addr2line.specs.Provided.{faults_kept};
 
     type Info = ModuleInfo<'static>;
@@ -44,17 +44,20 @@ impl ModuleProvider for CountingProvider {
 /// An open database over a file's bytes.
 type Database<'s> = PDB<'s, Vec<u8>>;
 
-/// What was read of a database.
+/// The data that were read of a database.
 type Data = ContextPdbData<'static, 'static, Vec<u8>>;
 
-/// The answers of a context that was asked the same before, whether it asked for modules then, and how often it asked for one
-/// now.
+/// Returns the answers of a context that was asked for the same before, whether it asked for
+/// modules then, and how often it asks for them now.
+///
+/// # Errors
+/// What can't be read of the database, or answered by it; out of memory.
 pub fn ask(alloc: Global, bytes: Vec<u8>, question: &Question<'_>) -> Result<String, Error> {
     let mut database = PDB::open(alloc, bytes)?;
     ask_database(alloc, &mut database, question)
 }
 
-/// The same of an open database.
+/// Answers as [`ask`], by an open database.
 fn ask_database(
     alloc: Global,
     database: &mut Database<'static>,
@@ -66,7 +69,7 @@ fn ask_database(
     ask_counted(alloc, database, &provider, &provider.calls, question)
 }
 
-/// The same, where the provider counts how often it is asked.
+/// Answers as [`ask`], by a provider that counts how often it is asked.
 fn ask_counted<'s, P: ModuleProvider>(
     alloc: Global,
     database: &mut Database<'s>,
@@ -78,7 +81,7 @@ fn ask_counted<'s, P: ModuleProvider>(
     ask_named(alloc, database, provider, calls, &names, question)
 }
 
-/// The same with these names of files and modules.
+/// Answers as [`ask`], with these names of files and modules.
 fn ask_named<'s, P: ModuleProvider>(
     alloc: Global,
     database: &mut Database<'s>,
@@ -97,7 +100,7 @@ fn ask_named<'s, P: ModuleProvider>(
     ask_over(alloc, provider, calls, parts, question)
 }
 
-/// What was read of a database, but for its modules.
+/// The parts that were read of a database, but for its modules.
 #[derive(Clone, Copy)]
 pub struct Parts<'d, 's> {
     debug_information: &'d DebugInformation<'s>,
@@ -105,7 +108,7 @@ pub struct Parts<'d, 's> {
     names: &'d StringTable<'s>,
 }
 
-/// The first eight modules of the list.
+/// Reads the first eight modules of the list.
 fn modules_of<'d>(
     alloc: Global,
     debug_information: &'d DebugInformation<'_>,
@@ -120,7 +123,7 @@ fn modules_of<'d>(
     Ok(modules)
 }
 
-/// A formatter whose modules come from a provider.
+/// Makes a formatter whose modules come from a provider.
 fn formatter_of<'d, 's, P: ModuleProvider>(
     alloc: Global,
     provider: &'d P,
@@ -141,7 +144,11 @@ fn formatter_of<'d, 's, P: ModuleProvider>(
     )
 }
 
-/// A context over what was read; there is none over a map that isn't ordered.
+/// Makes a context over what was read of a database.
+///
+/// # Errors
+/// `CircularTypeDefinition` for an address map that isn't ordered, what can't be read of the
+/// database; out of memory.
 pub fn context_of<'d, 's, P: ModuleProvider>(
     alloc: Global,
     provider: &'d P,
@@ -166,7 +173,7 @@ pub fn context_of<'d, 's, P: ModuleProvider>(
     )
 }
 
-/// The answers over what was read, and how often modules are asked for.
+/// Returns the answers over what was read, and how often modules are asked for.
 fn ask_over<P: ModuleProvider>(
     alloc: Global,
     provider: &P,
@@ -184,7 +191,7 @@ fn ask_over<P: ModuleProvider>(
     }
 }
 
-/// The answers of a context about an RVA that it was asked about before.
+/// Returns the answers of a context about an RVA about which it was asked before.
 fn ask_twice<P: ModuleProvider>(
     alloc: Global,
     context: &mut Context<'_, '_, P>,
@@ -199,7 +206,8 @@ fn ask_twice<P: ModuleProvider>(
     Ok(format!(in alloc; "{answers}; asked at first: {at_first}, then {again}")?)
 }
 
-/// The frames and the function at an RVA, how far that function goes on in section 1, which begins at 0x1000, and all functions.
+/// Returns the frames and the function at an RVA, how far that function goes on in section 1, which
+/// begins at 0x1000, and all functions.
 fn answers<P: ModuleProvider>(
     alloc: Global,
     context: &mut Context<'_, '_, P>,

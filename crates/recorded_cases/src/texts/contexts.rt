@@ -6,7 +6,11 @@ use pdb_addr2line::{Context, ContextPdbData, Error, Function, FunctionFrames, Mo
 use std::alloc::Global;
 use std::fmt::Debug;
 
-/// The answer of a context whose formatter has the question's flags; over a map that isn't ordered there is none.
+/// Answers a question by a context whose formatter has the question's flags. Over an address map
+/// that isn't ordered there is none, and the answer says so.
+///
+/// # Errors
+/// What the context can't answer; out of memory.
 pub fn ask(
     alloc: Global,
     data: &ContextPdbData<'static, 'static, Vec<u8>>,
@@ -20,12 +24,15 @@ pub fn ask(
     answer_by(alloc, &mut context, question)
 }
 
-/// A value as a text.
+/// Returns a value as a text.
 fn shown<T: Debug>(alloc: Global, value: &T) -> Result<String, Error> {
     Ok(format!(in alloc; "{value:?}")?)
 }
 
-/// An answer as a text, or its fault.
+/// Returns an answer as a text.
+///
+/// # Errors
+/// The answer's fault; out of memory.
 pub fn told<T: Debug + Drop>(alloc: Global, answer: Result<T, Error>) -> Result<String, Error> {
     match answer {
         Ok(value) => shown(alloc, &value),
@@ -33,7 +40,7 @@ pub fn told<T: Debug + Drop>(alloc: Global, answer: Result<T, Error>) -> Result<
     }
 }
 
-/// The copy of a function that was found, if one was.
+/// Copies a function that was found, if one was.
 fn copied_function(
     alloc: Global,
     found: Result<Option<Function>, Error>,
@@ -44,7 +51,7 @@ fn copied_function(
     }
 }
 
-/// The copy of frames that were found, if some were.
+/// Copies frames that were found, if some were.
 fn copied_frames<'a>(
     alloc: Global,
     found: Result<Option<FunctionFrames<'a>>, Error>,
@@ -55,7 +62,7 @@ fn copied_frames<'a>(
     }
 }
 
-/// The function that a context finds at an address, as its copy.
+/// Returns the function that a context finds at an address, as its copy.
 fn function_text<P: ModuleProvider>(
     alloc: Global,
     context: &mut Context<'_, '_, P>,
@@ -65,7 +72,10 @@ fn function_text<P: ModuleProvider>(
     told(alloc, copied_function(alloc, found))
 }
 
-/// The frames that a context finds at an address, as their copy.
+/// Returns the frames that a context finds at an address, as their copy.
+///
+/// # Errors
+/// Frames that can't be read; out of memory.
 pub fn frames_text<P: ModuleProvider>(
     alloc: Global,
     context: &mut Context<'_, '_, P>,
@@ -75,7 +85,7 @@ pub fn frames_text<P: ModuleProvider>(
     told(alloc, copied_frames(alloc, found))
 }
 
-/// The answer of a context that wasn't asked before.
+/// Answers a question by a context that wasn't asked before.
 fn answer_by<P: ModuleProvider>(
     alloc: Global,
     context: &mut Context<'_, '_, P>,
@@ -91,7 +101,8 @@ fn answer_by<P: ModuleProvider>(
     }
 }
 
-/// The function at an offset of section 1, how far it goes on, and how many places were looked up.
+/// Returns the function at an offset of section 1, how far it goes on, and how many places were
+/// looked up.
 fn run_text<P: ModuleProvider>(
     alloc: Global,
     context: &mut Context<'_, '_, P>,
@@ -105,7 +116,8 @@ fn run_text<P: ModuleProvider>(
     }
 }
 
-/// The source file at an offset of section 1, how far it goes on, and how many places were looked up.
+/// Returns the source file at an offset of section 1, how far it goes on, and how many places were
+/// looked up.
 fn file_run_text<P: ModuleProvider>(
     alloc: Global,
     context: &mut Context<'_, '_, P>,
@@ -119,8 +131,8 @@ fn file_run_text<P: ModuleProvider>(
     }
 }
 
-/// The source file at an offset of section 1, which begins at 0x1000, once the frames there were
-/// asked for.
+/// Returns the text of [`file_run_text`] after the context was asked for the frames there. Section
+/// 1 begins at 0x1000.
 fn file_run_again_text<P: ModuleProvider>(
     alloc: Global,
     context: &mut Context<'_, '_, P>,
@@ -131,7 +143,10 @@ fn file_run_again_text<P: ModuleProvider>(
     file_run_text(alloc, context, offset)
 }
 
-/// How many entries the public list has, and all functions.
+/// Returns how many entries the public list has, and all functions.
+///
+/// # Errors
+/// Functions that can't be read; out of memory.
 pub fn functions_text<P: ModuleProvider>(
     alloc: Global,
     context: &mut Context<'_, '_, P>,

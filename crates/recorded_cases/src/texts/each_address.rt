@@ -8,10 +8,10 @@ use pdb_addr2line::{Context, Error, ModuleProvider};
 use std::alloc::Global;
 use std::cell::Cell;
 
-/// How many addresses a range has: the 256 of a section at 0x1000, and 16 on each side of it.
+/// The number of addresses of a range: the 256 of a section at 0x1000, and 16 on each side of it.
 const ADDRESSES: u32 = 288;
 
-/// What a context is asked of an address.
+/// What a context is asked for at an address.
 #[derive(Clone, Copy, Debug)]
 enum Query {
     /// The frames there.
@@ -24,7 +24,7 @@ enum Query {
     Functions,
 }
 
-/// All that can be asked.
+/// All queries.
 const QUERIES: &[Query] = &[Query::Frames, Query::Function, Query::Run, Query::Functions];
 
 /// Asks a context.
@@ -53,8 +53,8 @@ fn ask_context<P: ModuleProvider>(
     Ok(())
 }
 
-/// At how many of the addresses a new context that is asked so asks for modules, and how often such
-/// contexts do when they are asked the same again.
+/// Returns at how many of the addresses a new context with that query asks for modules, and how
+/// often such contexts do when they are asked again.
 fn ask_new_contexts<P: ModuleProvider>(
     alloc: Global,
     provider: &P,
@@ -78,7 +78,7 @@ fn ask_new_contexts<P: ModuleProvider>(
     Ok((asking, again))
 }
 
-/// Asks a context everything of each address.
+/// Asks a context for everything at each address.
 fn ask_everything<P: ModuleProvider>(
     alloc: Global,
     context: &mut Context<'_, '_, P>,
@@ -92,7 +92,8 @@ fn ask_everything<P: ModuleProvider>(
     Ok(())
 }
 
-/// How often a context that was asked everything asks for modules when it is asked that again.
+/// Returns how often a context that was asked for everything asks for modules when it is asked
+/// again.
 fn ask_one_context<P: ModuleProvider>(
     alloc: Global,
     context: &mut Context<'_, '_, P>,
@@ -105,8 +106,12 @@ fn ask_one_context<P: ModuleProvider>(
     Ok(calls.get().saturating_sub(first))
 }
 
-/// Of each query: at how many addresses a new context asks for modules, and how often such contexts do
-/// when they are asked again. At last, how often one context does that is asked everything again.
+/// Returns for each query at how many addresses a new context asks for modules, and how often such
+/// contexts do when they are asked again. At last it returns how often one context does that is
+/// asked for everything again.
+///
+/// # Errors
+/// What a context can't answer; out of memory.
 pub fn ask<P: ModuleProvider>(
     alloc: Global,
     provider: &P,

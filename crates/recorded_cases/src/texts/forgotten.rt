@@ -1,4 +1,4 @@
-//! What a context answers that forgets what it cached.
+//! The answers of a context that forgets what it cached.
 
 use crate::texts::calls::{Parts, context_of};
 use crate::texts::contexts::frames_text;
@@ -7,13 +7,13 @@ use pdb_addr2line::{Context, Error, ModuleProvider};
 use std::alloc::Global;
 use std::cell::Cell;
 
-/// How many addresses a context is asked about, from the first one on.
+/// The number of addresses about which a context is asked, from the first one on.
 const ADDRESSES: u32 = 288;
 
-/// How far apart the addresses are about which it is asked again.
+/// The distance between the addresses about which it is asked again.
 const STEP: usize = 8;
 
-/// At how many of the addresses a context that is asked for the frames asks for modules.
+/// Returns at how many of the addresses a context that is asked for the frames asks for modules.
 fn asking<P: ModuleProvider>(
     alloc: Global,
     context: &mut Context<'_, '_, P>,
@@ -29,7 +29,7 @@ fn asking<P: ModuleProvider>(
     Ok(asking)
 }
 
-/// At how many of every eighth of the addresses a context's frames are those of a new context.
+/// Returns at how many of every eighth address a context's frames are those of a new context.
 fn alike<P: ModuleProvider>(
     alloc: Global,
     context: &mut Context<'_, '_, P>,
@@ -48,8 +48,11 @@ fn alike<P: ModuleProvider>(
     Ok(alike)
 }
 
-/// At how many of the addresses a context that is asked for the frames asks for modules; and then at
-/// how many of every eighth of them its frames are those of a new context.
+/// Returns at how many of the addresses a context that is asked for the frames asks for modules.
+/// Then it returns at how many of every eighth address its frames are those of a new context.
+///
+/// # Errors
+/// Frames that can't be read; out of memory.
 pub fn ask<P: ModuleProvider>(
     alloc: Global,
     provider: &P,

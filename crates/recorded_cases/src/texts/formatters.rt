@@ -5,7 +5,10 @@ use pdb_addr2line::pdb::{IdIndex, TypeIndex};
 use pdb_addr2line::{ContextPdbData, Error, ModuleProvider, TypeFormatter};
 use std::alloc::Global;
 
-/// The answer of a formatter with the question's flags.
+/// Answers a question by a formatter with the question's flags.
+///
+/// # Errors
+/// What the formatter can't answer; out of memory.
 pub fn ask(
     alloc: Global,
     data: &ContextPdbData<'static, 'static, Vec<u8>>,
@@ -16,7 +19,7 @@ pub fn ask(
     answer_by(alloc, formatter, question)
 }
 
-/// The answer of a formatter.
+/// Answers a question by a formatter.
 fn answer_by<P: ModuleProvider>(
     alloc: Global,
     mut formatter: TypeFormatter<'_, '_, P>,
@@ -25,7 +28,7 @@ fn answer_by<P: ModuleProvider>(
     text_by(alloc, &mut formatter, question)
 }
 
-/// The text that a formatter gives, or a size.
+/// Returns the text that a formatter gives, or a size as a text.
 fn text_by<P: ModuleProvider>(
     alloc: Global,
     formatter: &mut TypeFormatter<'_, '_, P>,
@@ -43,7 +46,7 @@ fn text_by<P: ModuleProvider>(
     }
 }
 
-/// A size as a text.
+/// Returns a size as a text.
 fn size_text(alloc: Global, size: Result<u64, Error>) -> Result<String, Error> {
     match size {
         Ok(size) => Ok(format!(in alloc; "{size}")?),

@@ -5,8 +5,11 @@ use crate::texts::{ask as ask_bytes, told};
 use pdb_addr2line::Error;
 use std::alloc::Global;
 
-/// The answers of a file's prefixes, of each length from 0 to its own: each length from which on the
-/// answer is another one, and that answer.
+/// Answers a question by each prefix of a file. Returns each length from which on the answer is
+/// another one, with that answer.
+///
+/// # Errors
+/// Out of memory; any other fault is an answer.
 pub fn ask(alloc: Global, bytes: &[u8], question: &Question<'_>) -> Result<String, Error> {
     let mut text = String::new(alloc);
     let mut last = String::new(alloc);
@@ -21,7 +24,7 @@ pub fn ask(alloc: Global, bytes: &[u8], question: &Question<'_>) -> Result<Strin
     Ok(text)
 }
 
-/// The answer of a file's first so many bytes, or its fault after `fault: `.
+/// Returns the answer by a file's prefix of that length, or its fault after `fault: `.
 fn answer_at(
     alloc: Global,
     bytes: &[u8],

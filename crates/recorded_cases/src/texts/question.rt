@@ -1,8 +1,8 @@
-//! What a case of texts asks.
+//! What a case of texts asks for.
 
 use pdb_addr2line::{Flags, TypeFormatterFlags};
 
-/// What is asked.
+/// What a case asks for.
 #[derive(Clone, Copy)]
 pub enum Asked {
     /// The signature of a function of a type.
@@ -21,21 +21,22 @@ pub enum Asked {
     RunFrom,
     /// How far the source file of a place goes on.
     FileRunFrom,
-    /// The same of a context that was asked for the place's frames before.
+    /// How far the source file of a place goes on, by a context that was asked for its frames
+    /// before.
     FileRunAgain,
     /// All functions.
     Functions,
-    /// All of a context that was asked before.
+    /// All answers of a context that was asked before.
     AllAgain,
     /// How often contexts that were asked before ask for modules, at each of many addresses.
     EachAgain,
-    /// The frames at each of many addresses, of a context that forgets.
+    /// The frames at each of many addresses, by a context that forgets.
     Forgotten,
     /// The frames at an RVA, in every prefix of the file.
     Prefixes,
 }
 
-/// What is asked, by its words.
+/// What a case asks for, by the word for it.
 const ASKED: &[(&str, Asked)] = &[
     ("function", Asked::Function),
     ("unnamed", Asked::Unnamed),
@@ -53,7 +54,7 @@ const ASKED: &[(&str, Asked)] = &[
     ("prefixes", Asked::Prefixes),
 ];
 
-/// What a word asks. One that isn't known asks for all functions.
+/// Returns what a word asks for. An unknown word asks for all functions.
 fn asked_of(word: &str) -> Asked {
     for (name, asked) in ASKED {
         if word == *name {
@@ -63,14 +64,14 @@ fn asked_of(word: &str) -> Asked {
     Asked::Functions
 }
 
-/// What a case asks.
+/// The question of a case.
 #[derive(Clone, Copy)]
 pub struct Question<'q> {
-    /// What is asked.
+    /// What the case asks for.
     pub asked: Asked,
     /// The database's file.
     pub file: &'q str,
-    /// The number of a module, counted from 0.
+    /// The index of a module.
     pub module: usize,
     /// The flags of the formatter.
     pub flags: u32,
@@ -78,7 +79,7 @@ pub struct Question<'q> {
     pub index: u32,
 }
 
-/// The question that five words ask. A number that is missing is 0.
+/// Returns the question of five words. A missing number is 0.
 pub fn question_of(words: &str) -> Question<'_> {
     let mut words = words.split(' ');
     Question {
@@ -91,7 +92,7 @@ pub fn question_of(words: &str) -> Question<'_> {
 }
 
 impl<'q> Question<'q> {
-    /// The flags of the formatter.
+    /// Returns the flags of the formatter.
     pub fn formatter_flags(&self) -> TypeFormatterFlags {
         TypeFormatterFlags::from_bits_retain(self.flags)
     }

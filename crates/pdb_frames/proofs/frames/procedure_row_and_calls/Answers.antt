@@ -9,5 +9,5 @@ row_and_calls_by-requires g c = (c.in-Some.ensures (extended_seen c.args.extende
 pub returns-in-Some : goal.returns-in-Some
 returns-in-Some g c =
     let lent = c.in-Some.ensures (extended_seen c.args.extended.now) c.requires in
-    let found = row_and_calls_are c.args.known.now.stream (extended_seen c.args.extended.now) c.args.procedure.now c.args.place c.in-Some.read.now.rows c.in-Some.read.now.ranges.sites lent.read in
+    let found = row_and_calls_are c.args.known.now.stream (extended_seen c.args.extended.now) c.args.procedure.now c.args.place c.in-Some.read.rows.now c.in-Some.read.ranges.now.sites lent.read in
     rw (c.in_ok-found.ensures.row, c.in_ok-found.ensures.calls) found

@@ -1,14 +1,14 @@
-use Rattle.std.proofs.Common.{◌≡◌, Some, sym, ap, subst, ◌∙◌}
-use Rattle.std.specs.Prelude.{slice_get, option_map}
+use Rattle.std.proofs.Common.{ap, refl, subst}
 use Rattle.pdb_known_modules.specs.Modules.{ModuleData}
-use Rattle.pdb_known_modules.specs.ProcedureData.{IsReadBy, IsOfProcedure}
-use Rattle.pdb_known_modules.proofs.KeptProcedures.{lent_of_held}
+use Rattle.pdb_known_modules.specs.SubsectionRows.{AreRowsOfStream}
+use Rattle.pdb_known_modules.proofs.KeptProcedures.{lent_both}
 use Rattle.pdb_known_modules.proofs.modules.BasicModuleInfo.extended_procedure.Goals as goal
 
-pub returns-in-Some-Some : goal.returns-in-Some-Some
-returns-in-Some-Some g c =
-    let kept = c.self.inside.kept_procedures.items in
-    let at : slice_get kept c.args.number ≡ Some (Some c.in-Some-Some.data) = sym c.place_at.ensures ∙ ap (option_map (λ p. p.now)) c.in-Some-Some.is ∙ ap Some c.in-Some-Some.field-0-is in
-    let has = subst (IsReadBy c.args.procedure.now) c.deref.ensures (c.is_of.ensures.0 c.if-is_of.true) in
-    λ extended is. subst (IsOfProcedure c.args.self.now.stream extended c.args.procedure.now) (sym c.as_ref.ensures)
-    (lent_of_held _ c.args.self.now.stream kept c.args.number c.in-Some-Some.data c.args.procedure.now (ap (λ (m : ModuleData). m.stream) c.self.view_is) (c.self.invariant.2) at has extended is)
+pub returns : goal.returns
+returns g c = λ extended is.
+    let stream = c.args.self.now.stream in
+    let same = ap (λ (m : ModuleData). m.stream) c.self.view_is in
+    let places = c.self.inside.subsection_rows.places.items in
+    let held = subst (λ s. AreRowsOfStream s places) same c.self.invariant.3 in
+    lent_both stream extended c.args.procedure.now c.in_ok-kept.kept.now c.in_ok-rows.rows.now _ is
+    (c.in_ok-kept.ensures extended is) (c.in_ok-rows.ensures stream held) refl refl

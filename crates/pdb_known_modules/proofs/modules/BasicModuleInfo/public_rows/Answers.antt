@@ -1,8 +1,15 @@
-use Rattle.std.proofs.Common.{ap, arith}
+use Rattle.std.proofs.Common.{ap, subst}
 use Rattle.pdb_known_modules.specs.Modules.{ModuleData}
+use Rattle.pdb_known_modules.specs.SubsectionRows.{AreRowsOfStream}
 use Rattle.pdb_known_modules.proofs.KeptRows.{lent_at}
 use Rattle.pdb_known_modules.proofs.modules.BasicModuleInfo.public_rows.Goals as goal
 
 pub returns : goal.returns
 returns g c =
-    lent_at _ c.args.self.now.stream c.self.inside.public_rows c.args.start c.get.result (ap (λ (m : ModuleData). m.stream) c.self.view_is) (c.self.invariant.3) (omega arith) c.get.ensures
+    let stream = c.args.self.now.stream in
+    let same = ap (λ (m : ModuleData). m.stream) c.self.view_is in
+    let places = c.self.inside.subsection_rows.places.items in
+    let held = subst (λ s. AreRowsOfStream s places) same c.self.invariant.3 in
+    let number = c.in_ok-number.number in
+    lent_at stream c.args.start number c.get.result c.in_ok-number.ensures
+    (c.get.ensures stream held)

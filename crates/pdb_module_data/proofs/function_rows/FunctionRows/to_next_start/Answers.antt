@@ -16,20 +16,22 @@ to_next-requires c =
 pub to_next-requires-in-Some : goal.to_next-requires-in-Some
 to_next-requires-in-Some c =
     let known = subst (AreSearchable c.self.inside.rows.items) c.in-Some.is c.self.invariant in
-    let starts : c.as_slice-in-Some.result.now ≡ c.in-Some.unordered.starts =
-    c.as_slice-in-Some.ensures.value ∙ ap (λ u. u.starts) c.unordered.view_is in
+    let starts : c.as_slice-in-Some.result.now ≡ c.in-Some.unordered.value.starts =
+    c.as_slice-in-Some.ensures.value
+    ∙ ap (λ u. u.starts) (c.behind-unordered.view_is ∙ c.deref.ensures) in
     subst (λ (ns : List ℕ). Ascend 0 (map (λ n. n) ns)) (sym starts)
-    (sorted_ascend c.in-Some.unordered.starts known.1.rise)
+    (sorted_ascend c.in-Some.unordered.value.starts known.1.rise)
 
 pub returns-in-Some : goal.returns-in-Some
 returns-in-Some c =
     let known = subst (AreSearchable c.self.inside.rows.items) c.in-Some.is c.self.invariant in
-    let starts : c.as_slice-in-Some.result.now ≡ c.in-Some.unordered.starts =
-    c.as_slice-in-Some.ensures.value ∙ ap (λ u. u.starts) c.unordered.view_is in
+    let starts : c.as_slice-in-Some.result.now ≡ c.in-Some.unordered.value.starts =
+    c.as_slice-in-Some.ensures.value
+    ∙ ap (λ u. u.starts) (c.behind-unordered.view_is ∙ c.deref.ensures) in
     c.to_next-in-Some.ensures
     ∙ ap (λ x. up_to_next (map (λ n. n) c.as_slice-in-Some.result.now) x c.args.far)
     c.from-in-Some.ensures
     ∙ ap (λ (ns : List ℕ). up_to_next (map (λ n. n) ns) c.args.offset c.args.far) starts
-    ∙ next_of_ascending (row_starts c.self.inside.rows.items) c.in-Some.unordered.starts
+    ∙ next_of_ascending (row_starts c.self.inside.rows.items) c.in-Some.unordered.value.starts
     c.args.offset c.args.far known.1
     ∙ ap (λ rows. up_to_next (row_starts rows) c.args.offset c.args.far) c.self.view_is

@@ -1,0 +1,63 @@
+//! Line rows of subsections (`DEBUG_S_LINES`), once they were read. Functions that share a
+//! subsection share its rows.
+
+ghost use Rattle.std.specs.Prelude.{IfOk, IfSome};
+ghost use Rattle.std.specs.Box.{box_value};
+ghost use Rattle.pdb_symbols_modules.specs.ModuleStream.{ModuleStream};
+ghost use Rattle.pdb_known_modules.specs.SubsectionRows.{AreRowsOf, AreRowsOfStream};
+
+use crate::places::{empty_places, place_at};
+use pdb_module_data::FunctionRows;
+use std::alloc::{AllocError, Global};
+
+/// Line rows, each at the number of its subsection, these by section and offset and counted from 1.
+/// At 0 are those of functions without a subsection: none.
+#[derive(Drop)]
+pub struct SubsectionRows {
+    places: Vec<Option<Box<FunctionRows>>>,
+}
+
+impl SubsectionRows {
+    /// No rows, and no place for any.
+    #[tactic(auto, using(crate::proofs::KeptRows::no_places))]
+    pub fn new(alloc: Global) -> SubsectionRows
+        ensures { (stream : ModuleStream) → AreRowsOfStream stream result.places.items }
+    {
+        SubsectionRows {
+            places: Vec::new(alloc),
+        }
+    }
+
+    /// Empty places for the rows of so many subsections.
+    #[tactic(auto, using(crate::proofs::KeptRows::nothing_kept))]
+    pub fn with_places(alloc: Global, count: usize) -> Result<SubsectionRows, AllocError>
+        ensures { IfOk result (λ kept. (stream : ModuleStream)
+            → AreRowsOfStream stream kept.places.items) }
+    {
+        let places = empty_places(alloc, count.saturating_add(1))?;
+        Ok(SubsectionRows { places })
+    }
+
+    /// The rows of the subsection of that number, if they are cached.
+    pub fn get(&self, number: usize) -> Option<&FunctionRows>
+        ensures { (stream : ModuleStream) → AreRowsOfStream stream (self.now).places.items
+            → IfSome result (λ rows. AreRowsOf stream number rows.now) }
+    {
+        match place_at(&self.places, number) {
+            Some(Some(rows)) => Some(rows.as_ref()),
+            _ => None,
+        }
+    }
+
+    /// Caches the rows of the subsection of that number.
+    #[tactic(auto, using(crate::proofs::KeptRows::kept_now))]
+    pub fn keep(&mut self, number: usize, rows: Box<FunctionRows>)
+        ensures { (stream : ModuleStream) → AreRowsOf stream number (box_value rows)
+            → AreRowsOfStream stream (self.old).places.items
+            → AreRowsOfStream stream (self.new).places.items }
+    {
+        if number < self.places.len() {
+            self.places[number] = Some(rows);
+        }
+    }
+}
