@@ -7,10 +7,12 @@
 # PROGRAM is the built pdb_llvm_symbolizer; if left out, the proved one. For each case NAME of
 # tests/llvm_symbolizer it runs PROGRAM in crates/pdb_llvm_symbolizer/data with the words of
 # NAME.args and the lines of NAME.input. What it writes, and its exit status, have to be
-# NAME.expected, but for the differences in NAME.differs. The last line is 'N passed, M failed'.
+# NAME.expected, but for the differences in NAME.differs. Then it asks for one address after the
+# other, and by a long line. The last line is 'N passed, M failed'.
 set -u
 top=$(cd "$(dirname "$0")/.." && pwd)
 cases=$top/tests/llvm_symbolizer
+data=$top/crates/pdb_llvm_symbolizer/data
 original=
 if [ "${1:-}" = --write ]; then
     original=$2
@@ -26,8 +28,27 @@ run() {
     local input=/dev/null words
     [ -e "$cases/$2.input" ] && input=$cases/$2.input
     mapfile -t words < "$cases/$2.args"
-    (cd "$top/crates/pdb_llvm_symbolizer/data" && "$1" "${words[@]}" < "$input" 2> /dev/null)
+    (cd "$data" && "$1" "${words[@]}" < "$input" 2> /dev/null)
     echo "status $?"
+}
+
+# Whether an answer comes before the input ends, and the one to the next line after that.
+answers_in_turn() {
+    local word first= second=
+    coproc ASKED { cd "$data" && exec "$program" --relative-address 2> /dev/null; }
+    echo 'x64.exe 0x1148' >&"${ASKED[1]}"
+    while read -r -t 20 word <&"${ASKED[0]}" && [ -n "$word" ]; do first=$first$word; done
+    echo 'x64.exe 0x1168' >&"${ASKED[1]}"
+    while read -r -t 20 word <&"${ASKED[0]}" && [ -n "$word" ]; do second=$second$word; done
+    kill "$ASKED_PID"
+    [ "${first%%:*}" = bytes ] && [ -n "$second" ]
+}
+
+# Whether a line of 256 MB is one that is no request, within 64 MB of memory.
+bounds_lines() {
+    local lines
+    lines=$(head -c 268435456 /dev/zero | tr '\0' a | (ulimit -v 65536 && "$program") 2> /dev/null)
+    [ "$lines" = $'??\n??:0:0' ]
 }
 
 passed=0
@@ -50,5 +71,15 @@ for args in "$cases"/*.args; do
         echo "$differs"
     fi
 done
+if [ -x "$program" ]; then
+    for test in answers_in_turn bounds_lines; do
+        if $test; then
+            passed=$((passed + 1))
+        else
+            failed=$((failed + 1))
+            echo "$test: failed"
+        fi
+    done
+fi
 echo "$passed passed, $failed failed"
 [ "$failed" -eq 0 ]

@@ -30,7 +30,7 @@ no_length P OutOfMemory h = tt
 no_length P (Read kind) h = tt
 no_length P InputTooLong h = absurd h
 
--- a call failed behind calls of which none failed
+-- a call failed after calls of which none failed
 pub counted_behind : {T : Type 0} (a b c : Watched T) (kind : ErrorKind) → IsQuiet a b → CountsFailure b c kind → CountsFailure a c kind
 counted_behind a b c kind quiet failed = record { rose = failed.rose ∙ ap (λ n. min (n + 1) (2 ^ 64 - 1)) quiet.same_failures; kind_kept = failed.kind_kept }
 
@@ -72,7 +72,7 @@ no_write P fault kind e = subst (λ (f : InputFault). OnWrite f P) (sym e) (said
     said kinds.OutOfMemory = tt
     said kind = tt
 
--- the last of several writes, behind those of which none failed
+-- the last of several writes, after those of which none failed
 pub write_end : {T : Type 0} (r : Result (Unit {0}) InputFault) (a b c : Watched T) → IsQuiet a b → IfErr r (λ fault. OnWrite fault (λ kind. CountsFailure b c kind)) → IfErr r (λ fault. OnWrite fault (λ kind. CountsFailure a c kind))
 write_end (Ok done) a b c quiet failed = tt
 write_end (Err fault) a b c quiet failed = write_behind fault a b c quiet failed

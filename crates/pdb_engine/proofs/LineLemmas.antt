@@ -1,4 +1,4 @@
--- The lines that the engine keeps are those of the definition.
+-- The lines that the engine stores are those of the definition.
 use Rattle.std.proofs.Common.{◌≡◌, ℕ, zero, suc, ◌+◌, ◌<◌, true, false, cond, List, [], ◌∷◌, ◌++◌, refl, sym, ap, ◌∙◌, append_assoc, append-nil, length, take, get_or, arith}
 use Rattle.std.specs.Prelude.{◌==◌, Option, Result, Ok, Err, OnErr}
 use Rattle.std.specs.Io.KnownBytes.{Appends}
@@ -18,7 +18,7 @@ kept_lines-append room kept (x ∷ xs) ys =
       | false ↦ kept_lines-append room (take room (kept ++ x ∷ [])) xs ys
     ]
 
--- what is kept behind bytes and further ones is kept in two steps
+-- what is stored after bytes and further ones is stored in two steps
 pub kept_rest-append : (room : ℕ) (kept xs ys : List ℕ) → kept_rest room kept (xs ++ ys) ≡ kept_rest room (kept_rest room kept xs) ys
 kept_rest-append room kept [] ys = refl
 kept_rest-append room kept (x ∷ xs) ys =
@@ -92,7 +92,7 @@ ended_is line (b ∷ bs) =
       | false ↦ ended_is (line ++ b ∷ []) bs ∙ front_ended-onto line b (ended_input_lines bs)
     ]
 
--- a line behind the last newline, if it has a byte
+-- a line after the last newline, if it has a byte
 abbrev pub last_line : List ℕ → List (List ℕ)
 last_line [] = []
 last_line (b ∷ bs) = (b ∷ bs) ∷ []
@@ -151,15 +151,15 @@ kept_lines-more room kept bytes i h = ap (kept_lines room kept) (take_more bytes
 pub kept_rest-more : (room : ℕ) (kept bytes : List ℕ) (i : ℕ) → i < length bytes → kept_rest room kept (take (i + 1) bytes) ≡ kept_rest room (kept_rest room kept (take i bytes)) (get_or bytes i 0 ∷ [])
 kept_rest-more room kept bytes i h = ap (kept_rest room kept) (take_more bytes i 0 h) ∙ kept_rest-append room kept (take i bytes) (get_or bytes i 0 ∷ [])
 
--- what is kept behind one byte more
+-- what is stored after one more byte
 pub rest_more : (room : ℕ) (kept kept' kept'' bytes : List ℕ) (i : ℕ) → i < length bytes → kept' ≡ kept_rest room kept (take i bytes) → kept'' ≡ kept_rest room kept' (get_or bytes i 0 ∷ []) → kept'' ≡ kept_rest room kept (take (i + 1) bytes)
 rest_more room kept kept' kept'' bytes i h e e' = e' ∙ ap (λ k. kept_rest room k (get_or bytes i 0 ∷ [])) e ∙ sym (kept_rest-more room kept bytes i h)
 
--- a front of a text is one of the text with more behind it
+-- a prefix of a text is one of the text with more after it
 pub front_of_more : (a b : Option (List ℕ)) (text more : List ℕ) → ((out : List ℕ) × Appends a b out × Begins out text) → (out : List ℕ) × Appends a b out × Begins out (text ++ more)
 front_of_more a b text more (out, p, (rest, e)) = (out, p, (rest ++ more, ap (λ l. l ++ more) e ∙ append_assoc out rest more))
 
--- the same front, of the same text under another name
+-- the same prefix, of the same text under another name
 pub front_of_same : (a b : Option (List ℕ)) (text text' more : List ℕ) → text' ≡ text → ((out : List ℕ) × Appends a b out × Begins out (text' ++ more)) → (out : List ℕ) × Appends a b out × Begins out (text ++ more)
 front_of_same a b text text' more same (out, p, (rest, e)) = (out, p, (rest, ap (λ l. l ++ more) (sym same) ∙ e))
 

@@ -1,4 +1,4 @@
--- What a start of a line keeps of one byte more, where its bytes are those of a buffer.
+-- What a start of a line stores of one more byte, where its bytes are those of a buffer.
 use Rattle.std.proofs.Common.{◌≡◌, ℕ, ◌<◌, ◌≤◌, List, [], ◌∷◌, ◌++◌, ◌∙◌, ap, sym, length, take, arith, length-append}
 use Rattle.std.proofs.lemmas.List.{take_all, take-append-le}
 

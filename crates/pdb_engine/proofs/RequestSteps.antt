@@ -1,5 +1,5 @@
 -- Requests: the lines that bytes end, one byte at a time, and answers to them, one at a time.
-use Rattle.std.proofs.Common.{arith, ◌-◌, length-append, ◌≡◌, ℕ, ◌+◌, ◌<◌, ◌≤◌, List, [], ◌∷◌, ◌++◌, sym, ap, ◌∙◌, append_assoc, append-nil, length, take, drop, get_or, take-append-drop, slice_index_or, slice_set}
+use Rattle.std.proofs.Common.{arith, ◌-◌, length-append, ◌≡◌, ℕ, ◌+◌, ◌<◌, ◌≤◌, List, [], ◌∷◌, ◌++◌, sym, ap, ◌∙◌, append_assoc, append-nil, length, take, drop, get_or, true, Bool, take-append-drop, slice_index_or, slice_set}
 use Rattle.std.specs.Prelude.{Option, Result, Ok, Err, OnErr}
 use Rattle.std.specs.List.{flat_map, slice_range}
 use Rattle.std.specs.Io.KnownBytes.{Appends}
@@ -26,20 +26,21 @@ lines_more room lines lines' kept kept' bytes i h e ek more =
 
 -- ---- texts that were made
 
--- what was put behind a list stands there
+-- what was appended to a list stands there
 between_added : (xs ys : List ℕ) → slice_range (xs ++ ys) (length xs) (length (xs ++ ys)) ≡ ys
 between_added xs ys = ap (λ l. take (length (xs ++ ys) - length xs) l) (drop-append_seam xs ys) ∙ take_all _ ys (omega (arith, length-append xs ys))
 
--- a text that is put behind others is made
-pub made_behind : (text : List ℕ → List ℕ) (texts texts' line : List ℕ) → length texts < 8388608 → texts' ≡ texts ++ text line → IsMade text texts' line record { start = length texts; end = length texts' }
-made_behind text texts texts' line room is = record {
-  order = omega (arith, ap length is, length-append texts (text line));
+-- a text that is appended to others is made
+pub made_behind : (known : Bool) (text : List ℕ → List ℕ) (texts texts' line : List ℕ) → length texts < 8388608 → ((more : List ℕ) × (texts' ≡ texts ++ more)) → (known ≡ true → texts' ≡ texts ++ text line)
+    → IsMade known text texts' line record { start = length texts; end = length texts' }
+made_behind known text texts texts' line room (more, grown) is = record {
+  order = omega (arith, ap length grown, length-append texts more);
   within = omega arith;
   ahead = room;
-  is = ap (λ l. slice_range l (length texts) (length l)) is ∙ between_added texts (text line);
+  is = λ h. ap (λ l. slice_range l (length texts) (length l)) (is h) ∙ between_added texts (text line);
 }
 
--- ---- what a writer holds behind the answers to some lines
+-- ---- what a writer holds after the answers to some lines
 
 -- the text is written, but for what is pending, its end
 abbrev pub AllBut : Option (List ℕ) → Option (List ℕ) → List ℕ → List ℕ → Type 0
@@ -78,7 +79,8 @@ out_more view text text' a b c pending pending' requests i r h is et (out, p, e)
           ∙ sym (append_assoc out out' pending'),
     )
 
--- a front of what is pending and of one line's answer, behind what is out, is a front of the answers to all
+-- a prefix of the pending text and of one line's answer, after what is out, is a prefix of the
+-- answers to all
 pub part_more : {L : Type 0} (view : L → List ℕ) (text text' : List ℕ → List ℕ) (a b c : Option (List ℕ)) (pending : List ℕ) (requests : List (Request L)) (i : ℕ) (r : Request L) → i < length requests → r ≡ get_or requests i r → text' ≡ text
     → AllBut a b pending (flat_map text (lines_of view (take i requests)))
     → ((out : List ℕ) × Appends b c out × Begins out (pending ++ text' (view r.line)))
@@ -97,7 +99,7 @@ part_more view text text' a b c pending requests i r h is et (out, p, e) (out', 
       ),
     )
 
--- a front of what is pending behind the answers to all
+-- a prefix of the pending text, after the answers to all
 pub part_last : {T E L : Type 0} (view : L → List ℕ) (r : Result T E) (text : List ℕ → List ℕ) (a b c : Option (List ℕ)) (pending : List ℕ) (requests : List (Request L)) (i : ℕ) → length requests ≤ i
     → AllBut a b pending (flat_map text (lines_of view (take i requests)))
     → OnErr r ((out : List ℕ) × Appends b c out × Begins out pending) → OnErr r ((out : List ℕ) × Appends a c out × Begins out (flat_map text (lines_of view requests)))

@@ -3,14 +3,15 @@ use Rattle.std.specs.Prelude.{◌≢◌}
 use Rattle.std.specs.declared.io.ErrorKind.{ErrorKind}
 use Rattle.std.specs.declared.io.ErrorKind.TheVariants as kinds
 use Rattle.pdb_engine.specs.declared.fault.InputFault.{InputFault}
-use Rattle.pdb_engine.specs.declared.fault.InputFault.TheVariants.{Read, Write, InputTooLong, OutOfMemory}
+use Rattle.pdb_engine.specs.declared.fault.InputFault.TheVariants.{Read, Write, InputTooLong}
+use Rattle.pdb_engine.specs.declared.fault.InputFault.TheVariants.{OutOfMemory}
 
 -- how answering ends at a failed read
 abbrev pub read_fault_of : ErrorKind → InputFault
 read_fault_of kinds.OutOfMemory = OutOfMemory
 read_fault_of kind = Read kind
 
--- how it ends at a failed write
+-- how answering ends at a failed write
 abbrev pub write_fault_of : ErrorKind → InputFault
 write_fault_of kinds.OutOfMemory = OutOfMemory
 write_fault_of kind = Write kind

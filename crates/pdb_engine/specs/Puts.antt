@@ -8,18 +8,20 @@ use Rattle.pdb_engine.specs.InputLines.{Begins}
 abbrev pub Count : Type 0
 Count = Option (ℕ × Option ErrorKind)
 
--- A write failed: the count rose, unless it stood at its greatest, and the kind is kept. Where
+-- A write failed: the count rose, unless it stood at its greatest, and the kind is stored. Where
 -- nothing is counted, this says nothing.
 abbrev pub HasFailed : Count → Count → Type 0
 HasFailed None new = Unit {0}
 HasFailed (Some old) None = ⊥
-HasFailed (Some old) (Some new) = (new.0 ≡ min (old.0 + 1) (2 ^ 64 - 1)) × ((kind : ErrorKind) × (new.1 ≡ Some kind))
+HasFailed (Some old) (Some new) =
+    (new.0 ≡ min (old.0 + 1) (2 ^ 64 - 1)) × ((kind : ErrorKind) × (new.1 ≡ Some kind))
 
 -- no write failed, and the whole text was written
 abbrev pub PutsAll : {T : Type 0} → (T → Option (List ℕ)) → (T → Count) → T → T → List ℕ → Type 0
-PutsAll contents failures old new text = (failures new ≡ failures old) × Appends (contents old) (contents new) text
+PutsAll contents failures old new text =
+    (failures new ≡ failures old) × Appends (contents old) (contents new) text
 
--- a write failed so, and a prefix of the text was written
+-- a write failed with that kind, and a prefix of the text was written
 abbrev pub PutsFront : {T : Type 0} → (T → Option (List ℕ)) → (T → Count)
     → (T → ErrorKind → Type 0) → T → T → ErrorKind → List ℕ → Type 0
 PutsFront contents failures has_failed old new kind text =

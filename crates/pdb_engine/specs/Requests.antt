@@ -1,5 +1,5 @@
 -- Lines that wait for their answers, of which some were made.
-use Rattle.std.specs.Prelude.{◌≡◌, ℕ, ◌<◌, ◌≤◌, List, map, length, IfSome}
+use Rattle.std.specs.Prelude.{◌≡◌, ℕ, ◌<◌, ◌≤◌, Bool, true, List, map, length, IfSome}
 use Rattle.std.specs.List.{All, slice_range}
 use Rattle.pdb_engine.specs.declared.requests.Made.{Made}
 use Rattle.pdb_engine.specs.declared.requests.Request.{Request}
@@ -8,20 +8,21 @@ use Rattle.pdb_engine.specs.declared.requests.Request.{Request}
 abbrev pub lines_of : {L : Type 0} → (L → List ℕ) → List (Request L) → List (List ℕ)
 lines_of kept requests = map (λ r. kept r.line) requests
 
--- the text from one place of others on and before another is the answer to the line; it begins
--- where the others take less than 8 MB
-pub record IsMade (text : List ℕ → List ℕ) (texts line : List ℕ) (made : Made) : Type 0 where
+-- the text between two offsets of others; less than 8 MB stand before it, and where the answers are
+-- known it is the answer to the line
+pub record IsMade
+    (known : Bool) (text : List ℕ → List ℕ) (texts line : List ℕ) (made : Made) : Type 0 where
   pub order : made.start ≤ made.end
   pub within : made.end ≤ length texts
   pub ahead : made.start < 8388608
-  pub is : slice_range texts made.start made.end ≡ text line
+  pub is : known ≡ true → slice_range texts made.start made.end ≡ text line
 
--- a text that was made for a line is its answer
-abbrev pub IsAnswered : {L : Type 0} → (L → List ℕ) → (List ℕ → List ℕ) → List ℕ → Request L
-    → Type 0
-IsAnswered kept text texts r = IfSome r.made (IsMade text texts (kept r.line))
+-- a text that was made for a line is its answer, where that is known
+abbrev pub IsAnswered : {L : Type 0} → (known : Bool) → (L → List ℕ) → (List ℕ → List ℕ)
+    → List ℕ → Request L → Type 0
+IsAnswered known kept text texts r = IfSome r.made (IsMade known text texts (kept r.line))
 
--- each text that was made is the answer to its line
-abbrev pub AreAnswered : {L : Type 0} → (L → List ℕ) → (List ℕ → List ℕ) → List ℕ
-    → List (Request L) → Type 0
-AreAnswered kept text texts requests = All (IsAnswered kept text texts) requests
+-- each text that was made is the answer to its line, where that is known
+abbrev pub AreAnswered : {L : Type 0} → (known : Bool) → (L → List ℕ) → (List ℕ → List ℕ)
+    → List ℕ → List (Request L) → Type 0
+AreAnswered known kept text texts requests = All (IsAnswered known kept text texts) requests

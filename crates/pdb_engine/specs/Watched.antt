@@ -1,5 +1,6 @@
--- What a watched reader or writer keeps, and what a call may change of it.
-use Rattle.std.specs.Prelude.{◌≡◌, ℕ, zero, suc, ◌+◌, ◌-◌, ◌^◌, ◌<◌, min, List, ◌++◌, length, Option, Some, Result, Ok, Err}
+-- What a watched reader or writer stores, and what a call may change of it.
+use Rattle.std.specs.Prelude.{◌≡◌, ℕ, zero, suc, ◌+◌, ◌-◌, ◌^◌, ◌<◌, min, List, ◌++◌, length}
+use Rattle.std.specs.Prelude.{Option, Some, Result, Ok, Err}
 use Rattle.std.specs.declared.io.Error.{Error}
 use Rattle.std.specs.declared.io.ErrorKind.{ErrorKind}
 use Rattle.std.specs.declared.io.ErrorKind.TheVariants.{WriteZero}
@@ -20,7 +21,8 @@ failures_of w = w.failures
 abbrev pub last_kind_of : {T : Type 0} → Watched T → Option ErrorKind
 last_kind_of w = w.last_kind
 
--- one call failed so: the count rose, unless it stood at its greatest, and the kind is kept
+-- one call failed with that kind: the count rose, unless it stood at its greatest, and the kind is
+-- stored
 pub record CountsFailure {T : Type 0} (old new : Watched T) (kind : ErrorKind) : Type 0 where
   pub rose : failures_of new ≡ min (failures_of old + 1) (2 ^ 64 - 1)
   pub kind_kept : last_kind_of new ≡ Some kind
@@ -33,19 +35,23 @@ pub record IsQuiet {T : Type 0} (old new : Watched T) : Type 0 where
 -- a write fails by its error, and as `WriteZero` where it takes none of some bytes
 abbrev pub WatchesWrite : {T : Type 0} → Watched T → Watched T → List ℕ → Result ℕ Error → Type 0
 WatchesWrite old new bytes (Ok (suc n)) = IsQuiet old new
-WatchesWrite old new bytes (Ok zero) = (0 < length bytes → CountsFailure old new WriteZero) × (length bytes ≡ 0 → IsQuiet old new)
+WatchesWrite old new bytes (Ok zero) =
+    (0 < length bytes → CountsFailure old new WriteZero) × (length bytes ≡ 0 → IsQuiet old new)
 WatchesWrite old new bytes (Err e) = CountsFailure old new (error_kind e)
 
--- the text was written behind what the writer holds, where that is known
+-- the text was appended to what the writer holds, where that is known
 abbrev pub Writes : {T : Type 0} → (T → Option (List ℕ)) → Watched T → Watched T → List ℕ → Type 0
 Writes contents old new text = Appends (contents (inner_of old)) (contents (inner_of new)) text
 
--- the text was written but for what is pending, its end
-abbrev pub WritesAllBut : {T : Type 0} → (T → Option (List ℕ)) → Watched T → Watched T → List ℕ → List ℕ → Type 0
-WritesAllBut contents old new pending text = (out : List ℕ) × Writes contents old new out × (text ≡ out ++ pending)
+-- the text was written but for its end, which is pending
+abbrev pub WritesAllBut : {T : Type 0} → (T → Option (List ℕ)) → Watched T → Watched T
+    → List ℕ → List ℕ → Type 0
+WritesAllBut contents old new pending text =
+    (out : List ℕ) × Writes contents old new out × (text ≡ out ++ pending)
 
--- a front of the text was written
-abbrev pub WritesFront : {T : Type 0} → (T → Option (List ℕ)) → Watched T → Watched T → List ℕ → Type 0
+-- a prefix of the text was written
+abbrev pub WritesFront : {T : Type 0} → (T → Option (List ℕ)) → Watched T → Watched T
+    → List ℕ → Type 0
 WritesFront contents old new text = (out : List ℕ) × Writes contents old new out × Begins out text
 
 -- the bytes were taken from what the reader has left, where that is known

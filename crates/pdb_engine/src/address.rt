@@ -3,7 +3,7 @@
 ghost use Rattle.std.specs.Prelude.{◌≡◌, ◌<◌, IfSome};
 ghost use Rattle.pdb_engine.specs.Address.{address_of, digit_of, without_return, without_prefix};
 
-/// The value of a hexadecimal digit.
+/// Returns the value of a hexadecimal digit.
 fn digit(byte: u8) -> Option<u32>
     ensures value { result ≡ digit_of byte }
     ensures small { IfSome result (λ d. d < 16) }
@@ -16,7 +16,7 @@ fn digit(byte: u8) -> Option<u32>
     }
 }
 
-/// The line without a carriage return at its end.
+/// Returns the line without a carriage return at its end.
 fn strip_return(line: &[u8]) -> &[u8]
     ensures { result.now ≡ without_return line.now }
 {
@@ -27,7 +27,7 @@ fn strip_return(line: &[u8]) -> &[u8]
     }
 }
 
-/// The line without `0x` or `0X` at its front.
+/// Returns the line without a prefix `0x` or `0X`.
 fn strip_hex_prefix(line: &[u8]) -> &[u8]
     ensures { result.now ≡ without_prefix line.now }
 {
@@ -38,8 +38,9 @@ fn strip_hex_prefix(line: &[u8]) -> &[u8]
     }
 }
 
-/// The address that a line stands for, and None if it stands for none: one carriage return at the end
-/// is dropped, then `0x` or `0X` at the front, and one to eight hexadecimal digits have to be left.
+/// Returns the address that a line stands for, and `None` if it stands for none. One carriage
+/// return at the end is dropped, then a prefix `0x` or `0X`. One to eight hexadecimal digits have
+/// to be left.
 pub fn parse_address(line: &[u8]) -> Option<u32>
     ensures { result ≡ address_of line.now }
 {

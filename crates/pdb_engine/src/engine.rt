@@ -1,12 +1,15 @@
 //! Reads lines, and writes the answer to each.
 
-ghost use Rattle.std.specs.Prelude.{◌≡◌, ℕ, List, OnOk, OnErr, IfOk, IfErr, IfSome, [], ◌∷◌, ◌++◌, length, ◌<◌, ◌≤◌, take};
+ghost use Rattle.std.specs.Prelude.{◌≡◌, ℕ, List, OnOk, OnErr, IfOk, IfErr, IfSome, true, [], ◌∷◌};
+ghost use Rattle.std.specs.Prelude.{◌++◌, length, ◌<◌, ◌≤◌, take};
 ghost use Rattle.std.specs.List.{flat_map};
 ghost use Rattle.std.specs.Io.KnownBytes.{IsAtEnd};
-ghost use Rattle.pdb_engine.specs.Watched.{inner_of, CountsFailure, IsQuiet, Writes, WritesAllBut, WritesFront, Takes};
+ghost use Rattle.pdb_engine.specs.Watched.{inner_of, CountsFailure, IsQuiet, Writes, WritesAllBut};
+ghost use Rattle.pdb_engine.specs.Watched.{WritesFront, Takes};
 ghost use Rattle.pdb_engine.specs.InputLines.{kept_lines, kept_rest, report, report_of_ended};
 ghost use Rattle.pdb_engine.specs.Requests.{lines_of, AreAnswered, IsAnswered};
-ghost use Rattle.pdb_engine.specs.InputFaults.{OnRead, OnWrite, OnTooLong, IsOfWriting, IsOfRunning};
+ghost use Rattle.pdb_engine.specs.InputFaults.{OnRead, OnWrite, OnTooLong, IsOfWriting};
+ghost use Rattle.pdb_engine.specs.InputFaults.{IsOfRunning};
 
 use crate::answers::Answers;
 use crate::fault::{InputFault, read_fault, write_fault};
@@ -16,13 +19,15 @@ use crate::watched::Watched;
 use std::alloc::Global;
 use std::io::{ErrorKind, Read, Write};
 
-/// How many bytes a read asks for, and from how many on gathered answers are written before the next one.
+/// The number of bytes that a read asks for, and that gathered answers reach before they are
+/// written.
 const CHUNK_SIZE: usize = 65_536;
 
-/// From how many bytes on the room of what was written is given back.
+/// The number of bytes from which on the room of what was written is given back.
 const LONG_ROOM: usize = 1_048_576;
 
-/// The start of a line, and room for what a read takes and for texts, kept from read to read.
+/// The start of a line, and room for what a read takes and for texts, which is used again by each
+/// read.
 #[derive(Drop)]
 struct Buffers<L: LineStart> {
     start: L,
@@ -31,13 +36,13 @@ struct Buffers<L: LineStart> {
 }
 
 /// Answers every line of the reader's input, of which at most `limit` bytes are read, and writes
-/// nothing else. A last line that no newline ends counts if it has a byte.
-/// The answers to the lines that a read ends are out before the next read, in as few writes as their length allows.
+/// nothing else. A last line that no newline ends counts if it has a byte. The answers to the lines
+/// that a read ends are out before the next read, in as few writes as their length allows.
 ///
 /// # Errors
-/// `Read` and `Write` at the first call that failed, and `InputTooLong` past `limit` bytes. At `Read`,
-/// and at `InputTooLong` for the first `limit` bytes, the lines that newlines end are answered. `OutOfMemory`
-/// where memory ran out, in whichever call.
+/// `Read` and `Write` at the first call that fails, and `InputTooLong` past `limit` bytes. At
+/// `Read`, and at `InputTooLong` for the first `limit` bytes, the lines that newlines end are
+/// answered. `OutOfMemory` when memory runs out, in whichever call.
 pub fn run<A: Answers, R: Read, W: Write>(
     alloc: Global,
     answers: &mut A,
@@ -46,24 +51,33 @@ pub fn run<A: Answers, R: Read, W: Write>(
     limit: u64,
 ) -> Result<(), InputFault>
     // Every line is answered, and nothing else is written.
-    requires { (line : List ℕ) → A.text answers.old (take A.Start.limit line)
+    requires { A.known ≡ true → (line : List ℕ) → A.text answers.old (take A.Start.limit line)
         ≡ A.text answers.old line }
-    ensures ok { OnOk result (IfSome (R.remaining (inner_of reader.old)) (λ input. (length input ≤ limit)
+    ensures ok { A.known ≡ true → OnOk result
+        (IfSome (R.remaining (inner_of reader.old)) (λ input. (length input ≤ limit)
         × Writes W.contents writer.old writer.new (report (A.text answers.old) input))) }
     // Running changes no answer.
     ensures same { A.text answers.new ≡ A.text answers.old }
     // No call failed unnoticed, and no fault is made up.
     ensures quiet { OnOk result (IsQuiet reader.old reader.new × IsQuiet writer.old writer.new) }
     ensures kind { IfErr result IsOfRunning }
-    ensures read_fails { IfErr result (λ fault. OnRead fault (λ kind. CountsFailure reader.old reader.new kind)) }
-    ensures write_fails { IfErr result (λ fault. OnWrite fault (λ kind. CountsFailure writer.old writer.new kind)) }
+    ensures read_fails { IfErr result (λ fault. OnRead fault
+        (λ kind. CountsFailure reader.old reader.new kind)) }
+    ensures write_fails { IfErr result (λ fault. OnWrite fault
+        (λ kind. CountsFailure writer.old writer.new kind)) }
     // The lines that were read whole before a failed read are answered.
-    ensures read_out { IfErr result (λ fault. OnRead fault (λ _. (taken : List ℕ) × Takes R.remaining reader.old reader.new taken
-        × Writes W.contents writer.old writer.new (report_of_ended (A.text answers.old) taken))) }
-    ensures too_long { IfErr result (λ fault. OnTooLong fault (IfSome (R.remaining (inner_of reader.old)) (λ input. (limit < length input)
-        × Writes W.contents writer.old writer.new (report_of_ended (A.text answers.old) (take limit input))))) }
-    // At each fault a front of the report is out.
-    ensures part { OnErr result (IfSome (R.remaining (inner_of reader.old)) (λ input. WritesFront W.contents writer.old writer.new (report (A.text answers.old) input))) }
+    ensures read_out { A.known ≡ true → IfErr result (λ fault. OnRead fault (λ _.
+        (taken : List ℕ) × Takes R.remaining reader.old reader.new taken
+        × Writes W.contents writer.old writer.new
+        (report_of_ended (A.text answers.old) taken))) }
+    ensures too_long { A.known ≡ true → IfErr result (λ fault. OnTooLong fault
+        (IfSome (R.remaining (inner_of reader.old)) (λ input. (limit < length input)
+        × Writes W.contents writer.old writer.new
+        (report_of_ended (A.text answers.old) (take limit input))))) }
+    // At each fault a prefix of the report is out.
+    ensures part { A.known ≡ true → OnErr result
+        (IfSome (R.remaining (inner_of reader.old)) (λ input.
+        WritesFront W.contents writer.old writer.new (report (A.text answers.old) input))) }
 {
     let Ok(chunk) = vec![in alloc; 0u8; CHUNK_SIZE] else {
         return Err(InputFault::OutOfMemory);
@@ -89,7 +103,7 @@ pub fn run<A: Answers, R: Read, W: Write>(
     Ok(())
 }
 
-/// Reads to the end, and answers each line that a newline ends: none waits when a read begins.
+/// Reads to the end, and answers each line that a newline ends. None waits when a read begins.
 ///
 /// # Errors
 /// As [`run`].
@@ -102,7 +116,8 @@ fn pump<A: Answers, R: Read, W: Write>(
     limit: u64,
 ) -> Result<(), InputFault>
     requires { 0 < length buffers.old.chunk.items }
-    ensures ok { OnOk result ((taken : List ℕ) × Takes R.remaining reader.old reader.new taken
+    ensures ok { A.known ≡ true → OnOk result
+        ((taken : List ℕ) × Takes R.remaining reader.old reader.new taken
         × IsAtEnd (R.remaining (inner_of reader.new)) × (length taken ≤ limit)
         × Writes W.contents writer.old writer.new
         (flat_map (A.text answers.old) (kept_lines A.Start.limit
@@ -116,18 +131,19 @@ fn pump<A: Answers, R: Read, W: Write>(
         (λ kind. CountsFailure reader.old reader.new kind)) }
     ensures write_fails { IfErr result (λ fault. OnWrite fault
         (λ kind. CountsFailure writer.old writer.new kind)) }
-    ensures read_out { IfErr result (λ fault. OnRead fault (λ _.
+    ensures read_out { A.known ≡ true → IfErr result (λ fault. OnRead fault (λ _.
         (taken : List ℕ) × Takes R.remaining reader.old reader.new taken
         × Writes W.contents writer.old writer.new
         (flat_map (A.text answers.old) (kept_lines A.Start.limit
         (A.Start.kept buffers.old.start) taken)))) }
-    ensures too_long { IfErr result (λ fault. OnTooLong fault
+    ensures too_long { A.known ≡ true → IfErr result (λ fault. OnTooLong fault
         ((taken : List ℕ) × Takes R.remaining reader.old reader.new taken
         × (limit < length taken)
         × Writes W.contents writer.old writer.new
         (flat_map (A.text answers.old) (kept_lines A.Start.limit (A.Start.kept buffers.old.start)
         (take limit taken))))) }
-    ensures part { OnErr result ((taken : List ℕ) × Takes R.remaining reader.old reader.new taken
+    ensures part { A.known ≡ true → OnErr result
+        ((taken : List ℕ) × Takes R.remaining reader.old reader.new taken
         × WritesFront W.contents writer.old writer.new
         (flat_map (A.text answers.old) (kept_lines A.Start.limit
         (A.Start.kept buffers.old.start) taken))) }
@@ -143,7 +159,8 @@ fn pump<A: Answers, R: Read, W: Write>(
 }
 
 /// Reads once, and answers the lines that end in what was read, of which at most `left` bytes
-/// count: none of them waits for another read. Returns how many bytes were read, 0 at the end.
+/// count. None of them waits for another read. Returns the number of bytes that were read, 0 at the
+/// end.
 ///
 /// # Errors
 /// As [`run`].
@@ -157,8 +174,8 @@ fn answer_read<A: Answers, R: Read, W: Write>(
 ) -> Result<u64, InputFault>
     requires { 0 < length buffers.old.chunk.items }
     ensures room { length buffers.new.chunk.items ≡ length buffers.old.chunk.items }
-    // The answers to the lines that end in what was read are out, and the rest of it is kept.
-    ensures ok { IfOk result (λ count.
+    // The answers to the lines that end in what was read are out, and the rest of it is stored.
+    ensures ok { A.known ≡ true → IfOk result (λ count.
         (taken : List ℕ) × Takes R.remaining reader.old reader.new taken
         × (length taken ≡ count) × (count ≤ left)
         × Writes W.contents writer.old writer.new
@@ -166,6 +183,7 @@ fn answer_read<A: Answers, R: Read, W: Write>(
         (A.Start.kept buffers.old.start) taken))
         × (A.Start.kept buffers.new.start ≡ kept_rest A.Start.limit
         (A.Start.kept buffers.old.start) taken)) }
+    ensures bound { IfOk result (λ count. count ≤ left) }
     ensures end { IfOk result (λ count. count ≡ 0 → IsAtEnd (R.remaining (inner_of reader.new))) }
     ensures quiet { OnOk result (IsQuiet reader.old reader.new × IsQuiet writer.old writer.new) }
     ensures same { A.text answers.new ≡ A.text answers.old }
@@ -177,13 +195,14 @@ fn answer_read<A: Answers, R: Read, W: Write>(
     // A read that failed is the only one: nothing was taken before it, and nothing written.
     ensures read_once { IfErr result (λ fault. OnRead fault (λ _.
         Takes R.remaining reader.old reader.new [] × (writer.new ≡ writer.old))) }
-    ensures too_long { IfErr result (λ fault. OnTooLong fault
+    ensures too_long { A.known ≡ true → IfErr result (λ fault. OnTooLong fault
         ((taken : List ℕ) × Takes R.remaining reader.old reader.new taken
         × (left < length taken)
         × Writes W.contents writer.old writer.new
         (flat_map (A.text answers.old) (kept_lines A.Start.limit (A.Start.kept buffers.old.start)
         (take left taken))))) }
-    ensures part { OnErr result ((taken : List ℕ) × Takes R.remaining reader.old reader.new taken
+    ensures part { A.known ≡ true → OnErr result
+        ((taken : List ℕ) × Takes R.remaining reader.old reader.new taken
         × WritesFront W.contents writer.old writer.new
         (flat_map (A.text answers.old) (kept_lines A.Start.limit
         (A.Start.kept buffers.old.start) taken))) }
@@ -210,9 +229,9 @@ fn answer_read<A: Answers, R: Read, W: Write>(
     Ok(count as u64)
 }
 
-/// Answers the lines that the bytes end, all of them before it returns, and keeps the start of the one behind them. The answers are
-/// made in the order of the lines' places, as far as their texts are short together, in room that is kept for them, and written in that
-/// of the lines.
+/// Answers the lines that the bytes end, all of them before it returns, and stores the start of the
+/// line after them. Answers are made in the order of the lines' places, as far as their texts are
+/// short together, and written in the order of the lines.
 ///
 /// # Errors
 /// As [`answer_line`].
@@ -224,15 +243,18 @@ fn feed<A: Answers, W: Write>(
     texts: &mut Vec<u8>,
     bytes: &[u8],
 ) -> Result<(), InputFault>
-    ensures ok { OnOk result (Writes W.contents writer.old writer.new (flat_map (A.text answers.old)
+    ensures ok { A.known ≡ true → OnOk result
+        (Writes W.contents writer.old writer.new (flat_map (A.text answers.old)
         (kept_lines A.Start.limit (A.Start.kept start.old) bytes.now))) }
     ensures rest { OnOk result (A.Start.kept start.new ≡ kept_rest A.Start.limit
         (A.Start.kept start.old) bytes.now) }
     ensures same { A.text answers.new ≡ A.text answers.old }
     ensures quiet { OnOk result (IsQuiet writer.old writer.new) }
     ensures kind { IfErr result IsOfWriting }
-    ensures fails { IfErr result (λ fault. OnWrite fault (λ kind. CountsFailure writer.old writer.new kind)) }
-    ensures part { OnErr result (WritesFront W.contents writer.old writer.new (flat_map
+    ensures fails { IfErr result (λ fault. OnWrite fault
+        (λ kind. CountsFailure writer.old writer.new kind)) }
+    ensures part { A.known ≡ true → OnErr result
+        (WritesFront W.contents writer.old writer.new (flat_map
         (A.text answers.old) (kept_lines A.Start.limit (A.Start.kept start.old) bytes.now))) }
 {
     let Ok(mut requests) = split(alloc, start, bytes) else {
@@ -244,7 +266,7 @@ fn feed<A: Answers, W: Write>(
     write_answers(alloc, answers, writer, &requests, texts)
 }
 
-/// Writes the answers to lines in the order of the lines, and makes those that weren't made.
+/// Writes the answers to lines in the order of the lines, and makes those that weren't made before.
 ///
 /// # Errors
 /// As [`answer_line`].
@@ -255,14 +277,17 @@ fn write_answers<A: Answers, W: Write>(
     requests: &[Request<A::Start>],
     texts: &[u8],
 ) -> Result<(), InputFault>
-    requires { AreAnswered A.Start.kept (A.text answers.old) texts.now requests.now }
-    ensures ok { OnOk result (Writes W.contents writer.old writer.new (flat_map (A.text answers.old)
+    requires { AreAnswered A.known A.Start.kept (A.text answers.old) texts.now requests.now }
+    ensures ok { A.known ≡ true → OnOk result
+        (Writes W.contents writer.old writer.new (flat_map (A.text answers.old)
         (lines_of A.Start.kept requests.now))) }
     ensures same { A.text answers.new ≡ A.text answers.old }
     ensures quiet { OnOk result (IsQuiet writer.old writer.new) }
     ensures kind { IfErr result IsOfWriting }
-    ensures fails { IfErr result (λ fault. OnWrite fault (λ kind. CountsFailure writer.old writer.new kind)) }
-    ensures part { OnErr result (WritesFront W.contents writer.old writer.new (flat_map
+    ensures fails { IfErr result (λ fault. OnWrite fault
+        (λ kind. CountsFailure writer.old writer.new kind)) }
+    ensures part { A.known ≡ true → OnErr result
+        (WritesFront W.contents writer.old writer.new (flat_map
         (A.text answers.old) (lines_of A.Start.kept requests.now))) }
 {
     let mut pending = Vec::new(alloc);
@@ -272,7 +297,7 @@ fn write_answers<A: Answers, W: Write>(
     write_pending(alloc, writer, &mut pending)
 }
 
-/// Puts the answer to a line behind what is pending, and writes that once it is long.
+/// Appends the answer to a line to the pending text, and writes that text if it is long.
 ///
 /// # Errors
 /// As [`answer_line`].
@@ -284,16 +309,19 @@ fn gather_answer<A: Answers, W: Write>(
     request: &Request<A::Start>,
     texts: &[u8],
 ) -> Result<(), InputFault>
-    requires { IsAnswered A.Start.kept (A.text answers.old) texts.now request.now }
-    ensures ok { OnOk result (WritesAllBut W.contents writer.old writer.new pending.new.items
+    requires { IsAnswered A.known A.Start.kept (A.text answers.old) texts.now request.now }
+    ensures ok { A.known ≡ true → OnOk result
+        (WritesAllBut W.contents writer.old writer.new pending.new.items
         (pending.old.items ++ A.text answers.old (A.Start.kept request.now.line))) }
-    // What is pending stays short.
+    // The pending text stays short.
     ensures short { OnOk result (length pending.new.items < 65536) }
     ensures same { A.text answers.new ≡ A.text answers.old }
     ensures quiet { OnOk result (IsQuiet writer.old writer.new) }
     ensures kind { IfErr result IsOfWriting }
-    ensures fails { IfErr result (λ fault. OnWrite fault (λ kind. CountsFailure writer.old writer.new kind)) }
-    ensures part { OnErr result (WritesFront W.contents writer.old writer.new (pending.old.items
+    ensures fails { IfErr result (λ fault. OnWrite fault
+        (λ kind. CountsFailure writer.old writer.new kind)) }
+    ensures part { A.known ≡ true → OnErr result
+        (WritesFront W.contents writer.old writer.new (pending.old.items
         ++ A.text answers.old (A.Start.kept request.now.line))) }
 {
     let Ok(()) = append_answer(alloc, answers, request, texts, pending) else {
@@ -305,11 +333,12 @@ fn gather_answer<A: Answers, W: Write>(
     write_pending(alloc, writer, pending)
 }
 
-/// Writes what is pending where memory ran out, and returns that fault, or the write's own.
+/// Writes the pending text after memory ran out, and returns that fault, or the write's own.
 fn write_last<W: Write>(alloc: Global, writer: &mut Watched<W>, pending: &mut Vec<u8>) -> InputFault
     ensures kind { IsOfWriting result }
     ensures fails { OnWrite result (λ kind. CountsFailure writer.old writer.new kind) }
-    ensures part { (more : List ℕ) → WritesFront W.contents writer.old writer.new (pending.old.items ++ more) }
+    ensures part { (more : List ℕ)
+        → WritesFront W.contents writer.old writer.new (pending.old.items ++ more) }
 {
     match write_pending(alloc, writer, pending) {
         Ok(()) => InputFault::OutOfMemory,
@@ -317,10 +346,10 @@ fn write_last<W: Write>(alloc: Global, writer: &mut Watched<W>, pending: &mut Ve
     }
 }
 
-/// Writes what is pending, and gives its room back where that is long.
+/// Writes the pending text, and gives its room back if that is long.
 ///
 /// # Errors
-/// `Write` where a write failed, and `OutOfMemory`.
+/// `Write` when a write fails; `OutOfMemory`.
 fn write_pending<W: Write>(
     alloc: Global,
     writer: &mut Watched<W>,
@@ -330,7 +359,8 @@ fn write_pending<W: Write>(
     ensures none_pending { OnOk result (pending.new.items ≡ []) }
     ensures quiet { OnOk result (IsQuiet writer.old writer.new) }
     ensures kind { IfErr result IsOfWriting }
-    ensures fails { IfErr result (λ fault. OnWrite fault (λ kind. CountsFailure writer.old writer.new kind)) }
+    ensures fails { IfErr result (λ fault. OnWrite fault
+        (λ kind. CountsFailure writer.old writer.new kind)) }
     ensures part { OnErr result (WritesFront W.contents writer.old writer.new pending.old.items) }
 {
     match write_all(writer, pending) {
@@ -345,19 +375,22 @@ fn write_pending<W: Write>(
 /// Writes the answer to a line.
 ///
 /// # Errors
-/// `Write` where a write failed, and `OutOfMemory`.
+/// `Write` when a write fails; `OutOfMemory`.
 fn answer_line<A: Answers, W: Write>(
     alloc: Global,
     answers: &mut A,
     writer: &mut Watched<W>,
     line: &[u8],
 ) -> Result<(), InputFault>
-    ensures ok { OnOk result (Writes W.contents writer.old writer.new (A.text answers.old line.now)) }
+    ensures ok { A.known ≡ true → OnOk result
+        (Writes W.contents writer.old writer.new (A.text answers.old line.now)) }
     ensures same { A.text answers.new ≡ A.text answers.old }
     ensures quiet { OnOk result (IsQuiet writer.old writer.new) }
     ensures kind { IfErr result IsOfWriting }
-    ensures fails { IfErr result (λ fault. OnWrite fault (λ kind. CountsFailure writer.old writer.new kind)) }
-    ensures part { OnErr result (WritesFront W.contents writer.old writer.new (A.text answers.old line.now)) }
+    ensures fails { IfErr result (λ fault. OnWrite fault
+        (λ kind. CountsFailure writer.old writer.new kind)) }
+    ensures part { A.known ≡ true → OnErr result
+        (WritesFront W.contents writer.old writer.new (A.text answers.old line.now)) }
 {
     let mut text = Vec::new(alloc);
     let Ok(()) = answers.answer(alloc, line, &mut text) else {

@@ -1,16 +1,17 @@
 //! Why the lines of an input weren't all answered.
 
 ghost use Rattle.std.specs.Prelude.{◌≡◌};
-ghost use Rattle.pdb_engine.specs.InputFaults.{read_fault_of, write_fault_of, IsOfRunning, IsOfWriting};
+ghost use Rattle.pdb_engine.specs.InputFaults.{read_fault_of, write_fault_of, IsOfRunning};
+ghost use Rattle.pdb_engine.specs.InputFaults.{IsOfWriting};
 
 use std::io::ErrorKind;
 
 /// Why the lines of an input weren't all answered.
 #[derive(Debug, Drop, PartialEq)]
 pub enum InputFault {
-    /// A read failed so.
+    /// A read failed with that kind.
     Read(ErrorKind),
-    /// A write failed so.
+    /// A write failed with that kind.
     Write(ErrorKind),
     /// The input has more bytes than may be read.
     InputTooLong,
@@ -18,7 +19,7 @@ pub enum InputFault {
     OutOfMemory,
 }
 
-/// How answering an input ends where a read failed: out of memory is a fault of its own.
+/// Returns the fault for a failed read. Out of memory is a fault of its own.
 pub fn read_fault(kind: ErrorKind) -> InputFault
     ensures value { result ≡ read_fault_of kind }
     ensures kind { IsOfRunning result }
@@ -29,7 +30,7 @@ pub fn read_fault(kind: ErrorKind) -> InputFault
     }
 }
 
-/// How answering an input ends where a write failed: out of memory is a fault of its own.
+/// Returns the fault for a failed write. Out of memory is a fault of its own.
 pub fn write_fault(kind: ErrorKind) -> InputFault
     ensures value { result ≡ write_fault_of kind }
     ensures kind { IsOfWriting result }

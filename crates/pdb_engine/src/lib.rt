@@ -1,6 +1,6 @@
-//! Answers the lines of an input: it reads these, asks what answers them, and writes each answer;
-//! it reads the address that a line or an argument stands for; and it counts the failures of
-//! readers and writers.
+//! Answers the lines of an input: it reads them, asks for their answers, and writes each answer. It
+//! also reads the address that a line or an argument stands for, and counts the failures of readers
+//! and writers.
 #![tactic(auto)]
 
 mod address;

@@ -1,4 +1,4 @@
-//! Where a fault is told.
+//! Where a fault is reported.
 
 ghost use Rattle.std.specs.Prelude.{◌≡◌, ℕ, List, Option, OnOk, OnErr};
 ghost use Rattle.std.specs.Io.KnownBytes.{Appends};
@@ -10,13 +10,13 @@ use crate::engine::write_all;
 use crate::watched::Watched;
 use std::io::{ErrorKind, Write};
 
-/// Where a fault is told: any writer.
+/// Where a fault is reported: any writer.
 pub trait ErrorOutput {
-    // what it holds, where that is known
+    // what it holds, if that is known
     ghost contents: { Self → Option (List ℕ) };
-    // how many of its calls failed and how the last one did, where that is counted
+    // how many of its calls failed and how the last one did, if that is counted
     ghost failures: { Self → Option (ℕ × Option Kind) };
-    // its last write failed so: over any writer, a call learns that of a write that failed alone
+    // its last write failed with that kind; a writer that counts nothing says nothing
     ghost has_failed: { Self → Kind → Type 0 };
 
     /// Writes all of the bytes, and stops at the first failure.
@@ -63,7 +63,8 @@ impl<W: Write> ErrorOutput for W {
 /// The kind of that failure.
 fn write_plain<W: Write>(writer: &mut W, bytes: &[u8]) -> Result<(), ErrorKind>
     ensures ok { OnOk result (Appends (W.contents writer.old) (W.contents writer.new) bytes.now) }
-    ensures part { OnErr result ((out : List ℕ) × Appends (W.contents writer.old) (W.contents writer.new) out × Begins out bytes.now) }
+    ensures part { OnErr result ((out : List ℕ)
+        × Appends (W.contents writer.old) (W.contents writer.new) out × Begins out bytes.now) }
 {
     let mut rest = bytes;
     while !rest.is_empty() {

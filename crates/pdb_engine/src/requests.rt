@@ -1,6 +1,6 @@
-//! The lines that a read ends, and their answers, which are made in the order of their places.
+//! The lines that a read ends. Their answers are made in the order of the lines' places.
 
-ghost use Rattle.std.specs.Prelude.{◌≡◌, ◌++◌, [], ◌∷◌, ℕ, List, OnOk, OnErr, IfOk};
+ghost use Rattle.std.specs.Prelude.{◌≡◌, ◌++◌, [], ◌∷◌, ℕ, Bool, true, List, OnOk, OnErr, IfOk};
 ghost use Rattle.pdb_engine.specs.InputLines.{kept_lines, kept_rest};
 ghost use Rattle.pdb_engine.specs.Requests.{lines_of, AreAnswered, IsAnswered};
 
@@ -9,24 +9,25 @@ use crate::line_start::LineStart;
 use std::alloc::{AllocError, Global};
 use std::mem::replace;
 
-/// From how many bytes on, taken together, no more texts are made before their turn to be written.
+/// The number of bytes, taken together, from which on no more texts are made before their turn.
 const AHEAD_SIZE: usize = 8_388_608;
 
-/// Where the answer to a line stands among texts that were made: from one place on and before another, in bytes.
+/// Where the answer to a line stands among texts that were made, as offsets in bytes: from `start`
+/// on, and before `end`.
 #[derive(Clone, Copy)]
 pub struct Made {
     pub start: usize,
     pub end: usize,
 }
 
-/// A line, and where the text that answers it stands, if that was made before its turn to be written.
+/// A line, and where its answer stands, if that was made before its turn to be written.
 #[derive(Drop)]
 pub struct Request<L: LineStart> {
     pub line: L,
     pub made: Option<Made>,
 }
 
-/// Removes all bytes. Their room is given back where they were at least `long`.
+/// Removes all bytes. Their room is given back if there are at least `long` of them.
 pub fn clear_room(alloc: Global, bytes: &mut Vec<u8>, long: usize)
     ensures { bytes.new.items ≡ [] }
 {
@@ -37,14 +38,14 @@ pub fn clear_room(alloc: Global, bytes: &mut Vec<u8>, long: usize)
     }
 }
 
-/// When a line is answered: those of lesser places first, and those of one place in their order.
+/// When a line is answered: lines with lesser places first, and those of one place in their order.
 #[derive(Clone, Copy, PartialEq, Eq, PartialOrd, Ord)]
 struct Turn {
     place: u32,
     index: usize,
 }
 
-/// Puts the line that the byte ends behind other requests, or keeps the byte.
+/// Appends the line that the byte ends to the requests, or appends the byte to the line's start.
 fn split_byte<L: LineStart>(
     alloc: Global,
     requests: &mut Vec<Request<L>>,
@@ -55,9 +56,9 @@ fn split_byte<L: LineStart>(
         ≡ lines_of L.kept requests.old.items ++ kept_lines L.limit (L.kept start.old) (byte ∷ [])) }
     ensures rest { OnOk result (L.kept start.new
         ≡ kept_rest L.limit (L.kept start.old) (byte ∷ [])) }
-    ensures unanswered { (text : List ℕ → List ℕ) (texts : List ℕ)
-        → AreAnswered L.kept text texts requests.old.items
-        → OnOk result (AreAnswered L.kept text texts requests.new.items) }
+    ensures unanswered { (known : Bool) (text : List ℕ → List ℕ) (texts : List ℕ)
+        → AreAnswered known L.kept text texts requests.old.items
+        → OnOk result (AreAnswered known L.kept text texts requests.new.items) }
 {
     if byte != b'\n' {
         return start.push(byte);
@@ -67,7 +68,11 @@ fn split_byte<L: LineStart>(
     Ok(())
 }
 
-/// The lines that the bytes end, of which none is answered yet; the start of the one behind them is kept.
+/// Returns the lines that the bytes end, none of them answered yet. The start of the line after
+/// them is stored.
+///
+/// # Errors
+/// `AllocError` when memory runs out.
 pub fn split<L: LineStart>(
     alloc: Global,
     start: &mut L,
@@ -77,8 +82,8 @@ pub fn split<L: LineStart>(
         ≡ kept_lines L.limit (L.kept start.old) bytes.now) }
     ensures rest { OnOk result (L.kept start.new
         ≡ kept_rest L.limit (L.kept start.old) bytes.now) }
-    ensures unanswered { (text : List ℕ → List ℕ) (texts : List ℕ)
-        → IfOk result (λ requests. AreAnswered L.kept text texts requests.items) }
+    ensures unanswered { (known : Bool) (text : List ℕ → List ℕ) (texts : List ℕ)
+        → IfOk result (λ requests. AreAnswered known L.kept text texts requests.items) }
 {
     let mut requests = Vec::new(alloc);
     for byte in bytes {
@@ -87,7 +92,7 @@ pub fn split<L: LineStart>(
     Ok(requests)
 }
 
-/// The turns of the lines by their places.
+/// Returns the turns of the lines by their places.
 fn turns<A: Answers>(
     alloc: Global,
     answers: &A,
@@ -101,8 +106,8 @@ fn turns<A: Answers>(
     Ok(turns)
 }
 
-/// Makes the answer to a line before its turn to be written, behind other texts, unless these are long: then no further one is to be
-/// made, and `false` is returned.
+/// Makes the answer to a line before its turn to be written, and appends it to other texts. If
+/// these are long, it makes none and returns `false`.
 #[tactic(auto, using(crate::proofs::RequestSteps::made_behind))]
 fn answer_request<A: Answers>(
     alloc: Global,
@@ -110,9 +115,10 @@ fn answer_request<A: Answers>(
     request: &mut Request<A::Start>,
     texts: &mut Vec<u8>,
 ) -> Result<bool, AllocError>
-    requires { IsAnswered A.Start.kept (A.text answers.old) texts.old.items request.old }
+    requires { IsAnswered A.known A.Start.kept (A.text answers.old) texts.old.items request.old }
     ensures line { request.new.line ≡ request.old.line }
-    ensures answered { IsAnswered A.Start.kept (A.text answers.old) texts.new.items request.new }
+    ensures answered { IsAnswered A.known A.Start.kept
+        (A.text answers.old) texts.new.items request.new }
     ensures grown { (more : List ℕ) × (texts.new.items ≡ texts.old.items ++ more) }
     ensures same { A.text answers.new ≡ A.text answers.old }
 {
@@ -126,7 +132,8 @@ fn answer_request<A: Answers>(
     Ok(true)
 }
 
-/// Makes the answer to the line of a number, unless there is none or other texts are long: then `false` is returned.
+/// Makes the answer to the line with that index. If there is none, or other texts are long, it
+/// returns `false`.
 fn answer_numbered<A: Answers>(
     alloc: Global,
     answers: &mut A,
@@ -134,10 +141,11 @@ fn answer_numbered<A: Answers>(
     index: usize,
     texts: &mut Vec<u8>,
 ) -> Result<bool, AllocError>
-    requires { AreAnswered A.Start.kept (A.text answers.old) texts.old.items requests.old.items }
+    requires { AreAnswered A.known A.Start.kept
+        (A.text answers.old) texts.old.items requests.old.items }
     ensures lines { lines_of A.Start.kept requests.new.items
         ≡ lines_of A.Start.kept requests.old.items }
-    ensures answered { AreAnswered A.Start.kept
+    ensures answered { AreAnswered A.known A.Start.kept
         (A.text answers.old) texts.new.items requests.new.items }
     ensures same { A.text answers.new ≡ A.text answers.old }
 {
@@ -155,10 +163,11 @@ fn answer_in_turn<A: Answers>(
     turns: &[Turn],
     texts: &mut Vec<u8>,
 ) -> Result<(), AllocError>
-    requires { AreAnswered A.Start.kept (A.text answers.old) texts.old.items requests.old.items }
+    requires { AreAnswered A.known A.Start.kept
+        (A.text answers.old) texts.old.items requests.old.items }
     ensures lines { lines_of A.Start.kept requests.new.items
         ≡ lines_of A.Start.kept requests.old.items }
-    ensures answered { AreAnswered A.Start.kept
+    ensures answered { AreAnswered A.known A.Start.kept
         (A.text answers.old) texts.new.items requests.new.items }
     ensures same { A.text answers.new ≡ A.text answers.old }
 {
@@ -170,22 +179,22 @@ fn answer_in_turn<A: Answers>(
     Ok(())
 }
 
-/// Makes answers before their turn to be written, one behind the other, in the order of the lines' places, if that is another one than
-/// the lines'. Those for which there is no room are left.
+/// Makes answers before their turn to be written, one after the other, in the order of the lines'
+/// places, if that differs from the order of the lines. Those for which there is no room are left.
 ///
 /// # Errors
-/// Where memory ran out; some answers were made then.
+/// `AllocError` when memory runs out; some answers are made then.
 pub fn answer_ahead<A: Answers>(
     alloc: Global,
     answers: &mut A,
     requests: &mut Vec<Request<A::Start>>,
     texts: &mut Vec<u8>,
 ) -> Result<(), AllocError>
-    requires { (made : List ℕ) → AreAnswered A.Start.kept
+    requires { (made : List ℕ) → AreAnswered A.known A.Start.kept
         (A.text answers.old) made requests.old.items }
     ensures lines { lines_of A.Start.kept requests.new.items
         ≡ lines_of A.Start.kept requests.old.items }
-    ensures answered { AreAnswered A.Start.kept
+    ensures answered { AreAnswered A.known A.Start.kept
         (A.text answers.old) texts.new.items requests.new.items }
     ensures same { A.text answers.new ≡ A.text answers.old }
 {
@@ -198,10 +207,10 @@ pub fn answer_ahead<A: Answers>(
     answer_in_turn(alloc, answers, requests, &turns, texts)
 }
 
-/// Appends the answer to a line: the text that was made, or else it is made now.
+/// Appends the answer to a line. If it wasn't made before, it is made now.
 ///
 /// # Errors
-/// Where memory ran out; nothing is appended then.
+/// `AllocError` when memory runs out; nothing is appended then.
 pub fn append_answer<A: Answers>(
     alloc: Global,
     answers: &mut A,
@@ -209,8 +218,10 @@ pub fn append_answer<A: Answers>(
     texts: &[u8],
     output: &mut Vec<u8>,
 ) -> Result<(), AllocError>
-    requires { IsAnswered A.Start.kept (A.text answers.old) texts.now request.now }
-    ensures text { OnOk result (output.new.items ≡ output.old.items ++ A.text answers.old
+    requires { IsAnswered A.known A.Start.kept (A.text answers.old) texts.now request.now }
+    ensures behind { OnOk result ((more : List ℕ) × (output.new.items ≡ output.old.items ++ more)) }
+    ensures text { A.known ≡ true → OnOk result
+        (output.new.items ≡ output.old.items ++ A.text answers.old
         (A.Start.kept request.now.line)) }
     ensures refused { OnErr result (output.new.items ≡ output.old.items) }
     ensures same { A.text answers.new ≡ A.text answers.old }

@@ -7,7 +7,7 @@ ghost use Rattle.std.specs.IoError.{error_kind};
 
 use std::io::{self, ErrorKind, Read, Write};
 
-/// A watched reader or writer: it keeps how many of its calls failed and how the last one did.
+/// A watched reader or writer. It counts its calls that fail, and stores how the last one failed.
 #[derive(Drop)]
 pub struct Watched<T> {
     inner: T,
@@ -31,14 +31,14 @@ impl<T> Watched<T> {
         }
     }
 
-    /// How many calls have failed since [`Watched::new`]. At `u64::MAX` the count stays.
+    /// Returns how many calls have failed since [`Watched::new`]. At `u64::MAX` the count stays.
     pub fn failures(&self) -> u64
         ensures { result ≡ failures_of self.now }
     {
         self.failures
     }
 
-    /// The kind of the last failure, and None before the first.
+    /// Returns the kind of the last failure, and `None` before the first.
     pub fn last_kind(&self) -> Option<ErrorKind>
         ensures { result ≡ last_kind_of self.now }
     {
@@ -58,14 +58,16 @@ impl<T> Watched<T> {
 impl<R: Read> Watched<R> {
     ghost use Rattle.pdb_engine.specs.Watched.{inner_of, CountsFailure, IsQuiet};
 
-    /// Reads at most `buf.len()` bytes into the front of `buf`, and returns how many they are.
+    /// Reads at most `buf.len()` bytes into the start of `buf`, and returns their number.
     ///
     /// # Errors
-    /// As the wrapped reader's; each error counts as one failure, and nothing else does.
+    /// As the wrapped reader's. Each error counts as one failure, and nothing else does.
     pub fn read(&mut self, buf: &mut [u8]) -> io::Result<usize>
         ensures bound { ReadsAtMost result buf.new }
-        ensures bytes { ReadConsumes (R.remaining (inner_of self.old)) (R.remaining (inner_of self.new)) result buf.new }
-        ensures watch { MatchResult result (λ _. IsQuiet self.old self.new) (λ e. CountsFailure self.old self.new (error_kind e)) }
+        ensures bytes { ReadConsumes (R.remaining (inner_of self.old))
+            (R.remaining (inner_of self.new)) result buf.new }
+        ensures watch { MatchResult result (λ _. IsQuiet self.old self.new)
+            (λ e. CountsFailure self.old self.new (error_kind e)) }
     {
         match self.inner.read(buf) {
             Ok(count) => Ok(count),
@@ -80,14 +82,15 @@ impl<R: Read> Watched<R> {
 impl<W: Write> Watched<W> {
     ghost use Rattle.pdb_engine.specs.Watched.{inner_of, WatchesWrite};
 
-    /// Writes a front of `buf`, and returns how many bytes it has.
+    /// Writes a prefix of `buf`, and returns its length in bytes.
     ///
     /// # Errors
-    /// As the wrapped writer's. Each error counts as one failure, and so does a write that takes none
-    /// of some bytes, as `WriteZero`; nothing else does.
+    /// As the wrapped writer's. Each error counts as one failure. A write that takes none of some
+    /// bytes counts as one too, as `WriteZero`, and nothing else does.
     pub fn write(&mut self, buf: &[u8]) -> io::Result<usize>
         ensures bound { WritesAtMost result buf.now }
-        ensures bytes { WriteAppends (W.contents (inner_of self.old)) (W.contents (inner_of self.new)) result buf.now }
+        ensures bytes { WriteAppends (W.contents (inner_of self.old))
+            (W.contents (inner_of self.new)) result buf.now }
         ensures watch { WatchesWrite self.old self.new buf.now result }
     {
         match self.inner.write(buf) {

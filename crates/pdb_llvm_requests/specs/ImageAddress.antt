@@ -1,5 +1,5 @@
 -- Where an address lies in its image.
-use Rattle.std.specs.Prelude.{ℕ, ◌+◌, ◌-◌, ◌*◌, ◌%◌, ◌^◌, nat_lt, if◌then◌else◌, Bool, Option}
+use Rattle.std.specs.Prelude.{ℕ, ◌+◌, ◌-◌, ◌%◌, ◌^◌, nat_lt, if◌then◌else◌, Bool, Option}
 use Rattle.std.specs.Prelude.{None, Some}
 
 -- how far an address lies after the start of an image, modulo 2^64

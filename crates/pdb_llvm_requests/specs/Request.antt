@@ -1,5 +1,5 @@
 -- The request of a line, as llvm-symbolizer reads it.
-use Rattle.std.specs.Prelude.{◌≡◌, ℕ, ◌+◌, ◌==◌, nat_eq, ◌||◌, if◌then◌else◌, Bool, List, [], ◌∷◌}
+use Rattle.std.specs.Prelude.{◌≡◌, ℕ, ◌+◌, ◌==◌, nat_eq, nat_lt, ◌||◌, if◌then◌else◌, Bool, List, [], ◌∷◌}
 use Rattle.std.specs.Prelude.{codes, length, take, drop, slice_index, position, Option, None, Some}
 use Rattle.std.specs.Prelude.{option_map, ok_or, Result, Ok, Err}
 use Rattle.std.specs.List.{list_all, starts_with}
@@ -77,10 +77,15 @@ asked_of command named =
     if length named.0 == 0 then Err faults.NoFile
     else asked command (Some named.0) (address_of named.1)
 
--- the request of a line: a command, a file unless it is given beside, and an address
-unfoldable pub request_of : List ℕ → Bool → Result Request RequestFault
-request_of line file_given =
+-- the request of a line of any length: a command, a file unless it is given beside, and an address
+unfoldable pub short_request_of : List ℕ → Bool → Result Request RequestFault
+short_request_of line file_given =
     let c = command_of line in
     if list_all (λ b. b == 13) line then Err faults.EmptyLine
     else (if file_given then asked c.0 None (address_of c.1)
     else asked_of c.0 (file_of (after_blanks c.1)))
+
+-- the request of a line, which has at most 4,351 bytes
+unfoldable pub request_of : List ℕ → Bool → Result Request RequestFault
+request_of line file_given =
+    if nat_lt 4351 (length line) then Err faults.LongLine else short_request_of line file_given

@@ -14,4 +14,4 @@ mod words;
 
 pub use image_address::rva_of;
 pub use number::parse_number;
-pub use request::{Command, LineRequest, RequestFault, parse_request, read_request};
+pub use request::{Command, LineRequest, RequestFault, read_request};

@@ -1,10 +1,9 @@
 //! The request of a line.
 
-ghost use Rattle.std.specs.Prelude.{◌≡◌, ◌==◌, option_map, position};
+ghost use Rattle.std.specs.Prelude.{◌≡◌, ◌==◌, position};
 ghost use Rattle.std.specs.List.{list_all};
-ghost use Rattle.std.specs.Result.{result_ok};
 ghost use Rattle.pdb_llvm_requests.specs.Request.{Returns, address_of, command_of, file_of};
-ghost use Rattle.pdb_llvm_requests.specs.Request.{quoted_of, request_of, seen};
+ghost use Rattle.pdb_llvm_requests.specs.Request.{quoted_of, request_of, short_request_of};
 
 use crate::number::parse_number;
 use crate::words::{trim, trim_start, word_end};
@@ -32,10 +31,16 @@ pub struct LineRequest<'l> {
     pub address: u64,
 }
 
+/// The most bytes that a request has: a path of 4,096 bytes fits, and what stands around it.
+const LONGEST: usize = 4_351;
+
 /// Why a line is no request. It prints as `llvm-symbolizer` reports it, which for an empty line and
-/// for a symbol's name reports nothing.
+/// for a symbol's name reports nothing, and takes a long line for several.
 #[derive(Clone, Copy, Debug, PartialEq, Eq, Error)]
 pub enum RequestFault {
+    /// The line has more than 4,351 bytes.
+    #[error("the line has more than 4351 bytes")]
+    LongLine,
     /// The line has no byte but carriage returns.
     #[error("the line is empty")]
     EmptyLine,
@@ -129,15 +134,10 @@ fn is_empty(line: &[u8]) -> bool
     line.iter().all(|byte| *byte == b'\r')
 }
 
-/// The request of a line, where the file is given beside the lines (`file_given`) or else stands in
-/// the line: a command and one space, if any, the file, a word or in quotes, and the address. What
-/// follows the address doesn't count.
-///
-/// # Errors
-/// [`RequestFault`], the first that holds, in the order of its variants.
-#[tactic(auto, unfolding(crate::specs::Request::request_of))]
-pub fn read_request(line: &[u8], file_given: bool) -> Result<LineRequest<'_>, RequestFault>
-    ensures { Returns result (request_of line.now file_given) }
+/// The request of a line of any length, as [`read_request`] reads it.
+#[tactic(auto, unfolding(crate::specs::Request::short_request_of))]
+fn read_short(line: &[u8], file_given: bool) -> Result<LineRequest<'_>, RequestFault>
+    ensures { Returns result (short_request_of line.now file_given) }
 {
     if is_empty(line) {
         return Err(RequestFault::EmptyLine);
@@ -163,9 +163,18 @@ pub fn read_request(line: &[u8], file_given: bool) -> Result<LineRequest<'_>, Re
     })
 }
 
-/// The request of a line, as [`read_request`] reads it, and None where it is none.
-pub fn parse_request(line: &[u8], file_given: bool) -> Option<LineRequest<'_>>
-    ensures { option_map seen result ≡ result_ok (request_of line.now file_given) }
+/// The request of a line, where the file is given beside the lines (`file_given`) or else stands in
+/// the line: a command and one space, if any, the file, a word or in quotes, and the address. What
+/// follows the address doesn't count. The first 4,352 bytes of a line decide it.
+///
+/// # Errors
+/// [`RequestFault`], the first that holds, in the order of its variants.
+#[tactic(auto, unfolding(crate::specs::Request::request_of))]
+pub fn read_request(line: &[u8], file_given: bool) -> Result<LineRequest<'_>, RequestFault>
+    ensures { Returns result (request_of line.now file_given) }
 {
-    read_request(line, file_given).ok()
+    if line.len() > LONGEST {
+        return Err(RequestFault::LongLine);
+    }
+    read_short(line, file_given)
 }

@@ -1,6 +1,5 @@
 //! The program's arguments, which are `llvm-symbolizer`'s.
 
-use anyhow::Result;
 use clap::{Arg, ArgAction, ArgMatches, Command};
 use pdb_llvm_requests::parse_number;
 use pdb_llvm_texts::{ReportOptions, Style, TextOptions};
@@ -23,7 +22,7 @@ Examples:
 The exit status is 0; 1 where the arguments are wrong, or --obj can't be loaded.";
 
 /// The name that a function is reported by.
-#[derive(Clone, Copy, Debug, PartialEq, Eq)]
+#[derive(Clone, Copy, PartialEq, Eq)]
 pub enum FunctionName {
     /// None.
     None,
@@ -34,12 +33,12 @@ pub enum FunctionName {
 }
 
 /// What the arguments ask for.
-#[derive(Debug, Drop)]
-pub struct Arguments {
+#[derive(Clone, Copy)]
+pub struct Arguments<'m> {
     /// The image or database of all addresses, if it is given.
-    pub object: Option<String>,
+    pub object: Option<&'m str>,
     /// The database of the image, if it is given.
-    pub database: Option<String>,
+    pub database: Option<&'m str>,
     /// Whether addresses are relative to the image.
     pub relative: bool,
     /// What is taken from each address.
@@ -51,154 +50,156 @@ pub struct Arguments {
     /// Which frames are reported.
     pub frames: ReportOptions,
     /// The addresses, as lines of input have them; if there are none, standard input has them.
-    pub addresses: Vec<String>,
+    pub addresses: &'m [&'m str],
 }
 
-/// A flag.
-fn flag<'a>(alloc: Global, name: &'a str, help: &'a str) -> Arg<'a> {
-    Arg::new(alloc, name)
+/// An option: its name, letter and other name, what stands for its value in the help, if it has one,
+/// and what the help says; that is empty where the option changes nothing, and the help leaves it
+/// out.
+type Described = (
+    &'static str,
+    Option<char>,
+    Option<&'static str>,
+    Option<&'static str>,
+    &'static str,
+);
+
+/// The options but `--functions`, in the order of the help.
+const OPTIONS: [Described; 16] = [
+    (
+        "obj",
+        Some('e'),
+        Some("exe"),
+        Some("FILE"),
+        "The image (.exe, .dll), or a database (.pdb)",
+    ),
+    (
+        "pdb",
+        None,
+        None,
+        Some("FILE"),
+        "The database of the image, in place of the one that it names",
+    ),
+    (
+        "relative-address",
+        None,
+        None,
+        None,
+        "Addresses are relative to the image",
+    ),
+    (
+        "adjust-vma",
+        None,
+        None,
+        Some("OFFSET"),
+        "Is taken from each address",
+    ),
+    (
+        "inlines",
+        Some('i'),
+        Some("inlining"),
+        None,
+        "Reports inlined calls, as is done without it",
+    ),
+    ("no-inlines", None, None, None, "Reports no inlined calls"),
+    (
+        "basenames",
+        Some('s'),
+        None,
+        None,
+        "Reports files without their folders",
+    ),
+    (
+        "addresses",
+        Some('a'),
+        Some("print-address"),
+        None,
+        "Writes each address before its answer",
+    ),
+    (
+        "pretty-print",
+        Some('p'),
+        None,
+        None,
+        "Writes each frame on one line",
+    ),
+    (
+        "output-style",
+        None,
+        None,
+        Some("STYLE"),
+        "LLVM, GNU or JSON",
+    ),
+    ("demangle", Some('C'), None, None, ""),
+    ("no-demangle", None, None, None, ""),
+    ("no-debuginfod", None, None, None, ""),
+    ("no-untag-addresses", None, None, None, ""),
+    ("relativenames", None, None, None, ""),
+    ("default-arch", None, None, Some("NAME"), ""),
+];
+
+/// The argument of an option, by its letter if it has one.
+fn with_letter<'a>(arg: Arg<'a>, letter: Option<char>) -> Arg<'a> {
+    match letter {
+        None => arg,
+        Some(letter) => arg.short(letter),
+    }
+}
+
+/// The argument of an option, with its value or as a flag.
+fn with_value<'a>(arg: Arg<'a>, value: Option<&'a str>) -> Arg<'a> {
+    match value {
+        None => arg.action(ArgAction::SetTrue),
+        Some(value) => arg.value_name(value),
+    }
+}
+
+/// The argument of an option.
+fn argument<'a>(alloc: Global, option: &Described) -> Result<Arg<'a>, AllocError> {
+    let (name, letter, alias, value, help) = *option;
+    let bare = Arg::new(alloc, name)
         .long(name)
-        .action(ArgAction::SetTrue)
         .help(help)
-}
-
-/// An option that has a value.
-fn valued<'a>(alloc: Global, name: &'a str, value: &'a str, help: &'a str) -> Arg<'a> {
-    Arg::new(alloc, name)
-        .long(name)
-        .value_name(value)
-        .help(help)
-}
-
-/// An option that is taken as `llvm-symbolizer` takes it, and changes nothing here.
-fn ignored<'a>(alloc: Global, name: &'a str) -> Arg<'a> {
-    Arg::new(alloc, name)
-        .long(name)
-        .action(ArgAction::SetTrue)
-        .hide(true)
+        .hide(help.is_empty());
+    let arg = with_value(with_letter(bare, letter), value);
+    match alias {
+        None => Ok(arg),
+        Some(alias) => arg.alias(alias),
+    }
 }
 
 /// The option `--functions`, whose value may be left out.
-fn functions_option<'a>(alloc: Global) -> Arg<'a> {
-    valued(
-        alloc,
-        "functions",
-        "NAME",
-        "Names of functions: none, short, or linkage (with arguments)",
-    )
-    .short('f')
-    .num_args(0..=1)
-    .require_equals(true)
-    .default_missing_value("linkage")
+fn functions_argument<'a>(alloc: Global) -> Arg<'a> {
+    Arg::new(alloc, "functions")
+        .long("functions")
+        .short('f')
+        .value_name("NAME")
+        .help("Names of functions: none, short, or linkage (with arguments)")
+        .num_args(0..=1)
+        .require_equals(true)
+        .default_missing_value("linkage")
 }
 
-/// The command with the options that say which files are asked.
-fn with_files<'a>(alloc: Global, command: Command<'a>) -> Result<Command<'a>, AllocError> {
-    let object = valued(
-        alloc,
-        "obj",
-        "FILE",
-        "The image (.exe, .dll), or a database (.pdb)",
-    )
-    .short('e')
-    .alias("exe")?;
-    command
-        .arg(object)?
-        .arg(valued(
-            alloc,
-            "pdb",
-            "FILE",
-            "The database of the image, in place of the one that it names",
-        ))?
-        .arg(flag(
-            alloc,
-            "relative-address",
-            "Addresses are relative to the image",
-        ))?
-        .arg(valued(alloc, "adjust-vma", "OFFSET", "Is taken from each address"))
-}
-
-/// The command with the options that say what is reported.
-fn with_reports<'a>(alloc: Global, command: Command<'a>) -> Result<Command<'a>, AllocError> {
-    let inlines = flag(
-        alloc,
-        "inlines",
-        "Reports inlined calls, as is done without it",
-    )
-    .short('i')
-    .alias("inlining")?;
-    command
-        .arg(functions_option(alloc))?
-        .arg(inlines)?
-        .arg(flag(alloc, "no-inlines", "Reports no inlined calls"))?
-        .arg(flag(alloc, "basenames", "Reports files without their folders").short('s'))
-}
-
-/// The command with the options that say how answers are written.
-fn with_texts<'a>(alloc: Global, command: Command<'a>) -> Result<Command<'a>, AllocError> {
-    let addresses = flag(alloc, "addresses", "Writes each address before its answer")
-        .short('a')
-        .alias("print-address")?;
-    let style = valued(alloc, "output-style", "STYLE", "LLVM, GNU or JSON");
-    command
-        .arg(addresses)?
-        .arg(flag(alloc, "pretty-print", "Writes each frame on one line").short('p'))?
-        .arg(style)
-}
-
-/// The command with the options that change nothing here.
-fn with_ignored<'a>(alloc: Global, command: Command<'a>) -> Result<Command<'a>, AllocError> {
-    let architecture = Arg::new(alloc, "default-arch")
-        .long("default-arch")
-        .hide(true);
-    command
-        .arg(ignored(alloc, "demangle").short('C'))?
-        .arg(ignored(alloc, "no-demangle"))?
-        .arg(ignored(alloc, "no-debuginfod"))?
-        .arg(ignored(alloc, "no-untag-addresses"))?
-        .arg(ignored(alloc, "relativenames"))?
-        .arg(architecture)
+/// The arguments of the program.
+fn all_arguments<'a>(alloc: Global) -> Result<Vec<Arg<'a>>, AllocError> {
+    let mut all = Vec::new(alloc);
+    for option in &OPTIONS {
+        all.push(argument(alloc, option)?)?;
+    }
+    all.push(functions_argument(alloc))?;
+    all.push(Arg::new(alloc, "ADDRESS").num_args(0..).help("Addresses"))?;
+    Ok(all)
 }
 
 /// The program's command.
 pub fn command<'a>(alloc: Global) -> Result<Command<'a>, AllocError> {
-    let bare = Command::new(alloc, "pdb_llvm_symbolizer")
+    let arguments = all_arguments(alloc)?;
+    Command::new(alloc, "pdb_llvm_symbolizer")
         .about(ABOUT)
         .after_help(EXAMPLES)
         .version(VERSION)
-        .args_override_self(true);
-    let command = with_files(alloc, bare)?;
-    let command = with_reports(alloc, command)?;
-    let command = with_texts(alloc, command)?;
-    let command = with_ignored(alloc, command)?;
-    let addresses = Arg::new(alloc, "ADDRESS").num_args(0..).help("Addresses");
-    command.arg(addresses)
-}
-
-/// The value of an option.
-fn text_of(
-    alloc: Global,
-    matches: &ArgMatches<'_>,
-    name: &str,
-) -> Result<Option<String>, AllocError> {
-    match matches.get_str(name) {
-        None => Ok(None),
-        Some(value) => {
-            let value = String::from_str(alloc, value)?;
-            Ok(Some(value))
-        }
-    }
-}
-
-/// The addresses among the arguments.
-fn addresses_in(alloc: Global, matches: &ArgMatches<'_>) -> Result<Vec<String>, AllocError> {
-    let mut addresses = Vec::new(alloc);
-    if let Some(words) = matches.get_strs("ADDRESS") {
-        for word in words {
-            addresses.push(String::from_str(alloc, word)?)?;
-        }
-    }
-    Ok(addresses)
+        .args_override_self(true)
+        .args(arguments)
 }
 
 /// The style that the arguments name; that of LLVM, if they name none or another.
@@ -228,12 +229,10 @@ fn adjust_in(matches: &ArgMatches<'_>) -> Option<u64> {
 }
 
 /// What the arguments ask for; None where the offset is no number.
-pub fn read(alloc: Global, matches: &ArgMatches<'_>) -> Result<Option<Arguments>, AllocError> {
-    let Some(adjust) = adjust_in(matches) else {
-        return Ok(None);
-    };
+pub fn read<'m>(matches: &'m ArgMatches<'_>) -> Option<Arguments<'m>> {
+    let adjust = adjust_in(matches)?;
     let function = function_in(matches);
-    let addresses = addresses_in(alloc, matches)?;
+    let addresses = matches.get_strs("ADDRESS").unwrap_or(&[]);
     let texts = TextOptions {
         style: style_in(matches),
         functions: function != FunctionName::None,
@@ -245,16 +244,14 @@ pub fn read(alloc: Global, matches: &ArgMatches<'_>) -> Result<Option<Arguments>
         inlines: !matches.get_flag("no-inlines"),
         base_names: matches.get_flag("basenames"),
     };
-    let object = text_of(alloc, matches, "obj")?;
-    let database = text_of(alloc, matches, "pdb")?;
-    Ok(Some(Arguments {
-        object,
-        database,
+    Some(Arguments {
+        object: matches.get_str("obj"),
+        database: matches.get_str("pdb"),
         relative: matches.get_flag("relative-address"),
         adjust,
         function,
         texts,
         frames,
         addresses,
-    }))
+    })
 }

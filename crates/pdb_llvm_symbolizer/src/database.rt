@@ -25,7 +25,7 @@ pub struct Database {
 }
 
 /// What is read of an image: its base, and the identity and path of its database.
-#[derive(Debug, Drop)]
+#[derive(Drop)]
 struct ImageRecord {
     base: u64,
     identity: PdbIdentity,
@@ -64,22 +64,29 @@ fn beside(alloc: Global, file: &str, path: &str) -> Result<String> {
     }
 }
 
+/// Checks that a database has an identity.
+fn check_build<'s>(
+    alloc: Global,
+    pdb: &mut PDB<'s, BoundedBytes>,
+    wanted: PdbIdentity,
+) -> Result<()> {
+    let information = pdb.pdb_information(alloc)?;
+    let age = pdb.debug_information(alloc)?.age();
+    if !wanted.matches(&PdbIdentity::of_pdb(information.guid, information.age, age)) {
+        bail!("the PDB is of another build");
+    }
+    Ok(())
+}
+
 /// What contexts are made of, read of a database's bytes. With an identity, that of the database
 /// has to match it.
 fn load(alloc: Global, bytes: Vec<u8>, identity: Option<PdbIdentity>) -> Result<Held> {
     let file = Bytes::from_vec(bytes)?;
     let mut pdb = PDB::open(alloc, BoundedBytes::new(file))?;
     if let Some(wanted) = identity {
-        let information = pdb.pdb_information(alloc)?;
-        let age = pdb.debug_information(alloc)?.age();
-        if !wanted.matches(&PdbIdentity::of_pdb(information.guid, information.age, age)) {
-            bail!("the PDB is of another build");
-        }
+        check_build(alloc, &mut pdb, wanted)?;
     }
     let held = ContextPdbData::try_from_pdb(alloc, pdb)?;
-    if !held.address_map().is_ordered() {
-        bail!("the address map of the PDB is out of order");
-    }
     Ok(held)
 }
 
@@ -124,28 +131,42 @@ fn reason(error: &Error) -> &'static str {
     }
 }
 
+/// The bytes of a file.
+fn file_bytes(rt: &(impl Files + AllocGlobal), file: &str) -> Result<Vec<u8>> {
+    match fs::read(rt, file) {
+        Ok(bytes) => Ok(bytes),
+        Err(error) => bail!("{}", reason(&error)),
+    }
+}
+
+/// Reads the database of an image.
+fn open_image(
+    rt: &(impl Files + AllocGlobal),
+    file: &str,
+    image: &[u8],
+    given: Option<&str>,
+) -> Result<Database> {
+    let record = image_record(rt.alloc(), image)?;
+    let bytes = bytes_of_image(rt, file, record.path.as_str(), given)?;
+    let held = load(rt.alloc(), bytes, Some(record.identity))?;
+    Ok(Database {
+        image_base: record.base,
+        held,
+    })
+}
+
 /// Reads the database of a file: of an image, or the file itself.
 ///
 /// # Errors
 /// Why it can't be read, as a text.
 pub fn open(rt: &(impl Files + AllocGlobal), file: &str, given: Option<&str>) -> Result<Database> {
-    let alloc = rt.alloc();
-    let bytes = match fs::read(rt, file) {
-        Ok(bytes) => bytes,
-        Err(error) => bail!("{}", reason(&error)),
-    };
-    if !bytes.as_slice().starts_with(b"MZ") {
-        let held = load(alloc, bytes, None)?;
-        return Ok(Database {
-            image_base: 0,
-            held,
-        });
+    let bytes = file_bytes(rt, file)?;
+    if bytes.as_slice().starts_with(b"MZ") {
+        return open_image(rt, file, bytes.as_slice(), given);
     }
-    let record = image_record(alloc, bytes.as_slice())?;
-    let bytes = bytes_of_image(rt, file, record.path.as_str(), given)?;
-    let held = load(alloc, bytes, Some(record.identity))?;
+    let held = load(rt.alloc(), bytes, None)?;
     Ok(Database {
-        image_base: record.base,
+        image_base: 0,
         held,
     })
 }

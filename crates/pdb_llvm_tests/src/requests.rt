@@ -1,7 +1,7 @@
-//! The requests of lines. What is expected is what `llvm-symbolizer` 19 answered for these lines:
-//! `ModuleName` and `Address` of its JSON, or the error that it wrote.
+//! The requests of lines. The expected values are what `llvm-symbolizer` 19 answered for these
+//! lines: `ModuleName` and `Address` of its JSON, or the error that it wrote.
 
-use pdb_llvm_requests::{Command, RequestFault, parse_number, parse_request, read_request, rva_of};
+use pdb_llvm_requests::{Command, RequestFault, parse_number, read_request, rva_of};
 
 /// Lines that ask for code, each with its file and its address.
 const CODE: [(&[u8], &[u8], u64); 16] = [
@@ -23,8 +23,8 @@ const CODE: [(&[u8], &[u8], u64); 16] = [
     (b"t.exe 0xffffffffffffffff", b"t.exe", 0xffff_ffff_ffff_ffff),
 ];
 
-/// Lines that are no requests, each with its fault. `llvm-symbolizer` writes no error for the empty
-/// ones and for names of symbols.
+/// Lines that are no requests, each with its fault. `llvm-symbolizer` writes no error for empty
+/// lines and for names of symbols.
 const REFUSED: [(&[u8], RequestFault); 14] = [
     (b"", RequestFault::EmptyLine),
     (b"\r", RequestFault::EmptyLine),
@@ -58,7 +58,6 @@ fn requests_of_code(rt: HostRuntime) {
 fn refused_lines(rt: HostRuntime) {
     for (line, fault) in REFUSED {
         assert!(rt; read_request(line, false).is_err_and(|found| found == fault));
-        assert!(rt; parse_request(line, false).is_none());
     }
 }
 
@@ -72,8 +71,8 @@ fn other_commands(rt: HostRuntime) {
 
 #[test]
 fn lines_beside_a_file(rt: HostRuntime) {
-    let found = parse_request(b"DATA  0x10", true);
-    assert!(rt; found.is_some_and(|found| found.file.is_none() && found.address == 0x10));
+    let found = read_request(b"DATA  0x10", true);
+    assert!(rt; found.is_ok_and(|found| found.file.is_none() && found.address == 0x10));
     let faults: [(&[u8], RequestFault); 3] = [
         (b" ", RequestFault::NoAddress),
         (b"5x", RequestFault::NotANumber),
@@ -84,7 +83,18 @@ fn lines_beside_a_file(rt: HostRuntime) {
     }
 }
 
-/// A function at RVA 0x1000 of an image whose base is 0x140000000: these addresses found it.
+/// A line has at most 4,351 bytes, where `llvm-symbolizer` takes 1,023 bytes for a line.
+#[test]
+fn long_lines(rt: HostRuntime) {
+    let mut line = [b' '; 4_352];
+    line[..4].copy_from_slice(b"0x10");
+    let found = read_request(&line[..4_351], true);
+    assert!(rt; found.is_ok_and(|found| found.address == 0x10));
+    assert!(rt; read_request(&line, true).is_err_and(|found| found == RequestFault::LongLine));
+    assert!(rt; read_request(&line, false).is_err_and(|found| found == RequestFault::LongLine));
+}
+
+/// These addresses find a function at RVA 0x1000 of an image whose base is 0x140000000.
 #[test]
 fn addresses_in_an_image(rt: HostRuntime) {
     let base = 0x1_4000_0000;

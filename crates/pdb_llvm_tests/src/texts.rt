@@ -1,4 +1,5 @@
-//! The texts of answers. What is expected is what `llvm-symbolizer` 19 wrote of an image, `x64.exe`.
+//! The texts of answers. The expected values are what `llvm-symbolizer` 19 wrote of an image,
+//! `x64.exe`.
 
 use pdb_functions::{FrameRow, SharedFrame, SharedFunctionFrames};
 use pdb_llvm_texts::{
@@ -26,7 +27,7 @@ const FRAMES: [ReportedFrame<'static>; 2] = [
     },
 ];
 
-/// The options of a run with this style and no others.
+/// Returns the options of a run with that style, and no others.
 fn plainly(style: Style) -> TextOptions {
     TextOptions {
         style,
@@ -42,15 +43,23 @@ fn frames_in_each_style(rt: HostRuntime) {
     let texts: [(Style, &[u8]); 3] = [
         (
             Style::Llvm,
-            b"bytes::rotate\nC:\\src\\checksum.h:6:0\narchive::verify(struct archive::Entry const &)\nC:\\src\\archive.cpp:9:0\n\n",
+            b"bytes::rotate\nC:\\src\\checksum.h:6:0\n\
+            archive::verify(struct archive::Entry const &)\nC:\\src\\archive.cpp:9:0\n\n",
         ),
         (
             Style::Gnu,
-            b"bytes::rotate\nC:\\src\\checksum.h:6\narchive::verify(struct archive::Entry const &)\nC:\\src\\archive.cpp:9\n",
+            b"bytes::rotate\nC:\\src\\checksum.h:6\n\
+            archive::verify(struct archive::Entry const &)\nC:\\src\\archive.cpp:9\n",
         ),
         (
             Style::Json,
-            b"{\"Address\":\"0x140001148\",\"ModuleName\":\"x64.exe\",\"Symbol\":[{\"Column\":0,\"Discriminator\":0,\"FileName\":\"C:\\\\src\\\\checksum.h\",\"FunctionName\":\"bytes::rotate\",\"Line\":6,\"StartAddress\":\"\",\"StartFileName\":\"\",\"StartLine\":0},{\"Column\":0,\"Discriminator\":0,\"FileName\":\"C:\\\\src\\\\archive.cpp\",\"FunctionName\":\"archive::verify(struct archive::Entry const &)\",\"Line\":9,\"StartAddress\":\"\",\"StartFileName\":\"\",\"StartLine\":0}]}\n",
+            b"{\"Address\":\"0x140001148\",\"ModuleName\":\"x64.exe\",\"Symbol\":[\
+            {\"Column\":0,\"Discriminator\":0,\"FileName\":\"C:\\\\src\\\\checksum.h\",\
+            \"FunctionName\":\"bytes::rotate\",\"Line\":6,\
+            \"StartAddress\":\"\",\"StartFileName\":\"\",\"StartLine\":0},\
+            {\"Column\":0,\"Discriminator\":0,\"FileName\":\"C:\\\\src\\\\archive.cpp\",\
+            \"FunctionName\":\"archive::verify(struct archive::Entry const &)\",\"Line\":9,\
+            \"StartAddress\":\"\",\"StartFileName\":\"\",\"StartLine\":0}]}\n",
         ),
     ];
     for (style, text) in texts {
@@ -86,11 +95,15 @@ fn answers_without_frames(rt: HostRuntime) {
     );
     assert!(rt; error.is_ok());
     let text: &[u8] =
-        b"{\"Address\":\"0x140001148\",\"Data\":{\"Name\":\"\",\"Size\":\"0x0\",\"Start\":\"0x0\"},\"ModuleName\":\"x64.exe\"}\n{\"Address\":\"0x140001148\",\"Frame\":[],\"ModuleName\":\"x64.exe\"}\n{\"Address\":\"0x10\",\"Error\":{\"Message\":\"No such file or directory\"},\"ModuleName\":\"no.exe\"}\n";
+        b"{\"Address\":\"0x140001148\",\"Data\":{\"Name\":\"\",\"Size\":\"0x0\",\"Start\":\"0x0\"},\
+        \"ModuleName\":\"x64.exe\"}\n\
+        {\"Address\":\"0x140001148\",\"Frame\":[],\"ModuleName\":\"x64.exe\"}\n\
+        {\"Address\":\"0x10\",\"Error\":{\"Message\":\"No such file or directory\"},\
+        \"ModuleName\":\"no.exe\"}\n";
     assert!(rt; output.as_slice() == text);
 }
 
-/// A function at 0x1000 whose last row, of `length` bytes, begins there.
+/// Makes the frames of a function at 0x1000 whose last row begins there and has `length` bytes.
 fn found(alloc: Global, length: u32) -> Option<SharedFunctionFrames<'static>> {
     let mut frames = Vec::new(alloc);
     let name = ArcStr::from_str(alloc, "f").ok()?;
@@ -112,7 +125,7 @@ fn found(alloc: Global, length: u32) -> Option<SharedFunctionFrames<'static>> {
     })
 }
 
-/// A row that ends before the address gives no line, and the file's folders are left out.
+/// A row that ends before the address gives no line. The file's folders are left out.
 #[test]
 fn lines_of_their_own_rows(rt: HostRuntime) {
     let options = ReportOptions {

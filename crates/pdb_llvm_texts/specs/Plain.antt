@@ -3,15 +3,11 @@ use Rattle.std.specs.Prelude.{ℕ, Bool, true, false, ◌&&◌, if◌then◌else
 use Rattle.std.specs.Prelude.{Option, None, Some, codes}
 use Rattle.std.specs.List.{flat_map}
 use Rattle.std.specs.Fmt.{decimal, digits}
+use Rattle.pdb_functions.specs.Texts.{text_or}
 use Rattle.pdb_llvm_texts.specs.Frames.{ReportedFrame}
 use Rattle.pdb_llvm_texts.specs.declared.options.Style.{Style}
 use Rattle.pdb_llvm_texts.specs.declared.options.Style.TheVariants as styles
 use Rattle.pdb_llvm_texts.specs.declared.options.TextOptions.{TextOptions}
-
--- a text that may be missing
-abbrev pub text_or : Option (List ℕ) → List ℕ
-text_or None = codes "??"
-text_or (Some text) = text
 
 -- an address in lower-case hexadecimal digits
 abbrev pub address_text : ℕ → List ℕ

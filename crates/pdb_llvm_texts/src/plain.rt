@@ -6,7 +6,7 @@ ghost use Rattle.std.specs.Fmt.{decimal};
 ghost use Rattle.std.specs.List.{flat_map};
 ghost use Rattle.pdb_llvm_texts.specs.Plain.{address_text, caller_text, column_text, footer_text};
 ghost use Rattle.pdb_llvm_texts.specs.Plain.{frame_text, frames_text, header_text, name_text};
-ghost use Rattle.pdb_llvm_texts.specs.Plain.{text_or};
+ghost use Rattle.pdb_functions.specs.Texts.{text_or};
 
 use crate::options::{Style, TextOptions};
 use crate::reported::ReportedFrame;

@@ -8,9 +8,9 @@ written_back : (xs ys : List ℕ) (n : ℕ) → n ≡ length xs → take n (xs +
 written_back xs ys n h = take-append-le n xs ys (omega (arith, h)) ∙ take_all n xs (omega (arith, h))
 
 pub returns-in-Err-feed-clause-part : goal.returns-in-Err-feed-clause-part
-returns-in-Err-feed-clause-part g c =
-    read_part _ _ _ _ _ _ _ c.read.new.buf c.deref.result.now c.in-Ok.count c.min-within.result (c.deref.ensures.value ∙ written_back c.read.new.buf _ _ (search rules)) (search rules) c.in-Ok.ensures.bytes.0 c.in-Err-feed.ensures.part
+returns-in-Err-feed-clause-part g c = λ known.
+    read_part _ _ _ _ _ _ _ c.read.new.buf c.deref.result.now c.in-Ok.count c.min-within.result (c.deref.ensures.value ∙ written_back c.read.new.buf _ _ (search rules)) (search rules) c.in-Ok.ensures.bytes.0 (c.in-Err-feed.ensures.part known)
 
 pub returns-then-left-count-clause-part : goal.returns-then-left-count-clause-part
-returns-then-left-count-clause-part g c =
-    read_part _ _ _ _ _ _ _ c.read.new.buf c.deref.result.now c.in-Ok.count c.min-within.result (c.deref.ensures.value ∙ written_back c.read.new.buf _ _ (search rules)) (search rules) c.in-Ok.ensures.bytes.0 (_, c.in-Ok-feed.ensures.ok, ([], sym (append-nil _)))
+returns-then-left-count-clause-part g c = λ known.
+    read_part _ _ _ _ _ _ _ c.read.new.buf c.deref.result.now c.in-Ok.count c.min-within.result (c.deref.ensures.value ∙ written_back c.read.new.buf _ _ (search rules)) (search rules) c.in-Ok.ensures.bytes.0 (_, c.in-Ok-feed.ensures.ok known, ([], sym (append-nil _)))

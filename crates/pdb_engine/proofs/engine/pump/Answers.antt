@@ -5,7 +5,7 @@ use Rattle.pdb_engine.proofs.engine.pump.Goals as goal
 
 pub reads-preserved : goal.reads-preserved
 reads-preserved g c = record {
-  out = taken_more _ _ _ _ _ _ _ _ _ _ _ _ _ c.reads.invariant.out c.reads.invariant.same _ _ c.in-Ok.ensures.ok;
+  out = λ known. taken_more _ _ _ _ _ _ _ _ _ _ _ _ _ (c.reads.invariant.out known) c.reads.invariant.same _ _ (c.in-Ok.ensures.ok known);
   room = c.answer_read.ensures.room ∙ c.reads.invariant.room;
   same = c.answer_read.ensures.same ∙ c.reads.invariant.same;
   quiet_reader = search rules;
@@ -13,13 +13,13 @@ reads-preserved g c = record {
 }
 
 pub returns-in-Err-clause-read_out : goal.returns-in-Err-clause-read_out
-returns-in-Err-clause-read_out g c = taken_before _ g.W.Write.contents _ _ _ _ _ _ _ _ _ _ _ c.in-Err.fault c.reads.invariant.out c.in-Err.ensures.read_once
+returns-in-Err-clause-read_out g c = λ known. taken_before _ g.W.Write.contents _ _ _ _ _ _ _ _ _ _ _ c.in-Err.fault (c.reads.invariant.out known) c.in-Err.ensures.read_once
 
 pub returns-in-Err-clause-too_long : goal.returns-in-Err-clause-too_long
-returns-in-Err-clause-too_long g c = taken_too_long _ _ _ _ _ _ _ _ _ _ _ _ _ c.reads.invariant.out c.reads.invariant.same c.in-Err.fault c.in-Err.ensures.too_long
+returns-in-Err-clause-too_long g c = λ known. taken_too_long _ _ _ _ _ _ _ _ _ _ _ _ _ (c.reads.invariant.out known) c.reads.invariant.same c.in-Err.fault (c.in-Err.ensures.too_long known)
 
 pub returns-in-Err-clause-part : goal.returns-in-Err-clause-part
-returns-in-Err-clause-part g c = taken_part _ _ _ _ _ _ _ _ _ _ _ _ _ c.reads.invariant.out c.reads.invariant.same c.in-Err.ensures.part
+returns-in-Err-clause-part g c = λ known. taken_part _ _ _ _ _ _ _ _ _ _ _ _ _ (c.reads.invariant.out known) c.reads.invariant.same (c.in-Err.ensures.part known)
 
 pub returns-in-Err-clause-write_fails : goal.returns-in-Err-clause-write_fails
 returns-in-Err-clause-write_fails g c = write_behind _ _ _ _ c.reads.invariant.quiet_writer c.in-Err.ensures.write_fails

@@ -3,7 +3,7 @@ use Rattle.std.specs.Io.KnownBytes.{Appends}
 use Rattle.pdb_engine.specs.Watched.{inner_of, IsQuiet}
 use Rattle.pdb_engine.proofs.engine.write_all.Given as goal
 
--- what is out is the front, and the rest follows it
+-- what is out is a prefix, and the rest follows it
 abbrev pub invariant-loop-rest : goal.invariant-loop-rest
 invariant-loop-rest g l =
     let contents = g.W.Write.contents in

@@ -4,15 +4,15 @@ use Rattle.pdb_engine.proofs.RequestSteps.{out_more, part_more, part_last}
 use Rattle.pdb_engine.proofs.engine.write_answers.Goals as goal
 
 pub returns-in_err-gather_answer-clause-part : goal.returns-in_err-gather_answer-clause-part
-returns-in_err-gather_answer-clause-part g c =
-    on_err c.from_residual.result (part_more _ _ _ _ _ _ _ _ c.loop-request.request-index c.request-item.result c.loop-request-test.true (search rules) c.loop-request.invariant.same c.loop-request.invariant.out c.in_err-gather_answer.ensures.part)
+returns-in_err-gather_answer-clause-part g c = λ known.
+    on_err c.from_residual.result (part_more _ _ _ _ _ _ _ _ c.loop-request.request-index c.request-item.result c.loop-request-test.true (search rules) c.loop-request.invariant.same (c.loop-request.invariant.out known) (c.in_err-gather_answer.ensures.part known))
 
 pub loop-request-preserved : goal.loop-request-preserved
 loop-request-preserved g c = record {
-  out = out_more _ _ _ _ _ _ _ _ _ c.loop-request.request-index c.request-item.result c.loop-request-test.true (search rules) c.loop-request.invariant.same c.loop-request.invariant.out c.in_ok-gather_answer.ensures.ok;
+  out = λ known. out_more _ _ _ _ _ _ _ _ _ c.loop-request.request-index c.request-item.result c.loop-request-test.true (search rules) c.loop-request.invariant.same (c.loop-request.invariant.out known) (c.in_ok-gather_answer.ensures.ok known);
   same = c.gather_answer.ensures.same ∙ c.loop-request.invariant.same;
   quiet = search rules;
 }
 
 pub returns-clause-part : goal.returns-clause-part
-returns-clause-part g c = part_last _ c.write_pending.result _ _ _ _ _ c.args.requests.now c.loop-request.request-index (omega arith) c.loop-request.invariant.out c.write_pending.ensures.part
+returns-clause-part g c = λ known. part_last _ c.write_pending.result _ _ _ _ _ c.args.requests.now c.loop-request.request-index (omega arith) (c.loop-request.invariant.out known) c.write_pending.ensures.part

@@ -9,6 +9,6 @@ invariant-loop-turn g l =
     let kept = g.A.Start.LineStart.kept in
     record {
       lines : lines_of kept l.requests.items ≡ lines_of kept l.fn.requests.items;
-      answered : AreAnswered kept (text l.fn.answers) l.texts.items l.requests.items;
+      answered : AreAnswered g.A.Answers.known kept (text l.fn.answers) l.texts.items l.requests.items;
       same : text l.answers ≡ text l.fn.answers;
     }
