@@ -1,15 +1,13 @@
 -- A formatter and a context over what is held of a database.
 use Rattle.std.specs.Prelude.{ℕ, List, Result}
-use Rattle.pdb_loading.specs.Held.{Held}
-use Rattle.pdb_loading.specs.Kept.{KeptInfo}
+use Rattle.pdb_loading.specs.Held.{Held, parts_held}
+use Rattle.pdb_loading.specs.ModuleInfos.{KeptInfo}
 use Rattle.pdb_symbols_modules.specs.Machine.{machine_of}
 use Rattle.pdb_symbols_modules.specs.Modules.{modules_of}
 use Rattle.pdb_type_sizes.specs.Reading.{Reading, pointer_bytes}
 use Rattle.pdb_context.specs.Printing.{Formatting}
 use Rattle.pdb_resolving.specs.Fault.{Fault}
 use Rattle.pdb_resolving.specs.Resolving.{none_failed}
-use Rattle.pdb_context.specs.Choice.{Parts}
-use Rattle.pdb_context.specs.Parts.{outcome, parts_of}
 use Rattle.pdb_context.specs.Context.{Context, context_over}
 
 -- what types and ids are read from: what is held gives the modules, by the entries in stream 3
@@ -30,16 +28,6 @@ reading_of h = record {
 abbrev pub formatting_of : Held → ℕ → Formatting (List KeptInfo)
 formatting_of h flags = record { reading = reading_of h; flags = flags }
 
--- what every question of a context goes over
-abbrev pub parts_in : Held → Result Parts Fault
-parts_in h =
-    parts_of h.tables.map.image h.tables.map h.tables.symbol_records
-    h.debug_information.contributions h.names
-
 -- a context over what is held, whose formatter has these flags
 abbrev pub context_in : Held → ℕ → Result (Context (List KeptInfo)) Fault
-context_in h flags = context_over h.infos (formatting_of h flags) (parts_in h)
-
--- whether that can be had
-abbrev pub checked_parts : Held → Result (Unit {0}) Fault
-checked_parts h = outcome (parts_in h)
+context_in h flags = context_over h.infos (formatting_of h flags) (parts_held h)

@@ -11,6 +11,6 @@ pub use Rattle.pdb_context.specs.Printing
 pub use Rattle.pdb_context.specs.Runs
 pub use Rattle.pdb_context.specs.Scopes
 pub use Rattle.pdb_loading.specs.Held
-pub use Rattle.pdb_loading.specs.Kept
 pub use Rattle.pdb_loading.specs.Loading
+pub use Rattle.pdb_loading.specs.ModuleInfos
 pub use Rattle.pdb_loading.specs.Provided

@@ -4,9 +4,9 @@ ghost use Rattle.std.specs.Prelude.{◌≡◌, ◌≤◌, IfOk, IsOkUnless};
 ghost use Rattle.pdb_addresses.specs.Addresses.{IsOrdered};
 ghost use Rattle.pdb_container.specs.SourceAnswers.{AnswersFrom};
 ghost use Rattle.pdb_container.specs.Fault.{HasRisen};
-ghost use Rattle.pdb_addr2line.specs.Formatters.{formatting_of, checked_parts, context_in};
-ghost use Rattle.pdb_loading.specs.Held.{loaded_in, IsOwn};
-ghost use Rattle.pdb_loading.specs.Loading.{loaded, loaded_behind};
+ghost use Rattle.pdb_addr2line.specs.Formatters.{formatting_of, context_in};
+ghost use Rattle.pdb_loading.specs.Held.{parts_checked, read_in, IsOwn};
+ghost use Rattle.pdb_loading.specs.Loading.{database_read, read_after};
 ghost use Rattle.pdb_resolving.specs.Fault.{Answers};
 ghost use Rattle.pdb_symbols_modules.specs.DatabaseCalls.{debug_information as read_dbi};
 ghost use Rattle.pdb_addr2line.specs.Refused.{CanFail, Loads};
@@ -14,11 +14,11 @@ ghost use Rattle.pdb_symbols_modules.specs.Shared.{shared};
 ghost use Rattle.pdb_symbols_modules.specs.Streams.{streams};
 
 use pdb_addresses::AddressMap;
-use pdb_container::{Result, Source, StringTable};
+use pdb_container::{Result, Source};
 use pdb_context::maybe_owned::MaybeOwned;
-use pdb_context::{Context, ContextParts, TypeFormatter};
+use pdb_context::{Context, TypeFormatter};
 use pdb_loading::{
-    KeptModules, Tables, collect_modules, read_module_infos, read_names, read_tables,
+    HeldDatabase, KeptModules, Tables, collect_modules, read_after_tables, read_database,
 };
 use pdb_resolving::{Error, ModuleProvider};
 use pdb_symbols_modules::{DebugInformation, Module, ModuleInfo, PDB};
@@ -30,62 +30,27 @@ use std::marker::{Model, PhantomData};
 /// read once and owned. `'p` is how long the database itself may be borrowed elsewhere; nothing is
 /// read of it any more.
 pub struct ContextPdbData<'p, 's, S: Source> {
-    debug_information: DebugInformation<'s>,
-    tables: Tables<'s>,
-    names: Option<StringTable<'s>>,
-    modules: KeptModules<'s>,
+    held: HeldDatabase<'s>,
     of: PhantomData<&'p S>,
 }
 
 impl<'p, 's, S: Source> Model for ContextPdbData<'p, 's, S> {
     ghost use Rattle.std.specs.Prelude.{◌≡◌, None};
     ghost use Rattle.pdb_symbols_modules.specs.Modules.{modules_of};
-    ghost use Rattle.pdb_loading.specs.Held as held;
+    ghost use Rattle.pdb_loading.specs.Held.{Held};
 
-    ghost Value = { held.Held };
+    ghost Value = { Held };
 
-    ghost view = { λ d. record {
-      debug_information = d.debug_information;
-      tables = d.tables;
-      names = d.names;
-      infos = d.modules;
-    } };
+    ghost view = { λ d. d.held };
 
-    ghost invariant = { λ d. (modules_of d.debug_information.modules).fault ≡ None };
+    ghost invariant = { λ d. (modules_of d.held.debug_information.modules).fault ≡ None };
 }
 
 impl<'p, 's, S: Source> Drop for ContextPdbData<'p, 's, S> {
     fn drop(self) {
-        let ContextPdbData {
-            debug_information,
-            tables,
-            names,
-            modules,
-            of: _,
-        } = self;
-        drop(debug_information);
-        drop(tables);
-        drop(names);
-        drop(modules);
+        let ContextPdbData { held, of: _ } = self;
+        drop(held);
     }
-}
-
-/// Reads a database: stream 3, what comes after it, and the module list, whose first fault is the
-/// answer; then the modules' own streams and the names.
-#[tactic(auto, using(pdb_container::proofs::Outside::outside_alone, pdb_container::proofs::Outside::outside_earlier, pdb_container::proofs::Outside::outside_later), unfolding(pdb_loading::specs::Loading::loaded))]
-fn load<'p, 's, S: Source + Drop>(
-    alloc: Global,
-    pdb: &mut PDB<'s, S>,
-) -> Result<ContextPdbData<'p, 's, S>>
-    ensures loads { AnswersFrom S.bytes S.failures pdb.old pdb.new loaded_in result
-        (loaded (shared (streams (S.bytes pdb.old)))) }
-    ensures own { IfOk result
-        (λ d. IsOwn (streams (S.bytes pdb.old)) (HasRisen (S.failures pdb.old) (S.failures pdb.new))
-        d) }
-{
-    let debug_information = pdb.debug_information(alloc)?;
-    let tables = read_tables(pdb, alloc, &debug_information)?;
-    ContextPdbData::try_from_tables(alloc, pdb, debug_information, tables)
 }
 
 impl<'p, 's, S: Source + Drop> ContextPdbData<'p, 's, S> {
@@ -96,7 +61,7 @@ impl<'p, 's, S: Source + Drop> ContextPdbData<'p, 's, S> {
     /// # Errors
     /// `UnexpectedEof` of the module list; `OutOfMemory`. The names table and the modules' own
     /// streams are missing where they can't be read.
-    #[tactic(auto, using(pdb_container::proofs::Outside::outside_alone, pdb_container::proofs::Outside::outside_earlier, pdb_container::proofs::Outside::outside_later, pdb_loading::proofs::HeldSteps::list_ends, pdb_loading::proofs::HeldSteps::own_held))]
+    #[tactic(auto, using(pdb_container::proofs::Outside::outside_alone))]
     pub fn try_from_tables(
         alloc: Global,
         pdb: &mut PDB<'s, S>,
@@ -104,21 +69,14 @@ impl<'p, 's, S: Source + Drop> ContextPdbData<'p, 's, S> {
         tables: Tables<'s>,
     ) -> Result<ContextPdbData<'p, 's, S>>
         requires { read_dbi (shared (streams (S.bytes pdb.old))) ≡ Ok debug_information }
-        ensures loads { AnswersFrom S.bytes S.failures pdb.old pdb.new loaded_in result
-            (loaded_behind debug_information.entry tables.entry) }
+        ensures loads { AnswersFrom S.bytes S.failures pdb.old pdb.new read_in result
+            (read_after debug_information.entry tables.entry) }
         ensures own { IfOk result
             (λ d. IsOwn (streams (S.bytes pdb.old))
             (HasRisen (S.failures pdb.old) (S.failures pdb.new)) d) }
     {
-        let module_infos = read_module_infos(pdb, alloc, &debug_information)?;
-        let names = read_names(pdb, alloc)?;
-        Ok(ContextPdbData {
-            debug_information,
-            tables,
-            names,
-            modules: KeptModules::new(module_infos),
-            of: PhantomData,
-        })
+        let held = read_after_tables(pdb, alloc, debug_information, tables)?;
+        Ok(ContextPdbData::from_held(held))
     }
 
     /// Reads what formatters and contexts need of a database that is open, and lets go of it.
@@ -134,8 +92,8 @@ impl<'p, 's, S: Source + Drop> ContextPdbData<'p, 's, S> {
         alloc: Global,
         mut pdb: PDB<'s, S>,
     ) -> std::result::Result<ContextPdbData<'p, 's, S>, Error>
-        ensures loads { Loads loaded_in (CanFail S.bytes S.failures pdb.entry) result
-            (loaded (shared (streams (S.bytes pdb.entry)))) }
+        ensures loads { Loads read_in (CanFail S.bytes S.failures pdb.entry) result
+            (database_read (shared (streams (S.bytes pdb.entry)))) }
         ensures own { IfOk result
             (λ d. IsOwn (streams (S.bytes pdb.entry)) (CanFail S.bytes S.failures pdb.entry) d) }
     {
@@ -153,26 +111,36 @@ impl<'p, 's, S: Source + Drop> ContextPdbData<'p, 's, S> {
     ) -> std::result::Result<ContextPdbData<'p, 's, S>, Error>
         ensures same { S.bytes pdb.new ≡ S.bytes pdb.old }
         ensures counts { S.failures pdb.old ≤ S.failures pdb.new }
-        ensures loads { Loads loaded_in (HasRisen (S.failures pdb.old) (S.failures pdb.new)) result
-            (loaded (shared (streams (S.bytes pdb.old)))) }
+        ensures loads { Loads read_in (HasRisen (S.failures pdb.old) (S.failures pdb.new)) result
+            (database_read (shared (streams (S.bytes pdb.old)))) }
         ensures own { IfOk result
             (λ d. IsOwn (streams (S.bytes pdb.old))
             (HasRisen (S.failures pdb.old) (S.failures pdb.new)) d) }
     {
-        match load(alloc, pdb) {
-            Ok(data) => Ok(data),
+        match read_database(pdb, alloc) {
+            Ok(held) => Ok(ContextPdbData::from_held(held)),
             Err(error) => Err(Error::from(error)),
         }
     }
 }
 
 impl<'p, 's, S: Source> ContextPdbData<'p, 's, S> {
+    /// What contexts and formatters are made of, by what is held of a database.
+    pub fn from_held(held: HeldDatabase<'s>) -> ContextPdbData<'p, 's, S>
+        ensures { result ≡ held.entry }
+    {
+        ContextPdbData {
+            held,
+            of: PhantomData,
+        }
+    }
+
     /// The address map, between RVAs and places in sections; whether the sources of its OMAPs
     /// decrease is asked there.
     pub fn address_map(&self) -> &AddressMap<'s>
         ensures { result.now ≡ self.now.tables.map }
     {
-        &self.tables.address_map
+        &self.held.tables.address_map
     }
 
     /// A formatter of types over what was read, with the default flags.
@@ -202,15 +170,15 @@ impl<'p, 's, S: Source> ContextPdbData<'p, 's, S> {
         ensures parts { IfOk result (λ f. f ≡ formatting_of self.now flags.bits) }
         ensures memory { IsOkUnless result Error.OutOfMemory }
     {
-        let modules = collect_modules(alloc, self.debug_information.modules())?;
+        let modules = collect_modules(alloc, self.held.debug_information.modules())?;
         let formatter = TypeFormatter::new_from_parts(
             alloc,
-            &self.modules,
+            &self.held.modules,
             modules,
-            &self.debug_information,
-            &self.tables.types,
-            &self.tables.ids,
-            self.names.as_ref(),
+            &self.held.debug_information,
+            &self.held.tables.types,
+            &self.held.tables.ids,
+            self.held.names.as_ref(),
             flags,
         )?;
         Ok(formatter)
@@ -247,12 +215,12 @@ impl<'p, 's, S: Source> ContextPdbData<'p, 's, S> {
         let formatter = self.make_type_formatter_with_flags(alloc, flags)?;
         Context::new_from_parts(
             alloc,
-            &self.modules,
-            self.tables.address_map.image_section_headers(),
-            &self.tables.address_map,
-            &self.tables.symbol_records,
-            self.names.as_ref(),
-            &self.debug_information,
+            &self.held.modules,
+            self.held.tables.address_map.image_section_headers(),
+            &self.held.tables.address_map,
+            &self.held.tables.symbol_records,
+            self.held.names.as_ref(),
+            &self.held.debug_information,
             MaybeOwned::Owned(formatter),
         )
     }
@@ -264,20 +232,15 @@ impl<'p, 's, S: Source> ContextPdbData<'p, 's, S> {
     /// As [`Context::new_from_parts`].
     pub fn check_context(&self, alloc: Global) -> std::result::Result<(), Error>
         requires { IsOrdered self.now.tables.map }
-        ensures { Answers (λ _. tt) result (checked_parts self.now) }
+        ensures { Answers (λ _. tt) result (parts_checked self.now) }
     {
-        ContextParts::check(
-            alloc,
-            self.tables.address_map.image_section_headers(),
-            &self.tables.symbol_records,
-            &self.debug_information,
-        )
+        self.held.check_parts(alloc)
     }
 }
 
-/// A module goes by its number alone. A fault of its stream was kept.
+/// A module goes by its number alone. The fault of its stream is answered as `Kept`.
 impl<'p, 's, S: Source> ModuleProvider for ContextPdbData<'p, 's, S> {
-    ghost use Rattle.pdb_loading.specs.Kept.{answered_at};
+    ghost use Rattle.pdb_loading.specs.ModuleInfos.{answered_at};
     ghost use Rattle.pdb_loading.specs.Provided.{faults_kept};
 
     type Info = ModuleInfo<'s>;
@@ -289,7 +252,7 @@ impl<'p, 's, S: Source> ModuleProvider for ContextPdbData<'p, 's, S> {
         module_index: usize,
         module: &Module<'_>,
     ) -> Result<Option<&ModuleInfo<'s>>> {
-        self.modules.get_module_info(module_index, module)
+        self.held.modules.get_module_info(module_index, module)
     }
 
     ghost faults_of_modules = { λ d number entry. faults_kept d.infos number };

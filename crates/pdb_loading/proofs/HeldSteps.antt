@@ -6,7 +6,7 @@ use Rattle.pdb_container.specs.declared.error.Error.{Error}
 use Rattle.pdb_container.specs.declared.error.Error.TheVariants as errors
 use Rattle.pdb_container.specs.Fault.{Fault, HasRisen, IsOutside, fault_of, ◌>>=◌}
 use Rattle.pdb_container.specs.Listing.{Listing, whole}
-use Rattle.pdb_loading.specs.Kept.{KeptInfo, kept_info, answered, answered_at, answered_if_listed, AnswersSourceFault, KeepsAt, KeepsInfo, KeepsInfos, KeepsNames}
+use Rattle.pdb_loading.specs.ModuleInfos.{KeptInfo, kept_info, answered, answered_at, answered_if_listed, AnswersSourceFault, KeepsAt, KeepsInfo, KeepsInfos, KeepsNames}
 use Rattle.pdb_loading.proofs.KeptSteps.{kept_wider, risen_between}
 use Rattle.pdb_loading.specs.Held.{Held, IsOwn, kept_infos, names_in, given}
 use Rattle.pdb_loading.specs.Loading.{listed}

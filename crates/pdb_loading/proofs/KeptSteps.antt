@@ -8,7 +8,7 @@ use Rattle.pdb_container.specs.declared.error.Error.{Error}
 use Rattle.pdb_container.specs.declared.error.Error.TheVariants as errors
 use Rattle.pdb_container.specs.Fault.{Fault, fault_of, kept_of, IsOutside, HasRisen}
 use Rattle.pdb_symbols_modules.specs.ModuleStream.{ModuleStream}
-use Rattle.pdb_loading.specs.Kept.{KeptInfo, kept_info, kept_as, if_read, Keeps, KeepsAt, KeepsInfo, KeepsInfos, KeepsNames, IsSourceFault, IsStreamFault, FailsAsStream}
+use Rattle.pdb_loading.specs.ModuleInfos.{KeptInfo, kept_info, kept_as, if_read, Keeps, KeepsAt, KeepsInfo, KeepsInfos, KeepsNames, IsSourceFault, IsStreamFault, FailsAsStream}
 use Rattle.pdb_loading.specs.Held.{kept_infos}
 use Rattle.pdb_symbols_modules.specs.Modules.{Module}
 use Rattle.pdb_symbols_modules.specs.DatabaseCalls.{module_info}

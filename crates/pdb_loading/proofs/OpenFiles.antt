@@ -6,7 +6,7 @@ use Rattle.std.specs.declared.io.ErrorKind.TheVariants as eof
 use Rattle.pdb_container.specs.Container.{Layout, layout_of, words, pages_in, directory_of, stream_pages_in, absent, page_count, stream_in, stream}
 use Rattle.pdb_container.specs.Fault.{Fault, ◌>>=◌, guard, refuse, StreamNotFound, PageReferenceOutOfRange, IoError, UnexpectedEof}
 use Rattle.pdb_container.specs.Places.{bytes_at}
-use Rattle.pdb_loading.specs.Kept.{IsStreamFault, FailsAsStream}
+use Rattle.pdb_loading.specs.ModuleInfos.{IsStreamFault, FailsAsStream}
 use Rattle.pdb_symbols_modules.specs.ModuleStream.{ModuleStream}
 use Rattle.pdb_symbols_modules.specs.Dbi.{Dbi}
 use Rattle.pdb_symbols_modules.specs.Modules.{Module}

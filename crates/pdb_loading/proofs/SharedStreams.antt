@@ -1,7 +1,6 @@
 -- Modules that name one stream have the same bytes, each in its own parts.
-use Rattle.std.proofs.Common.{◌≡◌, ℕ, ◌+◌, ◌<◌, ◌≤◌, ◌⊎◌, List, [], ◌∷◌, ◌++◌, length, get_or, take, Bool, true, false, Result, Ok, Err, inl, inr, refl, sym, ap, subst, ◌∙◌, cond, arith}
-use Rattle.std.specs.Prelude.{Option, None, Some, map, option_map, IfOk}
-use Rattle.std.specs.declared.cmp.Ordering.{Ordering}
+use Rattle.std.proofs.Common.{◌≡◌, ℕ, ◌≤◌, List, Bool, true, false, Result, Ok, Err, inl, inr, refl, sym, ap, subst, ◌∙◌, cond, arith}
+use Rattle.std.specs.Prelude.{Option, None, Some, option_map, IfOk}
 use Rattle.std.specs.Cmp.{Equal-is}
 use Rattle.std.specs.BTreeMap.{BTreeMap, get, is_at, Updates}
 use Rattle.std.specs.Ordering.{nat_cmp}
@@ -10,9 +9,8 @@ use Rattle.std.proofs.lemmas.Option.{same_Some}
 use Rattle.std.proofs.lemmas.Map.Lookups.{CmpEqualImpliesEq}
 use Rattle.pdb_container.specs.declared.error.Error.{Error}
 use Rattle.pdb_container.specs.Fault.{Fault, ◌>>=◌, Gives, HasRisen}
-use Rattle.pdb_symbols_modules.specs.ModuleStream.{ModuleStream}
 use Rattle.pdb_loading.proofs.KeptSteps.{risen_between}
-use Rattle.pdb_loading.specs.Kept.{KeptInfo, kept_info, IsSourceFault, KeepsInfo}
+use Rattle.pdb_loading.specs.ModuleInfos.{KeptInfo, kept_info, IsSourceFault, KeepsInfo}
 use Rattle.pdb_loading.specs.Sharing.{in_parts_of, IsOfStream, KeepsStream, AreOfStreams, IsShared}
 use Rattle.pdb_symbols_modules.specs.DatabaseCalls.{module_info}
 use Rattle.pdb_symbols_modules.specs.Modules.{Module}

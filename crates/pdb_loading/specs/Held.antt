@@ -1,8 +1,12 @@
 -- What is held of a database, and that it is the file's.
 use Rattle.std.specs.Prelude.{◌≡◌, ℕ, List, length, Option, map, Result}
-use Rattle.pdb_loading.specs.Kept.{KeptInfo, kept_info, answered, answered_at, if_read, AnswersSourceFault, KeepsAt, KeepsNames}
-use Rattle.pdb_loading.specs.Loading.{Tables, Loaded}
+use Rattle.pdb_loading.specs.ModuleInfos.{KeptInfo, kept_info, answered, answered_at, if_read}
+use Rattle.pdb_loading.specs.ModuleInfos.{AnswersSourceFault, KeepsAt, KeepsNames}
+use Rattle.pdb_loading.specs.Loading.{Tables, DatabaseRead}
+use Rattle.pdb_choice.specs.Choice.{Parts}
+use Rattle.pdb_choice.specs.Parts.{outcome, parts_of}
 use Rattle.pdb_container.specs.Fault.{Fault}
+use Rattle.pdb_resolving.specs.Fault as answers
 use Rattle.pdb_symbols_modules.specs.ModuleStream.{ModuleStream}
 use Rattle.pdb_symbols_modules.specs.Dbi.{Dbi}
 use Rattle.pdb_symbols_modules.specs.Modules.{Module, modules_of}
@@ -10,19 +14,29 @@ use Rattle.pdb_symbols_modules.specs.DatabaseCalls.{names, module_info}
 use Rattle.pdb_symbols_modules.specs.Shared.{shared, provider}
 use Rattle.pdb_symbols_modules.specs.Streams.{Streams}
 
--- what all steps read, the names of files and modules where there are any, and what is kept of each module in the order of
--- the list
+-- what is read in order, the names of files and modules where there are any, and what is stored of
+-- each module in the order of the list
 pub record Held : Type 0 where
   pub debug_information : Dbi
   pub tables : Tables
   pub names : Option (List ℕ)
   pub infos : List KeptInfo
 
--- what the steps read
-abbrev pub loaded_in : Held → Loaded
-loaded_in h = record { debug_information = h.debug_information; tables = h.tables }
+-- what is read in order
+abbrev pub read_in : Held → DatabaseRead
+read_in h = record { debug_information = h.debug_information; tables = h.tables }
 
--- what is kept of the modules of a list
+-- what every question of a context goes over
+abbrev pub parts_held : Held → Result Parts answers.Fault
+parts_held h =
+    parts_of h.tables.map.image h.tables.map h.tables.symbol_records
+    h.debug_information.contributions h.names
+
+-- whether that can be had
+abbrev pub parts_checked : Held → Result (Unit {0}) answers.Fault
+parts_checked h = outcome (parts_held h)
+
+-- what is stored of the modules of a list
 abbrev pub kept_infos : Streams → List Module → List KeptInfo
 kept_infos s modules = map (λ m. kept_info (module_info s m)) modules
 
@@ -30,14 +44,15 @@ kept_infos s modules = map (λ m. kept_info (module_info s m)) modules
 abbrev pub names_in : Streams → Option (List ℕ)
 names_in s = if_read (names (shared s))
 
--- what a file gives of the module of a number, with a fault as it is kept
+-- what a file gives of the module of a number, with a fault as it is stored
 abbrev pub given : Streams → ℕ → Result (Option ModuleStream) Fault
 given s number = answered (kept_info (provider s number))
 
 -- Names and modules are the file's, but for what its source failed to give: names are missing
--- then, and a module has that fault. As many modules are kept as the list has, so past it there is
--- none.
+-- then, and a module has that fault. As many modules are stored as the list has, so past it there
+-- is none.
 pub record IsOwn (s : Streams) (failed : Type 0) (h : Held) : Type 0 where
   pub names_are : KeepsNames failed h.names (names_in s)
-  pub modules_are : (number : ℕ) → KeepsAt AnswersSourceFault failed (answered_at h.infos number) (given s number)
+  pub modules_are : (number : ℕ)
+      → KeepsAt AnswersSourceFault failed (answered_at h.infos number) (given s number)
   pub count_is : length h.infos ≡ length (modules_of h.debug_information.modules).items

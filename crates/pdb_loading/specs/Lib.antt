@@ -1,6 +1,9 @@
 pub mod FileRead
 pub mod Held
-pub mod Kept
+pub mod LoadFaultText
+pub mod LoadFaults
+pub mod LoadedFile
 pub mod Loading
+pub mod ModuleInfos
 pub mod Provided
 pub mod Sharing

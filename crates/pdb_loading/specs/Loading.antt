@@ -1,57 +1,124 @@
--- What is read of a database before formatters and contexts are made of it, and the first fault of that.
-use Rattle.std.specs.Prelude.{List, ℕ, Result, Ok}
-use Rattle.pdb_addresses.specs.Addresses.{Map}
-use Rattle.pdb_container.specs.Fault.{Fault, ◌>>=◌}
+-- The order in which a program database is loaded, and the fault that refuses it.
+use Rattle.std.specs.Prelude.{List, ℕ, not, Option, None, Some, Result, Ok, Err}
+use Rattle.pdb_addresses.specs.Addresses.{Map, is_ordered}
+use Rattle.pdb_container.specs.Fault as container
+use Rattle.pdb_container.specs.Fault.{◌>>=◌, refuse}
 use Rattle.pdb_container.specs.Listing.{whole}
 use Rattle.pdb_items.specs.Items.{Table}
 use Rattle.pdb_symbols_modules.specs.AddressTables.{address_map_by}
 use Rattle.pdb_symbols_modules.specs.Dbi.{Dbi}
 use Rattle.pdb_symbols_modules.specs.Modules.{modules_of}
-use Rattle.pdb_symbols_modules.specs.DatabaseCalls.{debug_information, global_symbols_by, types, ids}
-use Rattle.pdb_symbols_modules.specs.Shared.{Shared, optional_in}
+use Rattle.pdb_symbols_modules.specs.DatabaseCalls.{debug_information, global_symbols_by, types}
+use Rattle.pdb_symbols_modules.specs.DatabaseCalls.{ids, names}
+use Rattle.pdb_symbols_modules.specs.Shared.{Shared, shared, optional_in}
+use Rattle.pdb_symbols_modules.specs.Streams.{Streams, fault_in}
+use Rattle.pdb_resolving.specs.Fault as answers
+use Rattle.pdb_choice.specs.Choice.{Parts}
+use Rattle.pdb_choice.specs.Parts.{parts_of}
+use Rattle.pdb_loading.specs.ModuleInfos.{if_read}
 
--- the tables of types and of ids
-unfoldable pub items : Shared → Result (Table × Table) Fault
-items c = do
-  types ← types c
-  ids ← ids c
-  Ok (types, ids)
+-- ---- faults
 
--- what stands behind stream 3: the bytes of the symbol records, both tables, and the ways between addresses
+-- why a file isn't loaded; out of memory is in no definition
+pub data LoadingFault : Type 0 where
+  Pdb : answers.Fault → LoadingFault
+  AddressTableDecreases : LoadingFault
+
+-- a fault of the container is one of loading
+abbrev pub lifted : {A : Type 0} → Result A container.Fault → Result A LoadingFault
+lifted (Ok x) = Ok x
+lifted (Err e) = Err (Pdb (answers.PdbError e))
+
+-- a fault of what answers go over is one of loading
+abbrev pub in_loading : {A : Type 0} → Result A answers.Fault → Result A LoadingFault
+in_loading (Ok x) = Ok x
+in_loading (Err e) = Err (Pdb e)
+
+-- ---- the order
+
+-- what comes after stream 3: the symbol records' bytes, the tables of types and ids, and the
+-- address map
 pub record Tables : Type 0 where
   pub symbol_records : List ℕ
   pub types : Table
   pub ids : Table
   pub map : Map
 
--- Symbol records, types, ids and address tables, in this order.
-unfoldable pub tables : Shared → Dbi → Result Tables Fault
-tables c dbi = do
-  symbol_records ← global_symbols_by dbi.symbol_records_stream c.symbols
-  items ← items c
-  map ← address_map_by (optional_in c dbi)
-  Ok record { symbol_records = symbol_records; types = items.0; ids = items.1; map = map }
+-- what was loaded: stream 3, what comes after it, and what every question goes over
+pub record Loaded : Type 0 where
+  pub debug_information : Dbi
+  pub tables : Tables
+  pub parts : Parts
 
--- the module list, which has to be there to its end
-unfoldable pub listed : Dbi → Result (Unit {0}) Fault
+-- whether the container opens
+abbrev pub none_or : Option container.Fault → Result (Unit {0}) container.Fault
+none_or None = Ok tt
+none_or (Some e) = Err e
+
+-- What comes after stream 3, in this order.
+unfoldable pub tables : Shared → Dbi → Result Tables container.Fault
+tables c dbi = do
+  -- the stream of the symbol records
+  symbol_records ← global_symbols_by dbi.symbol_records_stream c.symbols
+  -- stream 2, types, with its header
+  types ← types c
+  -- stream 4, ids, with its header
+  ids ← ids c
+  -- optional header, section headers, original section headers, and with these both OMAPs
+  map ← address_map_by (optional_in c dbi)
+  Ok record { symbol_records = symbol_records; types = types; ids = ids; map = map }
+
+-- the module list, to its end
+unfoldable pub listed : Dbi → Result (Unit {0}) container.Fault
 listed dbi = do
   modules ← whole (modules_of dbi.modules)
   Ok tt
 
--- what all steps read
-pub record Loaded : Type 0 where
+-- What every question goes over: the symbol records to their end, and then the contributions, in
+-- order and apart. A string table that can't be read is none.
+abbrev pub parts_in : Shared → Dbi → Tables → Result Parts LoadingFault
+parts_in c dbi read =
+    in_loading
+    (parts_of read.map.image read.map read.symbol_records dbi.contributions (if_read (names c)))
+
+-- The order of loading: the first step that fails has the fault.
+unfoldable pub loaded : Shared → Result Loaded LoadingFault
+loaded c = do
+  -- the container
+  opened ← lifted (none_or c.open_fault)
+  -- stream 3 (DBI), with its header
+  dbi ← lifted (debug_information c)
+  -- symbol records, types, ids, address tables
+  read ← lifted (tables c dbi)
+  -- no OMAP's sources decrease
+  ordered ← refuse (not (is_ordered read.map)) AddressTableDecreases
+  -- the module list
+  modules ← lifted (listed dbi)
+  -- symbols, contributions
+  parts ← parts_in c dbi read
+  Ok record { debug_information = dbi; tables = read; parts = parts }
+
+-- why a file isn't loaded
+abbrev pub load_fault : Streams → Option LoadingFault
+load_fault s = fault_in (loaded (shared s))
+
+-- ---- the steps that fail as the container does
+
+-- what contexts and formatters are made of, of an open database
+pub record DatabaseRead : Type 0 where
   pub debug_information : Dbi
   pub tables : Tables
 
--- the module list, behind what was read before it
-abbrev pub loaded_behind : Dbi → Tables → Result Loaded Fault
-loaded_behind dbi tables = do
-  whole_list ← listed dbi
-  Ok record { debug_information = dbi; tables = tables }
+-- the module list, after what comes before it
+abbrev pub read_after : Dbi → Tables → Result DatabaseRead container.Fault
+read_after dbi read = do
+  modules ← listed dbi
+  Ok record { debug_information = dbi; tables = read }
 
--- Stream 3, what stands behind it, and the module list, in this order: in each step the first fault.
-unfoldable pub loaded : Shared → Result Loaded Fault
-loaded c = do
+-- The steps of loading that read streams, in the same order: without opening, without the check of
+-- OMAPs, and without what a context makes of symbols and contributions.
+unfoldable pub database_read : Shared → Result DatabaseRead container.Fault
+database_read c = do
   dbi ← debug_information c
-  tables ← tables c dbi
-  loaded_behind dbi tables
+  read ← tables c dbi
+  read_after dbi read

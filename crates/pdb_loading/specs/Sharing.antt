@@ -1,35 +1,37 @@
--- Modules that name one stream: it is read once, and held in common.
-use Rattle.std.specs.Prelude.{◌≡◌, ℕ, ◌⊎◌, Option, None, Some, Result, Ok, Err}
+-- Modules that name one stream: it is read once, and they share it.
+use Rattle.std.specs.Prelude.{◌≡◌, ℕ, ◌⊎◌, None, Some, Ok, Err}
 use Rattle.std.specs.BTreeMap.{BTreeMap, get}
 use Rattle.std.specs.Result.{IsErrAnd}
 use Rattle.std.specs.Ordering.{nat_cmp}
-use Rattle.pdb_loading.specs.Kept.{KeptInfo, kept_info, IsSourceFault, KeepsInfo}
+use Rattle.pdb_loading.specs.ModuleInfos.{KeptInfo, kept_info, IsSourceFault, KeepsInfo}
 use Rattle.pdb_symbols_modules.specs.DatabaseCalls.{module_info}
 use Rattle.pdb_symbols_modules.specs.Modules.{Module}
 use Rattle.pdb_symbols_modules.specs.Shared.{module_stream}
 use Rattle.pdb_symbols_modules.specs.Streams.{Streams}
 
--- what is kept of a module, by what is kept of another one that names the same stream: that one's bytes, in parts of its own
--- sizes
+-- what is stored of a module, by what is stored of another one that names the same stream: that
+-- one's bytes, in parts of its own sizes
 abbrev pub in_parts_of : Module → KeptInfo → KeptInfo
 in_parts_of m (Ok None) = Ok None
 in_parts_of m (Ok (Some info)) = Ok (Some (module_stream m info.bytes))
 in_parts_of m (Err fault) = Err fault
 
--- what was kept of a stream is what each module has that names its number
+-- what was stored of a stream is what each module has that names its number
 abbrev pub IsOfStream : Streams → ℕ → KeptInfo → Type 0
-IsOfStream s number kept = (m : Module) → m.stream ≡ number → kept_info (module_info s m) ≡ in_parts_of m kept
+IsOfStream s number kept =
+    (m : Module) → m.stream ≡ number → kept_info (module_info s m) ≡ in_parts_of m kept
 
--- What was kept of a stream is that, or the source failed, and it is that fault.
+-- What was stored of a stream is that, or the source failed, and it is that fault.
 abbrev pub KeepsStream : Streams → Type 0 → ℕ → KeptInfo → Type 0
-KeepsStream s failed number kept = IsOfStream s number kept ⊎ (failed × IsErrAnd kept IsSourceFault)
+KeepsStream s failed number kept =
+    IsOfStream s number kept ⊎ (failed × IsErrAnd kept IsSourceFault)
 
--- streams by their numbers, as they were kept
+-- streams by their numbers, as they were stored
 pub record AreOfStreams (s : Streams) (failed : Type 0) (read : BTreeMap ℕ KeptInfo) : Type 0 where
   pub each : (number : ℕ) (kept : KeptInfo) → get nat_cmp read number ≡ Some kept
       → KeepsStream s failed number kept
 
--- what is kept of one module more, and of the streams that were read then
+-- what is stored of one module more, and of the streams that were read then
 pub record IsShared (s : Streams) (m : Module) (failed : Type 0) (kept : KeptInfo)
     (read : BTreeMap ℕ KeptInfo) : Type 0 where
   pub own : KeepsInfo failed kept (kept_info (module_info s m))

@@ -1,6 +1,7 @@
 //! Reading a file: no more of it than shows that it is no container, or than its pages reach.
 
-ghost use Rattle.std.specs.Prelude.{◌≡◌, ◌<◌, ◌≤◌, max, IfOk, IfSome, OnOk, length, vec_len, take, nat_eq, false};
+ghost use Rattle.std.specs.Prelude.{◌≡◌, ◌<◌, ◌≤◌, max, IfOk, IfSome, OnOk, length, vec_len, take};
+ghost use Rattle.std.specs.Prelude.{nat_eq, false};
 ghost use Rattle.std.specs.List.{starts_with};
 ghost use Rattle.std.specs.Io.{ReadsAtMost, StartsWith, appended_bytes};
 ghost use Rattle.std.specs.Io.KnownBytes.{Consumes, IsAtEnd};
@@ -31,7 +32,8 @@ const TRIES: u32 = u32::MAX;
 /// As the reader's; a read that a signal interrupts is tried again.
 #[tactic(auto, using(crate::proofs::Consumed::front_read, crate::proofs::Consumed::pages_read, crate::proofs::Consumed::rest_taken, crate::proofs::Consumed::still_begins))]
 pub fn read_file<R: Read>(alloc: Global, file: &mut R) -> io::Result<Vec<u8>>
-    ensures taken { IfOk result (λ v. Consumes (R.remaining file.old) (R.remaining file.new) v.items) }
+    ensures taken { IfOk result
+        (λ v. Consumes (R.remaining file.old) (R.remaining file.new) v.items) }
     ensures read { IfOk result (λ v. IfSome (R.remaining file.old) (λ all. IsRead all v.items)) }
     ensures front { IfOk result (λ v. starts_with nat_eq v.items magic ≡ false → vec_len v ≤ 32) }
     ensures bound { IfOk result (λ v. vec_len v ≤ max 4096 (end_in v.items)) }
@@ -87,8 +89,10 @@ fn read_on<R: Read>(file: &mut R, bytes: &mut Vec<u8>, end: u64) -> io::Result<(
 #[tactic(auto, using(crate::proofs::Consumed::still, crate::proofs::Consumed::still_none, crate::proofs::Consumed::after_still))]
 fn read_some<R: Read>(file: &mut R, buffer: &mut [u8]) -> io::Result<usize>
     ensures bound { ReadsAtMost result buffer.new }
-    ensures taken { IfOk result (λ n. Consumes (R.remaining file.old) (R.remaining file.new) (take n buffer.new)) }
-    ensures end { IfOk result (λ n. n ≡ 0 → 0 < length buffer.old → IsAtEnd (R.remaining file.new)) }
+    ensures taken { IfOk result
+        (λ n. Consumes (R.remaining file.old) (R.remaining file.new) (take n buffer.new)) }
+    ensures end { IfOk result
+        (λ n. n ≡ 0 → 0 < length buffer.old → IsAtEnd (R.remaining file.new)) }
 {
     for _ in 0..TRIES {
         match file.read(buffer) {

@@ -1,11 +1,18 @@
-//! What is read of a program database once: the bytes of its file, the tables that everything goes
-//! over, and the modules' own streams.
+//! Loading a program database: the bytes of its file, and what is read of them once, in one order,
+//! before any question. `specs/Loading` says which order, and which fault is the first;
+//! [`load_file`] reads in it.
 #![tactic(auto)]
 
 mod file_read;
+mod held_database;
+mod load_fault;
 mod loading;
 mod module_infos;
+mod tables;
 
 pub use file_read::read_file;
-pub use loading::{Tables, read_names, read_tables};
-pub use module_infos::{KeptModules, collect_modules, read_module_infos};
+pub use held_database::{HeldDatabase, read_after_tables, read_database};
+pub use load_fault::{LoadFault, plain_name};
+pub use loading::{FileDatabase, LoadedFile, load_file};
+pub use module_infos::{KeptModules, collect_modules};
+pub use tables::{Tables, read_tables};

@@ -1,131 +1,122 @@
-//! What every formatter and context goes over, without the modules: it is read once, and each fault of it refuses all.
+//! The order of loading: a file is opened, and read up to what answers go over, step by step. The
+//! first step that fails has the file's fault.
 
-ghost use Rattle.std.specs.Prelude.{◌≡◌, Ok};
-ghost use Rattle.pdb_container.specs.SourceAnswers.{AnswersFrom};
-ghost use Rattle.pdb_loading.specs.Kept.{KeepsFrom, KeepsNames};
-ghost use Rattle.pdb_loading.specs.Held.{names_in};
-ghost use Rattle.pdb_loading.specs.Loading.{items, tables};
-ghost use Rattle.pdb_symbols_modules.specs.AddressTables.{address_map_by};
-ghost use Rattle.pdb_symbols_modules.specs.DatabaseCalls.{debug_information as read_dbi, global_symbols_by};
-ghost use Rattle.pdb_symbols_modules.specs.Shared.{shared, optional_in};
+ghost use Rattle.std.specs.Prelude.{◌≡◌, IfOk, OnOk, IfErr, None};
+ghost use Rattle.pdb_loading.specs.LoadedFile.{AreInOrder, IsLoadedFrom};
+ghost use Rattle.pdb_loading.specs.LoadFaults.{FailsLoading, Refuses};
+ghost use Rattle.pdb_loading.specs.Loading.{loaded, load_fault};
+ghost use Rattle.pdb_symbols_modules.specs.Shared.{shared};
 ghost use Rattle.pdb_symbols_modules.specs.Streams.{streams};
 
-use pdb_addresses::AddressMap;
-use pdb_container::{Error, Result, Source, StringTable};
-use pdb_items::{IdInformation, TypeInformation};
-use pdb_symbols::SymbolTable;
+use crate::held_database::{HeldDatabase, read_after_tables};
+use crate::load_fault::LoadFault;
+use crate::tables::{Tables, read_tables};
+use bytes::Bytes;
+use pdb_container::BoundedBytes;
 use pdb_symbols_modules::{DebugInformation, PDB};
 use std::alloc::Global;
 use std::marker::Model;
 
-/// What stands behind stream 3: symbol records, types, ids, and the ways between addresses.
-pub struct Tables<'s> {
-    /// The symbol records, of all modules.
-    pub symbol_records: SymbolTable<'s>,
-    /// The table of types.
-    pub types: TypeInformation<'s>,
-    /// The table of ids.
-    pub ids: IdInformation<'s>,
-    /// The ways between addresses of the image and places.
-    pub address_map: AddressMap<'s>,
+/// An open program database over a file's bytes.
+pub type FileDatabase = PDB<'static, BoundedBytes>;
+
+/// A file that was loaded: its open database, and what is held of that. Its value in contracts is
+/// the file's bytes.
+pub struct LoadedFile {
+    /// The open database.
+    pub pdb: FileDatabase,
+    /// What contexts are made of.
+    pub held: HeldDatabase<'static>,
 }
 
-impl<'s> Model for Tables<'s> {
-    ghost use Rattle.pdb_loading.specs.Loading as loading;
+impl Model for LoadedFile {
+    ghost use Rattle.std.specs.Prelude.{ℕ, List};
+    ghost use Rattle.pdb_loading.specs.LoadedFile.{IsLoadedFrom};
 
-    ghost Value = { loading.Tables };
+    ghost Value = { List ℕ };
 
-    ghost view = { λ t. record { symbol_records = t.symbol_records; types = t.types; ids = t.ids; map = t.address_map } };
+    ghost view = { λ f. f.pdb };
+
+    ghost invariant = { λ f. IsLoadedFrom f.pdb f.held };
 }
 
-impl<'s> Drop for Tables<'s> {
+impl Drop for LoadedFile {
     fn drop(self) {
-        let Tables {
-            symbol_records,
-            types,
-            ids,
-            address_map,
-        } = self;
-        drop(symbol_records);
-        drop(types);
-        drop(ids);
-        drop(address_map);
+        let LoadedFile { pdb, held } = self;
+        drop(pdb);
+        drop(held);
     }
 }
 
-/// The tables of types and of ids.
-#[tactic(auto, using(pdb_container::proofs::Outside::outside_earlier, pdb_container::proofs::Outside::outside_later), unfolding(crate::specs::Loading::items))]
-fn read_items<'s, S: Source + Drop>(
-    pdb: &mut PDB<'s, S>,
-    alloc: Global,
-) -> Result<(TypeInformation<'s>, IdInformation<'s>)>
-    ensures { AnswersFrom S.bytes S.failures pdb.old pdb.new (λ p. p) result (items (shared (streams (S.bytes pdb.old)))) }
-{
-    let types = pdb.type_information(alloc)?;
-    let ids = pdb.id_information(alloc)?;
-    Ok((types, ids))
-}
-
-/// The symbol records, by what was read of stream 3.
-#[tactic(auto, using(pdb_symbols_modules::proofs::SharedSteps::symbols_alike))]
-fn read_symbol_records<'s, S: Source + Drop>(
-    pdb: &mut PDB<'s, S>,
-    alloc: Global,
-    debug_information: &DebugInformation<'_>,
-) -> Result<SymbolTable<'s>>
-    requires { read_dbi (shared (streams (S.bytes pdb.old))) ≡ Ok debug_information.now }
-    ensures { AnswersFrom S.bytes S.failures pdb.old pdb.new (λ t. t) result (global_symbols_by debug_information.now.symbol_records_stream (shared (streams (S.bytes pdb.old))).symbols) }
-{
-    pdb.global_symbols_by(alloc, debug_information)
-}
-
-/// The ways between addresses, by what was read of stream 3.
-#[tactic(auto, using(pdb_symbols_modules::proofs::SharedSteps::address_map_alike))]
-fn read_address_map<'s, S: Source + Drop>(
-    pdb: &mut PDB<'s, S>,
-    alloc: Global,
-    debug_information: &DebugInformation<'_>,
-) -> Result<AddressMap<'s>>
-    requires { read_dbi (shared (streams (S.bytes pdb.old))) ≡ Ok debug_information.now }
-    ensures { AnswersFrom S.bytes S.failures pdb.old pdb.new (λ m. m) result (address_map_by (optional_in (shared (streams (S.bytes pdb.old))) debug_information.now)) }
-{
-    pdb.address_map_by(alloc, debug_information)
-}
-
-/// What stands behind stream 3, by what was read of that: each step's first fault, in the order of symbol records, types,
-/// ids and address tables.
-#[tactic(auto, using(pdb_container::proofs::Outside::outside_earlier, pdb_container::proofs::Outside::outside_later), unfolding(crate::specs::Loading::tables))]
-pub fn read_tables<'s, S: Source + Drop>(
-    pdb: &mut PDB<'s, S>,
-    alloc: Global,
-    debug_information: &DebugInformation<'_>,
-) -> Result<Tables<'s>>
-    requires { read_dbi (shared (streams (S.bytes pdb.old))) ≡ Ok debug_information.now }
-    ensures { AnswersFrom S.bytes S.failures pdb.old pdb.new (λ t. t) result (tables (shared (streams (S.bytes pdb.old))) debug_information.now) }
-{
-    let symbol_records = read_symbol_records(pdb, alloc, debug_information)?;
-    let (types, ids) = read_items(pdb, alloc)?;
-    let address_map = read_address_map(pdb, alloc, debug_information)?;
-    Ok(Tables {
-        symbol_records,
-        types,
-        ids,
-        address_map,
-    })
-}
-
-/// The names of files and modules, where they can be read. `OutOfMemory` alone.
-#[tactic(auto, using(crate::proofs::KeptSteps::names_missing, crate::proofs::KeptSteps::names_there))]
-pub fn read_names<'s, S: Source + Drop>(
-    pdb: &mut PDB<'s, S>,
-    alloc: Global,
-) -> Result<Option<StringTable<'s>>>
-    ensures { KeepsFrom S.bytes S.failures pdb.old pdb.new KeepsNames (λ n. n) result
-        (names_in (streams (S.bytes pdb.old))) }
-{
-    match pdb.string_table(alloc) {
-        Ok(names) => Ok(Some(names)),
-        Err(Error::OutOfMemory) => Err(Error::OutOfMemory),
-        Err(_) => Ok(None),
+impl LoadedFile {
+    /// The open database, and what is held of it.
+    pub fn into_parts(self) -> (FileDatabase, HeldDatabase<'static>)
+        ensures database { result.0 ≡ self }
+        ensures held { IsLoadedFrom result.0 result.1 }
+    {
+        let LoadedFile { pdb, held } = self;
+        (pdb, held)
     }
+}
+
+/// Reads stream 3 and what comes after it. The first fault of these; `AddressTableDecreases`
+/// where the sources of an OMAP decrease; `OutOfMemory`.
+fn read_in_order(
+    alloc: Global,
+    pdb: &mut FileDatabase,
+) -> Result<(DebugInformation<'static>, Tables<'static>), LoadFault>
+    requires { (streams pdb.old).open_fault ≡ None }
+    ensures same { OnOk result (pdb.new ≡ pdb.old) }
+    ensures read { IfOk result (λ read. AreInOrder (streams pdb.old) read.0 read.1) }
+    ensures err { IfErr result (λ e. FailsLoading e (loaded (shared (streams pdb.old)))) }
+{
+    let debug_information = pdb.debug_information(alloc)?;
+    let tables = read_tables(pdb, alloc, &debug_information)?;
+    if !tables.address_map.is_ordered() {
+        return Err(LoadFault::AddressTableDecreases);
+    }
+    Ok((debug_information, tables))
+}
+
+/// Reads what contexts are made of. That a context can be made is tried.
+fn read_held(alloc: Global, pdb: &mut FileDatabase) -> Result<HeldDatabase<'static>, LoadFault>
+    requires { (streams pdb.old).open_fault ≡ None }
+    ensures same { OnOk result (pdb.new ≡ pdb.old) }
+    ensures kept { IfOk result (λ held. IsLoadedFrom pdb.old held) }
+    ensures err { IfErr result (λ e. FailsLoading e (loaded (shared (streams pdb.old)))) }
+{
+    let (debug_information, tables) = read_in_order(alloc, pdb)?;
+    let held = read_after_tables(pdb, alloc, debug_information, tables)?;
+    held.check_parts(alloc)?;
+    Ok(held)
+}
+
+/// Loads an open program database.
+fn load(alloc: Global, mut pdb: FileDatabase) -> Result<LoadedFile, LoadFault>
+    requires { (streams pdb).open_fault ≡ None }
+    ensures ok { IfOk result (λ f. f ≡ pdb.entry) }
+    ensures loaded { OnOk result (load_fault (streams pdb.entry) ≡ None) }
+    ensures err { IfErr result (λ e. FailsLoading e (loaded (shared (streams pdb.entry)))) }
+{
+    match read_held(alloc, &mut pdb) {
+        Ok(held) => Ok(LoadedFile { pdb, held }),
+        Err(fault) => Err(fault),
+    }
+}
+
+/// Opens the program database of a file's bytes and loads it: everything that keeps the file from
+/// being answered is found here, and everything that answers need is read.
+///
+/// # Errors
+/// The first fault, in the order in which a file is read: the container; stream 3 and its header;
+/// the stream of symbol records, types and ids with their headers; the address tables;
+/// `AddressTableDecreases` where the sources of an OMAP decrease; the module list; the symbol
+/// records to their end; the section contributions. `OutOfMemory`.
+pub fn load_file(alloc: Global, file: Bytes) -> Result<LoadedFile, LoadFault>
+    ensures ok { IfOk result (λ f. f ≡ file) }
+    ensures loaded { OnOk result (load_fault (streams file) ≡ None) }
+    ensures refused { IfErr result (λ e. Refuses e (load_fault (streams file))) }
+{
+    let pdb = PDB::open(alloc, BoundedBytes::new(file))?;
+    load(alloc, pdb)
 }

@@ -1,14 +1,16 @@
-//! What is kept of the modules' own streams.
+//! The modules' own streams, each read once and stored with its fault.
 
 ghost use Rattle.std.specs.Prelude.{ℕ, ◌≡◌, ◌≤◌, IfOk, IsOkUnless, Ok, None};
 ghost use Rattle.pdb_loading.specs.Held.{kept_infos};
-ghost use Rattle.pdb_loading.specs.Kept.{kept_info, kept_as, KeepsFrom, KeepsInfo, KeepsInfos};
+ghost use Rattle.pdb_loading.specs.ModuleInfos.{kept_info, kept_as};
+ghost use Rattle.pdb_loading.specs.ModuleInfos.{KeepsFrom, KeepsInfo, KeepsInfos};
 ghost use Rattle.pdb_loading.specs.Loading.{listed};
 ghost use Rattle.pdb_loading.specs.Sharing.{in_parts_of, AreOfStreams, IsShared};
 ghost use Rattle.pdb_container.specs.Fault.{Gives, HasRisen, kept_of};
 ghost use Rattle.pdb_container.specs.Listing.{whole};
 ghost use Rattle.pdb_symbols_modules.specs.Modules.{modules_of};
-ghost use Rattle.pdb_symbols_modules.specs.DatabaseCalls.{debug_information as read_dbi, module_info};
+ghost use Rattle.pdb_symbols_modules.specs.DatabaseCalls.{debug_information as read_dbi};
+ghost use Rattle.pdb_symbols_modules.specs.DatabaseCalls.{module_info};
 ghost use Rattle.pdb_symbols_modules.specs.Shared.{shared};
 ghost use Rattle.pdb_symbols_modules.specs.Streams.{streams};
 
@@ -19,10 +21,10 @@ use std::alloc::Global;
 use std::collections::BTreeMap;
 use std::marker::Model;
 
-/// What is kept of a module: its own stream, where it has one, or why that can't be read.
+/// What is stored of a module: its own stream, where it has one, or why that can't be read.
 pub type KeptInfo<'s> = std::result::Result<Option<ModuleInfo<'s>>, ModuleFault>;
 
-/// What is kept of the modules, in the order of their list.
+/// The modules' own streams, in the order of the module list, each with its fault in its place.
 #[derive(Drop)]
 pub struct KeptModules<'s> {
     infos: Vec<KeptInfo<'s>>,
@@ -30,15 +32,15 @@ pub struct KeptModules<'s> {
 
 impl<'s> Model for KeptModules<'s> {
     ghost use Rattle.std.specs.Prelude.{List};
-    ghost use Rattle.pdb_loading.specs.Kept as kept;
+    ghost use Rattle.pdb_loading.specs.ModuleInfos as stored;
 
-    ghost Value = { List kept.KeptInfo };
+    ghost Value = { List stored.KeptInfo };
 
     ghost view = { λ m. m.infos.items };
 }
 
 impl<'s> KeptModules<'s> {
-    /// What is kept of each module.
+    /// The modules of these streams.
     pub fn new(infos: Vec<KeptInfo<'s>>) -> KeptModules<'s>
         ensures { result ≡ infos.entry.items }
     {
@@ -46,9 +48,9 @@ impl<'s> KeptModules<'s> {
     }
 }
 
-/// A module goes by its number alone. A fault of its stream was kept.
+/// A module goes by its number alone. The fault of its stream is answered as `Kept`.
 impl<'s> ModuleProvider for KeptModules<'s> {
-    ghost use Rattle.pdb_loading.specs.Kept.{answered_at};
+    ghost use Rattle.pdb_loading.specs.ModuleInfos.{answered_at};
     ghost use Rattle.pdb_loading.specs.Provided.{faults_kept};
 
     type Info = ModuleInfo<'s>;
@@ -71,7 +73,10 @@ impl<'s> ModuleProvider for KeptModules<'s> {
     ghost faults_of_modules = { λ m number entry. faults_kept m number };
 }
 
-/// The modules of a list, to its end. `UnexpectedEof`.
+/// The modules of a list, which is read to its end.
+///
+/// # Errors
+/// `UnexpectedEof`; `OutOfMemory`.
 #[tactic(auto, using(pdb_container::proofs::Listings::gather_start, pdb_container::proofs::Listings::gather_more, pdb_container::proofs::Listings::gather_end, pdb_container::proofs::Listings::gather_fault))]
 pub fn collect_modules<'m>(alloc: Global, mut remaining: ModuleIter<'m>) -> Result<Vec<Module<'m>>>
     ensures { Gives (λ v. v.items) ⊥ result (whole remaining.entry) }
@@ -83,7 +88,7 @@ pub fn collect_modules<'m>(alloc: Global, mut remaining: ModuleIter<'m>) -> Resu
     Ok(modules)
 }
 
-/// The fault of a module's stream, as it is kept; any other error stays one.
+/// The fault of a module's stream, as it is stored; any other error stays one.
 fn keep<'s>(error: Error) -> Result<KeptInfo<'s>>
     ensures { result ≡ kept_as (kept_of error) }
 {
@@ -110,11 +115,12 @@ fn read_info<'s, S: Source + Drop>(
     }
 }
 
-/// Streams of modules that were read, by their numbers, as they were kept of the first module that names each.
+/// Streams of modules that were read, by their numbers, as they were stored for the first module
+/// that names each.
 type ReadStreams<'s> = BTreeMap<u16, KeptInfo<'s>>;
 
-/// What is kept of a module, by what is kept of another one that names the same stream. The bytes are held in common.
-/// `OutOfMemory` alone.
+/// What is stored of a module, by what is stored of another one that names the same stream. Both
+/// share its bytes. `OutOfMemory` alone.
 fn share_info<'s>(kept: &KeptInfo<'s>, entry: &Module<'_>) -> Result<KeptInfo<'s>>
     ensures { Gives (λ k. k) ⊥ result (Ok (in_parts_of entry.now kept.now)) }
 {
@@ -132,8 +138,8 @@ fn share_info<'s>(kept: &KeptInfo<'s>, entry: &Module<'_>) -> Result<KeptInfo<'s
     }
 }
 
-/// A module's own stream, or why it can't be read; a stream that another module named before isn't read again. `OutOfMemory`
-/// alone.
+/// A module's own stream, or why it can't be read; a stream that another module named before isn't
+/// read again. `OutOfMemory` alone.
 fn keep_info<'s, S: Source + Drop>(
     pdb: &mut PDB<'s, S>,
     alloc: Global,
@@ -144,8 +150,10 @@ fn keep_info<'s, S: Source + Drop>(
     ensures same { S.bytes pdb.new ≡ S.bytes pdb.old }
     ensures counts { S.failures pdb.old ≤ S.failures pdb.new }
     ensures memory { IsOkUnless result Error.OutOfMemory }
-    ensures shared { IfOk result (λ k. (before : ℕ) → before ≤ S.failures pdb.old → AreOfStreams (streams (S.bytes pdb.old)) (HasRisen before (S.failures pdb.old)) read.old
-        → IsShared (streams (S.bytes pdb.old)) entry.now (HasRisen before (S.failures pdb.new)) k read.new) }
+    ensures shared { IfOk result (λ k. (before : ℕ) → before ≤ S.failures pdb.old
+        → AreOfStreams (streams (S.bytes pdb.old)) (HasRisen before (S.failures pdb.old)) read.old
+        → IsShared (streams (S.bytes pdb.old)) entry.now (HasRisen before (S.failures pdb.new))
+        k read.new) }
 {
     let number = entry.stream().0;
     if let Some(kept) = read.get(&number) {
@@ -175,9 +183,13 @@ fn read_infos<'s, S: Source + Drop>(
     Ok(infos)
 }
 
-/// The same of all modules of the list in stream 3, which was read. `UnexpectedEof` where that list isn't whole, `OutOfMemory`.
+/// The own streams of all modules of the list in stream 3, which was read; each or why it can't be
+/// read.
+///
+/// # Errors
+/// `UnexpectedEof` where the list isn't whole; `OutOfMemory`.
 #[tactic(auto, using(crate::proofs::OpenFiles::open_where_read, crate::proofs::HeldSteps::list_there, crate::proofs::HeldSteps::list_missing))]
-pub fn read_module_infos<'s, S: Source + Drop>(
+pub(crate) fn read_module_infos<'s, S: Source + Drop>(
     pdb: &mut PDB<'s, S>,
     alloc: Global,
     debug_information: &DebugInformation<'_>,
@@ -186,7 +198,8 @@ pub fn read_module_infos<'s, S: Source + Drop>(
     ensures same { S.bytes pdb.new ≡ S.bytes pdb.old }
     ensures counts { S.failures pdb.old ≤ S.failures pdb.new }
     ensures whole_list { Gives (λ _. tt) ⊥ result (listed debug_information.now) }
-    ensures kept { IfOk result (λ v. KeepsInfos (HasRisen (S.failures pdb.old) (S.failures pdb.new)) v.items
+    ensures kept { IfOk result
+        (λ v. KeepsInfos (HasRisen (S.failures pdb.old) (S.failures pdb.new)) v.items
         (kept_infos (streams (S.bytes pdb.old)) (modules_of debug_information.now.modules).items)) }
 {
     let modules = collect_modules(alloc, debug_information.modules())?;

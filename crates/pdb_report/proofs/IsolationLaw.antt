@@ -7,8 +7,8 @@ use Rattle.pdb_addr2line.specs.Choice as places
 use Rattle.pdb_addr2line.specs.Choice.{held_at, place_of}
 use Rattle.pdb_addr2line.specs.Frames.{frames, frames_if_held, function, function_at as function_in}
 use Rattle.pdb_addr2line.specs.Held.{given, names_in}
-use Rattle.pdb_addr2line.specs.Kept.{if_read}
-use Rattle.pdb_addr2line.specs.Loading.{tables, listed}
+use Rattle.pdb_loading.specs.ModuleInfos.{if_read}
+use Rattle.pdb_loading.specs.Loading.{tables, listed, Loaded, parts_in, none_or, loaded, load_fault, LoadingFault, AddressTableDecreases, lifted}
 use Rattle.pdb_addr2line.specs.Scopes.{Scope}
 use Rattle.pdb_engine.specs.Address.{address_of}
 use Rattle.pdb_addresses.specs.Addresses.{is_ordered}
@@ -19,9 +19,7 @@ use Rattle.pdb_contributions.specs.declared.contribution.ModuleSectionContributi
 use Rattle.pdb_report.specs.Answer.{given_in, formatting_in, scope, answer, answer_by, function_at, function_by}
 use Rattle.pdb_report.specs.Isolation.{AreAlikeFor, IsRelated, modules_in, holder_by, holder_at, IsIsolated, exchanged, exchanged_if}
 use Rattle.pdb_report.specs.Isolation.IsRelated.{Itself, Reached}
-use Rattle.pdb_report.specs.Loading.{Loaded, parts_in, none_or, loaded, loaded_open, loaded_behind, load_fault}
 use Rattle.pdb_report_texts.specs.AddressText.{line_text, Answers}
-use Rattle.pdb_report_texts.specs.Faults.{LoadingFault, AddressTableDecreases, lifted}
 use Rattle.pdb_resolving.specs.Reaches.{Reaches}
 use Rattle.pdb_resolving.specs.Resolving.{Modules, resolve}
 use Rattle.pdb_symbols_modules.specs.DatabaseCalls.{debug_information, names}
@@ -39,7 +37,7 @@ use Rattle.pdb_type_sizes.proofs.ReadingAlike.{types_alike, ids_alike, sizes_ali
 
 -- what was loaded has the module list of the file
 loaded_dbi : (c : Shared) (l : Loaded) → loaded c ≡ Ok l → debug_information c ≡ Ok l.debug_information
-unfolding loaded loaded_open loaded_behind
+unfolding loaded
 loaded_dbi c l e =
     bind_cases (lifted (none_or c.open_fault)) _ e λ _ _ e.
     bind_cases (lifted (debug_information c)) _ e λ dbi dbi_is e.

@@ -1,5 +1,4 @@
 pub mod IsolationLaw
-pub mod Lifting
 pub mod NeededStreams
 pub mod OtherFiles
 pub mod OpeningSteps

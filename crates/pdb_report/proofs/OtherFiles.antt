@@ -2,7 +2,7 @@
 use Rattle.std.proofs.Common.{◌≡◌, ℕ, List, refl, ap, subst}
 use Rattle.pdb_loading.specs.FileRead.{IsRead}
 use Rattle.pdb_loading.proofs.StreamsRead.{streams_read}
-use Rattle.pdb_report.specs.Loading.{load_fault}
+use Rattle.pdb_loading.specs.Loading.{load_fault}
 use Rattle.pdb_report.specs.SameReports.{HaveSameReports}
 use Rattle.pdb_symbols_modules.specs.Streams.{Streams, streams}
 

@@ -11,10 +11,9 @@ use Rattle.pdb_functions.specs.Databases.{Database}
 use Rattle.pdb_functions.specs.FileReport.{IsFileReport}
 use Rattle.pdb_report.specs.Answer.{scope, answer, answer_by, function_at, function_by, database, database_by, files, files_by}
 use Rattle.pdb_report.specs.Answer.{listing, listing_by, address_map, map_by}
-use Rattle.pdb_report.specs.Loading.{Loaded, loaded}
+use Rattle.pdb_loading.specs.Loading.{Loaded, loaded, LoadingFault}
 use Rattle.pdb_report.specs.SameReports.{HaveSameReports}
 use Rattle.pdb_report.specs.SizesReport.{IsReportOn}
-use Rattle.pdb_report_texts.specs.Faults.{LoadingFault}
 use Rattle.pdb_functions.specs.Report.{IsReport}
 use Rattle.pdb_symbols_modules.specs.Shared.{shared}
 use Rattle.pdb_symbols_modules.specs.Streams.{Streams, streams, fault_in}

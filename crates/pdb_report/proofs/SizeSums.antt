@@ -1,5 +1,5 @@
 -- What the reports on the ranges of one file have, and how it adds up.
-use Rattle.std.proofs.Common.{◌≡◌, ℕ, ◌+◌, ◌-◌, ◌≤◌, List, Some, Result, Ok, Err, not, sym, ap, ◌∙◌}
+use Rattle.std.proofs.Common.{◌≡◌, ℕ, ◌+◌, ◌≤◌, List, Some, Result, Ok, Err, not, sym, ap, ◌∙◌}
 use Rattle.std.proofs.Common.{true, arith}
 use Rattle.std.specs.Prelude.{is_some}
 use Rattle.std.specs.declared.cmp.Ordering.{Ordering}
@@ -17,8 +17,7 @@ use Rattle.pdb_functions.proofs.HowMany.{how_many-split}
 use Rattle.pdb_symbols_modules.specs.Shared.{shared}
 use Rattle.pdb_symbols_modules.specs.Streams.{Streams}
 use Rattle.pdb_report.specs.Answer.{address_map, database, database_by, files, files_by, scope}
-use Rattle.pdb_report.specs.Loading.{Loaded, loaded}
-use Rattle.pdb_report_texts.specs.Faults.{LoadingFault}
+use Rattle.pdb_loading.specs.Loading.{Loaded, loaded, LoadingFault}
 
 same_some : (m n : Map) → Some m ≡ Some n → m ≡ n
 same_some m n h = (cc)

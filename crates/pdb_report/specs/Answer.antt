@@ -23,8 +23,8 @@ use Rattle.pdb_addr2line.specs.Runs.{database_of}
 use Rattle.pdb_functions.specs.Databases.{Database, Keyed}
 use Rattle.pdb_functions.specs.FunctionOrder.{Function}
 use Rattle.pdb_addr2line.specs.Held.{given, names_in}
-use Rattle.pdb_report_texts.specs.Faults.{LoadingFault}
-use Rattle.pdb_report.specs.Loading.{Loaded, loaded}
+use Rattle.pdb_addr2line.specs.ModuleInfos.{KeptInfo, answered_at}
+use Rattle.pdb_loading.specs.Loading.{LoadingFault, Loaded, loaded}
 
 -- what a file gives of the module of a number, whatever its entry; a fault says that it was kept
 abbrev pub given_in : Streams → Provided
@@ -119,6 +119,10 @@ unfoldable pub address_map : Streams → Option Map
 address_map s = map_by (loaded (shared s))
 
 -- ---- by a context
+
+-- what stored modules give of the module of a number, whatever its entry
+abbrev pub answered_in : List KeptInfo → Provided
+answered_in infos number entry = answered_at infos number
 
 -- the answer of a context for an address
 abbrev pub answer_of : {P : Type 0} → (P → Provided) → Context P → ℕ

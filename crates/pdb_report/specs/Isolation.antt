@@ -7,9 +7,8 @@ use Rattle.pdb_engine.specs.Address.{address_of}
 use Rattle.pdb_container.specs.Alike.{OpenAlike, ReadAlike}
 use Rattle.pdb_container.specs.Fault as container
 use Rattle.pdb_report.specs.Answer.{answer, function_at, given_in}
-use Rattle.pdb_report.specs.Loading.{Loaded, loaded}
+use Rattle.pdb_loading.specs.Loading.{Loaded, loaded, LoadingFault}
 use Rattle.pdb_report_texts.specs.AddressText.{line_text, Answers}
-use Rattle.pdb_report_texts.specs.Faults.{LoadingFault}
 use Rattle.pdb_resolving.specs.Reaches.{Reaches}
 use Rattle.pdb_resolving.specs.Resolving.{Modules, none_failed}
 use Rattle.pdb_symbols_modules.specs.DatabaseCalls.{debug_information}

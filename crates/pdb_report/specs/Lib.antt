@@ -1,12 +1,10 @@
 pub mod Answer
 pub mod FileReport
 pub mod Isolation
-pub mod Kept
-pub mod Loading
 pub mod SameReports
 pub mod SizesReport
 pub use Rattle.pdb_report_texts.specs.AddressText
-pub use Rattle.pdb_report_texts.specs.Faults
+pub use Rattle.pdb_loading.specs.LoadFaults
 pub use Rattle.pdb_report_texts.specs.FaultText
 pub use Rattle.pdb_report_texts.specs.RunFaults
 pub use Rattle.pdb_report_texts.specs.ToldFault

@@ -8,7 +8,7 @@ ghost use Rattle.pdb_functions.specs.FunctionOrder.{Function as FunctionValue, f
 ghost use Rattle.pdb_report.specs.Answer.{database, files};
 ghost use Rattle.pdb_report.specs.FileReport.{IsSizesByFile};
 ghost use Rattle.pdb_report.specs.Isolation.{AreAlikeFor, IsIsolated};
-ghost use Rattle.pdb_report.specs.Loading.{load_fault};
+ghost use Rattle.pdb_loading.specs.Loading.{load_fault};
 ghost use Rattle.pdb_report.specs.SameReports.{HaveSameReports};
 ghost use Rattle.pdb_report.specs.SizesReport.{IsSizesReport};
 ghost use Rattle.pdb_functions.specs.Counts.{count_of_none, count_without};

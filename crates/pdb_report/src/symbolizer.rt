@@ -3,42 +3,36 @@
 ghost use Rattle.std.specs.Prelude.{◌≡◌, IfOk, OnOk, IfErr, IsOkUnless, None, Some};
 ghost use Rattle.pdb_addresses.specs.Addresses.{IsOrdered};
 ghost use Rattle.pdb_addr2line.specs.Failed.{no_failures};
-ghost use Rattle.pdb_report_texts.specs.declared.fault.LoadFault.TheVariants as faults;
-ghost use Rattle.pdb_report.specs.Answer.{AnswersAs, address_map as address_map_of};
-ghost use Rattle.pdb_report_texts.specs.Faults.{FailsLoading};
-ghost use Rattle.pdb_report.specs.Kept.{answered_in, AreInOrder, IsKept};
-ghost use Rattle.pdb_report.specs.Loading.{loaded, load_fault, Refuses};
-ghost use Rattle.pdb_symbols_modules.specs.Shared.{shared};
+ghost use Rattle.pdb_loading.specs.declared.load_fault.LoadFault.TheVariants as faults;
+ghost use Rattle.pdb_loading.specs.LoadFaults.{Refuses};
+ghost use Rattle.pdb_loading.specs.Loading.{load_fault};
+ghost use Rattle.pdb_report.specs.Answer.{AnswersAs, answered_in, address_map as address_map_of};
 ghost use Rattle.pdb_symbols_modules.specs.Streams.{streams};
 
 use bytes::Bytes;
-use pdb_addr2line::{Context, ContextPdbData, KeptModules, Tables, read_tables};
+use pdb_addr2line::{Context, ContextPdbData, KeptModules};
 use pdb_addresses::AddressMap;
 use pdb_container::BoundedBytes;
-use pdb_report_texts::LoadFault;
-use pdb_symbols_modules::{DebugInformation, PDB};
+use pdb_loading::{FileDatabase, LoadFault, LoadedFile, load_file};
 use std::alloc::Global;
 use std::marker::Model;
-
-/// An open program database over a file's bytes.
-type Database = PDB<'static, BoundedBytes>;
 
 /// A symbolizer: a program database that was loaded, with what contexts are made of. Its value in
 /// contracts is the file's bytes.
 pub struct Symbolizer {
-    pdb: Database,
+    pdb: FileDatabase,
     held: ContextPdbData<'static, 'static, BoundedBytes>,
 }
 
 impl Model for Symbolizer {
     ghost use Rattle.std.specs.Prelude.{ℕ, List};
-    ghost use Rattle.pdb_report.specs.Kept.{IsKept};
+    ghost use Rattle.pdb_loading.specs.LoadedFile.{IsLoadedFrom};
 
     ghost Value = { List ℕ };
 
     ghost view = { λ s. s.pdb };
 
-    ghost invariant = { λ s. IsKept s.pdb s.held };
+    ghost invariant = { λ s. IsLoadedFrom s.pdb s.held };
 }
 
 impl Drop for Symbolizer {
@@ -49,62 +43,15 @@ impl Drop for Symbolizer {
     }
 }
 
-/// Reads stream 3 and what comes after it. The first fault of these; `AddressTableDecreases`
-/// where the sources of an OMAP decrease; `OutOfMemory`.
-fn read_in_order(
-    alloc: Global,
-    pdb: &mut Database,
-) -> Result<(DebugInformation<'static>, Tables<'static>), LoadFault>
-    requires { (streams pdb.old).open_fault ≡ None }
-    ensures same { OnOk result (pdb.new ≡ pdb.old) }
-    ensures read { IfOk result (λ read. AreInOrder (streams pdb.old) read.0 read.1) }
-    ensures err { IfErr result (λ e. FailsLoading e (loaded (shared (streams pdb.old)))) }
+/// A symbolizer of a file that was loaded.
+fn of_loaded(file: LoadedFile) -> Symbolizer
+    ensures { result ≡ file }
 {
-    let debug_information = pdb.debug_information(alloc)?;
-    let tables = read_tables(pdb, alloc, &debug_information)?;
-    if !tables.address_map.is_ordered() {
-        return Err(LoadFault::AddressTableDecreases);
+    let (pdb, held) = file.into_parts();
+    Symbolizer {
+        pdb,
+        held: ContextPdbData::from_held(held),
     }
-    Ok((debug_information, tables))
-}
-
-/// Reads what contexts are made of. That a context can be made is tried.
-fn read_held(
-    alloc: Global,
-    pdb: &mut Database,
-) -> Result<ContextPdbData<'static, 'static, BoundedBytes>, LoadFault>
-    requires { (streams pdb.old).open_fault ≡ None }
-    ensures same { OnOk result (pdb.new ≡ pdb.old) }
-    ensures kept { IfOk result (λ held. IsKept pdb.old held) }
-    ensures err { IfErr result (λ e. FailsLoading e (loaded (shared (streams pdb.old)))) }
-{
-    let (debug_information, tables) = read_in_order(alloc, pdb)?;
-    let held = ContextPdbData::try_from_tables(alloc, pdb, debug_information, tables)?;
-    held.check_context(alloc)?;
-    Ok(held)
-}
-
-/// Loads an open program database, and keeps what contexts are made of.
-fn load(alloc: Global, mut pdb: Database) -> Result<Symbolizer, LoadFault>
-    requires { (streams pdb).open_fault ≡ None }
-    ensures ok { IfOk result (λ s. s ≡ pdb.entry) }
-    ensures loaded { OnOk result (load_fault (streams pdb.entry) ≡ None) }
-    ensures err { IfErr result (λ e. FailsLoading e (loaded (shared (streams pdb.entry)))) }
-{
-    match read_held(alloc, &mut pdb) {
-        Ok(held) => Ok(Symbolizer { pdb, held }),
-        Err(fault) => Err(fault),
-    }
-}
-
-/// Opens the program database of a file's bytes, and loads it.
-fn open_file(alloc: Global, file: Bytes) -> Result<Symbolizer, LoadFault>
-    ensures ok { IfOk result (λ s. s ≡ file) }
-    ensures loaded { OnOk result (load_fault (streams file) ≡ None) }
-    ensures refused { IfErr result (λ e. Refuses e (load_fault (streams file))) }
-{
-    let pdb = PDB::open(alloc, BoundedBytes::new(file))?;
-    load(alloc, pdb)
 }
 
 impl Symbolizer {
@@ -123,9 +70,12 @@ impl Symbolizer {
         ensures loaded { OnOk result (load_fault (streams bytes.items) ≡ None) }
         ensures refused { IfErr result (λ e. Refuses e (load_fault (streams bytes.items))) }
     {
-        match Bytes::from_vec(bytes) {
-            Ok(file) => open_file(alloc, file),
-            Err(_) => Err(LoadFault::OutOfMemory),
+        let Ok(file) = Bytes::from_vec(bytes) else {
+            return Err(LoadFault::OutOfMemory);
+        };
+        match load_file(alloc, file) {
+            Ok(loaded) => Ok(of_loaded(loaded)),
+            Err(fault) => Err(fault),
         }
     }
 

@@ -7,8 +7,7 @@ use Rattle.pdb_frames.specs.Depth.{AreAsDeep}
 use Rattle.pdb_frames.proofs.FramesDeep.{frames_deep}
 use Rattle.pdb_resolving.specs.Fault.{Fault}
 use Rattle.pdb_report.specs.Answer.{answer, answer_by, scope}
-use Rattle.pdb_report.specs.Faults.{LoadingFault}
-use Rattle.pdb_report.specs.Loading.{Loaded, loaded}
+use Rattle.pdb_addr2line.specs.Loading.{LoadingFault, Loaded, loaded}
 
 none_is_not_found : {A : Type 0} {x : A} → (let r : Result (Option A) Fault = Ok None in r) ≡ Ok (Some x) → ⊥
 none_is_not_found {A} {x} h = cc

@@ -23,7 +23,7 @@ use Rattle.pdb_known_modules.specs.Modules.{ModuleData, ExtendedModule, extended
 ok_is_not_err : {A : Type 0} {x : A} {e : Fault} → Ok x ≡ Err e → ⊥
 ok_is_not_err {A} {x} {e} h = cc
 
--- what fails behind a reading that can't fail fails in the reading
+-- what fails after a reading that can't fail fails in the reading
 behind : {A B X : Type 0} (r : Result A Fault) (k : A → B) (e : Fault) → (r >>= λ x. Ok (k x)) ≡ Err e → ((f : Fault) → r ≡ Err f → X) → X
 behind (Ok x) k e h fails = absurd (ok_is_not_err h)
 behind (Err f) k e h fails = fails f refl

@@ -1,17 +1,17 @@
--- Words behind the program's name, by rows.
+-- The rows' arguments.
 use Rattle.std.specs.Prelude.{ℕ, Bool, List, [], ◌∷◌, Option, Some, codes, option_map}
 use Rattle.clap.specs.Words.{Text, first_of}
 use Rattle.pdb_arguments.specs.Task.{address_at, entered_by, flag_at}
 
--- `frames F`
+-- the arguments `frames F`
 abbrev pub frames_words : List Text
 frames_words = codes "frames" ∷ codes "F" ∷ []
 
--- `sizes F` and two words
+-- the arguments `sizes F`, and two more
 abbrev pub sizes_words : Text → Text → List Text
 sizes_words start end = codes "sizes" ∷ codes "F" ∷ start ∷ end ∷ []
 
--- `sizes --by-file F 10 20`
+-- the arguments `sizes --by-file F 10 20`
 abbrev pub by_file_words : List Text
 by_file_words = codes "sizes" ∷ codes "--by-file" ∷ codes "F" ∷ codes "10" ∷ codes "20" ∷ []
 
@@ -19,7 +19,7 @@ by_file_words = codes "sizes" ∷ codes "--by-file" ∷ codes "F" ∷ codes "10"
 abbrev pub Told : Type 0
 Told = Text × Option Text × Option ℕ × Option ℕ
 
--- what words enter
+-- what arguments enter
 abbrev pub told_of : List Text → Option Told
 told_of words = option_map (λ e. (
   e.0,
@@ -28,6 +28,6 @@ told_of words = option_map (λ e. (
   address_at (codes "END") e.1,
 )) (entered_by words)
 
--- whether words enter the flag `--by-file`
+-- whether arguments enter the flag `--by-file`
 abbrev pub is_by_file : List Text → Option Bool
 is_by_file words = option_map (λ e. flag_at (codes "by-file") e.1) (entered_by words)

@@ -1,4 +1,4 @@
-//! The public calls, each once in ample memory, and printed faults.
+//! The public calls, each once in ample memory; and printed faults.
 
 use crate::files::{F, run_over, told};
 use pdb_container::Error as Cause;
@@ -17,7 +17,7 @@ fn open(alloc: Global) -> Result<(), Fail> {
     Ok(())
 }
 
-/// Whether a file is opened and reported on.
+/// Returns whether a file is opened and reported on.
 fn is_answered(alloc: Global) -> Result<bool, Fail> {
     open(alloc)?;
     let (report, outcome) = run_over(alloc, F.made(alloc)?, b"1014\n".as_slice());
@@ -25,7 +25,7 @@ fn is_answered(alloc: Global) -> Result<bool, Fail> {
     Ok(report.as_slice() == b"0x00001014\n  f at a.c:5 @0x00001010+8\n".as_slice())
 }
 
-/// Whether the addresses of a range are counted.
+/// Returns whether the addresses of a range are counted.
 fn is_counted(alloc: Global) -> Result<bool, Fail> {
     let mut report = Vec::new(alloc);
     let mut writer = Watched::new(&mut report);
@@ -33,7 +33,7 @@ fn is_counted(alloc: Global) -> Result<bool, Fail> {
     Ok(report.as_slice() == b"0x00001010 24 f\nnone 0\n".as_slice())
 }
 
-/// Whether the addresses of a range are counted by source file.
+/// Returns whether the addresses of a range are counted by source file.
 fn is_counted_by_file(alloc: Global) -> Result<bool, Fail> {
     let mut report = Vec::new(alloc);
     let mut writer = Watched::new(&mut report);
@@ -41,8 +41,8 @@ fn is_counted_by_file(alloc: Global) -> Result<bool, Fail> {
     Ok(report.as_slice() == b"24 a.c\nno file 0\nnone 0\nunreadable 0\n".as_slice())
 }
 
-/// Whether a file is read whole, one with an endless tail only to the end of its pages, and an
-/// endless one that is no container only to its 32nd byte.
+/// Returns whether files are read as far as they should: one whole, one with an endless tail to the
+/// end of its pages, and an endless one that is no container to its 32nd byte.
 fn are_files_read(alloc: Global) -> Result<bool, Fail> {
     let file = F.made(alloc)?;
     let whole = read_file(alloc, &mut file.as_slice())?;
@@ -55,7 +55,7 @@ fn are_files_read(alloc: Global) -> Result<bool, Fail> {
     )
 }
 
-/// Whether three bytes are read and written.
+/// Returns whether three bytes are read and written.
 fn are_copied(alloc: Global) -> Result<bool, Fail> {
     let mut buffer = [0u8; 4];
     let mut reader = Watched::new(b"abc".as_slice());
@@ -65,7 +65,7 @@ fn are_copied(alloc: Global) -> Result<bool, Fail> {
     Ok((read, written, buffer) == (3, 3, *b"abc\0"))
 }
 
-/// Whether the causes of a context are printed.
+/// Returns whether the errors of a context are printed.
 fn are_printed(alloc: Global) -> Result<bool, Fail> {
     let error = Error::PdbError(Cause::StreamNotFound(5));
     let first = format!(in alloc; "{error}")?;
@@ -73,7 +73,7 @@ fn are_printed(alloc: Global) -> Result<bool, Fail> {
     Ok(first.as_str() == "PDB error: StreamNotFound(5)" && second.as_str() == "Out of memory")
 }
 
-/// Whether each call answers as written.
+/// Returns for each call whether it answers as written.
 fn are_right(alloc: Global) -> Result<[bool; 6], Fail> {
     Ok([
         is_answered(alloc)?,
@@ -85,14 +85,14 @@ fn are_right(alloc: Global) -> Result<[bool; 6], Fail> {
     ])
 }
 
-// The only test that fails where some allocation is refused, and the others ask again.
+// The only test that fails if an allocation is refused. The others ask again.
 #[test]
 fn first_calls_in_ample_memory(rt: HostRuntime) -> Result<(), Fail> {
     assert_eq!(rt; are_right(rt.alloc())?, [true; 6]);
     Ok(())
 }
 
-/// Lines, and the addresses that they stand for.
+/// Lines, each with the address that it stands for.
 const ADDRESSES: &[(&[u8], Option<u32>)] = &[
     (b"1014", Some(0x1014)),
     (b"0x1014", Some(0x1014)),
@@ -115,13 +115,13 @@ fn addresses(rt: HostRuntime) {
     }
 }
 
-/// Whether this is told of a fault, and the status is 1.
+/// Returns whether a fault is reported with that text, and with the status 1.
 fn is_told(alloc: Global, fault: RunFault, text: &str) -> Result<bool, Fail> {
     let (status, errors) = told(alloc, Err(fault))?;
     Ok(status == 1 && errors.as_slice() == text.as_bytes())
 }
 
-/// Whether faults are told that no file here has.
+/// Returns for each of the faults that no file here has whether it is reported.
 fn are_told(alloc: Global) -> Result<[bool; 3], Fail> {
     let decreasing = RunFault::Load(LoadFault::AddressTableDecreases);
     Ok([
@@ -145,26 +145,28 @@ fn told_faults(rt: HostRuntime) -> Result<(), Fail> {
     Ok(())
 }
 
-/// The header, the debug information's header, the symbols and the line data of file F, where they lie.
+/// The offsets and bytes of parts of file F: its header, the debug information's header, the
+/// symbols, and the line data.
 const PARTS: &[(usize, &[u8])] = &[
     (
         0,
-        b"Microsoft C/C++ MSF 7.00\r\n\x1aDS\0\0\0\0\x01\0\0\0\0\0\0\x09\0\0\0\x44\0\0\0\0\0\0\0\x01\0\0\0",
+        b"Microsoft C/C++ MSF 7.00\r\n\x1aDS\0\0\0\0\x01\0\0\0\0\0\0\x09\0\0\0\x44\0\0\0\0\0\0\0\
+        \x01\0\0\0",
     ),
     (
         0x500,
-        b"\xff\xff\xff\xff\x77\x09\x31\x01\x01\0\0\0\xff\xff\0\0\xff\xff\0\0\x05\0\0\0\x4c\0\0\0\x20\0\0\0\
-        \0\0\0\0\0\0\0\0\0\0\0\0\0\0\0\0\x16\0\0\0\0\0\0\0\0\0\x64\x86\0\0\0\0",
+        b"\xff\xff\xff\xff\x77\x09\x31\x01\x01\0\0\0\xff\xff\0\0\xff\xff\0\0\x05\0\0\0\x4c\0\0\0\
+        \x20\0\0\0\0\0\0\0\0\0\0\0\0\0\0\0\0\0\0\0\x16\0\0\0\0\0\0\0\0\0\x64\x86\0\0\0\0",
     ),
     (
         0x800,
-        b"\x04\0\0\0\x2a\0\x10\x11\0\0\0\0\x30\0\0\0\0\0\0\0\x20\0\0\0\0\0\0\0\x20\0\0\0\0\0\0\0\x10\0\0\0\
-        \x01\0\0f\0\0\0\0\x02\0\x06\0",
+        b"\x04\0\0\0\x2a\0\x10\x11\0\0\0\0\x30\0\0\0\0\0\0\0\x20\0\0\0\0\0\0\0\x20\0\0\0\0\0\0\0\
+        \x10\0\0\0\x01\0\0f\0\0\0\0\x02\0\x06\0",
     ),
     (
         0x834,
-        b"\xf4\0\0\0\x08\0\0\0\x01\0\0\0\0\0\0\0\xf2\0\0\0\x28\0\0\0\x10\0\0\0\x01\0\0\0\x20\0\0\0\0\0\0\0\
-        \x02\0\0\0\x1c\0\0\0\0\0\0\0\x05\0\0\x80\x08\0\0\0\x07\0\0\x80",
+        b"\xf4\0\0\0\x08\0\0\0\x01\0\0\0\0\0\0\0\xf2\0\0\0\x28\0\0\0\x10\0\0\0\x01\0\0\0\x20\0\0\0\
+        \0\0\0\0\x02\0\0\0\x1c\0\0\0\0\0\0\0\x05\0\0\x80\x08\0\0\0\x07\0\0\x80",
     ),
 ];
 

@@ -5,15 +5,15 @@ ghost use Rattle.std.specs.declared.io.ErrorKind.TheVariants.{UnexpectedEof};
 ghost use Rattle.pdb_container.specs.Fault.{IoError, UnrecognizedFileFormat};
 ghost use Rattle.pdb_report.specs.AddressText.{line_text};
 ghost use Rattle.pdb_report.specs.Answer.{answer};
-ghost use Rattle.pdb_report.specs.Faults.{Pdb};
+ghost use Rattle.pdb_addr2line.specs.Loading.{Pdb, load_fault};
 ghost use Rattle.pdb_report.specs.Isolation.{IsFree};
 ghost use Rattle.pdb_resolving.specs.Fault.{PdbError};
 ghost use Rattle.pdb_engine.specs.InputLines.{report};
-ghost use Rattle.pdb_report.specs.Loading.{load_fault};
 ghost use Rattle.pdb_symbols_modules.specs.Streams.{streams};
 ghost use Rattle.pdb_report_tests.specs.Samples as samples;
 
-/// The file without line data can be loaded, and an address in `f` has that function, but neither file nor line.
+/// The file without line data can be loaded, and an address in `f` has that function, but neither
+/// file nor line.
 pub fn no_lines()
     ensures loads { load_fault (streams samples.file_f0) ≡ None }
     ensures answers { report (line_text (answer (streams samples.file_f0))) (codes "1014\n")
@@ -26,7 +26,8 @@ pub fn one_line()
         ≡ codes "0x00001014\n  f at a.c:5 @0x00001010+8\n" }
 {}
 
-/// Inlined calls come innermost first. A site without a row over the place has the file of its first row, and no line.
+/// Inlined calls come innermost first. A site without a row over the place has the file of its
+/// first row, and no line.
 pub fn nested_sites()
     ensures { report (line_text (answer (streams samples.nested_sites))) (codes "1019\n")
         ≡ codes "0x00001019\n  h() at c.h:9 @0x00001018+4\n  g() at b.h:?? @??\n"
@@ -39,7 +40,7 @@ pub fn public_beside()
         ≡ codes "0x00001036\n  ?p@@YAXXZ at a.c:7 @0x00001018+24\n" }
 {}
 
-/// An address of moved code has the line of where that code was, and one behind it nothing.
+/// An address of moved code has the line of where that code was, and one after it has nothing.
 pub fn moved_code()
     ensures { report (line_text (answer (streams samples.moved_code))) (codes "2004\n2008\n")
         ≡ codes "0x00002004\n  f at a.c:5 @0x00002000+8\n0x00002008\n  ??\n" }
@@ -55,8 +56,8 @@ pub fn cut_dbi()
     ensures { load_fault (streams samples.cut_dbi) ≡ Some (Pdb (PdbError (IoError UnexpectedEof))) }
 {}
 
-/// A stream that the second module alone names is free for the first one; one that is named by a
-/// module from which the first imports isn't.
+/// A stream that only the second module names is free for the first one. A stream of a module from
+/// which the first one imports isn't.
 pub fn free_streams()
     ensures free { IsFree (streams samples.imports) 0 9 }
     ensures needed { ¬ IsFree (streams samples.imports) 0 10 }

@@ -11,11 +11,12 @@ use std::test::Fail;
 /// A file.
 #[derive(Clone, Copy)]
 pub enum File {
-    /// File F whose code was moved: two OMAPs lead from 0x2000 to the code at 0x1010 and back, and nowhere from 0x2008 on.
+    /// File F whose code was moved: two OMAPs lead from 0x2000 to the code at 0x1010 and back, and
+    /// nowhere from 0x2008 on.
     MovedCode,
-    /// File F with an inline site of `g` in `f` and one of `h` in that.
+    /// File F with an inline site of `g` in `f`, and one of `h` in that.
     NestedSites,
-    /// File F0 but for one thing.
+    /// File F0 with one change.
     With(Change),
 }
 
@@ -26,7 +27,10 @@ pub const F0: File = File::With(Change::Nothing);
 pub const F: File = File::With(Change::LineData);
 
 impl File {
-    /// The file's bytes. The second call's where the first finds no memory.
+    /// Makes the file's bytes, and tries once more if memory runs out.
+    ///
+    /// # Errors
+    /// As [`File::made`].
     pub fn bytes(self, alloc: Global) -> Result<Vec<u8>> {
         match self.made(alloc) {
             Err(SampleError::OutOfMemory) => self.made(alloc),
@@ -34,7 +38,10 @@ impl File {
         }
     }
 
-    /// The file's bytes.
+    /// Makes the file's bytes.
+    ///
+    /// # Errors
+    /// `OutOfMemory`.
     pub fn made(self, alloc: Global) -> Result<Vec<u8>> {
         match self {
             File::MovedCode => moved_code(alloc)?.bytes(alloc),
@@ -44,7 +51,8 @@ impl File {
     }
 }
 
-/// The file whose code was moved. Its streams of OMAPs and of the original sections lie behind all others.
+/// Makes the file whose code was moved. Its streams of OMAPs and of the original sections come
+/// after all others.
 fn moved_code(alloc: Global) -> Result<ProgramDatabase> {
     let mut database = file_f(alloc)?;
     push_numbers(alloc, &mut database, 3, &[0x2000, 0x1010, 0x2008, 0])?;
@@ -54,7 +62,7 @@ fn moved_code(alloc: Global) -> Result<ProgramDatabase> {
     Ok(database)
 }
 
-/// Adds a stream of numbers, which the optional header names at a place.
+/// Adds a stream of numbers, which the optional header names at that place.
 fn push_numbers(
     alloc: Global,
     database: &mut ProgramDatabase,
@@ -66,7 +74,8 @@ fn push_numbers(
     push_stream(database, place, stream)
 }
 
-/// Adds a stream, which the optional header names at a place. The streams before the first such are nine.
+/// Adds a stream, which the optional header names at that place. Nine streams come before the first
+/// one that is added.
 fn push_stream(database: &mut ProgramDatabase, place: usize, stream: Vec<u8>) -> Result<()> {
     let number = database.further_streams.len().saturating_add(9);
     match database.debug.optional_header.get_mut(place) {
@@ -77,12 +86,12 @@ fn push_stream(database: &mut ProgramDatabase, place: usize, stream: Vec<u8>) ->
     Ok(())
 }
 
-/// Why a run ended early: what a read or a write failed with, and of any other cause only whether it is out of memory.
+/// Why a run ended early: how a read or a write failed, or out of memory, or another cause.
 #[derive(Clone, Copy, Debug, PartialEq)]
 pub enum Stop {
-    /// A read failed so.
+    /// A read failed with that kind.
     Read(ErrorKind),
-    /// A write failed so.
+    /// A write failed with that kind.
     Write(ErrorKind),
     /// Out of memory.
     OutOfMemory,
@@ -90,7 +99,7 @@ pub enum Stop {
     Other,
 }
 
-/// What of a fault is looked at.
+/// Returns why a run with that fault ended.
 fn stop_of(fault: &RunFault) -> Stop {
     match fault {
         RunFault::Read(kind) => Stop::Read(*kind),
@@ -100,10 +109,13 @@ fn stop_of(fault: &RunFault) -> Stop {
     }
 }
 
-/// How a run ended that has no value.
+/// How a run without a value ended.
 pub type Outcome = std::result::Result<(), Stop>;
 
-/// How a run ended.
+/// Returns how a run ended.
+///
+/// # Errors
+/// Why it ended early.
 pub fn ended<T>(outcome: std::result::Result<T, RunFault>) -> std::result::Result<T, Stop> {
     match outcome {
         Ok(value) => Ok(value),
@@ -111,7 +123,7 @@ pub fn ended<T>(outcome: std::result::Result<T, RunFault>) -> std::result::Resul
     }
 }
 
-/// What a run over these bytes wrote, and how it ended.
+/// Runs over these bytes, and returns what was written, and how the run ended.
 pub fn run_over<R: Read + Drop>(alloc: Global, bytes: Vec<u8>, input: R) -> (Vec<u8>, Outcome) {
     let mut report = Vec::new(alloc);
     let mut reader = Watched::new(input);
@@ -120,12 +132,18 @@ pub fn run_over<R: Read + Drop>(alloc: Global, bytes: Vec<u8>, input: R) -> (Vec
     (report, ended(outcome))
 }
 
-/// An empty list with room for the bytes of some lines.
+/// Makes an empty list with room for the bytes of some lines.
+///
+/// # Errors
+/// `OutOfMemory`, if memory runs out twice.
 pub fn line_buffer(alloc: Global) -> Result<Vec<u8>> {
     Ok(Vec::with_capacity(alloc, 256).or_else(|_| Vec::with_capacity(alloc, 256))?)
 }
 
-/// The status of a run that ended so, and what is told of its fault.
+/// Returns the status of a run with that outcome, and what is reported of its fault.
+///
+/// # Errors
+/// Out of memory.
 pub fn told(
     alloc: Global,
     outcome: std::result::Result<(), RunFault>,

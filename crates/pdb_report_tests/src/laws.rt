@@ -9,16 +9,20 @@ ghost use Rattle.pdb_frames.specs.Scopes.{Scope};
 ghost use Rattle.pdb_frames.specs.Failing.{failing};
 ghost use Rattle.pdb_frames.specs.Frames.{frames};
 ghost use Rattle.pdb_report.specs.Answer.{answer, scope as scope_of};
-ghost use Rattle.pdb_report.specs.Loading.{Loaded, loaded};
+ghost use Rattle.pdb_addr2line.specs.Loading.{Loaded, loaded};
 ghost use Rattle.pdb_resolving.specs.Fault.{Fault};
 
-/// An answer that has a fault has a part that fails: it is that part that stands as failed from then on.
+/// An answer with a fault has a part that fails. That part stands as failed from then on.
 #[tactic(auto, using(crate::proofs::FailingParts::answers_fail_in_a_part))]
 pub fn answers_fail_in_a_part()
-    ensures { (parts : Parts) (scope : ℕ → Scope) (address : ℕ) (e : Fault) → frames parts scope address ≡ Err e → is_some (failing parts scope address) ≡ true }
+    ensures { (parts : Parts) (scope : ℕ → Scope) (address : ℕ) (e : Fault)
+        → frames parts scope address ≡ Err e → is_some (failing parts scope address) ≡ true }
 {}
 
-/// A file's answer has one frame more than the deepest inline site over the address's place is deep.
+/// A file's answer has one frame more than the depth of the deepest inline site over the address's
+/// place.
 pub fn answers_as_deep()
-    ensures { (s : Streams) (address : ℕ) (found : _) → answer s address ≡ Ok (Some found) → (l : Loaded) × (loaded (shared s) ≡ Ok l) × AreAsDeep l.parts (scope_of s l) address found.frames }
+    ensures { (s : Streams) (address : ℕ) (found : _) → answer s address ≡ Ok (Some found)
+        → (l : Loaded) × (loaded (shared s) ≡ Ok l)
+        × AreAsDeep l.parts (scope_of s l) address found.frames }
 {}

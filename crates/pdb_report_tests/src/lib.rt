@@ -1,5 +1,5 @@
-//! What is answered for program databases whose bytes are known, by the definitions and by the program's
-//! calls; and what comes of the program's words.
+//! The answers for program databases whose bytes are known, by the definitions and by the program's
+//! calls; and what comes of the program's arguments.
 #![tactic(auto)]
 
 #[cfg(test)]
@@ -10,7 +10,6 @@ mod files;
 pub mod laws;
 #[cfg(test)]
 mod limits;
-#[cfg(test)]
 #[cfg(test)]
 mod sizes;
 #[cfg(test)]

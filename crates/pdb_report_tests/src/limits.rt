@@ -1,4 +1,4 @@
-//! Inputs that are longer than may be read, and one that is as long.
+//! Inputs that are longer than the limit, and one that is exactly as long.
 
 use crate::files::F;
 use pdb_engine::InputFault;
@@ -10,7 +10,7 @@ use std::test::Fail;
 /// The answer to the line 1014 by file F.
 const ANSWER: &[u8] = b"0x00001014\n  f at a.c:5 @0x00001010+8\n";
 
-/// Gives the same bytes at each call, so many times, and then its end.
+/// Gives the same bytes at each of `times` calls, and then its end.
 #[derive(Drop)]
 struct Repeated {
     bytes: &'static [u8],
@@ -29,8 +29,8 @@ impl Read for Repeated {
     }
 }
 
-/// What is read again and again, how often, the limit, what is out, and whether the input is too
-/// long.
+/// The bytes that are read again and again, how often, the limit, what is written, and whether the
+/// input is too long.
 type Case = (&'static [u8], usize, u64, &'static [u8], bool);
 
 const CASES: &[Case] = &[
@@ -42,7 +42,7 @@ const CASES: &[Case] = &[
     (b"1014\n", 1, 4, b"", true),
 ];
 
-/// What is out, and how answering the lines of a case by file F ends.
+/// Answers the lines of a case by file F, and returns what is written, and how that ends.
 fn answered(alloc: Global, case: &Case) -> Result<(Vec<u8>, Result<(), InputFault>), Fail> {
     let symbolizer = match Symbolizer::open(alloc, F.bytes(alloc)?) {
         Ok(symbolizer) => symbolizer,
@@ -61,7 +61,7 @@ fn answered(alloc: Global, case: &Case) -> Result<(Vec<u8>, Result<(), InputFaul
     Ok((out, outcome))
 }
 
-/// Whether a case ends as it should. Where memory is refused it is tried once more.
+/// Returns whether a case ends as it should. If memory runs out, it is tried once more.
 fn is_limited(alloc: Global, case: &Case) -> Result<bool, Fail> {
     let mut found = answered(alloc, case)?;
     if found.1 == Err(InputFault::OutOfMemory) {

@@ -1,4 +1,4 @@
-//! Reports on ranges of addresses, and what was looked up for them.
+//! Reports on ranges of addresses, and how many addresses were looked up for them.
 
 use crate::files::{F, F0, File, Stop, ended};
 use pdb_report::{Tally, Watched, run_sizes, run_sizes_by_file};
@@ -16,7 +16,7 @@ enum Counted {
     Files,
 }
 
-/// What a run over a range of these bytes writes, and how it ends.
+/// Runs over a range of these bytes, and returns what is written, and how the run ends.
 fn run_over(
     alloc: Global,
     bytes: Vec<u8>,
@@ -32,7 +32,7 @@ fn run_over(
     (report, ended(outcome))
 }
 
-/// What a run over a range of a file writes, and how it ends.
+/// Runs over a range of a file, and returns what is written, and how the run ends.
 fn run_once(
     alloc: Global,
     file: File,
@@ -43,7 +43,7 @@ fn run_once(
     Ok(run_over(alloc, bytes, counted, range))
 }
 
-/// That of the second run where the first finds no memory.
+/// Runs as [`run_once`], and once more if memory runs out.
 fn run_on(
     alloc: Global,
     file: File,
@@ -57,13 +57,14 @@ fn run_on(
     }
 }
 
-/// A file, a range, the report on it, and the least and the most that may be looked up for it.
+/// A file, a range, the report on it, and the least and greatest number of addresses that may be
+/// looked up for it.
 type Row = (File, (u32, u32), &'static str, (u64, u64));
 
 const ROWS: &[Row] = &[
     // A part of a function.
     (F, (0x1018, 0x1030), "0x00001010 24 f\nnone 0\n", (1, 1)),
-    // Moved code, and addresses that lead nowhere, which aren't looked up.
+    // Moved code, and addresses without a place, which aren't looked up.
     (
         File::MovedCode,
         (0x2000, 0x2010),
@@ -72,9 +73,10 @@ const ROWS: &[Row] = &[
     ),
     // No address at all.
     (F, (0x1018, 0x1018), "none 0\n", (0, 0)),
-    // A whole section: answers may change behind 0x10, 0x30 and 0x40 bytes.
+    // A whole section: answers may change after 0x10, 0x30 and 0x40 bytes.
     (F, (0x1000, 0x1100), "0x00001010 32 f\nnone 224\n", (1, 4)),
-    // A function in another, which goes on behind it: answers may change at 0x1010, 0x1018, 0x1020 and 0x1030.
+    // A function in another one, which goes on after it: answers may change at 0x1010, 0x1018,
+    // 0x1020 and 0x1030.
     (
         File::With(Change::NestedProcedure),
         (0x1008, 0x1038),
@@ -114,7 +116,7 @@ const ROWS_BY_FILE: &[Row] = &[
     ),
 ];
 
-/// Whether the report of a row comes, and so much was looked up.
+/// Returns whether the report of a row comes, with as many lookups as it allows.
 fn is_counted(alloc: Global, counted: Counted, row: &Row) -> Result<bool, Fail> {
     let (file, range, report, (least, most)) = *row;
     let (found, outcome) = run_on(alloc, file, counted, range)?;

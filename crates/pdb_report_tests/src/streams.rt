@@ -1,4 +1,4 @@
-//! Readers and writers that fail at each place, or give and take few bytes.
+//! Readers and writers that fail at each place, or that give and take few bytes.
 
 use crate::files::{F, File, Outcome, Stop, ended, line_buffer};
 use pdb_report::{Watched, run_frames, run_sizes, run_sizes_by_file};
@@ -7,17 +7,17 @@ use std::alloc::Global;
 use std::io::ErrorKind;
 use std::test::Fail;
 
-/// What is asked of a file, and what is reported.
+/// What a file is asked for, and what is reported.
 #[derive(Clone, Copy)]
 struct Row {
     file: File,
-    /// Addresses, a line each.
+    /// Addresses, one on each line.
     input: &'static [u8],
-    /// The range whose addresses are counted, if it isn't lines that are answered.
+    /// The range whose addresses are counted; without one, lines are answered.
     range: Option<(u32, u32)>,
-    /// Whether they are counted by source file.
+    /// Whether addresses are counted by source file.
     by_file: bool,
-    /// The texts of the report: that of each line, or that on the range.
+    /// The texts of the report: one for each line, or the text for the range.
     texts: &'static [&'static [u8]],
 }
 
@@ -125,25 +125,25 @@ const KINDS: &[ErrorKind] = &[
 /// How a reader and a writer behave.
 #[derive(Clone, Copy)]
 struct Ends {
-    /// The most bytes that a read gives and a write takes.
+    /// The greatest number of bytes that a read gives and a write takes.
     piece: usize,
-    /// How many bytes the reader gives before its failure; without one, before the rest.
+    /// How many bytes the reader gives before its failure, or without one before the rest.
     cut: usize,
     /// How the reader fails, if it does.
     read_fault: Option<ErrorKind>,
     /// How many bytes the writer takes.
     room: usize,
-    /// How it fails then, if it doesn't stall.
+    /// How the writer fails after these, if it doesn't stall.
     write_fault: Option<ErrorKind>,
 }
 
 /// How many calls failed, and how the last one did.
 type Failures = (u64, Option<ErrorKind>);
 
-/// What is out at the end of a run, what failed of its reader and of its writer, and how it ended.
+/// What a run wrote, the failures of its reader and of its writer, and how it ended.
 type Ran = (Vec<u8>, Failures, Failures, Outcome);
 
-/// A run over a row.
+/// Runs over a row.
 fn run_once(alloc: Global, row: &Row, ends: Ends) -> Result<Ran, Fail> {
     let file = row.file.bytes(alloc)?;
     let cut = ends.cut.min(row.input.len());
@@ -172,7 +172,7 @@ fn run_once(alloc: Global, row: &Row, ends: Ends) -> Result<Ran, Fail> {
     Ok((inner.written, reads, writes, outcome))
 }
 
-/// The same; the second run where the first is refused memory, and neither end failed.
+/// Runs over a row, and once more if memory runs out and neither reader nor writer failed.
 fn run(alloc: Global, row: &Row, ends: Ends) -> Result<Ran, Fail> {
     let first = run_once(alloc, row, ends)?;
     match (first.1.0, first.2.0, first.3) {
@@ -181,7 +181,7 @@ fn run(alloc: Global, row: &Row, ends: Ends) -> Result<Ran, Fail> {
     }
 }
 
-/// How a run ends whose reader fails so, if it does.
+/// Returns how a run ends whose reader fails with that kind, or doesn't fail.
 fn read_outcome(kind: Option<ErrorKind>) -> Outcome {
     match kind {
         None => Ok(()),
@@ -190,7 +190,7 @@ fn read_outcome(kind: Option<ErrorKind>) -> Outcome {
     }
 }
 
-/// How a run ends whose writer fails so, if it does.
+/// Returns how a run ends whose writer fails with that kind, or doesn't fail.
 fn write_outcome(kind: Option<ErrorKind>) -> Outcome {
     match kind {
         None => Ok(()),
@@ -199,7 +199,7 @@ fn write_outcome(kind: Option<ErrorKind>) -> Outcome {
     }
 }
 
-/// The first texts of a row's report, so many.
+/// Returns the first `count` texts of a row's report.
 fn joined(alloc: Global, row: &Row, count: usize) -> Result<Vec<u8>, Fail> {
     let mut report = line_buffer(alloc)?;
     for text in row.texts.iter().take(count) {
@@ -208,13 +208,13 @@ fn joined(alloc: Global, row: &Row, count: usize) -> Result<Vec<u8>, Fail> {
     Ok(report)
 }
 
-/// How many lines have ended in these bytes.
+/// Returns how many lines end in these bytes.
 fn count_ended(input: &[u8]) -> usize {
     input.iter().filter(|byte| **byte == b'\n').count()
 }
 
-/// Whether the right report comes where the reader gives pieces, and fails after so many bytes, if
-/// it does: that of the lines which have ended there, or the whole one.
+/// Returns whether the right report comes where the reader gives pieces. If it fails after `cut`
+/// bytes, that is the report on the lines that end before, or else the whole one.
 fn is_read(
     alloc: Global,
     row: &Row,
@@ -242,8 +242,8 @@ fn is_read(
     )
 }
 
-/// The first place of a row's input at which a reader that fails so leads to a wrong report, if one
-/// does.
+/// Returns the first offset in a row's input at which a reader that fails like that leads to a
+/// wrong report, if any does.
 fn first_misread(
     alloc: Global,
     row: &Row,
@@ -272,7 +272,8 @@ fn readers(rt: HostRuntime) -> Result<(), Fail> {
     Ok(())
 }
 
-/// Whether the two parts of a row's input, cut after a newline, have the texts of their own lines.
+/// Returns whether the two parts of a row's input, cut after a newline, have the texts of their own
+/// lines.
 fn are_parts_read(alloc: Global, row: &Row, cut: usize) -> Result<bool, Fail> {
     let cut = cut.min(row.input.len());
     let lines = count_ended(&row.input[..cut]).min(row.texts.len());
@@ -303,8 +304,8 @@ fn joined_inputs(rt: HostRuntime) -> Result<(), Fail> {
     Ok(())
 }
 
-/// Whether a prefix of the report comes that is as long as the writer's room, where the writer takes
-/// one byte at a time, and fails then, or stalls.
+/// Returns whether the written prefix of the report is as long as the writer's room. The writer
+/// takes one byte at a time, and then fails or stalls.
 fn is_written(
     alloc: Global,
     row: &Row,
@@ -333,7 +334,8 @@ fn is_written(
     )
 }
 
-/// The least room with which a writer that fails so leads to a wrong report on a row, if any does.
+/// Returns the least room with which a writer that fails like that leads to a wrong report on a
+/// row, if any does.
 fn first_miswritten(
     alloc: Global,
     row: &Row,

@@ -1,4 +1,4 @@
-//! Tasks of words, the texts of help and of wrong words, and where they are told.
+//! The tasks of arguments, the texts of help and on wrong arguments, and where they are reported.
 
 pub mod definitions;
 #[cfg(test)]

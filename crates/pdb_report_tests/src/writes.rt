@@ -1,4 +1,4 @@
-//! How many writes answers take, and a fault that can't be told whole.
+//! How many writes answers take, and a fault that can't be reported whole.
 
 use crate::files::{F0, Outcome, Stop, ended, line_buffer};
 use pdb_report::{RunFault, Watched, finish_run, run_frames};
@@ -7,7 +7,7 @@ use std::alloc::Global;
 use std::io::{self, ErrorKind, Read, Write};
 use std::test::Fail;
 
-/// Gives newlines, so many in all and at most so many at a call.
+/// Gives `left` newlines in all, and at most `most` of them at each call.
 #[derive(Drop)]
 struct Newlines {
     left: usize,
@@ -23,7 +23,7 @@ impl Read for Newlines {
     }
 }
 
-/// Takes all that it is given, and counts the calls.
+/// Takes all bytes that it is given, and counts the calls.
 #[derive(Drop)]
 struct CallCounter {
     calls: usize,
@@ -40,8 +40,8 @@ impl Write for CallCounter {
     }
 }
 
-/// How a run over file F0 ends that answers so many empty lines, of which a read gives at most so many, and how many
-/// writes it takes.
+/// Answers `lines` empty lines by file F0, of which a read gives at most `most`. Returns how the
+/// run ends, and how many writes it takes.
 fn count_writes(alloc: Global, lines: usize, most: usize) -> Result<(Outcome, usize), Fail> {
     let file = F0.bytes(alloc)?;
     let mut reader = Watched::new(Newlines { left: lines, most });
@@ -51,7 +51,8 @@ fn count_writes(alloc: Global, lines: usize, most: usize) -> Result<(Outcome, us
     Ok((ended(outcome), inner.calls))
 }
 
-/// Whether the run ends well and takes so many writes. Where memory is refused it runs once more.
+/// Returns whether the run succeeds and takes that many writes. If memory runs out, it runs once
+/// more.
 fn are_gathered(alloc: Global, lines: usize, most: usize, writes: usize) -> Result<bool, Fail> {
     let (mut outcome, mut calls) = count_writes(alloc, lines, most)?;
     if outcome == Err(Stop::OutOfMemory) {
@@ -60,8 +61,8 @@ fn are_gathered(alloc: Global, lines: usize, most: usize, writes: usize) -> Resu
     Ok(outcome == Ok(()) && calls == writes)
 }
 
-/// How many empty lines there are, how many of them a read gives at most, and how many writes their answers take, of 15
-/// bytes each.
+/// The number of empty lines, how many of them a read gives at most, and how many writes their
+/// answers take. Each answer has 15 bytes.
 const GATHERED: &[(usize, usize, usize)] = &[
     // The answers to the lines of a read go out together.
     (1_000, usize::MAX, 1),
@@ -80,7 +81,7 @@ fn gathered_answers(rt: HostRuntime) -> Result<(), Fail> {
     Ok(())
 }
 
-/// Whether a fault that can't be told whole leaves a front of the line.
+/// Returns whether a fault that can't be reported whole leaves a prefix of its line.
 fn is_front_told(alloc: Global, room: usize) -> Result<bool, Fail> {
     let mut errors = PieceWriter {
         written: line_buffer(alloc)?,

@@ -3,7 +3,7 @@ use Rattle.std.specs.Prelude.{Result, Ok, Err, IfErr}
 use Rattle.std.specs.declared.io.ErrorKind.{ErrorKind}
 use Rattle.pdb_engine.specs.declared.fault.InputFault.{InputFault}
 use Rattle.pdb_engine.specs.declared.fault.InputFault.TheVariants.{Read, Write, InputTooLong, OutOfMemory}
-use Rattle.pdb_report_texts.specs.declared.fault.LoadFault.{LoadFault}
+use Rattle.pdb_loading.specs.declared.load_fault.LoadFault.{LoadFault}
 use Rattle.pdb_report_texts.specs.declared.fault.RunFault.{RunFault}
 use Rattle.pdb_report_texts.specs.declared.fault.RunFault.TheVariants as runs
 use Rattle.pdb_engine.specs.InputFaults as inputs

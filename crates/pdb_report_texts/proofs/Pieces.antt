@@ -41,7 +41,7 @@ module _ {X : Type 0} (text : X → List ℕ) where
       → PutsAll contents failures start now (flat_map text (take i pieces)) → PutsAll contents failures start now (flat_map text pieces)
   pieces_all contents failures start now pieces i past (quiet, written) = (quiet, subst (λ (l : List ℕ). Appends (contents start) (contents now) l) (ap (flat_map text) (take_all i pieces past)) written)
 
--- a text that was put is told: whole, or a prefix of it
+-- a text that was written is reported: whole, or a prefix of it
 pub told_either : {T : Type 0} (contents : T → Option (List ℕ)) (failures : T → Count) (has_failed : T → ErrorKind → Type 0) (old new : T) (result : Result (Unit {0}) ErrorKind) (line : List ℕ) → Puts contents failures has_failed old new result line → Tells contents failures has_failed old new line
 told_either contents failures has_failed old new (Ok done) line h = inl h
 told_either contents failures has_failed old new (Err kind) line h = inr (kind, h)

@@ -1,27 +1,19 @@
 -- The text of an answer, and of a line of the input.
-use Rattle.std.specs.Prelude.{ℕ, false, ◌-◌, ◌^◌, ◌++◌, List, [], ◌∷◌, Option, None, Some, Result, Ok, Err, codes}
+use Rattle.std.specs.Prelude.{ℕ, ◌++◌, List, [], ◌∷◌, Option, None, Some, Result, Ok, Err, codes}
 use Rattle.std.specs.List.{flat_map}
-use Rattle.std.specs.Fmt.{decimal, digits, padded_integral, format_spec}
+use Rattle.std.specs.Fmt.{decimal}
 use Rattle.pdb_resolving.specs.Fault.{Fault}
 use Rattle.pdb_functions.specs.Frames.{Frame, FunctionFrames}
 use Rattle.pdb_functions.specs.declared.frames.FrameRow.{FrameRow}
+pub use Rattle.pdb_functions.specs.Texts.{text_or, eight_digits}
 use Rattle.pdb_engine.specs.Address.{address_of}
-
--- a text that may be missing
-abbrev pub text_or : Option (List ℕ) → List ℕ
-text_or None = codes "??"
-text_or (Some text) = text
 
 -- a number that may be missing, in decimal
 abbrev pub number_text : Option ℕ → List ℕ
 number_text None = codes "??"
 number_text (Some n) = decimal n
 
--- an address's eight lower-case hexadecimal digits, as `{:08x}` prints them: filled up with zeros
-abbrev pub eight_digits : ℕ → List ℕ
-eight_digits a = padded_integral (format_spec 32 0 4 8 (2 ^ 64 - 1)) false [] (digits 16 false a)
-
--- a row: where it begins, and how many bytes it has; or that there is none
+-- a row: where it begins, and its length in bytes; or that there is none
 abbrev pub row_text : Option FrameRow → List ℕ
 row_text None = codes " @??"
 row_text (Some row) =
@@ -34,8 +26,8 @@ frame_text f =
     ++ codes " at " ++ text_or f.file ++ codes ":" ++ number_text f.line
     ++ row_text f.row ++ 10 ∷ []
 
--- the lines of an answer: one for each frame, or what is written for nothing, and for what can't
--- be read
+-- the lines of an answer: one for each frame, or the line for no answer, or for one that can't be
+-- read
 unfoldable pub answer_text : Result (Option FunctionFrames) Fault → List ℕ
 answer_text (Ok None) = codes "  ??\n"
 answer_text (Ok (Some f)) = flat_map frame_text f.frames
@@ -45,7 +37,7 @@ answer_text (Err e) = codes "  unreadable\n"
 abbrev pub Answers : Type 0
 Answers = ℕ → Result (Option FunctionFrames) Fault
 
--- what is written for a line that is an address, or none, by the answers
+-- what is written for a line that is an address, or isn't one, by the answers
 abbrev pub text_at : Answers → Option ℕ → List ℕ
 text_at answer None = codes "not an address\n"
 text_at answer (Some a) = codes "0x" ++ eight_digits a ++ 10 ∷ answer_text (answer a)

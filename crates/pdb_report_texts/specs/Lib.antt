@@ -1,5 +1,4 @@
 pub mod AddressText
-pub mod Faults
 pub mod FaultText
 pub mod RunFaults
 pub mod ToldFault

@@ -2,12 +2,14 @@
 use Rattle.std.specs.Prelude.{◌≢◌, Result, Ok, Err}
 use Rattle.std.specs.declared.io.ErrorKind.{ErrorKind}
 use Rattle.std.specs.declared.io.ErrorKind.TheVariants as kinds
-use Rattle.pdb_report_texts.specs.declared.fault.LoadFault.{LoadFault}
-use Rattle.pdb_report_texts.specs.declared.fault.LoadFault.TheVariants as faults
+use Rattle.pdb_loading.specs.declared.load_fault.LoadFault.{LoadFault}
+use Rattle.pdb_loading.specs.declared.load_fault.LoadFault.TheVariants as faults
 use Rattle.pdb_engine.specs.declared.fault.InputFault.{InputFault}
 use Rattle.pdb_engine.specs.declared.fault.InputFault.TheVariants as inputs
 use Rattle.pdb_report_texts.specs.declared.fault.RunFault.{RunFault}
-use Rattle.pdb_report_texts.specs.declared.fault.RunFault.TheVariants.{Load, ReversedRange, Read, Write, InputTooLong, OutOfMemory}
+use Rattle.pdb_report_texts.specs.declared.fault.RunFault.TheVariants.{Load, ReversedRange, Read}
+use Rattle.pdb_report_texts.specs.declared.fault.RunFault.TheVariants.{Write, InputTooLong}
+use Rattle.pdb_report_texts.specs.declared.fault.RunFault.TheVariants.{OutOfMemory}
 
 -- how a run ends where loading has the fault
 abbrev pub run_fault_of : LoadFault → RunFault
@@ -76,7 +78,7 @@ IsOfFrames (Write kind) = kind ≢ kinds.OutOfMemory
 IsOfFrames InputTooLong = Unit {0}
 IsOfFrames OutOfMemory = Unit {0}
 
--- where the fault is that memory was short, this is said
+-- where the fault is that memory ran out, this is said
 abbrev pub OnMemory : RunFault → Type 0 → Type 0
 OnMemory OutOfMemory P = P
 OnMemory (Load fault) P = Unit {0}

@@ -24,7 +24,7 @@ text_of t =
 abbrev pub fault_line : RunFault → List ℕ
 fault_line fault = codes "fault: " ++ run_fault_text fault ++ 10 ∷ []
 
--- a line was written: no write failed, and all of it was; or one failed, and a prefix of it was
+-- No write failed, and the whole line was written; or one failed, and a prefix of it was written.
 abbrev pub Tells : {T : Type 0} → (T → Option (List ℕ)) → (T → Count)
     → (T → ErrorKind → Type 0) → T → T → List ℕ → Type 0
 Tells contents failures has_failed old new line =

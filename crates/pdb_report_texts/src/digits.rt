@@ -8,7 +8,7 @@ ghost use Rattle.pdb_report_texts.specs.AddressText.{eight_digits};
 
 use std::alloc::AllocError;
 
-/// The hexadecimal digits, each at its value.
+/// The hexadecimal digits, each at the index of its value.
 static DIGITS: [u8; 16] = *b"0123456789abcdef";
 
 /// Returns the hexadecimal digit of a value.
@@ -67,6 +67,9 @@ fn append_bytes(text: &mut String, bytes: &[u8]) -> Result<(), AllocError>
 }
 
 /// Appends the line of an address itself.
+///
+/// # Errors
+/// `AllocError` when memory runs out.
 pub fn append_address_line(text: &mut String, address: u32) -> Result<(), AllocError>
     ensures { OnOk result (string_bytes text.new ≡
         string_bytes text.old ++ (codes "0x" ++ eight_digits address ++ 10 ∷ [])) }
@@ -75,6 +78,9 @@ pub fn append_address_line(text: &mut String, address: u32) -> Result<(), AllocE
 }
 
 /// Appends where a row begins, with what stands before and after it.
+///
+/// # Errors
+/// `AllocError` when memory runs out.
 pub fn append_row_start(text: &mut String, start: u32) -> Result<(), AllocError>
     ensures { OnOk result (string_bytes text.new ≡
         string_bytes text.old ++ (codes " @0x" ++ eight_digits start ++ codes "+")) }

@@ -1,5 +1,4 @@
-//! The texts of a report: the lines of an answer, and why a program database isn't loaded or a run
-//! ends early.
+//! The texts of a report: the lines of an answer, and why a run ends early.
 #![tactic(auto)]
 
 mod digits;
@@ -7,6 +6,6 @@ mod fault;
 mod texts;
 mod told;
 
-pub use fault::{LoadFault, RunFault};
+pub use fault::RunFault;
 pub use texts::{append_address, append_unreadable};
 pub use told::tell;

@@ -1,6 +1,7 @@
 //! The text of an answer.
 
-ghost use Rattle.std.specs.Prelude.{◌≡◌, ◌++◌, ◌∷◌, [], OnOk, Ok, Err, string_bytes, option_map, codes};
+ghost use Rattle.std.specs.Prelude.{◌≡◌, ◌++◌, ◌∷◌, [], OnOk, Ok, Err, string_bytes, option_map};
+ghost use Rattle.std.specs.Prelude.{codes};
 ghost use Rattle.std.specs.List.{flat_map};
 ghost use Rattle.pdb_resolving.specs.Fault.{Fault};
 ghost use Rattle.pdb_report_texts.specs.AddressText.{answer_text, eight_digits, frame_text};
@@ -42,7 +43,7 @@ fn append_number(text: &mut String, number: Option<u32>) -> Result<(), AllocErro
     }
 }
 
-/// Appends a row: where it begins, and how many bytes it has; or that there is none.
+/// Appends a row: where it begins, and its length in bytes; or that there is none.
 fn append_row(text: &mut String, row: Option<FrameRow>) -> Result<(), AllocError>
     ensures { OnOk result (string_bytes text.new ≡ string_bytes text.old ++ row_text row) }
 {
@@ -55,7 +56,7 @@ fn append_row(text: &mut String, row: Option<FrameRow>) -> Result<(), AllocError
     }
 }
 
-/// The text, or two question marks.
+/// Returns the text, or two question marks.
 fn text_or_unknown(text: &Option<ArcStr>) -> &str
     ensures { result.now ≡ text_or (option_map arc_str_bytes text.now) }
 {
@@ -65,7 +66,7 @@ fn text_or_unknown(text: &Option<ArcStr>) -> &str
     }
 }
 
-/// A file's name, or two question marks.
+/// Returns a file's name, or two question marks.
 fn file_or_unknown<'f>(file: &'f Option<CowStr<'_>>) -> &'f str
     ensures { result.now ≡ text_or (option_map cow_str_bytes file.now) }
 {
@@ -103,7 +104,10 @@ fn append_frames(text: &mut String, frames: &[SharedFrame<'_>]) -> Result<(), Al
     Ok(())
 }
 
-/// Appends the lines of an address: itself, and its answer.
+/// Appends the lines of an address: its own, and those of its answer.
+///
+/// # Errors
+/// `AllocError` when memory runs out.
 pub fn append_address(
     text: &mut String,
     address: u32,
@@ -118,6 +122,9 @@ pub fn append_address(
 }
 
 /// Appends the lines of an address whose answer can't be read.
+///
+/// # Errors
+/// `AllocError` when memory runs out.
 #[tactic(auto, unfolding(crate::specs::AddressText::answer_text))]
 pub fn append_unreadable(text: &mut String, address: u32) -> Result<(), AllocError>
     ensures { OnOk result ((e : Fault) → string_bytes text.new ≡ string_bytes text.old

@@ -4,13 +4,15 @@ ghost use Rattle.std.specs.Prelude.{◌≡◌, ◌++◌, codes, decimal};
 ghost use Rattle.std.specs.List.{flat_map};
 ghost use Rattle.pdb_container.specs.ErrorText.{module_fault_text, error_text};
 ghost use Rattle.pdb_engine.specs.Puts.{Puts};
-ghost use Rattle.pdb_report_texts.specs.FaultText.{cause_text, load_fault_text, run_fault_text};
+ghost use Rattle.pdb_loading.specs.LoadFaultText.{cause_text, load_fault_text};
+ghost use Rattle.pdb_report_texts.specs.FaultText.{run_fault_text};
 ghost use Rattle.pdb_report_texts.specs.ToldFault.{piece_text, text_of, fault_line};
 
-use crate::fault::{LoadFault, RunFault, plain_name};
+use crate::fault::RunFault;
 use itoa::Buffer;
 use pdb_container::{Error as PdbError, ModuleFault, kind_name};
 use pdb_engine::ErrorOutput;
+use pdb_loading::{LoadFault, plain_name};
 use pdb_resolving::Error;
 use std::io::ErrorKind;
 
@@ -23,8 +25,7 @@ pub enum Piece<'t> {
     Number(u64),
 }
 
-/// A fault's text: its name, up to its values; these, and what stands between them; and what ends
-/// it.
+/// A fault's text: its name, its values with what stands between them, and what ends it.
 #[derive(Drop)]
 pub struct Told<'t> {
     name: &'static str,
@@ -37,14 +38,14 @@ pub struct Told<'t> {
 }
 
 impl<'t> Told<'t> {
-    /// A fault without values.
+    /// Returns the text of a fault without values.
     fn plain(name: &'static str) -> Told<'t>
         ensures { text_of result ≡ name.now }
     {
         Told::value(name, Piece::Text(""), "")
     }
 
-    /// One with a value; its name ends with what opens the values.
+    /// Returns the text of a fault with a value. Its name ends with what opens the values.
     fn value(name: &'static str, value: Piece<'t>, end: &'static str) -> Told<'t>
         ensures { text_of result ≡ name.now ++ piece_text value.entry ++ end.now }
     {
@@ -59,14 +60,14 @@ impl<'t> Told<'t> {
         }
     }
 
-    /// One with a number.
+    /// Returns the text of a fault with a number.
     fn number(name: &'static str, value: u64) -> Told<'t>
         ensures { text_of result ≡ name.now ++ decimal value ++ codes ")" }
     {
         Told::value(name, Piece::Number(value), ")")
     }
 
-    /// One with two numbers.
+    /// Returns the text of a fault with two numbers.
     fn numbers(name: &'static str, first: u64, second: u64) -> Told<'t>
         ensures { text_of result ≡
             name.now ++ decimal first ++ codes ", " ++ decimal second ++ codes ")" }
@@ -82,7 +83,7 @@ impl<'t> Told<'t> {
         }
     }
 
-    /// One with three numbers.
+    /// Returns the text of a fault with three numbers.
     fn three(name: &'static str, first: u64, second: u64, third: u64) -> Told<'t>
         ensures { text_of result ≡ name.now ++ decimal first ++ codes ", " ++ decimal second
             ++ codes ", " ++ decimal third ++ codes ")" }
@@ -98,7 +99,7 @@ impl<'t> Told<'t> {
         }
     }
 
-    /// One with a text.
+    /// Returns the text of a fault with a text.
     fn text(name: &'static str, value: &'t str) -> Told<'t>
         ensures { text_of result ≡ name.now ++ value.now ++ codes ")" }
     {
@@ -106,7 +107,7 @@ impl<'t> Told<'t> {
     }
 }
 
-/// The text of a fault that is cached of a module.
+/// Returns the text of a cached fault of a module.
 #[tactic(auto, using(std::proofs::Common::append_assoc))]
 fn kept_told(fault: ModuleFault) -> Told<'static>
     ensures { text_of result ≡ codes "Kept(" ++ module_fault_text fault ++ codes ")" }
@@ -133,7 +134,7 @@ fn kept_told(fault: ModuleFault) -> Told<'static>
     }
 }
 
-/// The text of a fault of the container.
+/// Returns the text of a fault of the container.
 fn error_told(error: PdbError) -> Told<'static>
     ensures { text_of result ≡ error_text error }
 {
@@ -201,7 +202,7 @@ fn error_told(error: PdbError) -> Told<'static>
     }
 }
 
-/// The text of a cause.
+/// Returns the text of a cause.
 fn cause_told(cause: &Error) -> Told<'_>
     ensures { text_of result ≡ cause_text cause.now }
 {
@@ -236,7 +237,7 @@ fn cause_told(cause: &Error) -> Told<'_>
     }
 }
 
-/// The text of a fault of loading.
+/// Returns the text of a fault of loading.
 fn load_told(fault: &LoadFault) -> Told<'_>
     ensures { text_of result ≡ load_fault_text fault.now }
 {
@@ -247,7 +248,7 @@ fn load_told(fault: &LoadFault) -> Told<'_>
     }
 }
 
-/// The text of a fault of a run.
+/// Returns the text of a fault of a run.
 fn run_told(fault: &RunFault) -> Told<'_>
     ensures { text_of result ≡ run_fault_text fault.now }
 {
@@ -306,7 +307,7 @@ fn write_pieces<W: ErrorOutput>(output: &mut W, pieces: &[Piece<'_>]) -> Result<
     Ok(())
 }
 
-/// The pieces of the line on a fault.
+/// Returns the pieces of the line on a fault.
 #[tactic(auto, using(std::proofs::Common::append_assoc))]
 fn line_pieces(fault: &RunFault) -> [Piece<'_>; 9]
     ensures { flat_map piece_text result ≡ fault_line fault.now }

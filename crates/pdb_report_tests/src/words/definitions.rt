@@ -1,4 +1,4 @@
-//! What the definitions say of the rows' words.
+//! What the definitions say of the rows' arguments.
 
 ghost use Rattle.std.specs.Prelude.{◌≡◌, ◌∷◌, [], true, false, Some, None, codes};
 ghost use Rattle.clap.specs.Words.{fault_of};
@@ -16,7 +16,8 @@ pub fn frames()
 /// `sizes F 0x10 20` is the task from 16 to 32.
 pub fn sizes()
     ensures taken { IsTaken (sizes_words (codes "0x10") (codes "20")) }
-    ensures task { told_of (sizes_words (codes "0x10") (codes "20")) ≡ Some (codes "sizes", Some (codes "F"), Some 16, Some 32) }
+    ensures task { told_of (sizes_words (codes "0x10") (codes "20"))
+        ≡ Some (codes "sizes", Some (codes "F"), Some 16, Some 32) }
 {}
 
 /// `sizes --by-file F 10 20` is the task from 16 to 32 by file, and without the flag it isn't.
@@ -31,11 +32,13 @@ pub fn sizes_by_file()
 /// `sizes F 10 zz` is taken, and has no address at END.
 pub fn sizes_to_no_address()
     ensures taken { IsTaken (sizes_words (codes "10") (codes "zz")) }
-    ensures task { told_of (sizes_words (codes "10") (codes "zz")) ≡ Some (codes "sizes", Some (codes "F"), Some 16, None) }
+    ensures task { told_of (sizes_words (codes "10") (codes "zz"))
+        ≡ Some (codes "sizes", Some (codes "F"), Some 16, None) }
 {}
 
-/// `sizes F 10` lacks a word, and `--help` asks for help.
+/// `sizes F 10` lacks an argument, and `--help` asks for help.
 pub fn refused_words()
-    ensures missing { fault_of program_app (codes "sizes" ∷ codes "F" ∷ codes "10" ∷ []) ≡ kinds.MissingRequiredArgument ∷ [] }
+    ensures missing { fault_of program_app (codes "sizes" ∷ codes "F" ∷ codes "10" ∷ [])
+        ≡ kinds.MissingRequiredArgument ∷ [] }
     ensures help { fault_of program_app (codes "--help" ∷ []) ≡ kinds.DisplayHelp ∷ [] }
 {}

@@ -1,33 +1,33 @@
-//! Words behind the program's name, and what comes of them.
+//! The program's arguments, and what comes of them.
 
 use pdb_arguments::{Task, WordsFault, read_words};
 use std::alloc::{AllocError, Global};
 use std::test::Fail;
 
-/// What has to come of words.
+/// What has to come of arguments.
 #[derive(Clone, Copy)]
 enum Wanted {
-    /// This task.
+    /// The task `frames` over a file.
     Frames(&'static str),
-    /// This task, which isn't by file.
+    /// The task `sizes` over a range of a file, without `--by-file`.
     Sizes(&'static str, u32, u32),
-    /// This task, by file.
+    /// The task `sizes` over a range of a file, with `--by-file`.
     SizesByFile(&'static str, u32, u32),
-    /// The fault of this name.
+    /// The fault with that name.
     NotAnAddress,
-    /// A text on wrong words that has these texts.
+    /// A text on wrong arguments that contains these texts.
     Words(&'static [&'static str]),
-    /// A text of help that has these texts.
+    /// A text of help that contains these texts.
     Help(&'static [&'static str]),
 }
 
-/// Whether a text has all of these.
+/// Returns whether a text contains all of these.
 fn has_all(text: &String, parts: &[&str]) -> bool {
     parts.iter().all(|part| text.as_str().contains(*part))
 }
 
 impl Wanted {
-    /// Whether it came.
+    /// Returns whether it came.
     fn came(self, outcome: &Result<Task, WordsFault>) -> bool {
         match (self, outcome) {
             (Wanted::Frames(wanted), Ok(Task::Frames { file })) => file.as_str() == wanted,
@@ -61,7 +61,7 @@ impl Wanted {
     }
 }
 
-/// What help on `sizes` has.
+/// Texts that the help on `sizes` contains.
 const SIZES_HELP: &[&str] = &[
     "Usage: pdb_symbolizer sizes [OPTIONS] <FILE> <START> <END>",
     "<FILE>   The program database",
@@ -72,7 +72,7 @@ const SIZES_HELP: &[&str] = &[
     "pdb_symbolizer sizes --by-file program.pdb 1000 2000",
 ];
 
-/// What help on `frames` has.
+/// Texts that the help on `frames` contains.
 const FRAMES_HELP: &[&str] = &[
     "Usage: pdb_symbolizer frames <FILE>",
     "<FILE>  The program database",
@@ -80,17 +80,17 @@ const FRAMES_HELP: &[&str] = &[
     "echo 1018 | pdb_symbolizer frames program.pdb",
 ];
 
-/// What help on the program has.
+/// Texts that the help on the program contains.
 const HELP: &[&str] = &[
     "Usage: pdb_symbolizer <COMMAND>",
     "frames  Reports",
     "sizes   Counts",
 ];
 
-/// What `--version` has.
+/// A text that `--version` writes.
 const VERSION: &[&str] = &["pdb_symbolizer 0."];
 
-/// Arguments, each after a space, and what has to come of them.
+/// Arguments with spaces between them, and what has to come of them.
 const ROWS: &[(&str, Wanted)] = &[
     ("sizes F 0x10 20", Wanted::Sizes("F", 16, 32)),
     (
@@ -123,7 +123,7 @@ const ROWS: &[(&str, Wanted)] = &[
     ("frames --help", Wanted::Help(FRAMES_HELP)),
 ];
 
-/// What comes of words.
+/// Reads the arguments of a line.
 fn read(alloc: Global, line: &str) -> Result<Result<Task, WordsFault>, AllocError> {
     let mut words = Vec::new(alloc);
     for word in line.split_whitespace() {
@@ -132,7 +132,7 @@ fn read(alloc: Global, line: &str) -> Result<Result<Task, WordsFault>, AllocErro
     Ok(read_words(alloc, words.as_slice()))
 }
 
-/// What comes of words, and of the second call where the first finds no memory.
+/// Reads the arguments of a line, and once more if memory runs out.
 fn read_again(alloc: Global, line: &str) -> Result<Result<Task, WordsFault>, AllocError> {
     match read(alloc, line) {
         Err(_) | Ok(Err(WordsFault::OutOfMemory)) => read(alloc, line),
@@ -140,7 +140,7 @@ fn read_again(alloc: Global, line: &str) -> Result<Result<Task, WordsFault>, All
     }
 }
 
-// The only test that fails where some allocation is refused, and the other asks again.
+// The only test that fails if an allocation is refused. The other one asks again.
 #[test]
 fn first_calls_in_ample_memory(rt: HostRuntime) -> Result<(), Fail> {
     for (line, wanted) in &ROWS[..3] {

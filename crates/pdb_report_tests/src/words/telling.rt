@@ -1,14 +1,14 @@
-//! What is told where no task comes of words, to whom, and with which status.
+//! What is reported where no task comes of arguments, to whom, and with which status.
 
 use pdb_arguments::{WordsFault, tell_words};
 use std::alloc::{AllocError, Global};
 use std::io::{self, ErrorKind, Write};
 use std::test::Fail;
 
-/// A fault; what is told of it to the output and to the errors; and the status.
+/// A fault, what is written of it to the output and to the errors, and the status.
 type Row = (WordsFault, &'static str, &'static str, u8);
 
-/// Faults of each kind.
+/// Returns a row for each kind of fault.
 fn faults(alloc: Global) -> Result<[Row; 4], AllocError> {
     let help = String::from_str(alloc, "help\n")?;
     let cause = String::from_str(alloc, "cause\n")?;
@@ -20,7 +20,7 @@ fn faults(alloc: Global) -> Result<[Row; 4], AllocError> {
     ])
 }
 
-/// The same, and asked for again where no memory is found.
+/// Returns the rows of [`faults`], and asks once more if memory runs out.
 fn faults_again(alloc: Global) -> Result<[Row; 4], AllocError> {
     match faults(alloc) {
         Ok(rows) => Ok(rows),
@@ -28,7 +28,7 @@ fn faults_again(alloc: Global) -> Result<[Row; 4], AllocError> {
     }
 }
 
-/// An empty writer with room for a line.
+/// Makes an empty writer with room for a line.
 fn line_writer(alloc: Global) -> Result<Vec<u8>, AllocError> {
     match Vec::with_capacity(alloc, 32) {
         Ok(writer) => Ok(writer),
@@ -63,7 +63,7 @@ impl Write for ClosedPipe {
     }
 }
 
-// The status is the same where nothing can be told.
+// The status is the same where nothing can be written.
 #[test]
 fn closed_pipes(rt: HostRuntime) -> Result<(), Fail> {
     for (fault, _, _, wanted) in &faults_again(rt.alloc())? {

@@ -2,7 +2,7 @@ use Rattle.std.specs.Prelude.{◌≡◌, ◌≤◌, take}
 use Rattle.pdb_container.specs.Fault.{HasRisen}
 use Rattle.pdb_symbols_modules.specs.Streams.{streams}
 use Rattle.pdb_loading.specs.Held.{kept_infos}
-use Rattle.pdb_loading.specs.Kept.{KeepsInfos}
+use Rattle.pdb_loading.specs.ModuleInfos.{KeepsInfos}
 use Rattle.pdb_loading.specs.Sharing.{AreOfStreams}
 use Rattle.pdb_loading.proofs.module_infos.read_infos.Given as goal
 

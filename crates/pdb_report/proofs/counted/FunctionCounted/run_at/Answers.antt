@@ -1,6 +1,6 @@
 use Rattle.std.proofs.Common.{ap}
 use Rattle.pdb_report.specs.Answer.{keyed_in}
-use Rattle.pdb_report.specs.Kept.{answered_in}
+use Rattle.pdb_report.specs.Answer.{answered_in}
 use Rattle.pdb_report.proofs.counted.FunctionCounted.run_at.Goals as goal
 
 pub returns-clause-same : goal.returns-clause-same

@@ -1,7 +1,7 @@
 use Rattle.std.proofs.Common.{arith, refl}
 use Rattle.pdb_symbols_modules.specs.Streams.{streams}
 use Rattle.pdb_loading.proofs.HeldSteps.{list_ends, own_held}
-use Rattle.pdb_addr2line.proofs.pdb_data.ContextPdbData.try_from_tables.Goals as goal
+use Rattle.pdb_loading.proofs.held_database.read_after_tables.Goals as goal
 
 pub invariant_of-result : goal.invariant_of-result
 invariant_of-result g c = list_ends c.args.debug_information tt c.in_ok-module_infos.ensures.whole_list

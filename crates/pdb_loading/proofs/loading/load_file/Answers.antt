@@ -2,10 +2,10 @@ use Rattle.std.proofs.Common.{◌≡◌, ◌∙◌, ℕ, List, sym, subst}
 use Rattle.std.specs.Prelude.{IfOk, IfErr, OnOk, None}
 use Rattle.std.proofs.lemmas.Result.{err_from_is_err_and}
 use Rattle.pdb_symbols_modules.specs.Streams.{streams}
-use Rattle.pdb_report.specs.Loading.{load_fault, Refuses}
-use Rattle.pdb_report_texts.specs.Faults.{load_fault_of}
-use Rattle.pdb_report.proofs.OpeningSteps.{not_opened, all_refused}
-use Rattle.pdb_report.proofs.symbolizer.open_file.Goals as goal
+use Rattle.pdb_loading.specs.Loading.{load_fault}
+use Rattle.pdb_loading.specs.LoadFaults.{Refuses, load_fault_of}
+use Rattle.pdb_loading.proofs.LoadingSteps.{not_opened, all_refused}
+use Rattle.pdb_loading.proofs.loading.load_file.Goals as goal
 
 pub returns-in_err-pdb-clause-refused : goal.returns-in_err-pdb-clause-refused
 returns-in_err-pdb-clause-refused c =

@@ -4,11 +4,11 @@ use Rattle.std.specs.Prelude.{◌⊎◌, Option, Some}
 use Rattle.pdb_container.specs.declared.error.Error.{Error}
 use Rattle.pdb_container.specs.declared.error.Error.TheVariants as errors
 use Rattle.pdb_container.specs.Fault.{Fault, fault_of, IsOutside, HasRisen, ◌>>=◌}
-use Rattle.pdb_report_texts.specs.declared.fault.LoadFault.{LoadFault}
-use Rattle.pdb_report_texts.specs.declared.fault.LoadFault.TheVariants as faults
+use Rattle.pdb_loading.specs.declared.load_fault.LoadFault.{LoadFault}
+use Rattle.pdb_loading.specs.declared.load_fault.LoadFault.TheVariants as faults
 use Rattle.pdb_resolving.specs.declared.error.Error.TheVariants as contexts
-use Rattle.pdb_report.specs.Loading.{none_or}
-use Rattle.pdb_report_texts.specs.Faults.{load_fault_of, lifted, FailsLoading, LoadingFault}
+use Rattle.pdb_loading.specs.Loading.{none_or, lifted, LoadingFault}
+use Rattle.pdb_loading.specs.LoadFaults.{load_fault_of, FailsLoading}
 
 -- an error of a reading is the fault of the loading step that makes it
 pub load_fails : {A B : Type 0} (e : Error) (read : Result A Fault) (f : A → Result B LoadingFault)

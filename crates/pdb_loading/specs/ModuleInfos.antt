@@ -1,5 +1,6 @@
--- What is kept of what may be missing: modules' own streams, and the string table.
-use Rattle.std.specs.Prelude.{◌≡◌, ◌≢◌, ℕ, ◌≤◌, ◌⊎◌, List, Option, None, Some, slice_get, Result, Ok, Err}
+-- What is stored of what may be missing: modules' own streams, and the string table.
+use Rattle.std.specs.Prelude.{◌≡◌, ◌≢◌, ℕ, ◌≤◌, ◌⊎◌, List, Option, None, Some, slice_get}
+use Rattle.std.specs.Prelude.{Result, Ok, Err}
 use Rattle.std.specs.List.{AllZip}
 use Rattle.std.specs.Result.{IsErrAnd}
 use Rattle.std.specs.declared.io.ErrorKind.TheVariants as kinds
@@ -7,31 +8,32 @@ use Rattle.pdb_container.specs.declared.error.Error.{Error}
 use Rattle.pdb_container.specs.declared.error.Error.TheVariants as errors
 use Rattle.pdb_container.specs.declared.error.ModuleFault.{ModuleFault}
 use Rattle.pdb_container.specs.declared.error.ModuleFault.TheVariants as kept
-use Rattle.pdb_container.specs.Fault.{Fault, StreamNotFound, PageReferenceOutOfRange, IoError, UnexpectedEof, Kept, HasRisen}
+use Rattle.pdb_container.specs.Fault.{Fault, StreamNotFound, PageReferenceOutOfRange, IoError}
+use Rattle.pdb_container.specs.Fault.{UnexpectedEof, Kept, HasRisen}
 use Rattle.pdb_symbols_modules.specs.ModuleStream.{ModuleStream}
 
--- what is kept of a module: its own stream, where it has one, or why that can't be read
+-- what is stored of a module: its own stream, where it has one, or why that can't be read
 abbrev pub KeptInfo : Type 0
 KeptInfo = Result (Option ModuleStream) ModuleFault
 
--- The fault of a stream, as it is kept. No stream of an open file has any other.
+-- The fault of a stream, as it is stored. No stream of an open file has any other.
 abbrev pub kept_fault : Fault → ModuleFault
 kept_fault (StreamNotFound number) = kept.StreamNotFound number
 kept_fault (PageReferenceOutOfRange page) = kept.PageReferenceOutOfRange page
 kept_fault (IoError kind) = kept.IoError kind
 kept_fault e = kept.UnexpectedEof
 
--- what is kept of a module that was read
+-- what is stored of a module that was read
 abbrev pub kept_info : Result (Option ModuleStream) Fault → KeptInfo
 kept_info (Ok found) = Ok found
 kept_info (Err e) = Err (kept_fault e)
 
--- an error as what is kept of a module, where that may be kept
+-- an error as what is stored of a module, where that may be stored
 abbrev pub kept_as : Result ModuleFault Error → Result KeptInfo Error
 kept_as (Ok fault) = Ok (Err fault)
 kept_as (Err e) = Err e
 
--- what is answered of it: a fault says that it was kept
+-- what is answered of it: a fault as `Kept`
 abbrev pub answered : KeptInfo → Result (Option ModuleStream) Fault
 answered (Ok found) = Ok found
 answered (Err fault) = Err (Kept fault)
@@ -55,7 +57,7 @@ abbrev pub IsSourceFault : ModuleFault → Type 0
 IsSourceFault (kept.IoError kind) = kind ≢ kinds.UnexpectedEof
 IsSourceFault fault = ⊥
 
--- What is kept is what there is to keep, or the source failed, and it is what stands for that.
+-- What is stored is what there is, or the source failed, and it is what stands for that.
 abbrev pub KeepsAt : {A : Type 0} → (A → Type 0) → Type 0 → A → A → Type 0
 KeepsAt stands failed kept there = (kept ≡ there) ⊎ (failed × stands kept)
 
@@ -71,25 +73,26 @@ KeepsInfos failed kept there = AllZip (KeepsInfo failed) kept there
 abbrev pub KeepsNames : Type 0 → Option (List ℕ) → Option (List ℕ) → Type 0
 KeepsNames failed kept there = KeepsAt (λ names. names ≡ None) failed kept there
 
--- a fault of the source, as it is answered of a module that was kept
+-- a fault of the source, as it is answered of a module
 abbrev pub AnswersSourceFault : Result (Option ModuleStream) Fault → Type 0
 AnswersSourceFault (Err (Kept fault)) = IsSourceFault fault
 AnswersSourceFault answer = ⊥
 
--- What a call kept, seen by view, is so kept of what there is to keep; its only error is out of
--- memory.
+-- What a call returned, seen by view, is what there is, or what stands for a failed source; its
+-- only error is out of memory.
 abbrev pub Keeps : {X Y : Type 0} → (Y → Y → Type 0) → (X → Y) → Result X Error → Y → Type 0
 Keeps keeps view (Ok x) there = keeps (view x) there
 Keeps keeps view (Err errors.OutOfMemory) there = Unit {0}
 Keeps keeps view (Err e) there = ⊥
 
 -- A call left the source's bytes as they were and its count of failures at least where it stood,
--- and kept what there is, or what stands for a failure that was counted then.
+-- and returned what there is, or what stands for a failure that was counted then.
 pub record KeepsFrom {S X Y : Type 0} (bytes : S → List ℕ) (failures : S → ℕ) (old new : S)
-    (keeps : Type 0 → Y → Y → Type 0) (view : X → Y) (result : Result X Error) (there : Y) : Type 0 where
-  pub same : bytes new ≡ bytes old
-  pub counts : failures old ≤ failures new
-  pub exact : Keeps (keeps (HasRisen (failures old) (failures new))) view result there
+    (keeps : Type 0 → Y → Y → Type 0) (view : X → Y) (result : Result X Error) (there : Y) : Type 0
+  where
+    pub same : bytes new ≡ bytes old
+    pub counts : failures old ≤ failures new
+    pub exact : Keeps (keeps (HasRisen (failures old) (failures new))) view result there
 
 -- the faults that a stream of an open file may have
 abbrev pub IsStreamFault : Fault → Type 0

@@ -1,18 +1,13 @@
--- Faults of loading: as a definition has them, and when a call that loads may return one.
-use Rattle.std.specs.Prelude.{◌≡◌, Result, Ok, Err}
+-- Faults of loading: which a fault of the code is, and when a call that loads may return one.
+use Rattle.std.specs.Prelude.{◌≡◌, Option, Some, Result, Err}
 use Rattle.pdb_container.specs.declared.error.Error as container
 use Rattle.pdb_container.specs.declared.error.Error.TheVariants as errors
-use Rattle.pdb_container.specs.Fault.{Fault}
 use Rattle.pdb_resolving.specs.declared.error.Error as context
 use Rattle.pdb_resolving.specs.declared.error.Error.TheVariants as contexts
 use Rattle.pdb_resolving.specs.Fault as answers
-use Rattle.pdb_report_texts.specs.declared.fault.LoadFault.{LoadFault}
-use Rattle.pdb_report_texts.specs.declared.fault.LoadFault.TheVariants as faults
-
--- why a file isn't loaded; out of memory is in no definition
-pub data LoadingFault : Type 0 where
-  Pdb : answers.Fault → LoadingFault
-  AddressTableDecreases : LoadingFault
+use Rattle.pdb_loading.specs.Loading.{LoadingFault, Pdb, AddressTableDecreases}
+use Rattle.pdb_loading.specs.declared.load_fault.LoadFault.{LoadFault}
+use Rattle.pdb_loading.specs.declared.load_fault.LoadFault.TheVariants as faults
 
 -- an error of the reader as a fault of loading; out of memory is one of its own, whichever way it
 -- came
@@ -32,19 +27,21 @@ abbrev pub load_fault_in_context : context.Error → LoadFault
 load_fault_in_context contexts.OutOfMemory = faults.OutOfMemory
 load_fault_in_context e = faults.Pdb e
 
--- a fault of a context is one of loading
-abbrev pub in_loading : {A : Type 0} → Result A answers.Fault → Result A LoadingFault
-in_loading (Ok x) = Ok x
-in_loading (Err e) = Err (Pdb e)
-
--- a fault of the container is one of loading
-abbrev pub lifted : {A : Type 0} → Result A Fault → Result A LoadingFault
-lifted (Ok x) = Ok x
-lifted (Err e) = Err (Pdb (answers.PdbError e))
-
 -- A call returns the fault: memory was short, or reading has that fault.
 abbrev pub FailsLoading : {Y : Type 0} → LoadFault → Result Y LoadingFault → Type 0
 FailsLoading faults.OutOfMemory read = Unit {0}
 FailsLoading (faults.Pdb contexts.OutOfMemory) read = ⊥
 FailsLoading (faults.Pdb (contexts.PdbError errors.OutOfMemory)) read = ⊥
 FailsLoading e read = read ≡ Err (loading_fault_of e)
+
+-- The fault is the file's, and not out of memory.
+abbrev pub IsFileFault : LoadFault → Option LoadingFault → Type 0
+IsFileFault faults.OutOfMemory fault = ⊥
+IsFileFault (faults.Pdb contexts.OutOfMemory) fault = ⊥
+IsFileFault (faults.Pdb (contexts.PdbError errors.OutOfMemory)) fault = ⊥
+IsFileFault e fault = fault ≡ Some (loading_fault_of e)
+
+-- A file is refused where memory ran out, or with its fault.
+abbrev pub Refuses : LoadFault → Option LoadingFault → Type 0
+Refuses faults.OutOfMemory fault = Unit {0}
+Refuses e fault = IsFileFault e fault

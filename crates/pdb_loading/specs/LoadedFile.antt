@@ -1,31 +1,24 @@
--- What is kept of a file that was loaded.
+-- What is held of a file that was loaded is the file's.
 use Rattle.std.specs.Prelude.{◌≡◌, ℕ, true, List, Ok}
 use Rattle.pdb_addresses.specs.Addresses.{IsOrdered, is_ordered}
 use Rattle.pdb_symbols_modules.specs.Dbi.{Dbi}
 use Rattle.pdb_symbols_modules.specs.DatabaseCalls.{debug_information}
 use Rattle.pdb_symbols_modules.specs.Shared.{shared}
 use Rattle.pdb_symbols_modules.specs.Streams.{Streams, streams}
-use Rattle.pdb_resolving.specs.Resolving.{Provided}
-use Rattle.pdb_addr2line.specs.Choice.{Parts}
-use Rattle.pdb_addr2line.specs.Formatters as kept
-use Rattle.pdb_addr2line.specs.Held.{Held, given, names_in}
-use Rattle.pdb_addr2line.specs.Kept.{KeptInfo, answered_at}
-use Rattle.pdb_addr2line.specs.Loading.{Tables, tables}
-use Rattle.pdb_report.specs.Loading.{loaded}
+use Rattle.pdb_choice.specs.Choice.{Parts}
+use Rattle.pdb_loading.specs.Held.{Held, given, names_in, parts_held}
+use Rattle.pdb_loading.specs.ModuleInfos.{answered_at}
+use Rattle.pdb_loading.specs.Loading.{Tables, tables, loaded}
 
--- what is kept gives of the module of a number, whatever its entry
-abbrev pub answered_in : List KeptInfo → Provided
-answered_in infos number entry = answered_at infos number
-
--- What is kept is the file's: what was loaded, the string table, and what is given of each module.
-pub record IsKept (file : List ℕ) (h : Held) : Type 0 where
+-- What was loaded, the string table, and what is given of each module are the file's.
+pub record IsLoadedFrom (file : List ℕ) (h : Held) : Type 0 where
   pub parts : Parts
   pub loaded_is : loaded (shared (streams file)) ≡ Ok record {
     debug_information = h.debug_information;
     tables = h.tables;
     parts = parts;
   }
-  pub parts_are : kept.parts_in h ≡ Ok parts
+  pub parts_are : parts_held h ≡ Ok parts
   pub ordered : IsOrdered h.tables.map
   pub names_are : h.names ≡ names_in (streams file)
   pub modules_are : (number : ℕ) → answered_at h.infos number ≡ given (streams file) number

@@ -1,12 +1,12 @@
 use Rattle.std.proofs.Common.{◌≡◌, ◌∙◌, ℕ, List, Ok, refl, sym, ap, subst}
 use Rattle.std.proofs.lemmas.Result.{err_from_is_err_and}
 use Rattle.pdb_addresses.specs.Addresses.{is_ordered}
-use Rattle.pdb_addr2line.specs.Loading.{Tables}
+use Rattle.pdb_loading.specs.Loading.{Tables}
 use Rattle.pdb_symbols_modules.specs.DatabaseCalls.{debug_information}
 use Rattle.pdb_symbols_modules.specs.Shared.{shared}
 use Rattle.pdb_symbols_modules.specs.Streams.{streams}
-use Rattle.pdb_report.proofs.OpeningSteps.{dbi_fails, tables_fail, order_fails}
-use Rattle.pdb_report.proofs.symbolizer.read_in_order.Goals as goal
+use Rattle.pdb_loading.proofs.LoadingSteps.{dbi_fails, tables_fail, order_fails}
+use Rattle.pdb_loading.proofs.loading.read_in_order.Goals as goal
 
 -- a step that fails is the file's fault
 pub returns-in_err-debug_information-clause-err : goal.returns-in_err-debug_information-clause-err

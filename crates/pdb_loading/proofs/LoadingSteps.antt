@@ -1,0 +1,239 @@
+-- The steps of loading a file: where one fails, and what is held at the end.
+use Rattle.std.proofs.Common.{◌≡◌, ℕ, ◌⊎◌, inl, inr, true, false, List, Result, Ok, Err, refl, sym, ap, ◌∙◌, arith}
+use Rattle.std.specs.Prelude.{None, Some, IfErr, not}
+use Rattle.pdb_container.specs.declared.error.Error.{Error}
+use Rattle.pdb_container.specs.declared.error.Error.TheVariants as errors
+use Rattle.pdb_container.specs.Fault.{Fault, fault_of, IsOutside, HasRisen, ◌>>=◌, refuse}
+use Rattle.pdb_addresses.specs.Addresses.{IsOrdered, is_ordered}
+use Rattle.pdb_choice.specs.Choice.{Parts}
+use Rattle.pdb_symbols_modules.specs.Dbi.{Dbi}
+use Rattle.pdb_symbols_modules.specs.DatabaseCalls.{debug_information}
+use Rattle.pdb_symbols_modules.specs.Shared.{Shared, shared}
+use Rattle.pdb_symbols_modules.specs.Streams.{Streams, streams, fault_in}
+use Rattle.pdb_resolving.specs.declared.error.Error as context
+use Rattle.pdb_resolving.specs.declared.error.Error.TheVariants as contexts
+use Rattle.pdb_resolving.specs.Fault as answers
+use Rattle.pdb_loading.specs.declared.load_fault.LoadFault.{LoadFault}
+use Rattle.pdb_loading.specs.declared.load_fault.LoadFault.TheVariants as faults
+use Rattle.pdb_loading.specs.Held.{Held, IsOwn, read_in, given, names_in, parts_held, parts_checked}
+use Rattle.pdb_loading.specs.LoadedFile.{IsLoadedFrom, AreInOrder}
+use Rattle.pdb_loading.specs.LoadFaults.{load_fault_of, load_fault_in_context, FailsLoading, Refuses}
+use Rattle.pdb_loading.specs.Loading.{Tables, tables, listed, LoadingFault, AddressTableDecreases, lifted, in_loading, Loaded, parts_in, none_or, loaded, load_fault, DatabaseRead, read_after}
+use Rattle.pdb_loading.specs.ModuleInfos.{answered_at}
+use Rattle.pdb_loading.proofs.Lifting.{fails_on, loads_on, opening_fails}
+
+-- ---- what is left of a load
+
+-- what is left behind the tables
+unfoldable loaded_behind : Shared → Dbi → Tables → Result Loaded LoadingFault
+loaded_behind c dbi read = do
+  ordered ← refuse (not (is_ordered read.map)) AddressTableDecreases
+  modules ← lifted (listed dbi)
+  parts ← parts_in c dbi read
+  Ok record { debug_information = dbi; tables = read; parts = parts }
+
+-- what is left behind the container
+unfoldable loaded_open : Shared → Result Loaded LoadingFault
+loaded_open c = do
+  dbi ← lifted (debug_information c)
+  read ← lifted (tables c dbi)
+  loaded_behind c dbi read
+
+-- behind a container that is open
+opened : (s : Streams) → s.open_fault ≡ None → loaded (shared s) ≡ loaded_open (shared s)
+unfolding loaded loaded_open loaded_behind shared
+opened s h = rw h refl
+
+-- behind stream 3
+behind_dbi : (c : Shared) (dbi : Dbi) → debug_information c ≡ Ok dbi → loaded_open c ≡ (lifted (tables c dbi) >>= loaded_behind c dbi)
+unfolding loaded_open
+behind_dbi c dbi read = ap (λ r. lifted r >>= λ d. lifted (tables c d) >>= loaded_behind c d) read
+
+-- behind the tables
+behind_tables : (c : Shared) (dbi : Dbi) (read : Tables) → debug_information c ≡ Ok dbi → tables c dbi ≡ Ok read → loaded_open c ≡ loaded_behind c dbi read
+behind_tables c dbi read dbi_is read_is = behind_dbi c dbi dbi_is ∙ ap (λ r. lifted r >>= loaded_behind c dbi) read_is
+
+-- what is behind the order of the tables
+abbrev after_order : Shared → Dbi → Tables → Result Loaded LoadingFault
+after_order c dbi read = lifted (listed dbi) >>= λ whole_list. parts_in c dbi read >>= λ parts. Ok (record { debug_information = dbi; tables = read; parts = parts })
+
+in_order : (c : Shared) (dbi : Dbi) (read : Tables) → is_ordered read.map ≡ true → loaded_behind c dbi read ≡ after_order c dbi read
+unfolding loaded_behind
+in_order c dbi read h = rw h refl
+
+out_of_order : (c : Shared) (dbi : Dbi) (read : Tables) → is_ordered read.map ≡ false → loaded_behind c dbi read ≡ Err AddressTableDecreases
+unfolding loaded_behind
+out_of_order c dbi read h = rw h refl
+
+-- behind the module list
+behind_list : (c : Shared) (dbi : Dbi) (read : Tables) (u : Unit {0}) → is_ordered read.map ≡ true → listed dbi ≡ Ok u
+    → loaded_behind c dbi read ≡ (parts_in c dbi read >>= λ parts. Ok (record { debug_information = dbi; tables = read; parts = parts }))
+behind_list c dbi read u ordered list_is = in_order c dbi read ordered ∙ ap (λ r. lifted r >>= λ whole_list. parts_in c dbi read >>= λ parts. Ok (record { debug_information = dbi; tables = read; parts = parts })) list_is
+
+-- ---- where a step fails
+
+-- a container that isn't opened isn't loaded, with its fault
+pub container_fails : (s : Streams) (e : LoadFault) → FailsLoading e (lifted (none_or s.open_fault)) → FailsLoading e (loaded (shared s))
+unfolding loaded shared
+container_fails s e h = fails_on e (lifted (none_or s.open_fault)) _ h
+
+-- a DBI stream that is refused isn't loaded, with its fault
+pub dbi_fails : (s : Streams) (e : Error) → s.open_fault ≡ None → (IsOutside e (HasRisen 0 0) ⊎ (debug_information (shared s) ≡ Err (fault_of e))) → FailsLoading (load_fault_of e) (loaded (shared s))
+unfolding loaded_open
+dbi_fails s e h read = rw (opened s h) (loads_on e (debug_information (shared s)) _ read)
+
+-- what stands behind stream 3 that is refused isn't loaded, with its fault
+pub tables_fail : (s : Streams) (e : Error) (dbi : Dbi) → s.open_fault ≡ None → debug_information (shared s) ≡ Ok dbi
+    → (IsOutside e (HasRisen 0 0) ⊎ (tables (shared s) dbi ≡ Err (fault_of e))) → FailsLoading (load_fault_of e) (loaded (shared s))
+tables_fail s e dbi h dbi_is read = rw (opened s h, behind_dbi (shared s) dbi dbi_is) (loads_on e (tables (shared s) dbi) (loaded_behind (shared s) dbi) read)
+
+-- address tables that aren't in order aren't loaded
+pub order_fails : (s : Streams) (dbi : Dbi) (read : Tables) → s.open_fault ≡ None → debug_information (shared s) ≡ Ok dbi → tables (shared s) dbi ≡ Ok read → is_ordered read.map ≡ false
+    → loaded (shared s) ≡ Err AddressTableDecreases
+order_fails s dbi read h dbi_is read_is ordered = opened s h ∙ behind_tables (shared s) dbi read dbi_is read_is ∙ out_of_order (shared s) dbi read ordered
+
+-- a module list that isn't whole isn't loaded, with its fault
+same_fault : (f e : Fault) → Some f ≡ Some e → f ≡ e
+same_fault f e h = cc
+
+list_failed : (r : Result (Unit {0}) Fault) (l : DatabaseRead) (e : Fault) → (r >>= λ (u : Unit {0}). Ok l) ≡ Err e → r ≡ Err e
+list_failed (Ok u) l e h = absurd cc
+list_failed (Err f) l e h = ap (λ (t : Fault). Err t) (same_fault f e (ap fault_in h))
+
+listed_fails : (dbi : Dbi) (read : Tables) (e : Fault) → read_after dbi read ≡ Err e → listed dbi ≡ Err e
+listed_fails dbi read e h = list_failed (listed dbi) (record { debug_information = dbi; tables = read }) e h
+
+list_outside : (e : Error) (dbi : Dbi) (read : Tables) → (IsOutside e (HasRisen 0 0) ⊎ (read_after dbi read ≡ Err (fault_of e))) → (IsOutside e (HasRisen 0 0) ⊎ (listed dbi ≡ Err (fault_of e)))
+list_outside e dbi read (inl h) = inl h
+list_outside e dbi read (inr h) = inr (listed_fails dbi read (fault_of e) h)
+
+pub list_fails : (s : Streams) (e : Error) (dbi : Dbi) (read : Tables) → s.open_fault ≡ None → debug_information (shared s) ≡ Ok dbi → tables (shared s) dbi ≡ Ok read → is_ordered read.map ≡ true
+    → (IsOutside e (HasRisen 0 0) ⊎ (read_after dbi read ≡ Err (fault_of e))) → FailsLoading (load_fault_of e) (loaded (shared s))
+list_fails s e dbi read h dbi_is read_is ordered failed =
+    rw (opened s h, behind_tables (shared s) dbi read dbi_is read_is, in_order (shared s) dbi read ordered) (loads_on e (listed dbi) _ (list_outside e dbi read failed))
+
+-- whether what every question goes over was read
+abbrev checked : Result Parts answers.Fault → Result (Unit {0}) answers.Fault
+checked parts = parts >>= λ p. Ok tt
+
+same_answer : (f e : answers.Fault) → Some f ≡ Some e → f ≡ e
+same_answer f e h = cc
+
+bind_failed : (parts : Result Parts answers.Fault) (e : answers.Fault) → checked parts ≡ Err e → parts ≡ Err e
+bind_failed (Ok p) e h = absurd cc
+bind_failed (Err f) e h = ap (λ (t : answers.Fault). Err t) (same_answer f e (ap fault_in h))
+
+parts_refused : (e : context.Error) (parts : Result Parts answers.Fault) (f : Parts → Result Loaded LoadingFault) → answers.Fails e (checked parts) → FailsLoading (load_fault_in_context e) (in_loading parts >>= f)
+parts_refused contexts.OutOfMemory parts f h = tt
+parts_refused (contexts.PdbError errors.OutOfMemory) parts f h = h
+parts_refused (contexts.FormatError cause) parts f h = absurd h
+parts_refused e parts f h = ap (λ r. in_loading r >>= f) (bind_failed parts (answers.fault_of e) h)
+
+-- ---- what is kept
+
+-- stream 3 and what stands behind it, where both were read
+abbrev dbi_or : Dbi → Result DatabaseRead Fault → Dbi
+dbi_or d (Ok l) = l.debug_information
+dbi_or d (Err e) = d
+
+abbrev tables_or : Tables → Result DatabaseRead Fault → Tables
+tables_or t (Ok l) = l.tables
+tables_or t (Err e) = t
+
+-- what was read, by what is held of it
+read_by : (r : Result (Unit {0}) Fault) (dbi : Dbi) (read : Tables) (h : Held) → (r >>= λ (u : Unit {0}). Ok (record { debug_information = dbi; tables = read })) ≡ Ok (read_in h)
+    → (dbi ≡ h.debug_information) × (read ≡ h.tables) × (r ≡ Ok tt)
+read_by (Ok u) dbi read h e = (ap (dbi_or dbi) e, ap (tables_or read) e, refl)
+read_by (Err f) dbi read h e = absurd cc
+
+read_is : (dbi : Dbi) (read : Tables) (h : Held) → read_after dbi read ≡ Ok (read_in h) → (dbi ≡ h.debug_information) × (read ≡ h.tables) × (listed dbi ≡ Ok tt)
+read_is dbi read h e = read_by (listed dbi) dbi read h e
+
+-- what every question goes over, by the names of the file
+same_parts : (s : Streams) (h : Held) → h.names ≡ names_in s → parts_in (shared s) h.debug_information h.tables ≡ in_loading (parts_held h)
+same_parts s h names_are = rw names_are refl
+
+own_names : (s : Streams) (h : Held) → IsOwn s (HasRisen 0 0) h → h.names ≡ names_in s
+own_names s h own = elim own.names_are [ inl is ↦ is | inr failed ↦ absurd (omega (arith, failed.0)) ]
+
+own_modules : (s : Streams) (h : Held) → IsOwn s (HasRisen 0 0) h → (number : ℕ) → answered_at h.infos number ≡ given s number
+own_modules s h own = λ number. elim (own.modules_are number) [ inl is ↦ is | inr failed ↦ absurd (omega (arith, failed.0)) ]
+
+-- what every question goes over that is refused isn't loaded, with its fault
+pub parts_fail : (s : Streams) (e : context.Error) (dbi : Dbi) (read : Tables) (h : Held) → s.open_fault ≡ None → debug_information (shared s) ≡ Ok dbi → tables (shared s) dbi ≡ Ok read → is_ordered read.map ≡ true
+    → read_after dbi read ≡ Ok (read_in h) → IsOwn s (HasRisen 0 0) h → answers.Fails e (parts_checked h) → FailsLoading (load_fault_in_context e) (loaded (shared s))
+parts_fail s e dbi read h is_open dbi_is tables_are ordered loads own failed =
+    let same = read_is dbi read h loads in
+    rw (opened s is_open, behind_tables (shared s) dbi read dbi_is tables_are, behind_list (shared s) dbi read tt ordered same.2, same.0, same.1, same_parts s h (own_names s h own)) (parts_refused e (parts_held h) _ failed)
+
+-- what every question goes over was read
+there : (parts : Result Parts answers.Fault) (u : Unit {0}) → checked parts ≡ Ok u → (p : Parts) × (parts ≡ Ok p)
+there (Ok p) u h = (p, refl)
+there (Err e) u h = absurd cc
+
+pub loaded_fully : (s : Streams) (h : Held) (parts : Parts) → s.open_fault ≡ None → debug_information (shared s) ≡ Ok h.debug_information → tables (shared s) h.debug_information ≡ Ok h.tables
+    → is_ordered h.tables.map ≡ true → listed h.debug_information ≡ Ok tt → h.names ≡ names_in s → parts_held h ≡ Ok parts
+    → loaded (shared s) ≡ Ok (record { debug_information = h.debug_information; tables = h.tables; parts = parts })
+loaded_fully s h parts is_open dbi_is read_is ordered list_is names_are parts_are =
+    opened s is_open ∙ behind_tables (shared s) h.debug_information h.tables dbi_is read_is ∙ behind_list (shared s) h.debug_information h.tables tt ordered list_is
+    ∙ ap (λ r. r >>= λ (p : Parts). Ok (record { debug_information = h.debug_information; tables = h.tables; parts = p })) (same_parts s h names_are ∙ ap in_loading parts_are)
+
+-- what was kept of a loaded file is the file's
+pub is_kept : (file : List ℕ) (dbi : Dbi) (read : Tables) (h : Held) (u : Unit {0}) → (streams file).open_fault ≡ None → debug_information (shared (streams file)) ≡ Ok dbi → tables (shared (streams file)) dbi ≡ Ok read
+    → is_ordered read.map ≡ true → IsOrdered read.map → read_after dbi read ≡ Ok (read_in h) → IsOwn (streams file) (HasRisen 0 0) h → parts_checked h ≡ Ok u → IsLoadedFrom file h
+is_kept file dbi read h u is_open dbi_is tables_are ordered is_so loads own was_checked =
+    let s = streams file in
+    let same = read_is dbi read h loads in
+    let parts = there (parts_held h) u was_checked in
+    let dbi_too : debug_information (shared s) ≡ Ok h.debug_information = dbi_is ∙ ap (λ (d : Dbi). Ok d) same.0 in
+    let read_too : tables (shared s) h.debug_information ≡ Ok h.tables = ap (tables (shared s)) (sym same.0) ∙ tables_are ∙ ap (λ (t : Tables). Ok t) same.1 in
+    let names_are = own_names s h own in
+    record {
+      parts = parts.0;
+      loaded_is = loaded_fully s h parts.0 is_open dbi_too read_too (ap (λ (t : Tables). is_ordered t.map) (sym same.1) ∙ ordered) (ap listed (sym same.0) ∙ same.2) names_are parts.1;
+      parts_are = parts.1;
+      ordered = rw (sym same.1) is_so;
+      names_are = names_are;
+      modules_are = own_modules s h own;
+    }
+
+-- the address tables that are held are those that were read
+pub kept_ordered : (dbi : Dbi) (read : Tables) (h : Held) → IsOrdered read.map → read_after dbi read ≡ Ok (read_in h) → IsOrdered h.tables.map
+kept_ordered dbi read h is loads = let same = read_is dbi read h loads in rw (sym same.1) is
+
+-- ---- the same behind tables that are in order
+
+pub ordered_list_fails : (file : List ℕ) (e : Error) (dbi : Dbi) (read : Tables) → (streams file).open_fault ≡ None → AreInOrder (streams file) dbi read
+    → (IsOutside e (HasRisen 0 0) ⊎ (read_after dbi read ≡ Err (fault_of e))) → FailsLoading (load_fault_of e) (loaded (shared (streams file)))
+ordered_list_fails file e dbi read is_open are failed = list_fails (streams file) e dbi read is_open are.dbi_is are.tables_are are.in_order failed
+
+pub ordered_parts_fail : (file : List ℕ) (e : context.Error) (dbi : Dbi) (read : Tables) (h : Held) → (streams file).open_fault ≡ None → AreInOrder (streams file) dbi read
+    → read_after dbi read ≡ Ok (read_in h) → IsOwn (streams file) (HasRisen 0 0) h → answers.Fails e (parts_checked h) → FailsLoading (load_fault_in_context e) (loaded (shared (streams file)))
+ordered_parts_fail file e dbi read h is_open are loads own failed = parts_fail (streams file) e dbi read h is_open are.dbi_is are.tables_are are.in_order loads own failed
+
+pub held_is_kept : (file : List ℕ) (dbi : Dbi) (read : Tables) (h : Held) → (streams file).open_fault ≡ None → AreInOrder (streams file) dbi read
+    → read_after dbi read ≡ Ok (read_in h) → IsOwn (streams file) (HasRisen 0 0) h → parts_checked h ≡ Ok tt → IsLoadedFrom file h
+held_is_kept file dbi read h is_open are loads own was_checked = is_kept file dbi read h tt is_open are.dbi_is are.tables_are are.in_order are.ordered loads own was_checked
+
+no_fault : (r : Result Loaded LoadingFault) (l : Loaded) → r ≡ Ok l → fault_in r ≡ None
+no_fault r l h = ap fault_in h
+
+-- a file that is kept has no load fault
+pub kept_loads : (file : List ℕ) (h : Held) → IsLoadedFrom file h → load_fault (streams file) ≡ None
+kept_loads file h is = no_fault (loaded (shared (streams file))) _ is.loaded_is
+
+-- a failed load is a load fault
+pub refuses : (e : LoadFault) (s : Streams) → FailsLoading e (loaded (shared s)) → Refuses e (load_fault s)
+refuses faults.OutOfMemory s h = tt
+refuses (faults.Pdb contexts.OutOfMemory) s h = h
+refuses (faults.Pdb (contexts.PdbError errors.OutOfMemory)) s h = h
+refuses e s h = ap fault_in h
+
+pub all_refused : {A : Type 0} (r : Result A LoadFault) (s : Streams) → IfErr r (λ e. FailsLoading e (loaded (shared s))) → IfErr r (λ e. Refuses e (load_fault s))
+all_refused (Ok x) s h = tt
+all_refused (Err e) s h = refuses e s h
+
+-- a container that isn't opened is a load fault
+pub not_opened : {S : Type 0} (bytes : S → List ℕ) (before : S) (s : Streams) (e : Error)
+    → (IsOutside e ((after : S) × (bytes after ≡ bytes before) × HasRisen 0 0) ⊎ (s.open_fault ≡ Some (fault_of e))) → Refuses (load_fault_of e) (load_fault s)
+not_opened bytes before s e h = refuses (load_fault_of e) s (container_fails s (load_fault_of e) (opening_fails bytes before e s.open_fault h))

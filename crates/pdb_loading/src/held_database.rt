@@ -1,0 +1,135 @@
+//! What is held of a database: the streams that are read in the order of loading, the names of
+//! files and modules, and the modules' own streams.
+
+ghost use Rattle.std.specs.Prelude.{◌≡◌, IfOk, Ok};
+ghost use Rattle.pdb_container.specs.Fault.{HasRisen};
+ghost use Rattle.pdb_container.specs.SourceAnswers.{AnswersFrom};
+ghost use Rattle.pdb_loading.specs.Held.{IsOwn, parts_checked, read_in};
+ghost use Rattle.pdb_loading.specs.Loading.{database_read, read_after};
+ghost use Rattle.pdb_resolving.specs.Fault.{Answers};
+ghost use Rattle.pdb_symbols_modules.specs.DatabaseCalls.{debug_information as read_dbi};
+ghost use Rattle.pdb_symbols_modules.specs.Shared.{shared};
+ghost use Rattle.pdb_symbols_modules.specs.Streams.{streams};
+
+use crate::module_infos::{KeptModules, read_module_infos};
+use crate::tables::{Tables, read_names, read_tables};
+use pdb_choice::ContextParts;
+use pdb_container::{Result, Source, StringTable};
+use pdb_resolving::Error;
+use pdb_symbols_modules::{DebugInformation, PDB};
+use std::alloc::Global;
+use std::marker::Model;
+
+/// What is held of a database: everything that contexts and formatters go over, read once.
+pub struct HeldDatabase<'s> {
+    /// Stream 3 (DBI).
+    pub debug_information: DebugInformation<'s>,
+    /// What is read after it.
+    pub tables: Tables<'s>,
+    /// The names of files and modules (`/names`), if they can be read.
+    pub names: Option<StringTable<'s>>,
+    /// The modules' own streams.
+    pub modules: KeptModules<'s>,
+}
+
+impl<'s> Model for HeldDatabase<'s> {
+    ghost use Rattle.std.specs.Prelude.{◌≡◌, None};
+    ghost use Rattle.pdb_symbols_modules.specs.Modules.{modules_of};
+    ghost use Rattle.pdb_loading.specs.Held as held;
+
+    ghost Value = { held.Held };
+
+    ghost view = { λ d. record {
+      debug_information = d.debug_information;
+      tables = d.tables;
+      names = d.names;
+      infos = d.modules;
+    } };
+
+    // The module list is there to its end.
+    ghost invariant = { λ d. (modules_of d.debug_information.modules).fault ≡ None };
+}
+
+impl<'s> Drop for HeldDatabase<'s> {
+    fn drop(self) {
+        let HeldDatabase {
+            debug_information,
+            tables,
+            names,
+            modules,
+        } = self;
+        drop(debug_information);
+        drop(tables);
+        drop(names);
+        drop(modules);
+    }
+}
+
+/// Reads what comes after stream 3 and its tables: the module list, the modules' own streams and
+/// the names table.
+///
+/// # Errors
+/// `UnexpectedEof` of the module list; `OutOfMemory`. The names table and the modules' own streams
+/// are missing where they can't be read.
+#[tactic(auto, using(pdb_container::proofs::Outside::outside_alone, pdb_container::proofs::Outside::outside_earlier, pdb_container::proofs::Outside::outside_later, crate::proofs::HeldSteps::list_ends, crate::proofs::HeldSteps::own_held))]
+pub fn read_after_tables<'s, S: Source + Drop>(
+    pdb: &mut PDB<'s, S>,
+    alloc: Global,
+    debug_information: DebugInformation<'s>,
+    tables: Tables<'s>,
+) -> Result<HeldDatabase<'s>>
+    requires { read_dbi (shared (streams (S.bytes pdb.old))) ≡ Ok debug_information }
+    ensures loads { AnswersFrom S.bytes S.failures pdb.old pdb.new read_in result
+        (read_after debug_information.entry tables.entry) }
+    ensures own { IfOk result
+        (λ d. IsOwn (streams (S.bytes pdb.old)) (HasRisen (S.failures pdb.old) (S.failures pdb.new))
+        d) }
+{
+    let module_infos = read_module_infos(pdb, alloc, &debug_information)?;
+    let names = read_names(pdb, alloc)?;
+    Ok(HeldDatabase {
+        debug_information,
+        tables,
+        names,
+        modules: KeptModules::new(module_infos),
+    })
+}
+
+/// Reads a database that is open: stream 3, what comes after it, and the module list, whose first
+/// fault is the answer; then the modules' own streams and the names table.
+///
+/// # Errors
+/// The first fault of stream 3 and its header, of [`read_tables`], and of [`read_after_tables`].
+#[tactic(auto, using(pdb_container::proofs::Outside::outside_alone, pdb_container::proofs::Outside::outside_earlier, pdb_container::proofs::Outside::outside_later), unfolding(crate::specs::Loading::database_read))]
+pub fn read_database<'s, S: Source + Drop>(
+    pdb: &mut PDB<'s, S>,
+    alloc: Global,
+) -> Result<HeldDatabase<'s>>
+    ensures loads { AnswersFrom S.bytes S.failures pdb.old pdb.new read_in result
+        (database_read (shared (streams (S.bytes pdb.old)))) }
+    ensures own { IfOk result
+        (λ d. IsOwn (streams (S.bytes pdb.old)) (HasRisen (S.failures pdb.old) (S.failures pdb.new))
+        d) }
+{
+    let debug_information = pdb.debug_information(alloc)?;
+    let tables = read_tables(pdb, alloc, &debug_information)?;
+    read_after_tables(pdb, alloc, debug_information, tables)
+}
+
+impl<'s> HeldDatabase<'s> {
+    /// Whether a context can be made: `Ok`, or the fault of the symbol records, which are gone over
+    /// to their end, or of the section contributions.
+    ///
+    /// # Errors
+    /// As [`ContextParts::new`].
+    pub fn check_parts(&self, alloc: Global) -> std::result::Result<(), Error>
+        ensures { Answers (λ _. tt) result (parts_checked self.now) }
+    {
+        ContextParts::check(
+            alloc,
+            self.tables.address_map.image_section_headers(),
+            &self.tables.symbol_records,
+            &self.debug_information,
+        )
+    }
+}
