@@ -2,6 +2,8 @@ pub mod FailedSteps
 pub mod FaultSteps
 pub mod FileKeySteps
 pub mod FileRunFaults
+pub mod FileSteps
 pub mod KeptSteps
 pub mod KeySteps
 pub mod KnownSteps
+pub mod ToldSteps

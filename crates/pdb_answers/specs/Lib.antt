@@ -1,4 +1,6 @@
+pub mod FileRuns
 pub mod KnownFailures
+pub mod Symbolizers
 pub use Rattle.pdb_frames.specs.Choice
 pub use Rattle.pdb_frames.specs.Failed
 pub use Rattle.pdb_frames.specs.Failing

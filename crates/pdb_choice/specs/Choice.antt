@@ -1,23 +1,30 @@
--- What a context goes over, and what it chooses at a place: a procedure, or an entry of the public list.
-use Rattle.std.specs.Prelude.{ℕ, ◌+◌, ◌-◌, Bool, false, List, [], ◌∷◌, ◌==◌, Option, None, Some, option_map, option_and_then, if◌then◌else◌}
-use Rattle.pdb_addresses.specs.declared.internal_section_offset.PdbInternalSectionOffset.{PdbInternalSectionOffset}
+-- What a context goes over, and what it chooses at a place: a procedure, or an entry of the public
+-- list.
+use Rattle.std.specs.Prelude.{ℕ, ◌+◌, ◌-◌, Bool, false, List, [], ◌∷◌, ◌==◌, Option, None, Some}
+use Rattle.std.specs.Prelude.{option_map, option_and_then, if◌then◌else◌}
+use Rattle.pdb_addresses.specs.declared.internal_section_offset.PdbInternalSectionOffset.{
+  PdbInternalSectionOffset,
+}
 use Rattle.pdb_addresses.specs.Addresses.{Map, inner_place, outer_of_place}
 use Rattle.pdb_addresses.specs.Numbers.{in_32_bits}
 use Rattle.pdb_addresses.specs.Places.{internal_place}
-use Rattle.pdb_contributions.specs.declared.contribution.ModuleSectionContribution.{ModuleSectionContribution}
+use Rattle.pdb_contributions.specs.declared.contribution.ModuleSectionContribution.{
+  ModuleSectionContribution,
+}
 use Rattle.pdb_contributions.specs.Contributions.{holder}
-use Rattle.pdb_contributions.specs.Publics.{PublicFunction, public_exactly, public_over, next_public}
+use Rattle.pdb_contributions.specs.Publics.{PublicFunction, public_exactly, public_over}
+use Rattle.pdb_contributions.specs.Publics.{next_public}
 use Rattle.pdb_module_data.specs.Procedures.{Procedure, over}
 
--- what every question goes over: the ways between addresses, what modules hold, the public list, and the string table, if
--- there is one
+-- the parts that every question goes over: the address map, what modules hold, the public list, and
+-- the string table, if there is one
 pub record Parts : Type 0 where
   pub map : Map
   pub contributions : List ModuleSectionContribution
   pub publics : List PublicFunction
   pub names : Option (List ℕ)
 
--- a function that is chosen: a procedure, or an entry of the public list
+-- a chosen function: a procedure, or an entry of the public list
 pub data Chosen : Type 0 where
   Proc : Procedure → Chosen
   Public : PublicFunction → Chosen
@@ -27,10 +34,13 @@ abbrev pub chosen_of : Option Procedure → Option PublicFunction → Option Cho
 chosen_of (Some q) f = Some (Proc q)
 chosen_of None f = option_map Public f
 
--- what is chosen at a place that a contribution holds, by the procedures of its module: the one over the place, or else the
--- public entry of the place, unless that one lies before the contribution
-abbrev pub chosen : Parts → List Procedure → ModuleSectionContribution → PdbInternalSectionOffset → Option Chosen
-chosen p procedures c place = chosen_of (over procedures place) (public_over p.publics c.start_offset place)
+-- what is chosen at a place that a contribution holds, by the procedures of its module: the one
+-- over the place, or else the public entry of the place, unless that one lies before the
+-- contribution
+abbrev pub chosen : Parts → List Procedure → ModuleSectionContribution
+    → PdbInternalSectionOffset → Option Chosen
+chosen p procedures c place =
+    chosen_of (over procedures place) (public_over p.publics c.start_offset place)
 
 -- where a chosen function begins
 abbrev pub start_of : Chosen → PdbInternalSectionOffset
@@ -59,24 +69,28 @@ decorated_at p place = if_decorated (option_and_then (λ f. f.name) (public_exac
 
 -- ---- ends
 
--- so far is it to the next public entry in its section
+-- how far it is from a public entry to the next one in its section
 abbrev pub public_length : Parts → PublicFunction → Option ℕ
-public_length p f = option_map (λ next. (next.start_offset).offset - (f.start_offset).offset) (next_public p.publics f.start_offset)
+public_length p f =
+    option_map (λ next. (next.start_offset).offset - (f.start_offset).offset)
+    (next_public p.publics f.start_offset)
 
 -- how long a chosen function is, if that is known
 abbrev pub length_of : Parts → Chosen → Option ℕ
 length_of p (Proc q) = Some q.len
 length_of p (Public f) = public_length p f
 
--- where a function ends that begins at an image address, by its length: none without one, and none past 32 bits
+-- where a function ends that begins at an image address, by its length; none without a length, and
+-- none past 32 bits
 abbrev pub end_behind : ℕ → Option ℕ → Option ℕ
 end_behind start length = option_and_then (λ n. in_32_bits (start + n)) length
 
--- the end of a public entry's function: none without a next entry in its section; where that one has no image address, there
--- is no function
+-- the end of a public entry's function; none without a next entry in its section. Where that entry
+-- has no image address, there is no function.
 abbrev pub public_end : Parts → Option PublicFunction → Option (Option ℕ)
 public_end p None = Some None
-public_end p (Some next) = option_map Some (outer_of_place p.map (next.start_offset).section (next.start_offset).offset)
+public_end p (Some next) =
+    option_map Some (outer_of_place p.map (next.start_offset).section (next.start_offset).offset)
 
 -- the end of a chosen function that begins at an image address, if it is one
 abbrev pub function_end : Parts → Chosen → ℕ → Option (Option ℕ)
@@ -90,6 +104,7 @@ abbrev pub place_of : Parts → ℕ → Option PdbInternalSectionOffset
 place_of p a = option_map internal_place (inner_place p.map a)
 
 -- the contribution that holds an address, with its place
-abbrev pub held_at : Parts → Option PdbInternalSectionOffset → Option (ModuleSectionContribution × PdbInternalSectionOffset)
+abbrev pub held_at : Parts → Option PdbInternalSectionOffset
+    → Option (ModuleSectionContribution × PdbInternalSectionOffset)
 held_at p None = None
 held_at p (Some place) = option_map (λ c. (c, place)) (holder p.contributions place)

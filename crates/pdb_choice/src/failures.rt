@@ -1,7 +1,9 @@
 //! The parts of modules that can't be read.
 
 ghost use Rattle.std.specs.Prelude.{◌≡◌, IfOk, option_copied};
-ghost use Rattle.pdb_choice.specs.Failed.{failing_by, failing_in as failing_in_module, failing_procedure as failing_of_procedure, failing_sites as failing_of_sites, unsuccessful_error};
+ghost use Rattle.pdb_choice.specs.Failed.{failing_by, failing_in as failing_in_module};
+ghost use Rattle.pdb_choice.specs.Failed.{failing_procedure as failing_of_procedure};
+ghost use Rattle.pdb_choice.specs.Failed.{failing_sites as failing_of_sites, unsuccessful_error};
 ghost use Rattle.pdb_known_modules.specs.Modules.{extended_of, procedure_sites};
 ghost use Rattle.pdb_choice.specs.Seen.{chosen_seen};
 ghost use Rattle.pdb_known_modules.specs.Seen.{extended_seen};
@@ -13,7 +15,7 @@ use pdb_module_data::{FunctionRows, InlineSites, Procedure, SitesError};
 use pdb_resolving::{Error, ModuleTables, Part, Result};
 use std::alloc::{AllocError, Global};
 
-/// What says of a part that it stands as failed.
+/// Returns the error that says that a part stands as failed.
 pub fn unsuccessful(part: Part) -> Error
     ensures { result ≡ unsuccessful_error part }
 {
@@ -24,8 +26,9 @@ pub fn unsuccessful(part: Part) -> Error
     }
 }
 
-/// The inline sites of a procedure, read to their end. The faults of [`ModuleTables::symbols`] and of the sites, as `PdbError`;
-/// `ProcedureInlineRangesUnsuccessful`; `OutOfMemory`.
+/// Reads the inline sites of a procedure to their end. The faults of [`ModuleTables::symbols`] and
+/// of the sites come as `PdbError`; further ones are `ProcedureInlineRangesUnsuccessful` and
+/// `OutOfMemory`.
 #[tactic(auto, using(pdb_known_modules::proofs::SitesSteps::sites_fail, pdb_resolving::proofs::Lifting::given_fails_on, pdb_resolving::proofs::Lifting::parsed_fails_on))]
 fn read_sites<'m, I: ModuleTables>(
     alloc: Global,
@@ -42,14 +45,15 @@ fn read_sites<'m, I: ModuleTables>(
     }
 }
 
-/// The sites of a chosen procedure, if they can't be read.
+/// Returns the part of a chosen procedure's sites, if they can't be read.
 fn failing_sites<I: ModuleTables>(
     alloc: Global,
     module_info: &I,
     module_index: u16,
     chosen: Chosen<'_, '_>,
 ) -> std::result::Result<Option<Part>, AllocError>
-    ensures { IfOk result (λ p. p ≡ failing_of_sites module_index (I.held module_info.now) (chosen_seen chosen.entry)) }
+    ensures { IfOk result (λ p. p
+        ≡ failing_of_sites module_index (I.held module_info.now) (chosen_seen chosen.entry)) }
 {
     let Chosen::Procedure(_, procedure) = chosen else {
         return Ok(None);
@@ -61,7 +65,7 @@ fn failing_sites<I: ModuleTables>(
     }
 }
 
-/// The rows of a chosen function and then its sites: the first of these that can't be read.
+/// Returns the first part that can't be read: the rows of a chosen function, or then its sites.
 fn failing_procedure<I: ModuleTables>(
     alloc: Global,
     module_info: &I,
@@ -69,7 +73,9 @@ fn failing_procedure<I: ModuleTables>(
     module_index: u16,
     chosen: Chosen<'_, '_>,
 ) -> std::result::Result<Option<Part>, AllocError>
-    ensures { IfOk result (λ p. p ≡ failing_of_procedure module_index (I.held module_info.now) (extended_seen extended.now) (chosen_seen chosen.entry)) }
+    ensures { IfOk result (λ p. p
+        ≡ failing_of_procedure module_index (I.held module_info.now)
+        (extended_seen extended.now) (chosen_seen chosen.entry)) }
 {
     let start = chosen.start();
     match FunctionRows::read(alloc, &extended.line_program, start) {
@@ -79,14 +85,17 @@ fn failing_procedure<I: ModuleTables>(
     }
 }
 
-/// Line program with inlinees, the rows of a chosen function, and its sites: the first of these that can't be read.
+/// Returns the first part that can't be read: line program with inlinees, the rows of a chosen
+/// function, or its sites.
 fn failing_module<I: ModuleTables>(
     alloc: Global,
     module_info: &I,
     module_index: u16,
     chosen: Chosen<'_, '_>,
 ) -> std::result::Result<Option<Part>, AllocError>
-    ensures { IfOk result (λ p. p ≡ failing_by module_index (I.held module_info.now) (chosen_seen chosen.entry) (extended_of (I.held module_info.now))) }
+    ensures { IfOk result (λ p. p
+        ≡ failing_by module_index (I.held module_info.now) (chosen_seen chosen.entry)
+        (extended_of (I.held module_info.now))) }
 {
     match read_extended(alloc, module_info) {
         Ok(extended) => failing_procedure(alloc, module_info, &extended, module_index, chosen),
@@ -95,15 +104,20 @@ fn failing_module<I: ModuleTables>(
     }
 }
 
-/// The first part that can't be read of those that the frames in a chosen function are made of: line program with inlinees, the
-/// function's rows, a procedure's inline sites. `None` without data. A line program that is kept isn't read again.
+/// Returns the first part that can't be read of those from which the frames in a chosen function
+/// are made: line program with inlinees, the function's rows, or a procedure's inline sites. It is
+/// `None` where the module has no data. A cached line program isn't read again.
+///
+/// # Errors
+/// `AllocError` when memory runs out.
 pub fn failing_in<I: ModuleTables>(
     alloc: Global,
     module_index: u16,
     known: Option<&BasicModuleInfo<'_, I>>,
     chosen: Chosen<'_, '_>,
 ) -> std::result::Result<Option<Part>, AllocError>
-    ensures { IfOk result (λ p. p ≡ failing_in_module module_index (option_copied known.entry) (chosen_seen chosen.entry)) }
+    ensures { IfOk result (λ p. p
+        ≡ failing_in_module module_index (option_copied known.entry) (chosen_seen chosen.entry)) }
 {
     let Some(known) = known else {
         return Ok(None);

@@ -1,11 +1,12 @@
-//! What every question goes over.
+//! The parts that every question goes over.
 
 ghost use Rattle.std.specs.Prelude.{◌≡◌, ℕ, List, Option, option_map};
 ghost use Rattle.pdb_addresses.specs.Addresses.{IsOrdered, Map};
 ghost use Rattle.pdb_container.specs.RawString.{raw_bytes};
 ghost use Rattle.pdb_contributions.specs.Contributions.{holder as holder_of};
 ghost use Rattle.pdb_resolving.specs.Fault.{Answers};
-ghost use Rattle.pdb_choice.specs.Choice.{decorated_at as decorated_name_at, is_decorated as is_decorated_name};
+ghost use Rattle.pdb_choice.specs.Choice.{decorated_at as decorated_name_at};
+ghost use Rattle.pdb_choice.specs.Choice.{is_decorated as is_decorated_name};
 ghost use Rattle.pdb_choice.specs.Parts.{outcome, parts_checked, parts_of};
 
 use pdb_addresses::{AddressMap, ImageSectionHeader, PdbInternalSectionOffset};
@@ -22,7 +23,7 @@ use pdb_symbols_modules::DebugInformation;
 use std::alloc::Global;
 use std::marker::Model;
 
-/// Whether a name is decorated: it begins with a question mark.
+/// Returns whether a name is decorated: it begins with a question mark.
 pub fn is_decorated(name: &[u8]) -> bool
     ensures { result ≡ is_decorated_name name.now }
 {
@@ -32,13 +33,14 @@ pub fn is_decorated(name: &[u8]) -> bool
     }
 }
 
-/// What every question goes over: the ways between addresses, what modules hold, the public list, and the string table.
+/// The parts that every question goes over: the address map, what modules hold, the public list,
+/// and the string table.
 pub struct ContextParts<'a, 's> {
-    /// The ways between RVAs and places in sections.
+    /// The address map, between RVAs and places in sections.
     pub address_map: &'a AddressMap<'s>,
-    /// What modules hold of sections, in order, apart.
+    /// The contributions of modules to sections, in order and apart.
     pub contributions: HeldPlaces,
-    /// Where they begin and end.
+    /// The offsets at which contributions begin and end.
     pub bounds: SortedBounds,
     /// The public list.
     pub publics: PublicList<'a>,
@@ -53,10 +55,16 @@ impl<'a, 's> Model for ContextParts<'a, 's> {
 
     ghost Value = { choice.Parts };
 
-    ghost view = { λ p. record { map = p.address_map.now; contributions = p.contributions; publics = p.publics; names = p.names } };
+    ghost view = { λ p. record {
+      map = p.address_map.now;
+      contributions = p.contributions;
+      publics = p.publics;
+      names = p.names;
+    } };
 
     // The OMAPs are in order, and the bounds are those of the contributions.
-    ghost invariant = { λ p. IsOrdered p.address_map.now × AreContributionBounds p.contributions p.bounds };
+    ghost invariant = { λ p. IsOrdered p.address_map.now
+        × AreContributionBounds p.contributions p.bounds };
 }
 
 impl<'a, 's> Drop for ContextParts<'a, 's> {
@@ -75,7 +83,8 @@ impl<'a, 's> Drop for ContextParts<'a, 's> {
     }
 }
 
-/// Reads the symbol records to their end, and then the section contributions of the DBI stream, and keeps nothing.
+/// Reads the symbol records to their end, and then the section contributions of the DBI stream. It
+/// stores nothing.
 #[tactic(auto, using(pdb_resolving::proofs::Lifting::parsed_fails_on, pdb_resolving::proofs::Lifting::fails_on), unfolding(crate::specs::Parts::parts_checked))]
 fn read_through(
     alloc: Global,
@@ -83,7 +92,8 @@ fn read_through(
     global_symbols: &SymbolTable<'_>,
     debug_info: &DebugInformation<'_>,
 ) -> Result<()>
-    ensures { Answers (λ _. tt) result (parts_checked sections.now global_symbols.now debug_info.now.contributions) }
+    ensures { Answers (λ _. tt) result
+        (parts_checked sections.now global_symbols.now debug_info.now.contributions) }
 {
     check_symbols(global_symbols.iter())?;
     compute_section_contributions(alloc, debug_info, sections)?;
@@ -91,7 +101,8 @@ fn read_through(
 }
 
 impl<'a, 's> ContextParts<'a, 's> {
-    /// Reads the symbol records to their end, and then the section contributions of the DBI stream.
+    /// Makes the parts. It reads the symbol records to their end, and then the section
+    /// contributions of the DBI stream.
     ///
     /// # Errors
     /// `SymbolTooShort` and `UnexpectedEof` of the symbol records, as `PdbError`; those of
@@ -106,7 +117,9 @@ impl<'a, 's> ContextParts<'a, 's> {
         debug_info: &DebugInformation<'_>,
     ) -> Result<ContextParts<'a, 's>>
         requires { IsOrdered address_map.now }
-        ensures { Answers (λ p. p) result (parts_of sections.now address_map.now global_symbols.now debug_info.now.contributions (option_map (λ t. t.now) string_table.entry)) }
+        ensures { Answers (λ p. p) result
+            (parts_of sections.now address_map.now global_symbols.now debug_info.now.contributions
+            (option_map (λ t. t.now) string_table.entry)) }
     {
         let functions = read_public_symbols(alloc, global_symbols.iter(), sections)?;
         let SectionContributions {
@@ -126,8 +139,7 @@ impl<'a, 's> ContextParts<'a, 's> {
         })
     }
 
-    /// Whether there are parts of these, whatever the ways between addresses and the names: `Ok`, or the fault that
-    /// [`ContextParts::new`] has.
+    /// Checks that the parts can be made, whatever the address map and the names are.
     ///
     /// # Errors
     /// As [`ContextParts::new`].
@@ -138,19 +150,20 @@ impl<'a, 's> ContextParts<'a, 's> {
         global_symbols: &SymbolTable<'_>,
         debug_info: &DebugInformation<'_>,
     ) -> Result<()>
-        ensures { (map : Map) (names : Option (List ℕ)) → Answers (λ _. tt) result (outcome (parts_of sections.now map global_symbols.now debug_info.now.contributions names)) }
+        ensures { (map : Map) (names : Option (List ℕ)) → Answers (λ _. tt) result (outcome
+            (parts_of sections.now map global_symbols.now debug_info.now.contributions names)) }
     {
         read_through(alloc, sections, global_symbols, debug_info)
     }
 
-    /// The contribution that holds a place.
+    /// Returns the contribution that holds a place.
     pub fn holder(&self, place: PdbInternalSectionOffset) -> Option<ModuleSectionContribution>
         ensures { result ≡ holder_of self.now.contributions place }
     {
         self.contributions.holder(place)
     }
 
-    /// The decorated public name at exactly a place.
+    /// Returns the decorated public name at exactly a place.
     pub fn decorated_at(&self, place: PdbInternalSectionOffset) -> Option<&RawString<'a>>
         ensures { option_map (λ n. raw_bytes n.now) result ≡ decorated_name_at self.now place }
     {

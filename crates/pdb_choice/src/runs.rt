@@ -1,8 +1,8 @@
-//! How far along a section answers stay.
+//! How far along a section answers stay the same.
 
 ghost use Rattle.std.specs.Prelude.{◌≡◌, [], option_copied};
 ghost use Rattle.std.specs.List.{flat_map};
-ghost use Rattle.pdb_addresses.specs.SectionRun.{nearer as nearer_of, up_to_next};
+ghost use Rattle.pdb_addresses.specs.SectionRun.{up_to_next};
 ghost use Rattle.pdb_known_modules.specs.Modules.{procedures_in};
 ghost use Rattle.pdb_known_modules.specs.SectionBounds.{contribution_bounds, procedure_bounds};
 ghost use Rattle.pdb_choice.specs.NearBounds.{public_bounds, bounds_near};
@@ -11,39 +11,35 @@ use crate::parts::ContextParts;
 use pdb_addresses::PdbInternalSectionOffset;
 use pdb_contributions::PublicList;
 use pdb_known_modules::BasicModuleInfo;
+use pdb_pieces::to_next;
 use pdb_resolving::ModuleTables;
 
-/// The lesser of `far` and the distance from an offset to a bound, if that lies behind it.
-fn nearer(offset: u32, bound: u64, far: u32) -> u32
-    ensures { result ≡ nearer_of offset bound far }
-{
-    let distance = bound.saturating_sub(u64::from(offset));
-    if 0 < distance && distance < u64::from(far) {
-        distance as u32
-    } else {
-        far
-    }
-}
-
-/// The lesser of `far` and the distance from a place to the next start or end of a contribution.
+/// Returns the lesser of `far` and the distance from a place to the next start or end of a
+/// contribution.
 #[tactic(auto, using(pdb_known_modules::proofs::BoundSteps::contributions_alike))]
 fn to_next_contribution(
     parts: &ContextParts<'_, '_>,
     place: PdbInternalSectionOffset,
     far: u32,
 ) -> u32
-    ensures { result ≡ up_to_next (flat_map (contribution_bounds place) parts.now.contributions) place.offset far }
+    ensures { result
+        ≡ up_to_next (flat_map (contribution_bounds place) parts.now.contributions)
+        place.offset far }
 {
     parts.bounds.up_to_next(place, far)
 }
 
-/// The lesser of `far` and the distance from a place to the next start or end of a module's procedure; none has one without data.
+/// Returns the lesser of `far` and the distance from a place to the next start or end of a module's
+/// procedure. A module without data has none.
 fn to_next_procedure<I: ModuleTables>(
     known: Option<&BasicModuleInfo<'_, I>>,
     place: PdbInternalSectionOffset,
     far: u32,
 ) -> u32
-    ensures { result ≡ up_to_next (flat_map (procedure_bounds place) (procedures_in (option_copied known.entry))) place.offset far }
+    ensures { result
+        ≡ up_to_next
+        (flat_map (procedure_bounds place) (procedures_in (option_copied known.entry)))
+        place.offset far }
 {
     match known {
         None => far,
@@ -51,30 +47,38 @@ fn to_next_procedure<I: ModuleTables>(
     }
 }
 
-/// The lesser of `far` and the distance from a place to the next public entry.
+/// Returns the lesser of `far` and the distance from a place to the next public entry.
 #[tactic(auto, using(crate::proofs::NextPublic::next_is_near, crate::proofs::NextPublic::none_is_near))]
 fn to_next_public(publics: &PublicList<'_>, place: PdbInternalSectionOffset, far: u32) -> u32
-    ensures { result ≡ up_to_next (flat_map (public_bounds place) publics.now) place.offset far }
+    ensures { result
+        ≡ up_to_next (flat_map (public_bounds place) publics.now) place.offset far }
 {
     match publics.next_behind(place) {
         None => far,
-        Some(public) => nearer(place.offset, u64::from(public.start_offset.offset), far),
+        Some(public) => {
+            let next = [public.start_offset.offset];
+            to_next(&next, u64::from(place.offset), far)
+        }
     }
 }
 
-/// The lesser of `far` and the distance from a place to the next public entry, or start or end of a contribution.
+/// Returns the lesser of `far` and the distance from a place to the next public entry, or start or
+/// end of a contribution.
 fn to_next_of_all_modules(
     parts: &ContextParts<'_, '_>,
     place: PdbInternalSectionOffset,
     far: u32,
 ) -> u32
-    ensures { result ≡ up_to_next (flat_map (contribution_bounds place) parts.now.contributions) place.offset (up_to_next (flat_map (public_bounds place) parts.now.publics) place.offset far) }
+    ensures { result
+        ≡ up_to_next (flat_map (contribution_bounds place) parts.now.contributions) place.offset
+        (up_to_next (flat_map (public_bounds place) parts.now.publics) place.offset far) }
 {
     let near = to_next_public(&parts.publics, place, far);
     to_next_contribution(parts, place, near)
 }
 
-/// The lesser of `limit` and the distance from a place that no module holds to the next place at which an answer may change.
+/// Returns the lesser of `limit` and the distance from a place that no module holds to the next
+/// place at which an answer may change.
 #[tactic(auto, using(pdb_known_modules::proofs::NextBounds::next_of_two))]
 pub fn to_next_shared_bound(
     parts: &ContextParts<'_, '_>,
@@ -86,8 +90,8 @@ pub fn to_next_shared_bound(
     to_next_of_all_modules(parts, place, limit)
 }
 
-/// The lesser of `limit` and the distance from a place to the next place at which an answer may change, by the data of the module
-/// that holds it.
+/// Returns the lesser of `limit` and the distance from a place to the next place at which an answer
+/// may change, by the data of the module that holds it.
 #[tactic(auto, using(pdb_known_modules::proofs::NextBounds::next_of_all))]
 pub fn to_next_bound<I: ModuleTables>(
     parts: &ContextParts<'_, '_>,
@@ -95,7 +99,9 @@ pub fn to_next_bound<I: ModuleTables>(
     place: PdbInternalSectionOffset,
     limit: u32,
 ) -> u32
-    ensures { result ≡ up_to_next (bounds_near parts.now (procedures_in (option_copied known.entry)) place) place.offset limit }
+    ensures { result
+        ≡ up_to_next (bounds_near parts.now (procedures_in (option_copied known.entry)) place)
+        place.offset limit }
 {
     let near = to_next_procedure(known, place, limit);
     to_next_of_all_modules(parts, place, near)

@@ -1,3 +1,2 @@
-pub mod FileSteps
 pub mod FunctionSteps
 pub mod StartSteps

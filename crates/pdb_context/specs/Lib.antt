@@ -1,5 +1,4 @@
 pub mod Context
-pub mod FileRuns
 pub mod FunctionList
 pub mod Starts
 pub use Rattle.pdb_answers.specs.Choice

@@ -19,10 +19,7 @@ ghost use Rattle.pdb_functions.specs.Databases.{IsOneRun, place_of as as_place};
 
 use pdb_addresses::{AddressMap, ImageSectionHeader, PdbInternalSectionOffset, Rva};
 use pdb_answers::maybe_owned::MaybeOwned;
-use pdb_answers::{
-    CachedModules, ContextParts, Failures, KnownFailures, Namer, TypeFormatter, empty_modules,
-    frames_here, function_by_key, function_here, key_run_here, run_here,
-};
+use pdb_answers::{ContextParts, Namer, PlaceSymbolizer, TypeFormatter};
 use pdb_container::StringTable;
 use pdb_functions::{Function, FunctionFrames, FunctionKey, SharedFunctionFrames};
 use pdb_resolving::{Error, ModuleProvider, Result};
@@ -34,14 +31,9 @@ use std::marker::Model;
 /// A context: it answers what function and which frames an address of the image has. What was asked
 /// before shows in no answer.
 pub struct Context<'a, 's, P: ModuleProvider> {
-    pub(crate) provider: &'a P,
-    pub(crate) parts: ContextParts<'a, 's>,
-    pub(crate) namer: Namer<'a, 's, P>,
-    pub(crate) kept: CachedModules<'a, P::Info>,
+    pub(crate) symbolizer: PlaceSymbolizer<'a, 's, P>,
     pub(crate) starts: Option<Vec<u32>>,
     lookups: u64,
-    pub(crate) failed: Failures,
-    pub(crate) known_failures: KnownFailures,
 }
 
 impl<'a, 's, P: ModuleProvider> Model for Context<'a, 's, P> {
@@ -49,50 +41,35 @@ impl<'a, 's, P: ModuleProvider> Model for Context<'a, 's, P> {
     ghost use Rattle.pdb_context.specs.Context as contexts;
     ghost use Rattle.pdb_answers.specs.Scopes.{entries_of, scope_of};
     ghost use Rattle.pdb_context.specs.Starts.{start_addresses, AreStarts};
-    ghost use Rattle.pdb_answers.specs.Kept.{AreKept};
-    ghost use Rattle.pdb_answers.specs.Modules.{module_data, own_of};
-    ghost use Rattle.pdb_answers.specs.KnownFailures.{AreFailuresOf, data_of_modules};
 
     ghost Value = { contexts.Context P };
 
     ghost view = { λ c. record {
-      provider = c.provider.now;
-      parts = c.parts;
-      formatting = c.namer;
+      provider = c.symbolizer.provider;
+      parts = c.symbolizer.parts;
+      formatting = c.symbolizer.formatting;
       lookups = c.lookups;
-      failed = c.failed;
+      failed = c.symbolizer.failed;
     } };
 
-    // What is kept of each module is its own, the starts that are kept are those of the file's
-    // functions, and what is known to fail does.
+    // The starts that are kept are those of the file's functions.
     ghost invariant = { λ c.
-        AreKept (λ n. module_data (own_of (P.provided c.provider.now) (entries_of c.namer) n))
-        c.kept
-        × AreStarts
-        (start_addresses
-        c.parts (scope_of P.provided c.provider.now c.namer) (entries_of c.namer))
-        (option_map (λ v. v.items) c.starts)
-        × AreFailuresOf (data_of_modules P.provided c.provider.now c.namer) c.known_failures };
+        AreStarts
+        (start_addresses c.symbolizer.parts
+        (scope_of P.provided c.symbolizer.provider c.symbolizer.formatting)
+        (entries_of c.symbolizer.formatting))
+        (option_map (λ v. v.items) c.starts) };
 }
 
 impl<'a, 's, P: ModuleProvider> Drop for Context<'a, 's, P> {
     fn drop(self) {
         let Context {
-            provider: _,
-            parts,
-            namer,
-            kept,
+            symbolizer,
             starts,
             lookups: _,
-            failed,
-            known_failures,
         } = self;
-        drop(parts);
-        drop(namer);
-        drop(kept);
+        drop(symbolizer);
         drop(starts);
-        drop(failed);
-        drop(known_failures);
     }
 }
 
@@ -156,16 +133,11 @@ impl<'a, 's, P: ModuleProvider> Context<'a, 's, P> {
             debug_info,
         )?;
         let namer = Namer::new(alloc, type_formatter);
-        let kept = empty_modules(alloc, provider, &namer)?;
+        let symbolizer = PlaceSymbolizer::new(alloc, provider, parts, namer)?;
         Ok(Context {
-            provider,
-            parts,
-            namer,
-            kept,
+            symbolizer,
             starts: None,
             lookups: 0,
-            failed: Failures::new(alloc),
-            known_failures: KnownFailures::new(alloc),
         })
     }
 
@@ -173,7 +145,7 @@ impl<'a, 's, P: ModuleProvider> Context<'a, 's, P> {
     pub fn function_count(&self) -> usize
         ensures { result ≡ length self.now.parts.publics }
     {
-        self.parts.publics.len()
+        self.symbolizer.parts().publics.len()
     }
 
     /// How many places were looked up: one for each question about an RVA that has a place, and for
@@ -219,16 +191,7 @@ impl<'a, 's, P: ModuleProvider> Context<'a, 's, P> {
             (frames_if_held self.old.parts (scope_in P.provided self.old)
             (held_at self.old.parts (Some place)))) }
     {
-        frames_here(
-            alloc,
-            self.provider,
-            &mut self.kept,
-            &self.parts,
-            &mut self.namer,
-            &mut self.failed,
-            &mut self.known_failures,
-            place,
-        )
+        self.symbolizer.frames(alloc, place)
     }
 
     /// The frames at an RVA: the inlined calls over it, innermost first, and then the function.
@@ -253,7 +216,7 @@ impl<'a, 's, P: ModuleProvider> Context<'a, 's, P> {
             (told self.old.failed (failing self.old.parts (scope_in P.provided self.old) probe)
             (frames self.old.parts (scope_in P.provided self.old) probe)) }
     {
-        let Some(place) = place_at(&self.parts, probe) else {
+        let Some(place) = place_at(self.symbolizer.parts(), probe) else {
             return Ok(None);
         };
         let found = self.frames_at(alloc, place);
@@ -282,7 +245,7 @@ impl<'a, 's, P: ModuleProvider> Context<'a, 's, P> {
             (told self.old.failed (failing self.old.parts (scope_in P.provided self.old) probe)
             (frames self.old.parts (scope_in P.provided self.old) probe)) }
     {
-        let Some(place) = place_at(&self.parts, probe) else {
+        let Some(place) = place_at(self.symbolizer.parts(), probe) else {
             return Ok(None);
         };
         let frames = self.frames_at(alloc, place);
@@ -301,17 +264,10 @@ impl<'a, 's, P: ModuleProvider> Context<'a, 's, P> {
         ensures function { Answers (λ f. f) result
             (Ok (function self.old.parts (scope_in P.provided self.old) probe)) }
     {
-        let Some(place) = place_at(&self.parts, probe) else {
+        let Some(place) = place_at(self.symbolizer.parts(), probe) else {
             return Ok(None);
         };
-        let function = function_here(
-            alloc,
-            self.provider,
-            &mut self.kept,
-            &self.parts,
-            &mut self.namer,
-            place,
-        );
+        let function = self.symbolizer.function(alloc, place);
         self.counted(function)
     }
 
@@ -337,15 +293,7 @@ impl<'a, 's, P: ModuleProvider> Context<'a, 's, P> {
             (λ run. IsOneRun (database_of self.old.parts (scope_in P.provided self.old))
             (as_place offset) limit run.1) }
     {
-        let run = run_here(
-            alloc,
-            self.provider,
-            &mut self.kept,
-            &self.parts,
-            &mut self.namer,
-            offset,
-            limit,
-        );
+        let run = self.symbolizer.run(alloc, offset, limit);
         self.counted(run)
     }
 
@@ -369,15 +317,7 @@ impl<'a, 's, P: ModuleProvider> Context<'a, 's, P> {
         ensures count { IfOk result (λ run. IsOneRun (database_of self.old.parts
             (scope_in P.provided self.old)) (as_place offset) limit run.1) }
     {
-        let run = key_run_here(
-            alloc,
-            self.provider,
-            &mut self.kept,
-            &self.parts,
-            &self.namer,
-            offset,
-            limit,
-        );
+        let run = self.symbolizer.key_run(alloc, offset, limit);
         self.counted(run)
     }
 
@@ -390,13 +330,6 @@ impl<'a, 's, P: ModuleProvider> Context<'a, 's, P> {
         ensures function { Answers (λ f. f) result (Ok (function_by self.old.parts
             (scope_in P.provided self.old) key.now)) }
     {
-        function_by_key(
-            alloc,
-            self.provider,
-            &mut self.kept,
-            &self.parts,
-            &mut self.namer,
-            key,
-        )
+        self.symbolizer.function_by_key(alloc, key)
     }
 }

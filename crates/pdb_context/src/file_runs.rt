@@ -3,87 +3,17 @@
 ghost use Rattle.std.specs.Prelude.{◌≡◌, ◌≤◌, true, IfOk, Ok, option_and_then};
 ghost use Rattle.pdb_answers.specs.Files.{file_by, file_here, files_of, if_any};
 ghost use Rattle.pdb_context.specs.Context.{lookups_after, scope_in, uncounted};
-ghost use Rattle.pdb_context.specs.FileRuns.{file_or_nothing};
 ghost use Rattle.pdb_functions.specs.Databases.{IsOneRun, place_of as as_place};
 ghost use Rattle.pdb_functions.specs.FileAnswers.{file_seen};
 ghost use Rattle.pdb_resolving.specs.Fault.{Answers};
 
 use crate::context::Context;
 use pdb_addresses::PdbInternalSectionOffset;
-use pdb_answers::{Sources, file_by_key, file_key_run_here};
 use pdb_functions::{CountedFile, FileAnswer, FileKey};
 use pdb_resolving::{ModuleProvider, Result};
 use std::alloc::Global;
 
 impl<'a, 's, P: ModuleProvider> Context<'a, 's, P> {
-    /// Returns a key of the file at a place, and how far it goes on; it isn't counted.
-    fn file_key_run_at(
-        &mut self,
-        alloc: Global,
-        offset: PdbInternalSectionOffset,
-        limit: u32,
-    ) -> Result<(Option<FileKey>, u32)>
-        requires { 1 ≤ limit }
-        ensures same { self.new ≡ self.old }
-        ensures file { Answers (λ run. option_and_then
-            (file_by self.old.parts (scope_in P.provided self.old)) run.0) result
-            (Ok (if_any (file_here self.old.parts (scope_in P.provided self.old) offset))) }
-        ensures count { IfOk result (λ run. IsOneRun
-            (files_of self.old.parts (scope_in P.provided self.old)) (as_place offset) limit
-            run.1) }
-    {
-        let sources = Sources {
-            provider: self.provider,
-            parts: &self.parts,
-            namer: &self.namer,
-            failed: &self.failed,
-        };
-        file_key_run_here(
-            alloc,
-            &sources,
-            &mut self.kept,
-            &mut self.known_failures,
-            offset,
-            limit,
-        )
-    }
-
-    /// Returns the file that a key stands for, and nothing where there is no key.
-    fn file_of_key(&mut self, alloc: Global, key: Option<FileKey>) -> Result<FileAnswer>
-        ensures same { self.new ≡ self.old }
-        ensures file { Answers (λ file. file_seen file) result (Ok (file_or_nothing
-            (option_and_then (file_by self.old.parts (scope_in P.provided self.old)) key))) }
-    {
-        let Some(key) = key else {
-            return Ok(FileAnswer::Nothing);
-        };
-        match self.file_by_key(alloc, &key)? {
-            Some(file) => Ok(file.answer),
-            None => Ok(FileAnswer::Nothing),
-        }
-    }
-
-    /// Returns the file at a place, and how far it goes on; it isn't counted.
-    #[tactic(auto, using(crate::proofs::FileSteps::nothing_or_file))]
-    fn file_run_at(
-        &mut self,
-        alloc: Global,
-        offset: PdbInternalSectionOffset,
-        limit: u32,
-    ) -> Result<(FileAnswer, u32)>
-        requires { 1 ≤ limit }
-        ensures same { self.new ≡ self.old }
-        ensures file { Answers (λ run. file_seen run.0) result
-            (Ok (file_here self.old.parts (scope_in P.provided self.old) offset)) }
-        ensures count { IfOk result (λ run. IsOneRun
-            (files_of self.old.parts (scope_in P.provided self.old)) (as_place offset) limit
-            run.1) }
-    {
-        let (key, count) = self.file_key_run_at(alloc, offset, limit)?;
-        let file = self.file_of_key(alloc, key)?;
-        Ok((file, count))
-    }
-
     /// Returns the source file of the function at a place, and over how many bytes from the place
     /// on the file is the same: the lesser of `limit`, which is at least 1, and the distance to the
     /// next place at which the function may change ([`Context::find_function_run`]) or, where there
@@ -106,7 +36,7 @@ impl<'a, 's, P: ModuleProvider> Context<'a, 's, P> {
             (files_of self.old.parts (scope_in P.provided self.old)) (as_place offset) limit
             run.1) }
     {
-        let run = self.file_run_at(alloc, offset, limit);
+        let run = self.symbolizer.file_run(alloc, offset, limit);
         self.counted(run)
     }
 
@@ -131,7 +61,7 @@ impl<'a, 's, P: ModuleProvider> Context<'a, 's, P> {
             (files_of self.old.parts (scope_in P.provided self.old)) (as_place offset) limit
             run.1) }
     {
-        let run = self.file_key_run_at(alloc, offset, limit);
+        let run = self.symbolizer.file_key_run(alloc, offset, limit);
         self.counted(run)
     }
 
@@ -144,12 +74,6 @@ impl<'a, 's, P: ModuleProvider> Context<'a, 's, P> {
         ensures file { Answers (λ file. file) result
             (Ok (file_by self.old.parts (scope_in P.provided self.old) key.now)) }
     {
-        let sources = Sources {
-            provider: self.provider,
-            parts: &self.parts,
-            namer: &self.namer,
-            failed: &self.failed,
-        };
-        file_by_key(alloc, &sources, &mut self.kept, key)
+        self.symbolizer.file_by_key(alloc, key)
     }
 }

@@ -112,9 +112,9 @@ impl<'a, 's, P: ModuleProvider> Context<'a, 's, P> {
         let starts = kept_starts(
             alloc,
             &mut self.starts,
-            self.provider,
-            &self.parts,
-            &self.namer,
+            self.symbolizer.provider(),
+            self.symbolizer.parts(),
+            self.symbolizer.namer(),
         )?;
         Ok(starts)
     }

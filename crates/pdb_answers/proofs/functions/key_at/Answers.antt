@@ -3,8 +3,8 @@ use Rattle.std.specs.Prelude.{None, Some, option_copied, slice_get}
 use Rattle.pdb_known_modules.specs.Modules.{procedures_in}
 use Rattle.pdb_module_data.specs.Procedures.{over}
 use Rattle.pdb_answers.proofs.KeySteps.{by_place, numbered_none, over_as}
-use Rattle.pdb_answers.proofs.answers.key_at.Goals as goal
-use Rattle.pdb_answers.proofs.answers.key_at.Goals.{in-Some+else-is_some, in_default}
+use Rattle.pdb_answers.proofs.functions.key_at.Goals as goal
+use Rattle.pdb_answers.proofs.functions.key_at.Goals.{in-Some+else-is_some, in_default}
 
 pub returns-in-Some-over-clause-chosen : goal.returns-in-Some-over-clause-chosen
 returns-in-Some-over-clause-chosen g c =

@@ -1,0 +1,230 @@
+//! Frames at places.
+
+ghost use Rattle.std.specs.Prelude.{◌≡◌, ℕ, IfSome, Option, Some, option_copied};
+ghost use Rattle.pdb_answers.specs.KnownFailures.{AreFailuresOf};
+ghost use Rattle.pdb_answers.specs.Symbolizers.{lasting, scope_in};
+ghost use Rattle.pdb_frames.specs.Choice.{held_at};
+ghost use Rattle.pdb_frames.specs.Failed.{failed_after, failing_in as failing_in_module, told};
+ghost use Rattle.pdb_frames.specs.Failing.{failing_at, failing_if_held};
+ghost use Rattle.pdb_frames.specs.Frames.{frames_at as frames_at_place, frames_if_held};
+ghost use Rattle.pdb_frames.specs.Frames.{frames_of_chosen};
+ghost use Rattle.pdb_frames.specs.Printing.{env_of};
+ghost use Rattle.pdb_frames.specs.Seen.{chosen_seen};
+ghost use Rattle.pdb_known_modules.specs.Modules.{ModuleData};
+ghost use Rattle.pdb_resolving.specs.Fault.{Answers};
+
+use crate::cached_parts::{HeldPlace, keep_parts};
+use crate::known_failures::KnownFailures;
+use crate::symbolizer::PlaceSymbolizer;
+use pdb_addresses::PdbInternalSectionOffset;
+use pdb_contributions::ModuleSectionContribution;
+use pdb_frames::{
+    Chosen, ContextParts, Failures, Namer, Part, choose, failing_in, frames_in, unsuccessful,
+};
+use pdb_functions::SharedFunctionFrames;
+use pdb_known_modules::{BasicModuleInfo, keep_module, known_at, number_over};
+use pdb_resolving::{Error, ModuleProvider, ModuleTables, Result};
+use std::alloc::Global;
+
+/// A place in a chosen function, with the data of its module, and the first of the function's parts
+/// that can't be read, where that is known.
+#[derive(Drop)]
+struct ChosenPlace<'c, 'a, I: ModuleTables> {
+    module_index: u16,
+    known: Option<&'c BasicModuleInfo<'a, I>>,
+    chosen: Chosen<'c, 'a>,
+    failing: Option<Part>,
+    place: PdbInternalSectionOffset,
+}
+
+/// Returns the frames at a place in a chosen function, if it has an RVA. Its module's data are read
+/// before that is asked.
+fn frames_of<'a, P: ModuleProvider>(
+    alloc: Global,
+    parts: &ContextParts<'a, '_>,
+    namer: &mut Namer<'a, '_, P>,
+    found: &ChosenPlace<'_, 'a, P::Info>,
+) -> Result<Option<SharedFunctionFrames<'a>>>
+    ensures same { namer.new ≡ namer.old }
+    ensures frames { Answers (λ f. f) result (frames_of_chosen parts.now
+        (env_of P.provided namer.old found.now.module_index) (option_copied found.now.known)
+        found.now.place (Some (chosen_seen found.now.chosen))) }
+{
+    let ChosenPlace {
+        module_index,
+        known,
+        chosen,
+        failing: _,
+        place,
+    } = *found;
+    let frames = frames_in(alloc, parts, namer, module_index, known, chosen, place)?;
+    match chosen.start_rva(parts) {
+        None => Ok(None),
+        Some(start_rva) => Ok(Some(SharedFunctionFrames {
+            start_rva,
+            end_rva: chosen.end_of_frames(parts, start_rva),
+            frames,
+        })),
+    }
+}
+
+/// Returns the frames at a place in a chosen function, if it has an RVA. The part that can't be
+/// read, if one can't, stands as failed from then on: where it did before, that is reported. It is
+/// known from then on for the functions like the chosen one.
+#[tactic(auto, using(crate::proofs::FailedSteps::told_own, crate::proofs::FailedSteps::told_alone))]
+fn frames_told<'a, P: ModuleProvider>(
+    alloc: Global,
+    parts: &ContextParts<'a, '_>,
+    namer: &mut Namer<'a, '_, P>,
+    failed: &mut Failures,
+    known_failures: &mut KnownFailures,
+    found: &ChosenPlace<'_, 'a, P::Info>,
+) -> Result<Option<SharedFunctionFrames<'a>>>
+    ensures same { namer.new ≡ namer.old }
+    ensures failed { failed.new ≡ failed_after (failing_in_module found.now.module_index
+        (option_copied found.now.known) (chosen_seen found.now.chosen)) result failed.old }
+    ensures known { (own : ℕ → Option ModuleData)
+        → own found.now.module_index ≡ option_copied found.now.known
+        → AreFailuresOf own known_failures.old → AreFailuresOf own known_failures.new }
+    ensures frames { Answers (λ f. f) result (told failed.old
+        (failing_in_module found.now.module_index (option_copied found.now.known)
+        (chosen_seen found.now.chosen)) (frames_of_chosen parts.now
+        (env_of P.provided namer.old found.now.module_index) (option_copied found.now.known)
+        found.now.place (Some (chosen_seen found.now.chosen)))) }
+{
+    let frames = frames_of(alloc, parts, namer, found);
+    match frames {
+        Ok(frames) => Ok(frames),
+        Err(Error::OutOfMemory) => Err(Error::OutOfMemory),
+        Err(fault) => match failing_in(alloc, found.module_index, found.known, found.chosen)? {
+            None => Err(fault),
+            Some(part) => {
+                let stood = failed.has(part);
+                known_failures.keep(found.module_index, found.chosen, part)?;
+                failed.keep(part)?;
+                if stood {
+                    return Err(unsuccessful(part));
+                }
+                Err(fault)
+            }
+        },
+    }
+}
+
+/// Returns the frames at a place in a chosen function, as [`frames_told`] does. Where a part is
+/// known as the first that can't be read, and stands as failed, nothing is read.
+#[tactic(auto, using(crate::proofs::FaultSteps::told_standing, crate::proofs::FaultSteps::after_standing))]
+fn frames_unless_known<'a, P: ModuleProvider>(
+    alloc: Global,
+    parts: &ContextParts<'a, '_>,
+    namer: &mut Namer<'a, '_, P>,
+    failed: &mut Failures,
+    known_failures: &mut KnownFailures,
+    found: &ChosenPlace<'_, 'a, P::Info>,
+) -> Result<Option<SharedFunctionFrames<'a>>>
+    requires { IfSome found.now.failing (λ part. failing_in_module found.now.module_index
+        (option_copied found.now.known) (chosen_seen found.now.chosen) ≡ Some part) }
+    ensures same { namer.new ≡ namer.old }
+    ensures failed { failed.new ≡ failed_after (failing_in_module found.now.module_index
+        (option_copied found.now.known) (chosen_seen found.now.chosen)) result failed.old }
+    ensures known { (own : ℕ → Option ModuleData)
+        → own found.now.module_index ≡ option_copied found.now.known
+        → AreFailuresOf own known_failures.old → AreFailuresOf own known_failures.new }
+    ensures frames { Answers (λ f. f) result (told failed.old
+        (failing_in_module found.now.module_index (option_copied found.now.known)
+        (chosen_seen found.now.chosen)) (frames_of_chosen parts.now
+        (env_of P.provided namer.old found.now.module_index) (option_copied found.now.known)
+        found.now.place (Some (chosen_seen found.now.chosen)))) }
+{
+    match found.failing {
+        Some(part) if failed.has(part) => {
+            failed.keep(part)?;
+            Err(unsuccessful(part))
+        }
+        _ => frames_told(alloc, parts, namer, failed, known_failures, found),
+    }
+}
+
+impl<'a, 's, P: ModuleProvider> PlaceSymbolizer<'a, 's, P> {
+    /// Returns the frames at a place that a contribution holds.
+    #[tactic(auto, unfolding(pdb_frames::specs::Frames::frames_at, crate::specs::KnownFailures::data_of_modules))]
+    fn frames_at(
+        &mut self,
+        alloc: Global,
+        contribution: ModuleSectionContribution,
+        place: PdbInternalSectionOffset,
+    ) -> Result<Option<SharedFunctionFrames<'a>>>
+        ensures same { lasting self.new ≡ lasting self.old }
+        ensures failed { self.new.failed ≡ failed_after (failing_at self.old.parts
+            (scope_in P.provided self.old contribution.module_index) contribution place)
+            result self.old.failed }
+        ensures frames { Answers (λ f. f) result (told self.old.failed
+            (failing_at self.old.parts (scope_in P.provided self.old contribution.module_index)
+            contribution place) (frames_at_place self.old.parts
+            (scope_in P.provided self.old contribution.module_index) contribution place)) }
+    {
+        let module_index = contribution.module_index();
+        let modules = self.namer.modules();
+        let place_number = usize::from(module_index);
+        keep_module(
+            alloc,
+            &mut self.cached,
+            self.provider,
+            modules,
+            place_number,
+        )?;
+        let number = number_over(known_at(&self.cached, place_number), place);
+        let held = HeldPlace {
+            contribution,
+            place,
+            number,
+        };
+        keep_parts(alloc, &mut self.cached, &self.parts, &self.failed, held)?;
+        let known = known_at(&self.cached, place_number);
+        let Some(chosen) = choose(&self.parts, known, number, contribution, place) else {
+            return Ok(None);
+        };
+        let found = ChosenPlace {
+            module_index,
+            known,
+            chosen,
+            failing: self.known_failures.part(module_index, chosen),
+            place,
+        };
+        frames_unless_known(
+            alloc,
+            &self.parts,
+            &mut self.namer,
+            &mut self.failed,
+            &mut self.known_failures,
+            &found,
+        )
+    }
+
+    /// Returns the frames at a place: the inlined calls over it, innermost first, and then the
+    /// function. `None` where there is no function.
+    ///
+    /// # Errors
+    /// The first fault of those parts of the module that the frames are made of, or that this part
+    /// stands as failed; `OutOfMemory`.
+    pub fn frames(
+        &mut self,
+        alloc: Global,
+        place: PdbInternalSectionOffset,
+    ) -> Result<Option<SharedFunctionFrames<'a>>>
+        ensures same { lasting self.new ≡ lasting self.old }
+        ensures failed { self.new.failed ≡ failed_after (failing_if_held self.old.parts
+            (scope_in P.provided self.old) (held_at self.old.parts (Some place))) result
+            self.old.failed }
+        ensures frames { Answers (λ f. f) result (told self.old.failed
+            (failing_if_held self.old.parts (scope_in P.provided self.old)
+            (held_at self.old.parts (Some place)))
+            (frames_if_held self.old.parts (scope_in P.provided self.old)
+            (held_at self.old.parts (Some place)))) }
+    {
+        match self.parts.holder(place) {
+            None => Ok(None),
+            Some(contribution) => self.frames_at(alloc, contribution, place),
+        }
+    }
+}

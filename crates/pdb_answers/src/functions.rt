@@ -1,0 +1,270 @@
+//! Functions at places: the function, a key of it, and how far it goes on.
+
+ghost use Rattle.std.specs.Prelude.{◌≡◌, ◌≤◌, IfOk, IfSome, Ok, Some, option_and_then};
+ghost use Rattle.std.specs.Prelude.{option_copied, option_map};
+ghost use Rattle.pdb_addresses.specs.SectionRun.{up_to_next};
+ghost use Rattle.pdb_answers.specs.Symbolizers.{scope_in};
+ghost use Rattle.pdb_frames.specs.Choice.{chosen};
+ghost use Rattle.pdb_frames.specs.Frames.{function_at as function_at_contribution};
+ghost use Rattle.pdb_frames.specs.Frames.{function_of as function_of_chosen};
+ghost use Rattle.pdb_frames.specs.Keys.{chosen_by, function_by};
+ghost use Rattle.pdb_frames.specs.NearBounds.{bounds_near};
+ghost use Rattle.pdb_frames.specs.Printing.{env_of};
+ghost use Rattle.pdb_frames.specs.Runs.{database_of, function_here as function_at_place};
+ghost use Rattle.pdb_frames.specs.Runs.{procedures_of};
+ghost use Rattle.pdb_frames.specs.Seen.{chosen_seen};
+ghost use Rattle.pdb_functions.specs.Databases.{IsOneRun, place_of as as_place};
+ghost use Rattle.pdb_functions.specs.KeyOrder.{key_module};
+ghost use Rattle.pdb_known_modules.specs.Modules.{procedures_in};
+ghost use Rattle.pdb_resolving.specs.Fault.{Answers};
+
+use crate::symbolizer::PlaceSymbolizer;
+use pdb_addresses::PdbInternalSectionOffset;
+use pdb_contributions::ModuleSectionContribution;
+use pdb_frames::{
+    Chosen, ContextParts, FunctionEnd, Namer, choose, name_of, to_next_bound, to_next_shared_bound,
+};
+use pdb_functions::{Function, FunctionKey, owned_name};
+use pdb_known_modules::{BasicModuleInfo, keep_module, known_at, number_over, procedure_numbered};
+use pdb_resolving::{ModuleProvider, ModuleTables, Result};
+use std::alloc::Global;
+
+/// Returns a chosen function, where it has an RVA, and where the public entry after it has one.
+fn function_of<'a, P: ModuleProvider>(
+    alloc: Global,
+    parts: &ContextParts<'_, '_>,
+    namer: &mut Namer<'a, '_, P>,
+    module_index: u16,
+    chosen: Chosen<'_, 'a>,
+) -> Result<Option<Function>>
+    ensures same { namer.new ≡ namer.old }
+    ensures function { Answers (λ f. f) result (Ok
+        (function_of_chosen parts.now (env_of P.provided namer.old module_index)
+        (chosen_seen chosen.entry))) }
+{
+    let Some(start_rva) = chosen.start_rva(parts) else {
+        return Ok(None);
+    };
+    let end_rva = match chosen.end_of_function(parts, start_rva) {
+        FunctionEnd::At(end_rva) => Some(end_rva),
+        FunctionEnd::Unknown => None,
+        FunctionEnd::NoFunction => return Ok(None),
+    };
+    let name = name_of(alloc, parts, namer, module_index, chosen)?;
+    let name = owned_name(alloc, &name)?;
+    Ok(Some(Function {
+        start_rva,
+        end_rva,
+        name,
+    }))
+}
+
+/// Returns the key of what is chosen at a place that a contribution holds, if something is.
+fn key_at<I: ModuleTables>(
+    parts: &ContextParts<'_, '_>,
+    known: Option<&BasicModuleInfo<'_, I>>,
+    contribution: ModuleSectionContribution,
+    place: PdbInternalSectionOffset,
+) -> Option<FunctionKey>
+    ensures index { IfSome result (λ key. key_module key ≡ contribution.module_index) }
+    ensures chosen { option_and_then (chosen_by parts.now (procedures_in
+        (option_copied known.entry))) result
+        ≡ chosen parts.now (procedures_in (option_copied known.entry)) contribution place }
+{
+    let module_index = contribution.module_index();
+    if let Some(number) = number_over(known, place) {
+        if procedure_numbered(known, number).is_some() {
+            return Some(FunctionKey::Procedure(module_index, number));
+        }
+    }
+    match parts.publics.over(contribution.start_offset(), place) {
+        None => None,
+        Some(public) => Some(FunctionKey::Public(module_index, public.start_offset)),
+    }
+}
+
+/// Returns what a key chooses, by the data of its module.
+fn choose_by<'c, 'a, I: ModuleTables>(
+    parts: &'c ContextParts<'a, '_>,
+    known: Option<&'c BasicModuleInfo<'a, I>>,
+    key: &FunctionKey,
+) -> Option<Chosen<'c, 'a>>
+    ensures { option_map chosen_seen result
+        ≡ chosen_by parts.now (procedures_in (option_copied known.entry)) key.now }
+{
+    match key {
+        FunctionKey::Procedure(_, number) => match procedure_numbered(known, *number) {
+            None => None,
+            Some(procedure) => Some(Chosen::Procedure(*number, procedure)),
+        },
+        FunctionKey::Public(_, start) => match parts.publics.over(start.offset, *start) {
+            None => None,
+            Some(public) => Some(Chosen::Public(public)),
+        },
+    }
+}
+
+impl<'a, 's, P: ModuleProvider> PlaceSymbolizer<'a, 's, P> {
+    /// Returns the function at a place that a contribution holds.
+    #[tactic(auto, unfolding(pdb_frames::specs::Frames::function_at))]
+    fn function_at(
+        &mut self,
+        alloc: Global,
+        contribution: ModuleSectionContribution,
+        place: PdbInternalSectionOffset,
+    ) -> Result<Option<Function>>
+        ensures same { self.new ≡ self.old }
+        ensures function { Answers (λ f. f) result (Ok (function_at_contribution self.old.parts
+            (scope_in P.provided self.old contribution.module_index) contribution place)) }
+    {
+        let module_index = contribution.module_index();
+        let modules = self.namer.modules();
+        let place_number = usize::from(module_index);
+        keep_module(
+            alloc,
+            &mut self.cached,
+            self.provider,
+            modules,
+            place_number,
+        )?;
+        let known = known_at(&self.cached, place_number);
+        let number = number_over(known, place);
+        let Some(chosen) = choose(&self.parts, known, number, contribution, place) else {
+            return Ok(None);
+        };
+        function_of(alloc, &self.parts, &mut self.namer, module_index, chosen)
+    }
+
+    /// Returns the function at a place.
+    ///
+    /// # Errors
+    /// `OutOfMemory` alone.
+    pub fn function(
+        &mut self,
+        alloc: Global,
+        place: PdbInternalSectionOffset,
+    ) -> Result<Option<Function>>
+        ensures same { self.new ≡ self.old }
+        ensures function { Answers (λ f. f) result
+            (Ok (function_at_place self.old.parts (scope_in P.provided self.old) place)) }
+    {
+        match self.parts.holder(place) {
+            None => Ok(None),
+            Some(contribution) => self.function_at(alloc, contribution, place),
+        }
+    }
+
+    /// Returns a key of the function at a place that a contribution holds, and how many bytes from
+    /// there on have that function.
+    #[tactic(auto, unfolding(pdb_frames::specs::Frames::function_at))]
+    fn key_run_at(
+        &mut self,
+        alloc: Global,
+        contribution: ModuleSectionContribution,
+        place: PdbInternalSectionOffset,
+        limit: u32,
+    ) -> Result<(Option<FunctionKey>, u32)>
+        ensures same { self.new ≡ self.old }
+        ensures function { Answers (λ run. option_and_then (function_by self.old.parts
+            (scope_in P.provided self.old)) run.0) result
+            (Ok (function_at_contribution self.old.parts
+            (scope_in P.provided self.old contribution.module_index) contribution place)) }
+        ensures count { IfOk result (λ run. run.1
+            ≡ up_to_next (bounds_near self.old.parts (procedures_of
+            (scope_in P.provided self.old) (Some contribution)) place) place.offset limit) }
+    {
+        let modules = self.namer.modules();
+        let place_number = usize::from(contribution.module_index());
+        keep_module(
+            alloc,
+            &mut self.cached,
+            self.provider,
+            modules,
+            place_number,
+        )?;
+        let known = known_at(&self.cached, place_number);
+        let count = to_next_bound(&self.parts, known, place, limit);
+        Ok((key_at(&self.parts, known, contribution, place), count))
+    }
+
+    /// Returns a key of the function at a place, and how many bytes from there on have that
+    /// function.
+    ///
+    /// # Errors
+    /// `OutOfMemory` alone.
+    pub fn key_run(
+        &mut self,
+        alloc: Global,
+        place: PdbInternalSectionOffset,
+        limit: u32,
+    ) -> Result<(Option<FunctionKey>, u32)>
+        requires { 1 ≤ limit }
+        ensures same { self.new ≡ self.old }
+        ensures function { Answers (λ run. option_and_then (function_by self.old.parts
+            (scope_in P.provided self.old)) run.0) result
+            (Ok (function_at_place self.old.parts (scope_in P.provided self.old) place)) }
+        ensures count { IfOk result (λ run. IsOneRun (database_of self.old.parts
+            (scope_in P.provided self.old)) (as_place place) limit run.1) }
+    {
+        match self.parts.holder(place) {
+            None => Ok((None, to_next_shared_bound(&self.parts, place, limit))),
+            Some(contribution) => self.key_run_at(alloc, contribution, place, limit),
+        }
+    }
+
+    /// Returns the function that a key stands for, if there is one.
+    ///
+    /// # Errors
+    /// `OutOfMemory` alone.
+    pub fn function_by_key(&mut self, alloc: Global, key: &FunctionKey) -> Result<Option<Function>>
+        ensures same { self.new ≡ self.old }
+        ensures function { Answers (λ f. f) result (Ok (function_by self.old.parts
+            (scope_in P.provided self.old) key.now)) }
+    {
+        let modules = self.namer.modules();
+        let place_number = usize::from(key.module_index());
+        keep_module(
+            alloc,
+            &mut self.cached,
+            self.provider,
+            modules,
+            place_number,
+        )?;
+        let known = known_at(&self.cached, place_number);
+        let Some(chosen) = choose_by(&self.parts, known, key) else {
+            return Ok(None);
+        };
+        function_of(
+            alloc,
+            &self.parts,
+            &mut self.namer,
+            key.module_index(),
+            chosen,
+        )
+    }
+
+    /// Returns the function at a place, and how many bytes from there on have that function.
+    ///
+    /// # Errors
+    /// `OutOfMemory` alone.
+    pub fn run(
+        &mut self,
+        alloc: Global,
+        place: PdbInternalSectionOffset,
+        limit: u32,
+    ) -> Result<(Option<Function>, u32)>
+        requires { 1 ≤ limit }
+        ensures same { self.new ≡ self.old }
+        ensures function { Answers (λ run. run.0) result
+            (Ok (function_at_place self.old.parts (scope_in P.provided self.old) place)) }
+        ensures count { IfOk result (λ run. IsOneRun (database_of self.old.parts
+            (scope_in P.provided self.old)) (as_place place) limit run.1) }
+    {
+        let (key, count) = self.key_run(alloc, place, limit)?;
+        let Some(key) = key else {
+            return Ok((None, count));
+        };
+        let function = self.function_by_key(alloc, &key)?;
+        Ok((function, count))
+    }
+}

@@ -1,0 +1,134 @@
+//! A symbolizer of places, and what its answers go over.
+
+ghost use Rattle.std.specs.Prelude.{◌≡◌, IfOk};
+ghost use Rattle.pdb_answers.specs.Symbolizers.{symbolizer_over};
+ghost use Rattle.pdb_frames.specs.Scopes.{entries_of};
+ghost use Rattle.pdb_known_modules.specs.Kept.{AreKept};
+ghost use Rattle.pdb_known_modules.specs.Modules.{module_data, own_of};
+
+use crate::known_failures::KnownFailures;
+use pdb_frames::{ContextParts, Failures, Namer};
+use pdb_known_modules::{CachedModules, nothing_cached};
+use pdb_resolving::ModuleProvider;
+use std::alloc::{AllocError, Global};
+use std::marker::Model;
+
+/// Returns places for the modules of a namer, in which nothing is cached yet.
+fn empty_modules<'a, P: ModuleProvider>(
+    alloc: Global,
+    _provider: &'a P,
+    namer: &Namer<'_, '_, P>,
+) -> Result<CachedModules<'a, P::Info>, AllocError>
+    ensures { IfOk result (λ cached. AreKept
+        (λ n. module_data (own_of (P.provided _provider.now) (entries_of namer.now) n)) cached) }
+{
+    nothing_cached(alloc, namer.modules().len())
+}
+
+/// A symbolizer of places: it answers which frames, which function and which file a place in a
+/// section has. What it reads of modules is cached, and a part that can't be read stands as failed
+/// from then on.
+pub struct PlaceSymbolizer<'a, 's, P: ModuleProvider> {
+    /// What gives the modules' own streams.
+    pub(crate) provider: &'a P,
+    /// What every answer goes over.
+    pub(crate) parts: ContextParts<'a, 's>,
+    /// What names functions, and has the list of modules.
+    pub(crate) namer: Namer<'a, 's, P>,
+    /// What was read of modules.
+    pub(crate) cached: CachedModules<'a, P::Info>,
+    /// The parts of modules that stand as failed.
+    pub(crate) failed: Failures,
+    /// Which part fails in functions that were asked for.
+    pub(crate) known_failures: KnownFailures,
+}
+
+impl<'a, 's, P: ModuleProvider> Model for PlaceSymbolizer<'a, 's, P> {
+    ghost use Rattle.pdb_answers.specs.Symbolizers as symbolizers;
+    ghost use Rattle.pdb_answers.specs.KnownFailures.{AreFailuresOf, data_of_modules};
+    ghost use Rattle.pdb_frames.specs.Scopes.{entries_of};
+    ghost use Rattle.pdb_known_modules.specs.Kept.{AreKept};
+    ghost use Rattle.pdb_known_modules.specs.Modules.{module_data, own_of};
+
+    ghost Value = { symbolizers.Symbolizer P };
+
+    ghost view = { λ s. record {
+      provider = s.provider.now;
+      parts = s.parts;
+      formatting = s.namer;
+      failed = s.failed;
+    } };
+
+    // What is cached of each module is its own, and what is known to fail does.
+    ghost invariant = { λ s.
+        AreKept (λ n. module_data (own_of (P.provided s.provider.now) (entries_of s.namer) n))
+        s.cached
+        × AreFailuresOf (data_of_modules P.provided s.provider.now s.namer) s.known_failures };
+}
+
+impl<'a, 's, P: ModuleProvider> Drop for PlaceSymbolizer<'a, 's, P> {
+    fn drop(self) {
+        let PlaceSymbolizer {
+            provider: _,
+            parts,
+            namer,
+            cached,
+            failed,
+            known_failures,
+        } = self;
+        drop(parts);
+        drop(namer);
+        drop(cached);
+        drop(failed);
+        drop(known_failures);
+    }
+}
+
+impl<'a, 's, P: ModuleProvider> PlaceSymbolizer<'a, 's, P> {
+    /// Returns a symbolizer over what gives modules, what every answer goes over, and what names
+    /// functions. Nothing is cached, and nothing has failed yet.
+    ///
+    /// # Errors
+    /// [`AllocError`] where memory is refused.
+    pub fn new(
+        alloc: Global,
+        provider: &'a P,
+        parts: ContextParts<'a, 's>,
+        namer: Namer<'a, 's, P>,
+    ) -> Result<PlaceSymbolizer<'a, 's, P>, AllocError>
+        ensures { IfOk result (λ s. s
+            ≡ symbolizer_over provider.now parts.entry namer.entry) }
+    {
+        let cached = empty_modules(alloc, provider, &namer)?;
+        Ok(PlaceSymbolizer {
+            provider,
+            parts,
+            namer,
+            cached,
+            failed: Failures::new(alloc),
+            known_failures: KnownFailures::new(alloc),
+        })
+    }
+
+    /// What gives the modules' own streams.
+    pub fn provider(&self) -> &'a P
+        ensures { result.now ≡ self.now.provider }
+    {
+        self.provider
+    }
+
+    /// What every answer goes over: the address map, the contributions, the public list and the
+    /// string table.
+    pub fn parts(&self) -> &ContextParts<'a, 's>
+        ensures { result.now ≡ self.now.parts }
+    {
+        &self.parts
+    }
+
+    /// What names functions, and has the list of modules.
+    pub fn namer(&self) -> &Namer<'a, 's, P>
+        ensures { result.now ≡ self.now.formatting }
+    {
+        &self.namer
+    }
+}
