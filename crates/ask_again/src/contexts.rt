@@ -1,10 +1,12 @@
 //! Questions to contexts.
 //!
-//! - `frames_at`: the frames at an RVA, as their copy; `shared_at`: the same with shared names
+//! - `frames_at`: the frames at an RVA, as their copy
+//! - `shared_at`: the frames at an RVA, with shared names
 //! - `function_at`: the function at an RVA, as its copy
-//! - `run_from`: the function at an offset of section 1, over how many bytes up to 256 it stays the same, and how many places
-//!   were looked up for that
-//! - `file_run_from`: the same of the function's source file
+//! - `run_from`: the function at an offset of section 1, over how many bytes up to 256 it stays the
+//!   same, and how many places were looked up for that
+//! - `file_run_from`: the source file at an offset of section 1, over how many bytes up to 256 it
+//!   stays the same, and how many places were looked up for that
 //! - `functions`: how many entries the public list has, and all functions
 
 use crate::question::{Question, begin, end, is_refusal, print_answer, question_of, shown};
@@ -12,8 +14,11 @@ use pdb_addr2line::pdb::PdbInternalSectionOffset;
 use pdb_addr2line::{Context, Error, ModuleProvider};
 use std::alloc::Global;
 
-/// Asks a context that was made all questions, in their order, and once more; whether it was. Nothing is asked where no memory
-/// was found for it.
+/// Asks a context all questions, in their order, and once more. Returns whether it was made. If
+/// memory ran out when it was to be made, nothing is asked.
+///
+/// # Errors
+/// Why the context wasn't made, a failed write; out of memory.
 pub fn ask_made<P: ModuleProvider>(
     rt: &(impl Print + Eprint + AllocGlobal),
     made: Result<Context<'_, '_, P>, Error>,
@@ -42,7 +47,7 @@ fn ask_all<P: ModuleProvider>(
     Ok(())
 }
 
-/// Asks a context what a line says, and again where it finds no memory.
+/// Asks a context the question of a line, and again if memory runs out.
 fn ask_line<P: ModuleProvider>(
     rt: &(impl Print + Eprint + AllocGlobal),
     context: &mut Context<'_, '_, P>,
@@ -59,7 +64,7 @@ fn ask_line<P: ModuleProvider>(
     Ok(print_answer(rt, line, answer)?)
 }
 
-/// The answer of a context.
+/// Answers a question by a context.
 fn ask<P: ModuleProvider>(
     alloc: Global,
     context: &mut Context<'_, '_, P>,
@@ -75,7 +80,7 @@ fn ask<P: ModuleProvider>(
     }
 }
 
-/// The frames at an address, as their copy.
+/// Returns the frames at an address, as their copy.
 fn frames_text<P: ModuleProvider>(
     alloc: Global,
     context: &mut Context<'_, '_, P>,
@@ -87,7 +92,7 @@ fn frames_text<P: ModuleProvider>(
     }
 }
 
-/// The frames at an address, with shared names.
+/// Returns the frames at an address, with shared names.
 fn shared_text<P: ModuleProvider>(
     alloc: Global,
     context: &mut Context<'_, '_, P>,
@@ -97,7 +102,7 @@ fn shared_text<P: ModuleProvider>(
     shown(alloc, &frames)
 }
 
-/// The function at an address, as its copy.
+/// Returns the function at an address, as its copy.
 fn function_text<P: ModuleProvider>(
     alloc: Global,
     context: &mut Context<'_, '_, P>,
@@ -109,7 +114,8 @@ fn function_text<P: ModuleProvider>(
     }
 }
 
-/// The function at an offset of section 1, how far it goes on, and how many places were looked up.
+/// Returns the function at an offset of section 1, how far it goes on, and how many places were
+/// looked up.
 fn run_text<P: ModuleProvider>(
     alloc: Global,
     context: &mut Context<'_, '_, P>,
@@ -122,7 +128,8 @@ fn run_text<P: ModuleProvider>(
     shown(alloc, &(run, lookups))
 }
 
-/// The source file at an offset of section 1, how far it goes on, and how many places were looked up.
+/// Returns the source file at an offset of section 1, how far it goes on, and how many places were
+/// looked up.
 fn file_run_text<P: ModuleProvider>(
     alloc: Global,
     context: &mut Context<'_, '_, P>,
@@ -135,7 +142,7 @@ fn file_run_text<P: ModuleProvider>(
     shown(alloc, &(run, lookups))
 }
 
-/// How many entries the public list has, and all functions.
+/// Returns how many entries the public list has, and all functions.
 fn functions_text<P: ModuleProvider>(
     alloc: Global,
     context: &mut Context<'_, '_, P>,

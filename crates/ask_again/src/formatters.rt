@@ -1,17 +1,21 @@
 //! Questions to formatters of types.
 //!
-//! - `function`: the signature of a function `f` whose type has this index; `emitted`: the same, emitted
-//! - `unnamed`: that of a function whose name is empty
-//! - `id`: the text of the id of this index; `emitted_id`: the same, emitted
-//! - `size`: the size in bytes of the type of this index
+//! - `function`, `emitted`: the signature of a function `f` whose type has that index, returned or
+//!   written to a writer
+//! - `unnamed`: the signature of a function without a name whose type has that index
+//! - `id`, `emitted_id`: the text of the id with that index, returned or written to a writer
+//! - `size`: the size in bytes of the type with that index
 
 use crate::question::{Question, begin, end, is_refusal, print_answer, question_of, shown};
 use pdb_addr2line::pdb::{IdIndex, TypeIndex};
 use pdb_addr2line::{Error, ModuleProvider, TypeFormatter};
 use std::alloc::Global;
 
-/// Asks a formatter that was made all questions, in their order, and once more; whether it was. Nothing is asked where no memory
-/// was found for it.
+/// Asks a formatter all questions, in their order, and once more. Returns whether it was made. If
+/// memory ran out when it was to be made, nothing is asked.
+///
+/// # Errors
+/// Why the formatter wasn't made, a failed write; out of memory.
 pub fn ask_made<P: ModuleProvider>(
     rt: &(impl Print + Eprint + AllocGlobal),
     made: Result<TypeFormatter<'_, '_, P>, Error>,
@@ -40,7 +44,7 @@ fn ask_all<P: ModuleProvider>(
     Ok(())
 }
 
-/// Asks a formatter what a line says, and again where it finds no memory.
+/// Asks a formatter the question of a line, and again if memory runs out.
 fn ask_line<P: ModuleProvider>(
     rt: &(impl Print + Eprint + AllocGlobal),
     formatter: &mut TypeFormatter<'_, '_, P>,
@@ -57,7 +61,7 @@ fn ask_line<P: ModuleProvider>(
     Ok(print_answer(rt, line, answer)?)
 }
 
-/// The answer of a formatter.
+/// Answers a question by a formatter.
 fn ask<P: ModuleProvider>(
     alloc: Global,
     formatter: &mut TypeFormatter<'_, '_, P>,
@@ -76,7 +80,7 @@ fn ask<P: ModuleProvider>(
     }
 }
 
-/// What a formatter emits of a function or an id.
+/// Returns what a formatter writes of a function or an id.
 fn emitted<P: ModuleProvider>(
     alloc: Global,
     formatter: &mut TypeFormatter<'_, '_, P>,

@@ -1,4 +1,5 @@
-//! What is asked, made of a database; it is made again where no memory is found.
+//! Makes contexts and formatters of a database, and asks them. If memory runs out, it makes them
+//! again.
 
 use crate::question::{begin, end, is_refusal};
 use crate::{contexts, formatters};
@@ -8,13 +9,13 @@ use pdb_addr2line::{ContextPdbData, Error, TypeFormatterFlags};
 use pdb_report::{LoadFault, Symbolizer};
 use std::alloc::Global;
 
-/// How often what is asked is made, where no memory is found.
+/// How often a context or a formatter is made, if memory runs out.
 const ATTEMPTS: u32 = 2;
 
 /// An open database over a file's bytes.
 type Database = PDB<'static, Vec<u8>>;
 
-/// What was read of a database.
+/// The data that were read of a database.
 type Data = ContextPdbData<'static, 'static, Vec<u8>>;
 
 /// Opens the database of a file's bytes.
@@ -23,7 +24,7 @@ fn open_database(alloc: Global, bytes: &[u8]) -> Result<Database, Error> {
     Ok(PDB::open(alloc, bytes)?)
 }
 
-/// The open database of a file's bytes; they are opened again where no memory is found.
+/// Opens the database of a file's bytes, and once more if memory runs out.
 fn database_of(rt: &(impl Print + Eprint + AllocGlobal), bytes: &[u8]) -> Result<Database> {
     begin(rt)?;
     let mut database = open_database(rt.alloc(), bytes);
@@ -35,13 +36,14 @@ fn database_of(rt: &(impl Print + Eprint + AllocGlobal), bytes: &[u8]) -> Result
     Ok(database?)
 }
 
-/// Opens a file's bytes, and reads what they have.
+/// Opens the database of a file's bytes, and reads its data.
 fn read_data(alloc: Global, bytes: &[u8]) -> Result<Data, Error> {
     let database = open_database(alloc, bytes)?;
     ContextPdbData::try_from_pdb(alloc, database)
 }
 
-/// What a file's bytes have; they are opened and read again where no memory is found.
+/// Opens the database of a file's bytes and reads its data, and does both once more if memory runs
+/// out.
 fn data_of(rt: &(impl Print + Eprint + AllocGlobal), bytes: &[u8]) -> Result<Data> {
     begin(rt)?;
     let mut data = read_data(rt.alloc(), bytes);
@@ -53,7 +55,7 @@ fn data_of(rt: &(impl Print + Eprint + AllocGlobal), bytes: &[u8]) -> Result<Dat
     Ok(data?)
 }
 
-/// What an open database has; the same one is read again where no memory is found.
+/// Reads the data of an open database, and once more of the same one if memory runs out.
 fn data_in(rt: &(impl Print + Eprint + AllocGlobal), database: &mut Database) -> Result<Data> {
     begin(rt)?;
     let mut data: Result<Data, Error> = ContextPdbData::try_from_pdb_ref(rt.alloc(), database);
@@ -66,6 +68,10 @@ fn data_in(rt: &(impl Print + Eprint + AllocGlobal), database: &mut Database) ->
 }
 
 /// Asks a context over a file's bytes.
+///
+/// # Errors
+/// What can't be read of the database, an address map that isn't ordered, a failed write; out of
+/// memory.
 pub fn ask_context(
     rt: &(impl Print + Eprint + AllocGlobal),
     bytes: &[u8],
@@ -77,7 +83,7 @@ pub fn ask_context(
     ask_context_over(rt, &data, flags, questions)
 }
 
-/// Asks a context over what was read; it is made again where no memory is found.
+/// Asks a context over what was read. It is made once more if memory runs out.
 fn ask_context_over(
     rt: &(impl Print + Eprint + AllocGlobal),
     data: &Data,
@@ -98,6 +104,9 @@ fn ask_context_over(
 }
 
 /// Asks a formatter over a file's bytes.
+///
+/// # Errors
+/// What can't be read of the database, a failed write; out of memory.
 pub fn ask_formatter(
     rt: &(impl Print + Eprint + AllocGlobal),
     bytes: &[u8],
@@ -108,7 +117,7 @@ pub fn ask_formatter(
     ask_formatter_over(rt, &data, flags, questions)
 }
 
-/// Asks a formatter over what was read; it is made again where no memory is found.
+/// Asks a formatter over what was read. It is made once more if memory runs out.
 fn ask_formatter_over(
     rt: &(impl Print + Eprint + AllocGlobal),
     data: &Data,
@@ -134,6 +143,9 @@ fn open_symbolizer(alloc: Global, bytes: &[u8]) -> Result<Symbolizer, LoadFault>
 }
 
 /// Asks the context of a symbolizer over a file's bytes.
+///
+/// # Errors
+/// Why the file isn't loaded, a failed write; out of memory.
 pub fn ask_symbolizer(
     rt: &(impl Print + Eprint + AllocGlobal),
     bytes: &[u8],
@@ -152,7 +164,7 @@ pub fn ask_symbolizer(
     }
 }
 
-/// Asks the context of a symbolizer; it is made again where no memory is found.
+/// Asks the context of a symbolizer. It is made once more if memory runs out.
 fn ask_symbolizer_over(
     rt: &(impl Print + Eprint + AllocGlobal),
     symbolizer: &Symbolizer,
@@ -167,7 +179,8 @@ fn ask_symbolizer_over(
     Ok(())
 }
 
-/// Asks the context of a symbolizer, if it can be made; whether it could. Want of memory alone keeps it from that.
+/// Asks the context of a symbolizer, and returns whether it was made. It always is, unless memory
+/// runs out.
 fn ask_context_of(
     rt: &(impl Print + Eprint + AllocGlobal),
     symbolizer: &Symbolizer,

@@ -1,13 +1,15 @@
-//! Asks a context or a formatter of types all that a file lists, twice, and each question again where it finds no memory:
-//! `ask_again KIND DATABASE FLAGS FILE`.
+//! Asks a context or a formatter of types twice all questions of a file, and each question again if
+//! it runs out of memory: `ask_again KIND DATABASE FLAGS FILE`.
 //!
-//! KIND is `context`; `symbolizer`, for the context of a `Symbolizer`, whose flags are the usual ones; or `formatter`. A line of
-//! FILE is a question, as `contexts.rt` and `formatters.rt` say: a word, the number of a module, counted from 0, and an index,
-//! an RVA or an offset in hexadecimal. It is printed with its answer, or with `fault: ` and the fault.
+//! KIND is `context`, `formatter`, or `symbolizer` for the context of a `Symbolizer`, whose flags
+//! are the default ones. A line of FILE is a question, in the form that `contexts.rt` and
+//! `formatters.rt` describe: a word, the index of a module, and an index, an RVA or an offset, in
+//! hexadecimal. It is printed with its answer, or with `fault: ` and the fault.
 //!
-//! Where a call finds no memory, `out of memory` is printed, and it is made once more, on the same object. A library refuses the
-//! requests in turn (`tests/refused_requests`): which ones are a call's is shown by `+` and `-` on standard error, before the
-//! call and after it.
+//! When a call runs out of memory, `out of memory` is printed, and the call is made once more, on
+//! the same object. A library refuses the requests in turn (`tests/refused_requests`). Standard
+//! error has `+` before each call and `-` after it, which shows that library which requests are the
+//! call's.
 #![tactic(auto)]
 
 mod contexts;
@@ -26,7 +28,7 @@ fn main(rt: HostRuntime) -> Result<()> {
     run(&rt, &words)
 }
 
-/// The words after the program's name.
+/// Returns the program's arguments.
 fn words_of(rt: &(impl Env + AllocGlobal)) -> Result<Vec<String>> {
     let mut words = Vec::new(rt.alloc());
     for word in env::args(rt)?.skip(1) {
@@ -35,7 +37,7 @@ fn words_of(rt: &(impl Env + AllocGlobal)) -> Result<Vec<String>> {
     Ok(words)
 }
 
-/// The word of a number.
+/// Returns the argument with that index.
 fn word(words: &[String], number: usize) -> Result<&str> {
     let word = words
         .get(number)
@@ -43,7 +45,7 @@ fn word(words: &[String], number: usize) -> Result<&str> {
     Ok(word.as_str())
 }
 
-/// Asks what the words say.
+/// Asks as the arguments say.
 fn run(rt: &(impl Files + Print + Eprint + AllocGlobal), words: &[String]) -> Result<()> {
     let bytes = fs::read(rt, word(words, 1)?)?;
     let flags = TypeFormatterFlags::from_bits_retain(word(words, 2)?.parse::<u32>()?);

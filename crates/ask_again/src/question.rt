@@ -1,22 +1,22 @@
-//! What is asked, and what is told of that.
+//! The questions of a file, and what is printed of them.
 
 use pdb_addr2line::Error;
 use std::alloc::{AllocError, Global};
 use std::fmt::Debug;
 use std::io;
 
-/// What is asked.
+/// A question.
 #[derive(Clone, Copy)]
 pub struct Question<'q> {
-    /// What it is about.
+    /// The word for what is asked.
     pub word: &'q str,
-    /// The number of a module, counted from 0.
+    /// The index of a module.
     pub module: usize,
     /// An index, an RVA or an offset.
     pub index: u32,
 }
 
-/// The question of a line. A number that is missing is 0.
+/// Returns the question of a line. A missing number is 0.
 pub fn question_of(line: &str) -> Question<'_> {
     let mut words = line.split(' ');
     Question {
@@ -26,17 +26,26 @@ pub fn question_of(line: &str) -> Question<'_> {
     }
 }
 
-/// A value as a text.
+/// Returns a value as a text.
+///
+/// # Errors
+/// Out of memory.
 pub fn shown<T: Debug>(alloc: Global, value: &T) -> Result<String, Error> {
     Ok(format!(in alloc; "{value:?}")?)
 }
 
-/// Says that a call begins.
+/// Reports that a call begins.
+///
+/// # Errors
+/// A failed write.
 pub fn begin(rt: &impl Eprint) -> io::Result<()> {
     eprint!(rt; "+")
 }
 
-/// Says that a call ended, and whether it found no memory.
+/// Reports that a call ended, and whether memory ran out.
+///
+/// # Errors
+/// A failed write.
 pub fn end(rt: &(impl Print + Eprint), is_refused: bool) -> io::Result<()> {
     eprint!(rt; "-")?;
     if is_refused {
@@ -45,12 +54,15 @@ pub fn end(rt: &(impl Print + Eprint), is_refused: bool) -> io::Result<()> {
     Ok(())
 }
 
-/// Whether an error is that no memory was found; a writer that grows refuses a text for want of it.
+/// Returns whether an error is out of memory. A writer that grows reports that as `FormatError`.
 pub fn is_refusal(error: &Error) -> bool {
     matches!(error, Error::OutOfMemory | Error::FormatError(_))
 }
 
 /// Prints a line with its answer.
+///
+/// # Errors
+/// A failed write; out of memory.
 pub fn print_answer(
     rt: &(impl Print + AllocGlobal),
     line: &str,
@@ -60,7 +72,7 @@ pub fn print_answer(
     println!(rt; "{line} => {answer}")
 }
 
-/// An answer, or `fault: ` and the fault.
+/// Returns the text of an answer, or its fault after `fault: `.
 fn told(alloc: Global, answer: Result<String, Error>) -> Result<String, AllocError> {
     match answer {
         Ok(text) => Ok(text),

@@ -1,34 +1,40 @@
-//! A container in memory: streams of as many pages each, and the pages that tell where they lie.
+//! A container in memory: streams with the same number of pages, and the pages that say where they
+//! lie.
 
 ghost use Rattle.std.specs.Prelude.{◌≡◌, ◌+◌, ◌*◌, ◌-◌, ◌^◌, ◌<◌, ◌≤◌};
 
 use std::alloc::{AllocError, Global};
 
-/// How many streams a container has at most.
+/// The greatest number of streams of a container.
 pub const MOST_STREAMS: u32 = 10_000;
 
-/// How many pages a stream has at most.
+/// The greatest number of pages of a stream.
 pub const MOST_PAGES: u32 = 1024;
 
-/// How many pages all streams have at most, which is a gigabyte.
+/// The greatest number of pages of all streams, which take a gigabyte.
 pub const MOST_IN_ALL: u32 = 0x4_0000;
 
-/// How a container begins.
+/// The first bytes of a container.
 const MAGIC: [u8; 32] = *b"Microsoft C/C++ MSF 7.00\r\n\x1aDS\0\0\0";
 
 /// The size of a page, in bytes.
 const PAGE_SIZE: usize = 4096;
 
-/// How many pages lie in one direction, by turns from the first to the last and from the last to the first.
+/// The number of pages that lie in one direction. Runs of them go by turns from the first to the
+/// last page and from the last to the first.
 const RUN_PAGES: u32 = 128;
 
-/// The page that lists those of the directory. Before it lie the header and two pages that a reader passes over.
+/// The page that lists those of the directory. Before it lie the header and two pages that a reader
+/// skips.
 const LIST_PAGE: u32 = 3;
 
-/// The first page of the directory, behind which come the streams.
+/// The first page of the directory. The streams come after it.
 const DIRECTORY_PAGE: u32 = 4;
 
-/// The bytes of a container with so many streams, each of so many pages.
+/// Makes the bytes of a container with that many streams, each with that many pages.
+///
+/// # Errors
+/// `AllocError` when memory runs out.
 pub fn container_of(alloc: Global, streams: u32, stream_pages: u32) -> Result<Vec<u8>, AllocError>
     requires streams { streams ≤ 10000 }
     requires stream_pages { stream_pages ≤ 2 ^ 10 }
@@ -48,14 +54,15 @@ pub fn container_of(alloc: Global, streams: u32, stream_pages: u32) -> Result<Ve
     Ok(file)
 }
 
-/// Where so many pages end, in bytes.
+/// Returns where that many pages end, in bytes.
 fn end_of(pages: u32) -> usize
     ensures { result ≡ 4096 * pages }
 {
     PAGE_SIZE * pages as usize
 }
 
-/// The size of the directory: the count of the streams, their sizes and the numbers of their pages.
+/// Returns the size of the directory: the count of the streams, their sizes, and the numbers of
+/// their pages.
 fn directory_size(streams: u32, pages: u32) -> u32
     requires streams { streams ≤ 10000 }
     requires pages { pages ≤ 2 ^ 18 }
@@ -64,6 +71,7 @@ fn directory_size(streams: u32, pages: u32) -> u32
     4 * (1 + streams + pages)
 }
 
+/// Returns the number of the directory's pages.
 fn directory_pages(streams: u32, pages: u32) -> u32
     requires streams { streams ≤ 10000 }
     requires pages { pages ≤ 2 ^ 18 }
@@ -72,6 +80,7 @@ fn directory_pages(streams: u32, pages: u32) -> u32
     directory_size(streams, pages).div_ceil(PAGE_SIZE as u32)
 }
 
+/// Returns the number of the streams' first page.
 fn first_stream_page(streams: u32, pages: u32) -> u32
     requires streams { streams ≤ 10000 }
     requires pages { pages ≤ 2 ^ 18 }
@@ -80,12 +89,13 @@ fn first_stream_page(streams: u32, pages: u32) -> u32
     DIRECTORY_PAGE + directory_pages(streams, pages)
 }
 
+/// Appends a number.
 fn push_number(file: &mut Vec<u8>, number: u32) -> Result<(), AllocError> {
     file.extend_from_slice(&number.to_le_bytes())
 }
 
-/// The magic, the size of a page, the free page map, the pages used, the directory's size, a reserved number, and
-/// the page of the list.
+/// Appends the magic, the size of a page, the free page map, the number of pages, the directory's
+/// size, a reserved number, and the page of the list.
 fn push_header(file: &mut Vec<u8>, streams: u32, pages: u32) -> Result<(), AllocError>
     requires streams { streams ≤ 10000 }
     requires pages { pages ≤ 2 ^ 18 }
@@ -99,6 +109,7 @@ fn push_header(file: &mut Vec<u8>, streams: u32, pages: u32) -> Result<(), Alloc
     push_number(file, LIST_PAGE)
 }
 
+/// Appends the list of the directory's pages.
 fn push_list(file: &mut Vec<u8>, count: u32) -> Result<(), AllocError>
     requires { count ≤ 266 }
 {
@@ -108,7 +119,7 @@ fn push_list(file: &mut Vec<u8>, count: u32) -> Result<(), AllocError>
     Ok(())
 }
 
-/// How many streams there are, and the size of each.
+/// Appends the number of streams, and the size of each.
 fn push_sizes(file: &mut Vec<u8>, streams: u32, stream_pages: u32) -> Result<(), AllocError>
     requires { stream_pages ≤ 2 ^ 10 }
 {
@@ -119,6 +130,7 @@ fn push_sizes(file: &mut Vec<u8>, streams: u32, stream_pages: u32) -> Result<(),
     Ok(())
 }
 
+/// Appends the numbers of the streams' pages.
 fn push_page_numbers(file: &mut Vec<u8>, first: u32, count: u32) -> Result<(), AllocError>
     requires { first + count + 128 < 2 ^ 32 }
 {
@@ -128,7 +140,8 @@ fn push_page_numbers(file: &mut Vec<u8>, first: u32, count: u32) -> Result<(), A
     Ok(())
 }
 
-/// Which of so many streams' pages is read at a place among them, from 0. Those behind the last whole run lie in order.
+/// Returns which of the streams' pages is read at an index among them. Those after the last whole
+/// run lie in order.
 fn page_at(place: u32, count: u32) -> u32
     requires { place + 128 < 2 ^ 32 }
     ensures { result < place + 128 }
@@ -141,6 +154,7 @@ fn page_at(place: u32, count: u32) -> u32
     }
 }
 
+/// Appends the streams' pages.
 fn push_content(file: &mut Vec<u8>, pages: u32) -> Result<(), AllocError> {
     for page in 0..pages {
         push_page(file, page)?;
@@ -148,7 +162,7 @@ fn push_content(file: &mut Vec<u8>, pages: u32) -> Result<(), AllocError> {
     Ok(())
 }
 
-/// A page of bytes that differ from those of any other page.
+/// Appends a page of bytes that differ from those of any other page.
 fn push_page(file: &mut Vec<u8>, seed: u32) -> Result<(), AllocError> {
     let mut number = seed;
     for _ in 0..PAGE_SIZE / 4 {

@@ -1,10 +1,11 @@
 //! Times how the streams of a container in memory are read, beside one copy of its bytes:
 //! `container_benchmark [STREAMS [PAGES]]`.
 //!
-//! It makes a container with as many streams of as many pages each, 64 of 256 where no numbers are given; a page has
-//! 4096 bytes. A copy of the container's
-//! bytes is timed, and then the opening of that copy and the reading of all its streams, which are kept until the time
-//! is taken. Both are done once untimed before. The output says what was read, and the error output how long it took.
+//! It makes a container with that many streams, each with that many pages of 4096 bytes. Without
+//! numbers it has 64 streams of 256 pages. It times a copy of the container's bytes. Then it times
+//! how long it takes to open that copy and to read all its streams, which are held until the time
+//! is taken. Both are done once untimed before. The output says what was read, and the error output
+//! how long it took.
 #![tactic(auto)]
 
 ghost use Rattle.std.specs.Prelude.{◌≡◌, ◌*◌, ◌≤◌, ◌^◌, IfOk};
@@ -30,7 +31,8 @@ fn main(rt: HostRuntime) -> Result<()> {
     Ok(())
 }
 
-/// How many streams to read, and how many pages each has: the program's words, or 64 and 256.
+/// Returns how many streams to read, and how many pages each has: the program's arguments, or 64
+/// and 256.
 fn shape_asked(rt: &(impl Env + AllocGlobal)) -> Result<(u32, u32)>
     ensures streams { IfOk result (λ shape. shape.0 ≤ 10000) }
     ensures pages { IfOk result (λ shape. shape.1 ≤ 2 ^ 10) }
@@ -45,7 +47,8 @@ fn shape_asked(rt: &(impl Env + AllocGlobal)) -> Result<(u32, u32)>
     Ok((streams, pages))
 }
 
-/// The number that a word of the program is, from 1 to a greatest, or the usual one where there is no such word.
+/// Returns the number of the argument with that index, from 1 to a greatest one. Without that
+/// argument it is the usual number.
 fn number_asked(rt: &(impl Env + AllocGlobal), place: usize, usual: u32, most: u32) -> Result<u32>
     requires { usual ≤ most }
     ensures { IfOk result (λ number. number ≤ most) }
@@ -66,7 +69,7 @@ struct Reading<'s> {
     read: Duration,
 }
 
-/// Copies a container, and reads so many streams of the copy.
+/// Copies a container, and reads the first `count` streams of the copy.
 fn read_copy<'s>(rt: &(impl Clock + AllocGlobal), file: &[u8], count: u32) -> Result<Reading<'s>>
     ensures { IfOk result (λ r. AreFirst file.now count r.streams.items) }
 {
@@ -84,7 +87,7 @@ fn read_copy<'s>(rt: &(impl Clock + AllocGlobal), file: &[u8], count: u32) -> Re
     })
 }
 
-/// The first so many streams.
+/// Reads the first `count` streams.
 #[tactic(auto, using(crate::proofs::First::first_none, crate::proofs::First::first_more))]
 fn all_streams<'s>(
     alloc: Global,
@@ -100,7 +103,7 @@ fn all_streams<'s>(
     Ok(streams)
 }
 
-/// Prints how many streams there are, how many bytes they have, and a number that stands for all of the bytes.
+/// Prints how many streams there are, how many bytes they have, and a checksum of all bytes.
 fn print_streams(rt: &impl Print, streams: &[Stream]) -> io::Result<()> {
     let mut size = 0u64;
     let mut sum = 0u64;
@@ -112,7 +115,8 @@ fn print_streams(rt: &impl Print, streams: &[Stream]) -> io::Result<()> {
     println!(rt; "bytes: {size}, checksum: {sum:016x}")
 }
 
-/// The checksum that goes on from one over more bytes: 31 times it and a byte, for each byte, modulo 2^64.
+/// Returns the checksum of one over more bytes: for each byte, the sum of 31 times the checksum and
+/// the byte, modulo 2^64.
 fn checksum_on(sum: u64, bytes: &[u8]) -> u64 {
     let mut sum = sum;
     for byte in bytes {

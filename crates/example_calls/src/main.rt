@@ -1,10 +1,11 @@
 //! Asks a program database by the library's calls: `example_calls FILE ADDRESS..`.
 //!
-//! It prints for each ADDRESS, which is hexadecimal and image-relative, the function there and its frames; then all functions; then
-//! what formatters say of two types of the file; the functions again, without their arguments; and last how many addresses each has.
+//! For each ADDRESS, which is hexadecimal and image-relative, it prints the function there and its
+//! frames. Then it prints all functions, what formatters say of two types of the file, and the
+//! functions again, without their arguments. At last it prints how many addresses each has.
 //!
-//! Its stored run asks `x64.pdb`, which examples/make.sh made. There type 0x1007 is the member function `TextReader::read`, and
-//! 0x1016 the class `Entry`.
+//! Its stored run asks `x64.pdb`, which examples/make.sh made. There type 0x1007 is the member
+//! function `TextReader::read`, and 0x1016 the class `Entry`.
 #![tactic(auto)]
 
 use anyhow::{Context as _, Result, bail};
@@ -32,7 +33,7 @@ fn main(rt: HostRuntime) -> Result<()> {
     write_sizes(rt.alloc(), bytes, &mut Watched::new(rt.stdout()))
 }
 
-/// The bytes of a file, loaded for questions about addresses.
+/// Loads a file for questions about addresses.
 fn load(rt: &(impl Files + AllocGlobal), file: &str) -> Result<Symbolizer> {
     let bytes = fs::read(rt, file)?;
     match Symbolizer::open(rt.alloc(), bytes) {
@@ -41,7 +42,7 @@ fn load(rt: &(impl Files + AllocGlobal), file: &str) -> Result<Symbolizer> {
     }
 }
 
-/// Prints what is at each address of the program's words, and all functions.
+/// Prints what is at each address of the program's arguments, and all functions.
 fn tell_addresses(rt: &(impl Env + Files + Print + AllocGlobal), file: &str) -> Result<()> {
     let symbolizer = load(rt, file)?;
     match symbolizer.context(rt.alloc()) {
@@ -53,7 +54,7 @@ fn tell_addresses(rt: &(impl Env + Files + Print + AllocGlobal), file: &str) -> 
     }
 }
 
-/// Prints the function and the frames at each address of the program's words.
+/// Prints the function and the frames at each address of the program's arguments.
 fn tell_words<P: ModuleProvider>(
     rt: &(impl Env + Print + AllocGlobal),
     context: &mut Context<'_, '_, P>,

@@ -1,14 +1,17 @@
 //! Lists the lines of a program database, module by module: `list_lines FILE`.
 //!
-//! It prints the name of each module; behind it each procedure by its place (section and offset), the length of its code and its
-//! name; and behind that each row of its lines: where the row's code begins in the section, how many bytes it has, or `-`
-//! where that isn't known, and the file and line that it was made of. Places are hexadecimal, lengths decimal.
+//! It prints the name of each module, and after it each of its procedures: its place (section and
+//! offset), the length of its code, and its name. After a procedure it prints each row of its
+//! lines: where the row's code begins in the section, its length in bytes, and the file and line
+//! from which it was made. A length that isn't known is `-`. Places are hexadecimal, and lengths
+//! decimal.
 //!
-//! Its stored run lists a file of two modules. In `main.obj` lie the procedures `main`, of 0x20 bytes at 0x10 of section 1, and
-//! `helper`, of 0x10 bytes at 0x30, and the lines of each are a subsection of its own. Those of `main` have rows at 0 and 8 of it
-//! for lines 5 and 7 of `main.c`, and at 0x18 for line 3 of `inline.h`, which ends where the subsection does. Those of `helper`
-//! have rows at 0 and 0x14 of it for lines 12 and 13 of `inline.h`: the second lies past the end of the subsection, and so has
-//! no length. `import.dll` has no stream of its own.
+//! Its stored run lists a file of two modules. `main.obj` has the procedures `main`, of 0x20 bytes
+//! at 0x10 of section 1, and `helper`, of 0x10 bytes at 0x30. The lines of each are a subsection of
+//! its own. `main` has rows at 0 and 8 for lines 5 and 7 of `main.c`, and at 0x18 for line 3 of
+//! `inline.h`, which ends where the subsection does. `helper` has rows at 0 and 0x14 for lines 12
+//! and 13 of `inline.h`. The second lies past the end of the subsection, so it has no length.
+//! `import.dll` has no stream of its own.
 #![tactic(auto)]
 
 use anyhow::{Context, Result};
@@ -57,7 +60,7 @@ fn list_modules(
     Ok(())
 }
 
-/// Lists a module; one without a stream of its own by its name alone.
+/// Lists a module. One without a stream of its own is listed by its name alone.
 fn list_module(
     rt: &(impl Print + AllocGlobal),
     database: &mut Database,
@@ -109,7 +112,7 @@ fn list_procedure(
     Ok(())
 }
 
-/// Lists a row, of a file of this name.
+/// Lists a row of a file with that name.
 fn list_row(rt: &impl Print, row: LineInfo, file: RawString<'_>) -> io::Result<()> {
     let place = row.offset.offset;
     let line = row.line_start;

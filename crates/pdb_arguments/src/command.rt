@@ -13,7 +13,8 @@ use std::alloc::{AllocError, Global};
 const VERSION: &str = "0.1.0";
 
 const PROGRAM_ABOUT: &str =
-    "Reports functions, source files and lines at addresses of a Windows program, by its database (PDB).";
+    "Reports functions, source files and lines at addresses of a Windows program, by its database \
+    (PDB).";
 
 const PROGRAM_EXAMPLES: &str = "\
 Examples:

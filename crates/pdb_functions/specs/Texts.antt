@@ -6,12 +6,12 @@ use Rattle.pdb_functions.specs.FileAnswers.{FileAnswer, Nothing, Unreadable, NoF
 use Rattle.pdb_functions.specs.FunctionOrder.{Function}
 use Rattle.pdb_functions.specs.Table.{count_in}
 
--- a name that may be missing
+-- a text that may be missing, and two question marks for it then
 abbrev pub text_or : Option (List ℕ) → List ℕ
 text_or None = codes "??"
 text_or (Some text) = text
 
--- an address's eight lower-case hexadecimal digits, as `{:08x}` prints them
+-- an address's eight lower-case hexadecimal digits, as `{:08x}` prints them: filled up with zeros
 abbrev pub eight_digits : ℕ → List ℕ
 eight_digits a = padded_integral (format_spec 32 0 4 8 (2 ^ 64 - 1)) false [] (digits 16 false a)
 

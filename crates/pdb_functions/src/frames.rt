@@ -8,17 +8,17 @@ use std::alloc::{AllocError, Global};
 use std::borrow::CowStr;
 use std::marker::Model;
 
-/// The line row that a frame's line comes from: where its code begins, and how many bytes it has.
+/// The line row from which a frame's line comes: where its code begins, and its length.
 ///
-/// A function without line data of its own takes a row of an earlier function: then `start_rva`
+/// A function without line data of its own takes a row of an earlier function. Then `start_rva`
 /// mostly lies before the function's.
 #[derive(Clone, Copy, Debug, PartialEq, Eq)]
 pub struct FrameRow {
     /// The RVA at which its code begins.
     pub start_rva: u32,
-    /// How many bytes of code it has. A function's row goes on to the next entry of its line data
-    /// in the order of the file, the last one to the end of what they cover; `None` where that lies
-    /// before the row. An inlined call's is always known.
+    /// The length of its code in bytes. A function's row goes on to the next entry of its line data
+    /// in the order of the file, and the last row to the end of what they cover. The length is
+    /// `None` where that lies before the row. An inlined call's is always known.
     pub length: Option<u32>,
 }
 
@@ -31,7 +31,7 @@ pub struct Frame<'a> {
     pub file: Option<CowStr<'a>>,
     /// The line, counted from 1, if it is known.
     pub line: Option<u32>,
-    /// The row that the line comes from, if its start has an RVA.
+    /// The row from which the line comes, if its start has an RVA.
     pub row: Option<FrameRow>,
 }
 
@@ -73,7 +73,7 @@ impl<'a> Model for FunctionFrames<'a> {
     } };
 }
 
-/// A copy of a file's name that may be missing; a borrowed one stays borrowed.
+/// Copies a file's name that may be missing. A borrowed name stays borrowed.
 pub(crate) fn clone_file<'a>(
     alloc: Global,
     file: &Option<CowStr<'a>>,
@@ -91,7 +91,10 @@ pub(crate) fn clone_file<'a>(
 }
 
 impl<'a> Frame<'a> {
-    /// A copy, equal in all fields. It is refused only when memory runs out.
+    /// Makes a copy that is equal in all fields.
+    ///
+    /// # Errors
+    /// `AllocError` when memory runs out.
     pub fn try_clone(&self, alloc: Global) -> Result<Frame<'a>, AllocError>
         ensures { IfOk result (λ f. f ≡ self.now) }
     {
@@ -107,7 +110,10 @@ impl<'a> Frame<'a> {
 }
 
 impl<'a> FunctionFrames<'a> {
-    /// A copy, equal in all fields. It is refused only when memory runs out.
+    /// Makes a copy that is equal in all fields.
+    ///
+    /// # Errors
+    /// `AllocError` when memory runs out.
     pub fn try_clone(&self, alloc: Global) -> Result<FunctionFrames<'a>, AllocError>
         ensures { IfOk result (λ f. f ≡ self.now) }
     {
@@ -120,7 +126,7 @@ impl<'a> FunctionFrames<'a> {
     }
 }
 
-/// A copy of frames.
+/// Copies frames.
 fn clone_frames<'a>(alloc: Global, frames: &[Frame<'a>]) -> Result<Vec<Frame<'a>>, AllocError>
     ensures { IfOk result (λ v. v.items ≡ frames.now) }
 {

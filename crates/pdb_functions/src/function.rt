@@ -37,7 +37,10 @@ impl Model for Function {
 }
 
 impl Function {
-    /// A copy, equal in all fields. It is refused only when memory runs out.
+    /// Makes a copy that is equal in all fields.
+    ///
+    /// # Errors
+    /// `AllocError` when memory runs out.
     pub fn try_clone(&self, alloc: Global) -> Result<Function, AllocError>
         ensures { IfOk result (λ f. f ≡ self.now) }
     {
@@ -50,7 +53,7 @@ impl Function {
     }
 }
 
-/// A copy of a name that may be missing.
+/// Copies a name that may be missing.
 pub(crate) fn clone_name(alloc: Global, name: &Option<String>) -> Result<Option<String>, AllocError>
     ensures { IfOk result (λ n. option_map string_bytes n ≡ option_map string_bytes name.now) }
 {

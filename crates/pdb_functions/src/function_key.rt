@@ -14,8 +14,7 @@ use std::cmp::Ordering;
 /// What tells functions apart, without their names: what is found by one key is one function.
 #[derive(Clone, Copy, Debug)]
 pub enum FunctionKey {
-    /// A procedure, by its module's index and its number among that module's procedures, counted
-    /// from 0.
+    /// A procedure, by its module's index and its own index among that module's procedures.
     Procedure(u16, usize),
     /// An entry of the public list, by its place, and the index of the module that holds the place
     /// at which it was found.

@@ -34,9 +34,9 @@ pub fn tables_are_determined()
         → ((f : FunctionValue) → count_in function_cmp t f ≡ count_in function_cmp u f) → t ≡ u }
 {}
 
-/// The counts of a report, with the count of nothing, add up to the number of the range's addresses.
-/// What the reports on two ranges, one after the other, have for a function adds up to what the
-/// report on both has.
+/// The counts of a report, with the count of nothing, add up to the number of the range's
+/// addresses. What the reports on two ranges, one after the other, have for a function adds up to
+/// what the report on both has.
 pub fn reports_add_up()
     ensures sum { (m : Map) (db : Database FunctionValue) (s e : ℕ) (text : List ℕ) → s ≤ e
         → (r : IsReport m db s e text) → sum_of r.table + count_of_none m db s e ≡ e - s }
@@ -48,9 +48,9 @@ pub fn reports_add_up()
 {}
 
 /// The counts of a report by file, with the count of nothing, add up to the number of the range's
-/// addresses. Where each function has a file, no known file, or frames that can't be read, they add
-/// up to the counts of all functions and the number of addresses that have one of these, and no
-/// function.
+/// addresses. Each function has to have a file, no known file, or frames that can't be read. Then
+/// they add up to the counts of all functions, and the number of addresses that have one of these
+/// and no function.
 pub fn file_reports_add_up()
     ensures sum { (m : Map) (db : Database FileValue) (s e : ℕ) (text : List ℕ) → s ≤ e
         → (r : IsFileReport m db s e text) → sum_of r.table + count_of_none m db s e ≡ e - s }

@@ -1,7 +1,6 @@
-//! Which function owns an address: a function as it is answered, where it begins and ends, and its
-//! name; the order of functions; the frames at an address in one; and how many addresses of a range
-//! each function owns, counted by runs with at most one lookup for each piece, and the text of such
-//! a report.
+//! Which function owns an address: a function as it is answered, and the order of functions; the
+//! frames at an address in a function; and how many addresses of a range each function owns. These
+//! are counted by runs, with at most one lookup for each piece. It also writes the reports on them.
 #![tactic(auto)]
 
 mod answer;

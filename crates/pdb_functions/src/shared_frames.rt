@@ -9,7 +9,7 @@ use std::borrow::CowStr;
 use std::marker::Model;
 use std::sync::ArcStr;
 
-/// A frame whose name is shared with what stores it: a copy of that takes no memory.
+/// A frame whose name is shared with what stores it. A copy of that name takes no memory.
 #[derive(Debug, Drop)]
 pub struct SharedFrame<'a> {
     /// The function's name, if it has one.
@@ -18,7 +18,7 @@ pub struct SharedFrame<'a> {
     pub file: Option<CowStr<'a>>,
     /// The line, counted from 1, if it is known.
     pub line: Option<u32>,
-    /// The row that the line comes from, if its start has an RVA.
+    /// The row from which the line comes, if its start has an RVA.
     pub row: Option<FrameRow>,
 }
 
@@ -61,7 +61,10 @@ impl<'a> Model for SharedFunctionFrames<'a> {
     } };
 }
 
-/// A name of its own for a shared one that may be missing.
+/// Copies a shared name that may be missing to a name of its own.
+///
+/// # Errors
+/// `AllocError` when memory runs out.
 pub fn owned_name(alloc: Global, name: &Option<ArcStr>) -> Result<Option<String>, AllocError>
     ensures { IfOk result (λ n. option_map string_bytes n ≡ option_map arc_str_bytes name.now) }
 {
@@ -75,8 +78,10 @@ pub fn owned_name(alloc: Global, name: &Option<ArcStr>) -> Result<Option<String>
 }
 
 impl<'a> SharedFrame<'a> {
-    /// A frame with a name of its own, equal in all fields. It is refused only when memory runs
-    /// out.
+    /// Makes a frame with a name of its own that is equal in all fields.
+    ///
+    /// # Errors
+    /// `AllocError` when memory runs out.
     pub fn to_frame(&self, alloc: Global) -> Result<Frame<'a>, AllocError>
         ensures { IfOk result (λ f. f ≡ self.now) }
     {
@@ -92,8 +97,10 @@ impl<'a> SharedFrame<'a> {
 }
 
 impl<'a> SharedFunctionFrames<'a> {
-    /// Frames with names of their own, equal in all fields. They are refused only when memory
-    /// runs out.
+    /// Makes frames with names of their own that are equal in all fields.
+    ///
+    /// # Errors
+    /// `AllocError` when memory runs out.
     pub fn to_frames(&self, alloc: Global) -> Result<FunctionFrames<'a>, AllocError>
         ensures { IfOk result (λ f. f ≡ self.now) }
     {
@@ -106,7 +113,7 @@ impl<'a> SharedFunctionFrames<'a> {
     }
 }
 
-/// Frames with names of their own.
+/// Makes frames with names of their own.
 fn owned_frames<'a>(alloc: Global, frames: &[SharedFrame<'a>]) -> Result<Vec<Frame<'a>>, AllocError>
     ensures { IfOk result (λ v. v.items ≡ frames.now) }
 {

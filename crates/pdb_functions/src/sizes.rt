@@ -25,8 +25,11 @@ pub struct Sizes<A: Answer> {
     pub none: u64,
 }
 
-/// Counts the answers of the addresses from `start` on and before `end`: it asks once for each
-/// piece, at most, and once for the answer of each key that it found.
+/// Counts the answers of the addresses from `start` on and before `end`. It asks at most once for
+/// each piece, and once for the answer of each key that it found.
+///
+/// # Errors
+/// `AllocError` when memory runs out.
 pub fn count_runs<R: Runs>(
     alloc: Global,
     map: &AddressMap<'_>,
@@ -144,7 +147,7 @@ fn count_section<R: Runs>(
     }
 }
 
-/// Counts the answers of so many places from one on.
+/// Counts the answers of that many places from one on.
 fn count_places<R: Runs>(
     alloc: Global,
     runs: &mut R,

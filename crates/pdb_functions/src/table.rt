@@ -28,7 +28,7 @@ impl<A: Answer> Model for Counts<A> {
 }
 
 impl<A: Answer> Counts<A> {
-    /// No answers yet.
+    /// Makes a table without answers.
     pub(crate) fn new(alloc: Global) -> Counts<A>
         ensures { result ≡ [] }
     {
@@ -84,7 +84,7 @@ impl<A: Answer> Counts<A> {
     }
 }
 
-/// Raises the number of an answer.
+/// Adds to the count of an answer.
 fn raise<A: Answer>(numbers: &mut BTreeMap<A, u64>, answer: A, count: u64) -> Result<(), AllocError>
     requires some { 1 ≤ count }
     requires room { sum_of numbers.old.entries + count < 2 ^ 64 }

@@ -14,7 +14,10 @@ use std::alloc::{AllocError, Global};
 use std::collections::BTreeMap;
 use std::fmt::Write;
 
-/// The report: a line for each function, and then the number of addresses that have none.
+/// Returns the report: a line for each function, and then the number of addresses that have none.
+///
+/// # Errors
+/// `AllocError` when memory runs out.
 pub fn sizes_text(alloc: Global, sizes: &Sizes<Function>) -> Result<String, AllocError>
     ensures { IfOk result (λ text. string_bytes text
         ≡ sizes_text_of sizes.now.counts sizes.now.none) }
@@ -47,7 +50,7 @@ fn append_line(text: &mut String, function: &Function, count: u64) -> Result<(),
     write!(text, "0x{start:08x} {count} {name}\n")
 }
 
-/// The text, or two question marks.
+/// Returns the text, or two question marks.
 fn text_or_unknown(text: &Option<String>) -> &str
     ensures { result.now ≡ text_or (option_map string_bytes text.now) }
 {
@@ -59,6 +62,9 @@ fn text_or_unknown(text: &Option<String>) -> &str
 
 /// Returns the report by file: a line for each file, and then the numbers of addresses without a
 /// known file, of those that have nothing, and of those that can't be read.
+///
+/// # Errors
+/// `AllocError` when memory runs out.
 pub fn by_file_text(alloc: Global, sizes: &Sizes<CountedFile>) -> Result<String, AllocError>
     ensures { IfOk result (λ text. string_bytes text
         ≡ by_file_text_of sizes.now.counts sizes.now.none) }

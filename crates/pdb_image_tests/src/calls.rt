@@ -1,14 +1,14 @@
-//! The public calls on two images that `lld-link` 19 made of a program for x86_64 and for i686: of
+//! The public calls on two images that `lld-link` 19 made of a program for x86_64 and for i686. Of
 //! each file the debug directory, the record and most of the headers are here, and zeros in place
-//! of the rest. What is expected is what `llvm-readobj` and `objdump` say of these bytes and of the
-//! whole files, and `llvm-pdbutil` of their PDBs.
+//! of the rest. The expected values are what `llvm-readobj` and `objdump` say of these bytes and of
+//! the whole files, and what `llvm-pdbutil` says of their PDBs.
 
 use pdb_image::{CodeView, Image, PdbIdentity};
 use pdb_samples::{SampleError, overwrite};
 use std::alloc::Global;
 use std::test::Fail;
 
-/// A PE32+ image of 2560 bytes: what stands at places between zeros.
+/// A PE32+ image of 2560 bytes: the bytes that stand between zeros, with their offsets.
 const WIDE: [(usize, &[u8]); 14] = [
     (0x0, b"MZx"),
     (0x3c, b"x"),
@@ -28,11 +28,12 @@ const WIDE: [(usize, &[u8]); 14] = [
     (0x1f4, b"@\0\0@"),
     (
         0x604,
-        b"F\x9b\x09k\0\0\0\0\x02\0\0\0!\0\0\0\x1c \0\0\x1c\x06\0\0RSDS\0i\xfcnO/]\xcdLLD PDB.\x01\0\0\0wide.pdb",
+        b"F\x9b\x09k\0\0\0\0\x02\0\0\0!\0\0\0\x1c \0\0\x1c\x06\0\0RSDS\0i\xfcnO/]\xcdLLD PDB.\x01\0\
+        \0\0wide.pdb",
     ),
 ];
 
-/// A PE32 image of 2048 bytes.
+/// A PE32 image of 2048 bytes: the bytes that stand between zeros, with their offsets.
 const NARROW: [(usize, &[u8]); 10] = [
     (0x0, b"MZx"),
     (0x3c, b"x"),
@@ -51,11 +52,12 @@ const NARROW: [(usize, &[u8]); 10] = [
     ),
     (
         0x604,
-        b"F\x9b\x09k\0\0\0\0\x02\0\0\0#\0\0\0\x1c \0\0\x1c\x06\0\0RSDS\xf3\x0f\x02\x83\xe4\x8b\xf8\x87LLD PDB.\x01\0\0\0narrow.pdb",
+        b"F\x9b\x09k\0\0\0\0\x02\0\0\0#\0\0\0\x1c \0\0\x1c\x06\0\0RSDS\xf3\x0f\x02\x83\xe4\x8b\xf8\
+        \x87LLD PDB.\x01\0\0\0narrow.pdb",
     ),
 ];
 
-/// A file of `size` bytes, with these at their places.
+/// Makes a file of `size` bytes, with these pieces at their offsets.
 fn file(alloc: Global, size: usize, pieces: &[(usize, &[u8])]) -> Result<Vec<u8>, SampleError> {
     let mut bytes = vec![in alloc; 0u8; size]?;
     for (place, piece) in pieces {
@@ -64,13 +66,13 @@ fn file(alloc: Global, size: usize, pieces: &[(usize, &[u8])]) -> Result<Vec<u8>
     Ok(bytes)
 }
 
-/// Whether a record has an identity, as a symbol server names it, and a path.
+/// Returns whether a record has an identity, as a symbol server names it, and a path.
 fn is_of(alloc: Global, record: &CodeView<'_>, identity: &str, path: &str) -> Result<bool, Fail> {
     let text = format!(in alloc; "{}", record.identity())?;
     Ok(text.as_str() == identity && record.path().as_bytes() == path.as_bytes())
 }
 
-/// Whether a section has a name, an address and a place in the file.
+/// Returns whether the section with that index has a name, an address and a place in the file.
 fn has_section(image: &Image<'_>, number: usize, name: &str, address: u32, place: u32) -> bool {
     image.section(number).is_some_and(|section| {
         section.name() == name

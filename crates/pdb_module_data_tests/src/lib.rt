@@ -1,4 +1,4 @@
-//! Tests of what a module says of a place in it, on symbols and line data that are described.
+//! Tests of what a module says of a place in it, on described symbols and line data.
 #![tactic(auto)]
 
 #[cfg(test)]

@@ -13,7 +13,8 @@ use std::test::Fail;
 /// An open database over a file's bytes.
 type Database = PDB<'static, Vec<u8>>;
 
-/// 0x20 bytes of code at 1:0x10 in two blocks: first of file 0 at 8 line 7, then of file 0x18 at 0 lines 4 and 5.
+/// 0x20 bytes of code at 1:0x10 in two blocks: first line 7 of file 0 at 8, then lines 4 and 5 of
+/// file 0x18 at 0.
 const TWO_BLOCKS: &[u32] = &[
     0xf2,
     60,
@@ -34,13 +35,13 @@ const TWO_BLOCKS: &[u32] = &[
     0x8000_0005,
 ];
 
-/// The same code in a block that says that it has 8 bytes, which is less than its header.
+/// 0x20 bytes of code at 1:0x10 in a block whose stated length, 8, is less than its header's.
 const SHORT_BLOCK: &[u32] = &[0xf2, 24, 0x10, 1, 0x20, 0, 0, 8];
 
 /// A row: its file, its line and its length.
 type Row = (u32, u32, Option<u32>);
 
-/// The row at an offset in the function that begins at a place, by these line data.
+/// Returns the row at an offset in the function that begins at a place, by these line data.
 fn row_of(
     alloc: Global,
     line_data: &[u32],
@@ -65,14 +66,16 @@ fn row_of(
 
 /// Line data, where a function begins, an offset in it, and the row there.
 const LINES: &[(&[u32], (u16, u32), u32, Result<Option<Row>, Error>)] = &[
-    // By their starts and not by their order in the file; of equal starts the last. Line 5 goes on
-    // to the end of the code, and after line 7 the file has an entry that lies before it.
+    // Rows go by their starts and not by their order in the file; of equal starts the last counts.
+    // Line 5 goes on to the end of the code. After line 7 the file has an entry that lies before
+    // it.
     (TWO_BLOCKS, (1, 0x10), 0x14, Ok(Some((0x18, 5, Some(0x20))))),
     (TWO_BLOCKS, (1, 0x10), 0x1c, Ok(Some((0, 7, None)))),
     // Before the first row, and before the first subsection.
     (TWO_BLOCKS, (1, 0x10), 0xf, Ok(None)),
     (TWO_BLOCKS, (1, 8), 0x14, Ok(None)),
-    // A subsection that begins elsewhere: an earlier one of the section serves, one of another section doesn't.
+    // A subsection that begins elsewhere: an earlier one of the section counts, and one of another
+    // section doesn't.
     (TWO_BLOCKS, (1, 0x40), 0x44, Ok(Some((0, 7, None)))),
     (TWO_BLOCKS, (2, 0x10), 0x14, Ok(None)),
     (SHORT_BLOCK, (1, 0x10), 0x14, Err(Error::UnexpectedEof)),
@@ -88,7 +91,7 @@ fn lines_of_functions(rt: HostRuntime) -> Result<(), Fail> {
     Ok(())
 }
 
-/// The same code in one block of file 0: line 4 at 0, and line 7 at 8.
+/// 0x20 bytes of code at 1:0x10 in one block of file 0: line 4 at 0, and line 7 at 8.
 const ONE_BLOCK: &[u32] = &[
     0xf2,
     40,
@@ -104,7 +107,7 @@ const ONE_BLOCK: &[u32] = &[
     0x8000_0007,
 ];
 
-/// The distance from an offset to the next start of a row of the function at 1:0x10.
+/// Returns the distance from an offset to the next start of a row of the function at 1:0x10.
 fn to_next_start(alloc: Global, line_data: &[u32], offset: u32, limit: u32) -> Result<u32, Fail> {
     let mut bytes = Vec::new(alloc);
     push_u32(&mut bytes, line_data)?;
@@ -122,7 +125,7 @@ const NEXT_STARTS: &[(u32, u32, u32)] = &[
     (0, 100, 16),
     (0x10, 100, 8),
     (0x17, 100, 1),
-    // No row begins after the last one, nor within a limit that is nearer.
+    // No row begins after the last one, or within a nearer limit.
     (0x18, 100, 100),
     (0x10, 8, 8),
     (0x10, 5, 5),
@@ -141,7 +144,7 @@ fn next_starts_of_rows(rt: HostRuntime) -> Result<(), Fail> {
     Ok(())
 }
 
-/// The stream of a database's first module.
+/// Returns the stream of a database's first module.
 fn first_info(alloc: Global, pdb: &mut Database) -> Result<Option<ModuleInfo<'static>>, Fail> {
     let debug_information = pdb.debug_information(alloc)?;
     match debug_information.modules().next()? {
@@ -150,7 +153,7 @@ fn first_info(alloc: Global, pdb: &mut Database) -> Result<Option<ModuleInfo<'st
     }
 }
 
-/// The name of the file of an index in a module, by a string table if there is one.
+/// Returns the name of the file with that index in a module, by a string table if there is one.
 fn name_in(
     alloc: Global,
     info: &ModuleInfo<'_>,
@@ -165,7 +168,7 @@ fn name_in(
     }
 }
 
-/// File F with other names in its string table.
+/// Makes file F with other names in its string table.
 fn file_with_names(alloc: Global, names: &[u8]) -> Result<Vec<u8>, Fail> {
     let mut database = file_f(alloc)?;
     database.names.clear();
@@ -173,8 +176,8 @@ fn file_with_names(alloc: Global, names: &[u8]) -> Result<Vec<u8>, Fail> {
     Ok(database.bytes(alloc)?)
 }
 
-/// The name of the file of an index in file F's module, with a string table of these names or without one. The module's file
-/// has the name at 1.
+/// Returns the name of the file with that index in file F's module, with a string table of these
+/// names or without one. The module's file has the name at 1.
 fn name_in_f(
     alloc: Global,
     names: &[u8],

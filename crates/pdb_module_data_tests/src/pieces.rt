@@ -1,13 +1,13 @@
-//! How many pieces a search among them looks at.
+//! How many pieces a search looks at.
 
 use pdb_addresses::PdbInternalSectionOffset;
 use pdb_pieces::{Mark, Pieces, Span};
 use std::alloc::{AllocError, Global};
 
-/// Where pieces begin; each covers five offsets.
+/// Where pieces begin. Each covers five offsets.
 const STARTS: [u64; 5] = [10, 20, 30, 40, 50];
 
-/// The first so many of these pieces, each with its number.
+/// Makes the first `count` of these pieces, each with its index.
 fn first_pieces(alloc: Global, count: usize) -> Result<Pieces, AllocError> {
     let mut spans = Vec::new(alloc);
     for (value, start) in STARTS.iter().enumerate().take(count) {
@@ -20,8 +20,9 @@ fn first_pieces(alloc: Global, count: usize) -> Result<Pieces, AllocError> {
     Pieces::new(alloc, &spans)
 }
 
-/// How many pieces there are, an offset, the number of the piece there, and how many were looked at: first the one numbered half
-/// of how many there are, and so on among those before or after it.
+/// The number of pieces, an offset, the index of the piece there, and how many pieces are looked
+/// at. The first of these has as its index half the number of pieces, and the search goes on among
+/// those before or after it.
 const PROBES: &[(usize, u32, Option<usize>, u32)] = &[
     (0, 12, None, 0),
     (1, 9, None, 1),

@@ -8,10 +8,11 @@ use pdb_module_data::Procedures;
 use std::alloc::Global;
 use std::test::Fail;
 
-/// A procedure: its symbol, where its code begins, its length, its type and the first letter of its name.
+/// A procedure: its symbol, where its code begins, its length, its type, and the first letter of
+/// its name.
 type Seen = (u32, u32, u32, u32, u8);
 
-/// The procedures of symbols.
+/// Reads the procedures of symbols.
 fn procedures_of(alloc: Global, symbols: &[Described]) -> Result<Vec<Seen>, Fail> {
     let bytes = list_of(alloc, symbols)?;
     let mut seen = Vec::new(alloc);
@@ -31,7 +32,7 @@ fn procedures_of(alloc: Global, symbols: &[Described]) -> Result<Vec<Seen>, Fail
     Ok(seen)
 }
 
-/// The start of the procedure over a place of a section.
+/// Returns the start of the procedure over a place of a section.
 fn start_over(
     alloc: Global,
     symbols: &[Described],
@@ -46,30 +47,31 @@ fn start_over(
     }
 }
 
-/// A procedure at 0x100, and another one that begins where it does.
+/// A procedure at 0x100.
 const FIRST: Described = Procedure(0, 0x100, 0x40, 0x1001, b'a');
 
+/// Another procedure that begins at 0x100.
 const SECOND: Described = Procedure(0, 0x100, 0x20, 0x1002, b'b');
 
-/// The first one, as it is found.
+/// The first procedure, as it is found.
 const FOUND: Seen = (0x10, 0x100, 0x40, 0x1001, b'a');
 
 /// Symbols, and the procedures among them.
 const KEPT: &[(&[Described], &[Seen])] = &[
-    // Those that overlap stay.
+    // Procedures that overlap both count.
     (
         &[FIRST, Procedure(0, 0x110, 0x10, 0, b'c')],
         &[FOUND, (0x40, 0x110, 0x10, 0, b'c')],
     ),
-    // Of one start the first counts, but separated code goes by the one before it.
+    // Of two with one start the first counts, but separated code goes by the procedure before it.
     (
         &[FIRST, SECOND, Separated(0x200, 8, 0x100)],
         &[FOUND, (0x70, 0x200, 8, 0x1002, b'b')],
     ),
-    // Separated code of another place than that one's start isn't kept.
+    // Separated code whose parent begins elsewhere doesn't count.
     (&[FIRST, Separated(0x200, 8, 0x104)], &[FOUND]),
     (&[Separated(0x200, 8, 0)], &[]),
-    // What has no code isn't kept, and nothing goes by it.
+    // A procedure without code doesn't count, and nothing goes by it.
     (
         &[
             FIRST,
@@ -102,7 +104,7 @@ fn kept_procedures(rt: HostRuntime) -> Result<(), Fail> {
     Ok(())
 }
 
-/// One in another, and one that ends past 32 bits.
+/// A procedure in another one, and one that ends past 32 bits.
 const OVERLAPPING: &[Described] = &[
     Procedure(0, 0x110, 0x10, 0, b'b'),
     Procedure(0, 0x100, 0x40, 0, b'a'),

@@ -12,20 +12,22 @@ use pdb_module_data::{
 use std::alloc::Global;
 use std::test::Fail;
 
-/// The function with id 1 is in file 0x11 from line 10 on; of id 2 the last entry counts: file 0x22 from line 20 on.
+/// The function with id 1 is in file 0x11 from line 10 on. Of id 2 the last entry counts: file 0x22
+/// from line 20 on.
 const INLINEES: &[u8] =
-    b"\0\0\0\0\x02\0\0\0\x99\0\0\0\x63\0\0\0\x01\0\0\0\x11\0\0\0\x0a\0\0\0\x02\0\0\0\x22\0\0\0\x14\0\0\0";
+    b"\0\0\0\0\x02\0\0\0\x99\0\0\0\x63\0\0\0\x01\0\0\0\x11\0\0\0\x0a\0\0\0\x02\0\0\0\x22\0\0\0\x14\
+    \0\0\0";
 
-/// A site: its id, the number of the site that it lies in, and its depth.
+/// A site: its id, the index of the site in which it lies, and its depth.
 type Seen = (u32, Option<usize>, usize);
 
-/// A call: its id, its file, its line, and its code: where that begins and how many bytes it has.
+/// A call: its id, its file, its line, and the start and the length of its code.
 type Call = (u32, Option<u32>, Option<u32>, Option<(u32, u32)>);
 
 /// Why sites can't be read: a symbol's error, or none.
 type Refused = Option<Error>;
 
-/// The error, with memory that ran out as itself.
+/// Returns a symbol's error, or none.
 fn refused(error: SitesError) -> Refused {
     match error {
         SitesError::Pdb(error) => Some(error),
@@ -33,7 +35,7 @@ fn refused(error: SitesError) -> Refused {
     }
 }
 
-/// The sites of the first procedure of a list.
+/// Reads the sites of the first procedure of a list.
 fn sites_of(alloc: Global, symbols: &[Described]) -> Result<Result<Vec<Seen>, Refused>, Fail> {
     let bytes = list_of(alloc, symbols)?;
     let procedures = Procedures::read(alloc, over(&bytes))?;
@@ -52,7 +54,7 @@ fn sites_of(alloc: Global, symbols: &[Described]) -> Result<Result<Vec<Seen>, Re
     }
 }
 
-/// The inlined calls over an offset of section 1 in a procedure of a list.
+/// Returns the inlined calls over an offset of section 1 in a procedure of a list.
 fn calls_in(
     alloc: Global,
     bytes: &[u8],
@@ -67,7 +69,7 @@ fn calls_in(
     }
 }
 
-/// Calls as they are compared.
+/// Returns calls in the form in which they are compared.
 fn seen(alloc: Global, calls: &[InlinedCall]) -> Result<Vec<Call>, Fail> {
     let mut seen = Vec::new(alloc);
     for call in calls {
@@ -84,7 +86,8 @@ fn seen(alloc: Global, calls: &[InlinedCall]) -> Result<Vec<Call>, Fail> {
     Ok(seen)
 }
 
-/// The inlined calls over an offset of section 1 in the first procedure of a list, which begins at 0x100.
+/// Returns the inlined calls over an offset of section 1 in the first procedure of a list, which
+/// begins at 0x100.
 fn calls_over(alloc: Global, symbols: &[Described], offset: u32) -> Result<Vec<Call>, Fail> {
     let bytes = list_of(alloc, symbols)?;
     let procedures = Procedures::read(alloc, over(&bytes))?;
@@ -94,10 +97,11 @@ fn calls_over(alloc: Global, symbols: &[Described], offset: u32) -> Result<Vec<C
     }
 }
 
-/// A procedure at 1:0x100 of 0x40 bytes that goes on to the end of its list. The symbols in it stand from 0x40 on.
+/// A procedure at 1:0x100 of 0x40 bytes that goes on to the end of its list. The symbols in it
+/// stand from 0x40 on.
 const AROUND: Described = Described::Procedure(0x200, 0x100, 0x40, 0, b'p');
 
-/// One in another.
+/// A site in another one.
 const NESTED: &[Described] = &[
     AROUND,
     Site(0x90, 1, 4, 0),
@@ -107,7 +111,7 @@ const NESTED: &[Described] = &[
     End,
 ];
 
-/// One behind another, over one place.
+/// A site after another one, over one place.
 const SIBLINGS: &[Described] = &[
     AROUND,
     Site(0x60, 1, 16, 0),
@@ -126,7 +130,7 @@ const SITES: &[(&[Described], Result<&[Seen], Refused>)] = &[
         &[AROUND, Site(0x60, 1, 4, 0), Site(0x90, 2, 4, 8), End, End],
         Ok(&[(1, None, 1)]),
     ),
-    // The sites of a nested procedure aren't the outer one's, and the symbol at its end is passed over.
+    // The sites of a nested procedure aren't the outer one's, and the symbol at its end is skipped.
     (
         &[
             AROUND,
@@ -149,7 +153,7 @@ const SITES: &[(&[Described], Result<&[Seen], Refused>)] = &[
         ],
         Ok(&[(1, None, 1)]),
     ),
-    // One that ends at its own symbol is refused.
+    // A nested procedure that ends at its own symbol is refused.
     (
         &[
             AROUND,
@@ -158,7 +162,8 @@ const SITES: &[(&[Described], Result<&[Seen], Refused>)] = &[
         ],
         Err(None),
     ),
-    // One that ends inside its own symbol isn't: its length, 8, is read as a symbol of kind 0, and behind that a length of 0.
+    // One that ends inside its own symbol isn't: its length, 8, is read as a symbol of kind 0, and
+    // then a length of 0.
     (
         &[AROUND, Described::Procedure(0x50, 0x120, 8, 0, b'q')],
         Err(Some(Error::SymbolTooShort)),
@@ -168,7 +173,7 @@ const SITES: &[(&[Described], Result<&[Seen], Refused>)] = &[
         &[AROUND, Site(0x190, 1, 4, 0), Site(0x180, 2, 4, 8)],
         Ok(&[(1, None, 1), (2, Some(0), 2)]),
     ),
-    // A procedure that ends behind its own symbol has none.
+    // A procedure that ends right after its own symbol has no sites.
     (
         &[
             Described::Procedure(0x40, 0x100, 0x40, 0, b'p'),
@@ -208,7 +213,7 @@ const CALLS: &[(&[Described], u32, &[Call])] = &[
         &[(1, Some(0x11), Some(10), Some((0x100, 4)))],
     ),
     (NESTED, 0x104, &[]),
-    // Of two as deep the first.
+    // Of two sites as deep the first counts.
     (
         SIBLINGS,
         0x105,
@@ -223,7 +228,7 @@ const CALLS: &[(&[Described], u32, &[Call])] = &[
             (3, None, None, None),
         ],
     ),
-    // A row without length, or of length 0, covers nothing.
+    // A row without a length, or with length 0, covers nothing.
     (
         &[
             AROUND,

@@ -1,4 +1,5 @@
-//! Lists of symbols by descriptions. Each symbol takes a multiple of 0x10 bytes, and the first one stands at 0x10.
+//! Lists of symbols by descriptions. Each symbol takes a multiple of 0x10 bytes, and the first one
+//! stands at 0x10.
 
 use pdb_indices::SymbolIndex;
 use pdb_samples::{Result, push_u32};
@@ -8,20 +9,23 @@ use std::alloc::Global;
 /// A symbol of a list.
 #[derive(Clone, Copy)]
 pub enum Described {
-    /// A procedure in section 1 of 0x30 bytes: the symbol that ends it, its offset and length, its type, a letter of its name.
+    /// A procedure in section 1, a symbol of 0x30 bytes: the symbol that ends it, its offset, its
+    /// length, its type, and a letter of its name.
     Procedure(u32, u32, u32, u32, u8),
-    /// A thunk in section 1 of 0x20 bytes: its offset and length, a letter of its name.
+    /// A thunk in section 1, a symbol of 0x20 bytes: its offset, its length, and a letter of its
+    /// name.
     Thunk(u32, u8, u8),
-    /// Separated code in section 1 of 0x20 bytes: its offset and length, its parent's offset.
+    /// Separated code in section 1, a symbol of 0x20 bytes: its offset, its length, and its
+    /// parent's offset.
     Separated(u32, u32, u32),
-    /// An inline site of 0x20 bytes: the symbol that ends it, its function's id, the length and the distance of its one row,
-    /// none of length 0xff.
+    /// An inline site, a symbol of 0x20 bytes: the symbol that ends it, its function's id, and the
+    /// length and the distance of its one row. With 0xff that row has no length.
     Site(u32, u32, u8, u8),
-    /// The end of a scope, of 0x10 bytes.
+    /// The end of a scope, a symbol of 0x10 bytes.
     End,
 }
 
-/// The bytes of a symbol: its size, its kind, and what follows.
+/// Appends the bytes of a symbol: its size, its kind, and its fields.
 fn push_symbol(bytes: &mut Vec<u8>, symbol: Described) -> Result<()> {
     match symbol {
         Described::Procedure(end, offset, len, type_index, letter) => {
@@ -56,7 +60,10 @@ fn push_symbol(bytes: &mut Vec<u8>, symbol: Described) -> Result<()> {
     Ok(())
 }
 
-/// A list's bytes.
+/// Makes a list's bytes.
+///
+/// # Errors
+/// `OutOfMemory`.
 pub fn list_of(alloc: Global, symbols: &[Described]) -> Result<Vec<u8>> {
     let mut bytes = Vec::new(alloc);
     push_u32(&mut bytes, &[4, 0, 0, 0])?;
@@ -66,7 +73,7 @@ pub fn list_of(alloc: Global, symbols: &[Described]) -> Result<Vec<u8>> {
     Ok(bytes)
 }
 
-/// The symbols of a list. A list of 0x1000 bytes and more is taken for an empty one.
+/// Iterates over the symbols of a list. A list of 0x1000 bytes and more is taken for an empty one.
 pub fn over(bytes: &[u8]) -> SymbolIter<'_> {
     let list = if bytes.len() < 0x1000 { bytes } else { &[] };
     SymbolIter::over(list, SymbolIndex(0x10))

@@ -1,5 +1,5 @@
-//! A search by halving among what begins somewhere, which counts its probes; and how far it is to the
-//! next beginning.
+//! A search by halving among what begins somewhere, which counts its probes; and how far it is to
+//! the next beginning.
 
 ghost use Rattle.std.specs.Prelude.{◌≡◌, ℕ, ◌+◌, ◌^◌, ◌<◌, ◌≤◌, map, length};
 ghost use Rattle.pdb_addresses.specs.SectionRun.{nearer as nearer_of, up_to_next};

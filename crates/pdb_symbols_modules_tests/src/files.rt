@@ -8,7 +8,7 @@ use std::test::Fail;
 /// An open database over a file's bytes.
 pub type Database = PDB<'static, Vec<u8>>;
 
-/// A file with this stream after `absent` absent ones.
+/// Makes a file with that stream after `absent` absent ones.
 fn file_of(alloc: Global, absent: usize, stream: Vec<u8>) -> Result<Vec<u8>, SampleError> {
     let mut streams = Vec::new(alloc);
     for _ in 0..absent {
@@ -23,7 +23,10 @@ fn file_of(alloc: Global, absent: usize, stream: Vec<u8>) -> Result<Vec<u8>, Sam
     container.bytes(alloc)
 }
 
-/// The database of that file.
+/// Opens a file with that stream after `absent` absent ones.
+///
+/// # Errors
+/// A stream that doesn't fit, what can't be read of the file; out of memory.
 pub fn database_of(alloc: Global, absent: usize, stream: Vec<u8>) -> Result<Database, Fail> {
     let file = file_of(alloc, absent, stream)?;
     Ok(PDB::open(alloc, file)?)

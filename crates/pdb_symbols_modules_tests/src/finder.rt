@@ -1,4 +1,4 @@
-//! What a finder answers, and what it learns from the iterator that it is shown.
+//! The answers of a finder, and what it learns from the iterator that it is shown.
 
 ghost use Rattle.std.specs.Prelude.{◌≡◌};
 
@@ -10,15 +10,16 @@ use pdb_samples::{SampleError, push_u32};
 use std::alloc::Global;
 use std::test::Fail;
 
-/// What is known of blocks, the known end, the kind at an index, asked twice, and how many lengths
-/// a search for it reads.
+/// The greatest index of known blocks, the known end, the kind at an index, asked twice, and how
+/// many lengths a search for it reads.
 type Said = (u32, Option<u32>, Result<u16>, Result<u16>, u32);
 
-/// Ten items, each of which is its number in two bytes.
+/// Ten items, each of which is its index in two bytes.
 const TEN: &[u8] =
-    b"\x02\0\x00\0\x02\0\x01\0\x02\0\x02\0\x02\0\x03\0\x02\0\x04\0\x02\0\x05\0\x02\0\x06\0\x02\0\x07\0\x02\0\x08\0\x02\0\x09\0";
+    b"\x02\0\x00\0\x02\0\x01\0\x02\0\x02\0\x02\0\x03\0\x02\0\x04\0\x02\0\x05\0\x02\0\x06\0\x02\0\
+    \x07\0\x02\0\x08\0\x02\0\x09\0";
 
-/// A stream of these items and of the bytes after them. Its header promises indices from the first
+/// Makes a stream of these items and of the bytes after them. Its header has indices from the first
 /// on and before the second.
 fn types_stream(
     alloc: Global,
@@ -34,7 +35,7 @@ fn types_stream(
     Ok(stream)
 }
 
-/// The table of that stream.
+/// Reads the table of a stream of these items.
 fn table(
     alloc: Global,
     indices: (u32, u32),
@@ -45,7 +46,7 @@ fn table(
     Ok(database.type_information(alloc)?)
 }
 
-/// Takes `steps` steps of an iterator, and shows it to the finder after each; a fault ends that.
+/// Takes `steps` steps of an iterator, and shows it to the finder after each. A fault ends that.
 fn show(finder: &mut TypeFinder<'_>, iterator: &mut TypeIter<'_>, steps: usize) -> Result<()>
     requires { iterator.old.table ≡ finder.old.table }
 {
@@ -56,19 +57,19 @@ fn show(finder: &mut TypeFinder<'_>, iterator: &mut TypeIter<'_>, steps: usize) 
     Ok(())
 }
 
-/// The kind of the item with that index.
+/// Returns the kind of the item with that index.
 fn kind_at(finder: &TypeFinder<'_>, index: u32) -> Result<u16> {
     finder.find(TypeIndex(index))?.raw_kind()
 }
 
-/// How many lengths of items a search for an index reads.
+/// Returns how many lengths of items a search for an index reads.
 fn lengths_at(finder: &TypeFinder<'_>, index: u32) -> u32 {
     let mut lengths = 0;
     let _ = find_counting(finder, TypeIndex(index), &mut lengths);
     lengths
 }
 
-/// What a finder says once it was shown that many steps.
+/// Returns what a finder says after it was shown that many steps.
 fn asked(alloc: Global, types: &TypeInformation<'_>, steps: usize, index: u32) -> Result<Said> {
     let mut finder = types.finder(alloc)?;
     let _ = show(&mut finder, &mut types.iter(), steps);
@@ -78,7 +79,7 @@ fn asked(alloc: Global, types: &TypeInformation<'_>, steps: usize, index: u32) -
     Ok((finder.max_index().0, end_of(&finder), first, again, lengths))
 }
 
-/// The known end.
+/// Returns the known end.
 fn end_of(finder: &TypeFinder<'_>) -> Option<u32> {
     match finder.end_index() {
         None => None,
@@ -86,9 +87,9 @@ fn end_of(finder: &TypeFinder<'_>) -> Option<u32> {
     }
 }
 
-/// What follows ten types of a stream, how many steps are shown, an index, and what is said of it.
-/// That is: what is known of blocks, the known end, the kind, and how many lengths are read, from
-/// the start of the block on to that of the item.
+/// The bytes after ten types of a stream, how many steps are shown, an index, and what is said of
+/// it: the greatest index of known blocks, the known end, the kind, and how many lengths are read.
+/// These are the lengths from the start of the block on to that of the item.
 const ROWS: &[(&[u8], usize, u32, u32, Option<u32>, Result<u16>, u32)] = &[
     (b"", 0, 0x74, 0x1007, None, Err(Error::UnexpectedEof), 0),
     (
@@ -100,7 +101,7 @@ const ROWS: &[(&[u8], usize, u32, u32, Option<u32>, Result<u16>, u32)] = &[
         Err(Error::TypeNotIndexed(4104, 4104)),
         0,
     ),
-    // Each place of a block of eight.
+    // Each index of a block of eight.
     (b"", 10, 0x1000, 0x100f, None, Ok(0), 1),
     (b"", 10, 0x1001, 0x100f, None, Ok(1), 2),
     (b"", 10, 0x1002, 0x100f, None, Ok(2), 3),
@@ -183,7 +184,7 @@ fn item_finder(rt: HostRuntime) -> std::result::Result<(), Fail> {
     Ok(())
 }
 
-/// The kind of an iterator's next item, if there is one.
+/// Returns the kind of an iterator's next item, if there is one.
 fn next_kind(iterator: &mut TypeIter<'_>) -> Result<Option<u16>> {
     match iterator.next()? {
         None => Ok(None),
@@ -191,7 +192,7 @@ fn next_kind(iterator: &mut TypeIter<'_>) -> Result<Option<u16>> {
     }
 }
 
-/// What two steps of a table's iterator say.
+/// Returns what two steps of a table's iterator say.
 fn two_steps(types: &TypeInformation<'_>) -> [Result<Option<u16>>; 2] {
     let mut iterator = types.iter();
     [next_kind(&mut iterator), next_kind(&mut iterator)]

@@ -6,7 +6,7 @@ use pdb_symbols_modules::{DebugInformation, Module, PDB};
 use std::alloc::Global;
 use std::test::Fail;
 
-/// A file of one module, `a\xffc` from the file `a\xffc\xc3`.
+/// Makes a file of one module, `a\xffc` from the file `a\xffc\xc3`.
 fn file(alloc: Global) -> std::result::Result<Vec<u8>, SampleError> {
     let mut database = file_with(alloc, Change::Nothing)?;
     let mut module = module_of_symbols(alloc, b"a\xffc", Vec::new(alloc))?;
@@ -16,20 +16,20 @@ fn file(alloc: Global) -> std::result::Result<Vec<u8>, SampleError> {
     database.bytes(alloc)
 }
 
-/// The debug information of that file.
+/// Reads the debug information of that file.
 fn information_of_file(alloc: Global) -> std::result::Result<DebugInformation<'static>, Fail> {
     let mut database = PDB::open(alloc, file(alloc)?)?;
     Ok(database.debug_information(alloc)?)
 }
 
-/// Whether a module has these names.
+/// Returns whether a module has these names.
 fn has_names(alloc: Global, module: &Module<'_>, name: &str, file_name: &str) -> Result<bool> {
     let found = module.module_name(alloc)?;
     let file_found = module.object_file_name(alloc)?;
     Ok(found.as_str() == name && file_found.as_str() == file_name)
 }
 
-/// Whether the first module has the file's names, each byte that is no text replaced.
+/// Returns whether the first module has the file's names, with each byte replaced that is no text.
 fn first_has_names(alloc: Global, information: &DebugInformation<'_>) -> Result<bool> {
     match information.modules().next()? {
         None => Ok(false),

@@ -6,13 +6,13 @@ use pdb_symbols_modules::StreamNames;
 use std::alloc::Global;
 use std::test::Fail;
 
-/// How many entries there are: each names the end of one text from its own number on.
+/// The number of entries. Each names the end of one text from its own index on.
 const COUNT: u32 = 1_000_000;
 
-/// How many bytes the text has with its NUL.
+/// The length of the text in bytes, with its NUL.
 const LENGTH: u32 = 4_000_000;
 
-/// A stream of information with these names.
+/// Makes an information stream with these names.
 fn information(alloc: Global) -> Result<Vec<u8>, SampleError> {
     let mut stream = Vec::new(alloc);
     push_u32(&mut stream, &[20_000_404, 1, 1, 0, 0, 0, 0, LENGTH])?;
@@ -25,14 +25,14 @@ fn information(alloc: Global) -> Result<Vec<u8>, SampleError> {
     Ok(stream)
 }
 
-/// How many names there are, and how many bytes the first and the last have.
+/// Returns how many names there are, and the lengths of the first and the last in bytes.
 fn said(names: &StreamNames<'_>) -> (usize, Option<usize>, Option<usize>) {
     let first = names.iter().next().map(|entry| entry.name.len());
     let last = names.iter().last().map(|entry| entry.name.len());
     (names.iter().count(), first, last)
 }
 
-// Where each name were looked for from its own start on, this would take minutes.
+// If each name was looked for from its own start on, this would take minutes.
 #[test]
 fn many_names_in_linear_time(rt: HostRuntime) -> Result<(), Fail> {
     let mut database = database_of(rt.alloc(), 1, information(rt.alloc())?)?;

@@ -6,11 +6,11 @@ use pdb_symbols_modules::{PDB, StreamIndex};
 use std::alloc::Global;
 use std::test::Fail;
 
-/// The place, in file F's directory, of the number of stream 2's page: after the count, nine sizes,
+/// The offset of the number of stream 2's page, in file F's directory: after the count, nine sizes,
 /// and the number of stream 1's page. Stream 0 is empty.
 const PAGE_OF_TYPES: usize = 0x22c;
 
-/// Whether a stream has these bytes.
+/// Returns whether a stream has these bytes.
 fn is_stream(found: &Option<Stream<'_>>, bytes: Option<&Option<Vec<u8>>>) -> bool {
     match (found, bytes) {
         (Some(found), Some(Some(bytes))) => found.as_slice() == bytes.as_slice(),
@@ -18,7 +18,8 @@ fn is_stream(found: &Option<Stream<'_>>, bytes: Option<&Option<Vec<u8>>>) -> boo
     }
 }
 
-/// Why stream 2 is refused where its page has this number, and whether stream 3 has file F's bytes.
+/// Returns why stream 2 is refused if its page has that number, and whether stream 3 has file F's
+/// bytes.
 fn with_page(alloc: Global, page: u32) -> Result<(Option<Error>, bool), Fail> {
     let container = file_f(alloc)?.container(alloc)?;
     let mut file = container.bytes(alloc)?;
@@ -31,7 +32,7 @@ fn with_page(alloc: Global, page: u32) -> Result<(Option<Error>, bool), Fail> {
 
 #[test]
 fn a_bad_page_of_one_stream_leaves_the_others(rt: HostRuntime) -> Result<(), Fail> {
-    // Its own page, none, and one that the file hasn't.
+    // Its own page, no page, and one that the file doesn't have.
     for (page, fault) in [
         (4, None),
         (0, Some(Error::PageReferenceOutOfRange(0))),

@@ -8,7 +8,7 @@ use std::cell::Cell;
 use std::io::{self, ErrorKind};
 use std::test::Fail;
 
-/// File F's bytes, where the views of some numbers fail, counted from 0.
+/// File F's bytes. The views with some indices fail.
 #[derive(Drop)]
 struct Failing<'c> {
     bytes: Vec<u8>,
@@ -37,10 +37,10 @@ impl<'c> Source for Failing<'c> {
     }
 }
 
-/// Why a call is refused, if it is, and how many views there were then.
+/// Why a call is refused, if it is, and how many views there were by then.
 type Asked = (Option<Error>, u64);
 
-/// What calls of a database for its types, for stream 5 and for stream 3 say.
+/// Asks a database for its types, for stream 5 and for stream 3.
 fn asked(database: &mut PDB<'static, Failing<'_>>, alloc: Global, views: &Cell<u64>) -> [Asked; 3] {
     let types = database.type_information(alloc).err();
     let of_types = views.get();
@@ -50,7 +50,7 @@ fn asked(database: &mut PDB<'static, Failing<'_>>, alloc: Global, views: &Cell<u
     [(types, of_types), (raw, of_raw), (by_index, views.get())]
 }
 
-/// How many views the opening of file F takes, and what the calls say, where some views fail.
+/// Returns how many views the opening of file F takes, and what the calls say, if some views fail.
 fn viewed(alloc: Global, fails: &'static [u64]) -> std::result::Result<(u64, [Asked; 3]), Fail> {
     let views = Cell::new(0);
     let source = Failing {
@@ -64,8 +64,8 @@ fn viewed(alloc: Global, fails: &'static [u64]) -> std::result::Result<(u64, [As
     Ok((opening, asked(&mut database, alloc, &views)))
 }
 
-// No table is cached where a view of the list (1) or of the directory (2) failed: the next call
-// views both anew. From then on each call views its stream alone.
+// No table is cached if a view of the list (1) or of the directory (2) failed: the next call views
+// both anew. From then on each call views its stream alone.
 #[test]
 fn the_directory_is_read_anew_where_the_source_failed(
     rt: HostRuntime,

@@ -9,21 +9,24 @@ use pdb_symbols_modules::{
 use std::alloc::Global;
 use std::test::Fail;
 
-/// From 1:0xa084 on 12 bytes: entries 0, 0, 11 of lines 22, 23, 24, the second no statement.
+/// 12 bytes of code at 1:0xa084: entries at 0, 0 and 11 for lines 22, 23 and 24. The second is no
+/// statement.
 const THREE_ROWS: &[u8] =
-    b"\xf2\0\0\0\x30\0\0\0\x84\xa0\0\0\x01\0\0\0\x0c\0\0\0\0\0\0\0\x03\0\0\0\x24\0\0\0\0\0\0\0\x16\0\0\x80\0\0\0\0\x17\0\0\0\x0b\0\0\0\x18\0\0\x80";
+    b"\xf2\0\0\0\x30\0\0\0\x84\xa0\0\0\x01\0\0\0\x0c\0\0\0\0\0\0\0\x03\0\0\0\x24\0\0\0\0\0\0\0\x16\
+    \0\0\x80\0\0\0\0\x17\0\0\0\x0b\0\0\0\x18\0\0\x80";
 
 /// Id 0x1005, file 0x270, line 341, without further files.
 const ONE_INLINEE: &[u8] = b"\0\0\0\0\x05\x10\0\0\x70\x02\0\0\x55\x01\0\0";
 
 /// Two types and two ids.
 const EXPORTS: &[u8] =
-    b"\x1f\x10\0\0\x0c\x10\0\0\x20\x10\0\0\x4f\x22\0\0\x5c\x11\0\x80\x61\x11\0\0\x6d\x11\0\x80\x62\x11\0\0";
+    b"\x1f\x10\0\0\x0c\x10\0\0\x20\x10\0\0\x4f\x22\0\0\x5c\x11\0\x80\x61\x11\0\0\x6d\x11\0\x80\x62\
+    \x11\0\0";
 
 /// Where a row begins, its length and its line.
 type Row = (u32, Option<u32>, u32);
 
-/// The rows of these line data.
+/// Reads the rows of these line data.
 fn rows_in(alloc: Global, bytes: &[u8]) -> Result<Vec<Row>> {
     let program = LineProgram::parse(alloc, bytes)?;
     let mut lines = program.lines();
@@ -37,7 +40,7 @@ fn rows_in(alloc: Global, bytes: &[u8]) -> Result<Vec<Row>> {
     Ok(rows)
 }
 
-/// The rows of a call from 1:0x120 with these annotations.
+/// Reads the rows of a call from 1:0x120 with these annotations.
 fn rows_of_call(alloc: Global, annotations: &'static [u8]) -> Result<Vec<(u32, Option<u32>)>> {
     let site = InlineSiteSymbol {
         parent: None,
@@ -62,7 +65,7 @@ fn rows_of_call(alloc: Global, annotations: &'static [u8]) -> Result<Vec<(u32, O
     Ok(rows)
 }
 
-/// The kind of the next symbol.
+/// Returns the kind of the next symbol.
 fn next_kind(symbols: &mut SymbolIter<'_>) -> Result<Option<u16>> {
     match symbols.next()? {
         None => Ok(None),
@@ -70,7 +73,7 @@ fn next_kind(symbols: &mut SymbolIter<'_>) -> Result<Option<u16>> {
     }
 }
 
-/// Where symbols are sought first, if they are, and the kind of the next one then.
+/// The index at which symbols are sought first, if they are, and the kind of the next one then.
 const STEPS: &[(Option<u32>, Result<Option<u16>>)] = &[
     (None, Ok(Some(0x114e))),
     (None, Err(Error::SymbolTooShort)),
@@ -104,7 +107,7 @@ fn rows(rt: HostRuntime) -> std::result::Result<(), Fail> {
     Ok(())
 }
 
-/// Annotations, and the rows of a call with these.
+/// Annotations, and the rows of a call with them.
 const CALLS: &[(&[u8], &[(u32, Option<u32>)])] = &[
     (b"\x03\x04", &[(0x124, None)]),
     (
@@ -126,7 +129,7 @@ fn annotations(rt: HostRuntime) -> std::result::Result<(), Fail> {
     Ok(())
 }
 
-/// What is exported.
+/// The exports.
 const EXPORTED: &[CrossModuleExport] = &[
     CrossModuleExport::OfType(Local(TypeIndex(0x101f)), TypeIndex(0x100c)),
     CrossModuleExport::OfType(Local(TypeIndex(0x1020)), TypeIndex(0x224f)),

@@ -12,7 +12,10 @@ use pdb_container_types::{
 use std::alloc::Global;
 use std::ops::Range;
 
-/// The answer of a conversion; those of a map that isn't ordered are none.
+/// Answers a question by an address map. A map that isn't ordered has one answer, which says so.
+///
+/// # Errors
+/// `UnimplementedFeature` for a case that there isn't; `OutOfMemory`.
 pub fn ask(alloc: Global, map: &AddressMap<'_>, question: &Question<'_>) -> Result<String> {
     if !map.is_ordered() {
         return shown(alloc, &"not ordered");
@@ -33,7 +36,7 @@ pub fn ask(alloc: Global, map: &AddressMap<'_>, question: &Question<'_>) -> Resu
     }
 }
 
-/// The names of sections, and whether code may run in them.
+/// Returns the names of sections, and whether code may run in them.
 fn section_names(alloc: Global, sections: &[ImageSectionHeader]) -> Result<String> {
     let mut text = String::new(alloc);
     for section in sections {
@@ -46,7 +49,7 @@ fn section_names(alloc: Global, sections: &[ImageSectionHeader]) -> Result<Strin
     Ok(text)
 }
 
-/// What an address of the image becomes: internal address, place, internal place.
+/// Converts an address of the image to an internal address, a place, and an internal place.
 fn image_address(alloc: Global, map: &AddressMap<'_>, address: Rva) -> Result<String>
     requires { IsOrdered map.now }
 {
@@ -55,7 +58,7 @@ fn image_address(alloc: Global, map: &AddressMap<'_>, address: Rva) -> Result<St
     shown(alloc, &(inner, place, address.to_internal_offset(map)))
 }
 
-/// What an internal address becomes: address of the image, place, internal place.
+/// Converts an internal address to an address of the image, a place, and an internal place.
 fn internal_address(alloc: Global, map: &AddressMap<'_>, address: PdbInternalRva) -> Result<String>
     requires { IsOrdered map.now }
 {
@@ -64,7 +67,8 @@ fn internal_address(alloc: Global, map: &AddressMap<'_>, address: PdbInternalRva
     shown(alloc, &(outer, place, address.to_internal_offset(map)))
 }
 
-/// What a place of the image becomes: address of the image, internal address, internal place.
+/// Converts a place of the image to an address of the image, an internal address, and an internal
+/// place.
 fn image_place(alloc: Global, map: &AddressMap<'_>, section: u16, offset: u32) -> Result<String>
     requires { IsOrdered map.now }
 {
@@ -74,7 +78,7 @@ fn image_place(alloc: Global, map: &AddressMap<'_>, section: u16, offset: u32) -
     shown(alloc, &(outer, inner, place.to_internal_offset(map)))
 }
 
-/// What an internal place becomes: address of the image, internal address, place.
+/// Converts an internal place to an address of the image, an internal address, and a place.
 fn internal_place(alloc: Global, map: &AddressMap<'_>, section: u16, offset: u32) -> Result<String>
     requires { IsOrdered map.now }
 {
@@ -84,7 +88,7 @@ fn internal_place(alloc: Global, map: &AddressMap<'_>, section: u16, offset: u32
     shown(alloc, &(outer, inner, place.to_section_offset(map)))
 }
 
-/// What a range of the image becomes, address by address.
+/// Converts a range of the image, and lists its internal addresses.
 fn image_range(alloc: Global, map: &AddressMap<'_>, range: Range<u32>) -> Result<String>
     requires { IsOrdered map.now }
 {
@@ -95,7 +99,7 @@ fn image_range(alloc: Global, map: &AddressMap<'_>, range: Range<u32>) -> Result
     Ok(text)
 }
 
-/// What an internal range becomes, address by address.
+/// Converts an internal range, and lists its addresses of the image.
 fn internal_range(alloc: Global, map: &AddressMap<'_>, range: Range<u32>) -> Result<String>
     requires { IsOrdered map.now }
 {
@@ -114,7 +118,7 @@ fn push_addresses(alloc: Global, text: &mut String, range: Range<u32>) -> Result
     Ok(())
 }
 
-/// Where an internal address lies, and over how many addresses places go on.
+/// Returns where an internal address lies, and over how many addresses places go on.
 fn run(alloc: Global, map: &AddressMap<'_>, address: u32, limit: u32) -> Result<String> {
     if limit == 0 || u64::from(address) + u64::from(limit) > 0x1_0000_0000 {
         return Err(not_a_case());

@@ -15,7 +15,10 @@ use std::alloc::Global;
 /// An open database over a file's bytes.
 type Database = PDB<'static, Vec<u8>>;
 
-/// The answer of the database that a file's bytes make; it is asked again where it finds no memory.
+/// Answers a question by the database of a file's bytes. It is asked again if memory runs out.
+///
+/// # Errors
+/// What can't be read of the database; `OutOfMemory`.
 pub fn ask(
     rt: &(impl Print + AllocGlobal),
     bytes: Vec<u8>,
@@ -31,7 +34,7 @@ pub fn ask(
     }
 }
 
-/// The answer of an open database.
+/// Answers a question by an open database.
 fn ask_database(alloc: Global, database: &mut Database, question: &Question<'_>) -> Result<String> {
     match question.task {
         Task::Raw | Task::Get | Task::Named => ask_streams(alloc, database, question),
@@ -56,18 +59,18 @@ fn ask_database(alloc: Global, database: &mut Database, question: &Question<'_>)
     }
 }
 
-/// The section headers of the image.
+/// Returns the section headers of the image.
 fn sections_text(alloc: Global, database: &mut Database) -> Result<String> {
     shown_read(alloc, database.sections(alloc))
 }
 
-/// The answer of the global symbols.
+/// Answers a question by the global symbols.
 fn globals_text(alloc: Global, database: &mut Database, question: &Question<'_>) -> Result<String> {
     let table = database.global_symbols(alloc)?;
     ask_globals(alloc, &table, question)
 }
 
-/// The global symbols, or those from a place on.
+/// Returns the global symbols, or those from an index on.
 fn ask_globals(alloc: Global, table: &SymbolTable<'_>, question: &Question<'_>) -> Result<String> {
     match question.task {
         Task::Globals => listed(alloc, &mut table.iter()),
@@ -75,25 +78,25 @@ fn ask_globals(alloc: Global, table: &SymbolTable<'_>, question: &Question<'_>) 
     }
 }
 
-/// The answer of stream 3.
+/// Answers a question by stream 3.
 fn debug_text(alloc: Global, database: &mut Database, question: &Question<'_>) -> Result<String> {
     let debug = database.debug_information(alloc)?;
     ask_debug(alloc, &debug, question.task)
 }
 
-/// The answer of stream 2.
+/// Answers a question by stream 2.
 fn types_text(alloc: Global, database: &mut Database, question: &Question<'_>) -> Result<String> {
     let table = database.type_information(alloc)?;
     ask_types(alloc, &table, question)
 }
 
-/// The answer of stream 4.
+/// Answers a question by stream 4.
 fn ids_text(alloc: Global, database: &mut Database, question: &Question<'_>) -> Result<String> {
     let table = database.id_information(alloc)?;
     ask_ids(alloc, &table, question)
 }
 
-/// The answer of the address map.
+/// Answers a question by the address map.
 fn addresses_text(
     alloc: Global,
     database: &mut Database,
@@ -103,7 +106,7 @@ fn addresses_text(
     addresses::ask(alloc, &map, question)
 }
 
-/// The answer of a stream by number or name.
+/// Returns the bytes of a stream by its number or its name.
 fn ask_streams(alloc: Global, database: &mut Database, question: &Question<'_>) -> Result<String> {
     let index = StreamIndex(u16::try_from(question.numbers.0).unwrap_or(0xffff));
     match question.task {
@@ -116,7 +119,7 @@ fn ask_streams(alloc: Global, database: &mut Database, question: &Question<'_>) 
     }
 }
 
-/// The bytes of a stream, if it is there.
+/// Returns the bytes of a stream, if it is there.
 fn stream_text(alloc: Global, stream: &Option<Stream<'_>>) -> Result<String> {
     match stream {
         None => shown(alloc, &"none"),
@@ -124,7 +127,7 @@ fn stream_text(alloc: Global, stream: &Option<Stream<'_>>) -> Result<String> {
     }
 }
 
-/// The name of a file.
+/// Returns the name of a file.
 fn ask_name(alloc: Global, database: &mut Database, question: &Question<'_>) -> Result<String> {
     let names = database.string_table(alloc)?;
     let name = StringRef(question.numbers.0);
@@ -134,32 +137,32 @@ fn ask_name(alloc: Global, database: &mut Database, question: &Question<'_>) -> 
     }
 }
 
-/// The name of a file as a text, in UTF-8.
+/// Returns the name of a file as a text, in UTF-8.
 fn name_text(alloc: Global, names: &StringTable<'_>, name: StringRef) -> Result<String> {
     let text = name.to_string_lossy(alloc, names)?;
     shown(alloc, &text.as_str().as_bytes())
 }
 
-/// The numbers of stream 1.
+/// Returns the numbers of stream 1.
 fn information_text(alloc: Global, database: &mut Database) -> Result<String> {
     let said = database.pdb_information(alloc)?;
     let guid = said.guid;
     shown(alloc, &(said.version, said.signature, said.age, guid))
 }
 
-/// The names of streams.
+/// Returns the names of streams.
 fn names_text(alloc: Global, database: &mut Database) -> Result<String> {
     let information = database.pdb_information(alloc)?;
     ask_names(alloc, &information)
 }
 
-/// The names of streams that stream 1 says.
+/// Returns the names of streams by stream 1.
 fn ask_names(alloc: Global, information: &PDBInformation<'_>) -> Result<String> {
     let names = information.stream_names(alloc)?;
     listed_names(alloc, &names)
 }
 
-/// Names of streams, in the order of their entries.
+/// Lists names of streams, in the order of their entries.
 fn listed_names(alloc: Global, names: &StreamNames<'_>) -> Result<String> {
     let mut text = String::new(alloc);
     for entry in names.iter() {
@@ -168,7 +171,7 @@ fn listed_names(alloc: Global, names: &StreamNames<'_>) -> Result<String> {
     Ok(text)
 }
 
-/// The answer of stream 3: machine and age, modules, contributions.
+/// Returns what stream 3 says: the machine and the age, the modules, or the contributions.
 fn ask_debug(alloc: Global, debug: &DebugInformation<'_>, task: Task) -> Result<String> {
     match task {
         Task::Debug => shown(alloc, &(debug.machine_type(), debug.age())),
@@ -177,7 +180,7 @@ fn ask_debug(alloc: Global, debug: &DebugInformation<'_>, task: Task) -> Result<
     }
 }
 
-/// The answer of the table of types.
+/// Answers a question by the table of types.
 fn ask_types(
     alloc: Global,
     table: &TypeInformation<'_>,
@@ -193,19 +196,19 @@ fn ask_types(
     }
 }
 
-/// The record of a type of the first block, found by a fresh finder.
+/// Returns the record of a type of the first block, by a new finder.
 fn type_text(alloc: Global, table: &TypeInformation<'_>, index: TypeIndex) -> Result<String> {
     let finder = table.finder(alloc)?;
     found_type(alloc, &finder, index)
 }
 
-/// The record of a type that a finder finds.
+/// Returns the record of a type that a finder finds.
 fn found_type(alloc: Global, finder: &TypeFinder<'_>, index: TypeIndex) -> Result<String> {
     let item = finder.find(index)?;
     shown_read(alloc, item.parse(alloc))
 }
 
-/// The answer of the table of ids.
+/// Answers a question by the table of ids.
 fn ask_ids(alloc: Global, table: &IdInformation<'_>, question: &Question<'_>) -> Result<String> {
     match question.task {
         Task::IdTable => shown(
@@ -217,25 +220,25 @@ fn ask_ids(alloc: Global, table: &IdInformation<'_>, question: &Question<'_>) ->
     }
 }
 
-/// The record of an id of the first block, found by a fresh finder.
+/// Returns the record of an id of the first block, by a new finder.
 fn id_text(alloc: Global, table: &IdInformation<'_>, index: IdIndex) -> Result<String> {
     let finder = table.finder(alloc)?;
     found_id(alloc, &finder, index)
 }
 
-/// The record of an id that a finder finds.
+/// Returns the record of an id that a finder finds.
 fn found_id(alloc: Global, finder: &IdFinder<'_>, index: IdIndex) -> Result<String> {
     let item = finder.find(index)?;
     shown_read(alloc, item.parse(alloc))
 }
 
-/// The answer of the stream of the module of a number, counted from 0.
+/// Answers a question by the stream of the module with that index.
 fn ask_module(alloc: Global, database: &mut Database, question: &Question<'_>) -> Result<String> {
     let debug = database.debug_information(alloc)?;
     ask_module_of(alloc, database, &debug, question)
 }
 
-/// The same of the list of modules that stream 3 says.
+/// Answers a question by the stream of the module with that index in the list of stream 3.
 fn ask_module_of(
     alloc: Global,
     database: &mut Database,
@@ -249,7 +252,7 @@ fn ask_module_of(
     }
 }
 
-/// The names of a module and of its object file as texts, in UTF-8.
+/// Returns the names of a module and of its object file as texts, in UTF-8.
 fn module_names(alloc: Global, module: &Module<'_>) -> Result<String> {
     let name = module.module_name(alloc)?;
     let object_file = module.object_file_name(alloc)?;
@@ -258,7 +261,7 @@ fn module_names(alloc: Global, module: &Module<'_>) -> Result<String> {
     Ok(format!(in alloc; "({name}, {object_file})")?)
 }
 
-/// The answer of a module's stream.
+/// Answers a question by a module's stream.
 fn ask_stream_of(
     alloc: Global,
     database: &mut Database,
@@ -271,7 +274,7 @@ fn ask_stream_of(
     }
 }
 
-/// The module of a number, counted from 0.
+/// Returns the module with that index.
 fn module_at<'m>(debug: &'m DebugInformation<'_>, number: u32) -> Result<Option<Module<'m>>> {
     let mut modules = debug.modules();
     for _ in 0..number {

@@ -1,14 +1,16 @@
-//! Goes through recorded cases of reading, what records, streams, tables and addresses say: `recorded_reads FILE..`.
+//! Goes through recorded cases of what records, streams, tables and addresses say:
+//! `recorded_reads FILE..`.
 //!
-//! A line of a FILE is a case if it holds ` => `. Before that stand words: what is asked; bytes in hexadecimal, a
-//! number or a database's file; changes of that file or further bytes; numbers. Behind it stands the answer, or the
-//! fault, that must come.
+//! A line of a FILE is a case if it contains ` => `. Before that stand words: what is asked; bytes
+//! in hexadecimal, a number or a database's file; changes of that file or further bytes; and
+//! numbers. After it stands the answer, or the fault, that must come.
 //!
-//! Each case that is answered otherwise than recorded is printed, and at last how many cases there are.
+//! Each case whose answer isn't as recorded is printed, and at last the number of cases.
 //!
-//! Where a case finds no memory, `out of memory` is printed, and it is asked once more: of the same database, if that was open. A
-//! library refuses the requests in turn (`tests/refused_requests`): which ones are a case's is shown by `+` and `-` on standard
-//! error, before it and after it.
+//! When a case runs out of memory, `out of memory` is printed, and it is asked once more, of the
+//! same database if that was open. A library refuses the requests in turn
+//! (`tests/refused_requests`). Standard error has `+` before each case and `-` after it, which
+//! shows that library which requests are the case's.
 #![tactic(auto)]
 
 mod addresses;
@@ -62,7 +64,7 @@ fn run_line(rt: &(impl Files + Print + Eprint + AllocGlobal), line: &str) -> Res
     }
 }
 
-/// Prints a case that is answered otherwise.
+/// Answers a case, and prints it if the answer isn't as recorded.
 fn run_case(
     rt: &(impl Files + Print + Eprint + AllocGlobal),
     question: &str,
@@ -80,7 +82,7 @@ fn print_other(rt: &impl Print, question: &str, answer: &str, wanted: &str) -> i
     println!(rt; "{question}\n  gives {answer}\n  and not {wanted}")
 }
 
-/// The answer to a question, or why there is none; it is asked again where no memory is found.
+/// Returns the answer to a question, or its fault as a text. It is asked again if memory runs out.
 fn told(
     rt: &(impl Files + Print + Eprint + AllocGlobal),
     question: &Question<'_>,
@@ -91,7 +93,7 @@ fn told(
     }
 }
 
-/// The answer to a question, that is asked again where no memory is found.
+/// Answers a question, and once more if memory runs out.
 fn answer_again(
     rt: &(impl Files + Print + Eprint + AllocGlobal),
     question: &Question<'_>,
@@ -108,7 +110,7 @@ fn answer_again(
     }
 }
 
-/// The answer to a question.
+/// Answers a question.
 fn answer(rt: &(impl Files + Print + AllocGlobal), question: &Question<'_>) -> Result<String> {
     match question.subject {
         Subject::Number(number) => sums::ask(rt.alloc(), number, question),

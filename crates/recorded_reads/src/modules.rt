@@ -14,7 +14,10 @@ use pdb_symbols_modules::{
 };
 use std::alloc::Global;
 
-/// The answer of what bytes spell.
+/// Answers a question by bytes.
+///
+/// # Errors
+/// What can't be read of the bytes, a case that there isn't; `OutOfMemory`.
 pub fn ask(alloc: Global, bytes: &[u8], question: &Question<'_>) -> Result<String> {
     match question.task {
         Task::Type => records::type_text(alloc, bytes),
@@ -38,13 +41,16 @@ pub fn ask(alloc: Global, bytes: &[u8], question: &Question<'_>) -> Result<Strin
     }
 }
 
-/// A text that is stored as bytes, in UTF-8.
+/// Returns a text that is stored as bytes, in UTF-8.
 fn raw_text(alloc: Global, text: RawString<'_>) -> Result<String> {
     let text = text.to_string(alloc)?;
     shown(alloc, &text.as_str().as_bytes())
 }
 
-/// The answer of a module's stream.
+/// Answers a question by a module's stream.
+///
+/// # Errors
+/// What can't be read of the stream, a case that there isn't; `OutOfMemory`.
 pub fn ask_stream(
     alloc: Global,
     module: &ModuleInfo<'_>,
@@ -62,12 +68,12 @@ pub fn ask_stream(
     }
 }
 
-/// The symbols of a module.
+/// Returns the symbols of a module.
 fn symbols_text(alloc: Global, symbols: Result<SymbolIter<'_>>) -> Result<String> {
     listed(alloc, &mut symbols?)
 }
 
-/// The answer of a list of symbols of less than 65536 bytes.
+/// Answers a question by a list of symbols of less than 65536 bytes.
 fn ask_symbols(alloc: Global, bytes: &[u8], question: &Question<'_>) -> Result<String> {
     if bytes.len() > 0xffff {
         return Err(not_a_case());
@@ -84,7 +90,8 @@ fn ask_symbols(alloc: Global, bytes: &[u8], question: &Question<'_>) -> Result<S
     }
 }
 
-/// The symbol that a jump to a place finds, and all behind it; a second jump finds the same.
+/// Returns the symbol that a jump to a place finds, all symbols after it, and what a second jump
+/// finds.
 fn skip_text(alloc: Global, symbols: &mut SymbolIter<'_>, place: SymbolIndex) -> Result<String> {
     let mut text = String::new(alloc);
     let found = symbols.skip_to(place)?;
@@ -96,14 +103,14 @@ fn skip_text(alloc: Global, symbols: &mut SymbolIter<'_>, place: SymbolIndex) ->
     Ok(text)
 }
 
-/// Kind, index and bytes of a symbol, and whether it starts or ends a scope.
+/// Returns index, kind and bytes of a symbol, and whether it starts or ends a scope.
 fn kind_text(alloc: Global, symbol: &Symbol<'_>) -> Result<String> {
     let scope = (symbol.starts_scope(), symbol.ends_scope());
     let (index, kind) = (symbol.index(), symbol.raw_kind());
     shown(alloc, &(index, kind, symbol.raw_bytes(), scope))
 }
 
-/// The answer of a module's line data that were read.
+/// Answers a question by a module's line data, if they were read.
 fn ask_lines(
     alloc: Global,
     lines: Result<LineProgram<'_>>,
@@ -112,7 +119,8 @@ fn ask_lines(
     lines_text(alloc, &lines?, question)
 }
 
-/// The answer of a module's line data. Its last two numbers are a place, or the second is a file's index.
+/// Answers a question by a module's line data. The question's last two numbers are a place, or the
+/// last one is a file's index.
 fn lines_text(alloc: Global, lines: &LineProgram<'_>, question: &Question<'_>) -> Result<String> {
     let (_, section, number) = question.numbers;
     match question.task {
@@ -126,7 +134,7 @@ fn lines_text(alloc: Global, lines: &LineProgram<'_>, question: &Question<'_>) -
     }
 }
 
-/// A place in a section; past 65535 sections there is none.
+/// Returns a place in a section. A section past 65535 becomes 65535.
 fn place_of(section: u32, offset: u32) -> PdbInternalSectionOffset {
     PdbInternalSectionOffset {
         offset,
@@ -134,7 +142,7 @@ fn place_of(section: u32, offset: u32) -> PdbInternalSectionOffset {
     }
 }
 
-/// The ids of inlined functions, and how their list ends.
+/// Returns the ids of inlined functions, and how their list ends.
 fn inlinees_text(alloc: Global, inlinees: Result<InlineeIterator<'_>>) -> Result<String> {
     let mut inlinees = inlinees?;
     let mut text = String::new(alloc);
@@ -147,7 +155,7 @@ fn inlinees_text(alloc: Global, inlinees: Result<InlineeIterator<'_>>) -> Result
     Ok(text)
 }
 
-/// An inlined function's id.
+/// Returns an inlined function's id.
 fn id_of(inlinee: Result<Option<Inlinee<'_>>>) -> Result<IdIndex> {
     match inlinee? {
         None => Err(not_a_case()),
@@ -155,19 +163,19 @@ fn id_of(inlinee: Result<Option<Inlinee<'_>>>) -> Result<IdIndex> {
     }
 }
 
-/// The rows of a call of the first inlined function with these annotations.
+/// Returns the rows of a call of the first inlined function with the question's annotations.
 fn call_text(alloc: Global, bytes: &[u8], question: &Question<'_>) -> Result<String> {
     let annotations = bytes_of(alloc, question.further)?;
     let (_, section, offset) = question.numbers;
     call_rows(alloc, bytes, &annotations, place_of(section, offset))
 }
 
-/// The first inlined function.
+/// Returns the first inlined function.
 fn first_inlinee(bytes: &[u8]) -> Result<Option<Inlinee<'_>>> {
     InlineeIterator::parse(bytes)?.next()
 }
 
-/// The rows of a call with these annotations.
+/// Returns the rows of a call with these annotations.
 fn call_rows<'a>(
     alloc: Global,
     bytes: &'a [u8],
@@ -187,7 +195,7 @@ fn call_rows<'a>(
     }
 }
 
-/// The answer of imports that were read.
+/// Answers a question by imports, if they were read.
 fn ask_imports(
     alloc: Global,
     imports: Result<CrossModuleImports<'_>>,
@@ -196,7 +204,7 @@ fn ask_imports(
     imported_text(alloc, &imports?, question)
 }
 
-/// What an index stands for in another module.
+/// Returns what an index stands for in another module.
 fn imported_text(
     alloc: Global,
     imports: &CrossModuleImports<'_>,
@@ -209,7 +217,7 @@ fn imported_text(
     }
 }
 
-/// The answer of exports that were read.
+/// Answers a question by exports, if they were read.
 fn ask_exports(
     alloc: Global,
     exports: Result<CrossModuleExports<'_>>,
@@ -218,7 +226,7 @@ fn ask_exports(
     exported_text(alloc, &exports?, question)
 }
 
-/// The exports, or what a type's or an id's index stands for.
+/// Returns the exports, or what a type's or an id's index stands for.
 fn exported_text(
     alloc: Global,
     exports: &CrossModuleExports<'_>,
@@ -233,7 +241,7 @@ fn exported_text(
     }
 }
 
-/// The exports in their order, and how many they are.
+/// Returns the exports in their order, and their number.
 fn exports_text(alloc: Global, exports: &CrossModuleExports<'_>) -> Result<String> {
     let mut text = String::new(alloc);
     for export in exports.exports() {

@@ -7,7 +7,11 @@ use pdb_container::Result;
 use pdb_container_types::PageList;
 use std::alloc::Global;
 
-/// Slices and length of the pages that a name lists, of the size of the first number, cut to the second one's bytes.
+/// Returns the slices and the length of the pages that the question's name lists. The first number
+/// is their size, and the second one the length in bytes to which they are cut.
+///
+/// # Errors
+/// `UnimplementedFeature` for a case that there isn't; `OutOfMemory`.
 pub fn pages_text(alloc: Global, question: &Question<'_>) -> Result<String> {
     let (size, length, _) = question.numbers;
     if size == 0 || size > 0x10000 {
@@ -19,7 +23,7 @@ pub fn pages_text(alloc: Global, question: &Question<'_>) -> Result<String> {
     shown(alloc, &(pages.source_slices(), pages.len()))
 }
 
-/// One more page for each number.
+/// Appends a page for each number.
 fn push_pages(pages: &mut PageList, numbers: &str) -> Result<()> {
     for number in numbers.split(',') {
         if pages.len() > 0x1000_0000 {

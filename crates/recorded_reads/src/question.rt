@@ -1,9 +1,9 @@
-//! What a case asks.
+//! What a case asks for.
 
-/// What is asked.
+/// What a case asks for.
 #[derive(Clone, Copy)]
 pub enum Task {
-    /// The primitive type of an index.
+    /// The primitive type with an index.
     Primitive,
     /// What a type's record says.
     Type,
@@ -13,7 +13,7 @@ pub enum Task {
     Attributes,
     /// Bytes as a text, in UTF-8.
     Text,
-    /// The slices of pages whose numbers the name lists, of a size, cut to so many bytes.
+    /// The slices of pages whose numbers the name lists, with a size, cut to a length.
     Pages,
     /// Binary annotations one by one.
     Annotations,
@@ -23,7 +23,7 @@ pub enum Task {
     Symbol,
     /// What the kind of the symbol at a place means.
     SymbolKind,
-    /// The first symbol at a place or later, and those behind it.
+    /// The first symbol at a place or later, and those after it.
     SkipTo,
     /// The rows of a line program.
     Lines,
@@ -31,7 +31,7 @@ pub enum Task {
     LinesAt,
     /// The source files of a line program.
     Files,
-    /// The source file of an index.
+    /// The source file with an index.
     File,
     /// The inlinees of a module.
     Inlinees,
@@ -55,7 +55,7 @@ pub enum Task {
     Named,
     /// The name at an offset of the string table.
     Name,
-    /// The same as a text, in UTF-8.
+    /// The name at an offset of the string table as a text, in UTF-8.
     NameText,
     /// What the information stream says.
     Information,
@@ -79,29 +79,29 @@ pub enum Task {
     TypeTable,
     /// The types one by one.
     Types,
-    /// The type of an index.
+    /// The type with an index.
     FindType,
     /// What the header of the IPI says.
     IdTable,
     /// The ids one by one.
     Ids,
-    /// The id of an index.
+    /// The id with an index.
     FindId,
     /// The section headers of the address map.
     ImageSections,
     /// The names of these sections.
     SectionNames,
-    /// What an RVA becomes.
+    /// An RVA, converted.
     ImageAddress,
-    /// What an internal RVA becomes.
+    /// An internal RVA, converted.
     InternalAddress,
-    /// What a place of the image becomes.
+    /// A place of the image, converted.
     ImagePlace,
-    /// What an internal place becomes.
+    /// An internal place, converted.
     InternalPlace,
-    /// What a range of RVAs becomes.
+    /// A range of RVAs, converted.
     ImageRange,
-    /// What a range of internal RVAs becomes.
+    /// A range of internal RVAs, converted.
     InternalRange,
     /// How far the place of an internal RVA goes on.
     Run,
@@ -117,7 +117,7 @@ pub enum Task {
     Unknown,
 }
 
-/// Of what it is asked.
+/// The subject of a question.
 #[derive(Clone, Copy)]
 pub enum Subject<'q> {
     /// A number.
@@ -128,23 +128,23 @@ pub enum Subject<'q> {
     File(&'q str),
 }
 
-/// What a case asks: a task, its subject, further bytes or the file's changes, numbers and a name.
+/// The question of a case.
 #[derive(Clone, Copy)]
 pub struct Question<'q> {
-    /// What is asked.
+    /// What the case asks for.
     pub task: Task,
-    /// Of what it is asked.
+    /// What it is asked of.
     pub subject: Subject<'q>,
     /// Further bytes in hexadecimal, or how the file differs.
     pub further: &'q str,
-    /// Numbers, whose meaning the task says.
+    /// Numbers, whose meaning depends on the task.
     pub numbers: (u32, u32, u32),
     /// A name.
     pub name: &'q str,
 }
 
-/// The question that words ask: task, subject, further bytes or changes, three numbers, a name. Words at the end may be
-/// missing.
+/// Returns the question of words: task, subject, further bytes or changes, three numbers, and a
+/// name. Words at the end may be missing.
 pub fn question_of(words: &str) -> Question<'_> {
     let mut words = words.split(' ');
     let task = task_of(words.next().unwrap_or(""));
@@ -164,12 +164,12 @@ pub fn question_of(words: &str) -> Question<'_> {
     }
 }
 
-/// The number that a word spells, or 0.
+/// Returns the number that a word spells, or 0.
 fn number(word: &str) -> u32 {
     word.parse::<u32>().unwrap_or(0)
 }
 
-/// The subject of a task that a word names.
+/// Returns the subject of a task that a word names.
 fn subject_of(task: Task, word: &str) -> Subject<'_> {
     match task {
         Task::Primitive
@@ -182,7 +182,7 @@ fn subject_of(task: Task, word: &str) -> Subject<'_> {
     }
 }
 
-/// The task of a word.
+/// Returns the task of a word.
 fn task_of(word: &str) -> Task {
     for (name, task) in TASKS {
         if word == *name {

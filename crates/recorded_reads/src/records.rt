@@ -7,28 +7,40 @@ use pdb_container_types::{PointerAttributes, TypeData, TypeIndex, type_data_for_
 use pdb_records::{parse_id_data, parse_type_data};
 use std::alloc::Global;
 
-/// What the record of a type says.
+/// Returns what the record of a type says.
+///
+/// # Errors
+/// As [`parse_type_data`]; `OutOfMemory`.
 pub fn type_text(alloc: Global, bytes: &[u8]) -> Result<String> {
     shown_read(alloc, parse_type_data(alloc, bytes))
 }
 
-/// What the record of an id says.
+/// Returns what the record of an id says.
+///
+/// # Errors
+/// As [`parse_id_data`]; `OutOfMemory`.
 pub fn id_text(alloc: Global, bytes: &[u8]) -> Result<String> {
     shown_read(alloc, parse_id_data(alloc, bytes))
 }
 
-/// What a primitive type is.
+/// Returns what a primitive type is.
+///
+/// # Errors
+/// As [`type_data_for_primitive`]; `OutOfMemory`.
 pub fn primitive(alloc: Global, index: u32) -> Result<String> {
     shown_read(alloc, type_data_for_primitive(TypeIndex(index)))
 }
 
-/// What the attributes of a type's record mean.
+/// Returns what the attributes of a type's record mean.
+///
+/// # Errors
+/// As [`parse_type_data`], a case that there isn't; `OutOfMemory`.
 pub fn attributes_text(alloc: Global, bytes: &[u8]) -> Result<String> {
     let data = parse_type_data(alloc, bytes)?;
     attributes_of(alloc, &data)
 }
 
-/// What the attributes of a type mean.
+/// Returns what the attributes of a type mean.
 fn attributes_of(alloc: Global, data: &TypeData<'_>) -> Result<String> {
     match data {
         TypeData::Pointer(pointer) => pointer_text(alloc, pointer.attributes),
@@ -45,7 +57,7 @@ fn attributes_of(alloc: Global, data: &TypeData<'_>) -> Result<String> {
     }
 }
 
-/// Kind, mode, size and constancy of a pointer.
+/// Returns kind, mode and size of a pointer, and whether it is constant.
 fn pointer_text(alloc: Global, pointer: PointerAttributes) -> Result<String> {
     let (kind, mode) = (pointer.pointer_kind(), pointer.pointer_mode());
     shown(alloc, &(kind, mode, pointer.size(), pointer.is_const()))

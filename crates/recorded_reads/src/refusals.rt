@@ -1,18 +1,27 @@
-//! What is told of refused memory.
+//! What is reported of refused memory.
 
 use std::io;
 
-/// Says that a case begins.
+/// Reports that a case begins.
+///
+/// # Errors
+/// A failed write.
 pub fn begin(rt: &impl Eprint) -> io::Result<()> {
     eprint!(rt; "+")
 }
 
-/// Says that a case ended.
+/// Reports that a case ended.
+///
+/// # Errors
+/// A failed write.
 pub fn end(rt: &impl Eprint) -> io::Result<()> {
     eprint!(rt; "-")
 }
 
-/// Says that no memory was found, and the same is asked again.
+/// Reports that memory ran out, before the same is asked again.
+///
+/// # Errors
+/// A failed write.
 pub fn tell(rt: &impl Print) -> io::Result<()> {
     println!(rt; "out of memory")
 }

@@ -4,24 +4,36 @@ use pdb_container::{Error, FallibleIterator, Result};
 use std::alloc::Global;
 use std::fmt::Debug;
 
-/// A value as a text.
+/// Returns a value as a text.
+///
+/// # Errors
+/// `OutOfMemory`.
 pub fn shown<T: Debug>(alloc: Global, value: &T) -> Result<String> {
     Ok(format!(in alloc; "{value:?}")?)
 }
 
-/// What was read, as a text.
+/// Returns what was read, as a text.
+///
+/// # Errors
+/// The fault of reading it; `OutOfMemory`.
 pub fn shown_read<T: Debug + Drop>(alloc: Global, read: Result<T>) -> Result<String> {
     shown(alloc, &read?)
 }
 
 /// Appends a value.
+///
+/// # Errors
+/// `OutOfMemory`.
 pub fn push<T: Debug>(alloc: Global, text: &mut String, value: &T) -> Result<()> {
     let shown = format!(in alloc; "{value:?}; ")?;
     Ok(text.push_str(shown.as_str())?)
 }
 
-/// What an iterator answers up to its end: each item with `; ` behind it, and then `end` or its fault. Behind that
-/// nothing may come.
+/// Lists what an iterator answers up to its end: each item with `; ` after it, and then `end` or
+/// its fault. If anything comes after that, the text says so.
+///
+/// # Errors
+/// `OutOfMemory`.
 pub fn listed<T: Debug + Drop, I: FallibleIterator<Item = T, Error = Error>>(
     alloc: Global,
     iterator: &mut I,
@@ -42,7 +54,7 @@ pub fn listed<T: Debug + Drop, I: FallibleIterator<Item = T, Error = Error>>(
     Ok(text)
 }
 
-/// How a list ends.
+/// Returns how a list ends, as a text.
 fn end_text<T: Drop>(alloc: Global, end: Result<Option<T>>) -> Result<String> {
     match end {
         Ok(_) => Ok("end".to_string(alloc)?),

@@ -1,4 +1,4 @@
-//! Sums of addresses, and primitive types: what is asked of numbers.
+//! Sums of addresses, and primitive types: what numbers are asked for.
 
 use crate::question::{Question, Task};
 use crate::records;
@@ -7,7 +7,10 @@ use pdb_container::Result;
 use pdb_container_types::{PdbInternalRva, PdbInternalSectionOffset, Rva, SectionOffset};
 use std::alloc::Global;
 
-/// The answer of a number and further ones.
+/// Answers a question by a number and further ones.
+///
+/// # Errors
+/// As [`records::primitive`]; `OutOfMemory`.
 pub fn ask(alloc: Global, number: u32, question: &Question<'_>) -> Result<String> {
     let (other, _, _) = question.numbers;
     match question.task {
@@ -19,7 +22,7 @@ pub fn ask(alloc: Global, number: u32, question: &Question<'_>) -> Result<String
     }
 }
 
-/// Both sums and differences of an address and a number: checked, saturating, wrapping.
+/// Returns the sums and differences of an address and a number: checked, saturating, wrapping.
 fn image_sums(alloc: Global, address: Rva, other: u32) -> Result<String> {
     let on = (
         address.checked_add(other),
@@ -34,7 +37,7 @@ fn image_sums(alloc: Global, address: Rva, other: u32) -> Result<String> {
     shown(alloc, &(on, apart))
 }
 
-/// The same of an internal address.
+/// Returns the sums and differences of an internal address and a number.
 fn internal_sums(alloc: Global, address: PdbInternalRva, other: u32) -> Result<String> {
     let on = (
         address.checked_add(other),
@@ -49,7 +52,8 @@ fn internal_sums(alloc: Global, address: PdbInternalRva, other: u32) -> Result<S
     shown(alloc, &(on, apart))
 }
 
-/// The sums of an offset in section 2, and how the place compares with the number in the same section and in another.
+/// Returns the sums of an offset in section 2, and how the place compares with the number as an
+/// offset in the same section and in another one.
 fn image_place_sums(alloc: Global, offset: u32, other: u32) -> Result<String> {
     let place = SectionOffset { offset, section: 2 };
     let on = (
@@ -71,7 +75,8 @@ fn image_place_sums(alloc: Global, offset: u32, other: u32) -> Result<String> {
     )
 }
 
-/// The same of an internal place.
+/// Returns the sums of an offset in section 2, and how the internal place compares with the number
+/// as an offset in the same section and in another one.
 fn internal_place_sums(alloc: Global, offset: u32, other: u32) -> Result<String> {
     let place = PdbInternalSectionOffset { offset, section: 2 };
     let on = (

@@ -4,12 +4,15 @@ use hex::FromHexError;
 use pdb_container::{Error, Result};
 use std::alloc::Global;
 
-/// Says that a case asks nothing that there is.
+/// Returns the error for a case that there isn't.
 pub fn not_a_case() -> Error {
     Error::UnimplementedFeature("no such case")
 }
 
-/// The bytes that two hexadecimal digits each spell; `-` spells none.
+/// Returns the bytes that pairs of hexadecimal digits spell; `-` spells none.
+///
+/// # Errors
+/// `UnimplementedFeature` for other words; `OutOfMemory`.
 pub fn bytes_of(alloc: Global, word: &str) -> Result<Vec<u8>> {
     if word == "-" {
         return Ok(Vec::new(alloc));
@@ -22,6 +25,9 @@ pub fn bytes_of(alloc: Global, word: &str) -> Result<Vec<u8>> {
 }
 
 /// Writes bytes over those of a file, as `PLACE:BYTES,PLACE:BYTES`; `-` changes none.
+///
+/// # Errors
+/// As [`bytes_of`].
 pub fn change(alloc: Global, file: &mut [u8], changes: &str) -> Result<()> {
     for change in changes.split(',') {
         change_place(alloc, file, change)?;
@@ -29,7 +35,7 @@ pub fn change(alloc: Global, file: &mut [u8], changes: &str) -> Result<()> {
     Ok(())
 }
 
-/// Writes over a file what one change says.
+/// Writes the bytes of one change over a file.
 fn change_place(alloc: Global, file: &mut [u8], change: &str) -> Result<()> {
     if let Some((place, bytes)) = change.split_once(':') {
         let bytes = bytes_of(alloc, bytes)?;
