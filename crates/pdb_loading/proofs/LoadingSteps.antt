@@ -24,7 +24,7 @@ use Rattle.pdb_loading.proofs.Lifting.{fails_on, loads_on, opening_fails}
 
 -- ---- what is left of a load
 
--- what is left behind the tables
+-- what is left after the tables
 unfoldable loaded_behind : Shared → Dbi → Tables → Result Loaded LoadingFault
 loaded_behind c dbi read = do
   ordered ← refuse (not (is_ordered read.map)) AddressTableDecreases
@@ -32,28 +32,28 @@ loaded_behind c dbi read = do
   parts ← parts_in c dbi read
   Ok record { debug_information = dbi; tables = read; parts = parts }
 
--- what is left behind the container
+-- what is left after the container
 unfoldable loaded_open : Shared → Result Loaded LoadingFault
 loaded_open c = do
   dbi ← lifted (debug_information c)
   read ← lifted (tables c dbi)
   loaded_behind c dbi read
 
--- behind a container that is open
+-- after a container that is open
 opened : (s : Streams) → s.open_fault ≡ None → loaded (shared s) ≡ loaded_open (shared s)
 unfolding loaded loaded_open loaded_behind shared
 opened s h = rw h refl
 
--- behind stream 3
+-- after stream 3
 behind_dbi : (c : Shared) (dbi : Dbi) → debug_information c ≡ Ok dbi → loaded_open c ≡ (lifted (tables c dbi) >>= loaded_behind c dbi)
 unfolding loaded_open
 behind_dbi c dbi read = ap (λ r. lifted r >>= λ d. lifted (tables c d) >>= loaded_behind c d) read
 
--- behind the tables
+-- after the tables
 behind_tables : (c : Shared) (dbi : Dbi) (read : Tables) → debug_information c ≡ Ok dbi → tables c dbi ≡ Ok read → loaded_open c ≡ loaded_behind c dbi read
 behind_tables c dbi read dbi_is read_is = behind_dbi c dbi dbi_is ∙ ap (λ r. lifted r >>= loaded_behind c dbi) read_is
 
--- what is behind the order of the tables
+-- what is after the order of the tables
 abbrev after_order : Shared → Dbi → Tables → Result Loaded LoadingFault
 after_order c dbi read = lifted (listed dbi) >>= λ whole_list. parts_in c dbi read >>= λ parts. Ok (record { debug_information = dbi; tables = read; parts = parts })
 
@@ -65,7 +65,7 @@ out_of_order : (c : Shared) (dbi : Dbi) (read : Tables) → is_ordered read.map 
 unfolding loaded_behind
 out_of_order c dbi read h = rw h refl
 
--- behind the module list
+-- after the module list
 behind_list : (c : Shared) (dbi : Dbi) (read : Tables) (u : Unit {0}) → is_ordered read.map ≡ true → listed dbi ≡ Ok u
     → loaded_behind c dbi read ≡ (parts_in c dbi read >>= λ parts. Ok (record { debug_information = dbi; tables = read; parts = parts }))
 behind_list c dbi read u ordered list_is = in_order c dbi read ordered ∙ ap (λ r. lifted r >>= λ whole_list. parts_in c dbi read >>= λ parts. Ok (record { debug_information = dbi; tables = read; parts = parts })) list_is
@@ -82,7 +82,7 @@ pub dbi_fails : (s : Streams) (e : Error) → s.open_fault ≡ None → (IsOutsi
 unfolding loaded_open
 dbi_fails s e h read = rw (opened s h) (loads_on e (debug_information (shared s)) _ read)
 
--- what stands behind stream 3 that is refused isn't loaded, with its fault
+-- what stands after stream 3 that is refused isn't loaded, with its fault
 pub tables_fail : (s : Streams) (e : Error) (dbi : Dbi) → s.open_fault ≡ None → debug_information (shared s) ≡ Ok dbi
     → (IsOutside e (HasRisen 0 0) ⊎ (tables (shared s) dbi ≡ Err (fault_of e))) → FailsLoading (load_fault_of e) (loaded (shared s))
 tables_fail s e dbi h dbi_is read = rw (opened s h, behind_dbi (shared s) dbi dbi_is) (loads_on e (tables (shared s) dbi) (loaded_behind (shared s) dbi) read)
@@ -131,7 +131,7 @@ parts_refused e parts f h = ap (λ r. in_loading r >>= f) (bind_failed parts (an
 
 -- ---- what is kept
 
--- stream 3 and what stands behind it, where both were read
+-- stream 3 and what stands after it, where both were read
 abbrev dbi_or : Dbi → Result DatabaseRead Fault → Dbi
 dbi_or d (Ok l) = l.debug_information
 dbi_or d (Err e) = d
@@ -201,7 +201,7 @@ is_kept file dbi read h u is_open dbi_is tables_are ordered is_so loads own was_
 pub kept_ordered : (dbi : Dbi) (read : Tables) (h : Held) → IsOrdered read.map → read_after dbi read ≡ Ok (read_in h) → IsOrdered h.tables.map
 kept_ordered dbi read h is loads = let same = read_is dbi read h loads in rw (sym same.1) is
 
--- ---- the same behind tables that are in order
+-- ---- the same after tables that are in order
 
 pub ordered_list_fails : (file : List ℕ) (e : Error) (dbi : Dbi) (read : Tables) → (streams file).open_fault ≡ None → AreInOrder (streams file) dbi read
     → (IsOutside e (HasRisen 0 0) ⊎ (read_after dbi read ≡ Err (fault_of e))) → FailsLoading (load_fault_of e) (loaded (shared (streams file)))

@@ -35,7 +35,7 @@ fn is_placed(table: &[u16], path: &[u32], count: usize, index: u32) -> bool
     place < count && path[place] % TABLE_LENGTH == index % TABLE_LENGTH
 }
 
-/// Puts the index behind a path's first `count` into their table, unless one of them has the same
+/// Puts the index after a path's first `count` into their table, unless one of them has the same
 /// low bits.
 fn put(table: &mut [u16], path: &[u32], count: usize)
     requires few { length path.now ≤ 1024 }
