@@ -9,21 +9,30 @@ use std::io;
 use std::io::ErrorKind;
 use std::marker::Model;
 
-/// How many bytes may be copied of bytes of any length: 64 MB.
+/// How many bytes may be copied or listed of bytes of any length: 64 MB.
 const ALWAYS: u64 = 0x400_0000;
 
 /// How many times their own length may be copied beside that.
 const TIMES: u64 = 7;
 
+/// How many times their own length may be listed beside that. It is large, so that a caller who
+/// asks for the same streams again and again isn't refused.
+const TIMES_LISTED: u64 = 1024;
+
 /// Bytes that are shared, as a file's. A view of one slice shares them, and any other has a copy.
-/// No more is copied in all than 64 MB and seven times the bytes themselves.
+/// No more is copied in all than 64 MB and seven times the bytes themselves, and no more is listed
+/// than 64 MB and 1,024 times the bytes, by the sizes that are asked for.
 ///
-/// A file's streams can name the same pages over and over. This bounds what copies of them take.
+/// A file's streams can name the same pages over and over. This bounds the memory that copies of
+/// them take, and the time of going through the lists: that is spent even where the view is then
+/// refused and nothing is copied.
 #[derive(Debug, Drop)]
 pub struct BoundedBytes {
     bytes: Bytes,
-    /// How many more may be copied.
+    /// How many more bytes may be copied.
     left: u64,
+    /// How many more bytes may be listed.
+    listed_left: u64,
 }
 
 impl Model for BoundedBytes {
@@ -35,17 +44,23 @@ impl Model for BoundedBytes {
 }
 
 impl BoundedBytes {
-    /// These bytes, of which nothing was copied yet.
+    /// These bytes, of which nothing was copied or listed yet.
     pub fn new(bytes: Bytes) -> BoundedBytes
         ensures { result ≡ bytes }
     {
         let len = bytes.len() as u64;
         let left = len.saturating_mul(TIMES).saturating_add(ALWAYS);
-        BoundedBytes { bytes, left }
+        let listed_left = len.saturating_mul(TIMES_LISTED).saturating_add(ALWAYS);
+        BoundedBytes {
+            bytes,
+            left,
+            listed_left,
+        }
     }
 }
 
-/// Past the bound a view is refused by `OutOfMemory`, and counts for nothing.
+/// Past the bound a view is refused by `OutOfMemory`, and counts for nothing. So is a list, which
+/// otherwise counts whether or not a view of it succeeds.
 impl Source for BoundedBytes {
     ghost bytes = { λ b. b };
 
@@ -67,5 +82,13 @@ impl Source for BoundedBytes {
 
     fn failures(&self) -> u64 {
         0
+    }
+
+    fn may_list(&mut self, size: u64) -> bool {
+        if self.listed_left < size {
+            return false;
+        }
+        self.listed_left -= size;
+        true
     }
 }

@@ -1,11 +1,12 @@
 //! The MSF directory: how many streams there are, their sizes, and where their page numbers stand.
 
 ghost use Rattle.std.specs.Prelude.{◌≡◌, ◌+◌, ◌-◌, ◌*◌, ◌<◌, ◌≤◌, ◌^◌, ℕ, length, vec_len};
-ghost use Rattle.std.specs.Prelude.{take, drop, slice_index, IfOk, Ok};
+ghost use Rattle.std.specs.Prelude.{take, drop, slice_index, IfOk, IfErr, Ok, Err, ◌≢◌};
 ghost use Rattle.std.specs.List.{sum_by};
-ghost use Rattle.pdb_container.specs.Container.{page_count, pages_in, stream_pages_in};
+ghost use Rattle.pdb_container.specs.Container.{absent, page_count, pages_in, stream_pages_in};
 ghost use Rattle.pdb_container.specs.Directory.{counted_in, starts_in, HasStarts};
-ghost use Rattle.pdb_container.specs.Fault.{Gives};
+ghost use Rattle.pdb_container.specs.declared.error.Error.TheVariants.{OutOfMemory};
+ghost use Rattle.pdb_container.specs.Fault.{fault_of, Gives};
 
 use crate::error::{Error, Result};
 use crate::paged_numbers::PagedNumbers;
@@ -61,6 +62,35 @@ impl Directory {
         ensures enough { IfOk result (λ found. found.0 ≤ vec_len found.1 * page_size) }
         ensures few { IfOk result (λ found. vec_len found.1 < 2 ^ 32) }
     {
+        let size = match self.size_of(number) {
+            Ok(size) => size,
+            Err(fault) => return Err(fault),
+        };
+        let numbers = &self.numbers;
+        let count = numbers.at(0);
+        let from = 1 + count as usize + self.pages_before(page_size, number);
+        let pages = pages_for(page_size, size) as usize;
+        let own = numbers.copied(alloc, from, pages)?;
+        match pages_of(alloc, used, pages, own.as_slice()) {
+            Ok(pages) => Ok((size, pages)),
+            Err(fault) => Err(fault),
+        }
+    }
+
+    /// The size in bytes that is stated for a stream. None of its page numbers is looked at.
+    ///
+    /// # Errors
+    /// `StreamNotFound`, `UnexpectedEof`, and no other.
+    pub fn size_of(&self, number: u32) -> Result<u32>
+        ensures counted { IfOk result (λ size. number < slice_index self.now.numbers 0) }
+        ensures whole { IfOk result
+            (λ size. slice_index self.now.numbers 0 < length self.now.numbers) }
+        ensures size { IfOk result (λ size. size ≡ slice_index self.now.numbers (1 + number)) }
+        ensures there { IfOk result (λ size. size ≢ absent) }
+        ensures err { IfErr result (λ e. (page_size used : ℕ)
+            → stream_pages_in page_size used number self.now.numbers ≡ Err (fault_of e)) }
+        ensures memory { IfErr result (λ e. e ≢ OutOfMemory) }
+    {
         let numbers = &self.numbers;
         if numbers.len() == 0 {
             return Err(Error::UnexpectedEof);
@@ -76,13 +106,14 @@ impl Directory {
         if size == ABSENT {
             return Err(Error::StreamNotFound(number));
         }
-        let from = 1 + count as usize + self.pages_before(page_size, number);
-        let pages = pages_for(page_size, size) as usize;
-        let own = numbers.copied(alloc, from, pages)?;
-        match pages_of(alloc, used, pages, own.as_slice()) {
-            Ok(pages) => Ok((size, pages)),
-            Err(fault) => Err(fault),
-        }
+        Ok(size)
+    }
+
+    /// How many bytes the pages of a list can have: one page for each of the directory's numbers.
+    pub fn longest_list(&self, page_size: u32) -> u64
+        ensures { result ≡ length self.now.numbers * page_size }
+    {
+        self.numbers.len() as u64 * u64::from(page_size)
     }
 
     /// How many pages the streams before the one with that number have: the start of its 256, and

@@ -242,7 +242,9 @@ fn read_directory<S: Source>(
     }
 }
 
-/// The first bytes of a stream, by the directory or its fault.
+/// The first bytes of a stream, by the directory or its fault. The source is asked for the whole
+/// stated size, whatever the limit, since all the pages are listed; but for no more than the
+/// directory has numbers for, so that one damaged size is still a fault of that stream alone.
 #[tactic(auto, using(crate::proofs::Outside::outside_alone), unfolding(crate::specs::Container::stream_in))]
 fn read_stream<S: Source>(
     source: &mut S,
@@ -262,6 +264,14 @@ fn read_stream<S: Source>(
         Ok(directory) => directory,
         Err(fault) => return Err(*fault),
     };
+    let stated = match directory.size_of(number) {
+        Ok(size) => size,
+        Err(fault) => return Err(fault),
+    };
+    let listed = u64::from(stated).min(directory.longest_list(header.page_size));
+    if !source.may_list(listed) {
+        return Err(Error::OutOfMemory);
+    }
     match directory.place_of(alloc, header.page_size, header.pages_used, number) {
         Ok((size, pages)) => {
             let size = cut(limit, size as usize);
@@ -408,9 +418,10 @@ pub trait Msf<'s, S: Source> {
 
     /// An MSF stream by its number, or its first `limit` bytes. It views the stream's own pages
     /// alone, unless the source failed each time that the directory was read before; then it reads
-    /// that first. A call that is refused changes no later result. `StreamNotFound`,
-    /// `PageReferenceOutOfRange`, `UnexpectedEof`; `IoError` past the file's end, and where the
-    /// source failed.
+    /// that first. A call that is refused changes no later result, unless the source counts what it
+    /// lists. `StreamNotFound`, `PageReferenceOutOfRange`, `UnexpectedEof`; `IoError` past the
+    /// file's end, and where the source failed; `OutOfMemory`, also where the source refuses to
+    /// have the stream's pages listed.
     fn get(&mut self, alloc: Global, stream_number: u32, limit: Option<usize>) -> Result<Stream<'s>>
         ensures { AnswersFrom S.bytes S.failures (source self.old) (source self.new) (λ s. s) result
             (stream (S.bytes (source self.old)) stream_number limit) };

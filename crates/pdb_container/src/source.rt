@@ -86,6 +86,19 @@ pub trait Source {
     /// How often a view failed otherwise than by memory or past the end; at `u64::MAX` it stays.
     fn failures(&self) -> u64
         ensures { result ≡ failures self.now };
+
+    /// Returns whether the pages of `size` bytes may be listed, and counts them as listed. It is
+    /// asked before a list of pages is made, which takes time even if no view follows. Where it
+    /// refuses, the container answers `OutOfMemory`.
+    ///
+    /// A source that writes no such method allows each list. One that wraps another source has to
+    /// pass the question on to it.
+    fn may_list(&mut self, size: u64) -> bool
+        ensures same { bytes self.new ≡ bytes self.old }
+        ensures counts { failures self.new ≡ failures self.old }
+    {
+        true
+    }
 }
 
 /// Bytes of a file's own: each view has a copy.

@@ -115,14 +115,25 @@ fn is_bounded(alloc: Global) -> Result<bool, Fail> {
     Ok(refused && shared.as_slice().len() == 0x1000)
 }
 
+/// Whether 64 MB and 1,024 times a small file may be listed and no more, and what is refused counts
+/// for nothing.
+fn is_listed(alloc: Global) -> Result<bool, Fail> {
+    let bytes = Bytes::from_vec(vec![in alloc; 7u8; 0x1000]?)?;
+    let mut file = BoundedBytes::new(bytes);
+    let allowed = file.may_list(0x400_0000 + 1024 * 0x1000 - 1);
+    let refused = !file.may_list(2);
+    Ok(allowed && refused && file.may_list(1) && !file.may_list(1))
+}
+
 /// Whether each call answers as written.
-fn are_answered(alloc: Global) -> Result<([bool; 4], [bool; 2]), Fail> {
+fn are_answered(alloc: Global) -> Result<([bool; 5], [bool; 2]), Fail> {
     Ok((
         [
             has_name(alloc)?,
             has_text(alloc)?,
             is_viewed(alloc)?,
             is_bounded(alloc)?,
+            is_listed(alloc)?,
         ],
         has_pages(alloc)?,
     ))
@@ -131,7 +142,7 @@ fn are_answered(alloc: Global) -> Result<([bool; 4], [bool; 2]), Fail> {
 // The only test that fails where some allocation is refused, and the others ask again.
 #[test]
 fn first_calls_in_ample_memory(rt: HostRuntime) -> Result<(), Fail> {
-    assert_eq!(rt; are_answered(rt.alloc())?, ([true; 4], [true; 2]));
+    assert_eq!(rt; are_answered(rt.alloc())?, ([true; 5], [true; 2]));
     Ok(())
 }
 
