@@ -1,9 +1,12 @@
 -- The first twelve bytes of a line decide its address.
-use Rattle.std.specs.Prelude.{◌≡◌, ℕ, zero, suc, ◌+◌, ◌-◌, ◌≤◌, ◌==◌, nat_lt, Bool, true, false, ◌||◌, cond, List, length, take, drop, None, ◌⊎◌}
-use Rattle.std.proofs.Common.{ap, inl, inr, sym, ◌∙◌, arith, length-drop}
+use Rattle.std.specs.Prelude.{◌≡◌, ℕ, zero, suc, ◌+◌, ◌-◌, ◌≤◌, nat_le, Bool, true, false, cond, List, length, take, drop, None, ◌⊎◌}
+use Rattle.std.proofs.Common.{ap, inl, inr, sym, refl, ◌∙◌, arith, length-drop, Some, ◌&&◌}
+use Rattle.std.specs.Char.{is_digit}
+use Rattle.std.specs.List.{list_all}
+use Rattle.std.specs.Str.Parse.{digits_value}
 use Rattle.std.proofs.lemmas.List.{take_all, length-take}
 use Rattle.std.proofs.lemmas.Bool.Decides.{nat_tests}
-use Rattle.pdb_engine.specs.Address.{address_of, value_of, value_from, without_return, without_prefix}
+use Rattle.pdb_engine.specs.Address.{address_of, value_of, without_return, without_prefix}
 
 cond_long : (b : Bool) (xs ys : List ℕ) (n : ℕ) → n ≤ length xs → n ≤ length ys → n ≤ length (cond b xs ys)
 cond_long true xs ys n p q = p
@@ -16,10 +19,16 @@ return_long line n h = cond_long _ (take (length line - 1) line) line n (omega (
 prefix_long : (line : List ℕ) (n : ℕ) → n + 2 ≤ length line → n ≤ length (without_prefix line)
 prefix_long line n h = cond_long _ (drop 2 line) line n (omega (arith, length-drop 2 line)) (omega arith)
 
+and_false : (b : Bool) → (b && false) ≡ false
+and_false true = refl
+and_false false = refl
+
 value_long : (digits : List ℕ) → 9 ≤ length digits → value_of digits ≡ None
 value_long digits h =
-    let past : ((length digits == 0) || nat_lt 8 (length digits)) ≡ true = grind (arith, nat_tests) in
-    ap (λ b. cond b None (value_from 0 digits)) past
+    let past : nat_le (length digits) 8 ≡ false = grind (arith, nat_tests) in
+    let test : (nat_le 1 (length digits) && nat_le (length digits) 8) ≡ false =
+    ap (λ b. nat_le 1 (length digits) && b) past ∙ and_false (nat_le 1 (length digits)) in
+    ap (λ b. cond (b && list_all (λ b. is_digit b 16) digits) (Some (digits_value 16 digits)) None) test
 
 -- a line of twelve bytes or more has no address
 pub address_long : (line : List ℕ) → 12 ≤ length line → address_of line ≡ None

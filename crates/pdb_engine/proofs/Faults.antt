@@ -31,22 +31,22 @@ no_length P (Read kind) h = tt
 no_length P InputTooLong h = absurd h
 
 -- a call failed after calls of which none failed
-pub counted_behind : {T : Type 0} (a b c : Watched T) (kind : ErrorKind) → IsQuiet a b → CountsFailure b c kind → CountsFailure a c kind
-counted_behind a b c kind quiet failed = record { rose = failed.rose ∙ ap (λ n. min (n + 1) (2 ^ 64 - 1)) quiet.same_failures; kind_kept = failed.kind_kept }
+pub counted_later : {T : Type 0} (a b c : Watched T) (kind : ErrorKind) → IsQuiet a b → CountsFailure b c kind → CountsFailure a c kind
+counted_later a b c kind quiet failed = record { rose = failed.rose ∙ ap (λ n. min (n + 1) (2 ^ 64 - 1)) quiet.same_failures; kind_kept = failed.kind_kept }
 
 -- so did a write, where the fault says so
-pub write_behind : {T : Type 0} (fault : InputFault) (a b c : Watched T) → IsQuiet a b → OnWrite fault (λ kind. CountsFailure b c kind) → OnWrite fault (λ kind. CountsFailure a c kind)
-write_behind (Write kind) a b c quiet failed = counted_behind a b c kind quiet failed
-write_behind (Read kind) a b c quiet failed = tt
-write_behind InputTooLong a b c quiet failed = tt
-write_behind OutOfMemory a b c quiet failed = tt
+pub write_later : {T : Type 0} (fault : InputFault) (a b c : Watched T) → IsQuiet a b → OnWrite fault (λ kind. CountsFailure b c kind) → OnWrite fault (λ kind. CountsFailure a c kind)
+write_later (Write kind) a b c quiet failed = counted_later a b c kind quiet failed
+write_later (Read kind) a b c quiet failed = tt
+write_later InputTooLong a b c quiet failed = tt
+write_later OutOfMemory a b c quiet failed = tt
 
 -- so did a read
-pub read_behind : {T : Type 0} (fault : InputFault) (a b c : Watched T) → IsQuiet a b → OnRead fault (λ kind. CountsFailure b c kind) → OnRead fault (λ kind. CountsFailure a c kind)
-read_behind (Read kind) a b c quiet failed = counted_behind a b c kind quiet failed
-read_behind (Write kind) a b c quiet failed = tt
-read_behind InputTooLong a b c quiet failed = tt
-read_behind OutOfMemory a b c quiet failed = tt
+pub read_later : {T : Type 0} (fault : InputFault) (a b c : Watched T) → IsQuiet a b → OnRead fault (λ kind. CountsFailure b c kind) → OnRead fault (λ kind. CountsFailure a c kind)
+read_later (Read kind) a b c quiet failed = counted_later a b c kind quiet failed
+read_later (Write kind) a b c quiet failed = tt
+read_later InputTooLong a b c quiet failed = tt
+read_later OutOfMemory a b c quiet failed = tt
 
 -- a read that failed so
 pub read_failed : (P : ErrorKind → Type 0) (fault : InputFault) (kind : ErrorKind) → fault ≡ read_fault_of kind → P kind → OnRead fault P
@@ -75,7 +75,7 @@ no_write P fault kind e = subst (λ (f : InputFault). OnWrite f P) (sym e) (said
 -- the last of several writes, after those of which none failed
 pub write_end : {T : Type 0} (r : Result (Unit {0}) InputFault) (a b c : Watched T) → IsQuiet a b → IfErr r (λ fault. OnWrite fault (λ kind. CountsFailure b c kind)) → IfErr r (λ fault. OnWrite fault (λ kind. CountsFailure a c kind))
 write_end (Ok done) a b c quiet failed = tt
-write_end (Err fault) a b c quiet failed = write_behind fault a b c quiet failed
+write_end (Err fault) a b c quiet failed = write_later fault a b c quiet failed
 
 -- where it did not fail either, none did
 pub quiet_end : {T : Type 0} (r : Result (Unit {0}) InputFault) (a b c : Watched T) → IsQuiet a b → OnOk r (IsQuiet b c) → OnOk r (IsQuiet a c)

@@ -31,9 +31,9 @@ between_added : (xs ys : List ℕ) → slice_range (xs ++ ys) (length xs) (lengt
 between_added xs ys = ap (λ l. take (length (xs ++ ys) - length xs) l) (drop-append_seam xs ys) ∙ take_all _ ys (omega (arith, length-append xs ys))
 
 -- a text that is appended to others is made
-pub made_behind : (known : Bool) (text : List ℕ → List ℕ) (texts texts' line : List ℕ) → length texts < 8388608 → ((more : List ℕ) × (texts' ≡ texts ++ more)) → (known ≡ true → texts' ≡ texts ++ text line)
+pub made_later : (known : Bool) (text : List ℕ → List ℕ) (texts texts' line : List ℕ) → length texts < 8388608 → ((more : List ℕ) × (texts' ≡ texts ++ more)) → (known ≡ true → texts' ≡ texts ++ text line)
     → IsMade known text texts' line record { start = length texts; end = length texts' }
-made_behind known text texts texts' line room (more, grown) is = record {
+made_later known text texts texts' line room (more, grown) is = record {
   order = omega (arith, ap length grown, length-append texts more);
   within = omega arith;
   ahead = room;

@@ -1,20 +1,7 @@
 //! The address that stands in a line.
 
-ghost use Rattle.std.specs.Prelude.{◌≡◌, ◌<◌, IfSome};
-ghost use Rattle.pdb_engine.specs.Address.{address_of, digit_of, without_return, without_prefix};
-
-/// Returns the value of a hexadecimal digit.
-fn digit(byte: u8) -> Option<u32>
-    ensures value { result ≡ digit_of byte }
-    ensures small { IfSome result (λ d. d < 16) }
-{
-    match byte {
-        b'0'..=b'9' => Some(u32::from(byte - b'0')),
-        b'a'..=b'f' => Some(u32::from(byte - b'a') + 10),
-        b'A'..=b'F' => Some(u32::from(byte - b'A') + 10),
-        _ => None,
-    }
-}
+ghost use Rattle.std.specs.Prelude.{◌≡◌};
+ghost use Rattle.pdb_engine.specs.Address.{address_of, without_return, without_prefix};
 
 /// Returns the line without a carriage return at its end.
 fn strip_return(line: &[u8]) -> &[u8]
@@ -50,7 +37,7 @@ pub fn parse_address(line: &[u8]) -> Option<u32>
     }
     let mut value = 0u32;
     for byte in digits {
-        value = value * 16 + digit(*byte)?;
+        value = value * 16 + char::from(*byte).to_digit(16)?;
     }
     Some(value)
 }

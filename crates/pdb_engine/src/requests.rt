@@ -108,7 +108,7 @@ fn turns<A: Answers>(
 
 /// Makes the answer to a line before its turn to be written, and appends it to other texts. If
 /// these are long, it makes none and returns `false`.
-#[tactic(auto, using(crate::proofs::RequestSteps::made_behind))]
+#[tactic(auto, using(crate::proofs::RequestSteps::made_later))]
 fn answer_request<A: Answers>(
     alloc: Global,
     answers: &mut A,
@@ -219,7 +219,8 @@ pub fn append_answer<A: Answers>(
     output: &mut Vec<u8>,
 ) -> Result<(), AllocError>
     requires { IsAnswered A.known A.Start.kept (A.text answers.old) texts.now request.now }
-    ensures behind { OnOk result ((more : List ℕ) × (output.new.items ≡ output.old.items ++ more)) }
+    ensures appended { OnOk result ((more : List ℕ)
+        × (output.new.items ≡ output.old.items ++ more)) }
     ensures text { A.known ≡ true → OnOk result
         (output.new.items ≡ output.old.items ++ A.text answers.old
         (A.Start.kept request.now.line)) }

@@ -1,8 +1,10 @@
 -- Names of types without a record, keywords before names, and names of ids.
-use Rattle.std.specs.Prelude.{ℕ, ◌+◌, ◌*◌, ◌-◌, ◌^◌, Bool, true, false, ◌&&◌, not, List, [], ◌∷◌}
+use Rattle.std.specs.Prelude.{ℕ, ◌^◌, Bool, ◌&&◌, not, List, [], ◌∷◌}
 use Rattle.std.specs.Prelude.{◌++◌, length, drop, codes, Option, Some, None, if◌then◌else◌, ◌==◌}
-use Rattle.std.specs.Prelude.{nat_lt, nat_le, slice_get, option_and_then}
-use Rattle.std.specs.List.{starts_with}
+use Rattle.std.specs.Prelude.{nat_lt}
+use Rattle.std.specs.Char.{is_digit}
+use Rattle.std.specs.List.{list_all, starts_with}
+use Rattle.std.specs.Str.Parse.{digits_value, without_leading_plus}
 use Rattle.std.specs.Str.Lossy.{utf8_lossy}
 use Rattle.pdb_indices.specs.Bits.{has_bit}
 use Rattle.pdb_records.specs.declared.primitive.PrimitiveKind.{PrimitiveKind}
@@ -95,40 +97,15 @@ abbrev pub name_or_omitted : Text → Text
 name_or_omitted [] = codes "<name omitted>"
 name_or_omitted (b ∷ bytes) = b ∷ bytes
 
--- the value of a hexadecimal digit
-abbrev pub digit_of : ℕ → Option ℕ
-digit_of b =
-    if nat_le 48 b && nat_le b 57 then Some (b - 48)
-    else (if nat_le 97 b && nat_le b 102 then Some (b - 97 + 10)
-    else (if nat_le 65 b && nat_le b 70 then Some (b - 65 + 10) else None))
-
--- the value of digits after a value
-abbrev pub value_from : ℕ → List ℕ → Option ℕ
-value_from value [] = Some value
-value_from value (b ∷ bytes) = option_and_then (λ d. value_from (value * 16 + d) bytes) (digit_of b)
-
--- whether there is a value, of 32 bits
-abbrev pub has_32_bits : Option ℕ → Bool
-has_32_bits None = false
-has_32_bits (Some value) = nat_lt value (2 ^ 32)
-
 -- one hexadecimal digit or more, of a value of 32 bits
 abbrev pub is_number : List ℕ → Bool
-is_number digits = not (length digits == 0) && has_32_bits (value_from 0 digits)
-
--- whether a plus stands first
-abbrev pub begins_with_plus : Option ℕ → Bool
-begins_with_plus None = false
-begins_with_plus (Some b) = b == 43
-
--- a plus at the beginning is dropped
-abbrev pub without_plus : List ℕ → List ℕ
-without_plus bytes = if begins_with_plus (slice_get bytes 0) then drop 1 bytes else bytes
+is_number digits = not (length digits == 0) && list_all (λ b. is_digit b 16) digits
+    && nat_lt (digits_value 16 digits) (2 ^ 32)
 
 -- a namespace without a name of its own: `?A0x`, and a number, with a plus before it or not
 abbrev pub is_anonymous_namespace : Text → Bool
 is_anonymous_namespace name = starts_with (λ a b. a == b) name (codes "?A0x")
-    && is_number (without_plus (drop 4 name))
+    && is_number (without_leading_plus (drop 4 name))
 
 -- the text of a string
 abbrev pub string_text : Text → Text

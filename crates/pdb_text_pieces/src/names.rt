@@ -1,13 +1,14 @@
 //! Names of types without a record, keywords before names, names of forms and of ids.
 
-ghost use Rattle.std.specs.Prelude.{◌≡◌, ◌<◌, ◌++◌, IfSome, string_bytes};
+ghost use Rattle.std.specs.Prelude.{◌≡◌, ◌++◌, string_bytes};
+ghost use Rattle.std.specs.Str.Parse.{without_leading_plus};
 ghost use Rattle.pdb_container.specs.RawString.{raw_bytes};
 ghost use Rattle.pdb_records.specs.Shapes.{shape};
 ghost use Rattle.pdb_records.specs.IdForms.{id_shape};
 ghost use Rattle.pdb_text_pieces.specs.Printed.{Prints, say};
 ghost use Rattle.pdb_text_pieces.specs.Names.{primitive_name, primitive_text, class_word, named};
-ghost use Rattle.pdb_text_pieces.specs.Names.{name_or_omitted, digit_of, is_number, without_plus};
-ghost use Rattle.pdb_text_pieces.specs.Names.{is_anonymous_namespace, string_text};
+ghost use Rattle.pdb_text_pieces.specs.Names.{name_or_omitted, is_number, is_anonymous_namespace};
+ghost use Rattle.pdb_text_pieces.specs.Names.{string_text};
 ghost use Rattle.pdb_text_pieces.specs.FormNames.{form_name, unhandled, id_form_name, unhandled_id};
 
 use crate::flags::TypeFormatterFlags;
@@ -217,29 +218,16 @@ pub fn emit_unhandled_id(w: &mut String, found: &IdData<'_>) -> Result<()>
     emit(w, ">::")
 }
 
-/// The value of a hexadecimal digit.
-fn digit(byte: u8) -> Option<u64>
-    ensures value { result ≡ digit_of byte }
-    ensures small { IfSome result (λ d. d < 16) }
-{
-    match byte {
-        b'0'..=b'9' => Some(u64::from(byte - b'0')),
-        b'a'..=b'f' => Some(u64::from(byte - b'a') + 10),
-        b'A'..=b'F' => Some(u64::from(byte - b'A') + 10),
-        _ => None,
-    }
-}
-
 /// Whether there is one hexadecimal digit or more and nothing else, of a value below 2^32.
 fn is_number(digits: &[u8]) -> bool
     ensures { result ≡ is_number digits.now }
 {
     let mut value = 0u64;
     for byte in digits {
-        let Some(digit) = digit(*byte) else {
+        let Some(digit) = char::from(*byte).to_digit(16) else {
             return false;
         };
-        value = value * 16 + digit;
+        value = value * 16 + u64::from(digit);
         if value >= 0x1_0000_0000 {
             return false;
         }
@@ -249,7 +237,7 @@ fn is_number(digits: &[u8]) -> bool
 
 /// The bytes without a plus at their beginning.
 fn without_plus(bytes: &[u8]) -> &[u8]
-    ensures { result.now ≡ without_plus bytes.now }
+    ensures { result.now ≡ without_leading_plus bytes.now }
 {
     match bytes.first() {
         Some(b'+') => &bytes[1..],

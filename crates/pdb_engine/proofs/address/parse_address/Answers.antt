@@ -10,4 +10,4 @@ overflow_mul-value c =
 pub overflow_add-value : goal.overflow_add-value
 overflow_add-value c =
     let small : c.loop-byte.value < 268435456 = room c.loop-byte.byte-index c.loop-byte.value (omega arith) c.loop-byte.invariant.small in
-    omega (arith, c.in_ok-value.ensures.small)
+    omega (arith, c.in_ok-value.ensures.value.0, c.in_ok-value.ensures.value.1)

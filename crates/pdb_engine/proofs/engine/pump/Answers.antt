@@ -1,5 +1,5 @@
 use Rattle.std.proofs.Common.{rules, ◌∙◌}
-use Rattle.pdb_engine.proofs.Faults.{read_behind, write_behind}
+use Rattle.pdb_engine.proofs.Faults.{read_later, write_later}
 use Rattle.pdb_engine.proofs.Pumped.{taken_more, taken_too_long, taken_part, taken_before}
 use Rattle.pdb_engine.proofs.engine.pump.Goals as goal
 
@@ -22,7 +22,7 @@ pub returns-in-Err-clause-part : goal.returns-in-Err-clause-part
 returns-in-Err-clause-part g c = λ known. taken_part _ _ _ _ _ _ _ _ _ _ _ _ _ (c.reads.invariant.out known) c.reads.invariant.same (c.in-Err.ensures.part known)
 
 pub returns-in-Err-clause-write_fails : goal.returns-in-Err-clause-write_fails
-returns-in-Err-clause-write_fails g c = write_behind _ _ _ _ c.reads.invariant.quiet_writer c.in-Err.ensures.write_fails
+returns-in-Err-clause-write_fails g c = write_later _ _ _ _ c.reads.invariant.quiet_writer c.in-Err.ensures.write_fails
 
 pub returns-in-Err-clause-read_fails : goal.returns-in-Err-clause-read_fails
-returns-in-Err-clause-read_fails g c = read_behind _ _ _ _ c.reads.invariant.quiet_reader c.in-Err.ensures.read_fails
+returns-in-Err-clause-read_fails g c = read_later _ _ _ _ c.reads.invariant.quiet_reader c.in-Err.ensures.read_fails
