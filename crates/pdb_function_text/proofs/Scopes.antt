@@ -25,17 +25,14 @@ scope_ends env visit ids path id t w w1 new e returned stopped =
     (stops_on e new (scope_text visit ids id.scope w1)
     (λ w. name_and_arguments env path (utf8_lossy id.name) t w) stopped)
 
--- what stops the scope stops the function, by what was asked in between, and by the path as it was
--- stored
-pub scope_stops : {F : Type 0} (env : F → Env) (f f' : F) (ids path path' : Path)
+-- what stops the scope stops the function, by what was asked in between
+pub scope_stops : {F : Type 0} (env : F → Env) (f f' : F) (ids path : Path)
     (id : FunctionForm) (t : ProcedureType) (w w1 new : Text) (e : Stop)
-    → f' ≡ f → path' ≡ path → returned_unless (env f) (visiting (env f) path') path' t.return_type
+    → f' ≡ f → returned_unless (env f) (visiting (env f) path) path t.return_type
     t.attributes w ≡ Done w1
     → Stops e new (scope_text (visiting_id (env f') ids) ids id.scope w1)
     → Stops e new (scoped_text (env f) (visiting_id (env f) ids) ids path id t w)
-scope_stops {F} env f f' ids path path' id t w w1 new e same is returned stopped =
-    scope_ends (env f) (visiting_id (env f) ids) ids path id t w w1 new e
-    (subst (λ (x : Path). returned_unless (env f) (visiting (env f) x) x t.return_type t.attributes
-    w ≡ Done w1) is returned)
+scope_stops {F} env f f' ids path id t w w1 new e same returned stopped =
+    scope_ends (env f) (visiting_id (env f) ids) ids path id t w w1 new e returned
     (subst (λ (x : F). Stops e new (scope_text (visiting_id (env x) ids) ids id.scope w1))
     same stopped)

@@ -2,6 +2,7 @@
 
 ghost use Rattle.std.specs.Prelude.{◌≡◌, ◌≤◌, ◌==◌, ◌++◌, ◌∷◌, [], length, string_bytes};
 ghost use Rattle.std.specs.Prelude.{if◌then◌else◌};
+ghost use Rattle.std.specs.Str.Lossy.{utf8_lossy};
 ghost use Rattle.pdb_records.specs.IdForms.{id_shape, function_form, member_function_form};
 ghost use Rattle.pdb_records.specs.IdForms.{Function, MemberFunction};
 ghost use Rattle.pdb_resolving.specs.Cause.{ByFault};
@@ -9,7 +10,8 @@ ghost use Rattle.pdb_resolving.specs.Fault.{CircularTypeDefinition};
 ghost use Rattle.pdb_text_pieces.specs.Printed.{Prints, Stopped, say};
 ghost use Rattle.pdb_text_pieces.specs.Paths.{may_enter};
 ghost use Rattle.pdb_type_printing.specs.Level.{KeepsLevel};
-ghost use Rattle.pdb_type_printing.specs.Types.{Whole, visiting};
+ghost use Rattle.pdb_type_printing.specs.Types.{Whole, visiting, returned_unless};
+ghost use Rattle.pdb_function_text.specs.Functions.{name_and_arguments};
 ghost use Rattle.pdb_function_text.specs.Ids.{visiting_id, id_form_text, scoped_text, scope_text};
 ghost use Rattle.pdb_function_text.specs.Ids.{method_id_printed, string_list_text, parts};
 ghost use Rattle.pdb_function_text.specs.Ids.{more_parts};
@@ -148,12 +150,52 @@ impl<'a, 's, P: ModuleProvider> FunctionPrinter<'a, 's, P> {
             ids.old.path.now.items (id.now.function_type.0 ∷ []) (function_form id.now) t.now
             (string_bytes w.old)) }
     {
+        self.emit_returned(asker, w, id.function_type, t)?;
+        self.emit_scope(asker, w, id.scope, ids)?;
+        self.emit_unscoped(asker, w, id, t)
+    }
+
+    /// Appends the type that a function returns, by the function's type and the index of that. Its
+    /// path ends with it: so none lies on the stack while scopes are printed.
+    #[inline(never)]
+    fn emit_returned(
+        &mut self,
+        asker: Asker,
+        w: &mut String,
+        index: TypeIndex,
+        t: &ProcedureType,
+    ) -> Result<()>
+        ensures same { self.new ≡ self.old }
+        ensures text { Prints result (string_bytes w.new)
+            (returned_unless (env_of P.provided self.old asker.module_index)
+            (visiting (env_of P.provided self.old asker.module_index) (index.0 ∷ []))
+            (index.0 ∷ []) t.now.return_type t.now.attributes (string_bytes w.old)) }
+    {
+        let mut path = IndexPath::new(asker.alloc);
+        path.push(index.0)?;
+        let mut seen = Seen::new(&mut path);
+        self.printer
+            .maybe_emit_return_type(asker, w, t.return_type, t.attributes, &mut seen)
+    }
+
+    /// Appends a function's name and arguments, without the scopes that hold it.
+    #[inline(never)]
+    fn emit_unscoped(
+        &mut self,
+        asker: Asker,
+        w: &mut String,
+        id: &FunctionId<'_>,
+        t: &ProcedureType,
+    ) -> Result<()>
+        ensures same { self.new ≡ self.old }
+        ensures text { Prints result (string_bytes w.new)
+            (name_and_arguments (env_of P.provided self.old asker.module_index)
+            (id.now.function_type.0 ∷ []) (utf8_lossy (function_form id.now).name) t.now
+            (string_bytes w.old)) }
+    {
         let mut path = IndexPath::new(asker.alloc);
         path.push(id.function_type.0)?;
         let mut seen = Seen::new(&mut path);
-        self.printer
-            .maybe_emit_return_type(asker, w, t.return_type, t.attributes, &mut seen)?;
-        self.emit_scope(asker, w, id.scope, ids)?;
         let name = id.name.to_string(asker.alloc)?;
         self.emit_name_and_arguments(asker, w, name.as_str(), t, &mut seen)
     }
@@ -183,6 +225,7 @@ impl<'a, 's, P: ModuleProvider> FunctionPrinter<'a, 's, P> {
 
     /// Appends a method in its class.
     #[tactic(auto, using(pdb_type_printing::proofs::Failing::fails_stops))]
+    #[inline(never)]
     fn emit_method_id(
         &mut self,
         asker: Asker,
@@ -205,6 +248,7 @@ impl<'a, 's, P: ModuleProvider> FunctionPrinter<'a, 's, P> {
     }
 
     /// Appends a list of strings in quotation marks.
+    #[inline(never)]
     fn emit_string_list(&mut self, asker: Asker, w: &mut String, list: &[TypeIndex]) -> Result<()>
         ensures same { self.new ≡ self.old }
         ensures text { Prints result (string_bytes w.new)

@@ -7,6 +7,7 @@ ghost use Rattle.pdb_records.specs.Forms.{Plain};
 ghost use Rattle.pdb_records.specs.Shapes.{shape, array_form};
 ghost use Rattle.pdb_resolving.specs.Cause.{ByFault};
 ghost use Rattle.pdb_resolving.specs.Fault.{CircularTypeDefinition};
+ghost use Rattle.pdb_text_pieces.specs.Pointers.{level_of as level_of_pointer};
 ghost use Rattle.pdb_text_pieces.specs.Printed.{Prints, Stopped, caught, read_or};
 ghost use Rattle.pdb_text_pieces.specs.Paths.{may_enter};
 ghost use Rattle.pdb_type_printing.specs.Arrays.{elements_of};
@@ -21,7 +22,9 @@ ghost use Rattle.pdb_type_printing.specs.Printing.{env_of};
 use crate::asker::Asker;
 use crate::printer::TypePrinter;
 use pdb_indices::TypeIndex;
-use pdb_records::{ArrayType, FunctionAttributes, MemberFunctionType, ProcedureType, TypeData};
+use pdb_records::{
+    ArrayType, FunctionAttributes, MemberFunctionType, PointerType, ProcedureType, TypeData,
+};
 use pdb_resolving::stop::{Result, Stop};
 use pdb_resolving::{Error, ModuleProvider};
 use pdb_text_pieces::{
@@ -137,6 +140,7 @@ impl<'a, 's, P: ModuleProvider> TypePrinter<'a, 's, P> {
 
     /// Appends an array of arrays: the innermost element, and the brackets.
     #[cycle(printing)]
+    #[inline(never)]
     fn emit_array(
         &mut self,
         asker: Asker,
@@ -214,19 +218,39 @@ impl<'a, 's, P: ModuleProvider> TypePrinter<'a, 's, P> {
             TypeData::Modifier(t) => {
                 self.emit_modified(asker, w, t.underlying_type, t.constant, seen)
             }
-            TypeData::Pointer(t) => {
-                let mut before = Vec::new(asker.alloc);
-                self.emit_pointee(
-                    asker,
-                    w,
-                    t.underlying_type,
-                    &mut before,
-                    level_of(false, t),
-                    seen,
-                )
-            }
+            TypeData::Pointer(t) => self.emit_pointer(asker, w, t, false, seen),
             _ => emit_unhandled(w, found),
         }
+    }
+
+    /// Appends a pointer and what it leads to; it is constant also where that is said of it.
+    #[cycle(printing)]
+    #[inline(never)]
+    fn emit_pointer(
+        &mut self,
+        asker: Asker,
+        w: &mut String,
+        t: &PointerType,
+        is_constant: bool,
+        seen: &mut Seen<'_>,
+    ) -> Result<()>
+        requires { length seen.old.path.now.items ≤ 1024 }
+        ensures same { self.new ≡ self.old }
+        ensures level { KeepsLevel seen.old seen.new }
+        ensures text { Prints result (string_bytes w.new)
+            ((visiting (env_of P.provided self.old asker.module_index) seen.old.path.now.items)
+            (PointedTo [] (level_of_pointer is_constant t.now)) seen.old.path.now.items
+            (t.now.underlying_type).0 (string_bytes w.old)) }
+    {
+        let mut before = Vec::new(asker.alloc);
+        self.emit_pointee(
+            asker,
+            w,
+            t.underlying_type,
+            &mut before,
+            level_of(is_constant, t),
+            seen,
+        )
     }
 
     /// Appends a method's type.
@@ -487,17 +511,7 @@ impl<'a, 's, P: ModuleProvider> TypePrinter<'a, 's, P> {
             seen.old.path.now.items index.0 (string_bytes w.old)) }
     {
         match self.read(asker, index)? {
-            TypeData::Pointer(t) => {
-                let mut before = Vec::new(asker.alloc);
-                self.emit_pointee(
-                    asker,
-                    w,
-                    t.underlying_type,
-                    &mut before,
-                    level_of(is_constant, &t),
-                    seen,
-                )
-            }
+            TypeData::Pointer(t) => self.emit_pointer(asker, w, &t, is_constant, seen),
             TypeData::Primitive(t) => emit_primitive(w, self.flags, t, is_constant),
             found => self.emit_modified_other(asker, w, is_constant, &found, seen),
         }
@@ -687,6 +701,7 @@ impl<'a, 's, P: ModuleProvider> TypePrinter<'a, 's, P> {
 
     /// Appends pointers to a method.
     #[cycle(printing)]
+    #[inline(never)]
     fn emit_member_pointer(
         &mut self,
         asker: Asker,
@@ -714,6 +729,7 @@ impl<'a, 's, P: ModuleProvider> TypePrinter<'a, 's, P> {
 
     /// Appends pointers to a function.
     #[cycle(printing)]
+    #[inline(never)]
     fn emit_procedure_pointer(
         &mut self,
         asker: Asker,

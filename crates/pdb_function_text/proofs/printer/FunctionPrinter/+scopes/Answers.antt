@@ -1,4 +1,4 @@
-use Rattle.std.proofs.Common.{string_bytes, ℕ, List, [], ◌∷◌, ◌∙◌, ap, ◌++◌}
+use Rattle.std.proofs.Common.{string_bytes, [], ◌∷◌, ◌∙◌}
 use Rattle.pdb_records.specs.IdForms.{function_form}
 use Rattle.std.proofs.lemmas.Result.{err_from_is_err_and}
 use Rattle.pdb_type_printing.specs.Printing.{env_of}
@@ -38,13 +38,9 @@ emit_scoped-returns-in_err-emit_scope-clause-text g t c =
     c.from_residual-in_err-emit_scope.ensures.1 in
     rw (p.1, p.2)
     (scope_stops (λ f. env_of g.P.ModuleProvider.provided f c.args.asker.module_index)
-    c.args.self.now c.maybe_emit_return_type.new.self c.args.ids.now.path.now.items
-    (c.args.id.now.function_type.0 ∷ []) c.new-seen.result.path.now.items
-    (function_form c.args.id.now) c.args.t.now (string_bytes c.args.w.now)
-    (string_bytes c.maybe_emit_return_type.new.w) (string_bytes c.emit_scope.new.w)
-    c.in_err-emit_scope.field-0.0 (c.in_ok-maybe_emit_return_type.ensures.same ∙ c.self.view_is)
-    (c.new-seen.ensures.path
-    ∙ (c.in_ok-push.ensures.items ∙ ap (λ (l : List ℕ). l ++ c.args.id.now.function_type.0 ∷ [])
-    c.new-path.ensures.items))
-    (rw c.self.view_is at c.in_ok-maybe_emit_return_type.ensures.text)
+    c.args.self.now c.emit_returned.new.self c.args.ids.now.path.now.items
+    (c.args.id.now.function_type.0 ∷ []) (function_form c.args.id.now) c.args.t.now
+    (string_bytes c.args.w.now) (string_bytes c.emit_returned.new.w)
+    (string_bytes c.emit_scope.new.w) c.in_err-emit_scope.field-0.0
+    c.in_ok-emit_returned.ensures.same c.in_ok-emit_returned.ensures.text
     c.in_err-emit_scope.ensures.text)

@@ -53,6 +53,9 @@ decreases-emit_modified g l = 16 * room l.seen.now.path.now.items + 4
 abbrev pub decreases-emit_pointee : goal.decreases-emit_pointee
 decreases-emit_pointee g l = 16 * room l.seen.now.path.now.items + 4
 
+abbrev pub decreases-emit_pointer : goal.decreases-emit_pointer
+decreases-emit_pointer g l = 16 * room l.seen.now.path.now.items + 5
+
 abbrev pub decreases-emit_pointee_modified : goal.decreases-emit_pointee_modified
 decreases-emit_pointee_modified g l = 16 * room l.seen.now.path.now.items + 4
 
