@@ -1,12 +1,16 @@
 -- What a module's own stream says of a place in it.
-use Rattle.std.specs.Prelude.{ℕ, List, [], slice_get, Option, None, Some, option_and_then, Result, Ok, Err}
+use Rattle.std.specs.Prelude.{ℕ, List, [], slice_get, Option, None, Some, option_and_then}
+use Rattle.std.specs.Prelude.{Result, Ok, Err}
 use Rattle.pdb_container.specs.Fault as container
 use Rattle.pdb_container.specs.Fault.{◌>>=◌}
-use Rattle.pdb_addresses.specs.declared.internal_section_offset.PdbInternalSectionOffset.{PdbInternalSectionOffset}
+use Rattle.pdb_addresses.specs.declared.internal_section_offset.PdbInternalSectionOffset.{
+  PdbInternalSectionOffset,
+}
 use Rattle.pdb_symbols.specs.Iteration.{symbols_left}
 use Rattle.pdb_lines.specs.LinesSubsections.{Program}
 use Rattle.pdb_inlinees.specs.Inlinees.{InlinedFunction}
-use Rattle.pdb_symbols_modules.specs.ModuleStream.{ModuleStream, iteration_in, line_program_in, inlinees_in}
+use Rattle.pdb_symbols_modules.specs.ModuleStream.{ModuleStream, iteration_in, line_program_in}
+use Rattle.pdb_symbols_modules.specs.ModuleStream.{inlinees_in}
 use Rattle.pdb_module_data.specs.declared.function_rows.LineRow.{LineRow}
 use Rattle.pdb_module_data.specs.declared.inlined_calls.InlinedCall.{InlinedCall}
 use Rattle.pdb_module_data.specs.Procedures.{Procedure, procedures_of}

@@ -1,5 +1,5 @@
-//! Offsets at which answers may change, of all sections in one row, and how far it is to the next of
-//! them.
+//! Offsets at which answers may change, of all sections in one row, and how far it is to the next
+//! of them.
 
 ghost use Rattle.std.specs.Prelude.{◌≡◌, ◌++◌, OnOk, IfOk};
 ghost use Rattle.std.specs.List.{flat_map};
@@ -101,7 +101,8 @@ pub fn contribution_bounds(
 
 /// Appends the numbers of a procedure's start and end, which may lie past 32 bits.
 fn push_procedure(numbers: &mut Vec<u64>, procedure: &Procedure<'_>) -> Result<(), AllocError>
-    ensures { OnOk result (numbers.new.items ≡ numbers.old.items ++ procedure_numbers procedure.now) }
+    ensures { OnOk result
+        (numbers.new.items ≡ numbers.old.items ++ procedure_numbers procedure.now) }
 {
     let start = u64::from(procedure.offset.offset);
     let end = start + u64::from(procedure.len);

@@ -10,7 +10,7 @@ use std::collections::BTreeSet;
 /// How many bytes may be cached whatever the modules are: 64 MB.
 const ALLOWED: u64 = 64 << 20;
 
-/// How many more bytes may be cached for each byte of the symbols that were read.
+/// How many more bytes may be cached for each byte of the symbols and lines that were read.
 const FOR_EACH_BYTE: u64 = 4;
 
 /// Counts the bytes that are cached of modules.
@@ -50,8 +50,8 @@ impl Meter {
     }
 
     /// Counts the data of a module, if it has some. The first time that a module names its stream,
-    /// more is allowed for the stream's symbols: where there are data, the stream has as many bytes
-    /// of symbols as the module's entry states.
+    /// more is allowed for the stream's symbols and lines: where there are data, the stream has as
+    /// many bytes of them as the module's entry states.
     pub fn count_module<I: ModuleTables>(
         &mut self,
         known: &Option<BasicModuleInfo<'_, I>>,
@@ -61,8 +61,8 @@ impl Meter {
             return Ok(());
         };
         if self.streams.insert(module.stream().0)? {
-            let more = u64::from(module.symbols_size()) * FOR_EACH_BYTE;
-            self.allowed = self.allowed.saturating_add(more);
+            let bytes = u64::from(module.symbols_size()) + u64::from(module.c13_lines_size());
+            self.allowed = self.allowed.saturating_add(bytes * FOR_EACH_BYTE);
         }
         self.count(known.memory_size());
         Ok(())

@@ -1,6 +1,7 @@
 //! What a module's own stream says.
 
-ghost use Rattle.std.specs.Prelude.{◌≡◌, ◌↔◌, true, IfOk, IfSome, None, Ok, Some, option_copied, option_map, slice_get};
+ghost use Rattle.std.specs.Prelude.{◌≡◌, ◌↔◌, true, IfOk, IfSome, None, Ok, Some, option_copied};
+ghost use Rattle.std.specs.Prelude.{option_map, slice_get};
 ghost use Rattle.std.specs.Box.{box_value};
 ghost use Rattle.std.specs.List.{flat_map};
 ghost use Rattle.pdb_addresses.specs.SectionRun.{up_to_next};
@@ -10,7 +11,9 @@ ghost use Rattle.pdb_module_data.specs.Procedures.{over};
 ghost use Rattle.pdb_known_modules.specs.ProcedureData.{IsKeptOf, IsLentOf, IsOfStream};
 ghost use Rattle.pdb_known_modules.specs.SubsectionRows.{AreLentAt, AreRowsAt, IsNumberAt};
 ghost use Rattle.pdb_known_modules.specs.Seen.{extended_seen, AreExtendedHere};
-ghost use Rattle.pdb_known_modules.specs.Modules.{data_of_stream, data_if_there, extended_of, module_data, own_of, procedure_if_numbered, procedures_in as procedures_of_module};
+ghost use Rattle.pdb_known_modules.specs.Modules.{data_of_stream, data_if_there, extended_of};
+ghost use Rattle.pdb_known_modules.specs.Modules.{module_data, own_of, procedure_if_numbered};
+ghost use Rattle.pdb_known_modules.specs.Modules.{procedures_in as procedures_of_module};
 
 use crate::bounds::{SortedBounds, procedure_bounds};
 use crate::places::{empty_places, place_at};

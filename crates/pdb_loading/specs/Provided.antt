@@ -10,5 +10,6 @@ faults_if_listed (Some (Err fault)) = tt
 
 -- a fault that is answered for a module could be taken neither for a type's own, nor for a failed
 -- read
-pub faults_kept : (infos : List KeptInfo) (number : ℕ) → IfErr (answered_at infos number) IsOfModules
+pub faults_kept : (infos : List KeptInfo) (number : ℕ)
+    → IfErr (answered_at infos number) IsOfModules
 faults_kept infos number = faults_if_listed (slice_get infos number)
