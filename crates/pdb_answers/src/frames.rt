@@ -19,7 +19,8 @@ use crate::symbolizer::PlaceSymbolizer;
 use pdb_addresses::PdbInternalSectionOffset;
 use pdb_contributions::ModuleSectionContribution;
 use pdb_frames::{
-    Chosen, ContextParts, Failures, Namer, Part, choose, failing_in, frames_in, unsuccessful,
+    Chosen, ContextParts, Failures, Namer, Part, check_frames, choose, failing_in, frames_in,
+    unsuccessful,
 };
 use pdb_functions::SharedFunctionFrames;
 use pdb_known_modules::{BasicModuleInfo, keep_module, known_at, number_over};
@@ -37,8 +38,8 @@ struct ChosenPlace<'c, 'a, I: ModuleTables> {
     place: PdbInternalSectionOffset,
 }
 
-/// Returns the frames at a place in a chosen function, if it has an RVA. Its module's data are read
-/// before that is asked.
+/// Returns the frames at a place in a chosen function, if it has an RVA. Where it has none, its
+/// module's data are read all the same, but no frame is made.
 fn frames_of<'a, P: ModuleProvider>(
     alloc: Global,
     parts: &ContextParts<'a, '_>,
@@ -57,15 +58,16 @@ fn frames_of<'a, P: ModuleProvider>(
         failing: _,
         place,
     } = *found;
+    let Some(start_rva) = chosen.start_rva(parts) else {
+        check_frames(alloc, known, chosen, place)?;
+        return Ok(None);
+    };
     let frames = frames_in(alloc, parts, namer, module_index, known, chosen, place)?;
-    match chosen.start_rva(parts) {
-        None => Ok(None),
-        Some(start_rva) => Ok(Some(SharedFunctionFrames {
-            start_rva,
-            end_rva: chosen.end_of_frames(parts, start_rva),
-            frames,
-        })),
-    }
+    Ok(Some(SharedFunctionFrames {
+        start_rva,
+        end_rva: chosen.end_of_frames(parts, start_rva),
+        frames,
+    }))
 }
 
 /// Returns the frames at a place in a chosen function, if it has an RVA. The part that can't be

@@ -112,6 +112,10 @@ found_frames p c frames start =
       frames = frames;
     }) start
 
+-- no frames
+abbrev pub nothing : Option FunctionFrames
+nothing = None
+
 -- what may be chosen, with its frames: nothing without it, and nothing where its start has no image
 -- address; but a module whose data can't be read comes before that
 abbrev pub frames_of_chosen : Parts → Env → Option ModuleData → PdbInternalSectionOffset

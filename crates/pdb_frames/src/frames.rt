@@ -3,7 +3,7 @@
 ghost use Rattle.std.specs.Prelude.{◌≡◌, Ok, IfOk, map, option_copied, option_map, option_and_then};
 ghost use Rattle.std.specs.Arc.{arc_str_bytes};
 ghost use Rattle.std.specs.Cow.{cow_str_bytes};
-ghost use Rattle.pdb_container.specs.Fault.{Gives};
+ghost use Rattle.pdb_container.specs.Fault.{Gives, ◌>>=◌ as and_then};
 ghost use Rattle.pdb_module_data.specs.FunctionLine.{file_text, function_row, row_at};
 ghost use Rattle.pdb_module_data.specs.InlinedCalls.{call_rows, calls_over};
 ghost use Rattle.pdb_module_data.specs.InlinePieces.{StandForSites};
@@ -14,9 +14,11 @@ ghost use Rattle.pdb_frames.specs.Frames.{frames_in as frames_of_module, row_and
 ghost use Rattle.pdb_frames.specs.Frames.{frames_in_data as frames_of_data};
 ghost use Rattle.pdb_frames.specs.Frames.{frame_row as frame_row_of, call_row as call_row_of};
 ghost use Rattle.pdb_frames.specs.Frames.{call_frame as frame_of_call, function_frame_row};
-ghost use Rattle.pdb_frames.specs.Frames.{function_frame as frame_of_function};
+ghost use Rattle.pdb_frames.specs.Frames.{function_frame as frame_of_function, nothing};
 ghost use Rattle.pdb_known_modules.specs.Modules.{extended_of};
+ghost use Rattle.pdb_choice.specs.Choice.{Parts};
 ghost use Rattle.pdb_choice.specs.Seen.{chosen_seen};
+ghost use Rattle.pdb_names.specs.Env.{Env};
 ghost use Rattle.pdb_known_modules.specs.Seen.{extended_seen};
 
 use crate::chosen_name::name_of;
@@ -360,4 +362,33 @@ pub fn frames_in<'a, P: ModuleProvider>(
         }
         Some(known) => { frames_in_data(alloc, parts, namer, module_index, known, chosen, place) }
     }
+}
+
+/// Reads what the frames at a place in a chosen function are made of, as [`frames_in`] does, and
+/// makes none of them.
+///
+/// # Errors
+/// As [`frames_in`].
+#[tactic(auto, using(pdb_resolving::proofs::Lifting::given_fails_on, pdb_resolving::proofs::Lifting::fails_on), unfolding(crate::specs::Frames::frames_in_data))]
+pub fn check_frames<I: ModuleTables>(
+    alloc: Global,
+    known: Option<&BasicModuleInfo<'_, I>>,
+    chosen: Chosen<'_, '_>,
+    place: PdbInternalSectionOffset,
+) -> Result<()>
+    ensures { (p : Parts) (env : Env) → Answers (λ _. nothing) result
+        (and_then (frames_of_module p env (option_copied known.entry) (chosen_seen chosen.entry)
+        place) (λ _. Ok nothing)) }
+{
+    let Some(known) = known else {
+        return Ok(());
+    };
+    match known.extended() {
+        Some(extended) => row_and_calls_in(alloc, known, extended, chosen, place)?,
+        None => {
+            let extended = read_extended(alloc, known.module_info)?;
+            row_and_calls_in(alloc, known, &extended, chosen, place)?
+        }
+    };
+    Ok(())
 }
