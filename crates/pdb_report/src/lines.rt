@@ -23,7 +23,8 @@ fn append_address_lines<P: ModuleProvider>(
     text: &mut String,
 ) -> Result<(), AllocError>
     ensures same { lasting context.new ≡ lasting context.old }
-    ensures text { OnOk result (string_bytes text.new ≡ string_bytes text.old ++ text_at (answer_of P.provided context.old) (Some address)) }
+    ensures text { OnOk result (string_bytes text.new
+        ≡ string_bytes text.old ++ text_at (answer_of P.provided context.old) (Some address)) }
 {
     match context.find_shared_frames(alloc, address) {
         Ok(found) => {
@@ -47,7 +48,8 @@ fn append_line<P: ModuleProvider>(
     text: &mut String,
 ) -> Result<(), AllocError>
     ensures same { lasting context.new ≡ lasting context.old }
-    ensures text { OnOk result (string_bytes text.new ≡ string_bytes text.old ++ text_of_line (answer_of P.provided context.old) line.now) }
+    ensures text { OnOk result (string_bytes text.new
+        ≡ string_bytes text.old ++ text_of_line (answer_of P.provided context.old) line.now) }
 {
     match parse_address(line) {
         None => {

@@ -28,7 +28,7 @@ use std::mem::forget;
 /// The most bytes of input that a run reads.
 const INPUT_LIMIT: u64 = 1 << 30;
 
-/// What becomes of the memory that a run's context keeps, once the run ends.
+/// What becomes of the memory that a run's context holds, once the run ends.
 #[derive(Clone, Copy, Debug, PartialEq, Eq)]
 pub enum AtEnd {
     /// It is given back, one piece after another.
@@ -203,7 +203,7 @@ pub fn run_frames<R: Read, W: Write>(
     run_frames_ending(alloc, bytes, reader, writer, AtEnd::GiveBack)
 }
 
-/// As [`run_frames`], with a say in what becomes of the memory that the run's context keeps: a
+/// As [`run_frames`], with a say in what becomes of the memory that the run's context holds: a
 /// process that ends after the run can be left to give it back.
 ///
 /// # Errors

@@ -17,7 +17,8 @@ piece_text (pieces.Number n) = decimal n
 -- a fault's text, by its pieces
 abbrev pub text_of : Told → List ℕ
 text_of t =
-    (t.name).now ++ piece_text t.first ++ (t.between).now ++ piece_text t.second ++ (t.behind).now
+    (t.name).now ++ piece_text t.first ++ (t.between).now ++ piece_text t.second
+    ++ (t.before_third).now
     ++ piece_text t.third ++ (t.end).now
 
 -- the line on a fault

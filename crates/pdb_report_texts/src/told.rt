@@ -32,7 +32,7 @@ pub struct Told<'t> {
     first: Piece<'t>,
     between: &'static str,
     second: Piece<'t>,
-    behind: &'static str,
+    before_third: &'static str,
     third: Piece<'t>,
     end: &'static str,
 }
@@ -54,7 +54,7 @@ impl<'t> Told<'t> {
             first: value,
             between: "",
             second: Piece::Text(""),
-            behind: "",
+            before_third: "",
             third: Piece::Text(""),
             end,
         }
@@ -77,7 +77,7 @@ impl<'t> Told<'t> {
             first: Piece::Number(first),
             between: ", ",
             second: Piece::Number(second),
-            behind: "",
+            before_third: "",
             third: Piece::Text(""),
             end: ")",
         }
@@ -93,7 +93,7 @@ impl<'t> Told<'t> {
             first: Piece::Number(first),
             between: ", ",
             second: Piece::Number(second),
-            behind: ", ",
+            before_third: ", ",
             third: Piece::Number(third),
             end: ")",
         }
@@ -319,7 +319,7 @@ fn line_pieces(fault: &RunFault) -> [Piece<'_>; 9]
         told.first,
         Piece::Text(told.between),
         told.second,
-        Piece::Text(told.behind),
+        Piece::Text(told.before_third),
         told.third,
         Piece::Text(told.end),
         Piece::Text("\n"),

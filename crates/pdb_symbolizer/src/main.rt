@@ -9,7 +9,7 @@ pub use pdb_report::{
     read_file, run_frames, run_frames_ending, run_sizes, run_sizes_by_file,
 };
 use std::alloc::Global;
-use std::io::{self, ErrorKind, Write};
+use std::io::{self, ErrorKind, Read, Write};
 use std::process::ExitCode;
 use std::rt::Env;
 use std::{env, fs};
@@ -46,22 +46,32 @@ fn main(rt: HostRuntime) -> ExitCode {
     };
     let mut reader = Watched::new(rt.stdin());
     let mut writer = Watched::new(rt.stdout());
-    let outcome = match task {
-        Task::Frames { .. } => run_frames_ending(
-            rt.alloc(),
-            bytes,
-            &mut reader,
-            &mut writer,
-            AtEnd::LeaveToProcess,
-        ),
+    let outcome = run_task(rt.alloc(), &task, bytes, &mut reader, &mut writer);
+    ExitCode::from(finish_run(outcome, &mut errors))
+}
+
+/// Writes the report that is asked for.
+///
+/// # Errors
+/// As [`run_frames`] and [`run_sizes`].
+fn run_task<R: Read, W: Write>(
+    alloc: Global,
+    task: &Task,
+    bytes: Vec<u8>,
+    reader: &mut Watched<R>,
+    writer: &mut Watched<W>,
+) -> Result<(), RunFault> {
+    match task {
+        Task::Frames { .. } => {
+            run_frames_ending(alloc, bytes, reader, writer, AtEnd::LeaveToProcess)
+        }
         Task::Sizes {
             start,
             end,
             by_file,
             ..
-        } => count_sizes(rt.alloc(), bytes, start, end, by_file, &mut writer),
-    };
-    ExitCode::from(finish_run(outcome, &mut errors))
+        } => count_sizes(alloc, bytes, *start, *end, *by_file, writer),
+    }
 }
 
 /// The bytes of a file as far as its pages reach, or its first 32 where it is no container.
