@@ -36,7 +36,8 @@ fn levels_of_a_path(rt: HostRuntime) -> Result<(), Fail> {
     Ok(())
 }
 
-/// Puts 40 indices on a path, each 2,048 greater than the one before: they have two forms of low bits.
+/// Puts 40 indices on a path, each 2,048 greater than the one before: their low bits have two
+/// values.
 fn push_all(path: &mut IndexPath) -> Result<(), Fail> {
     for k in 0..40u32 {
         if path.may_enter(2048 * k) {

@@ -1,5 +1,6 @@
 -- The request of a line, as llvm-symbolizer reads it.
-use Rattle.std.specs.Prelude.{◌≡◌, ℕ, ◌+◌, ◌==◌, nat_eq, nat_lt, ◌||◌, if◌then◌else◌, Bool, List, [], ◌∷◌}
+use Rattle.std.specs.Prelude.{◌≡◌, ℕ, ◌+◌, ◌==◌, nat_eq, nat_lt, ◌||◌, if◌then◌else◌, Bool, List}
+use Rattle.std.specs.Prelude.{[], ◌∷◌}
 use Rattle.std.specs.Prelude.{codes, length, take, drop, slice_index, position, Option, None, Some}
 use Rattle.std.specs.Prelude.{option_map, ok_or, Result, Ok, Err}
 use Rattle.std.specs.List.{list_all, starts_with}
