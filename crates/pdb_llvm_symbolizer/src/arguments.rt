@@ -19,7 +19,8 @@ Examples:
   pdb_llvm_symbolizer --obj=program.exe 0x140001148
   echo 'CODE \"program.exe\" 0x140001148' | pdb_llvm_symbolizer --output-style=JSON
 
-The exit status is 0; 1 where the arguments are wrong, or --obj can't be loaded.";
+The exit status is 0; 1 where the arguments are wrong, --obj can't be loaded, or reading, writing
+or memory fails.";
 
 /// The name that a function is reported by.
 #[derive(Clone, Copy, PartialEq, Eq)]
@@ -53,9 +54,9 @@ pub struct Arguments<'m> {
     pub addresses: &'m [&'m str],
 }
 
-/// An option: its name, letter and other name, what stands for its value in the help, if it has one,
-/// and what the help says; that is empty where the option changes nothing, and the help leaves it
-/// out.
+/// An option: its name, letter and other name, what stands for its value in the help, if it has
+/// one, and what the help says; that is empty where the option changes nothing, and the help
+/// leaves it out.
 type Described = (
     &'static str,
     Option<char>,

@@ -1,27 +1,27 @@
 //! Files that addresses are of: images with their databases, and databases alone.
 
-use anyhow::{Context as _, Result, bail};
+use crate::open_error::{OpenError, reason};
+use bumpalo::Bump;
 use bytes::Bytes;
 use pdb_addr2line::ContextPdbData;
 use pdb_addr2line::pdb::PDB;
 use pdb_container::BoundedBytes;
 use pdb_image::{Image, PdbIdentity};
 use pdb_loading::read_file;
-use std::alloc::Global;
-use std::fs;
-use std::io::{self, Error, ErrorKind};
+use std::alloc::{AllocError, Global};
 use std::rt::Files;
+use std::{fs, io};
 
 /// What contexts are made of, over a file's bytes.
 pub type Held = ContextPdbData<'static, 'static, BoundedBytes>;
 
 /// A database that was read, with where its image wants to be loaded.
-#[derive(Drop)]
-pub struct Database {
+#[derive(Clone, Copy)]
+pub struct Database<'a> {
     /// The image base; 0 of a database alone.
     pub image_base: u64,
-    /// What contexts are made of.
-    pub held: Held,
+    /// What contexts are made of, in the arena.
+    pub held: &'a Held,
 }
 
 /// What is read of an image: its base, and the identity and path of its database.
@@ -33,17 +33,16 @@ struct ImageRecord {
 }
 
 /// What an image says of itself.
-fn image_record(alloc: Global, bytes: &[u8]) -> Result<ImageRecord> {
+fn image_record(alloc: Global, bytes: &[u8]) -> Result<ImageRecord, OpenError> {
     let image = Image::parse(bytes)?;
-    let record = image.code_view()?.context("the image names no PDB")?;
-    let path = match record.path().to_string(alloc) {
-        Ok(path) => String::from_str(alloc, &path)?,
-        Err(_) => bail!("out of memory"),
+    let Some(record) = image.code_view()? else {
+        return Err(OpenError::NoDatabase);
     };
+    let path = record.path().to_string(alloc)?;
     Ok(ImageRecord {
         base: image.image_base(),
         identity: record.identity(),
-        path,
+        path: String::from_str(alloc, &path)?,
     })
 }
 
@@ -56,11 +55,11 @@ fn after_last(path: &str, separator: char) -> &str {
 }
 
 /// The name at the end of a path that an image has, in the folder of the image.
-fn beside(alloc: Global, file: &str, path: &str) -> Result<String> {
+fn beside(alloc: Global, file: &str, path: &str) -> Result<String, AllocError> {
     let name = after_last(after_last(path, '/'), '\\');
     match file.rsplit_once('/') {
-        Some((folder, _)) => Ok(format!(in alloc; "{folder}/{name}")?),
-        None => Ok(String::from_str(alloc, name)?),
+        Some((folder, _)) => format!(in alloc; "{folder}/{name}"),
+        None => String::from_str(alloc, name),
     }
 }
 
@@ -69,31 +68,50 @@ fn check_build<'s>(
     alloc: Global,
     pdb: &mut PDB<'s, BoundedBytes>,
     wanted: PdbIdentity,
-) -> Result<()> {
+) -> Result<(), OpenError> {
     let information = pdb.pdb_information(alloc)?;
     let age = pdb.debug_information(alloc)?.age();
     if !wanted.matches(&PdbIdentity::of_pdb(information.guid, information.age, age)) {
-        bail!("the PDB is of another build");
+        return Err(OpenError::OtherBuild);
     }
     Ok(())
 }
 
 /// What contexts are made of, read of a database's bytes. With an identity, that of the database
 /// has to match it.
-fn load(alloc: Global, bytes: Vec<u8>, identity: Option<PdbIdentity>) -> Result<Held> {
+fn load<'a>(
+    alloc: Global,
+    arena: &'a Bump,
+    bytes: Vec<u8>,
+    identity: Option<PdbIdentity>,
+) -> Result<&'a Held, OpenError> {
     let file = Bytes::from_vec(bytes)?;
     let mut pdb = PDB::open(alloc, BoundedBytes::new(file))?;
     if let Some(wanted) = identity {
         check_build(alloc, &mut pdb, wanted)?;
     }
     let held = ContextPdbData::try_from_pdb(alloc, pdb)?;
-    Ok(held)
+    Ok(arena.try_alloc(held)?)
 }
 
-/// The bytes of a database.
+/// The bytes of a database, as far as its pages reach, or the first 32 of another file.
 fn database_bytes(rt: &(impl Files + AllocGlobal), path: &str) -> io::Result<Vec<u8>> {
     let mut reader = fs::open(rt, path)?;
     read_file(rt.alloc(), &mut reader)
+}
+
+/// The bytes of an image's database, at a path.
+fn bytes_at(rt: &(impl Files + AllocGlobal), path: &str) -> Result<Vec<u8>, OpenError> {
+    match database_bytes(rt, path) {
+        Ok(bytes) => Ok(bytes),
+        Err(error) => match reason(&error) {
+            Some(reason) => {
+                let path = String::from_str(rt.alloc(), path)?;
+                Err(OpenError::DatabaseFile(path, reason))
+            }
+            None => Err(OpenError::from(error)),
+        },
+    }
 }
 
 /// The bytes of an image's database: of the file that is given, or of that beside the image, or
@@ -103,68 +121,49 @@ fn bytes_of_image(
     file: &str,
     path: &str,
     given: Option<&str>,
-) -> Result<Vec<u8>> {
+) -> Result<Vec<u8>, OpenError> {
     if let Some(given) = given {
-        return match database_bytes(rt, given) {
-            Ok(bytes) => Ok(bytes),
-            Err(error) => bail!("'{given}': {}", reason(&error)),
-        };
+        return bytes_at(rt, given);
     }
     let near = beside(rt.alloc(), file, path)?;
-    match database_bytes(rt, near.as_str()) {
-        Ok(bytes) => Ok(bytes),
-        Err(_) => match database_bytes(rt, path) {
-            Ok(bytes) => Ok(bytes),
-            Err(error) => bail!("'{path}': {}", reason(&error)),
-        },
-    }
-}
-
-/// Why a file can't be read, as the system says it.
-fn reason(error: &Error) -> &'static str {
-    match error.kind() {
-        ErrorKind::NotFound => "No such file or directory",
-        ErrorKind::IsADirectory => "Is a directory",
-        ErrorKind::PermissionDenied => "Permission denied",
-        ErrorKind::OutOfMemory => "Cannot allocate memory",
-        _ => "Input/output error",
-    }
-}
-
-/// The bytes of a file.
-fn file_bytes(rt: &(impl Files + AllocGlobal), file: &str) -> Result<Vec<u8>> {
-    match fs::read(rt, file) {
-        Ok(bytes) => Ok(bytes),
-        Err(error) => bail!("{}", reason(&error)),
+    match bytes_at(rt, near.as_str()) {
+        Err(OpenError::DatabaseFile(_, _)) => bytes_at(rt, path),
+        found => found,
     }
 }
 
 /// Reads the database of an image.
-fn open_image(
+fn open_image<'a>(
     rt: &(impl Files + AllocGlobal),
+    arena: &'a Bump,
     file: &str,
-    image: &[u8],
     given: Option<&str>,
-) -> Result<Database> {
-    let record = image_record(rt.alloc(), image)?;
+) -> Result<Database<'a>, OpenError> {
+    let image = fs::read(rt, file)?;
+    let record = image_record(rt.alloc(), image.as_slice())?;
     let bytes = bytes_of_image(rt, file, record.path.as_str(), given)?;
-    let held = load(rt.alloc(), bytes, Some(record.identity))?;
+    let held = load(rt.alloc(), arena, bytes, Some(record.identity))?;
     Ok(Database {
         image_base: record.base,
         held,
     })
 }
 
-/// Reads the database of a file: of an image, or the file itself.
+/// Reads the database of a file into an arena: of an image, or the file itself.
 ///
 /// # Errors
-/// Why it can't be read, as a text.
-pub fn open(rt: &(impl Files + AllocGlobal), file: &str, given: Option<&str>) -> Result<Database> {
-    let bytes = file_bytes(rt, file)?;
+/// Why it can't be read.
+pub fn open<'a>(
+    rt: &(impl Files + AllocGlobal),
+    arena: &'a Bump,
+    file: &str,
+    given: Option<&str>,
+) -> Result<Database<'a>, OpenError> {
+    let bytes = database_bytes(rt, file)?;
     if bytes.as_slice().starts_with(b"MZ") {
-        return open_image(rt, file, bytes.as_slice(), given);
+        return open_image(rt, arena, file, given);
     }
-    let held = load(rt.alloc(), bytes, None)?;
+    let held = load(rt.alloc(), arena, bytes, None)?;
     Ok(Database {
         image_base: 0,
         held,

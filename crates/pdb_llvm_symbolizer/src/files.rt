@@ -2,17 +2,19 @@
 
 use crate::arguments::Arguments;
 use crate::loaded::{Asked, LoadedFile, load};
+use crate::open_error::OpenError;
 use bumpalo::Bump;
 use pdb_llvm_requests::{LineRequest, RequestFault, read_request};
 use pdb_llvm_texts::{ReportedFrame, append_error, append_frames};
+use pdb_loading::LoadFault;
 use std::alloc::{AllocError, Global};
+use std::collections::BTreeMap;
 use std::rt::Files;
 
-/// A file that was asked for: its name in requests and as text, and what answers its addresses, or
-/// why it isn't loaded.
+/// A file that was asked for: its name as text, and what answers its addresses, or why it isn't
+/// loaded.
 #[derive(Drop)]
 struct AskedFile<'a> {
-    name: Vec<u8>,
     text: String,
     loaded: Result<LoadedFile<'a>, String>,
 }
@@ -23,6 +25,8 @@ pub struct AskedFiles<'a> {
     arguments: &'a Arguments<'a>,
     arena: &'a Bump,
     files: Vec<AskedFile<'a>>,
+    /// The number of each file, by its name in requests.
+    numbers: BTreeMap<Vec<u8>, usize>,
 }
 
 /// Reports an error on standard error. Where that fails, the answers go on.
@@ -44,7 +48,8 @@ fn tell_fault(
     Ok(())
 }
 
-/// What answers a file's addresses, or why it can't be loaded, as a text.
+/// What answers a file's addresses, or why it can't be loaded, as a text. Where memory runs out,
+/// nothing is known of the file.
 fn load_or_reason<'a>(
     rt: &(impl Files + AllocGlobal),
     arena: &'a Bump,
@@ -53,6 +58,7 @@ fn load_or_reason<'a>(
 ) -> Result<Result<LoadedFile<'a>, String>, AllocError> {
     match load(rt, arena, arguments, file) {
         Ok(loaded) => Ok(Ok(loaded)),
+        Err(OpenError::Load(LoadFault::OutOfMemory)) => Err(AllocError),
         Err(error) => {
             let reason = format!(in rt.alloc(); "{error}")?;
             Ok(Err(reason))
@@ -78,9 +84,15 @@ impl<'a> AskedFile<'a> {
         name: &[u8],
     ) -> Result<AskedFile<'a>, AllocError> {
         let text = String::from_utf8_lossy(rt.alloc(), name)?;
-        let name = Vec::from_slice(rt.alloc(), name)?;
         let loaded = load_or_reason(rt, arena, arguments, text.as_str())?;
-        Ok(AskedFile { name, text, loaded })
+        Ok(AskedFile { text, loaded })
+    }
+
+    /// Reports why it can't be loaded, if it can't.
+    fn tell(&self, rt: &impl Eprint) {
+        if let Err(reason) = &self.loaded {
+            tell(rt, self.text.as_str(), reason.as_str());
+        }
     }
 
     /// Appends the answer to a request.
@@ -118,30 +130,26 @@ impl<'a> AskedFiles<'a> {
             arguments,
             arena,
             files: Vec::new(alloc),
+            numbers: BTreeMap::new(alloc),
         }
     }
 
-    /// Loads a file unless it was asked for before, and returns its number.
+    /// Loads a file unless it was asked for before, reports it where it can't be loaded, and returns
+    /// its number.
     fn ask(
         &mut self,
         rt: &(impl Files + Eprint + AllocGlobal),
         name: &[u8],
     ) -> Result<usize, AllocError> {
-        if let Some(number) = self
-            .files
-            .iter()
-            .position(|file| file.name.as_slice() == name)
-        {
-            return Ok(number);
+        if let Some(number) = self.numbers.get(name) {
+            return Ok(*number);
         }
         let number = self.files.len();
-        self.files
-            .push(AskedFile::load(rt, self.arena, self.arguments, name)?)?;
-        if let Some(file) = self.files.last()
-            && let Err(reason) = &file.loaded
-        {
-            tell(rt, file.text.as_str(), reason.as_str());
-        }
+        let key = Vec::from_slice(rt.alloc(), name)?;
+        let file = AskedFile::load(rt, self.arena, self.arguments, name)?;
+        file.tell(rt);
+        self.files.push(file)?;
+        self.numbers.insert(key, number)?;
         Ok(number)
     }
 
@@ -154,11 +162,8 @@ impl<'a> AskedFiles<'a> {
             None => Ok(true),
             Some(object) => {
                 let number = self.ask(rt, object.as_bytes())?;
-                Ok(
-                    self.files
-                        .get(number)
-                        .is_some_and(|file| file.loaded.is_ok()),
-                )
+                let file = self.files.get(number);
+                Ok(file.is_some_and(|file| file.loaded.is_ok()))
             }
         }
     }

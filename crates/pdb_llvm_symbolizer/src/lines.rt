@@ -4,9 +4,10 @@ ghost use Rattle.std.specs.Prelude.{false, []};
 
 use crate::arguments::Arguments;
 use crate::files::AskedFiles;
-use pdb_engine::{Answers, LongStart};
+use pdb_engine::{Answers, InputFault, LongStart, Watched, write_all, write_fault};
 use pdb_llvm_texts::Style;
 use std::alloc::{AllocError, Global};
+use std::io::Write;
 use std::rt::Files;
 
 /// What answers the lines of a run: its files, and room for a text.
@@ -58,22 +59,59 @@ fn append_mark(
     Ok(())
 }
 
-/// Appends the answers to the addresses among the arguments; in JSON they are one array.
+impl<'a, S: Files + Eprint + AllocGlobal> LineAnswers<'a, S> {
+    /// Makes the answer to an address among the arguments, with what stands before it in an array.
+    fn make_answer(
+        &mut self,
+        arguments: &Arguments<'_>,
+        mark: &str,
+        address: &str,
+    ) -> Result<(), AllocError> {
+        self.room.clear();
+        append_mark(arguments, &mut self.room, mark, "\n  ")?;
+        self.files
+            .answer(self.system, address.as_bytes(), &mut self.room)
+    }
+
+    /// Makes the end of an array.
+    fn make_end(&mut self, arguments: &Arguments<'_>) -> Result<(), AllocError> {
+        self.room.clear();
+        append_mark(arguments, &mut self.room, "", "\n")?;
+        append_mark(arguments, &mut self.room, "]\n", "")
+    }
+}
+
+/// Writes a text that was made.
+fn write_made<W: Write>(
+    made: Result<(), AllocError>,
+    text: &[u8],
+    writer: &mut Watched<W>,
+) -> Result<(), InputFault> {
+    if made.is_err() {
+        return Err(InputFault::OutOfMemory);
+    }
+    match write_all(writer, text) {
+        Ok(()) => Ok(()),
+        Err(kind) => Err(write_fault(kind)),
+    }
+}
+
+/// Writes the answers to the addresses among the arguments, each once it is made; in JSON they are
+/// one array.
 ///
 /// # Errors
-/// Where memory ran out.
-pub fn append_answers(
-    rt: &(impl Files + Eprint + AllocGlobal),
+/// `OutOfMemory`, or that the writer failed.
+pub fn write_answers<S: Files + Eprint + AllocGlobal, W: Write>(
+    answers: &mut LineAnswers<'_, S>,
     arguments: &Arguments<'_>,
-    files: &mut AskedFiles<'_>,
-    output: &mut Vec<u8>,
-) -> Result<(), AllocError> {
+    writer: &mut Watched<W>,
+) -> Result<(), InputFault> {
     let mut mark = "[";
-    for word in arguments.addresses {
-        append_mark(arguments, output, mark, "\n  ")?;
-        files.answer(rt, word.as_bytes(), output)?;
+    for address in arguments.addresses {
+        let made = answers.make_answer(arguments, mark, address);
+        write_made(made, &answers.room, writer)?;
         mark = ",";
     }
-    append_mark(arguments, output, "", "\n")?;
-    append_mark(arguments, output, "]\n", "")
+    let made = answers.make_end(arguments);
+    write_made(made, &answers.room, writer)
 }

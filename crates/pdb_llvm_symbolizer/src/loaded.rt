@@ -1,8 +1,8 @@
 //! A file that is loaded, and the answers for its addresses.
 
 use crate::arguments::{Arguments, FunctionName};
-use crate::database::{Database, Held, open};
-use anyhow::{Result, bail};
+use crate::database::{Database, open};
+use crate::open_error::OpenError;
 use bumpalo::Bump;
 use pdb_addr2line::{
     Context, Error, Function, KeptModules, SharedFunctionFrames, TypeFormatterFlags,
@@ -11,6 +11,7 @@ use pdb_llvm_requests::{Command, rva_of};
 use pdb_llvm_texts::{
     ReportedFrame, append_frames, append_no_data, append_no_locals, report_frames,
 };
+use pdb_loading::LoadFault;
 use std::alloc::{AllocError, Global};
 use std::rt::Files;
 
@@ -62,12 +63,12 @@ fn flags_of(function: FunctionName) -> TypeFormatterFlags {
 /// What answers the addresses of a database.
 fn over<'a>(
     alloc: Global,
-    image_base: u64,
-    held: &'a Held,
+    database: Database<'a>,
     function: FunctionName,
-) -> Result<LoadedFile<'a>> {
+) -> Result<LoadedFile<'a>, OpenError> {
+    let Database { image_base, held } = database;
     if !held.address_map().is_ordered() {
-        bail!("the address map of the PDB is out of order");
+        return Err(OpenError::Load(LoadFault::AddressTableDecreases));
     }
     let frames = held.make_context_with_formatter_flags(alloc, short_flags())?;
     let names = held.make_context_with_formatter_flags(alloc, flags_of(function))?;
@@ -78,19 +79,18 @@ fn over<'a>(
     })
 }
 
-/// Loads a file, whose memory the arena keeps.
+/// Loads a file into an arena, which holds its memory.
 ///
 /// # Errors
-/// Why it can't be loaded, as a text.
+/// Why it can't be loaded.
 pub fn load<'a>(
     rt: &(impl Files + AllocGlobal),
     arena: &'a Bump,
     arguments: &Arguments<'_>,
     file: &str,
-) -> Result<LoadedFile<'a>> {
-    let Database { image_base, held } = open(rt, file, arguments.database)?;
-    let held: &'a Held = arena.try_alloc(held)?;
-    over(rt.alloc(), image_base, held, arguments.function)
+) -> Result<LoadedFile<'a>, OpenError> {
+    let database = open(rt, arena, file, arguments.database)?;
+    over(rt.alloc(), database, arguments.function)
 }
 
 /// The name of a function, if it has one; empty where there is no function.

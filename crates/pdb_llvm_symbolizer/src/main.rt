@@ -7,21 +7,22 @@ mod database;
 mod files;
 mod lines;
 mod loaded;
+mod open_error;
 
 use anyhow::{Result, bail};
 use arguments::{Arguments, command, read};
 use bumpalo::Bump;
 use files::AskedFiles;
-use lines::{LineAnswers, append_answers};
-use pdb_engine::{InputFault, Watched, run, write_all, write_fault};
+use lines::{LineAnswers, write_answers};
+use pdb_engine::{InputFault, Watched, run};
 use std::env;
-use std::io::{Read, Write};
+use std::io::{self, Read, Write};
 use std::mem::forget;
 use std::process::ExitCode;
-use std::rt::Files;
+use std::rt::{Env, Files};
 
 fn main(rt: HostRuntime) -> Result<ExitCode> {
-    let words: Vec<String> = env::args(&rt)?.collect(rt.alloc())?;
+    let words = given_words(&rt)?;
     let matches = match command(rt.alloc())?.try_get_matches_from(words.as_slice()) {
         Ok(matches) => matches,
         Err(error) => {
@@ -40,6 +41,15 @@ fn main(rt: HostRuntime) -> Result<ExitCode> {
         Ok(false) => Ok(ExitCode::from(1)),
         Err(fault) => bail!("{}", reason(&fault)),
     }
+}
+
+/// The program's name and its arguments.
+fn given_words(rt: &(impl Env + AllocGlobal)) -> io::Result<Vec<String>> {
+    let mut words = Vec::new(rt.alloc());
+    for word in env::args(rt)? {
+        words.push(word)?;
+    }
+    Ok(words)
 }
 
 /// Why not all answers are written.
@@ -93,25 +103,5 @@ fn answer_by<S: Files + Eprint + AllocGlobal, R: Read, W: Write>(
     match outcome {
         Ok(()) => Ok(true),
         Err(fault) => Err(fault),
-    }
-}
-
-/// Writes the answers to the addresses among the arguments.
-fn write_answers<S: Files + Eprint + AllocGlobal, W: Write>(
-    answers: &mut LineAnswers<'_, S>,
-    arguments: &Arguments<'_>,
-    writer: &mut Watched<W>,
-) -> Result<(), InputFault> {
-    let LineAnswers {
-        system,
-        files,
-        room,
-    } = answers;
-    match append_answers(*system, arguments, files, room) {
-        Ok(()) => match write_all(writer, room) {
-            Ok(()) => Ok(()),
-            Err(kind) => Err(write_fault(kind)),
-        },
-        Err(_) => Err(InputFault::OutOfMemory),
     }
 }

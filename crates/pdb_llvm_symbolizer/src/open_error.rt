@@ -1,0 +1,81 @@
+//! Why a file can't be loaded.
+
+use pdb_addr2line::Error as ContextError;
+use pdb_image::ImageError;
+use pdb_loading::LoadFault;
+use std::alloc::{AllocError, AllocFailed};
+use std::io::{self, ErrorKind};
+use thiserror::Error;
+
+/// Why an image or a database can't be loaded. It prints as it is reported.
+#[derive(Debug, Drop, Error)]
+pub enum OpenError {
+    /// The file can't be read: why, as the system says it.
+    #[error("{0}")]
+    File(&'static str),
+    /// The database of an image, at that path, can't be read: why.
+    #[error("'{0}': {1}")]
+    DatabaseFile(String, &'static str),
+    /// The file begins as an image does, and isn't one.
+    #[error("{0}")]
+    Image(ImageError),
+    /// The image has no record of its database.
+    #[error("the image names no PDB")]
+    NoDatabase,
+    /// The database has another identity than the image says.
+    #[error("the PDB is of another build")]
+    OtherBuild,
+    /// The database isn't loaded, or memory ran out.
+    #[error("{0}")]
+    Load(LoadFault),
+}
+
+impl From<ImageError> for OpenError {
+    fn from(cause: ImageError) -> OpenError {
+        OpenError::Image(cause)
+    }
+}
+
+impl From<pdb_container::Error> for OpenError {
+    fn from(cause: pdb_container::Error) -> OpenError {
+        OpenError::Load(LoadFault::from(cause))
+    }
+}
+
+impl From<ContextError> for OpenError {
+    fn from(cause: ContextError) -> OpenError {
+        OpenError::Load(LoadFault::from(cause))
+    }
+}
+
+impl From<AllocError> for OpenError {
+    fn from(_cause: AllocError) -> OpenError {
+        OpenError::Load(LoadFault::OutOfMemory)
+    }
+}
+
+impl<T: Drop> From<AllocFailed<T>> for OpenError {
+    fn from(_cause: AllocFailed<T>) -> OpenError {
+        OpenError::Load(LoadFault::OutOfMemory)
+    }
+}
+
+impl From<io::Error> for OpenError {
+    fn from(cause: io::Error) -> OpenError {
+        match reason(&cause) {
+            Some(reason) => OpenError::File(reason),
+            None => OpenError::Load(LoadFault::OutOfMemory),
+        }
+    }
+}
+
+/// Why a file can't be read, as the system says it; None where memory ran out.
+pub fn reason(error: &io::Error) -> Option<&'static str> {
+    match error.kind() {
+        ErrorKind::OutOfMemory => None,
+        ErrorKind::NotFound => Some("No such file or directory"),
+        ErrorKind::IsADirectory => Some("Is a directory"),
+        ErrorKind::PermissionDenied => Some("Permission denied"),
+        _ => Some("Input/output error"),
+    }
+}
