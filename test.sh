@@ -2,8 +2,9 @@
 # The command that passes all tests: `rt ci` (every proof, must-fail edit, test and program), then
 # each request for memory of the proved programs refused in turn (tests/refused_requests), the
 # commands of README.md, docs/GUIDE.md and CONTRIBUTING.md as they stand (tests/commands.sh), the
-# manual page (tests/manual.sh), and pdb_llvm_symbolizer beside llvm-symbolizer
-# (tests/llvm_symbolizer.sh). It fails where one fails; the last line counts all.
+# manual page (tests/manual.sh), pdb_llvm_symbolizer beside llvm-symbolizer
+# (tests/llvm_symbolizer.sh), and the deepest nests of types within 4 MB of stack (tests/stack.py).
+# It fails where one fails; the last line counts all.
 set -u
 cd "$(dirname "$0")"
 log=$(mktemp)
@@ -39,6 +40,7 @@ count python3 tests/refused_requests/sweep.py
 count tests/commands.sh
 count tests/manual.sh
 count tests/llvm_symbolizer.sh
+count python3 tests/stack.py
 tests/version.sh || { failed=$((failed + 1)); status=1; }
 echo "$passed passed, $failed failed"
 exit "$status"

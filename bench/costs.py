@@ -328,4 +328,5 @@ def main():
             print("|", " | ".join(row), "|", flush=True)
 
 
-main()
+if __name__ == "__main__":
+    main()

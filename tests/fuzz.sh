@@ -7,7 +7,7 @@
 # random bytes, with or without the magic of a container, or one of crates/pdb_symbolizer/data that was cut, overwritten in
 # some places, or damaged in what one stream says. For each, `frames` is asked of some addresses and `sizes` of a range. Either
 # the status is 0, each address has an answer of the report's form, and the counts add up; or it is 1, nothing was written, and a
-# fault is told by its name. No run may take longer than 20 seconds. What goes otherwise is printed, and kept with --keep.
+# fault is reported by its name. No run may take longer than 20 seconds. What goes otherwise is printed, and kept with --keep.
 set -eu
 top=$(cd "$(dirname "$0")/.." && pwd)
 exec python3 - "$top" "$@" <<'P'

@@ -8,11 +8,13 @@ Of a case, the Nth request is refused in the Nth of as many runs as there are re
 - `pdb_symbolizer`, on the recorded rows of reports: such a run ends with status 1 and `fault: OutOfMemory` on standard error,
   and what is out is a prefix of the row's report. One that ends as if nothing was refused passes only in a case that
   exceptions.txt names, with the reason.
+- `pdb_llvm_symbolizer`, on the cases of tests/llvm_symbolizer: such a run ends with status 1 and says so on standard error, and
+  what is out is a prefix. For such runs as go on exceptions.txt has the reason too.
 - `recorded_reads`, on recorded reads of records, streams and tables: the call that finds no memory says so, and is made again.
 - `ask_again`, on the files of the same rows and on the recorded texts: the call that finds no memory says so, and the same
   context or formatter then answers it, and all other questions of its file, as if nothing was refused.
 
-CASE is the name of a case; without one all are swept. Told is how many requests of each function were refused. The last line is
+CASE is the name of a case; without one all are swept. It prints how many requests of each function were refused. The last line is
 `N passed, M failed`, in cases. FILE is where a program lies, with NAME for its name. A C compiler is needed (Debian: gcc).
 """
 import bisect
@@ -152,6 +154,16 @@ class Report(Case):
         return came[0] == 1 and came[2] == b"fault: OutOfMemory\n" and wanted[1].startswith(came[1])
 
 
+class DropIn(Case):
+    """A run of pdb_llvm_symbolizer."""
+
+    program, folder = "pdb_llvm_symbolizer", f"{ROOT}/crates/pdb_llvm_symbolizer/data"
+
+    def is_right(self, wanted, came):
+        """Whether a run in which a request was refused is as it has to be."""
+        return came[0] == 1 and b"memory" in came[2] and wanted[1].startswith(came[1])
+
+
 class Repeating(Case):
     """A run of a program that asks again where a call finds no memory, and says so."""
 
@@ -178,7 +190,7 @@ class Asked(Repeating):
         self.answers = answers
 
     def differs(self, came):
-        """A fault is told as another one where its part failed before."""
+        """A fault is reported as another one where its part failed before."""
         for line in came[1].decode().splitlines():
             question, _, answer = line.replace("Shared", "").partition(" => ")
             recorded = self.answers.get(question, answer)
@@ -196,6 +208,20 @@ def reports(folder):
         yield case
     for words in ("", "help", "help sizes", "frames --help", "frames", "sizes F 10 zz", "sizes --by-file F 10 zz", "frame F", "frames F --hlep"):
         yield Report(f"words {words}".strip(), words.split())
+
+
+def drop_ins():
+    """pdb_llvm_symbolizer on the cases that are compared with llvm-symbolizer."""
+    cases = f"{ROOT}/tests/llvm_symbolizer"
+    for file in sorted(os.listdir(cases)):
+        name, kind = os.path.splitext(file)
+        if kind == ".args":
+            with open(f"{cases}/{file}", encoding="utf-8") as words:
+                case = DropIn(f"llvm {name}", words.read().splitlines())
+            if os.path.exists(f"{cases}/{name}.input"):
+                with open(f"{cases}/{name}.input", "rb") as given:
+                    case.given = given.read()
+            yield case
 
 
 def reads(folder):
@@ -354,12 +380,12 @@ def main(words):
     exceptions, failed, where = exceptions_of(), 0, collections.Counter()
     with tempfile.TemporaryDirectory(prefix="refused-requests-") as folder:
         library, programs = library_in(folder), {}
-        for kind in (Report, Read, Asked):
+        for kind in (Report, DropIn, Read, Asked):
             file = built.replace("NAME", kind.program)
             if not os.path.isfile(file):
                 stop(f"{file} isn't there: rt ci builds it")
-            programs[kind.program] = Program(file, library, kind is not Report)
-        cases = [it for it in [*reports(folder), *reads(folder), *asked(folder)] if not words or it.name in words]
+            programs[kind.program] = Program(file, library, kind in (Read, Asked))
+        cases = [it for it in [*reports(folder), *drop_ins(), *reads(folder), *asked(folder)] if not words or it.name in words]
         with concurrent.futures.ProcessPoolExecutor() as lanes:
             lanes_of = [lanes.submit(sweep, programs[it.program], it, exceptions) for it in cases]
             for it in lanes_of:
