@@ -95,7 +95,9 @@ def answer(program, file, stack):
     """The exit status and the report with a stack of so many KB."""
 
     def limit():
-        resource.setrlimit(resource.RLIMIT_STACK, (stack * 1024, stack * 1024))
+        _, most = resource.getrlimit(resource.RLIMIT_STACK)
+        size = stack * 1024 if most == resource.RLIM_INFINITY else min(stack * 1024, most)
+        resource.setrlimit(resource.RLIMIT_STACK, (size, size))
 
     ran = subprocess.run(
         [program, "frames", file], input=b"1014\n", stdout=subprocess.PIPE, preexec_fn=limit
