@@ -255,5 +255,9 @@ impl<'p, 's, S: Source> ModuleProvider for ContextPdbData<'p, 's, S> {
         self.held.modules.get_module_info(module_index, module)
     }
 
+    fn size_hint(&self) -> u64 {
+        self.held.modules.size_hint()
+    }
+
     ghost faults_of_modules = { λ d number entry. faults_kept d.infos number };
 }

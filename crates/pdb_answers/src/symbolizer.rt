@@ -16,13 +16,13 @@ use std::marker::Model;
 /// Returns places for the modules of a namer, in which nothing is cached yet.
 fn empty_modules<'a, P: ModuleProvider>(
     alloc: Global,
-    _provider: &'a P,
+    provider: &'a P,
     namer: &Namer<'_, '_, P>,
 ) -> Result<CachedModules<'a, P::Info>, AllocError>
     ensures { IfOk result (λ cached. AreKept
-        (λ n. module_data (own_of (P.provided _provider.now) (entries_of namer.now) n)) cached) }
+        (λ n. module_data (own_of (P.provided provider.now) (entries_of namer.now) n)) cached) }
 {
-    nothing_cached(alloc, namer.modules().len())
+    nothing_cached(alloc, namer.modules().len(), provider.size_hint())
 }
 
 /// A symbolizer of places: it answers which frames, which function and which file a place in a

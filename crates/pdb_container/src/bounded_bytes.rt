@@ -84,6 +84,10 @@ impl Source for BoundedBytes {
         0
     }
 
+    fn size_hint(&self) -> u64 {
+        self.bytes.len() as u64
+    }
+
     fn may_list(&mut self, size: u64) -> bool {
         if self.listed_left < size {
             return false;

@@ -1,6 +1,6 @@
 //! MSF streams: the header, and the pages in which each stream lies.
 
-ghost use Rattle.std.specs.Prelude.{◌≡◌, ◌+◌, ◌*◌, ◌%◌, ◌<◌, ◌≤◌, ◌^◌, ◌⊎◌, length, vec_len};
+ghost use Rattle.std.specs.Prelude.{◌≡◌, ◌+◌, ◌-◌, ◌*◌, ◌%◌, ◌<◌, ◌≤◌, ◌^◌, ◌⊎◌, length, vec_len};
 ghost use Rattle.std.specs.Prelude.{take, drop, Some, Ok, IfOk, IfErr, IsOk};
 ghost use Rattle.std.specs.Int.{div_ceil};
 ghost use Rattle.pdb_container.specs.Container.{words, pages_in, header_in, front_in};
@@ -472,6 +472,13 @@ impl<'s, S: Source> Msf<'s, S> for BigMSF<'s, S> {
 }
 
 impl<'s, S: Source> BigMSF<'s, S> {
+    /// At most how many bytes the container has, as its source knows it ([`Source::size_hint`]).
+    pub fn size_hint(&self) -> u64
+        ensures { (length (S.bytes self.now) ≤ result) ⊎ (result ≡ 2 ^ 64 - 1) }
+    {
+        self.source.size_hint()
+    }
+
     #[tactic(auto, unfolding(crate::specs::Container::stream))]
     fn view_of(&mut self, alloc: Global, number: u32, limit: Option<usize>) -> Result<ReadView>
         ensures answer { AnswersFrom S.bytes S.failures self.old self.new (λ v. v) result

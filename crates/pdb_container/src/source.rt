@@ -87,6 +87,14 @@ pub trait Source {
     fn failures(&self) -> u64
         ensures { result ≡ failures self.now };
 
+    /// At most how many bytes there are, or `u64::MAX` where that isn't known. No answer depends on
+    /// it: it bounds what is cached of a file whose streams name the same pages over and over.
+    fn size_hint(&self) -> u64
+        ensures { (length (bytes self.now) ≤ result) ⊎ (result ≡ 2 ^ 64 - 1) }
+    {
+        u64::MAX
+    }
+
     /// Returns whether the pages of `size` bytes may be listed, and counts them as listed. It is
     /// asked before a list of pages is made, which takes time even if no view follows. Where it
     /// refuses, the container answers `OutOfMemory`.
@@ -116,6 +124,10 @@ impl Source for Vec<u8> {
     fn failures(&self) -> u64 {
         0
     }
+
+    fn size_hint(&self) -> u64 {
+        self.len() as u64
+    }
 }
 
 /// Bytes that are shared: a view of one slice shares them, and any other has a copy.
@@ -133,6 +145,10 @@ impl Source for Bytes {
 
     fn failures(&self) -> u64 {
         0
+    }
+
+    fn size_hint(&self) -> u64 {
+        self.len() as u64
     }
 }
 

@@ -55,17 +55,19 @@ fn empty_places<'a, I: ModuleTables>(
     Ok(places)
 }
 
-/// Nothing is cached yet of so many modules.
+/// Nothing is cached yet of so many modules, in a database of at most so many bytes
+/// ([`ModuleProvider::size_hint`]).
 pub fn nothing_cached<'a, I: ModuleTables>(
     alloc: Global,
     count: usize,
+    database_size: u64,
 ) -> Result<CachedModules<'a, I>, AllocError>
     ensures { IfOk result (λ cached. cached ≡ replicate count None) }
 {
     let places = empty_places(alloc, count)?;
     Ok(CachedModules {
         places,
-        meter: Meter::new(alloc),
+        meter: Meter::new(alloc, database_size),
     })
 }
 

@@ -10,7 +10,8 @@ use std::collections::BTreeSet;
 /// How many bytes may be cached whatever the modules are: 64 MB.
 const ALLOWED: u64 = 64 << 20;
 
-/// How many more bytes may be cached for each byte of the symbols and lines that were read.
+/// How many more bytes may be cached for each byte of the symbols and lines that were read, and in
+/// all for each byte of the database, in which streams may name the same pages over and over.
 const FOR_EACH_BYTE: u64 = 4;
 
 /// Counts the bytes that are cached of modules.
@@ -23,17 +24,21 @@ pub struct Meter {
     greatest: u64,
     /// How many may be cached besides.
     allowed: u64,
+    /// How many may be cached besides at most.
+    most_allowed: u64,
     /// The numbers of the streams whose symbols were counted.
     streams: BTreeSet<u16>,
 }
 
 impl Meter {
-    /// Nothing is cached.
-    pub fn new(alloc: Global) -> Meter {
+    /// Nothing is cached of a database of at most so many bytes.
+    pub fn new(alloc: Global, database_size: u64) -> Meter {
+        let for_database = database_size.saturating_mul(FOR_EACH_BYTE);
         Meter {
             cached: 0,
             greatest: 0,
             allowed: ALLOWED,
+            most_allowed: ALLOWED.saturating_add(for_database),
             streams: BTreeSet::new(alloc),
         }
     }
@@ -62,7 +67,8 @@ impl Meter {
         };
         if self.streams.insert(module.stream().0)? {
             let bytes = u64::from(module.symbols_size()) + u64::from(module.c13_lines_size());
-            self.allowed = self.allowed.saturating_add(bytes * FOR_EACH_BYTE);
+            let allowed = self.allowed.saturating_add(bytes * FOR_EACH_BYTE);
+            self.allowed = allowed.min(self.most_allowed);
         }
         self.count(known.memory_size());
         Ok(())

@@ -91,7 +91,7 @@ pub fn read_after_tables<'s, S: Source + Drop>(
         debug_information,
         tables,
         names,
-        modules: KeptModules::new(module_infos),
+        modules: KeptModules::new(module_infos, pdb.size_hint()),
     })
 }
 

@@ -28,6 +28,8 @@ pub type KeptInfo<'s> = std::result::Result<Option<ModuleInfo<'s>>, ModuleFault>
 #[derive(Drop)]
 pub struct KeptModules<'s> {
     infos: Vec<KeptInfo<'s>>,
+    /// At most how many bytes the database has.
+    database_size: u64,
 }
 
 impl<'s> Model for KeptModules<'s> {
@@ -40,11 +42,15 @@ impl<'s> Model for KeptModules<'s> {
 }
 
 impl<'s> KeptModules<'s> {
-    /// The modules of these streams.
-    pub fn new(infos: Vec<KeptInfo<'s>>) -> KeptModules<'s>
+    /// The modules of these streams, in a database of at most so many bytes
+    /// ([`PDB::size_hint`]).
+    pub fn new(infos: Vec<KeptInfo<'s>>, database_size: u64) -> KeptModules<'s>
         ensures { result ≡ infos.entry.items }
     {
-        KeptModules { infos }
+        KeptModules {
+            infos,
+            database_size,
+        }
     }
 }
 
@@ -68,6 +74,10 @@ impl<'s> ModuleProvider for KeptModules<'s> {
             Some(Ok(Some(info))) => Ok(Some(info)),
             Some(Err(fault)) => Err(Error::Kept(*fault)),
         }
+    }
+
+    fn size_hint(&self) -> u64 {
+        self.database_size
     }
 
     ghost faults_of_modules = { λ m number entry. faults_kept m number };

@@ -88,6 +88,13 @@ pub trait ModuleProvider {
         ensures { Parses (option_map (λ info. Self.Info.held info.now)) result
             (provided self.now module_index «module».now) };
 
+    /// At most how many bytes the database of the modules has, or `u64::MAX` where that isn't
+    /// known. No answer depends on it: what is cached of modules is forgotten past 64 MB and four
+    /// times this size.
+    fn size_hint(&self) -> u64 {
+        u64::MAX
+    }
+
     /// No fault could be taken for a type's own, or for a failed read.
     ghost faults_of_modules: { (p : Self) (number : ℕ) (entry : entries.Module)
         → IfErr (provided p number entry) IsOfModules };

@@ -1,6 +1,7 @@
 //! An open program database.
 
-ghost use Rattle.std.specs.Prelude.{◌≡◌, ◌≤◌, ◌⊎◌, IfOk, IfErr, None, Some, option_map};
+ghost use Rattle.std.specs.Prelude.{◌≡◌, ◌≤◌, ◌-◌, ◌^◌, ◌⊎◌, IfOk, IfErr, None, Some, length};
+ghost use Rattle.std.specs.Prelude.{option_map};
 ghost use Rattle.pdb_container.specs.SourceAnswers.{AnswersFrom};
 ghost use Rattle.pdb_container.specs.Fault.{fault_of, Gives, HasRisen, IsOutside};
 ghost use Rattle.pdb_symbols_modules.specs.AddressTables.{read_if_there, sections_by};
@@ -63,6 +64,14 @@ impl<'s, S: Source + Drop> PDB<'s, S> {
     {
         let container = open_msf(alloc, source)?;
         Ok(PDB { container })
+    }
+
+    /// At most how many bytes the database has, or `u64::MAX` where its source doesn't know
+    /// ([`Source::size_hint`]).
+    pub fn size_hint(&self) -> u64
+        ensures { (length (S.bytes self.now) ≤ result) ⊎ (result ≡ 2 ^ 64 - 1) }
+    {
+        self.container.size_hint()
     }
 
     /// The information stream (1): what the database says of itself.
