@@ -35,15 +35,17 @@ def pages(size):
     return -(-size // PAGE)
 
 
-def container(streams, aliases={}):
-    """An MSF container. A stream of `aliases` has another's pages, all but the first backwards."""
+def container(streams, aliases={}, backwards=True):
+    """An MSF container. A stream of `aliases` has another's pages, all but the first backwards; or
+    all in order, so that they are one piece."""
     count, numbers = 3, {}
     for at, data in enumerate(streams):
         if at not in aliases:
             numbers[at] = list(range(count, count + pages(len(data))))
             count += len(numbers[at])
     for at, other in aliases.items():
-        numbers[at] = numbers[other][:1] + numbers[other][:0:-1]
+        first, *others = numbers[other]
+        numbers[at] = [first, *(reversed(others) if backwards else others)]
     sizes = [len(streams[aliases.get(at, at)]) for at in range(len(streams))]
     listed = [n for at in range(len(streams)) for n in numbers[at]]
     directory = u32(len(streams), *sizes, *listed)
@@ -245,6 +247,29 @@ def streams_of_same_pages(size):
     return container(streams, aliases), [0x1014]
 
 
+def streams_in_one_piece(size):
+    """1,000 modules whose streams list the same pages in order"""
+    symbols = procedures(size // 2 // 66)
+    covered = [contribution(0x100 + 16 * at, 16, at) for at in range(1000)]
+    entries = [module_entry(MODULE_STREAMS + at, len(symbols), 0) for at in range(1000)]
+    streams = database([(symbols, b"")], contributions=covered, entries=entries) + [b""] * 999
+    aliases = {MODULE_STREAMS + at: MODULE_STREAMS for at in range(1, 1000)}
+    return container(streams, aliases, backwards=False), spread(1000, 1000)
+
+
+def paths_of_rows(size):
+    """rows of one function, whose files are entries of one long path: sizes by file"""
+    count = size // 2 // 28
+    block = lambda at: u32(8 * at, 1, 20) + u32(16 * at, 0x80000005)
+    rows = b"".join(block(at) for at in range(count))
+    lines = subsection(0xF4, aligned(u32(1) + b"\0\0") * count)
+    lines += subsection(0xF2, u32(0x100) + u16(1, 0) + u32(16 * count) + rows)
+    first = procedure(0x100, 16 * count, 0)
+    symbols = u32(4) + procedure(0x100, 16 * count, 4 + len(first)) + END
+    streams = database([(symbols, lines)], names=b"\0" + b"a" * (size // 2) + b"\0")
+    return container(streams), spread(count, count)
+
+
 def names_of_imports(size):
     """inlined calls whose ids name a module of a long name, which isn't there"""
     count = size // 2 // 64
@@ -282,18 +307,20 @@ CASES = [
     (shared_streams, (1,)),
     (stated_directory, (1,)),
     (streams_of_same_pages, (6,)),
+    (streams_in_one_piece, (2,)),
+    (paths_of_rows, (1, 10)),
     (names_of_imports, (1, 10)),
     (long_answers, (1,)),
     (long_tail, (1,)),
 ]
 
 
-def measured(program, file, addresses, limit):
+def measured(program, arguments, addresses, limit):
     """Status, processor seconds and megabytes of one run."""
     asked = "".join(f"{it:x}\n" for it in addresses).encode()
     before = lambda: resource.setrlimit(resource.RLIMIT_CPU, (limit, limit))
     how = {"stdin": subprocess.PIPE, "stdout": subprocess.DEVNULL, "stderr": subprocess.PIPE}
-    ran = subprocess.Popen([program, "frames", file], preexec_fn=before, **how)
+    ran = subprocess.Popen([program, *arguments], preexec_fn=before, **how)
     try:
         ran.stdin.write(asked)
         ran.stdin.close()
@@ -322,7 +349,11 @@ def main():
                 file.flush()
                 if case is long_tail:
                     file.truncate(2_000_000_000)
-                ended, seconds, memory = measured(words[0], file.name, addresses, limit)
+                arguments = ["frames", file.name]
+                if case is paths_of_rows:
+                    whole = f"{addresses[0]:x}", f"{addresses[-1] + 16:x}"
+                    arguments = ["sizes", "--by-file", file.name, *whole]
+                ended, seconds, memory = measured(words[0], arguments, addresses, limit)
             row = [case.__doc__, f"{len(data) / 1e6:.2f}", f"{len(addresses):,}"]
             row += [f"{seconds:.2f}", f"{memory:.0f}", ended]
             print("|", " | ".join(row), "|", flush=True)

@@ -26,12 +26,12 @@ module _ (p : Parts) (scope : ℕ → Scope) (place : PdbInternalSectionOffset) 
 
   -- its key stands for the file at the place
   pub run_file : Some c ≡ holder p.contributions place → IsRunAt
-      → if_any (file_here p scope place) ≡ option_and_then (file_by p scope) run.0
+      → if_any (file_here p scope place) ≡ option_and_then (file_by p) run.0
   run_file held is =
       let far = up_to_next (bounds_near p (procedures_of scope (Some c)) place) place.offset limit in
       ap (λ h. if_any (file_by_holder p scope h place)) (sym held)
       ∙ sym (is_file_run p scope c place far).file
-      ∙ ap (λ (r : Option FileKey × ℕ). option_and_then (file_by p scope) r.0) (sym is)
+      ∙ ap (λ (r : Option FileKey × ℕ). option_and_then (file_by p) r.0) (sym is)
 
   -- and its length is how far that file goes on
   pub run_count : 1 ≤ limit → Some c ≡ holder p.contributions place → IsRunAt

@@ -49,19 +49,22 @@ read_fault m stream extended (Public f) part h =
     part h
 
 extended_fault : (m : ℕ) (stream : ModuleStream) (read : Result ExtendedModule container.Fault) (c : Chosen)
-    (part : Part) (by : List LineRow → FileKey × ℕ) → failing_by m stream c read ≡ Some part
-    → IsFault (lifted read >>= λ extended. rows_in stream extended.program c >>= λ rows. Ok (by rows))
+    (part : Part) (by : ExtendedModule → List LineRow → FileKey × ℕ)
+    → failing_by m stream c read ≡ Some part
+    → IsFault (lifted read >>= λ extended. rows_in stream extended.program c
+    >>= λ rows. Ok (by extended rows))
 extended_fault m stream (Ok extended) c part by h =
     then_fault (rows_in stream extended.program c) _ (read_fault m stream extended c part h)
 extended_fault m stream (Err e) c part by h = tt
 
 run_fault : (m : ℕ) (known : Option ModuleData) (c : Chosen) (place : PdbInternalSectionOffset)
     (far : ℕ) (part : Part) → failing_in m known c ≡ Some part
-    → IsFault (file_run_of m known c place far)
+    → IsFault (file_run_of known c place far)
 unfolding file_run_in
 run_fault m None c place far part h = absurd (none_is_some part h)
 run_fault m (Some known) c place far part h =
-    extended_fault m known.stream (extended_of known.stream) c part (run_by_rows m place far) h
+    extended_fault m known.stream (extended_of known.stream) c part
+    (λ extended. run_by_rows extended.program place far) h
 
 reported : (start : Option ℕ) (far : ℕ) (run : Result (FileKey × ℕ) Fault) → IsFault run
     → run_reported start far run ≡ (Some keys.Unreadable, far)
@@ -72,6 +75,6 @@ reported start far (Err e) h = refl
 pub known_unreadable : (m : ℕ) (known : Option ModuleData) (c : Chosen)
     (place : PdbInternalSectionOffset) (far : ℕ) (start : Option ℕ) (part : Part)
     → failing_in m known c ≡ Some part
-    → run_reported start far (file_run_of m known c place far) ≡ (Some keys.Unreadable, far)
+    → run_reported start far (file_run_of known c place far) ≡ (Some keys.Unreadable, far)
 known_unreadable m known c place far start part h =
-    reported start far (file_run_of m known c place far) (run_fault m known c place far part h)
+    reported start far (file_run_of known c place far) (run_fault m known c place far part h)

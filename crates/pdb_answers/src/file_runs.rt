@@ -10,14 +10,13 @@ ghost use Rattle.pdb_frames.specs.Choice.{start_address};
 ghost use Rattle.pdb_frames.specs.FileRuns.{file_run_at, file_run_of, run_reported};
 ghost use Rattle.pdb_frames.specs.FileRuns.{run_if_addressed as addressed_run};
 ghost use Rattle.pdb_frames.specs.Files.{file_by, file_here, files_of, if_any};
-ghost use Rattle.pdb_frames.specs.Files.{file_in_module as file_of_module};
 ghost use Rattle.pdb_frames.specs.NearBounds.{bounds_near};
 ghost use Rattle.pdb_frames.specs.Runs.{procedures_of};
 ghost use Rattle.pdb_frames.specs.Seen.{chosen_seen};
 ghost use Rattle.pdb_functions.specs.Databases.{IsOneRun, place_of as as_place};
 ghost use Rattle.pdb_functions.specs.FileAnswers.{file_seen};
 ghost use Rattle.pdb_known_modules.specs.Kept.{known_in};
-ghost use Rattle.pdb_known_modules.specs.Modules.{ModuleData, module_data};
+ghost use Rattle.pdb_known_modules.specs.Modules.{ModuleData};
 ghost use Rattle.pdb_known_modules.specs.Modules.{procedure_if_numbered, procedures_in};
 ghost use Rattle.pdb_module_data.specs.Procedures.{over};
 ghost use Rattle.pdb_resolving.specs.Fault.{Answers};
@@ -26,16 +25,14 @@ use crate::cached_parts::{HeldPlace, keep_parts};
 use crate::known_failures::KnownFailures;
 use crate::symbolizer::PlaceSymbolizer;
 use pdb_addresses::PdbInternalSectionOffset;
+use pdb_container::StringRef;
 use pdb_contributions::ModuleSectionContribution;
 use pdb_frames::{
-    Chosen, ContextParts, Failures, Stretch, choose, failing_in, file_in_module, file_run_in,
+    Chosen, ContextParts, Failures, Stretch, choose, failing_in, file_named, file_run_in,
     to_next_bound, to_next_shared_bound,
 };
 use pdb_functions::{CountedFile, FileAnswer, FileKey};
-use pdb_indices::FileIndex;
-use pdb_known_modules::{
-    BasicModuleInfo, CachedModules, keep_lines, keep_module, known_at, number_over,
-};
+use pdb_known_modules::{BasicModuleInfo, CachedModules, keep_module, known_at, number_over};
 use pdb_resolving::{Error, ModuleProvider, ModuleTables, Result};
 use std::alloc::{AllocError, Global};
 
@@ -87,8 +84,8 @@ fn read_run<I: ModuleTables>(
         → AreFailuresOf own known_failures.old → AreFailuresOf own known_failures.new }
     ensures run { IfOk result (λ run. run ≡ run_reported
         (start_address parts.now (chosen_seen chosen.entry)) stretch.far
-        (file_run_of stretch.module_index (option_copied known.entry) (chosen_seen chosen.entry)
-        stretch.place stretch.far)) }
+        (file_run_of (option_copied known.entry) (chosen_seen chosen.entry) stretch.place
+        stretch.far)) }
 {
     match file_run_in(alloc, known, chosen, stretch) {
         Ok(run) => Ok(run_if_addressed(parts, chosen, run, stretch.far)),
@@ -119,8 +116,8 @@ fn chosen_run<I: ModuleTables>(
         → AreFailuresOf own known_failures.old
         → IfOk result (λ run. run ≡ run_reported
         (start_address parts.now (chosen_seen chosen.entry)) stretch.far
-        (file_run_of stretch.module_index (option_copied known.entry) (chosen_seen chosen.entry)
-        stretch.place stretch.far)) }
+        (file_run_of (option_copied known.entry) (chosen_seen chosen.entry) stretch.place
+        stretch.far)) }
 {
     match known_failures.part(stretch.module_index, chosen) {
         Some(_) => Ok((Some(FileKey::Unreadable), stretch.far)),
@@ -244,8 +241,7 @@ impl<'a, 's, P: ModuleProvider> PlaceSymbolizer<'a, 's, P> {
     ) -> Result<(Option<FileKey>, u32)>
         requires { 1 ≤ limit }
         ensures same { self.new ≡ self.old }
-        ensures file { Answers (λ run. option_and_then (file_by self.old.parts
-            (scope_in P.provided self.old)) run.0) result
+        ensures file { Answers (λ run. option_and_then (file_by self.old.parts) run.0) result
             (Ok (if_any (file_here self.old.parts (scope_in P.provided self.old) place))) }
         ensures count { IfOk result (λ run. IsOneRun (files_of self.old.parts
             (scope_in P.provided self.old)) (as_place place) limit run.1) }
@@ -259,59 +255,25 @@ impl<'a, 's, P: ModuleProvider> PlaceSymbolizer<'a, 's, P> {
         }
     }
 
-    /// Returns the file with an index in a module. The module's line program is cached.
-    fn file_in_kept(
-        &mut self,
-        alloc: Global,
-        module_index: u16,
-        index: FileIndex,
-    ) -> std::result::Result<FileAnswer, AllocError>
-        ensures same { self.new ≡ self.old }
-        ensures file { IfOk result (λ file. file_seen file ≡ file_of_module self.old.parts index.0
-            (module_data (scope_in P.provided self.old module_index).own)) }
-    {
-        let modules = self.namer.modules();
-        let place_number = usize::from(module_index);
-        keep_module(
-            alloc,
-            &mut self.cached,
-            self.provider,
-            modules,
-            place_number,
-        )?;
-        keep_lines(alloc, &mut self.cached, place_number)?;
-        file_in_module(
-            alloc,
-            &self.parts,
-            known_at(&self.cached, place_number),
-            index,
-        )
-    }
-
     /// Returns the file that a key stands for.
     ///
     /// # Errors
     /// `OutOfMemory` alone.
-    pub fn file_by_key(&mut self, alloc: Global, key: &FileKey) -> Result<Option<CountedFile>>
-        ensures same { self.new ≡ self.old }
-        ensures file { Answers (λ file. file) result
-            (Ok (file_by self.old.parts (scope_in P.provided self.old) key.now)) }
+    pub fn file_by_key(&self, alloc: Global, key: &FileKey) -> Result<Option<CountedFile>>
+        ensures { Answers (λ file. file) result (Ok (file_by self.now.parts key.now)) }
     {
         let answer = match key {
             FileKey::Unreadable => FileAnswer::Unreadable,
             FileKey::NoFile => FileAnswer::NoFile,
-            FileKey::File(module_index, index) => {
-                self.file_in_kept(alloc, *module_index, FileIndex(*index))?
-            }
+            FileKey::Name(offset) => file_named(alloc, &self.parts, StringRef(*offset))?,
         };
         Ok(Some(CountedFile { answer }))
     }
 
     /// Returns the file that a key stands for, and nothing where there is no key.
-    fn file_of_key(&mut self, alloc: Global, key: Option<FileKey>) -> Result<FileAnswer>
-        ensures same { self.new ≡ self.old }
-        ensures file { Answers (λ file. file_seen file) result (Ok (file_or_nothing
-            (option_and_then (file_by self.old.parts (scope_in P.provided self.old)) key))) }
+    fn file_of_key(&self, alloc: Global, key: Option<FileKey>) -> Result<FileAnswer>
+        ensures { Answers (λ file. file_seen file) result
+            (Ok (file_or_nothing (option_and_then (file_by self.now.parts) key))) }
     {
         let Some(key) = key else {
             return Ok(FileAnswer::Nothing);

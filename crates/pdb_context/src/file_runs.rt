@@ -54,8 +54,7 @@ impl<'a, 's, P: ModuleProvider> Context<'a, 's, P> {
         requires { 1 ≤ limit }
         ensures same { uncounted self.new ≡ uncounted self.old }
         ensures lookups { self.new.lookups ≡ lookups_after true result self.old.lookups }
-        ensures file { Answers (λ run. option_and_then
-            (file_by self.old.parts (scope_in P.provided self.old)) run.0) result
+        ensures file { Answers (λ run. option_and_then (file_by self.old.parts) run.0) result
             (Ok (if_any (file_here self.old.parts (scope_in P.provided self.old) offset))) }
         ensures count { IfOk result (λ run. IsOneRun
             (files_of self.old.parts (scope_in P.provided self.old)) (as_place offset) limit
@@ -69,10 +68,8 @@ impl<'a, 's, P: ModuleProvider> Context<'a, 's, P> {
     ///
     /// # Errors
     /// `OutOfMemory` alone.
-    pub fn file_by_key(&mut self, alloc: Global, key: &FileKey) -> Result<Option<CountedFile>>
-        ensures same { self.new ≡ self.old }
-        ensures file { Answers (λ file. file) result
-            (Ok (file_by self.old.parts (scope_in P.provided self.old) key.now)) }
+    pub fn file_by_key(&self, alloc: Global, key: &FileKey) -> Result<Option<CountedFile>>
+        ensures { Answers (λ file. file) result (Ok (file_by self.now.parts key.now)) }
     {
         self.symbolizer.file_by_key(alloc, key)
     }

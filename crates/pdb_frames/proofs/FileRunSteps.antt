@@ -6,11 +6,12 @@ use Rattle.pdb_addresses.specs.declared.internal_section_offset.PdbInternalSecti
 use Rattle.pdb_choice.specs.Choice.{Parts, Chosen, Proc, Public, chosen, start_of, start_address}
 use Rattle.pdb_container.specs.Fault as container
 use Rattle.pdb_container.specs.Fault.{◌>>=◌}
+use Rattle.pdb_container.specs.StringTable.{text_in}
 use Rattle.pdb_contributions.specs.declared.contribution.ModuleSectionContribution.{ModuleSectionContribution}
 use Rattle.pdb_frames.proofs.FileStays.{last_after}
 use Rattle.pdb_frames.specs.ChosenNames.{name_of}
-use Rattle.pdb_frames.specs.Files.{file_by, file_in_extended, file_in_module, file_of, file_or_none}
-use Rattle.pdb_frames.specs.Files.{if_any, last_file, row_key, starts_by, starts_if_chosen}
+use Rattle.pdb_frames.specs.Files.{entry_key, file_by, file_of, file_or_none, if_any, last_file}
+use Rattle.pdb_frames.specs.Files.{row_key, starts_by, starts_if_chosen}
 use Rattle.pdb_frames.specs.Files.{starts_if_frames, starts_in, starts_in_extended}
 use Rattle.pdb_frames.specs.FileRuns.{file_run_at, file_run_if_chosen, file_run_in, file_run_of}
 use Rattle.pdb_frames.specs.FileRuns.{rows_in, run_by_rows, run_if_addressed, run_if_read}
@@ -25,9 +26,12 @@ use Rattle.pdb_functions.specs.declared.file_key.FileKey.TheVariants as keys
 use Rattle.pdb_known_modules.specs.Modules.{ModuleData, ExtendedModule, extended_of, module_data}
 use Rattle.pdb_known_modules.specs.Modules.{extended_procedure_of, procedure_calls}
 use Rattle.pdb_known_modules.specs.Modules.{procedure_sites, procedures_in, sites_lifted}
+use Rattle.pdb_lines.specs.Checksums.{File, file_in}
 use Rattle.pdb_lines.specs.LinesSubsections.{Program}
+use Rattle.pdb_module_data.proofs.KnownNames.{entry_named, no_entry}
 use Rattle.pdb_module_data.specs.Forest.{Site, sites_of}
-use Rattle.pdb_module_data.specs.FunctionLine.{file_text, function_rows, row_at, row_starts}
+use Rattle.pdb_module_data.specs.FunctionLine.{file_text, function_rows, if_read, row_at}
+use Rattle.pdb_module_data.specs.FunctionLine.{row_starts}
 use Rattle.pdb_module_data.specs.InlinedCalls.{call_rows, calls_over}
 use Rattle.pdb_module_data.specs.Procedures.{Procedure}
 use Rattle.pdb_module_data.specs.declared.function_rows.LineRow.{LineRow}
@@ -114,12 +118,20 @@ agree stream extended (Public f) place =
 abbrev row_text : Parts → Program → Option LineRow → Option (List ℕ)
 row_text p program row = option_and_then (λ r. file_text program p.names (r.file_index).0) row
 
-key_file : (p : Parts) (scope : ℕ → Scope) (m : ℕ) (program : Program) (row : Option LineRow)
-    → ((index : ℕ) → file_in_module p index (module_data (scope m).own)
-    ≡ file_or_none (file_text program p.names index))
-    → file_by p scope (row_key m row) ≡ Some (file_or_none (row_text p program row))
-key_file p scope m program None by = refl
-key_file p scope m program (Some row) by = ap Some (by (row.file_index).0)
+entry_file : (p : Parts) (program : Program) (index : ℕ) (entry : Result File container.Fault)
+    → file_in program.files index ≡ entry
+    → file_by p (entry_key entry) ≡ Some (file_or_none (file_text program p.names index))
+entry_file p program index (Ok file) read =
+    let text = option_and_then (λ names. if_read (text_in names file.name)) p.names in
+    ap (λ text. Some (file_or_none text)) (entry_named program p.names index file text read refl)
+entry_file p program index (Err e) read =
+    ap (λ text. Some (file_or_none text)) (no_entry program p.names index e read)
+
+key_file : (p : Parts) (program : Program) (row : Option LineRow)
+    → file_by p (row_key program row) ≡ Some (file_or_none (row_text p program row))
+key_file p program None = refl
+key_file p program (Some row) =
+    let index = (row.file_index).0 in entry_file p program index (file_in program.files index) refl
 
 counted : (name : Option (List ℕ)) → if_any (file_or_none name) ≡ Some (file_or_none name)
 counted None = refl
@@ -133,16 +145,15 @@ starts_count (Some name) starts = refl
 -- ---- what a run says
 
 -- a run's key stands for the file, and its count goes to the next row where there are frames
-pub record IsFileRun (p : Parts) (scope : ℕ → Scope) (place : PdbInternalSectionOffset) (far : ℕ)
-    (starts : List ℕ) (answer : FileAnswer) (run : Option FileKey × ℕ) : Type 0 where
-  pub file : option_and_then (file_by p scope) run.0 ≡ if_any answer
+pub record IsFileRun (p : Parts) (place : PdbInternalSectionOffset) (far : ℕ) (starts : List ℕ)
+    (answer : FileAnswer) (run : Option FileKey × ℕ) : Type 0 where
+  pub file : option_and_then (file_by p) run.0 ≡ if_any answer
   pub count : run.1 ≡ up_to_next (starts_if_frames answer starts) place.offset far
 
-module _ (p : Parts) (scope : ℕ → Scope) (m : ℕ) (place : PdbInternalSectionOffset) (far : ℕ)
-    (c : Chosen) where
+module _ (p : Parts) (place : PdbInternalSectionOffset) (far : ℕ) (c : Chosen) where
   -- without data
   run_bare : (frame : Frame) (start : Option ℕ) → frame.file ≡ None
-      → IsFileRun p scope place far [] (file_of (Ok (found_frames p c (frame ∷ []) start)))
+      → IsFileRun p place far [] (file_of (Ok (found_frames p c (frame ∷ []) start)))
       (run_if_addressed start far (keys.NoFile, far))
   run_bare frame None none = record { file = refl; count = refl }
   run_bare frame (Some a) none = rw none (record { file = refl; count = refl })
@@ -150,22 +161,20 @@ module _ (p : Parts) (scope : ℕ → Scope) (m : ℕ) (place : PdbInternalSecti
   -- by rows
   run_rows : (program : Program) (name : Option (List ℕ)) (section : ℕ) (others : List Frame)
       (row : Option LineRow) (rows : List LineRow) (start : Option ℕ)
-      → ((index : ℕ) → file_in_module p index (module_data (scope m).own)
-      ≡ file_or_none (file_text program p.names index))
       → row ≡ row_at rows place.offset
-      → IsFileRun p scope place far (row_starts rows)
+      → IsFileRun p place far (row_starts rows)
       (file_of (Ok (found_frames p c (others ++ function_frame p program name section row ∷ [])
       start)))
-      (run_if_addressed start far (run_by_rows m place far rows))
-  run_rows program name section others row rows None by is = record { file = refl; count = refl }
-  run_rows program name section others row rows (Some a) by is =
+      (run_if_addressed start far (run_by_rows program place far rows))
+  run_rows program name section others row rows None is = record { file = refl; count = refl }
+  run_rows program name section others row rows (Some a) is =
       let text = row_text p program row in
       let last :
       last_file (others ++ function_frame p program name section row ∷ []) ≡ file_or_none text =
       last_after others (function_frame p program name section row) in
       record {
-        file = ap (λ r. file_by p scope (row_key m r)) (sym is)
-            ∙ key_file p scope m program row by ∙ sym (counted text) ∙ ap if_any (sym last);
+        file = ap (λ r. file_by p (row_key program r)) (sym is)
+            ∙ key_file p program row ∙ sym (counted text) ∙ ap if_any (sym last);
         count = ap (λ starts. up_to_next starts place.offset far)
             (sym (starts_count text (row_starts rows))
             ∙ ap (λ answer. starts_if_frames answer (row_starts rows)) (sym last));
@@ -175,69 +184,61 @@ module _ (p : Parts) (scope : ℕ → Scope) (m : ℕ) (place : PdbInternalSecti
   run_read : (extended : ExtendedModule) (name : Option (List ℕ))
       (others : List InlinedCall → List Frame) (rows : Result (List LineRow) Fault)
       (read : Result (Option LineRow × List InlinedCall) Fault)
-      → ((index : ℕ) → file_in_module p index (module_data (scope m).own)
-      ≡ file_in_extended p index (Ok extended))
       → Agree extended c place rows read
-      → IsFileRun p scope place far (starts_in_extended c (Ok extended))
+      → IsFileRun p place far (starts_in_extended c (Ok extended))
       (file_of ((read >>= λ found. Ok (others found.1
       ++ function_frame p extended.program name (start_of c).section found.0 ∷ []))
       >>= λ frames. Ok (found_frames p c frames (start_address p c))))
-      (run_reported (start_address p c) far (run_if_read m place far rows))
-  run_read extended name others (Ok rows) (Ok found) by agrees =
+      (run_reported (start_address p c) far (run_if_read extended.program place far rows))
+  run_read extended name others (Ok rows) (Ok found) agrees =
       rw agrees.1 (run_rows extended.program name (start_of c).section (others found.1) found.0 rows
-      (start_address p c) by agrees.0)
-  run_read extended name others (Ok rows) (Err e) by agrees = absurd agrees
-  run_read extended name others (Err e) (Ok found) by agrees = absurd agrees
-  run_read extended name others (Err e) (Err other) by agrees =
-      record { file = refl; count = refl }
+      (start_address p c) agrees.0)
+  run_read extended name others (Ok rows) (Err e) agrees = absurd agrees
+  run_read extended name others (Err e) (Ok found) agrees = absurd agrees
+  run_read extended name others (Err e) (Err other) agrees = record { file = refl; count = refl }
 
   -- by line program and inlinees that may not be readable
   run_extended : (env : Env) (known : ModuleData) (extended : Result ExtendedModule container.Fault)
-      → ((index : ℕ) → file_in_module p index (module_data (scope m).own)
-      ≡ file_in_extended p index extended)
-      → IsFileRun p scope place far (starts_in_extended c extended)
+      → IsFileRun p place far (starts_in_extended c extended)
       (file_of ((lifted extended >>= λ extended. row_and_calls known.stream extended c place
       >>= λ found. Ok (map (call_frame p env extended.program) found.1
       ++ function_frame p extended.program (name_of p env c) (start_of c).section found.0 ∷ []))
       >>= λ frames. Ok (found_frames p c frames (start_address p c))))
       (run_reported (start_address p c) far
       (lifted extended >>= λ extended.
-      run_if_read m place far (rows_in known.stream extended.program c)))
-  run_extended env known (Ok extended) by =
+      run_if_read extended.program place far (rows_in known.stream extended.program c)))
+  run_extended env known (Ok extended) =
       run_read extended (name_of p env c) (map (call_frame p env extended.program))
-      (rows_in known.stream extended.program c) (row_and_calls known.stream extended c place) by
+      (rows_in known.stream extended.program c) (row_and_calls known.stream extended c place)
       (agree known.stream extended c place)
-  run_extended env known (Err e) by = record { file = refl; count = refl }
+  run_extended env known (Err e) = record { file = refl; count = refl }
 
   -- in a chosen function
-  run_known : (env : Env) (known : Option ModuleData) → module_data (scope m).own ≡ known
-      → IsFileRun p scope place far (starts_in known c)
+  run_known : (env : Env) (known : Option ModuleData)
+      → IsFileRun p place far (starts_in known c)
       (file_of (frames_of_chosen p env known place (Some c)))
-      (run_reported (start_address p c) far (file_run_of m known c place far))
+      (run_reported (start_address p c) far (file_run_of known c place far))
   unfolding frames_in_data file_run_in
-  run_known env None is =
+  run_known env None =
       run_bare (record { function = name_of p env c; file = None; line = None; row = None })
       (start_address p c) refl
-  run_known env (Some known) is =
-      run_extended env known (extended_of known.stream) (λ index. ap (file_in_module p index) is)
+  run_known env (Some known) = run_extended env known (extended_of known.stream)
 
-run_if_chosen : (p : Parts) (scope : ℕ → Scope) (m : ℕ) (place : PdbInternalSectionOffset)
-    (far : ℕ) (env : Env) (known : Option ModuleData) (c : Option Chosen)
-    → module_data (scope m).own ≡ known
-    → IsFileRun p scope place far (starts_if_chosen known c)
-    (file_of (frames_of_chosen p env known place c)) (file_run_if_chosen p m known place far c)
-run_if_chosen p scope m place far env known None is = record { file = refl; count = refl }
-run_if_chosen p scope m place far env known (Some c) is =
-    run_known p scope m place far c env known is
+run_if_chosen : (p : Parts) (place : PdbInternalSectionOffset) (far : ℕ) (env : Env)
+    (known : Option ModuleData) (c : Option Chosen)
+    → IsFileRun p place far (starts_if_chosen known c)
+    (file_of (frames_of_chosen p env known place c)) (file_run_if_chosen p known place far c)
+run_if_chosen p place far env known None = record { file = refl; count = refl }
+run_if_chosen p place far env known (Some c) = run_known p place far c env known
 
 -- A run at a place that a contribution holds says what the frames there say.
 pub is_file_run : (p : Parts) (scope : ℕ → Scope) (c : ModuleSectionContribution)
     (place : PdbInternalSectionOffset) (far : ℕ)
-    → IsFileRun p scope place far (starts_by p scope place (Some c))
+    → IsFileRun p place far (starts_by p scope place (Some c))
     (file_of (frames_at p (scope c.module_index) c place))
     (file_run_at p (scope c.module_index) c place far)
 unfolding frames_at
 is_file_run p scope c place far =
     let s = scope c.module_index in
-    run_if_chosen p scope c.module_index place far s.env (module_data s.own)
-    (chosen p (procedures_in (module_data s.own)) c place) refl
+    let known = module_data s.own in
+    run_if_chosen p place far s.env known (chosen p (procedures_in known) c place)

@@ -28,29 +28,29 @@ abbrev pub rows_in : ModuleStream → Program → Chosen → Result (List LineRo
 rows_in stream program (Proc q) = extended_procedure_of stream program q >>= λ read. Ok read.0
 rows_in stream program (Public f) = lifted (function_rows program f.start_offset)
 
--- the key of the file at a place in a module, by the rows of its function, and the lesser of a
--- number and the distance to the next row
-abbrev pub run_by_rows : ℕ → PdbInternalSectionOffset → ℕ → List LineRow → FileKey × ℕ
-run_by_rows m place far rows =
-    (row_key m (row_at rows place.offset), up_to_next (row_starts rows) place.offset far)
+-- the key of the file at a place, by the rows of its function, and the lesser of a number and the
+-- distance to the next row
+abbrev pub run_by_rows : Program → PdbInternalSectionOffset → ℕ → List LineRow → FileKey × ℕ
+run_by_rows program place far rows =
+    (row_key program (row_at rows place.offset), up_to_next (row_starts rows) place.offset far)
 
 -- such a run by what gives the rows, which may be a fault
-abbrev pub run_if_read :
-    ℕ → PdbInternalSectionOffset → ℕ → Result (List LineRow) Fault → Result (FileKey × ℕ) Fault
-run_if_read m place far rows = rows >>= λ rows. Ok (run_by_rows m place far rows)
+abbrev pub run_if_read : Program → PdbInternalSectionOffset → ℕ → Result (List LineRow) Fault
+    → Result (FileKey × ℕ) Fault
+run_if_read program place far rows = rows >>= λ rows. Ok (run_by_rows program place far rows)
 
 -- such a run by the module's stream: line program and inlinees are read before the rows
 unfoldable pub file_run_in :
-    ℕ → ModuleStream → Chosen → PdbInternalSectionOffset → ℕ → Result (FileKey × ℕ) Fault
-file_run_in m stream c place far = do
+    ModuleStream → Chosen → PdbInternalSectionOffset → ℕ → Result (FileKey × ℕ) Fault
+file_run_in stream c place far = do
   extended ← lifted (extended_of stream)
-  run_if_read m place far (rows_in stream extended.program c)
+  run_if_read extended.program place far (rows_in stream extended.program c)
 
 -- such a run by the module's data; without data no file is known
 abbrev pub file_run_of :
-    ℕ → Option ModuleData → Chosen → PdbInternalSectionOffset → ℕ → Result (FileKey × ℕ) Fault
-file_run_of m None c place far = Ok (keys.NoFile, far)
-file_run_of m (Some known) c place far = file_run_in m known.stream c place far
+    Option ModuleData → Chosen → PdbInternalSectionOffset → ℕ → Result (FileKey × ℕ) Fault
+file_run_of None c place far = Ok (keys.NoFile, far)
+file_run_of (Some known) c place far = file_run_in known.stream c place far
 
 -- ---- at a place
 
@@ -66,11 +66,10 @@ run_reported start far (Ok run) = run_if_addressed start far run
 
 -- the run in what may be chosen: nothing up to the next bound without it
 abbrev pub file_run_if_chosen :
-    Parts → ℕ → Option ModuleData → PdbInternalSectionOffset → ℕ → Option Chosen
-    → Option FileKey × ℕ
-file_run_if_chosen p m known place far None = (None, far)
-file_run_if_chosen p m known place far (Some c) =
-    run_reported (start_address p c) far (file_run_of m known c place far)
+    Parts → Option ModuleData → PdbInternalSectionOffset → ℕ → Option Chosen → Option FileKey × ℕ
+file_run_if_chosen p known place far None = (None, far)
+file_run_if_chosen p known place far (Some c) =
+    run_reported (start_address p c) far (file_run_of known c place far)
 
 -- the run in the module of a contribution, at a place that it holds, with so many bytes to the
 -- next bound
@@ -78,4 +77,4 @@ abbrev pub file_run_at :
     Parts → Scope → ModuleSectionContribution → PdbInternalSectionOffset → ℕ → Option FileKey × ℕ
 file_run_at p s c place far =
     let known = module_data s.own in
-    file_run_if_chosen p c.module_index known place far (chosen p (procedures_in known) c place)
+    file_run_if_chosen p known place far (chosen p (procedures_in known) c place)

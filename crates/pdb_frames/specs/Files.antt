@@ -1,6 +1,6 @@
 -- The file of an address, where it may change, and what is counted by file.
 use Rattle.std.specs.Prelude.{ℕ, Bool, ◌==◌, ◌||◌, List, [], ◌∷◌, Option, None, Some}
-use Rattle.std.specs.Prelude.{Result, Ok, Err}
+use Rattle.std.specs.Prelude.{Result, Ok, Err, option_and_then}
 use Rattle.std.specs.List.{list_any}
 use Rattle.pdb_addresses.specs.Places.{internal_place}
 use Rattle.pdb_addresses.specs.declared.internal_section_offset.PdbInternalSectionOffset.{
@@ -8,6 +8,7 @@ use Rattle.pdb_addresses.specs.declared.internal_section_offset.PdbInternalSecti
 }
 use Rattle.pdb_choice.specs.Choice.{Parts, Chosen, chosen, held_at, start_of}
 use Rattle.pdb_container.specs.Fault as container
+use Rattle.pdb_container.specs.StringTable.{text_in}
 use Rattle.pdb_contributions.specs.Contributions.{holder}
 use Rattle.pdb_contributions.specs.declared.contribution.ModuleSectionContribution.{
   ModuleSectionContribution,
@@ -22,7 +23,9 @@ use Rattle.pdb_functions.specs.declared.file_key.FileKey.{FileKey}
 use Rattle.pdb_functions.specs.declared.file_key.FileKey.TheVariants as keys
 use Rattle.pdb_known_modules.specs.Modules.{ModuleData, ExtendedModule, module_data}
 use Rattle.pdb_known_modules.specs.Modules.{procedures_in, extended_of}
-use Rattle.pdb_module_data.specs.FunctionLine.{file_text, function_rows, row_starts}
+use Rattle.pdb_lines.specs.Checksums as checksums
+use Rattle.pdb_lines.specs.LinesSubsections.{Program}
+use Rattle.pdb_module_data.specs.FunctionLine.{function_rows, if_read, row_starts}
 use Rattle.pdb_module_data.specs.declared.function_rows.LineRow.{LineRow}
 use Rattle.pdb_resolving.specs.Fault.{Fault}
 
@@ -113,28 +116,28 @@ files_of p scope = record {
 
 -- ---- keys of files
 
--- the file with an index in a module, by its line program
-abbrev pub file_in_extended : Parts → ℕ → Result ExtendedModule container.Fault → FileAnswer
-file_in_extended p index (Ok extended) = file_or_none (file_text extended.program p.names index)
-file_in_extended p index (Err e) = NoFile
-
--- the same by the module's data
-abbrev pub file_in_module : Parts → ℕ → Option ModuleData → FileAnswer
-file_in_module p index None = NoFile
-file_in_module p index (Some known) = file_in_extended p index (extended_of known.stream)
+-- the file with a name at an offset in the string table; it isn't known where there is no table
+-- or no such name
+abbrev pub file_named : Parts → ℕ → FileAnswer
+file_named p offset =
+    file_or_none (option_and_then (λ names. if_read (text_in names offset)) p.names)
 
 -- the file that a key stands for
-abbrev pub file_by : Parts → (ℕ → Scope) → FileKey → Option FileAnswer
-file_by p scope keys.Unreadable = Some Unreadable
-file_by p scope keys.NoFile = Some NoFile
-file_by p scope (keys.File module_index index) =
-    Some (file_in_module p index (module_data (scope module_index).own))
+abbrev pub file_by : Parts → FileKey → Option FileAnswer
+file_by p keys.Unreadable = Some Unreadable
+file_by p keys.NoFile = Some NoFile
+file_by p (keys.Name offset) = Some (file_named p offset)
 
 -- the files at places, by keys
 abbrev pub files_keyed : Parts → (ℕ → Scope) → Keyed FileKey FileAnswer
-files_keyed p scope = record { answer_of = file_by p scope; places = files_of p scope }
+files_keyed p scope = record { answer_of = file_by p; places = files_of p scope }
 
--- the key of a row's file in a module
-abbrev pub row_key : ℕ → Option LineRow → FileKey
-row_key module_index None = keys.NoFile
-row_key module_index (Some row) = keys.File module_index (row.file_index).0
+-- the key of a file among a module's checksums, if it can be read
+abbrev pub entry_key : Result checksums.File container.Fault → FileKey
+entry_key (Ok file) = keys.Name file.name
+entry_key (Err e) = keys.NoFile
+
+-- the key of a row's file, by the row's module
+abbrev pub row_key : Program → Option LineRow → FileKey
+row_key program None = keys.NoFile
+row_key program (Some row) = entry_key (checksums.file_in program.files (row.file_index).0)

@@ -3,8 +3,7 @@
 ghost use Rattle.std.specs.Prelude.{◌≡◌, IfOk, Ok, option_copied};
 ghost use Rattle.pdb_choice.specs.Seen.{chosen_seen};
 ghost use Rattle.pdb_choice.specs.Choice as choice;
-ghost use Rattle.pdb_frames.specs.Files.{file_in_extended as file_of_extended};
-ghost use Rattle.pdb_frames.specs.Files.{file_in_module as file_of_module, row_key as key_of_row};
+ghost use Rattle.pdb_frames.specs.Files.{file_named as file_of_name, row_key as key_of_row};
 ghost use Rattle.pdb_frames.specs.FileRuns.{file_run_in as file_run_of_stream, file_run_of};
 ghost use Rattle.pdb_frames.specs.FileRuns.{rows_in, run_by_rows, run_if_read};
 ghost use Rattle.pdb_functions.specs.FileAnswers.{file_seen};
@@ -15,22 +14,27 @@ ghost use Rattle.pdb_resolving.specs.Fault.{Answers, lifted};
 
 use pdb_addresses::PdbInternalSectionOffset;
 use pdb_choice::{Chosen, ContextParts};
+use pdb_container::StringRef;
 use pdb_functions::{FileAnswer, FileKey};
-use pdb_indices::FileIndex;
 use pdb_known_modules::{
     BasicModuleInfo, ExtendedModuleInfo, read_extended, read_extended_procedure,
 };
-use pdb_module_data::{FunctionRows, LineRow, Procedure, file_name};
+use pdb_lines::LineProgram;
+use pdb_module_data::{FunctionRows, LineRow, Procedure};
 use pdb_resolving::{ModuleTables, Result};
 use std::alloc::{AllocError, Global};
 
-/// Returns the key of a row's file in the module with that index; without a row no file is known.
-fn row_key(module_index: u16, row: Option<LineRow>) -> FileKey
-    ensures { result ≡ key_of_row module_index row }
+/// Returns the key of a row's file, by its module's line program. No file is known without a row,
+/// or where the file has no entry among the module's checksums.
+fn row_key(line_program: &LineProgram<'_>, row: Option<LineRow>) -> FileKey
+    ensures { result ≡ key_of_row line_program.now row }
 {
-    match row {
-        None => FileKey::NoFile,
-        Some(row) => FileKey::File(module_index, row.file_index.0),
+    let Some(row) = row else {
+        return FileKey::NoFile;
+    };
+    match line_program.get_file_info(row.file_index) {
+        Err(_) => FileKey::NoFile,
+        Ok(file) => FileKey::Name(file.name.0),
     }
 }
 
@@ -48,10 +52,10 @@ pub struct Stretch {
 impl Stretch {
     /// Returns the key of the file at the place, and the distance to the next row, or to the end
     /// where that is nearer, by the function's line rows.
-    fn run_by_rows(self, rows: &FunctionRows) -> (FileKey, u32)
-        ensures { result ≡ run_by_rows self.module_index self.place self.far rows.now }
+    fn run_by_rows(self, line_program: &LineProgram<'_>, rows: &FunctionRows) -> (FileKey, u32)
+        ensures { result ≡ run_by_rows line_program.now self.place self.far rows.now }
     {
-        let key = row_key(self.module_index, rows.at(self.place.offset));
+        let key = row_key(line_program, rows.at(self.place.offset));
         (key, rows.to_next_start(self.place.offset, self.far))
     }
 }
@@ -68,15 +72,15 @@ fn procedure_run<'m, I: ModuleTables>(
     stretch: Stretch,
 ) -> Result<(FileKey, u32)>
     requires { extended_of known.now.stream ≡ Ok (extended_seen extended.now) }
-    ensures { Answers (λ run. run) result (run_if_read stretch.module_index stretch.place
-        stretch.far (rows_in known.now.stream (extended_seen extended.now).program
-        (choice.Proc procedure.now))) }
+    ensures { let program = (extended_seen extended.now).program in
+        Answers (λ run. run) result (run_if_read program stretch.place stretch.far
+        (rows_in known.now.stream program (choice.Proc procedure.now))) }
 {
     if let Some(read) = known.extended_procedure(number, procedure) {
-        return Ok(stretch.run_by_rows(read.rows));
+        return Ok(stretch.run_by_rows(&extended.line_program, read.rows));
     }
     let read = read_extended_procedure(alloc, known.module_info, extended, procedure)?;
-    Ok(stretch.run_by_rows(&read.rows))
+    Ok(stretch.run_by_rows(&extended.line_program, &read.rows))
 }
 
 /// Returns the key of the file at a place in the function of a public entry, and how far it goes
@@ -90,14 +94,15 @@ fn public_run<'m, I: ModuleTables>(
     stretch: Stretch,
 ) -> Result<(FileKey, u32)>
     requires { extended_of known.now.stream ≡ Ok (extended_seen extended.now) }
-    ensures { Answers (λ run. run) result (run_if_read stretch.module_index stretch.place
-        stretch.far (lifted (function_rows (extended_seen extended.now).program start))) }
+    ensures { let program = (extended_seen extended.now).program in
+        Answers (λ run. run) result (run_if_read program stretch.place stretch.far
+        (lifted (function_rows program start))) }
 {
     if let Some(rows) = known.public_rows(start) {
-        return Ok(stretch.run_by_rows(rows));
+        return Ok(stretch.run_by_rows(&extended.line_program, rows));
     }
     let rows = FunctionRows::read(alloc, &extended.line_program, start)?;
-    Ok(stretch.run_by_rows(&rows))
+    Ok(stretch.run_by_rows(&extended.line_program, &rows))
 }
 
 /// Returns the key of the file at a place in a chosen function, and how far it goes on, by its
@@ -110,9 +115,9 @@ fn chosen_run<'m, I: ModuleTables>(
     stretch: Stretch,
 ) -> Result<(FileKey, u32)>
     requires { extended_of known.now.stream ≡ Ok (extended_seen extended.now) }
-    ensures { Answers (λ run. run) result (run_if_read stretch.module_index stretch.place
-        stretch.far (rows_in known.now.stream (extended_seen extended.now).program
-        (chosen_seen chosen.entry))) }
+    ensures { let program = (extended_seen extended.now).program in
+        Answers (λ run. run) result (run_if_read program stretch.place stretch.far
+        (rows_in known.now.stream program (chosen_seen chosen.entry))) }
 {
     match chosen {
         Chosen::Procedure(number, procedure) => {
@@ -131,7 +136,7 @@ fn data_run<'m, I: ModuleTables>(
     chosen: Chosen<'_, '_>,
     stretch: Stretch,
 ) -> Result<(FileKey, u32)>
-    ensures { Answers (λ run. run) result (file_run_of_stream stretch.module_index known.now.stream
+    ensures { Answers (λ run. run) result (file_run_of_stream known.now.stream
         (chosen_seen chosen.entry) stretch.place stretch.far) }
 {
     if let Some(extended) = known.extended() {
@@ -154,8 +159,8 @@ pub fn file_run_in<I: ModuleTables>(
     chosen: Chosen<'_, '_>,
     stretch: Stretch,
 ) -> Result<(FileKey, u32)>
-    ensures { Answers (λ run. run) result (file_run_of stretch.module_index
-        (option_copied known.entry) (chosen_seen chosen.entry) stretch.place stretch.far) }
+    ensures { Answers (λ run. run) result (file_run_of (option_copied known.entry)
+        (chosen_seen chosen.entry) stretch.place stretch.far) }
 {
     match known {
         None => Ok((FileKey::NoFile, stretch.far)),
@@ -163,62 +168,23 @@ pub fn file_run_in<I: ModuleTables>(
     }
 }
 
-/// Returns the file with an index in a line program; `NoFile` where it has no name.
-fn file_in_extended(
+/// Returns the file whose name is at an offset in the string table; `NoFile` where there is no
+/// such name.
+///
+/// # Errors
+/// [`AllocError`] where memory is refused.
+pub fn file_named(
     alloc: Global,
     parts: &ContextParts<'_, '_>,
-    extended: &ExtendedModuleInfo<'_>,
-    index: FileIndex,
+    name: StringRef,
 ) -> std::result::Result<FileAnswer, AllocError>
-    ensures { IfOk result (λ file. file_seen file
-        ≡ file_of_extended parts.now index.0 (Ok (extended_seen extended.now))) }
+    ensures { IfOk result (λ file. file_seen file ≡ file_of_name parts.now name.0) }
 {
-    match file_name(alloc, &extended.line_program, &parts.names, index)? {
+    match parts.names.text(alloc, name)? {
         None => Ok(FileAnswer::NoFile),
         Some(name) => {
             let name = name.into_owned(alloc)?;
             Ok(FileAnswer::File(name))
         }
-    }
-}
-
-/// Returns the file with an index in the module of these data; `NoFile` where the line program
-/// can't be read, and where the file has no name.
-fn file_in_data<I: ModuleTables>(
-    alloc: Global,
-    parts: &ContextParts<'_, '_>,
-    known: &BasicModuleInfo<'_, I>,
-    index: FileIndex,
-) -> std::result::Result<FileAnswer, AllocError>
-    ensures { IfOk result (λ file. file_seen file
-        ≡ file_of_extended parts.now index.0 (extended_of known.now.stream)) }
-{
-    if let Some(extended) = known.extended() {
-        return file_in_extended(alloc, parts, extended, index);
-    }
-    match read_extended(alloc, known.module_info) {
-        Ok(extended) => file_in_extended(alloc, parts, &extended, index),
-        Err(pdb_container::Error::OutOfMemory) => Err(AllocError),
-        Err(_) => Ok(FileAnswer::NoFile),
-    }
-}
-
-/// Returns the file with an index in a module; `NoFile` where the module has no data, where its
-/// line program can't be read, and where the file has no name.
-///
-/// # Errors
-/// [`AllocError`] where memory is refused.
-pub fn file_in_module<I: ModuleTables>(
-    alloc: Global,
-    parts: &ContextParts<'_, '_>,
-    known: Option<&BasicModuleInfo<'_, I>>,
-    index: FileIndex,
-) -> std::result::Result<FileAnswer, AllocError>
-    ensures { IfOk result (λ file. file_seen file
-        ≡ file_of_module parts.now index.0 (option_copied known.entry)) }
-{
-    match known {
-        None => Ok(FileAnswer::NoFile),
-        Some(known) => file_in_data(alloc, parts, known, index),
     }
 }

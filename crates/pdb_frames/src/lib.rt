@@ -8,7 +8,7 @@ mod frames;
 pub mod laws;
 
 pub use chosen_name::name_of;
-pub use file_runs::{Stretch, file_in_module, file_run_in};
+pub use file_runs::{Stretch, file_named, file_run_in};
 pub use frames::{check_frames, frames_in};
 pub use pdb_choice::{
     Chosen, ContextParts, Failures, FunctionEnd, Part, choose, failing_in, number_of,

@@ -11,27 +11,27 @@ use crate::answer::Answer;
 use std::cmp::Ordering;
 
 /// What tells the files of addresses apart, without their names. Several keys may stand for the
-/// same file: a file has an entry in each module that names it.
+/// same file: the string table may hold a name more than once, and part of one is one too.
 #[derive(Clone, Copy, Debug)]
 pub enum FileKey {
     /// There is a function whose frames can't be read.
     Unreadable,
-    /// There are frames, and no row, so that the function's file isn't known.
+    /// There are frames, and no row whose file has an entry among its module's checksums
+    /// (`DEBUG_S_FILECHKSMS`), so that the function's file isn't known.
     NoFile,
-    /// A file of a module, by the module's index and the file's place among the module's checksums
-    /// (`DEBUG_S_FILECHKSMS`), in bytes.
-    File(u16, u32),
+    /// A file by the offset of its name in the string table (`/names`), in bytes.
+    Name(u32),
 }
 
 impl FileKey {
     /// Returns the numbers that it is compared by.
-    fn numbers(&self) -> (u8, u16, u32)
+    fn numbers(&self) -> (u8, u32)
         ensures { result ≡ file_numbers self.now }
     {
         match self {
-            FileKey::Unreadable => (0, 0, 0),
-            FileKey::NoFile => (1, 0, 0),
-            FileKey::File(module_index, file_index) => (2, *module_index, *file_index),
+            FileKey::Unreadable => (0, 0),
+            FileKey::NoFile => (1, 0),
+            FileKey::Name(offset) => (2, *offset),
         }
     }
 }
@@ -51,7 +51,7 @@ impl Eq for FileKey {
     ghost laws = { eq_by_cmp_equiv file_key_total };
 }
 
-/// By kind, and files by module and place.
+/// By kind, and files by the offsets of their names.
 impl PartialOrd for FileKey {
     ghost partial_cmp = { λ a b. Some (file_key_cmp a b) };
 
@@ -62,7 +62,7 @@ impl PartialOrd for FileKey {
     }
 }
 
-/// By kind, and files by module and place.
+/// By kind, and files by the offsets of their names.
 impl Ord for FileKey {
     ghost cmp = { file_key_cmp };
 
@@ -73,11 +73,9 @@ impl Ord for FileKey {
     ghost matches_eq = { λ a b. refl };
 
     fn cmp(&self, other: &FileKey) -> Ordering {
-        let (kind, module_index, file_index) = self.numbers();
-        let (other_kind, other_module_index, other_file_index) = other.numbers();
-        kind.cmp(&other_kind)
-            .then(module_index.cmp(&other_module_index))
-            .then(file_index.cmp(&other_file_index))
+        let (kind, offset) = self.numbers();
+        let (other_kind, other_offset) = other.numbers();
+        kind.cmp(&other_kind).then(offset.cmp(&other_offset))
     }
 }
 

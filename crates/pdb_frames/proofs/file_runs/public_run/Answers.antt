@@ -8,6 +8,7 @@ use Rattle.pdb_frames.proofs.file_runs.public_run.Goals as goal
 pub returns-in-Some : goal.returns-in-Some
 returns-in-Some g c =
     let s = c.args.stretch in
+    let program = (extended_seen c.args.extended.now).program in
     let lent = c.in-Some.ensures (extended_seen c.args.extended.now) c.requires in
-    ap (λ rows. run_if_read s.module_index s.place s.far (lifted rows)) lent
+    ap (λ rows. run_if_read program s.place s.far (lifted rows)) lent
     ∙ ap Ok (sym c.run_by_rows.ensures)
