@@ -1,6 +1,6 @@
 //! Answers about addresses of an image: the function at an address, its frames, and all functions.
 //! What was read of a module or a procedure, the names of functions and where functions begin are
-//! kept; what was asked before shows in no answer.
+//! cached; what was asked before shows in no answer.
 #![tactic(auto)]
 
 mod context;

@@ -23,7 +23,7 @@
 //! | read an address, as a line of input has it | [`parse_address`] |
 //! | read a file's pages, or the first 32 bytes of what is no container | [`read_file`] |
 //! | have the failures of a reader or a writer counted | [`Watched`] |
-//! | tell how a run ended, and with which status | [`finish_run`] |
+//! | report how a run ended, and with which status | [`finish_run`] |
 //! | see what is proved of whole files | [`laws`] |
 //!
 //! What a context answers besides, and the formatter of types, is in `pdb_addr2line`.
