@@ -14,9 +14,9 @@ use std::process::ExitCode;
 use std::rt::Env;
 use std::{env, fs};
 
-/// The text that is reported if an argument isn't text.
-const NO_TEXT: &str = "error: a word is no text\n\nUsage: pdb_symbolizer <COMMAND>\n\n\
-    For more information, try '--help'.\n";
+/// The text that is reported if an argument isn't UTF-8.
+const NO_TEXT: &str = "error: invalid UTF-8 was detected in one or more arguments\n\n\
+    Usage: pdb_symbolizer <COMMAND>\n\nFor more information, try '--help'.\n";
 
 fn main(rt: HostRuntime) -> ExitCode {
     let mut errors = rt.stderr();
