@@ -2,9 +2,9 @@ pub mod Formatters
 pub mod Refused
 pub use Rattle.pdb_context.specs.Choice
 pub use Rattle.pdb_context.specs.Context
-pub use Rattle.pdb_context.specs.Failed
+pub use Rattle.pdb_context.specs.FailingParts
 pub use Rattle.pdb_context.specs.Files
-pub use Rattle.pdb_context.specs.Frames
+pub use Rattle.pdb_context.specs.FramesAt
 pub use Rattle.pdb_context.specs.Keys
 pub use Rattle.pdb_context.specs.Parts
 pub use Rattle.pdb_context.specs.Printing

@@ -3,7 +3,7 @@ use Rattle.std.proofs.Common.{◌≡◌, Result, Ok, Err, false, refl, ap, sym, 
 use Rattle.std.specs.Prelude.{None, Some, if◌then◌else◌}
 use Rattle.pdb_resolving.specs.declared.error.Error.{Error}
 use Rattle.pdb_resolving.specs.Fault.{Fault, Fails}
-use Rattle.pdb_frames.specs.Failed.{Failures, has_failed, told, unsuccessful}
+use Rattle.pdb_frames.specs.FailingParts.{Failures, has_failed, told, unsuccessful}
 use Rattle.pdb_frames.specs.Failing.{Part}
 
 -- without a part that fails, an answer is told as it is

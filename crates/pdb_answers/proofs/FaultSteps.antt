@@ -11,11 +11,11 @@ use Rattle.pdb_module_data.specs.Forest.{Site, sites_of}
 use Rattle.pdb_module_data.specs.FunctionLine.{function_rows, row_at}
 use Rattle.pdb_module_data.specs.InlinedCalls.{call_rows, calls_over}
 use Rattle.pdb_resolving.specs.Fault.{Fault, Fails, lifted}
-use Rattle.pdb_known_modules.specs.Modules.{ModuleData, ExtendedModule, extended_of, procedure_calls, sites_lifted}
+use Rattle.pdb_known_modules.specs.KnownModules.{ModuleData, ExtendedModule, extended_of, procedure_calls, sites_lifted}
 use Rattle.pdb_frames.specs.Choice.{Parts, Chosen, Proc, Public, start_of}
-use Rattle.pdb_frames.specs.Failed.{Failures, failing_first, failing_sites, failing_procedure, failing_by, failing_in, failed_after, has_failed, told, unsuccessful, unsuccessful_error, with_failed}
+use Rattle.pdb_frames.specs.FailingParts.{Failures, failing_first, failing_sites, failing_procedure, failing_by, failing_in, failed_after, has_failed, told, unsuccessful, unsuccessful_error, with_failed}
 use Rattle.pdb_frames.specs.Failing.{Part, ExtendedModule as Extended, ProcedureLines, ProcedureInlineRanges}
-use Rattle.pdb_frames.specs.Frames.{calls_in, row_and_calls, frames_in_data, frames_of_chosen}
+use Rattle.pdb_frames.specs.FramesAt.{calls_in, row_and_calls, frames_in_data, frames_of_chosen}
 
 -- reading has a fault
 abbrev pub IsFault : {A E : Type 0} → Result A E → Type 0

@@ -3,7 +3,7 @@ use Rattle.std.proofs.Common.{◌≡◌, ℕ, ◌≤◌, Option, Some, sym, ap, 
 use Rattle.std.specs.Prelude.{option_and_then}
 use Rattle.pdb_addresses.specs.SectionRun.{up_to_next}
 use Rattle.pdb_addresses.specs.declared.internal_section_offset.PdbInternalSectionOffset.{PdbInternalSectionOffset}
-use Rattle.pdb_contributions.specs.Contributions.{holder}
+use Rattle.pdb_contributions.specs.MergedContributions.{holder}
 use Rattle.pdb_contributions.specs.declared.contribution.ModuleSectionContribution.{ModuleSectionContribution}
 use Rattle.pdb_frames.proofs.FileRunLaw.{file_by_holder, file_run_by_holder}
 use Rattle.pdb_frames.proofs.FileRunSteps.{is_file_run}

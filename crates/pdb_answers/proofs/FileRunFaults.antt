@@ -5,15 +5,15 @@ use Rattle.pdb_addresses.specs.declared.internal_section_offset.PdbInternalSecti
 use Rattle.pdb_container.specs.Fault as container
 use Rattle.pdb_container.specs.Fault.{◌>>=◌}
 use Rattle.pdb_frames.specs.Choice.{Chosen, Proc, Public}
-use Rattle.pdb_frames.specs.Failed.{failing_by, failing_first, failing_in, failing_procedure}
-use Rattle.pdb_frames.specs.Failed.{failing_sites}
+use Rattle.pdb_frames.specs.FailingParts.{failing_by, failing_first, failing_in, failing_procedure}
+use Rattle.pdb_frames.specs.FailingParts.{failing_sites}
 use Rattle.pdb_frames.specs.Failing.{Part, ProcedureLines, ProcedureInlineRanges}
 use Rattle.pdb_frames.specs.FileRuns.{file_run_in, file_run_of, rows_in, run_by_rows}
 use Rattle.pdb_frames.specs.FileRuns.{run_reported}
 use Rattle.pdb_functions.specs.declared.file_key.FileKey.{FileKey}
 use Rattle.pdb_functions.specs.declared.file_key.FileKey.TheVariants as keys
-use Rattle.pdb_known_modules.specs.Modules.{ModuleData, ExtendedModule, extended_of}
-use Rattle.pdb_known_modules.specs.Modules.{extended_procedure_of, procedure_sites}
+use Rattle.pdb_known_modules.specs.KnownModules.{ModuleData, ExtendedModule, extended_of}
+use Rattle.pdb_known_modules.specs.KnownModules.{extended_procedure_of, procedure_sites}
 use Rattle.pdb_module_data.specs.Forest.{Site}
 use Rattle.pdb_module_data.specs.FunctionLine.{function_rows}
 use Rattle.pdb_module_data.specs.declared.function_rows.LineRow.{LineRow}

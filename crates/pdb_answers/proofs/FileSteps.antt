@@ -1,7 +1,7 @@
 -- The file of a place and the file that is counted there.
 use Rattle.std.proofs.Common.{◌≡◌, refl}
 use Rattle.pdb_frames.specs.Files.{if_any}
-use Rattle.pdb_answers.specs.FileRuns.{file_or_nothing}
+use Rattle.pdb_answers.specs.FileOrNothing.{file_or_nothing}
 use Rattle.pdb_functions.specs.FileAnswers.{FileAnswer, Nothing, Unreadable, NoFile, File}
 
 pub nothing_or_file : (f : FileAnswer) → file_or_nothing (if_any f) ≡ f

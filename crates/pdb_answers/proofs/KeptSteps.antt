@@ -2,8 +2,8 @@
 use Rattle.std.proofs.Common.{◌≡◌, ℕ, List, Option, sym, ap, subst, ◌∙◌}
 use Rattle.pdb_symbols_modules.specs.Modules.{Module}
 use Rattle.pdb_resolving.specs.Resolving.{Provided}
-use Rattle.pdb_known_modules.specs.Kept.{AreKept, known_in}
-use Rattle.pdb_known_modules.specs.Modules.{ModuleData, module_data, own_of}
+use Rattle.pdb_known_modules.specs.CachedModules.{AreKept, known_in}
+use Rattle.pdb_known_modules.specs.KnownModules.{ModuleData, module_data, own_of}
 use Rattle.pdb_frames.specs.Printing.{Formatting}
 use Rattle.pdb_frames.specs.Scopes.{entries_of}
 use Rattle.pdb_answers.specs.KnownFailures.{AreFailuresOf, data_of_modules}

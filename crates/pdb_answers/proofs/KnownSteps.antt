@@ -7,9 +7,9 @@ use Rattle.pdb_container.specs.Fault as container
 use Rattle.pdb_symbols_modules.specs.ModuleStream.{ModuleStream}
 use Rattle.pdb_module_data.specs.Procedures.{Procedure}
 use Rattle.pdb_module_data.specs.FunctionLine.{function_rows}
-use Rattle.pdb_known_modules.specs.Modules.{ModuleData, ExtendedModule, extended_of, procedure_sites}
+use Rattle.pdb_known_modules.specs.KnownModules.{ModuleData, ExtendedModule, extended_of, procedure_sites}
 use Rattle.pdb_frames.specs.Choice.{Chosen, Proc, Public, start_of}
-use Rattle.pdb_frames.specs.Failed.{failing_first, failing_sites, failing_procedure, failing_by, failing_in}
+use Rattle.pdb_frames.specs.FailingParts.{failing_first, failing_sites, failing_procedure, failing_by, failing_in}
 use Rattle.pdb_frames.specs.Failing.{Part, ExtendedModule as Extended, ProcedureLines, ProcedureInlineRanges}
 use Rattle.pdb_answers.specs.declared.known_failures.KnownFailure.{KnownFailure}
 use Rattle.pdb_answers.specs.declared.known_failures.KnownFailures.{KnownFailures}

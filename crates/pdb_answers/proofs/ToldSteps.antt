@@ -3,13 +3,13 @@ use Rattle.std.proofs.Common.{◌≡◌, ℕ, Option, Some, Result, sym, ap, ◌
 use Rattle.pdb_addresses.specs.declared.internal_section_offset.PdbInternalSectionOffset.{PdbInternalSectionOffset}
 use Rattle.pdb_contributions.specs.declared.contribution.ModuleSectionContribution.{ModuleSectionContribution}
 use Rattle.pdb_frames.specs.Choice.{Chosen, Parts, chosen}
-use Rattle.pdb_frames.specs.Failed.{Failures, failing_in, failing_of_chosen, told}
+use Rattle.pdb_frames.specs.FailingParts.{Failures, failing_in, failing_of_chosen, told}
 use Rattle.pdb_frames.specs.Failing.{failing_at}
-use Rattle.pdb_frames.specs.Frames.{frames_at, frames_of_chosen}
+use Rattle.pdb_frames.specs.FramesAt.{frames_at, frames_of_chosen}
 use Rattle.pdb_frames.specs.Printing.{Formatting, env_of}
 use Rattle.pdb_frames.specs.Scopes.{scope_of}
 use Rattle.pdb_functions.specs.Frames.{FunctionFrames}
-use Rattle.pdb_known_modules.specs.Modules.{ModuleData, procedures_in}
+use Rattle.pdb_known_modules.specs.KnownModules.{ModuleData, procedures_in}
 use Rattle.pdb_resolving.specs.Fault.{Fault}
 use Rattle.pdb_resolving.specs.Resolving.{Provided}
 use Rattle.pdb_answers.specs.KnownFailures.{data_of_modules}

@@ -8,9 +8,9 @@ use Rattle.pdb_addresses.specs.declared.internal_section_offset.PdbInternalSecti
 }
 use Rattle.pdb_module_data.specs.Procedures.{Procedure}
 use Rattle.pdb_resolving.specs.Resolving.{Provided}
-use Rattle.pdb_known_modules.specs.Modules.{ModuleData, module_data, own_of}
+use Rattle.pdb_known_modules.specs.KnownModules.{ModuleData, module_data, own_of}
 use Rattle.pdb_frames.specs.Choice.{Chosen, Proc, Public}
-use Rattle.pdb_frames.specs.Failed.{failing_in}
+use Rattle.pdb_frames.specs.FailingParts.{failing_in}
 use Rattle.pdb_frames.specs.Failing.{Part}
 use Rattle.pdb_frames.specs.Failing as parts
 use Rattle.pdb_frames.specs.Printing.{Formatting}

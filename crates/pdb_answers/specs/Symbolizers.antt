@@ -2,7 +2,7 @@
 use Rattle.std.specs.Prelude.{ℕ}
 use Rattle.pdb_resolving.specs.Resolving.{Provided}
 use Rattle.pdb_frames.specs.Choice.{Parts}
-use Rattle.pdb_frames.specs.Failed.{Failures, no_failures}
+use Rattle.pdb_frames.specs.FailingParts.{Failures, no_failures}
 use Rattle.pdb_frames.specs.Printing.{Formatting}
 use Rattle.pdb_frames.specs.Scopes.{Scope, scope_of}
 

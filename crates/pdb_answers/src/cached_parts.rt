@@ -1,9 +1,9 @@
 //! What is read and cached for an answer at a place.
 
 ghost use Rattle.std.specs.Prelude.{◌≡◌, IfSome, option_copied, slice_get, ◌||◌};
-ghost use Rattle.pdb_frames.specs.Failed.{has_failed};
+ghost use Rattle.pdb_frames.specs.FailingParts.{has_failed};
 ghost use Rattle.pdb_frames.specs.Failing.{ProcedureInlineRanges, ProcedureLines};
-ghost use Rattle.pdb_known_modules.specs.Modules.{procedures_in};
+ghost use Rattle.pdb_known_modules.specs.KnownModules.{procedures_in};
 
 use pdb_addresses::PdbInternalSectionOffset;
 use pdb_contributions::ModuleSectionContribution;

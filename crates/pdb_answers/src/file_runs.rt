@@ -3,7 +3,7 @@
 ghost use Rattle.std.specs.Prelude.{◌≡◌, ◌≤◌, ℕ, IfOk, Ok, Option, Some};
 ghost use Rattle.std.specs.Prelude.{option_and_then, option_copied};
 ghost use Rattle.pdb_addresses.specs.SectionRun.{up_to_next};
-ghost use Rattle.pdb_answers.specs.FileRuns.{file_or_nothing};
+ghost use Rattle.pdb_answers.specs.FileOrNothing.{file_or_nothing};
 ghost use Rattle.pdb_answers.specs.KnownFailures.{AreFailuresOf};
 ghost use Rattle.pdb_answers.specs.Symbolizers.{scope_in};
 ghost use Rattle.pdb_frames.specs.Choice.{start_address};
@@ -12,12 +12,12 @@ ghost use Rattle.pdb_frames.specs.FileRuns.{run_if_addressed as addressed_run};
 ghost use Rattle.pdb_frames.specs.Files.{file_by, file_here, files_of, if_any};
 ghost use Rattle.pdb_frames.specs.NearBounds.{bounds_near};
 ghost use Rattle.pdb_frames.specs.Runs.{procedures_of};
-ghost use Rattle.pdb_frames.specs.Seen.{chosen_seen};
+ghost use Rattle.pdb_frames.specs.ChosenSeen.{chosen_seen};
 ghost use Rattle.pdb_functions.specs.Databases.{IsOneRun, place_of as as_place};
 ghost use Rattle.pdb_functions.specs.FileAnswers.{file_seen};
-ghost use Rattle.pdb_known_modules.specs.Kept.{known_in};
-ghost use Rattle.pdb_known_modules.specs.Modules.{ModuleData};
-ghost use Rattle.pdb_known_modules.specs.Modules.{procedure_if_numbered, procedures_in};
+ghost use Rattle.pdb_known_modules.specs.CachedModules.{known_in};
+ghost use Rattle.pdb_known_modules.specs.KnownModules.{ModuleData};
+ghost use Rattle.pdb_known_modules.specs.KnownModules.{procedure_if_numbered, procedures_in};
 ghost use Rattle.pdb_module_data.specs.Procedures.{over};
 ghost use Rattle.pdb_resolving.specs.Fault.{Answers};
 

@@ -4,13 +4,14 @@ ghost use Rattle.std.specs.Prelude.{◌≡◌, ℕ, IfSome, Option, Some, option
 ghost use Rattle.pdb_answers.specs.KnownFailures.{AreFailuresOf};
 ghost use Rattle.pdb_answers.specs.Symbolizers.{lasting, scope_in};
 ghost use Rattle.pdb_frames.specs.Choice.{held_at};
-ghost use Rattle.pdb_frames.specs.Failed.{failed_after, failing_in as failing_in_module, told};
+ghost use Rattle.pdb_frames.specs.FailingParts.{failed_after, failing_in as failing_in_module};
+ghost use Rattle.pdb_frames.specs.FailingParts.{told};
 ghost use Rattle.pdb_frames.specs.Failing.{failing_at, failing_if_held};
-ghost use Rattle.pdb_frames.specs.Frames.{frames_at as frames_at_place, frames_if_held};
-ghost use Rattle.pdb_frames.specs.Frames.{frames_of_chosen};
+ghost use Rattle.pdb_frames.specs.FramesAt.{frames_at as frames_at_place, frames_if_held};
+ghost use Rattle.pdb_frames.specs.FramesAt.{frames_of_chosen};
 ghost use Rattle.pdb_frames.specs.Printing.{env_of};
-ghost use Rattle.pdb_frames.specs.Seen.{chosen_seen};
-ghost use Rattle.pdb_known_modules.specs.Modules.{ModuleData};
+ghost use Rattle.pdb_frames.specs.ChosenSeen.{chosen_seen};
+ghost use Rattle.pdb_known_modules.specs.KnownModules.{ModuleData};
 ghost use Rattle.pdb_resolving.specs.Fault.{Answers};
 
 use crate::cached_parts::{HeldPlace, keep_parts};
@@ -149,7 +150,7 @@ fn frames_unless_known<'a, P: ModuleProvider>(
 
 impl<'a, 's, P: ModuleProvider> PlaceSymbolizer<'a, 's, P> {
     /// Returns the frames at a place that a contribution holds.
-    #[tactic(auto, unfolding(pdb_frames::specs::Frames::frames_at, crate::specs::KnownFailures::data_of_modules))]
+    #[tactic(auto, unfolding(pdb_frames::specs::FramesAt::frames_at, crate::specs::KnownFailures::data_of_modules))]
     fn frames_at(
         &mut self,
         alloc: Global,

@@ -5,17 +5,17 @@ ghost use Rattle.std.specs.Prelude.{option_copied, option_map};
 ghost use Rattle.pdb_addresses.specs.SectionRun.{up_to_next};
 ghost use Rattle.pdb_answers.specs.Symbolizers.{scope_in};
 ghost use Rattle.pdb_frames.specs.Choice.{chosen};
-ghost use Rattle.pdb_frames.specs.Frames.{function_at as function_at_contribution};
-ghost use Rattle.pdb_frames.specs.Frames.{function_of as function_of_chosen};
+ghost use Rattle.pdb_frames.specs.FramesAt.{function_at as function_at_contribution};
+ghost use Rattle.pdb_frames.specs.FramesAt.{function_of as function_of_chosen};
 ghost use Rattle.pdb_frames.specs.Keys.{chosen_by, function_by};
 ghost use Rattle.pdb_frames.specs.NearBounds.{bounds_near};
 ghost use Rattle.pdb_frames.specs.Printing.{env_of};
 ghost use Rattle.pdb_frames.specs.Runs.{database_of, function_here as function_at_place};
 ghost use Rattle.pdb_frames.specs.Runs.{procedures_of};
-ghost use Rattle.pdb_frames.specs.Seen.{chosen_seen};
+ghost use Rattle.pdb_frames.specs.ChosenSeen.{chosen_seen};
 ghost use Rattle.pdb_functions.specs.Databases.{IsOneRun, place_of as as_place};
 ghost use Rattle.pdb_functions.specs.KeyOrder.{key_module};
-ghost use Rattle.pdb_known_modules.specs.Modules.{procedures_in};
+ghost use Rattle.pdb_known_modules.specs.KnownModules.{procedures_in};
 ghost use Rattle.pdb_resolving.specs.Fault.{Answers};
 
 use crate::symbolizer::PlaceSymbolizer;
@@ -106,7 +106,7 @@ fn choose_by<'c, 'a, I: ModuleTables>(
 
 impl<'a, 's, P: ModuleProvider> PlaceSymbolizer<'a, 's, P> {
     /// Returns the function at a place that a contribution holds.
-    #[tactic(auto, unfolding(pdb_frames::specs::Frames::function_at))]
+    #[tactic(auto, unfolding(pdb_frames::specs::FramesAt::function_at))]
     fn function_at(
         &mut self,
         alloc: Global,
@@ -156,7 +156,7 @@ impl<'a, 's, P: ModuleProvider> PlaceSymbolizer<'a, 's, P> {
 
     /// Returns a key of the function at a place that a contribution holds, and how many bytes from
     /// there on have that function.
-    #[tactic(auto, unfolding(pdb_frames::specs::Frames::function_at))]
+    #[tactic(auto, unfolding(pdb_frames::specs::FramesAt::function_at))]
     fn key_run_at(
         &mut self,
         alloc: Global,

@@ -1,10 +1,10 @@
 //! Which part fails in functions that were asked for, so that what can't be read isn't read again.
 
 ghost use Rattle.std.specs.Prelude.{◌≡◌, ◌↔◌, ℕ, true, Option, Some, IfSome};
-ghost use Rattle.pdb_frames.specs.Failed.{failing_in};
+ghost use Rattle.pdb_frames.specs.FailingParts.{failing_in};
 ghost use Rattle.pdb_frames.specs.Choice.{start_of};
-ghost use Rattle.pdb_frames.specs.Seen.{chosen_seen};
-ghost use Rattle.pdb_known_modules.specs.Modules.{ModuleData};
+ghost use Rattle.pdb_frames.specs.ChosenSeen.{chosen_seen};
+ghost use Rattle.pdb_known_modules.specs.KnownModules.{ModuleData};
 ghost use Rattle.pdb_answers.specs.KnownFailures.{AreFailuresOf, IsAbout, those_failing};
 ghost use Rattle.pdb_answers.specs.KnownFailures.{those_like};
 

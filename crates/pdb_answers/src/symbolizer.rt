@@ -3,8 +3,8 @@
 ghost use Rattle.std.specs.Prelude.{◌≡◌, IfOk};
 ghost use Rattle.pdb_answers.specs.Symbolizers.{symbolizer_over};
 ghost use Rattle.pdb_frames.specs.Scopes.{entries_of};
-ghost use Rattle.pdb_known_modules.specs.Kept.{AreKept};
-ghost use Rattle.pdb_known_modules.specs.Modules.{module_data, own_of};
+ghost use Rattle.pdb_known_modules.specs.CachedModules.{AreKept};
+ghost use Rattle.pdb_known_modules.specs.KnownModules.{module_data, own_of};
 
 use crate::known_failures::KnownFailures;
 use pdb_frames::{ContextParts, Failures, Namer};
@@ -47,8 +47,8 @@ impl<'a, 's, P: ModuleProvider> Model for PlaceSymbolizer<'a, 's, P> {
     ghost use Rattle.pdb_answers.specs.Symbolizers as symbolizers;
     ghost use Rattle.pdb_answers.specs.KnownFailures.{AreFailuresOf, data_of_modules};
     ghost use Rattle.pdb_frames.specs.Scopes.{entries_of};
-    ghost use Rattle.pdb_known_modules.specs.Kept.{AreKept};
-    ghost use Rattle.pdb_known_modules.specs.Modules.{module_data, own_of};
+    ghost use Rattle.pdb_known_modules.specs.CachedModules.{AreKept};
+    ghost use Rattle.pdb_known_modules.specs.KnownModules.{module_data, own_of};
 
     ghost Value = { symbolizers.Symbolizer P };
 

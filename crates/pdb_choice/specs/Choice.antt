@@ -11,7 +11,7 @@ use Rattle.pdb_addresses.specs.Places.{internal_place}
 use Rattle.pdb_contributions.specs.declared.contribution.ModuleSectionContribution.{
   ModuleSectionContribution,
 }
-use Rattle.pdb_contributions.specs.Contributions.{holder}
+use Rattle.pdb_contributions.specs.MergedContributions.{holder}
 use Rattle.pdb_contributions.specs.Publics.{PublicFunction, public_exactly, public_over}
 use Rattle.pdb_contributions.specs.Publics.{next_public}
 use Rattle.pdb_module_data.specs.Procedures.{Procedure, over}

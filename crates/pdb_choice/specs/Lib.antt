@@ -1,6 +1,6 @@
 pub mod Choice
-pub mod Failed
+pub mod FailingParts
 pub mod NearBounds
 pub mod Parts
-pub mod Seen
+pub mod ChosenSeen
 pub use Rattle.pdb_resolving.specs.Failures

@@ -4,7 +4,7 @@ use Rattle.pdb_container.specs.Fault.{◌>>=◌}
 use Rattle.pdb_addresses.specs.declared.sections.ImageSectionHeader.{ImageSectionHeader}
 use Rattle.pdb_addresses.specs.Addresses.{Map}
 use Rattle.pdb_symbols.specs.Symbols.{symbols_from}
-use Rattle.pdb_contributions.specs.Contributions.{held_of}
+use Rattle.pdb_contributions.specs.MergedContributions.{held_of}
 use Rattle.pdb_contributions.specs.Publics.{publics_among, entries_read, placeholders, section_ends}
 use Rattle.pdb_contributions.specs.Publics.{are_whole}
 use Rattle.pdb_resolving.specs.Fault.{Fault, lifted}

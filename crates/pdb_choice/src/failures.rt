@@ -1,11 +1,12 @@
 //! The parts of modules that can't be read.
 
 ghost use Rattle.std.specs.Prelude.{◌≡◌, IfOk, option_copied};
-ghost use Rattle.pdb_choice.specs.Failed.{failing_by, failing_in as failing_in_module};
-ghost use Rattle.pdb_choice.specs.Failed.{failing_procedure as failing_of_procedure};
-ghost use Rattle.pdb_choice.specs.Failed.{failing_sites as failing_of_sites, unsuccessful_error};
-ghost use Rattle.pdb_known_modules.specs.Modules.{extended_of, procedure_sites};
-ghost use Rattle.pdb_choice.specs.Seen.{chosen_seen};
+ghost use Rattle.pdb_choice.specs.FailingParts.{failing_by, failing_in as failing_in_module};
+ghost use Rattle.pdb_choice.specs.FailingParts.{failing_procedure as failing_of_procedure};
+ghost use Rattle.pdb_choice.specs.FailingParts.{failing_sites as failing_of_sites};
+ghost use Rattle.pdb_choice.specs.FailingParts.{unsuccessful_error};
+ghost use Rattle.pdb_known_modules.specs.KnownModules.{extended_of, procedure_sites};
+ghost use Rattle.pdb_choice.specs.ChosenSeen.{chosen_seen};
 ghost use Rattle.pdb_known_modules.specs.Seen.{extended_seen};
 ghost use Rattle.pdb_resolving.specs.Fault.{Answers};
 

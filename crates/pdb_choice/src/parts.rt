@@ -3,7 +3,7 @@
 ghost use Rattle.std.specs.Prelude.{◌≡◌, ℕ, List, Option, option_map};
 ghost use Rattle.pdb_addresses.specs.Addresses.{IsOrdered, Map};
 ghost use Rattle.pdb_container.specs.RawString.{raw_bytes};
-ghost use Rattle.pdb_contributions.specs.Contributions.{holder as holder_of};
+ghost use Rattle.pdb_contributions.specs.MergedContributions.{holder as holder_of};
 ghost use Rattle.pdb_resolving.specs.Fault.{Answers};
 ghost use Rattle.pdb_choice.specs.Choice.{decorated_at as decorated_name_at};
 ghost use Rattle.pdb_choice.specs.Choice.{is_decorated as is_decorated_name};

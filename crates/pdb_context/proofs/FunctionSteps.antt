@@ -10,7 +10,7 @@ use Rattle.pdb_resolving.specs.Resolving.{Provided}
 use Rattle.pdb_functions.specs.FunctionOrder.{Function}
 use Rattle.pdb_answers.specs.Choice.{Parts}
 use Rattle.pdb_answers.specs.Scopes.{Scope}
-use Rattle.pdb_answers.specs.Frames.{function}
+use Rattle.pdb_answers.specs.FramesAt.{function}
 use Rattle.pdb_context.specs.Starts.{if_any}
 use Rattle.pdb_context.specs.Context.{Context, scope_in, uncounted, lookups_after}
 use Rattle.pdb_context.specs.FunctionList.{functions_at, FunctionsLeft, functions_left, none_left, GivesFunction, RisesWithin}

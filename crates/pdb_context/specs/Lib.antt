@@ -2,9 +2,9 @@ pub mod Context
 pub mod FunctionList
 pub mod Starts
 pub use Rattle.pdb_answers.specs.Choice
-pub use Rattle.pdb_answers.specs.Failed
+pub use Rattle.pdb_answers.specs.FailingParts
 pub use Rattle.pdb_answers.specs.Files
-pub use Rattle.pdb_answers.specs.Frames
+pub use Rattle.pdb_answers.specs.FramesAt
 pub use Rattle.pdb_answers.specs.Keys
 pub use Rattle.pdb_answers.specs.Parts
 pub use Rattle.pdb_answers.specs.Printing

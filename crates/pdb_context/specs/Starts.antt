@@ -8,7 +8,7 @@ use Rattle.pdb_addresses.specs.declared.internal_section_offset.PdbInternalSecti
 }
 use Rattle.pdb_addresses.specs.Addresses.{Map, outer_of_place}
 use Rattle.pdb_symbols_modules.specs.Modules.{Module}
-use Rattle.pdb_answers.specs.Modules.{module_data, procedures_in}
+use Rattle.pdb_answers.specs.KnownModules.{module_data, procedures_in}
 use Rattle.pdb_answers.specs.Choice.{Parts}
 use Rattle.pdb_answers.specs.Scopes.{Scope}
 

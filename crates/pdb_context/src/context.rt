@@ -8,9 +8,9 @@ ghost use Rattle.pdb_answers.specs.Choice.{held_at, place_of};
 ghost use Rattle.pdb_answers.specs.Parts.{parts_of};
 ghost use Rattle.pdb_context.specs.Context.{context_over, lasting, scope_in, uncounted};
 ghost use Rattle.pdb_context.specs.Context.{lookups_after};
-ghost use Rattle.pdb_answers.specs.Failed.{Failures as FailedParts, failed_after, told};
+ghost use Rattle.pdb_answers.specs.FailingParts.{Failures as FailedParts, failed_after, told};
 ghost use Rattle.pdb_answers.specs.Failing.{Part, failing, failing_if_held};
-ghost use Rattle.pdb_answers.specs.Frames.{frames, frames_if_held, function};
+ghost use Rattle.pdb_answers.specs.FramesAt.{frames, frames_if_held, function};
 ghost use Rattle.pdb_answers.specs.Keys.{function_by};
 ghost use Rattle.pdb_functions.specs.Frames.{FunctionFrames as FramesFound};
 ghost use Rattle.pdb_answers.specs.MaybeOwned.{value_of};
@@ -204,7 +204,7 @@ impl<'a, 's, P: ModuleProvider> Context<'a, 's, P> {
     /// its fault is `ExtendedModuleInfoUnsuccessful`, `ProcedureLinesUnsuccessful` or
     /// `ProcedureInlineRangesUnsuccessful`. `OutOfMemory`, and then nothing stands as failed that
     /// did not before.
-    #[tactic(auto, unfolding(pdb_frames::specs::Frames::frames))]
+    #[tactic(auto, unfolding(pdb_frames::specs::FramesAt::frames))]
     pub fn find_frames(&mut self, alloc: Global, probe: u32) -> Result<Option<FunctionFrames<'a>>>
         ensures same { lasting self.new ≡ lasting self.old }
         ensures failed { self.new.failed
@@ -229,7 +229,7 @@ impl<'a, 's, P: ModuleProvider> Context<'a, 's, P> {
     ///
     /// # Errors
     /// As [`Context::find_frames`].
-    #[tactic(auto, unfolding(pdb_frames::specs::Frames::frames))]
+    #[tactic(auto, unfolding(pdb_frames::specs::FramesAt::frames))]
     pub fn find_shared_frames(
         &mut self,
         alloc: Global,
@@ -256,7 +256,7 @@ impl<'a, 's, P: ModuleProvider> Context<'a, 's, P> {
     ///
     /// # Errors
     /// `OutOfMemory` alone.
-    #[tactic(auto, unfolding(pdb_frames::specs::Frames::function))]
+    #[tactic(auto, unfolding(pdb_frames::specs::FramesAt::function))]
     pub fn find_function(&mut self, alloc: Global, probe: u32) -> Result<Option<Function>>
         ensures same { uncounted self.new ≡ uncounted self.old }
         ensures lookups { self.new.lookups

@@ -5,7 +5,8 @@ ghost use Rattle.pdb_addresses.specs.Addresses.{IsOrdered, outer_of_place};
 ghost use Rattle.pdb_answers.specs.Scopes.{scope_of, entries_of};
 ghost use Rattle.pdb_context.specs.Starts.{if_any, addresses_of, procedure_starts_from};
 ghost use Rattle.pdb_context.specs.Starts.{start_addresses, AreStarts, IsAscending};
-ghost use Rattle.pdb_answers.specs.Modules.{module_data, procedures_in as procedures_of_module};
+ghost use Rattle.pdb_answers.specs.KnownModules.{module_data};
+ghost use Rattle.pdb_answers.specs.KnownModules.{procedures_in as procedures_of_module};
 
 use pdb_addresses::{AddressMap, PdbInternalSectionOffset};
 use pdb_answers::{ContextParts, Namer, get_basic_module_info, procedures_in};

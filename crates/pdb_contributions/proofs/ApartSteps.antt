@@ -4,7 +4,7 @@ use Rattle.pdb_resolving.specs.Fault.{Fault}
 use Rattle.pdb_contributions.specs.declared.contribution.ModuleSectionContribution.{
   ModuleSectionContribution,
 }
-use Rattle.pdb_contributions.specs.Contributions.{apart_behind, apart}
+use Rattle.pdb_contributions.specs.MergedContributions.{apart_behind, apart}
 
 -- contributions after one that may be there are apart
 abbrev pub apart_after : Option ModuleSectionContribution → List ModuleSectionContribution

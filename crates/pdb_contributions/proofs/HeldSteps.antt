@@ -13,8 +13,8 @@ use Rattle.pdb_symbols_modules.specs.Contributions.{contributions_of}
 use Rattle.pdb_resolving.specs.declared.error.Error.{Error}
 use Rattle.pdb_resolving.specs.Fault.{lifted, error_of, Fails}
 use Rattle.pdb_resolving.proofs.Lifting.{fails_on, parsed_fails_on}
-use Rattle.pdb_contributions.specs.Contributions.{Held, contribution_cmp, apart, merged_by}
-use Rattle.pdb_contributions.specs.Contributions.{in_order_apart, held_by, held_of}
+use Rattle.pdb_contributions.specs.MergedContributions.{Held, contribution_cmp, apart, merged_by}
+use Rattle.pdb_contributions.specs.MergedContributions.{in_order_apart, held_by, held_of}
 use Rattle.pdb_contributions.proofs.Order.{is_in_order}
 
 -- the list of contributions can't be read

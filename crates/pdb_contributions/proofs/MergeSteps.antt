@@ -19,8 +19,8 @@ use Rattle.pdb_resolving.proofs.Lifting.{fails_on, parsed_fails_on}
 use Rattle.pdb_contributions.specs.declared.contribution.ModuleSectionContribution.{
   ModuleSectionContribution,
 }
-use Rattle.pdb_contributions.specs.Contributions.{is_kept, kept_entries, span_of, merged_from}
-use Rattle.pdb_contributions.specs.Contributions.{merged, all_before, merged_by, later_starts_of}
+use Rattle.pdb_contributions.specs.MergedContributions.{is_kept, kept_entries, span_of, merged_from}
+use Rattle.pdb_contributions.specs.MergedContributions.{merged, all_before, merged_by, later_starts_of}
 
 -- entries after a contribution that may be there, merged
 abbrev pub merged_behind : Option ModuleSectionContribution → List DBISectionContribution

@@ -11,7 +11,7 @@ use Rattle.pdb_addresses.proofs.Stable.{is_in_order_of_equals}
 use Rattle.pdb_contributions.specs.declared.contribution.ModuleSectionContribution.{
   ModuleSectionContribution,
 }
-use Rattle.pdb_contributions.specs.Contributions.{contribution_cmp}
+use Rattle.pdb_contributions.specs.MergedContributions.{contribution_cmp}
 
 -- the order of contributions is total
 total : IsTotalOrder contribution_cmp

@@ -15,7 +15,7 @@ use Rattle.pdb_contributions.specs.ContributionPieces.{IsShort, AreShort, StandF
 use Rattle.pdb_contributions.specs.declared.contribution.ModuleSectionContribution.{
   ModuleSectionContribution,
 }
-use Rattle.pdb_contributions.specs.Contributions.{holds, holder}
+use Rattle.pdb_contributions.specs.MergedContributions.{holds, holder}
 
 -- a mark that stands for a contribution among those of which the first has a number
 abbrev StandsAs : ℕ → List ModuleSectionContribution → Option Mark

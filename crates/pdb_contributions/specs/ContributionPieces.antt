@@ -8,7 +8,7 @@ use Rattle.pdb_pieces.specs.Spans.{best, place_number}
 use Rattle.pdb_contributions.specs.declared.contribution.ModuleSectionContribution.{
   ModuleSectionContribution,
 }
-use Rattle.pdb_contributions.specs.Contributions.{holder}
+use Rattle.pdb_contributions.specs.MergedContributions.{holder}
 
 -- what a contribution holds; all of one rank, so that the first counts
 abbrev pub contribution_span : ℕ → ModuleSectionContribution → Span

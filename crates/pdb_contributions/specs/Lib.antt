@@ -1,3 +1,3 @@
 pub mod ContributionPieces
-pub mod Contributions
+pub mod MergedContributions
 pub mod Publics

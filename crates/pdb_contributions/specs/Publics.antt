@@ -17,7 +17,7 @@ use Rattle.pdb_symbols.specs.Forms as forms
 use Rattle.pdb_symbols.specs.Forms.{SymbolForm, PublicForm}
 use Rattle.pdb_symbols.specs.Records.{symbol_form_of}
 use Rattle.pdb_symbols.specs.Symbols.{Symbol}
-use Rattle.pdb_contributions.specs.Contributions.{is_executable}
+use Rattle.pdb_contributions.specs.MergedContributions.{is_executable}
 
 -- an entry of the public list: where a function may begin, and its name as it is stored; a
 -- placeholder has none

@@ -1,11 +1,12 @@
 //! A section contribution that counts, and which ones merge.
 
 ghost use Rattle.std.specs.Prelude.{◌≡◌};
-ghost use Rattle.pdb_contributions.specs.Contributions.{is_executable as is_executable_at};
-ghost use Rattle.pdb_contributions.specs.Contributions.{is_kept as is_kept_entry};
-ghost use Rattle.pdb_contributions.specs.Contributions.{span_of as span_of_entry};
-ghost use Rattle.pdb_contributions.specs.Contributions.{is_of_same as are_of_same};
-ghost use Rattle.pdb_contributions.specs.Contributions.{up_to as up_to_end, overlaps as do_overlap};
+ghost use Rattle.pdb_contributions.specs.MergedContributions.{is_executable as is_executable_at};
+ghost use Rattle.pdb_contributions.specs.MergedContributions.{is_kept as is_kept_entry};
+ghost use Rattle.pdb_contributions.specs.MergedContributions.{span_of as span_of_entry};
+ghost use Rattle.pdb_contributions.specs.MergedContributions.{is_of_same as are_of_same};
+ghost use Rattle.pdb_contributions.specs.MergedContributions.{up_to as up_to_end};
+ghost use Rattle.pdb_contributions.specs.MergedContributions.{overlaps as do_overlap};
 
 use pdb_addresses::ImageSectionHeader;
 use pdb_symbols_modules::DBISectionContribution;

@@ -8,7 +8,7 @@ ghost use Rattle.pdb_contributions.specs.ContributionPieces.{
   contribution_spans as spans_of_contributions,
 };
 ghost use Rattle.pdb_contributions.specs.ContributionPieces.{IsShort, AreShort, StandFor};
-ghost use Rattle.pdb_contributions.specs.Contributions.{holder as holder_of};
+ghost use Rattle.pdb_contributions.specs.MergedContributions.{holder as holder_of};
 
 use crate::contribution::ModuleSectionContribution;
 use pdb_addresses::PdbInternalSectionOffset;

@@ -2,8 +2,8 @@
 
 ghost use Rattle.std.specs.Prelude.{◌≡◌, List, ◌∷◌, MatchResult};
 ghost use Rattle.pdb_resolving.specs.Fault.{Answers, Fails};
-ghost use Rattle.pdb_contributions.specs.Contributions.{all_before, merged_from, merged_by};
-ghost use Rattle.pdb_contributions.specs.Contributions.{held_of, apart};
+ghost use Rattle.pdb_contributions.specs.MergedContributions.{all_before, merged_from, merged_by};
+ghost use Rattle.pdb_contributions.specs.MergedContributions.{held_of, apart};
 
 use crate::contribution::{
     ModuleSectionContribution, is_kept, is_of_same, overlaps, span_of, up_to,
@@ -25,7 +25,7 @@ pub struct SectionContributions {
 }
 
 impl Model for SectionContributions {
-    ghost use Rattle.pdb_contributions.specs.Contributions.{Held};
+    ghost use Rattle.pdb_contributions.specs.MergedContributions.{Held};
 
     ghost Value = { Held };
 

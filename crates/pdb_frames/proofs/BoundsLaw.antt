@@ -8,7 +8,7 @@ use Rattle.pdb_addresses.specs.declared.internal_section_offset.PdbInternalSecti
 }
 use Rattle.pdb_choice.specs.Choice.{Parts}
 use Rattle.pdb_choice.specs.NearBounds.{public_bounds, bounds_near}
-use Rattle.pdb_contributions.specs.Contributions.{holder}
+use Rattle.pdb_contributions.specs.MergedContributions.{holder}
 use Rattle.pdb_contributions.specs.declared.contribution.ModuleSectionContribution.{
   ModuleSectionContribution,
 }

@@ -12,7 +12,7 @@ use Rattle.pdb_addresses.specs.declared.internal_section_offset.PdbInternalSecti
 use Rattle.pdb_choice.specs.Choice.{Parts, Chosen, chosen, start_address, function_end}
 use Rattle.pdb_choice.specs.NearBounds.{bounds_near}
 use Rattle.pdb_container.specs.Fault.{◌>>=◌}
-use Rattle.pdb_contributions.specs.Contributions.{holder}
+use Rattle.pdb_contributions.specs.MergedContributions.{holder}
 use Rattle.pdb_contributions.specs.declared.contribution.ModuleSectionContribution.{
   ModuleSectionContribution,
 }
@@ -24,15 +24,15 @@ use Rattle.pdb_frames.specs.ChosenNames.{name_of}
 use Rattle.pdb_frames.specs.Files.{file_or_none, last_file, file_of, file_here, if_any}
 use Rattle.pdb_frames.specs.Files.{starts_if_chosen, starts_by, starts_if_frames, starts_here}
 use Rattle.pdb_frames.specs.Files.{is_file_bound, files_of}
-use Rattle.pdb_frames.specs.Frames.{frames_in, frames_of_chosen, frames_at, frames_if_held}
-use Rattle.pdb_frames.specs.Frames.{found_frames, function_at, function_of}
+use Rattle.pdb_frames.specs.FramesAt.{frames_in, frames_of_chosen, frames_at, frames_if_held}
+use Rattle.pdb_frames.specs.FramesAt.{found_frames, function_at, function_of}
 use Rattle.pdb_frames.specs.Runs.{procedures_of, is_bound, database_of}
 use Rattle.pdb_frames.specs.Scopes.{Scope}
 use Rattle.pdb_functions.specs.Databases.{IsOneRun, place_of}
 use Rattle.pdb_functions.specs.FileAnswers.{FileAnswer, Nothing, Unreadable, NoFile, File}
 use Rattle.pdb_functions.specs.Frames.{Frame}
 use Rattle.pdb_functions.specs.FunctionOrder.{Function}
-use Rattle.pdb_known_modules.specs.Modules.{ModuleData, module_data, procedures_in}
+use Rattle.pdb_known_modules.specs.KnownModules.{ModuleData, module_data, procedures_in}
 use Rattle.pdb_names.specs.Env.{Env}
 use Rattle.pdb_resolving.specs.Fault.{Fault}
 

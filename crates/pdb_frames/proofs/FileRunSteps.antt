@@ -16,16 +16,16 @@ use Rattle.pdb_frames.specs.Files.{starts_if_frames, starts_in, starts_in_extend
 use Rattle.pdb_frames.specs.FileRuns.{file_run_at, file_run_if_chosen, file_run_in, file_run_of}
 use Rattle.pdb_frames.specs.FileRuns.{rows_in, run_by_rows, run_if_addressed, run_if_read}
 use Rattle.pdb_frames.specs.FileRuns.{run_reported}
-use Rattle.pdb_frames.specs.Frames.{call_frame, found_frames, frames_at, frames_in_data}
-use Rattle.pdb_frames.specs.Frames.{frames_of_chosen, function_frame, row_and_calls}
+use Rattle.pdb_frames.specs.FramesAt.{call_frame, found_frames, frames_at, frames_in_data}
+use Rattle.pdb_frames.specs.FramesAt.{frames_of_chosen, function_frame, row_and_calls}
 use Rattle.pdb_frames.specs.Scopes.{Scope}
 use Rattle.pdb_functions.specs.FileAnswers.{FileAnswer}
 use Rattle.pdb_functions.specs.Frames.{Frame}
 use Rattle.pdb_functions.specs.declared.file_key.FileKey.{FileKey}
 use Rattle.pdb_functions.specs.declared.file_key.FileKey.TheVariants as keys
-use Rattle.pdb_known_modules.specs.Modules.{ModuleData, ExtendedModule, extended_of, module_data}
-use Rattle.pdb_known_modules.specs.Modules.{extended_procedure_of, procedure_calls}
-use Rattle.pdb_known_modules.specs.Modules.{procedure_sites, procedures_in, sites_lifted}
+use Rattle.pdb_known_modules.specs.KnownModules.{ModuleData, ExtendedModule, extended_of, module_data}
+use Rattle.pdb_known_modules.specs.KnownModules.{extended_procedure_of, procedure_calls}
+use Rattle.pdb_known_modules.specs.KnownModules.{procedure_sites, procedures_in, sites_lifted}
 use Rattle.pdb_lines.specs.Checksums.{File, file_in}
 use Rattle.pdb_lines.specs.LinesSubsections.{Program}
 use Rattle.pdb_module_data.proofs.KnownNames.{entry_named, no_entry}

@@ -13,13 +13,13 @@ use Rattle.pdb_frames.proofs.RunLaw.{IsClear, on, left_false, right_false, diffe
 use Rattle.pdb_frames.specs.ChosenNames.{name_of}
 use Rattle.pdb_frames.specs.Files.{file_or_none, last_file, file_of, starts_read}
 use Rattle.pdb_frames.specs.Files.{starts_in_extended, starts_if_chosen}
-use Rattle.pdb_frames.specs.Frames.{call_frame, function_frame, calls_in, row_and_calls}
-use Rattle.pdb_frames.specs.Frames.{frames_in_data, found_frames, frames_of_chosen}
+use Rattle.pdb_frames.specs.FramesAt.{call_frame, function_frame, calls_in, row_and_calls}
+use Rattle.pdb_frames.specs.FramesAt.{frames_in_data, found_frames, frames_of_chosen}
 use Rattle.pdb_functions.specs.FileAnswers.{FileAnswer, Nothing, Unreadable, NoFile, File}
 use Rattle.pdb_functions.specs.Frames.{Frame}
 use Rattle.pdb_inlinees.specs.Inlinees.{InlinedFunction}
-use Rattle.pdb_known_modules.specs.Modules.{ModuleData, ExtendedModule, extended_of}
-use Rattle.pdb_known_modules.specs.Modules.{procedure_calls, sites_lifted}
+use Rattle.pdb_known_modules.specs.KnownModules.{ModuleData, ExtendedModule, extended_of}
+use Rattle.pdb_known_modules.specs.KnownModules.{procedure_calls, sites_lifted}
 use Rattle.pdb_lines.specs.LinesSubsections.{Program}
 use Rattle.pdb_module_data.specs.Forest.{sites_of}
 use Rattle.pdb_module_data.specs.InlinedCalls.{call_rows, calls_over}

@@ -15,8 +15,8 @@ use Rattle.pdb_resolving.specs.declared.error.Error.{Error}
 use Rattle.pdb_resolving.specs.Fault.{Fault, Fails, lifted}
 use Rattle.pdb_resolving.proofs.Lifting.{fails_on}
 use Rattle.pdb_choice.specs.Choice.{Proc}
-use Rattle.pdb_frames.specs.Frames.{row_and_calls}
-use Rattle.pdb_known_modules.specs.Modules.{ExtendedModule, extended_procedure_of, procedure_calls, sites_lifted}
+use Rattle.pdb_frames.specs.FramesAt.{row_and_calls}
+use Rattle.pdb_known_modules.specs.KnownModules.{ExtendedModule, extended_procedure_of, procedure_calls, sites_lifted}
 
 -- a row and calls as they are found, rows and sites as they are read, and the former by the latter
 abbrev found : Option LineRow → List InlinedCall → Result (Option LineRow × List InlinedCall) Fault

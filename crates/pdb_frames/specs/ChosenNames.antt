@@ -5,7 +5,7 @@ use Rattle.std.specs.Str.Lossy.{utf8_lossy}
 use Rattle.pdb_module_data.specs.Procedures.{Procedure}
 use Rattle.pdb_choice.specs.Choice.{Parts, Chosen, Proc, Public, is_decorated, decorated_at}
 use Rattle.pdb_names.specs.Env.{Env}
-use Rattle.pdb_names.specs.Names.{typed_name}
+use Rattle.pdb_names.specs.StoredNames.{typed_name}
 
 -- the decorated public name that a procedure has in place of its own: at its start, where it has no
 -- type and no decorated name of its own

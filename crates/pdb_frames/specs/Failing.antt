@@ -6,7 +6,7 @@ use Rattle.pdb_addresses.specs.declared.internal_section_offset.PdbInternalSecti
 use Rattle.pdb_contributions.specs.declared.contribution.ModuleSectionContribution.{
   ModuleSectionContribution,
 }
-use Rattle.pdb_known_modules.specs.Modules.{module_data, procedures_in}
+use Rattle.pdb_known_modules.specs.KnownModules.{module_data, procedures_in}
 pub use Rattle.pdb_resolving.specs.declared.failures.Part.{Part}
 pub use Rattle.pdb_resolving.specs.declared.failures.Part.TheVariants.{
   ExtendedModule,
@@ -14,7 +14,7 @@ pub use Rattle.pdb_resolving.specs.declared.failures.Part.TheVariants.{
   ProcedureInlineRanges,
 }
 use Rattle.pdb_choice.specs.Choice.{Parts, chosen, held_at, place_of}
-use Rattle.pdb_choice.specs.Failed.{failing_of_chosen}
+use Rattle.pdb_choice.specs.FailingParts.{failing_of_chosen}
 use Rattle.pdb_frames.specs.Scopes.{Scope}
 
 -- the first part that fails in the module of a contribution, for a place that it holds

@@ -9,11 +9,11 @@ use Rattle.pdb_addresses.specs.declared.internal_section_offset.PdbInternalSecti
 use Rattle.pdb_choice.specs.Choice.{Parts, Chosen, chosen, held_at, start_of}
 use Rattle.pdb_container.specs.Fault as container
 use Rattle.pdb_container.specs.StringTable.{text_in}
-use Rattle.pdb_contributions.specs.Contributions.{holder}
+use Rattle.pdb_contributions.specs.MergedContributions.{holder}
 use Rattle.pdb_contributions.specs.declared.contribution.ModuleSectionContribution.{
   ModuleSectionContribution,
 }
-use Rattle.pdb_frames.specs.Frames.{frames_if_held}
+use Rattle.pdb_frames.specs.FramesAt.{frames_if_held}
 use Rattle.pdb_frames.specs.Runs.{is_bound}
 use Rattle.pdb_frames.specs.Scopes.{Scope}
 use Rattle.pdb_functions.specs.Databases.{Database, Keyed}
@@ -21,8 +21,8 @@ use Rattle.pdb_functions.specs.FileAnswers.{FileAnswer, Nothing, Unreadable, NoF
 use Rattle.pdb_functions.specs.Frames.{Frame, FunctionFrames}
 use Rattle.pdb_functions.specs.declared.file_key.FileKey.{FileKey}
 use Rattle.pdb_functions.specs.declared.file_key.FileKey.TheVariants as keys
-use Rattle.pdb_known_modules.specs.Modules.{ModuleData, ExtendedModule, module_data}
-use Rattle.pdb_known_modules.specs.Modules.{procedures_in, extended_of}
+use Rattle.pdb_known_modules.specs.KnownModules.{ModuleData, ExtendedModule, module_data}
+use Rattle.pdb_known_modules.specs.KnownModules.{procedures_in, extended_of}
 use Rattle.pdb_lines.specs.Checksums as checksums
 use Rattle.pdb_lines.specs.LinesSubsections.{Program}
 use Rattle.pdb_module_data.specs.FunctionLine.{function_rows, if_read, row_starts}

@@ -2,7 +2,7 @@
 use Rattle.std.specs.Prelude.{ℕ, List, Option, option_map, option_and_then, slice_get}
 use Rattle.pdb_choice.specs.Choice.{Parts, Chosen, Proc, Public}
 use Rattle.pdb_contributions.specs.Publics.{public_over}
-use Rattle.pdb_frames.specs.Frames.{function_of}
+use Rattle.pdb_frames.specs.FramesAt.{function_of}
 use Rattle.pdb_frames.specs.Runs.{database_of}
 use Rattle.pdb_frames.specs.Scopes.{Scope}
 use Rattle.pdb_functions.specs.Databases.{Keyed}
@@ -10,7 +10,7 @@ use Rattle.pdb_functions.specs.FunctionOrder.{Function}
 use Rattle.pdb_functions.specs.KeyOrder.{key_module}
 use Rattle.pdb_functions.specs.declared.function_key.FunctionKey.{FunctionKey}
 use Rattle.pdb_functions.specs.declared.function_key.FunctionKey.TheVariants as keys
-use Rattle.pdb_known_modules.specs.Modules.{module_data, procedures_in}
+use Rattle.pdb_known_modules.specs.KnownModules.{module_data, procedures_in}
 use Rattle.pdb_module_data.specs.Procedures.{Procedure}
 
 -- what a key chooses among its module's procedures and the public list: the procedure with its

@@ -8,15 +8,15 @@ use Rattle.pdb_addresses.specs.Places.{internal_place}
 use Rattle.pdb_contributions.specs.declared.contribution.ModuleSectionContribution.{
   ModuleSectionContribution,
 }
-use Rattle.pdb_contributions.specs.Contributions.{holder}
+use Rattle.pdb_contributions.specs.MergedContributions.{holder}
 use Rattle.pdb_module_data.specs.Procedures.{Procedure}
 use Rattle.pdb_functions.specs.Databases.{Database}
 use Rattle.pdb_functions.specs.FunctionOrder.{Function}
 use Rattle.pdb_choice.specs.Choice.{Parts, held_at}
 use Rattle.pdb_choice.specs.NearBounds.{bounds_near}
-use Rattle.pdb_frames.specs.Frames.{function_at}
+use Rattle.pdb_frames.specs.FramesAt.{function_at}
 use Rattle.pdb_frames.specs.Scopes.{Scope}
-use Rattle.pdb_known_modules.specs.Modules.{module_data, procedures_in}
+use Rattle.pdb_known_modules.specs.KnownModules.{module_data, procedures_in}
 
 -- ---- where answers may change
 

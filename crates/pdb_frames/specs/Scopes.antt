@@ -6,7 +6,7 @@ use Rattle.pdb_symbols_modules.specs.Modules.{Module}
 use Rattle.pdb_resolving.specs.Resolving.{Provided}
 use Rattle.pdb_names.specs.Env.{Env}
 use Rattle.pdb_names.specs.Printing.{Formatting, env_of}
-use Rattle.pdb_known_modules.specs.Modules.{own_of}
+use Rattle.pdb_known_modules.specs.KnownModules.{own_of}
 
 -- what an answer in one module depends on besides: the module's own stream, and what names of types
 -- and ids are read from

@@ -6,7 +6,7 @@ ghost use Rattle.pdb_container.specs.RawString.{raw_bytes};
 ghost use Rattle.pdb_frames.specs.ChosenNames.{name_of as name_of_chosen};
 ghost use Rattle.pdb_frames.specs.ChosenNames.{procedure_name as name_of_procedure};
 ghost use Rattle.pdb_frames.specs.ChosenNames.{public_name as public_name_of};
-ghost use Rattle.pdb_choice.specs.Seen.{chosen_seen};
+ghost use Rattle.pdb_choice.specs.ChosenSeen.{chosen_seen};
 ghost use Rattle.pdb_names.specs.Printing.{env_of};
 
 use pdb_choice::{Chosen, ContextParts, is_decorated};

@@ -1,13 +1,13 @@
 //! The file at a place in a chosen function, by its key, and how far it goes on.
 
 ghost use Rattle.std.specs.Prelude.{◌≡◌, IfOk, Ok, option_copied};
-ghost use Rattle.pdb_choice.specs.Seen.{chosen_seen};
+ghost use Rattle.pdb_choice.specs.ChosenSeen.{chosen_seen};
 ghost use Rattle.pdb_choice.specs.Choice as choice;
 ghost use Rattle.pdb_frames.specs.Files.{file_named as file_of_name, row_key as key_of_row};
 ghost use Rattle.pdb_frames.specs.FileRuns.{file_run_in as file_run_of_stream, file_run_of};
 ghost use Rattle.pdb_frames.specs.FileRuns.{rows_in, run_by_rows, run_if_read};
 ghost use Rattle.pdb_functions.specs.FileAnswers.{file_seen};
-ghost use Rattle.pdb_known_modules.specs.Modules.{extended_of};
+ghost use Rattle.pdb_known_modules.specs.KnownModules.{extended_of};
 ghost use Rattle.pdb_known_modules.specs.Seen.{extended_seen};
 ghost use Rattle.pdb_module_data.specs.FunctionLine.{function_rows};
 ghost use Rattle.pdb_resolving.specs.Fault.{Answers, lifted};

@@ -10,14 +10,14 @@ ghost use Rattle.pdb_module_data.specs.InlinePieces.{StandForSites};
 ghost use Rattle.pdb_resolving.specs.Fault.{Answers};
 ghost use Rattle.pdb_names.specs.Printing.{env_of};
 ghost use Rattle.pdb_choice.specs.Choice as choice;
-ghost use Rattle.pdb_frames.specs.Frames.{frames_in as frames_of_module, row_and_calls};
-ghost use Rattle.pdb_frames.specs.Frames.{frames_in_data as frames_of_data};
-ghost use Rattle.pdb_frames.specs.Frames.{frame_row as frame_row_of, call_row as call_row_of};
-ghost use Rattle.pdb_frames.specs.Frames.{call_frame as frame_of_call, function_frame_row};
-ghost use Rattle.pdb_frames.specs.Frames.{function_frame as frame_of_function, nothing};
-ghost use Rattle.pdb_known_modules.specs.Modules.{extended_of};
+ghost use Rattle.pdb_frames.specs.FramesAt.{frames_in as frames_of_module, row_and_calls};
+ghost use Rattle.pdb_frames.specs.FramesAt.{frames_in_data as frames_of_data};
+ghost use Rattle.pdb_frames.specs.FramesAt.{frame_row as frame_row_of, call_row as call_row_of};
+ghost use Rattle.pdb_frames.specs.FramesAt.{call_frame as frame_of_call, function_frame_row};
+ghost use Rattle.pdb_frames.specs.FramesAt.{function_frame as frame_of_function, nothing};
+ghost use Rattle.pdb_known_modules.specs.KnownModules.{extended_of};
 ghost use Rattle.pdb_choice.specs.Choice.{Parts};
-ghost use Rattle.pdb_choice.specs.Seen.{chosen_seen};
+ghost use Rattle.pdb_choice.specs.ChosenSeen.{chosen_seen};
 ghost use Rattle.pdb_names.specs.Env.{Env};
 ghost use Rattle.pdb_known_modules.specs.Seen.{extended_seen};
 
@@ -106,7 +106,7 @@ fn public_row<'m, I: ModuleTables>(
 
 /// The line row of a place in a chosen function, and the inlined calls over the place, innermost
 /// first; none in a public entry.
-#[tactic(auto, using(pdb_resolving::proofs::Lifting::given_fails_on), unfolding(crate::specs::Frames::row_and_calls))]
+#[tactic(auto, using(pdb_resolving::proofs::Lifting::given_fails_on), unfolding(crate::specs::FramesAt::row_and_calls))]
 fn row_and_calls_in<'m, I: ModuleTables>(
     alloc: Global,
     known: &BasicModuleInfo<'m, I>,
@@ -259,7 +259,7 @@ fn function_frame<'a>(
 /// The frames at a place in a chosen function, by its module's line program and inlinees: the rows
 /// of the function's subsection and a procedure's sites are read in this order, and the first fault
 /// is returned.
-#[tactic(auto, using(pdb_resolving::proofs::Lifting::given_fails_on, pdb_resolving::proofs::Lifting::parsed_fails_on, pdb_resolving::proofs::Lifting::fails_on), unfolding(crate::specs::Frames::frames_in_data))]
+#[tactic(auto, using(pdb_resolving::proofs::Lifting::given_fails_on, pdb_resolving::proofs::Lifting::parsed_fails_on, pdb_resolving::proofs::Lifting::fails_on), unfolding(crate::specs::FramesAt::frames_in_data))]
 fn frames_by<'a, 'm, P: ModuleProvider>(
     alloc: Global,
     parts: &ContextParts<'a, '_>,
@@ -293,7 +293,7 @@ fn frames_by<'a, 'm, P: ModuleProvider>(
 
 /// The frames at a place in a chosen function, by its module's data: line program and inlinees are
 /// the cached ones, or else are read first, and their first fault is returned.
-#[tactic(auto, using(pdb_resolving::proofs::Lifting::given_fails_on), unfolding(crate::specs::Frames::frames_in_data))]
+#[tactic(auto, using(pdb_resolving::proofs::Lifting::given_fails_on), unfolding(crate::specs::FramesAt::frames_in_data))]
 fn frames_in_data<'a, P: ModuleProvider>(
     alloc: Global,
     parts: &ContextParts<'a, '_>,
@@ -369,7 +369,7 @@ pub fn frames_in<'a, P: ModuleProvider>(
 ///
 /// # Errors
 /// As [`frames_in`].
-#[tactic(auto, using(pdb_resolving::proofs::Lifting::given_fails_on, pdb_resolving::proofs::Lifting::fails_on), unfolding(crate::specs::Frames::frames_in_data))]
+#[tactic(auto, using(pdb_resolving::proofs::Lifting::given_fails_on, pdb_resolving::proofs::Lifting::fails_on), unfolding(crate::specs::FramesAt::frames_in_data))]
 pub fn check_frames<I: ModuleTables>(
     alloc: Global,
     known: Option<&BasicModuleInfo<'_, I>>,

@@ -5,7 +5,7 @@ ghost use Rattle.pdb_addresses.specs.Places.{Place};
 ghost use Rattle.pdb_choice.specs.Choice.{Parts};
 ghost use Rattle.pdb_frames.specs.Depth.{AreAsDeep};
 ghost use Rattle.pdb_frames.specs.Files.{files_of};
-ghost use Rattle.pdb_frames.specs.Frames.{frames};
+ghost use Rattle.pdb_frames.specs.FramesAt.{frames};
 ghost use Rattle.pdb_frames.specs.Runs.{database_of};
 ghost use Rattle.pdb_frames.specs.Scopes.{Scope};
 ghost use Rattle.pdb_functions.specs.Databases.{on};

@@ -14,8 +14,8 @@ use Rattle.pdb_module_data.specs.InlinePieces.{Ranges, StandForSites}
 use Rattle.pdb_module_data.specs.Procedures.{Procedure}
 use Rattle.pdb_known_modules.specs.declared.procedure_data.KeptProcedure.{KeptProcedure}
 use Rattle.pdb_known_modules.specs.declared.procedure_data.LentProcedure.{LentProcedure}
-use Rattle.pdb_known_modules.specs.Modules.{ExtendedModule, extended_of}
-use Rattle.pdb_known_modules.specs.Modules.{extended_procedure_of, procedure_sites}
+use Rattle.pdb_known_modules.specs.KnownModules.{ExtendedModule, extended_of}
+use Rattle.pdb_known_modules.specs.KnownModules.{extended_procedure_of, procedure_sites}
 use Rattle.pdb_known_modules.specs.ProcedureData.{IsReadBy, IsOfProcedure, IsOfStream}
 use Rattle.pdb_known_modules.specs.ProcedureData.{AreOfStream, AreLent}
 use Rattle.pdb_known_modules.specs.SubsectionRows.{AreRowsOf, IsNumberAt}

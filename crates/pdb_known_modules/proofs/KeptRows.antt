@@ -11,7 +11,7 @@ use Rattle.pdb_symbols_modules.specs.ModuleStream.{ModuleStream}
 use Rattle.pdb_module_data.specs.declared.function_rows.LineRow.{LineRow}
 use Rattle.pdb_module_data.specs.FunctionLine.{function_rows}
 use Rattle.pdb_module_data.proofs.SubsectionRows.{same_rows}
-use Rattle.pdb_known_modules.specs.Modules.{ExtendedModule, extended_of}
+use Rattle.pdb_known_modules.specs.KnownModules.{ExtendedModule, extended_of}
 use Rattle.pdb_known_modules.specs.SubsectionRows.{AreRowsAt, AreRowsOf, AreRowsOfStream}
 use Rattle.pdb_known_modules.specs.SubsectionRows.{AreLentAt, IsNumberAt}
 use Rattle.pdb_known_modules.proofs.KeptPlaces.{have_now, nothing_in, nothing_in_none}

@@ -5,8 +5,8 @@ use Rattle.std.proofs.lemmas.Bool.{cases_lt}
 use Rattle.std.proofs.lemmas.Bool.Decides.{eqb_tells}
 use Rattle.std.proofs.lemmas.List.{length-replicate, length-set, get_or-replicate, get_or-set_same, get_or-set_other}
 use Rattle.std.proofs.lemmas.Option.{slice_get_past, slice_get_within, slice_get-get_or}
-use Rattle.pdb_known_modules.specs.Modules.{ModuleData}
-use Rattle.pdb_known_modules.specs.Kept.{AreKept, known_in, known_of, is_empty}
+use Rattle.pdb_known_modules.specs.KnownModules.{ModuleData}
+use Rattle.pdb_known_modules.specs.CachedModules.{AreKept, known_in, known_of, is_empty}
 
 abbrev Places : Type 0
 Places = List (Option (Option ModuleData))

@@ -5,7 +5,7 @@ use Rattle.pdb_container.specs.declared.error.Error.TheVariants as errors
 use Rattle.pdb_container.specs.Fault.{fault_of, IsOutside}
 use Rattle.pdb_module_data.specs.Forest.{SitesFault, InSymbols}
 use Rattle.pdb_resolving.specs.Fault.{Fails, error_of}
-use Rattle.pdb_known_modules.specs.Modules.{sites_lifted}
+use Rattle.pdb_known_modules.specs.KnownModules.{sites_lifted}
 
 -- a symbol's fault is the answer's
 pub sites_fail : {A : Type 0} (e : Error) (read : Result A SitesFault) → (IsOutside e ⊥ ⊎ (read ≡ Err (InSymbols (fault_of e)))) → Fails (error_of e) (sites_lifted read)

@@ -1,6 +1,6 @@
 pub mod Bounds
-pub mod Kept
-pub mod Modules
+pub mod CachedModules
+pub mod KnownModules
 pub mod ProcedureData
 pub mod SectionBounds
 pub mod Seen

@@ -10,8 +10,8 @@ use Rattle.pdb_module_data.specs.InlinedCalls.{call_rows}
 use Rattle.pdb_module_data.specs.InlinePieces.{StandForSites}
 use Rattle.pdb_known_modules.specs.declared.procedure_data.KeptProcedure.{KeptProcedure}
 use Rattle.pdb_known_modules.specs.declared.procedure_data.LentProcedure.{LentProcedure}
-use Rattle.pdb_known_modules.specs.Modules.{ExtendedModule, extended_of}
-use Rattle.pdb_known_modules.specs.Modules.{extended_procedure_of, procedure_sites}
+use Rattle.pdb_known_modules.specs.KnownModules.{ExtendedModule, extended_of}
+use Rattle.pdb_known_modules.specs.KnownModules.{extended_procedure_of, procedure_sites}
 
 -- The procedure has the start and the symbols that these data were read by.
 pub record IsReadBy (q : Procedure) (info : KeptProcedure) : Type 0 where

@@ -3,7 +3,7 @@ use Rattle.std.specs.Prelude.{◌≡◌, Option, None, Some, Ok}
 use Rattle.std.specs.Borrow.{Bor}
 use Rattle.pdb_module_data.specs.InlinedCalls.{given_by}
 use Rattle.pdb_symbols_modules.specs.ModuleStream.{ModuleStream}
-use Rattle.pdb_known_modules.specs.Modules.{ExtendedModule, extended_of}
+use Rattle.pdb_known_modules.specs.KnownModules.{ExtendedModule, extended_of}
 use Rattle.pdb_known_modules.specs.declared.modules.ExtendedModuleInfo.{ExtendedModuleInfo}
 
 -- the line program and what gives inlined functions, as they were read

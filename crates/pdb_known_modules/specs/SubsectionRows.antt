@@ -10,7 +10,7 @@ use Rattle.pdb_lines.specs.LineRows.{subsection_numbered, subsections_for}
 use Rattle.pdb_symbols_modules.specs.ModuleStream.{ModuleStream}
 use Rattle.pdb_module_data.specs.declared.function_rows.LineRow.{LineRow}
 use Rattle.pdb_module_data.specs.FunctionLine.{function_rows, numbered_rows}
-use Rattle.pdb_known_modules.specs.Modules.{ExtendedModule, extended_of}
+use Rattle.pdb_known_modules.specs.KnownModules.{ExtendedModule, extended_of}
 
 -- These rows are those of the subsection of a number, by the stream's line program.
 pub record AreRowsOf (stream : ModuleStream) (number : ℕ) (rows : List LineRow) : Type 0 where

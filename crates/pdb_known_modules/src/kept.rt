@@ -2,8 +2,9 @@
 
 ghost use Rattle.std.specs.Prelude.{◌≡◌, ℕ, IfOk, length, Option, option_copied, replicate, None};
 ghost use Rattle.std.specs.Prelude.{slice_get};
-ghost use Rattle.pdb_known_modules.specs.Kept.{AreKept, known_in, is_empty as is_empty_place};
-ghost use Rattle.pdb_known_modules.specs.Modules.{ModuleData, module_data, own_of};
+ghost use Rattle.pdb_known_modules.specs.CachedModules.{AreKept, known_in};
+ghost use Rattle.pdb_known_modules.specs.CachedModules.{is_empty as is_empty_place};
+ghost use Rattle.pdb_known_modules.specs.KnownModules.{ModuleData, module_data, own_of};
 
 use crate::meter::Meter;
 use crate::modules::{BasicModuleInfo, get_basic_module_info};
@@ -26,7 +27,7 @@ pub struct CachedModules<'a, I: ModuleTables> {
 
 impl<'a, I: ModuleTables> Model for CachedModules<'a, I> {
     ghost use Rattle.std.specs.Prelude.{List, Option};
-    ghost use Rattle.pdb_known_modules.specs.Modules.{ModuleData};
+    ghost use Rattle.pdb_known_modules.specs.KnownModules.{ModuleData};
 
     ghost Value = { List (Option (Option ModuleData)) };
 

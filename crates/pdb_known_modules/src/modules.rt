@@ -11,9 +11,9 @@ ghost use Rattle.pdb_module_data.specs.Procedures.{over};
 ghost use Rattle.pdb_known_modules.specs.ProcedureData.{IsKeptOf, IsLentOf, IsOfStream};
 ghost use Rattle.pdb_known_modules.specs.SubsectionRows.{AreLentAt, AreRowsAt, IsNumberAt};
 ghost use Rattle.pdb_known_modules.specs.Seen.{extended_seen, AreExtendedHere};
-ghost use Rattle.pdb_known_modules.specs.Modules.{data_of_stream, data_if_there, extended_of};
-ghost use Rattle.pdb_known_modules.specs.Modules.{module_data, own_of, procedure_if_numbered};
-ghost use Rattle.pdb_known_modules.specs.Modules.{procedures_in as procedures_of_module};
+ghost use Rattle.pdb_known_modules.specs.KnownModules.{data_of_stream, data_if_there, extended_of};
+ghost use Rattle.pdb_known_modules.specs.KnownModules.{module_data, own_of, procedure_if_numbered};
+ghost use Rattle.pdb_known_modules.specs.KnownModules.{procedures_in as procedures_of_module};
 
 use crate::bounds::{SortedBounds, procedure_bounds};
 use crate::places::{empty_places, place_at};
@@ -56,7 +56,7 @@ pub struct BasicModuleInfo<'a, I: ModuleTables> {
 
 impl<'a, I: ModuleTables> Model for BasicModuleInfo<'a, I> {
     ghost use Rattle.pdb_known_modules.specs.Bounds.{AreProcedureBounds};
-    ghost use Rattle.pdb_known_modules.specs.Modules as modules;
+    ghost use Rattle.pdb_known_modules.specs.KnownModules as modules;
     ghost use Rattle.pdb_known_modules.specs.ProcedureData.{AreOfStream};
     ghost use Rattle.pdb_known_modules.specs.SubsectionRows.{AreRowsOfStream};
     ghost use Rattle.pdb_known_modules.specs.Seen.{AreExtended};
@@ -95,7 +95,7 @@ impl<'a, I: ModuleTables> Drop for BasicModuleInfo<'a, I> {
 impl<'a, I: ModuleTables> BasicModuleInfo<'a, I> {
     /// The data of a module's stream, whose symbols are read to their end. The faults of
     /// [`ModuleTables::symbols`], `SymbolTooShort`, `UnexpectedEof`; `OutOfMemory`.
-    #[tactic(auto, using(crate::proofs::KeptProcedures::no_places), unfolding(crate::specs::Modules::data_of_stream))]
+    #[tactic(auto, using(crate::proofs::KeptProcedures::no_places), unfolding(crate::specs::KnownModules::data_of_stream))]
     fn try_from_module_info(
         alloc: Global,
         module_info: &'a I,
@@ -397,7 +397,7 @@ fn extended_size(extended: &ExtendedModuleInfo<'_>, line_data_size: u32, count: 
 
 /// The line program of a module, and then its inlinees, each to its end. The faults of
 /// [`ModuleTables::line_program`] and [`ModuleTables::inlinees`], `UnexpectedEof`; `OutOfMemory`.
-#[tactic(auto, unfolding(crate::specs::Modules::extended_of))]
+#[tactic(auto, unfolding(crate::specs::KnownModules::extended_of))]
 pub fn read_extended<'a, I: ModuleTables>(
     alloc: Global,
     module_info: &'a I,

@@ -5,8 +5,8 @@ ghost use Rattle.pdb_module_data.specs.Forest.{sites_of};
 ghost use Rattle.pdb_module_data.specs.InlinedCalls.{given_by, call_rows};
 ghost use Rattle.pdb_module_data.specs.InlinePieces.{StandForSites};
 ghost use Rattle.pdb_resolving.specs.Fault.{Answers};
-ghost use Rattle.pdb_known_modules.specs.Modules.{extended_procedure_of, procedure_sites};
-ghost use Rattle.pdb_known_modules.specs.Modules.{sites_lifted};
+ghost use Rattle.pdb_known_modules.specs.KnownModules.{extended_procedure_of, procedure_sites};
+ghost use Rattle.pdb_known_modules.specs.KnownModules.{sites_lifted};
 ghost use Rattle.pdb_known_modules.specs.ProcedureData.{IsReadBy};
 ghost use Rattle.pdb_known_modules.specs.Seen.{extended_seen};
 
@@ -137,7 +137,7 @@ pub fn procedure_ranges<'a, I: ModuleTables>(
 /// # Errors
 /// `UnexpectedEof` of the rows; the faults of [`ModuleTables::symbols`] and of the sites, as
 /// `PdbError`; `ProcedureInlineRangesUnsuccessful`; `OutOfMemory`.
-#[tactic(auto, using(pdb_resolving::proofs::Lifting::given_fails_on, pdb_resolving::proofs::Lifting::fails_on), unfolding(crate::specs::Modules::extended_procedure_of))]
+#[tactic(auto, using(pdb_resolving::proofs::Lifting::given_fails_on, pdb_resolving::proofs::Lifting::fails_on), unfolding(crate::specs::KnownModules::extended_procedure_of))]
 pub fn read_extended_procedure<'a, I: ModuleTables>(
     alloc: Global,
     module_info: &'a I,

@@ -134,8 +134,8 @@ impl<'a> AskedFiles<'a> {
         }
     }
 
-    /// Loads a file unless it was asked for before, reports it where it can't be loaded, and returns
-    /// its number.
+    /// Loads a file unless it was asked for before, reports it where it can't be loaded, and
+    /// returns its number.
     fn ask(
         &mut self,
         rt: &(impl Files + Eprint + AllocGlobal),

@@ -1,5 +1,5 @@
-pub mod Frames
+pub mod ReportedFrames
 pub mod Json
 pub mod Plain
 pub mod Reported
-pub mod Texts
+pub mod AnswerTexts

@@ -4,7 +4,7 @@ use Rattle.std.specs.Prelude.{if◌then◌else◌, List, [], ◌∷◌, ◌++◌
 use Rattle.std.specs.Prelude.{Option, None, Some, option_map, unwrap_or}
 use Rattle.pdb_functions.specs.Frames.{Frame, FunctionFrames}
 use Rattle.pdb_functions.specs.declared.frames.FrameRow.{FrameRow}
-use Rattle.pdb_llvm_texts.specs.Frames.{ReportedFrame}
+use Rattle.pdb_llvm_texts.specs.ReportedFrames.{ReportedFrame}
 use Rattle.pdb_llvm_texts.specs.declared.reported.ReportOptions.{ReportOptions}
 
 -- a slash or a backslash

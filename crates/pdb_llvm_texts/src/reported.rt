@@ -29,7 +29,7 @@ pub struct ReportedFrame<'f> {
 
 impl<'f> Model for ReportedFrame<'f> {
     ghost use Rattle.std.specs.Prelude.{option_map};
-    ghost use Rattle.pdb_llvm_texts.specs.Frames as frames;
+    ghost use Rattle.pdb_llvm_texts.specs.ReportedFrames as frames;
 
     ghost Value = { frames.ReportedFrame };
 
@@ -41,7 +41,7 @@ impl<'f> Model for ReportedFrame<'f> {
 }
 
 impl<'f> ReportedFrame<'f> {
-    ghost use Rattle.pdb_llvm_texts.specs.Texts.{unknown as unknown_frame};
+    ghost use Rattle.pdb_llvm_texts.specs.AnswerTexts.{unknown as unknown_frame};
 
     /// A frame of which nothing is known, as where a file isn't there.
     pub fn unknown() -> ReportedFrame<'f>

@@ -3,10 +3,11 @@
 ghost use Rattle.std.specs.Prelude.{◌≡◌, ◌++◌, OnOk, Some, codes, if◌then◌else◌};
 ghost use Rattle.pdb_llvm_texts.specs.Json.{frames_array, key};
 ghost use Rattle.pdb_llvm_texts.specs.Plain.{frames_text, plain_text};
-ghost use Rattle.pdb_llvm_texts.specs.Texts.{address_member, answer_text, data_text, depth_of};
-ghost use Rattle.pdb_llvm_texts.specs.Texts.{end_text, error_object, error_text, frames_object};
-ghost use Rattle.pdb_llvm_texts.specs.Texts.{data_members, data_object, locals_object, locals_text};
-ghost use Rattle.pdb_llvm_texts.specs.Texts.{module_member, start_text};
+ghost use Rattle.pdb_llvm_texts.specs.AnswerTexts.{address_member, answer_text, data_members};
+ghost use Rattle.pdb_llvm_texts.specs.AnswerTexts.{data_object, data_text, depth_of, end_text};
+ghost use Rattle.pdb_llvm_texts.specs.AnswerTexts.{error_object, error_text, frames_object};
+ghost use Rattle.pdb_llvm_texts.specs.AnswerTexts.{locals_object, locals_text, module_member};
+ghost use Rattle.pdb_llvm_texts.specs.AnswerTexts.{start_text};
 
 use crate::json::{append_frame_array, append_gap, append_key, append_string_member};
 use crate::options::{Style, TextOptions};
@@ -22,7 +23,7 @@ fn depth(options: TextOptions) -> usize
 }
 
 /// Appends the member of an address, if there is one.
-#[tactic(auto, unfolding(crate::specs::Texts::address_member))]
+#[tactic(auto, unfolding(crate::specs::AnswerTexts::address_member))]
 fn append_address_member(
     alloc: Global,
     output: &mut Vec<u8>,
@@ -41,7 +42,7 @@ fn append_address_member(
 }
 
 /// Appends what an answer's object begins with.
-#[tactic(auto, unfolding(crate::specs::Texts::start_text))]
+#[tactic(auto, unfolding(crate::specs::AnswerTexts::start_text))]
 fn append_start(
     alloc: Global,
     output: &mut Vec<u8>,
@@ -55,7 +56,7 @@ fn append_start(
 }
 
 /// Appends the member of a module.
-#[tactic(auto, unfolding(crate::specs::Texts::module_member))]
+#[tactic(auto, unfolding(crate::specs::AnswerTexts::module_member))]
 fn append_module(output: &mut Vec<u8>, options: TextOptions, file: &str) -> Result<(), AllocError>
     ensures { OnOk result (output.new.items
         ≡ output.old.items ++ module_member options file.now) }
@@ -65,7 +66,7 @@ fn append_module(output: &mut Vec<u8>, options: TextOptions, file: &str) -> Resu
 }
 
 /// Appends what an answer's object ends with.
-#[tactic(auto, unfolding(crate::specs::Texts::end_text))]
+#[tactic(auto, unfolding(crate::specs::AnswerTexts::end_text))]
 fn append_end(output: &mut Vec<u8>, options: TextOptions) -> Result<(), AllocError>
     ensures { OnOk result (output.new.items ≡ output.old.items ++ end_text options) }
 {
@@ -81,7 +82,7 @@ fn close(in_array: bool) -> &'static str
 }
 
 /// Appends the object of an answer that has frames.
-#[tactic(auto, unfolding(crate::specs::Texts::frames_object))]
+#[tactic(auto, unfolding(crate::specs::AnswerTexts::frames_object))]
 fn append_frames_object(
     alloc: Global,
     output: &mut Vec<u8>,
@@ -128,7 +129,7 @@ pub fn append_frames(
 }
 
 /// Appends the object of an answer that is an error.
-#[tactic(auto, unfolding(crate::specs::Texts::error_object))]
+#[tactic(auto, unfolding(crate::specs::AnswerTexts::error_object))]
 fn append_error_object(
     alloc: Global,
     output: &mut Vec<u8>,
@@ -203,7 +204,7 @@ fn append_plain(
 }
 
 /// Appends the members of data of which nothing is known.
-#[tactic(auto, unfolding(crate::specs::Texts::data_members))]
+#[tactic(auto, unfolding(crate::specs::AnswerTexts::data_members))]
 fn append_data_members(output: &mut Vec<u8>, pretty: bool, depth: usize) -> Result<(), AllocError>
     ensures { OnOk result (output.new.items ≡ output.old.items ++ data_members pretty depth) }
 {
@@ -215,7 +216,7 @@ fn append_data_members(output: &mut Vec<u8>, pretty: bool, depth: usize) -> Resu
 }
 
 /// Appends the object of data of which nothing is known.
-#[tactic(auto, unfolding(crate::specs::Texts::data_object))]
+#[tactic(auto, unfolding(crate::specs::AnswerTexts::data_object))]
 fn append_data_object(
     alloc: Global,
     output: &mut Vec<u8>,
@@ -260,7 +261,7 @@ pub fn append_no_data(
 }
 
 /// Appends the object of locals, of which none are known.
-#[tactic(auto, unfolding(crate::specs::Texts::locals_object))]
+#[tactic(auto, unfolding(crate::specs::AnswerTexts::locals_object))]
 fn append_locals_object(
     alloc: Global,
     output: &mut Vec<u8>,

@@ -8,7 +8,7 @@ use Rattle.std.specs.Vec.{with_item}
 use Rattle.std.proofs.lemmas.Bool.Decides.{nat_tests}
 use Rattle.pdb_names.specs.declared.by_module.ByModule.{ByModule}
 use Rattle.pdb_names.specs.ByModule.{kept_among, kept_at}
-use Rattle.pdb_names.specs.Kept.{IsKept, IsSameKept}
+use Rattle.pdb_names.specs.CachedNames.{IsKept, IsSameKept}
 
 here : {V : Type 0} (k n : ℕ) (value : V) (old map : BTreeMap ℕ V)
     → get nat_cmp map n ≡ cond (is_at (nat_cmp k) n) (Some value) (get nat_cmp old n)

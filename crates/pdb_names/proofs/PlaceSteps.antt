@@ -6,7 +6,7 @@ use Rattle.std.specs.Global.{Vec}
 use Rattle.std.specs.Vec.{with_item}
 use Rattle.pdb_names.specs.declared.by_number.ByNumber.{ByNumber}
 use Rattle.pdb_names.specs.ByNumber.{IsPut, IsSamePlaces, kept_among, kept_at}
-use Rattle.pdb_names.specs.Kept.{IsKept, IsSameKept}
+use Rattle.pdb_names.specs.CachedNames.{IsKept, IsSameKept}
 use Rattle.pdb_names.proofs.MapSteps.{past_zero, before_suc, both_suc}
 
 set_same : {V : Type 0} (modules : List (Vec (Option V))) (i : ℕ) (old places : Vec (Option V))

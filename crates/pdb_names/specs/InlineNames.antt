@@ -5,7 +5,7 @@ use Rattle.pdb_resolving.specs.Resolving.{Provided}
 use Rattle.pdb_type_text.specs.Printing.{Formatting, env_of}
 use Rattle.pdb_type_text.specs.Ids.{id_text}
 use Rattle.pdb_names.specs.ByModule.{kept_at}
-use Rattle.pdb_names.specs.Names.{if_made}
+use Rattle.pdb_names.specs.StoredNames.{if_made}
 use Rattle.pdb_names.specs.declared.inline_names.InlineNames.{InlineNames}
 
 -- Each cached name is the text of its id in its module.

@@ -1,9 +1,9 @@
 pub mod ByModule
 pub mod ByNumber
 pub mod InlineNames
-pub mod Kept
+pub mod CachedNames
 pub mod MaybeOwned
-pub mod Names
+pub mod StoredNames
 pub mod TypedNames
 pub use Rattle.pdb_type_text.specs.Env
 pub use Rattle.pdb_type_text.specs.Ids

@@ -8,7 +8,7 @@ use Rattle.pdb_resolving.specs.Resolving.{Provided}
 use Rattle.pdb_type_text.specs.Printing.{Formatting, env_of}
 use Rattle.pdb_type_text.specs.Functions.{function_text}
 use Rattle.pdb_names.specs.ByNumber.{kept_at}
-use Rattle.pdb_names.specs.Names.{if_made}
+use Rattle.pdb_names.specs.StoredNames.{if_made}
 use Rattle.pdb_names.specs.declared.typed_names.TypedName.{TypedName}
 use Rattle.pdb_names.specs.declared.typed_names.TypedNames.{TypedNames}
 

@@ -2,7 +2,7 @@
 
 ghost use Rattle.std.specs.Prelude.{◌≡◌, ◌<◌, ℕ, None, OnErr, OnOk, length, option_copied};
 ghost use Rattle.pdb_names.specs.ByNumber.{kept_at, IsPut, IsSamePlaces};
-ghost use Rattle.pdb_names.specs.Kept.{IsKept, IsSameKept};
+ghost use Rattle.pdb_names.specs.CachedNames.{IsKept, IsSameKept};
 
 use std::alloc::{AllocError, Global};
 

@@ -4,7 +4,7 @@ ghost use Rattle.std.specs.Prelude.{◌≡◌, IfOk, option_map};
 ghost use Rattle.std.specs.Arc.{arc_str_bytes};
 ghost use Rattle.pdb_names.specs.InlineNames.{inline_text};
 ghost use Rattle.pdb_names.specs.MaybeOwned.{value_of};
-ghost use Rattle.pdb_names.specs.Names.{typed_name};
+ghost use Rattle.pdb_names.specs.StoredNames.{typed_name};
 ghost use Rattle.pdb_type_text.specs.Printing.{env_of};
 
 use crate::inline_names::InlineNames;

@@ -5,7 +5,7 @@ ghost use Rattle.std.specs.Cow.{cow_str_bytes};
 ghost use Rattle.std.specs.Arc.{arc_str_bytes};
 ghost use Rattle.std.specs.Str.Lossy.{utf8_lossy};
 ghost use Rattle.pdb_container.specs.RawString.{raw_bytes};
-ghost use Rattle.pdb_names.specs.Names.{typed_name as name_by_type, if_made, IsText};
+ghost use Rattle.pdb_names.specs.StoredNames.{typed_name as name_by_type, if_made, IsText};
 ghost use Rattle.pdb_type_text.specs.Printing.{env_of};
 ghost use Rattle.pdb_type_text.specs.Ids.{id_text};
 

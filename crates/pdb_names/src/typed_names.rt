@@ -2,7 +2,7 @@
 
 ghost use Rattle.std.specs.Prelude.{◌≡◌, ◌↔◌, ℕ, true, IfOk, List, Option, option_map};
 ghost use Rattle.std.specs.Arc.{arc_str_bytes};
-ghost use Rattle.pdb_names.specs.Names.{typed_name as name_by_type};
+ghost use Rattle.pdb_names.specs.StoredNames.{typed_name as name_by_type};
 ghost use Rattle.pdb_names.specs.TypedNames.{AreTyped, IsNamedBy, typed_text};
 ghost use Rattle.pdb_type_text.specs.Printing.{env_of};
 

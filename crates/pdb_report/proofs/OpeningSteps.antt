@@ -17,8 +17,8 @@ use Rattle.pdb_addr2line.specs.Printing.{Formatting}
 use Rattle.pdb_addr2line.specs.Choice.{Parts}
 use Rattle.pdb_addr2line.specs.Scopes.{Scope, scope_of}
 use Rattle.pdb_addr2line.specs.Context.{Context, context_over}
-use Rattle.pdb_addr2line.specs.Failed.{no_failures}
-use Rattle.pdb_addr2line.specs.Frames.{frames, function}
+use Rattle.pdb_addr2line.specs.FailingParts.{no_failures}
+use Rattle.pdb_addr2line.specs.FramesAt.{frames, function}
 use Rattle.pdb_addr2line.specs.Formatters as held
 use Rattle.pdb_addr2line.specs.Files.{files_of}
 use Rattle.pdb_addr2line.specs.Runs.{database_of}

@@ -4,7 +4,7 @@ use Rattle.std.specs.Prelude.{◌↔◌}
 use mathlib.Core.Path.{fun_ext}
 use Rattle.pdb_addresses.specs.Addresses.{Map}
 use Rattle.pdb_addr2line.specs.Files.{files_of}
-use Rattle.pdb_addr2line.specs.Frames.{frames, function}
+use Rattle.pdb_addr2line.specs.FramesAt.{frames, function}
 use Rattle.pdb_addr2line.specs.Runs.{database_of}
 use Rattle.pdb_container.specs.Alike.{OpenAlike, ReadAlike}
 use Rattle.pdb_functions.specs.Databases.{Database}

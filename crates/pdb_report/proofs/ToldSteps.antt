@@ -2,7 +2,7 @@
 use Rattle.std.proofs.Common.{◌≡◌, Result, Ok, Err, refl, sym, ap, ◌∙◌}
 use Rattle.std.specs.Prelude.{Option}
 use Rattle.pdb_resolving.specs.Fault.{Fault}
-use Rattle.pdb_addr2line.specs.Failed.{Failures, told}
+use Rattle.pdb_addr2line.specs.FailingParts.{Failures, told}
 use Rattle.pdb_functions.specs.Frames.{FunctionFrames}
 use Rattle.pdb_report_texts.specs.AddressText.{answer_text}
 

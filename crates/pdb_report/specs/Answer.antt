@@ -14,7 +14,7 @@ use Rattle.pdb_addr2line.specs.Scopes.{Scope, scope_of, entries_of}
 use Rattle.pdb_addr2line.specs.Context.{Context, scope_in}
 use Rattle.pdb_functions.specs.Frames.{FunctionFrames}
 use Rattle.pdb_addr2line.specs.Files.{files_keyed, files_of}
-use Rattle.pdb_addr2line.specs.Frames.{frames, function}
+use Rattle.pdb_addr2line.specs.FramesAt.{frames, function}
 use Rattle.pdb_addr2line.specs.Keys.{keyed_of}
 use Rattle.pdb_functions.specs.FileAnswers.{FileAnswer}
 use Rattle.pdb_functions.specs.declared.file_key.FileKey.{FileKey}

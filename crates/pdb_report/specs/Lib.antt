@@ -1,5 +1,5 @@
 pub mod Answer
-pub mod FileReport
+pub mod SizesByFile
 pub mod Isolation
 pub mod SameReports
 pub mod SizesReport

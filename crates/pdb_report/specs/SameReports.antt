@@ -2,7 +2,7 @@
 use Rattle.std.specs.Prelude.{◌≡◌, ◌↔◌, ℕ, List}
 use Rattle.pdb_engine.specs.InputLines.{report}
 use Rattle.pdb_report.specs.Answer.{answer, function_at, listing}
-use Rattle.pdb_report.specs.FileReport.{IsSizesByFile}
+use Rattle.pdb_report.specs.SizesByFile.{IsSizesByFile}
 use Rattle.pdb_loading.specs.Loading.{load_fault}
 use Rattle.pdb_report.specs.SizesReport.{IsSizesReport}
 use Rattle.pdb_report_texts.specs.AddressText.{line_text}

@@ -6,7 +6,7 @@ ghost use Rattle.pdb_loading.specs.FileRead.{IsRead};
 ghost use Rattle.pdb_functions.specs.FileAnswers.{FileAnswer as FileValue, file_cmp};
 ghost use Rattle.pdb_functions.specs.FunctionOrder.{Function as FunctionValue, function_cmp};
 ghost use Rattle.pdb_report.specs.Answer.{database, files};
-ghost use Rattle.pdb_report.specs.FileReport.{IsSizesByFile};
+ghost use Rattle.pdb_report.specs.SizesByFile.{IsSizesByFile};
 ghost use Rattle.pdb_report.specs.Isolation.{AreAlikeFor, IsIsolated};
 ghost use Rattle.pdb_loading.specs.Loading.{load_fault};
 ghost use Rattle.pdb_report.specs.SameReports.{HaveSameReports};

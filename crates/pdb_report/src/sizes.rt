@@ -5,7 +5,7 @@ ghost use Rattle.std.specs.Prelude.{IfOk};
 ghost use Rattle.pdb_addresses.specs.Addresses.{IsOrdered};
 ghost use Rattle.pdb_engine.specs.InputFaults.{IsOfWriting, OnWrite as OnInputWrite};
 ghost use Rattle.pdb_engine.specs.Watched.{CountsFailure, IsQuiet, Writes, WritesFront};
-ghost use Rattle.pdb_report.specs.FileReport.{IsSizesByFile, IsWithinFilePieces};
+ghost use Rattle.pdb_report.specs.SizesByFile.{IsSizesByFile, IsWithinFilePieces};
 ghost use Rattle.pdb_loading.specs.Loading.{load_fault};
 ghost use Rattle.pdb_loading.specs.LoadFaults.{IsFileFault};
 ghost use Rattle.pdb_report.specs.SizesReport.{AreWithinPieces, IsReportOn};

@@ -2,7 +2,7 @@
 
 ghost use Rattle.std.specs.Prelude.{◌≡◌, IfOk, OnOk, IfErr, IsOkUnless, None, Some};
 ghost use Rattle.pdb_addresses.specs.Addresses.{IsOrdered};
-ghost use Rattle.pdb_addr2line.specs.Failed.{no_failures};
+ghost use Rattle.pdb_addr2line.specs.FailingParts.{no_failures};
 ghost use Rattle.pdb_loading.specs.declared.load_fault.LoadFault.TheVariants as faults;
 ghost use Rattle.pdb_loading.specs.LoadFaults.{Refuses};
 ghost use Rattle.pdb_loading.specs.Loading.{load_fault};

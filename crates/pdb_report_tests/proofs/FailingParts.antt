@@ -16,9 +16,9 @@ use Rattle.pdb_frames.specs.Failing as parts
 use Rattle.pdb_frames.specs.Choice.{Parts, Chosen, Proc, Public, chosen, place_of, start_address, start_of, held_at}
 use Rattle.pdb_frames.specs.Scopes.{Scope}
 use Rattle.pdb_frames.specs.Failing.{Part, failing, failing_if_held}
-use Rattle.pdb_frames.specs.Failed.{failing_by, failing_first, failing_in, failing_of_chosen, failing_procedure, failing_sites}
-use Rattle.pdb_frames.specs.Frames.{calls_in, found_frames, frames, frames_at, frames_if_held, frames_in, frames_in_data, frames_of_chosen, row_and_calls}
-use Rattle.pdb_known_modules.specs.Modules.{ModuleData, ExtendedModule, extended_of, module_data, procedure_calls, procedures_in, sites_lifted}
+use Rattle.pdb_frames.specs.FailingParts.{failing_by, failing_first, failing_in, failing_of_chosen, failing_procedure, failing_sites}
+use Rattle.pdb_frames.specs.FramesAt.{calls_in, found_frames, frames, frames_at, frames_if_held, frames_in, frames_in_data, frames_of_chosen, row_and_calls}
+use Rattle.pdb_known_modules.specs.KnownModules.{ModuleData, ExtendedModule, extended_of, module_data, procedure_calls, procedures_in, sites_lifted}
 
 ok_is_not_err : {A : Type 0} {x : A} {e : Fault} → Ok x ≡ Err e → ⊥
 ok_is_not_err {A} {x} {e} h = cc

@@ -43,11 +43,11 @@ use Rattle.pdb_resolving.specs.Fault.{PdbError}
 use Rattle.pdb_type_sizes.specs.Reading.{type_in, type_at, id_in, id_at}
 use Rattle.pdb_type_text.specs.Ids.{visit_id}
 use Rattle.pdb_type_text.specs.Types.{visit}
-use Rattle.pdb_contributions.specs.Contributions.{held_by, held_of}
+use Rattle.pdb_contributions.specs.MergedContributions.{held_by, held_of}
 use Rattle.pdb_module_data.specs.Forest.{body_within, body}
 use Rattle.pdb_frames.specs.Parts.{parts_of}
-use Rattle.pdb_frames.specs.Frames.{frames_in_data, row_and_calls, frames_at, frames}
-use Rattle.pdb_known_modules.specs.Modules.{data_of_stream, extended_of, procedure_calls}
+use Rattle.pdb_frames.specs.FramesAt.{frames_in_data, row_and_calls, frames_at, frames}
+use Rattle.pdb_known_modules.specs.KnownModules.{data_of_stream, extended_of, procedure_calls}
 use Rattle.pdb_addr2line.specs.Loading.{tables as tables_read, listed as listed_read, Pdb, load_fault, loaded}
 use Rattle.pdb_report.specs.AddressText.{answer_text, line_text}
 use Rattle.pdb_report.specs.Answer.{scope, answer}

@@ -7,7 +7,7 @@ ghost use Rattle.pdb_frames.specs.Depth.{AreAsDeep};
 ghost use Rattle.pdb_frames.specs.Choice.{Parts};
 ghost use Rattle.pdb_frames.specs.Scopes.{Scope};
 ghost use Rattle.pdb_frames.specs.Failing.{failing};
-ghost use Rattle.pdb_frames.specs.Frames.{frames};
+ghost use Rattle.pdb_frames.specs.FramesAt.{frames};
 ghost use Rattle.pdb_report.specs.Answer.{answer, scope as scope_of};
 ghost use Rattle.pdb_addr2line.specs.Loading.{Loaded, loaded};
 ghost use Rattle.pdb_resolving.specs.Fault.{Fault};

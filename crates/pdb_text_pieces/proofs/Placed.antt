@@ -5,7 +5,7 @@ use Rattle.std.proofs.lemmas.List.Elements.{All-from_get_or}
 use Rattle.std.proofs.lemmas.Grind.{common_steps}
 use Rattle.std.specs.Prelude.{◌==◌}
 use Rattle.pdb_text_pieces.specs.Paths.{Path, is_on}
-use Rattle.pdb_text_pieces.specs.Places.{ArePlaced, is_placed}
+use Rattle.pdb_text_pieces.specs.PathPlaces.{ArePlaced, is_placed}
 
 -- what has no place is none of the path's indices
 is_other : (table : List ℕ) (path : Path) (i k : ℕ) → ArePlaced table path (length path)

@@ -6,7 +6,7 @@ pub mod Levels
 pub mod Names
 pub mod Objects
 pub mod Paths
-pub mod Places
+pub mod PathPlaces
 pub mod Pointers
 pub mod Printed
 pub mod Returns

@@ -3,7 +3,7 @@
 ghost use Rattle.std.specs.Prelude.{◌≡◌, ◌+◌, ◌<◌, ◌≤◌, ◌++◌, ◌∷◌, [], length, take};
 ghost use Rattle.std.specs.Prelude.{IfOk, OnErr, OnOk};
 ghost use Rattle.pdb_text_pieces.specs.Paths.{is_on, may_enter};
-ghost use Rattle.pdb_text_pieces.specs.Places.{ArePlaced, is_placed};
+ghost use Rattle.pdb_text_pieces.specs.PathPlaces.{ArePlaced, is_placed};
 
 use std::alloc::{AllocError, Global};
 use std::marker::Model;
@@ -76,7 +76,7 @@ pub struct IndexPath {
 
 impl Model for IndexPath {
     ghost use Rattle.pdb_text_pieces.specs.Paths.{Indices};
-    ghost use Rattle.pdb_text_pieces.specs.Places.{IsIndexed};
+    ghost use Rattle.pdb_text_pieces.specs.PathPlaces.{IsIndexed};
 
     ghost Value = { Indices };
 

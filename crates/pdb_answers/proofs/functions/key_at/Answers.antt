@@ -1,6 +1,6 @@
 use Rattle.std.proofs.Common.{◌≡◌, sym, ap}
 use Rattle.std.specs.Prelude.{None, Some, option_copied, slice_get}
-use Rattle.pdb_known_modules.specs.Modules.{procedures_in}
+use Rattle.pdb_known_modules.specs.KnownModules.{procedures_in}
 use Rattle.pdb_module_data.specs.Procedures.{over}
 use Rattle.pdb_answers.proofs.KeySteps.{by_place, numbered_none, over_as}
 use Rattle.pdb_answers.proofs.functions.key_at.Goals as goal

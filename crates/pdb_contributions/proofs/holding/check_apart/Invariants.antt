@@ -1,5 +1,5 @@
 use Rattle.std.proofs.Common.{◌≡◌, drop}
-use Rattle.pdb_contributions.specs.Contributions.{apart}
+use Rattle.pdb_contributions.specs.MergedContributions.{apart}
 use Rattle.pdb_contributions.proofs.ApartSteps.{apart_after}
 use Rattle.pdb_contributions.proofs.holding.check_apart.Given as goal
 

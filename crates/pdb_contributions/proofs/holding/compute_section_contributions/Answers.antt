@@ -1,6 +1,6 @@
 use Rattle.std.proofs.Common.{Ok, refl, sym, ap, ◌∙◌, arith}
 use Rattle.pdb_resolving.specs.Fault.{Fails}
-use Rattle.pdb_contributions.specs.Contributions.{held_of}
+use Rattle.pdb_contributions.specs.MergedContributions.{held_of}
 use Rattle.pdb_contributions.proofs.HeldSteps.{held_overlaps, held_apart}
 use Rattle.pdb_contributions.proofs.holding.compute_section_contributions.Goals as goal
 

@@ -1,6 +1,6 @@
 use Rattle.std.specs.Prelude.{◌≡◌, take, map}
 use Rattle.pdb_names.specs.Printing.{env_of}
-use Rattle.pdb_frames.specs.Frames.{call_frame}
+use Rattle.pdb_frames.specs.FramesAt.{call_frame}
 use Rattle.pdb_known_modules.specs.Seen.{extended_seen}
 use Rattle.pdb_frames.proofs.frames.call_frames.Given as goal
 

@@ -1,5 +1,5 @@
 use Rattle.std.proofs.Common.{◌≡◌, length, arith, subst}
-use Rattle.pdb_text_pieces.specs.Places.{ArePlaced}
+use Rattle.pdb_text_pieces.specs.PathPlaces.{ArePlaced}
 use Rattle.pdb_text_pieces.proofs.index_path.table_of.Goals as goal
 
 pub returns : goal.returns

@@ -1,5 +1,5 @@
 use Rattle.std.proofs.Common.{ap}
-use Rattle.pdb_frames.specs.Seen.{chosen_seen}
+use Rattle.pdb_frames.specs.ChosenSeen.{chosen_seen}
 use Rattle.pdb_answers.specs.declared.known_failures.Asked.{Asked}
 use Rattle.pdb_answers.specs.declared.known_failures.KnownFailure.{KnownFailure}
 use Rattle.pdb_answers.proofs.KnownSteps.{known_now}

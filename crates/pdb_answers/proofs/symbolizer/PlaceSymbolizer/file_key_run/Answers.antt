@@ -1,7 +1,7 @@
 use Rattle.std.proofs.Common.{[], None, Ok, sym, ap, ◌∙◌}
 use Rattle.pdb_addresses.specs.SectionRun.{up_to_next}
 use Rattle.pdb_answers.specs.Symbolizers.{scope_in}
-use Rattle.pdb_contributions.specs.Contributions.{holder}
+use Rattle.pdb_contributions.specs.MergedContributions.{holder}
 use Rattle.pdb_frames.proofs.FileRunLaw.{file_run_by_holder}
 use Rattle.pdb_frames.specs.NearBounds.{bounds_near}
 use Rattle.pdb_answers.proofs.FileKeySteps.{run_count, run_file}

@@ -3,9 +3,9 @@ use Rattle.pdb_answers.specs.KnownFailures.{data_of_modules}
 use Rattle.pdb_answers.specs.Symbolizers.{scope_in}
 use Rattle.pdb_answers.proofs.KeptSteps.{data_known, failures_on, kept_on}
 use Rattle.pdb_answers.proofs.ToldSteps.{told_chosen}
-use Rattle.pdb_frames.specs.Failed.{told}
+use Rattle.pdb_frames.specs.FailingParts.{told}
 use Rattle.pdb_frames.specs.Failing.{failing_at}
-use Rattle.pdb_frames.specs.Frames.{frames_at}
+use Rattle.pdb_frames.specs.FramesAt.{frames_at}
 use Rattle.pdb_functions.specs.Frames.{FunctionFrames}
 use Rattle.pdb_resolving.specs.Fault.{Answers, Fault}
 use Rattle.pdb_answers.proofs.symbolizer.PlaceSymbolizer.frames_at.Goals as goal

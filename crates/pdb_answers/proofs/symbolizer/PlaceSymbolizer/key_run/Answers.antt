@@ -1,7 +1,7 @@
 use Rattle.std.proofs.Common.{[], sym, ap, ◌∙◌, Some, None}
 use Rattle.pdb_addresses.specs.SectionRun.{up_to_next}
 use Rattle.pdb_answers.specs.Symbolizers.{scope_in}
-use Rattle.pdb_contributions.specs.Contributions.{holder}
+use Rattle.pdb_contributions.specs.MergedContributions.{holder}
 use Rattle.pdb_frames.proofs.RunLaw.{run_by_holder, run_if_ok}
 use Rattle.pdb_frames.specs.NearBounds.{bounds_near}
 use Rattle.pdb_answers.proofs.symbolizer.PlaceSymbolizer.key_run.Goals as goal

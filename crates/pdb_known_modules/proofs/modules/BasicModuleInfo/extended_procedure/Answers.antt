@@ -1,5 +1,5 @@
 use Rattle.std.proofs.Common.{ap, refl, subst}
-use Rattle.pdb_known_modules.specs.Modules.{ModuleData}
+use Rattle.pdb_known_modules.specs.KnownModules.{ModuleData}
 use Rattle.pdb_known_modules.specs.SubsectionRows.{AreRowsOfStream}
 use Rattle.pdb_known_modules.proofs.KeptProcedures.{lent_both}
 use Rattle.pdb_known_modules.proofs.modules.BasicModuleInfo.extended_procedure.Goals as goal

@@ -1,6 +1,6 @@
 use Rattle.std.proofs.Common.{◌≡◌, Some, sym, ap, subst, ◌∙◌}
 use Rattle.std.specs.Prelude.{slice_get, option_map}
-use Rattle.pdb_known_modules.specs.Modules.{ModuleData}
+use Rattle.pdb_known_modules.specs.KnownModules.{ModuleData}
 use Rattle.pdb_known_modules.specs.ProcedureData.{IsReadBy, IsOfProcedure}
 use Rattle.pdb_known_modules.proofs.KeptProcedures.{lent_of_held}
 use Rattle.pdb_known_modules.proofs.modules.BasicModuleInfo.kept_procedure.Goals as goal

@@ -1,5 +1,5 @@
 use Rattle.std.proofs.Common.{ap, subst}
-use Rattle.pdb_known_modules.specs.Modules.{ModuleData}
+use Rattle.pdb_known_modules.specs.KnownModules.{ModuleData}
 use Rattle.pdb_known_modules.specs.SubsectionRows.{AreRowsOfStream}
 use Rattle.pdb_known_modules.proofs.KeptRows.{lent_at}
 use Rattle.pdb_known_modules.proofs.modules.BasicModuleInfo.public_rows.Goals as goal

@@ -5,7 +5,7 @@ use Rattle.pdb_addresses.specs.declared.internal_section_offset.PdbInternalSecti
 use Rattle.pdb_lines.specs.LinesSubsections.{Program}
 use Rattle.pdb_lines.specs.LineRows.{subsection_numbered, subsections_for}
 use Rattle.pdb_module_data.specs.Procedures.{Procedure}
-use Rattle.pdb_known_modules.specs.Modules.{ModuleData}
+use Rattle.pdb_known_modules.specs.KnownModules.{ModuleData}
 use Rattle.pdb_known_modules.specs.ProcedureData.{IsOfStream}
 use Rattle.pdb_known_modules.specs.Seen.{extended_seen}
 use Rattle.pdb_known_modules.proofs.KeptProcedures.{of_held}

@@ -1,6 +1,6 @@
 use Rattle.std.proofs.Common.{◌≤◌, length}
 use Rattle.pdb_names.specs.ByModule.{kept_at}
-use Rattle.pdb_names.specs.Kept.{IsSameKept}
+use Rattle.pdb_names.specs.CachedNames.{IsSameKept}
 use Rattle.pdb_names.proofs.by_module.ByModule.reach.Given as goal
 
 abbrev pub invariant-loop : goal.invariant-loop

@@ -1,6 +1,6 @@
 use Rattle.std.proofs.Common.{◌≤◌, length}
 use Rattle.pdb_names.specs.ByNumber.{kept_at}
-use Rattle.pdb_names.specs.Kept.{IsSameKept}
+use Rattle.pdb_names.specs.CachedNames.{IsSameKept}
 use Rattle.pdb_names.proofs.by_number.ByNumber.reach.Given as goal
 
 abbrev pub invariant-loop : goal.invariant-loop

@@ -1,7 +1,7 @@
 -- The text of an answer to a request, in each style.
 use Rattle.std.specs.Prelude.{ℕ, Bool, ◌+◌, if◌then◌else◌, List, [], ◌∷◌, ◌++◌}
 use Rattle.std.specs.Prelude.{Option, None, Some, codes}
-use Rattle.pdb_llvm_texts.specs.Frames.{ReportedFrame}
+use Rattle.pdb_llvm_texts.specs.ReportedFrames.{ReportedFrame}
 use Rattle.pdb_llvm_texts.specs.Json.{frames_array, gap, key, string_member}
 use Rattle.pdb_llvm_texts.specs.Plain.{address_text, frames_text, plain_text}
 use Rattle.pdb_llvm_texts.specs.declared.options.Style.{Style}

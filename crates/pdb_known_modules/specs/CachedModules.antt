@@ -1,7 +1,7 @@
 -- What a context caches of modules that were asked for.
 use Rattle.std.specs.Prelude.{◌≡◌, ℕ, ◌≤◌, Bool, true, false, List, length, slice_get, Option}
 use Rattle.std.specs.Prelude.{None, Some}
-use Rattle.pdb_known_modules.specs.Modules.{ModuleData}
+use Rattle.pdb_known_modules.specs.KnownModules.{ModuleData}
 
 -- For each module a place, in which its data are cached once they were read. What is cached is the
 -- module's, and a module past all places has no data.

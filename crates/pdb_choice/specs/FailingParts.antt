@@ -12,8 +12,8 @@ use Rattle.pdb_resolving.specs.declared.error.Error.TheVariants as errors
 use Rattle.pdb_resolving.specs.Fault.{Fault, ExtendedModuleInfoUnsuccessful}
 use Rattle.pdb_resolving.specs.Fault.{ProcedureLinesUnsuccessful, ProcedureInlineRangesUnsuccessful}
 use Rattle.pdb_choice.specs.Choice.{Chosen, Proc, Public, start_of}
-use Rattle.pdb_known_modules.specs.Modules.{ModuleData, ExtendedModule, extended_of}
-use Rattle.pdb_known_modules.specs.Modules.{procedure_sites}
+use Rattle.pdb_known_modules.specs.KnownModules.{ModuleData, ExtendedModule, extended_of}
+use Rattle.pdb_known_modules.specs.KnownModules.{procedure_sites}
 
 -- ---- what is reported of a part that fails
 
