@@ -352,7 +352,7 @@ def main():
                 arguments = ["frames", file.name]
                 if case is paths_of_rows:
                     whole = f"{addresses[0]:x}", f"{addresses[-1] + 16:x}"
-                    arguments = ["sizes", "--by-file", file.name, *whole]
+                    arguments, addresses = ["sizes", "--by-file", file.name, *whole], []
                 ended, seconds, memory = measured(words[0], arguments, addresses, limit)
             row = [case.__doc__, f"{len(data) / 1e6:.2f}", f"{len(addresses):,}"]
             row += [f"{seconds:.2f}", f"{memory:.0f}", ended]

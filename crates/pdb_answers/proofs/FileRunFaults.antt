@@ -8,8 +8,7 @@ use Rattle.pdb_frames.specs.Choice.{Chosen, Proc, Public}
 use Rattle.pdb_frames.specs.FailingParts.{failing_by, failing_first, failing_in, failing_procedure}
 use Rattle.pdb_frames.specs.FailingParts.{failing_sites}
 use Rattle.pdb_frames.specs.Failing.{Part, ProcedureLines, ProcedureInlineRanges}
-use Rattle.pdb_frames.specs.FileRuns.{file_run_in, file_run_of, rows_in, run_by_rows}
-use Rattle.pdb_frames.specs.FileRuns.{run_reported}
+use Rattle.pdb_frames.specs.FileRuns.{file_run_in, file_run_of, rows_in, run_by_rows, run_reported}
 use Rattle.pdb_functions.specs.declared.file_key.FileKey.{FileKey}
 use Rattle.pdb_functions.specs.declared.file_key.FileKey.TheVariants as keys
 use Rattle.pdb_known_modules.specs.KnownModules.{ModuleData, ExtendedModule, extended_of}

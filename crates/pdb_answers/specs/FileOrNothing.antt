@@ -1,4 +1,4 @@
--- A file that may be counted.
+-- A file, or nothing where none is counted.
 use Rattle.std.specs.Prelude.{Option, None, Some}
 use Rattle.pdb_functions.specs.FileAnswers.{FileAnswer, Nothing}
 

@@ -2,8 +2,8 @@ pub mod FileOrNothing
 pub mod KnownFailures
 pub mod Symbolizers
 pub use Rattle.pdb_frames.specs.Choice
-pub use Rattle.pdb_frames.specs.FailingParts
 pub use Rattle.pdb_frames.specs.Failing
+pub use Rattle.pdb_frames.specs.FailingParts
 pub use Rattle.pdb_frames.specs.Files
 pub use Rattle.pdb_frames.specs.FramesAt
 pub use Rattle.pdb_frames.specs.Keys

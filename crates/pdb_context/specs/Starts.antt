@@ -43,7 +43,7 @@ pub record IsAscending (numbers ascending : List ℕ) : Type 0 where
   pub rising : IsStrictlySortedBy nat_cmp ascending
   pub same : (n : ℕ) → is_among ascending n ≡ is_among numbers n
 
--- the numbers that are kept, if they are, are the same in ascending order, each once
+-- the numbers that are cached, if they are, are the same in ascending order, each once
 abbrev pub AreStarts : List ℕ → Option (List ℕ) → Type 0
 AreStarts numbers None = Unit {0}
 AreStarts numbers (Some starts) = IsAscending numbers starts

@@ -52,7 +52,7 @@ impl<'a, 's, P: ModuleProvider> Model for Context<'a, 's, P> {
       failed = c.symbolizer.failed;
     } };
 
-    // The starts that are kept are those of the file's functions.
+    // The starts that are cached are those of the file's functions.
     ghost invariant = { λ c.
         AreStarts
         (start_addresses c.symbolizer.parts

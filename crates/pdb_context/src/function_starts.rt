@@ -154,8 +154,8 @@ fn copied(alloc: Global, numbers: &Vec<u32>) -> Result<Vec<u32>, AllocError>
     Ok(copy)
 }
 
-/// The distinct RVAs at which functions begin, in ascending order: those that are kept, or else
-/// they are found and kept. Nothing is kept where memory is short.
+/// The distinct RVAs at which functions begin, in ascending order: those that are cached, or
+/// else they are found and cached. Nothing is cached where memory is short.
 pub fn kept_starts<P: ModuleProvider>(
     alloc: Global,
     kept: &mut Option<Vec<u32>>,

@@ -99,7 +99,7 @@ impl<'c, 'a, 's, P: ModuleProvider> Iterator for FunctionIter<'c, 'a, 's, P> {
 
 impl<'a, 's, P: ModuleProvider> Context<'a, 's, P> {
     /// A copy of the distinct RVAs at which functions begin, in ascending order; they are found
-    /// once and kept. The context answers as before, also after an error.
+    /// once and cached. The context answers as before, also after an error.
     ///
     /// # Errors
     /// `OutOfMemory` alone.
@@ -122,7 +122,7 @@ impl<'a, 's, P: ModuleProvider> Context<'a, 's, P> {
     /// The functions of the file: [`Context::find_function`] of each distinct RVA at which an entry
     /// of the public list or a procedure of any module begins, in ascending order, where it finds
     /// one. A module whose symbols can't be read has no procedures here. Where they begin is found
-    /// once and kept.
+    /// once and cached.
     ///
     /// # Errors
     /// `OutOfMemory` alone.

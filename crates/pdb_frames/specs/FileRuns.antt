@@ -13,8 +13,8 @@ use Rattle.pdb_frames.specs.Files.{row_key}
 use Rattle.pdb_frames.specs.Scopes.{Scope}
 use Rattle.pdb_functions.specs.declared.file_key.FileKey.{FileKey}
 use Rattle.pdb_functions.specs.declared.file_key.FileKey.TheVariants as keys
-use Rattle.pdb_known_modules.specs.KnownModules.{ModuleData, ExtendedModule, module_data}
-use Rattle.pdb_known_modules.specs.KnownModules.{procedures_in, extended_of, extended_procedure_of}
+use Rattle.pdb_known_modules.specs.KnownModules.{ModuleData, extended_of, extended_procedure_of}
+use Rattle.pdb_known_modules.specs.KnownModules.{module_data, procedures_in}
 use Rattle.pdb_lines.specs.LinesSubsections.{Program}
 use Rattle.pdb_module_data.specs.FunctionLine.{function_rows, row_at, row_starts}
 use Rattle.pdb_module_data.specs.declared.function_rows.LineRow.{LineRow}

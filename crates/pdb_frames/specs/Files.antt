@@ -116,8 +116,8 @@ files_of p scope = record {
 
 -- ---- keys of files
 
--- the file with a name at an offset in the string table; it isn't known where there is no table
--- or no such name
+-- the file with a name at an offset in the string table; not known where there is no table or no
+-- such name
 abbrev pub file_named : Parts → ℕ → FileAnswer
 file_named p offset =
     file_or_none (option_and_then (λ names. if_read (text_in names offset)) p.names)
@@ -132,12 +132,12 @@ file_by p (keys.Name offset) = Some (file_named p offset)
 abbrev pub files_keyed : Parts → (ℕ → Scope) → Keyed FileKey FileAnswer
 files_keyed p scope = record { answer_of = file_by p; places = files_of p scope }
 
--- the key of a file among a module's checksums, if it can be read
+-- the key of an entry among a module's checksums; no file is known where it can't be read
 abbrev pub entry_key : Result checksums.File container.Fault → FileKey
 entry_key (Ok file) = keys.Name file.name
 entry_key (Err e) = keys.NoFile
 
--- the key of a row's file, by the row's module
+-- the key of a row's file, by its module's line program; no file is known without a row
 abbrev pub row_key : Program → Option LineRow → FileKey
 row_key program None = keys.NoFile
 row_key program (Some row) = entry_key (checksums.file_in program.files (row.file_index).0)

@@ -8,9 +8,9 @@ pub mod Keys
 pub mod Runs
 pub mod Scopes
 pub use Rattle.pdb_choice.specs.Choice
+pub use Rattle.pdb_choice.specs.ChosenSeen
 pub use Rattle.pdb_choice.specs.FailingParts
 pub use Rattle.pdb_choice.specs.NearBounds
 pub use Rattle.pdb_choice.specs.Parts
-pub use Rattle.pdb_choice.specs.ChosenSeen
 pub use Rattle.pdb_names.specs.MaybeOwned
 pub use Rattle.pdb_names.specs.Printing

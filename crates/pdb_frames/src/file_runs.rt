@@ -168,8 +168,8 @@ pub fn file_run_in<I: ModuleTables>(
     }
 }
 
-/// Returns the file whose name is at an offset in the string table; `NoFile` where there is no
-/// such name.
+/// Returns the file whose name is at an offset in the string table; `NoFile` where there is no such
+/// name.
 ///
 /// # Errors
 /// [`AllocError`] where memory is refused.

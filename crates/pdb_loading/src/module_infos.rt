@@ -28,7 +28,7 @@ pub type KeptInfo<'s> = std::result::Result<Option<ModuleInfo<'s>>, ModuleFault>
 #[derive(Drop)]
 pub struct KeptModules<'s> {
     infos: Vec<KeptInfo<'s>>,
-    /// At most how many bytes the database has.
+    /// An upper bound of the database's size, in bytes.
     database_size: u64,
 }
 
@@ -42,8 +42,7 @@ impl<'s> Model for KeptModules<'s> {
 }
 
 impl<'s> KeptModules<'s> {
-    /// The modules of these streams, in a database of at most so many bytes
-    /// ([`PDB::size_hint`]).
+    /// The modules of these streams, in a database of at most so many bytes ([`PDB::size_hint`]).
     pub fn new(infos: Vec<KeptInfo<'s>>, database_size: u64) -> KeptModules<'s>
         ensures { result ≡ infos.entry.items }
     {

@@ -1,7 +1,7 @@
 pub mod ByModule
 pub mod ByNumber
-pub mod InlineNames
 pub mod CachedNames
+pub mod InlineNames
 pub mod MaybeOwned
 pub mod StoredNames
 pub mod TypedNames

@@ -26,7 +26,7 @@ use Rattle.pdb_addr2line.specs.Held.{given, names_in}
 use Rattle.pdb_addr2line.specs.ModuleInfos.{KeptInfo, answered_at}
 use Rattle.pdb_loading.specs.Loading.{LoadingFault, Loaded, loaded}
 
--- what a file gives of the module of a number, whatever its entry; a fault says that it was kept
+-- what a file gives of the module of a number, whatever its entry; a fault says that it was stored
 abbrev pub given_in : Streams → Provided
 given_in s number entry = given s number
 

@@ -1,7 +1,7 @@
 pub mod Answer
-pub mod SizesByFile
 pub mod Isolation
 pub mod SameReports
+pub mod SizesByFile
 pub mod SizesReport
 pub use Rattle.pdb_report_texts.specs.AddressText
 pub use Rattle.pdb_loading.specs.LoadFaults

@@ -10,9 +10,8 @@ ghost use Rattle.pdb_loading.specs.Loading.{load_fault};
 ghost use Rattle.pdb_loading.specs.LoadFaults.{IsFileFault};
 ghost use Rattle.pdb_report.specs.SizesReport.{AreWithinPieces, IsReportOn};
 ghost use Rattle.pdb_report.specs.SizesReport.{IsSizesReport, IsWithinPieces};
-ghost use Rattle.pdb_report_texts.specs.RunFaults.{OnLoad, OnMemory, OnReversed, OnWrite};
-ghost use Rattle.pdb_report_texts.specs.RunFaults.{OnCounted};
-ghost use Rattle.pdb_report_texts.specs.RunFaults.{UnlessLoad, IsOfSizes};
+ghost use Rattle.pdb_report_texts.specs.RunFaults.{IsOfSizes, OnCounted, OnLoad, OnMemory};
+ghost use Rattle.pdb_report_texts.specs.RunFaults.{OnReversed, OnWrite, UnlessLoad};
 ghost use Rattle.pdb_functions.specs.Counts.{pieces};
 ghost use Rattle.pdb_symbols_modules.specs.Streams.{streams};
 

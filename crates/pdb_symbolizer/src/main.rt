@@ -15,7 +15,7 @@ use std::rt::Env;
 use std::{env, fs};
 
 /// The text that is reported if an argument isn't UTF-8.
-const NO_TEXT: &str = "error: invalid UTF-8 was detected in one or more arguments\n\n\
+const NOT_UTF8: &str = "error: invalid UTF-8 was detected in one or more arguments\n\n\
     Usage: pdb_symbolizer <COMMAND>\n\nFor more information, try '--help'.\n";
 
 fn main(rt: HostRuntime) -> ExitCode {
@@ -25,7 +25,7 @@ fn main(rt: HostRuntime) -> ExitCode {
         Err(error) if error.kind() == ErrorKind::OutOfMemory => {
             return told(&mut errors, "fault: OutOfMemory\n", 1);
         }
-        Err(_) => return told(&mut errors, NO_TEXT, 2),
+        Err(_) => return told(&mut errors, NOT_UTF8, 2),
     };
     let task = match read_words(rt.alloc(), words.as_slice()) {
         Ok(task) => task,
@@ -83,7 +83,7 @@ fn bytes_of(rt: &(impl fs::Files + AllocGlobal), file: &str) -> io::Result<Vec<u
 /// The arguments after the program's name.
 ///
 /// # Errors
-/// `OutOfMemory`, and another kind where an argument is no text.
+/// `OutOfMemory`, and another kind where an argument isn't UTF-8.
 fn given_words(rt: &(impl Env + AllocGlobal)) -> io::Result<Vec<String>> {
     let mut words = Vec::new(rt.alloc());
     for word in env::args(rt)?.skip(1) {

@@ -38,6 +38,10 @@ impl ModuleProvider for CountingProvider {
         self.inner.get_module_info(module_index, module)
     }
 
+    fn size_hint(&self) -> u64 {
+        self.inner.size_hint()
+    }
+
     ghost faults_of_modules = { λ c number entry. faults_kept c.inner.infos number };
 }
 
