@@ -66,13 +66,13 @@ pub enum Error {
     NotACrossModuleRef(u32),
     /// The index of a type or an id that the module's imports lack.
     CrossModuleRefNotFound(u32),
-    /// The fault of a module's stream, which was kept when the module was read.
+    /// The fault of a module's stream, which was stored when the module was read.
     Kept(ModuleFault),
     /// Out of memory.
     OutOfMemory,
 }
 
-/// Why a module's stream can't be read, as it is kept for later calls.
+/// Why a module's stream can't be read, as it is stored for later calls.
 #[derive(Clone, Copy, PartialEq, Eq)]
 pub enum ModuleFault {
     /// The number of a stream that the MSF directory doesn't have.
@@ -114,7 +114,7 @@ enum Values {
     Numbers(u32, u32),
     /// A text.
     Text(&'static str),
-    /// A fault that is kept.
+    /// A fault that is stored.
     Fault(ModuleFault),
 }
 
@@ -265,7 +265,7 @@ impl From<ModuleFault> for Error {
     }
 }
 
-/// The fault of a module's stream, as it is kept. Out of memory, and whatever else is no fault of a
+/// The fault of a module's stream, as it is stored. Out of memory, and whatever else is no fault of a
 /// stream, stays an error.
 impl TryFrom<Error> for ModuleFault {
     type Error = Error;

@@ -211,8 +211,8 @@ fn read_numbers<S: Source>(source: &mut S, alloc: Global, header: &Header) -> Re
     }
 }
 
-/// The directory, or its fault, to be kept. `OutOfMemory`, and `IoError` where the source failed,
-/// are not kept.
+/// The directory, or its fault, to be stored. `OutOfMemory`, and `IoError` where the source failed,
+/// aren't stored.
 #[tactic(auto, using(crate::proofs::Outside::outside_alone, crate::proofs::Outside::outside_earlier, crate::proofs::Outside::outside_later))]
 fn read_directory<S: Source>(
     source: &mut S,
@@ -281,7 +281,7 @@ fn read_stream<S: Source>(
     }
 }
 
-/// The first bytes of a stream, where no directory is kept: it is read anew and kept.
+/// The first bytes of a stream, where no directory is stored: it is read anew and stored.
 #[tactic(auto, using(crate::proofs::Outside::outside_alone, crate::proofs::Outside::outside_earlier, crate::proofs::Outside::outside_later), unfolding(crate::specs::Container::stream_in))]
 fn read_anew<S: Source>(
     source: &mut S,
@@ -472,7 +472,8 @@ impl<'s, S: Source> Msf<'s, S> for BigMSF<'s, S> {
 }
 
 impl<'s, S: Source> BigMSF<'s, S> {
-    /// At most how many bytes the container has, as its source knows it ([`Source::size_hint`]).
+    /// An upper bound of the container's size, in bytes, as its source knows it
+    /// ([`Source::size_hint`]).
     pub fn size_hint(&self) -> u64
         ensures { (length (S.bytes self.now) ≤ result) ⊎ (result ≡ 2 ^ 64 - 1) }
     {

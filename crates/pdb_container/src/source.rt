@@ -87,8 +87,9 @@ pub trait Source {
     fn failures(&self) -> u64
         ensures { result ≡ failures self.now };
 
-    /// At most how many bytes there are, or `u64::MAX` where that isn't known. No answer depends on
-    /// it: it bounds what is cached of a file whose streams name the same pages over and over.
+    /// An upper bound of the source's size, in bytes; `u64::MAX` where none is known. No answer
+    /// depends on it: it bounds what is cached of a file whose streams list the same pages over and
+    /// over. A source that wraps another one passes the question on.
     fn size_hint(&self) -> u64
         ensures { (length (bytes self.now) ≤ result) ⊎ (result ≡ 2 ^ 64 - 1) }
     {

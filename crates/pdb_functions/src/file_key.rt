@@ -11,13 +11,13 @@ use crate::answer::Answer;
 use std::cmp::Ordering;
 
 /// What tells the files of addresses apart, without their names. Several keys may stand for the
-/// same file: the string table may hold a name more than once, and part of one is one too.
+/// same file: the string table may hold a name more than once, and the end of a name is a name.
 #[derive(Clone, Copy, Debug)]
 pub enum FileKey {
     /// There is a function whose frames can't be read.
     Unreadable,
-    /// There are frames, and no row whose file has an entry among its module's checksums
-    /// (`DEBUG_S_FILECHKSMS`), so that the function's file isn't known.
+    /// There are frames, and no row, or the row's file has no entry among its module's checksums
+    /// (`DEBUG_S_FILECHKSMS`): the file isn't known.
     NoFile,
     /// A file by the offset of its name in the string table (`/names`), in bytes.
     Name(u32),

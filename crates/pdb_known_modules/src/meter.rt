@@ -10,8 +10,9 @@ use std::collections::BTreeSet;
 /// How many bytes may be cached whatever the modules are: 64 MB.
 const ALLOWED: u64 = 64 << 20;
 
-/// How many more bytes may be cached for each byte of the symbols and lines that were read, and in
-/// all for each byte of the database, in which streams may name the same pages over and over.
+/// How many more bytes may be cached for each byte of the symbols and lines that were read. In all
+/// it is no more than this for each byte of the database, whose streams may list the same pages over
+/// and over.
 const FOR_EACH_BYTE: u64 = 4;
 
 /// Counts the bytes that are cached of modules.
@@ -22,16 +23,16 @@ pub struct Meter {
     /// The most that one part takes: a part is cached whatever its size, and for its size alone
     /// nothing is forgotten.
     greatest: u64,
-    /// How many may be cached besides.
+    /// How many may be cached besides that part. It grows with the symbols and lines that were read.
     allowed: u64,
-    /// How many may be cached besides at most.
+    /// The most that `allowed` grows to.
     most_allowed: u64,
     /// The numbers of the streams whose symbols were counted.
     streams: BTreeSet<u16>,
 }
 
 impl Meter {
-    /// Nothing is cached of a database of at most so many bytes.
+    /// A meter for a database of at most so many bytes, of which nothing is cached yet.
     pub fn new(alloc: Global, database_size: u64) -> Meter {
         let for_database = database_size.saturating_mul(FOR_EACH_BYTE);
         Meter {

@@ -88,9 +88,9 @@ pub trait ModuleProvider {
         ensures { Parses (option_map (λ info. Self.Info.held info.now)) result
             (provided self.now module_index «module».now) };
 
-    /// At most how many bytes the database of the modules has, or `u64::MAX` where that isn't
+    /// An upper bound of the size of the modules' database, in bytes; `u64::MAX` where none is
     /// known. No answer depends on it: what is cached of modules is forgotten past 64 MB and four
-    /// times this size.
+    /// times this size. A provider that wraps another one passes the question on.
     fn size_hint(&self) -> u64 {
         u64::MAX
     }

@@ -66,7 +66,7 @@ impl<'s, S: Source + Drop> PDB<'s, S> {
         Ok(PDB { container })
     }
 
-    /// At most how many bytes the database has, or `u64::MAX` where its source doesn't know
+    /// An upper bound of the database's size, in bytes; `u64::MAX` where its source knows none
     /// ([`Source::size_hint`]).
     pub fn size_hint(&self) -> u64
         ensures { (length (S.bytes self.now) ≤ result) ⊎ (result ≡ 2 ^ 64 - 1) }
