@@ -3,7 +3,8 @@
 # each request for memory of the proved programs refused in turn (tests/refused_requests), the
 # commands of README.md, docs/GUIDE.md and CONTRIBUTING.md as they stand (tests/commands.sh), the
 # manual page (tests/manual.sh), pdb_llvm_symbolizer beside llvm-symbolizer
-# (tests/llvm_symbolizer.sh), and the deepest nests of types within 4 MB of stack (tests/stack.py).
+# (tests/llvm_symbolizer.sh), the deepest nests of types within 4 MB of stack (tests/stack.py), and
+# files built to cost much within README's limits (tests/costly_files.py).
 # It fails where one fails; the last line counts all.
 set -u
 cd "$(dirname "$0")"
@@ -41,6 +42,7 @@ count tests/commands.sh
 count tests/manual.sh
 count tests/llvm_symbolizer.sh
 count python3 tests/stack.py
+count python3 tests/costly_files.py
 tests/version.sh || { failed=$((failed + 1)); status=1; }
 echo "$passed passed, $failed failed"
 exit "$status"

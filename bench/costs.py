@@ -315,14 +315,22 @@ CASES = [
 ]
 
 
+def asked(case, file, addresses):
+    """The program's arguments for a case's file, and the addresses that it reads."""
+    if case is paths_of_rows:
+        whole = f"{addresses[0]:x}", f"{addresses[-1] + 16:x}"
+        return ["sizes", "--by-file", file, *whole], []
+    return ["frames", file], addresses
+
+
 def measured(program, arguments, addresses, limit):
     """Status, processor seconds and megabytes of one run."""
-    asked = "".join(f"{it:x}\n" for it in addresses).encode()
+    lines = "".join(f"{it:x}\n" for it in addresses).encode()
     before = lambda: resource.setrlimit(resource.RLIMIT_CPU, (limit, limit))
     how = {"stdin": subprocess.PIPE, "stdout": subprocess.DEVNULL, "stderr": subprocess.PIPE}
     ran = subprocess.Popen([program, *arguments], preexec_fn=before, **how)
     try:
-        ran.stdin.write(asked)
+        ran.stdin.write(lines)
         ran.stdin.close()
     except BrokenPipeError:
         pass  # (it ended before it read all)
@@ -349,10 +357,7 @@ def main():
                 file.flush()
                 if case is long_tail:
                     file.truncate(2_000_000_000)
-                arguments = ["frames", file.name]
-                if case is paths_of_rows:
-                    whole = f"{addresses[0]:x}", f"{addresses[-1] + 16:x}"
-                    arguments, addresses = ["sizes", "--by-file", file.name, *whole], []
+                arguments, addresses = asked(case, file.name, addresses)
                 ended, seconds, memory = measured(words[0], arguments, addresses, limit)
             row = [case.__doc__, f"{len(data) / 1e6:.2f}", f"{len(addresses):,}"]
             row += [f"{seconds:.2f}", f"{memory:.0f}", ended]

@@ -265,8 +265,8 @@ impl From<ModuleFault> for Error {
     }
 }
 
-/// The fault of a module's stream, as it is stored. Out of memory, and whatever else is no fault of a
-/// stream, stays an error.
+/// The fault of a module's stream, as it is stored. Out of memory, and whatever else is no fault of
+/// a stream, stays an error.
 impl TryFrom<Error> for ModuleFault {
     type Error = Error;
 

@@ -70,9 +70,9 @@ pub fn equal_texts_hash_alike()
         ≡ ⟦<RawString<'static> as Hash>⟧.hash_input b }
 {}
 
-/// Offsets of names, slices and stored faults are equal exactly where they are one and the same, and
-/// errors where they say the same fault, or both that memory ran out: `==` leaves out no part of
-/// them. Offsets come in the order of their numbers.
+/// Offsets of names, slices and stored faults are equal exactly where they are one and the same,
+/// and errors where they say the same fault, or both that memory ran out: `==` leaves out no part
+/// of them. Offsets come in the order of their numbers.
 pub fn equal_values_are_one()
     ensures offsets { (a b : Offset) → (⟦<StringRef as PartialEq>⟧.eq a b ≡ true) ↔ (a ≡ b) }
     ensures order { (a b : Offset) → ⟦<StringRef as Ord>⟧.cmp a b ≡ nat_cmp a.0 b.0 }

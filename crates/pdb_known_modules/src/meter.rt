@@ -11,8 +11,8 @@ use std::collections::BTreeSet;
 const ALLOWED: u64 = 64 << 20;
 
 /// How many more bytes may be cached for each byte of the symbols and lines that were read. In all
-/// it is no more than this for each byte of the database, whose streams may list the same pages over
-/// and over.
+/// it is no more than this for each byte of the database, whose streams may list the same pages
+/// over and over.
 const FOR_EACH_BYTE: u64 = 4;
 
 /// Counts the bytes that are cached of modules.
@@ -23,7 +23,8 @@ pub struct Meter {
     /// The most that one part takes: a part is cached whatever its size, and for its size alone
     /// nothing is forgotten.
     greatest: u64,
-    /// How many may be cached besides that part. It grows with the symbols and lines that were read.
+    /// How many may be cached besides that part. It grows with the symbols and lines that were
+    /// read.
     allowed: u64,
     /// The most that `allowed` grows to.
     most_allowed: u64,
