@@ -11,8 +11,8 @@ Of a case, the Nth request is refused in the Nth of as many runs as there are re
 - `pdb_llvm_symbolizer`, on the cases of tests/llvm_symbolizer: such a run ends with status 1 and says so on standard error, and
   what is out is a prefix. For such runs as go on exceptions.txt has the reason too.
 - `recorded_reads`, on recorded reads of records, streams and tables: the call that finds no memory says so, and is made again.
-- `ask_again`, on the files of the same rows and on the recorded texts: the call that finds no memory says so, and the same
-  context or formatter then answers it, and all other questions of its file, as if nothing was refused.
+- `recorded_cases again`, on the files of the same rows and on the recorded texts: the call that finds no memory says so, and the
+  same context or formatter then answers it, and all other questions of its file, as if nothing was refused.
 
 CASE is the name of a case; without one all are swept. It prints how many requests of each function were refused. The last line is
 `N passed, M failed`, in cases. FILE is where a program lies, with NAME for its name. A C compiler is needed (Debian: gcc).
@@ -38,6 +38,8 @@ GREATEST = 100_000
 LONGEST = 1_000
 # Recorded texts that ask a context several times, which the program itself does here, and comments.
 LEFT_OUT = ("#", "all_again", "each_again", "file_run_again", "forgotten", "prefixes")
+# Recorded texts of formatters; all others are of contexts.
+FORMATTED = ("function", "unnamed", "emitted", "id", "emitted_id", "size")
 
 
 # Recorded cases
@@ -123,7 +125,7 @@ def recorded_texts():
             if not answer or words.startswith(LEFT_OUT):
                 continue
             word, database, module, flags, index = words.split()
-            kind = "formatter" if word in ("function", "unnamed", "id", "size") else "context"
+            kind = "formatter" if word in FORMATTED else "context"
             texts[database, flags, kind][f"{word} {module} {index}"] = answer
     return texts
 
@@ -180,19 +182,24 @@ class Read(Repeating):
     program, folder, wanted, least = "recorded_reads", READS, (0, b"1 reads\n", b""), 0
 
 
-class Asked(Repeating):
-    """A run of ask_again, with the recorded answers by their questions."""
+def unshared(text):
+    """The text of frames with shared names as that of their copy, which says the same."""
+    return text.replace("Shared", "")
 
-    program = "ask_again"
+
+class Asked(Repeating):
+    """A run of `recorded_cases again`, with the recorded answers by their questions."""
+
+    program = "recorded_cases"
 
     def __init__(self, name, words, answers):
-        super().__init__(name, words)
-        self.answers = answers
+        super().__init__(name, ["again", *words])
+        self.answers = {question: unshared(answer) for question, answer in answers.items()}
 
     def differs(self, came):
         """A fault is reported as another one where its part failed before."""
         for line in came[1].decode().splitlines():
-            question, _, answer = line.replace("Shared", "").partition(" => ")
+            question, _, answer = unshared(line).partition(" => ")
             recorded = self.answers.get(question, answer)
             if recorded != answer and not (recorded.startswith("fault") and answer.startswith("fault")):
                 return f"{line}, and not {recorded}"

@@ -1,4 +1,6 @@
-//! Goes through recorded cases: `recorded_cases reports FILE.. texts FILE..`.
+//! Goes through recorded cases: `recorded_cases reports FILE.. texts FILE..`. Or asks about a
+//! database again, where a call finds no memory: `recorded_cases again KIND DATABASE FLAGS FILE`,
+//! as `again.rt` describes.
 //!
 //! The cases of a FILE after the argument `reports` are of reports, in the form that `reports.rt`
 //! describes. Those of a FILE after `texts` are of formatters and contexts, in the form that
@@ -8,6 +10,7 @@
 //! kind.
 #![tactic(auto)]
 
+mod again;
 mod reports;
 mod texts;
 
@@ -79,16 +82,34 @@ fn take_word(
     }
 }
 
-fn main(rt: HostRuntime) -> Result<()> {
+/// Returns the program's arguments.
+fn words_of(rt: &(impl Env + AllocGlobal)) -> Result<Vec<String>> {
+    let mut words = Vec::new(rt.alloc());
+    for word in env::args(rt)?.skip(1) {
+        words.push(word)?;
+    }
+    Ok(words)
+}
+
+/// Goes through the cases that the arguments name, and prints how many there are.
+fn run_cases(rt: &(impl Files + Print + AllocGlobal), words: &[String]) -> Result<()> {
     let mut progress = Progress {
         kind: Kind::Reports,
         reports: 0,
         texts: 0,
     };
-    for word in env::args(&rt)?.skip(1) {
-        take_word(&rt, &mut progress, word.as_str())?;
+    for word in words {
+        take_word(rt, &mut progress, word.as_str())?;
     }
     let (reports, texts) = (progress.reports, progress.texts);
     println!(rt; "{reports} reports, {texts} texts")?;
     Ok(())
+}
+
+fn main(rt: HostRuntime) -> Result<()> {
+    let words = words_of(&rt)?;
+    match words.first() {
+        Some(word) if word.as_str() == "again" => again::run(&rt, &words),
+        _ => run_cases(&rt, &words),
+    }
 }

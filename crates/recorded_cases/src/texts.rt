@@ -5,12 +5,14 @@
 //! hexadecimal. After it stands the answer that must come, or `fault: ` and the fault. What is
 //! asked:
 //!
-//! - `function`: the signature of a function `f` whose type has that index
+//! - `function`, `emitted`: the signature of a function `f` whose type has that index, returned or
+//!   written to a writer
 //! - `unnamed`: the signature of a function without a name whose type has that index
-//! - `id`: the text of the id with that index
+//! - `id`, `emitted_id`: the text of the id with that index, returned or written to a writer
 //! - `size`: the size in bytes of the type with that index
 //! - `function_at`: the function at that RVA, as its copy
 //! - `frames_at`: the frames at that RVA, as their copy
+//! - `shared_at`: the frames at that RVA, with shared names
 //! - `run_from`: the function at that offset of section 1, over how many bytes up to 256 it stays
 //!   the same, and how many places were looked up for that
 //! - `file_run_from`: the source file at that offset of section 1, over how many bytes up to 256 it
@@ -31,12 +33,12 @@
 //! A case whose answer isn't as recorded is printed.
 
 mod calls;
-mod contexts;
+pub mod contexts;
 mod each_address;
 mod forgotten;
-mod formatters;
+pub mod formatters;
 mod prefixes;
-mod question;
+pub mod question;
 
 use crate::reports::database::database_bytes;
 use anyhow::Result;
@@ -78,7 +80,10 @@ fn run_case(rt: &(impl Files + Print + AllocGlobal), words: &str, wanted: &str) 
 }
 
 /// Returns the text of an answer, or its fault after `fault: `.
-fn told(alloc: Global, answer: Result<String, Error>) -> Result<String, AllocError> {
+///
+/// # Errors
+/// Out of memory.
+pub fn told(alloc: Global, answer: Result<String, Error>) -> Result<String, AllocError> {
     match answer {
         Ok(text) => Ok(text),
         Err(fault) => format!(in alloc; "fault: {fault}"),
@@ -103,9 +108,12 @@ fn ask(alloc: Global, bytes: Vec<u8>, question: &Question<'_>) -> Result<String,
 /// Answers a question by the data that were read of a database.
 fn ask_over(alloc: Global, data: &Data, question: &Question<'_>) -> Result<String, Error> {
     match question.asked {
-        Asked::Function | Asked::Unnamed | Asked::Id | Asked::Size => {
-            formatters::ask(alloc, data, question)
-        }
+        Asked::Function
+        | Asked::Unnamed
+        | Asked::Emitted
+        | Asked::Id
+        | Asked::EmittedId
+        | Asked::Size => formatters::ask(alloc, data, question),
         _ => contexts::ask(alloc, data, question),
     }
 }

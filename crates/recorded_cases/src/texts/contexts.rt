@@ -85,8 +85,21 @@ pub fn frames_text<P: ModuleProvider>(
     told(alloc, copied_frames(alloc, found))
 }
 
-/// Answers a question by a context that wasn't asked before.
-fn answer_by<P: ModuleProvider>(
+/// Returns the frames that a context finds at an address, with shared names.
+fn shared_text<P: ModuleProvider>(
+    alloc: Global,
+    context: &mut Context<'_, '_, P>,
+    address: u32,
+) -> Result<String, Error> {
+    let found = context.find_shared_frames(alloc, address);
+    told(alloc, found)
+}
+
+/// Answers a question by a context.
+///
+/// # Errors
+/// What the context can't answer; out of memory.
+pub fn answer_by<P: ModuleProvider>(
     alloc: Global,
     context: &mut Context<'_, '_, P>,
     question: &Question<'_>,
@@ -94,6 +107,7 @@ fn answer_by<P: ModuleProvider>(
     match question.asked {
         Asked::FunctionAt => function_text(alloc, context, question.index),
         Asked::FramesAt | Asked::Prefixes => frames_text(alloc, context, question.index),
+        Asked::SharedAt => shared_text(alloc, context, question.index),
         Asked::RunFrom => run_text(alloc, context, question.index),
         Asked::FileRunFrom => file_run_text(alloc, context, question.index),
         Asked::FileRunAgain => file_run_again_text(alloc, context, question.index),
@@ -108,10 +122,12 @@ fn run_text<P: ModuleProvider>(
     context: &mut Context<'_, '_, P>,
     offset: u32,
 ) -> Result<String, Error> {
+    let before = context.lookups();
     let place = PdbInternalSectionOffset { offset, section: 1 };
     let run = context.find_function_run(alloc, place, 0x100);
+    let lookups = context.lookups().saturating_sub(before);
     match run {
-        Ok(run) => shown(alloc, &(run, context.lookups())),
+        Ok(run) => shown(alloc, &(run, lookups)),
         Err(fault) => Err(fault),
     }
 }
@@ -123,10 +139,12 @@ fn file_run_text<P: ModuleProvider>(
     context: &mut Context<'_, '_, P>,
     offset: u32,
 ) -> Result<String, Error> {
+    let before = context.lookups();
     let place = PdbInternalSectionOffset { offset, section: 1 };
     let run = context.find_file_run(alloc, place, 0x100);
+    let lookups = context.lookups().saturating_sub(before);
     match run {
-        Ok(run) => shown(alloc, &(run, context.lookups())),
+        Ok(run) => shown(alloc, &(run, lookups)),
         Err(fault) => Err(fault),
     }
 }

@@ -29,7 +29,10 @@ fn answer_by<P: ModuleProvider>(
 }
 
 /// Returns the text that a formatter gives, or a size as a text.
-fn text_by<P: ModuleProvider>(
+///
+/// # Errors
+/// What the formatter can't answer; out of memory.
+pub fn text_by<P: ModuleProvider>(
     alloc: Global,
     formatter: &mut TypeFormatter<'_, '_, P>,
     question: &Question<'_>,
@@ -38,12 +41,38 @@ fn text_by<P: ModuleProvider>(
     match question.asked {
         Asked::Function => formatter.format_function(alloc, "f", module, TypeIndex(index)),
         Asked::Unnamed => formatter.format_function(alloc, "", module, TypeIndex(index)),
+        Asked::Emitted => emitted(alloc, formatter, module, index),
         Asked::Id => formatter.format_id(alloc, module, IdIndex(index)),
+        Asked::EmittedId => emitted_id(alloc, formatter, module, index),
         _ => size_text(
             alloc,
             formatter.get_type_size(alloc, module, TypeIndex(index)),
         ),
     }
+}
+
+/// Returns the signature that a formatter writes of a function `f`.
+fn emitted<P: ModuleProvider>(
+    alloc: Global,
+    formatter: &mut TypeFormatter<'_, '_, P>,
+    module: usize,
+    index: u32,
+) -> Result<String, Error> {
+    let mut text = String::new(alloc);
+    formatter.emit_function(alloc, &mut text, "f", module, TypeIndex(index))?;
+    Ok(text)
+}
+
+/// Returns the text that a formatter writes of an id.
+fn emitted_id<P: ModuleProvider>(
+    alloc: Global,
+    formatter: &mut TypeFormatter<'_, '_, P>,
+    module: usize,
+    index: u32,
+) -> Result<String, Error> {
+    let mut text = String::new(alloc);
+    formatter.emit_id(alloc, &mut text, module, IdIndex(index))?;
+    Ok(text)
 }
 
 /// Returns a size as a text.

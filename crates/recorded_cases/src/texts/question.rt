@@ -9,14 +9,20 @@ pub enum Asked {
     Function,
     /// The signature of a function without a name of a type.
     Unnamed,
+    /// The signature of a function of a type, written to a writer.
+    Emitted,
     /// The text of an id.
     Id,
+    /// The text of an id, written to a writer.
+    EmittedId,
     /// The size of a type.
     Size,
     /// The function at an RVA.
     FunctionAt,
     /// The frames at an RVA.
     FramesAt,
+    /// The frames at an RVA, with shared names.
+    SharedAt,
     /// How far the function at a place goes on.
     RunFrom,
     /// How far the source file of a place goes on.
@@ -40,10 +46,13 @@ pub enum Asked {
 const ASKED: &[(&str, Asked)] = &[
     ("function", Asked::Function),
     ("unnamed", Asked::Unnamed),
+    ("emitted", Asked::Emitted),
     ("id", Asked::Id),
+    ("emitted_id", Asked::EmittedId),
     ("size", Asked::Size),
     ("function_at", Asked::FunctionAt),
     ("frames_at", Asked::FramesAt),
+    ("shared_at", Asked::SharedAt),
     ("run_from", Asked::RunFrom),
     ("file_run_from", Asked::FileRunFrom),
     ("file_run_again", Asked::FileRunAgain),
@@ -87,6 +96,18 @@ pub fn question_of(words: &str) -> Question<'_> {
         file: words.next().unwrap_or(""),
         module: words.next().unwrap_or("").parse::<usize>().unwrap_or(0),
         flags: words.next().unwrap_or("").parse::<u32>().unwrap_or(0),
+        index: u32::from_str_radix(words.next().unwrap_or(""), 16).unwrap_or(0),
+    }
+}
+
+/// Returns the question of three words, without a database's file and flags. A missing number is 0.
+pub fn question_about(words: &str) -> Question<'_> {
+    let mut words = words.split(' ');
+    Question {
+        asked: asked_of(words.next().unwrap_or("")),
+        file: "",
+        module: words.next().unwrap_or("").parse::<usize>().unwrap_or(0),
+        flags: 0,
         index: u32::from_str_radix(words.next().unwrap_or(""), 16).unwrap_or(0),
     }
 }

@@ -1,0 +1,9 @@
+//! Tests of what reads a database, layer by layer, where recorded cases can't show it.
+#![tactic(auto)]
+
+#[cfg(test)]
+mod container;
+#[cfg(test)]
+mod database;
+#[cfg(test)]
+mod module_data;

@@ -1,6 +1,0 @@
-use Rattle.std.proofs.Common.{◌≡◌}
-use Rattle.pdb_symbols_modules_tests.proofs.finder.show.Given as goal
-
--- both are of one table
-abbrev pub invariant-loop : goal.invariant-loop
-invariant-loop l = l.iterator'.table ≡ l.finder.table
