@@ -1,4 +1,5 @@
 pub mod DeepAnswers
 pub mod FailingParts
 pub mod FreeStreams
+pub mod OneFunctionSteps
 pub mod RowFacts

@@ -1,2 +1,3 @@
+pub mod OneFunction
 pub mod Samples
 pub mod WordRows

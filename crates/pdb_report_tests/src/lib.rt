@@ -1,7 +1,10 @@
 //! The answers for program databases whose bytes are known, by the definitions and by the program's
-//! calls; and what comes of the program's arguments.
+//! calls; and what comes of the program's arguments. Also tests of formatters and contexts, where
+//! recorded cases can't show it.
 #![tactic(auto)]
 
+#[cfg(test)]
+mod addr2line;
 #[cfg(test)]
 mod calls;
 pub mod definitions;

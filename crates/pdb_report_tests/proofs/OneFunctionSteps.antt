@@ -5,7 +5,7 @@ use Rattle.std.proofs.Math.Bool.{or-true}
 use Rattle.std.proofs.lemmas.Bool.{lt-ltb, le-ltb, eq-eqb, ne_eqb, le-leb, lt-leb}
 use Rattle.pdb_addresses.specs.Places.{Place}
 use Rattle.pdb_functions.specs.Databases.{IsOneRun}
-use Rattle.pdb_addr2line_tests.specs.OneFunction.{one_function, function_f}
+use Rattle.pdb_report_tests.specs.OneFunction.{one_function, function_f}
 
 -- in another section, or after the function
 pub elsewhere : (p : Place) (limit : ℕ) → 1 ≤ limit → p.section ≢ 1 → IsOneRun one_function p limit limit
@@ -26,8 +26,8 @@ and_none : (a : Bool) → (a && (false || false)) ≡ false
 and_none true = refl
 and_none false = refl
 
-pub behind : (p : Place) (limit : ℕ) → 1 ≤ limit → 48 ≤ p.offset → IsOneRun one_function p limit limit
-behind p limit some far = record {
+pub past : (p : Place) (limit : ℕ) → 1 ≤ limit → 48 ≤ p.offset → IsOneRun one_function p limit limit
+past p limit some far = record {
   some = some;
   within = omega arith;
   alike = λ k lt.

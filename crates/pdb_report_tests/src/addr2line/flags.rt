@@ -1,6 +1,6 @@
 //! Flags of formatters: their operators, the calls of `Flags`, and what is printed under them.
 
-use crate::files::data_of;
+use crate::addr2line::files::data_of;
 use pdb_addr2line::pdb::TypeIndex;
 use pdb_addr2line::{Error, Flags, ModuleProvider, TypeFormatter, TypeFormatterFlags};
 use pdb_samples::{Change, file_with};

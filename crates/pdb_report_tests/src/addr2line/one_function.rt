@@ -2,7 +2,7 @@
 
 ghost use Rattle.std.specs.Prelude.{◌≡◌, ◌≤◌, IfOk};
 ghost use Rattle.pdb_functions.specs.Databases.{IsOneRun, place_of};
-ghost use Rattle.pdb_addr2line_tests.specs.OneFunction.{one_function};
+ghost use Rattle.pdb_report_tests.specs.OneFunction.{one_function};
 
 use pdb_addresses::PdbInternalSectionOffset;
 use pdb_functions::{Function, Runs};
@@ -15,7 +15,7 @@ pub(crate) struct OneFunction {
 }
 
 impl Runs for OneFunction {
-    ghost use Rattle.pdb_addr2line_tests.specs.OneFunction.{keyed_function};
+    ghost use Rattle.pdb_report_tests.specs.OneFunction.{keyed_function};
 
     type Key = Function;
 
@@ -63,7 +63,7 @@ fn function_at(
 }
 
 /// Returns how far the answer at a place goes on.
-#[tactic(auto, using(crate::proofs::OneFunctionSteps::elsewhere, crate::proofs::OneFunctionSteps::behind, crate::proofs::OneFunctionSteps::before, crate::proofs::OneFunctionSteps::inside))]
+#[tactic(auto, using(crate::proofs::OneFunctionSteps::elsewhere, crate::proofs::OneFunctionSteps::past, crate::proofs::OneFunctionSteps::before, crate::proofs::OneFunctionSteps::inside))]
 fn run_at(place: PdbInternalSectionOffset, limit: u32) -> u32
     requires { 1 ≤ limit }
     ensures { IsOneRun one_function (place_of place) limit result }

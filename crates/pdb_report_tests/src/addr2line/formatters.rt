@@ -2,7 +2,7 @@
 
 ghost use Rattle.std.specs.Prelude.{◌≡◌, ◌+◌, ◌-◌, ◌^◌};
 
-use crate::files::{Data, data_of};
+use crate::addr2line::files::{Data, data_of};
 use pdb_addr2line::pdb::{IdIndex, PDB, StringRef, StringTable, TypeIndex};
 use pdb_addr2line::{ContextPdbData, Error, ModuleProvider, TextWriter, TypeFormatter};
 use pdb_samples::{cross_imports, imports_of_no_stream};

@@ -1,6 +1,6 @@
 //! Calls of contexts that were asked before, and copies of their answers.
 
-use crate::files::{Data, data_of};
+use crate::addr2line::files::{Data, data_of};
 use pdb_addr2line::pdb::Error as Cause;
 use pdb_addr2line::{Context, Error, Function, FunctionFrames, KeptModules, ModuleProvider};
 use pdb_samples::{cross_imports, short_line_block};

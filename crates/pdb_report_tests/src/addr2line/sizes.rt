@@ -1,6 +1,6 @@
 //! The counts of ranges.
 
-use crate::one_function::OneFunction;
+use crate::addr2line::one_function::OneFunction;
 use pdb_addresses::{AddressMap, ImageSectionHeader, OMAPRecord};
 use pdb_functions::{count_runs, sizes_text};
 use std::alloc::{AllocError, Global};
