@@ -1,10 +1,9 @@
 -- The text of an answer in the style JSON.
-use Rattle.std.specs.Prelude.{ℕ, Bool, true, false, ◌+◌, ◌*◌, ◌/◌, ◌%◌, ◌==◌, nat_lt}
+use Rattle.std.specs.Prelude.{ℕ, Bool, ◌+◌, ◌/◌, ◌%◌, ◌==◌, nat_lt}
 use Rattle.std.specs.Prelude.{if◌then◌else◌, List, [], ◌∷◌, ◌++◌, Option, None, Some, codes}
 use Rattle.std.specs.List.{flat_map, repeat}
 use Rattle.std.specs.Fmt.{decimal}
 use Rattle.pdb_llvm_texts.specs.ReportedFrames.{ReportedFrame}
-use Rattle.pdb_llvm_texts.specs.Plain.{address_text}
 
 -- the digit of a number below 16, in lower case
 abbrev pub digit : ℕ → ℕ
