@@ -1,10 +1,6 @@
 #!/usr/bin/env bash
 # The command that passes all tests: `rt ci` (every proof, must-fail edit, test and program), then
-# each request for memory of the proved programs refused in turn (tests/refused_requests), the
-# commands of README.md, docs/GUIDE.md and CONTRIBUTING.md as they stand (tests/commands.sh), the
-# manual page (tests/manual.sh), pdb_llvm_symbolizer beside llvm-symbolizer
-# (tests/llvm_symbolizer.sh), the deepest nests of types within 4 MB of stack (tests/stack.py), and
-# files built to cost much within README's limits (tests/costly_files.py).
+# the scripts below. What each of them checks stands at its head, and in docs/RELEASING.md.
 # It fails where one fails; the last line counts all.
 set -u
 cd "$(dirname "$0")"

@@ -1,5 +1,5 @@
 #!/usr/bin/env bash
-# Runs the commands of README.md, docs/GUIDE.md and CONTRIBUTING.md as they stand, and compares what
+# Runs the commands of README.md, docs/GUIDE.md and docs/RELEASING.md as they stand, and compares what
 # they print:
 #
 #   tests/commands.sh [--write] [--slow] [PROGRAM]
@@ -10,7 +10,7 @@
 # the lines below it are what it prints, on standard error too. A command with nothing below it has
 # to end with status 0. Each transcript runs in a new folder, with both programs on the path and their
 # data in data/; what compiles or copies runs in a copy of the repository. What proves or measures
-# isn't run: the gate and the stored run do that. CONTRIBUTING's command that tries a thousand files
+# isn't run: the gate and the stored run do that. RELEASING's command that tries a thousand files
 # runs with --slow alone. Each block ```rust has to stand in crates/example_calls. With --write what
 # came is put into the documents. The last line is `N passed, M failed`.
 set -eu
@@ -67,7 +67,7 @@ def run_transcript(lines, room, name):
     if any(LONG.match(it) for it, _ in commands):
         return None, "it takes too long"
     slow = any(SLOW.match(it) for it, _ in commands)
-    if slow and name == "CONTRIBUTING.md" and "--slow" not in flags:
+    if slow and name == "docs/RELEASING.md" and "--slow" not in flags:
         return None, "without --slow"
     os.makedirs(f"{room}/bin")
     os.symlink(program, f"{room}/bin/pdb_symbolizer")
@@ -145,7 +145,7 @@ total = wrong = 0
 for other in copies_differ():
     wrong += 1
     print(f"crates/{other} is another database than that of crates/pdb_symbolizer/data")
-for name in ("README.md", "docs/GUIDE.md", "CONTRIBUTING.md"):
+for name in ("README.md", "docs/GUIDE.md", "docs/RELEASING.md"):
     if os.path.exists(f"{top}/{name}"):
         count, bad = check(name)
         for piece in unknown_code(name):
