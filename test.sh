@@ -1,5 +1,5 @@
 #!/usr/bin/env bash
-# The command that passes all tests: `rt ci` (every proof, must-fail edit, test and program), then
+# Runs all tests: `rt ci` (every proof, must-fail edit, test and program), then
 # the scripts below. What each of them checks stands at its head, and in docs/RELEASING.md.
 # It fails where one fails; the last line counts all.
 set -u

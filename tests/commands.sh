@@ -1,18 +1,18 @@
 #!/usr/bin/env bash
-# Runs the commands of README.md, docs/GUIDE.md and docs/RELEASING.md as they stand, and compares what
-# they print:
+# Runs the commands of README.md, docs/GUIDE.md and docs/RELEASING.md as they stand, and compares
+# what they print:
 #
 #   tests/commands.sh [--write] [--slow] [PROGRAM]
 #
-# PROGRAM is the built pdb_symbolizer; if left out, the proved one, crates/pdb_symbolizer/out/pdb_symbolizer.
-# pdb_llvm_symbolizer is always the proved one.
+# PROGRAM is the built pdb_symbolizer; if left out, the proved one. pdb_llvm_symbolizer is always the
+# proved one.
 # A block of a document that begins with `    $ ` is a transcript: each such line is a command, and
 # the lines below it are what it prints, on standard error too. A command with nothing below it has
-# to end with status 0. Each transcript runs in a new folder, with both programs on the path and their
-# data in data/; what compiles or copies runs in a copy of the repository. What proves or measures
-# isn't run: the gate and the stored run do that. RELEASING's command that tries a thousand files
-# runs with --slow alone. Each block ```rust has to stand in crates/example_calls. With --write what
-# came is put into the documents. The last line is `N passed, M failed`.
+# to end with status 0. Each transcript runs in a new folder, with both programs on the path and
+# their data in data/; what compiles or copies runs in a copy of the repository. What proves or
+# measures isn't run here. RELEASING's command that tries a thousand files runs with --slow alone.
+# Each block ```rust has to stand in crates/example_calls. With --write what came is put into the
+# documents. The last line is `N passed, M failed`.
 set -eu
 top=$(cd "$(dirname "$0")/.." && pwd)
 exec python3 - "$top" "$@" <<'P'

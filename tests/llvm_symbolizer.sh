@@ -2,13 +2,14 @@
 # Compares pdb_llvm_symbolizer with what llvm-symbolizer 19 writes, as examples/llvm_expected.sh
 # stored it:
 #
-#   tests/llvm_symbolizer.sh [PROGRAM]
+#   tests/llvm_symbolizer.sh [--write ORIGINAL] [PROGRAM]
 #
 # PROGRAM is the built pdb_llvm_symbolizer; if left out, the proved one. For each case NAME of
-# tests/llvm_symbolizer it runs PROGRAM in crates/pdb_llvm_symbolizer/data with the words of
+# tests/llvm_symbolizer it runs PROGRAM in crates/pdb_llvm_symbolizer/data with the arguments in
 # NAME.args and the lines of NAME.input. What it writes, and its exit status, have to be
 # NAME.expected, but for the differences in NAME.differs. Then it asks for one address after the
-# other, and by a long line. The last line is 'N passed, M failed'.
+# other, and by a long line. The last line is 'N passed, M failed'. With --write it
+# stores what ORIGINAL, llvm-symbolizer 19, writes.
 set -u
 top=$(cd "$(dirname "$0")/.." && pwd)
 cases=$top/tests/llvm_symbolizer

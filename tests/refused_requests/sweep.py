@@ -3,19 +3,24 @@
 
     tests/refused_requests/sweep.py [--built FILE] [CASE..]
 
-Of a case, the Nth request is refused in the Nth of as many runs as there are requests in one with nothing refused.
+Of a case, the Nth request is refused in the Nth of as many runs as there are requests in one with
+nothing refused.
 
-- `pdb_symbolizer`, on the recorded rows of reports: such a run ends with status 1 and `fault: OutOfMemory` on standard error,
-  and what is out is a prefix of the row's report. One that ends as if nothing was refused passes only in a case that
-  exceptions.txt names, with the reason.
-- `pdb_llvm_symbolizer`, on the cases of tests/llvm_symbolizer: such a run ends with status 1 and says so on standard error, and
-  what is out is a prefix. For such runs as go on exceptions.txt has the reason too.
-- `recorded_reads`, on recorded reads of records, streams and tables: the call that finds no memory says so, and is made again.
-- `recorded_cases again`, on the files of the same rows and on the recorded texts: the call that finds no memory says so, and the
-  same context or formatter then answers it, and all other questions of its file, as if nothing was refused.
+- `pdb_symbolizer`, on the recorded rows of reports: such a run ends with status 1 and `fault:
+  OutOfMemory` on standard error, and what is out is a prefix of the row's report. One that ends as
+  if nothing was refused passes only in a case that exceptions.txt names, with the reason.
+- `pdb_llvm_symbolizer`, on the cases of tests/llvm_symbolizer: such a run ends with status 1 and
+  says so on standard error, and what is out is a prefix. For such runs as go on exceptions.txt has
+  the reason too.
+- `recorded_reads`, on recorded reads of records, streams and tables: the call that finds no memory
+  says so, and is made again.
+- `recorded_cases again`, on the files of the same rows and on the recorded texts: the call that
+  finds no memory says so. The same context or formatter then answers it, and all other questions of
+  its file, as if nothing was refused.
 
-CASE is the name of a case; without one all are swept. It prints how many requests of each function were refused. The last line is
-`N passed, M failed`, in cases. FILE is where a program lies, with NAME for its name. A C compiler is needed (Debian: gcc).
+CASE is the name of a case: of a row, or as "context DATABASE FLAGS". Without one all are swept. It
+prints how many requests of each function were refused. The last line is `N passed, M failed`, in
+cases. FILE is where a program lies, with NAME for its name. A C compiler is needed (Debian: gcc).
 """
 import bisect
 import collections
@@ -36,7 +41,7 @@ SECONDS = 60
 GREATEST = 100_000
 # The longest answer of a recorded read, in bytes: a text of it is made piece by piece.
 LONGEST = 1_000
-# Recorded texts that ask a context several times, which the program itself does here, and comments.
+# Recorded texts of several calls or several files, which aren't asked here, and comments.
 LEFT_OUT = ("#", "all_again", "each_again", "file_run_again", "forgotten", "prefixes")
 # Recorded texts of formatters; all others are of contexts.
 FORMATTED = ("function", "unnamed", "emitted", "id", "emitted_id", "size")
@@ -207,7 +212,7 @@ class Asked(Repeating):
 
 
 def reports(folder):
-    """The program on the recorded rows, and on words that ask for no report."""
+    """The program on the recorded rows, and on arguments that ask for no report."""
     for row in rows():
         path = row.file(folder)
         case = Report(row.name, ["sizes", *row.flags, path, *row.range] if row.range else ["frames", path])

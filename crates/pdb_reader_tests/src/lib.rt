@@ -6,4 +6,6 @@ mod container;
 #[cfg(test)]
 mod database;
 #[cfg(test)]
+mod failing;
+#[cfg(test)]
 mod module_data;

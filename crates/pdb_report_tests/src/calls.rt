@@ -85,7 +85,7 @@ fn are_right(alloc: Global) -> Result<[bool; 6], Fail> {
     ])
 }
 
-// The only test that fails if an allocation is refused. The others ask again.
+// The only test of this file that fails if an allocation is refused: the others ask again.
 #[test]
 fn first_calls_in_ample_memory(rt: HostRuntime) -> Result<(), Fail> {
     assert_eq!(rt; are_right(rt.alloc())?, [true; 6]);

@@ -1,6 +1,6 @@
 //! The answers for program databases whose bytes are known, by the definitions and by the program's
-//! calls; and what comes of the program's arguments. Also tests of formatters and contexts, where
-//! recorded cases can't show it.
+//! calls; and what comes of the program's arguments. Also tests of formatters and contexts that no
+//! recorded case can make.
 #![tactic(auto)]
 
 #[cfg(test)]

@@ -1,10 +1,11 @@
 //! Asks a context or a formatter of types twice all questions of a file, and each question again if
 //! it runs out of memory: `again KIND DATABASE FLAGS FILE`.
 //!
-//! KIND is `context`, `formatter`, or `symbolizer` for the context of a `Symbolizer`, whose flags
-//! are the default ones. DATABASE is a program database. A line of FILE is a question about it:
-//! what is asked, the index of a module, and an index, an RVA or an offset, as `texts.rt` describes
-//! them. It is printed with its answer, or with `fault: ` and the fault.
+//! KIND is `context`, `formatter`, or `symbolizer` for the context of a `Symbolizer`. DATABASE is
+//! the file of a program database itself, never a text of one. FLAGS is a number, which counts for
+//! nothing with `symbolizer`, whose flags are the default ones. A line of FILE is a question about
+//! the database: what is asked, the index of a module, and an index, an RVA or an offset, as
+//! `texts.rt` describes them. It is printed with its answer, or with `fault: ` and the fault.
 //!
 //! When a call runs out of memory, `out of memory` is printed, and the call is made once more, on
 //! the same object. A library refuses the requests in turn (`tests/refused_requests`). Standard

@@ -1,8 +1,8 @@
 //! Cases of texts: what formatters of types print, and what contexts answer about addresses.
 //!
 //! A line of a file is a case if it contains ` => `. Before that stand five words: what is asked; a
-//! DATABASE, as in cases of reports; the index of a module; the flags; and an index or an RVA, in
-//! hexadecimal. After it stands the answer that must come, or `fault: ` and the fault. What is
+//! DATABASE, as in cases of reports; the index of a module; the flags; and an index, an RVA or an
+//! offset, in hexadecimal. After it stands the answer that must come, or `fault: ` and the fault. What is
 //! asked:
 //!
 //! - `function`, `emitted`: the signature of a function `f` whose type has that index, returned or
@@ -50,7 +50,7 @@ use std::fs;
 use std::rt::Files;
 
 /// The data that were read of a database.
-type Data = ContextPdbData<'static, 'static, Vec<u8>>;
+pub type Data = ContextPdbData<'static, 'static, Vec<u8>>;
 
 /// Goes through the cases of a file, and returns how many there are.
 ///
@@ -119,7 +119,10 @@ fn ask_over(alloc: Global, data: &Data, question: &Question<'_>) -> Result<Strin
 }
 
 /// Reads the data of a database.
-fn data_of(alloc: Global, bytes: Vec<u8>) -> Result<Data, Error> {
+///
+/// # Errors
+/// What can't be read of the database; out of memory.
+pub fn data_of(alloc: Global, bytes: Vec<u8>) -> Result<Data, Error> {
     let database = PDB::open(alloc, bytes)?;
     ContextPdbData::try_from_pdb(alloc, database)
 }

@@ -139,7 +139,7 @@ fn are_answered(alloc: Global) -> Result<([bool; 5], [bool; 2]), Fail> {
     ))
 }
 
-// The only test that fails where some allocation is refused, and the others ask again.
+// The only test of the container that fails where an allocation is refused: its others ask again.
 #[test]
 fn first_calls_in_ample_memory(rt: HostRuntime) -> Result<(), Fail> {
     assert_eq!(rt; are_answered(rt.alloc())?, ([true; 5], [true; 2]));

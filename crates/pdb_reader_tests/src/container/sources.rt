@@ -4,6 +4,7 @@ use crate::container::damage::{
     DIRECTORY_PAGE, DIRECTORY_SIZE, LIST_PAGE, Numbers, PAGES_USED, PAST_END, write_numbers,
 };
 use crate::container::files::{container, counted, file, get};
+use crate::failing::{Failing, Refusal};
 use bytes::Bytes;
 use pdb_container::{BigMSF, Error, Msf, ReadView, Source, SourceSlice, open_msf};
 use pdb_samples::{PageOrder, SampleError};
@@ -11,48 +12,6 @@ use std::alloc::Global;
 use std::cell::Cell;
 use std::io::{self, ErrorKind};
 use std::test::Fail;
-
-/// How a view fails.
-#[derive(Clone, Copy)]
-enum Refusal {
-    Other,
-    Memory,
-}
-
-/// The bytes of a file, where the views of some numbers fail, counted from 0.
-#[derive(Drop)]
-struct Failing<'c> {
-    bytes: Vec<u8>,
-    views: &'c Cell<u64>,
-    fails: &'static [u64],
-    refusal: Refusal,
-    failures: u64,
-}
-
-impl<'c> Source for Failing<'c> {
-    ghost bytes = { λ f. f.bytes.items };
-
-    ghost failures = { λ f. f.failures };
-
-    fn view(&mut self, alloc: Global, slices: &[SourceSlice]) -> io::Result<ReadView> {
-        let number = self.views.get();
-        self.views.set(number.saturating_add(1));
-        if !self.fails.contains(&number) {
-            return self.bytes.view(alloc, slices);
-        }
-        match self.refusal {
-            Refusal::Memory => Err(ErrorKind::OutOfMemory.into()),
-            Refusal::Other => {
-                self.failures = self.failures.saturating_add(1);
-                Err(ErrorKind::Other.into())
-            }
-        }
-    }
-
-    fn failures(&self) -> u64 {
-        self.failures
-    }
-}
 
 /// A source over a file whose stream 1 has the bytes 1 to 250, 0, 1 and so on.
 fn source<'c>(

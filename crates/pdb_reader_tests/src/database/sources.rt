@@ -1,41 +1,13 @@
 //! A source that fails while the directory of a database is read.
 
-use pdb_container::{Error, ReadView, Result, Source, SourceSlice};
+use crate::failing::{Failing, Refusal};
+use pdb_container::Error;
 use pdb_samples::file_f;
 use pdb_symbols_modules::{PDB, StreamIndex};
 use std::alloc::Global;
 use std::cell::Cell;
-use std::io::{self, ErrorKind};
+use std::io::ErrorKind;
 use std::test::Fail;
-
-/// File F's bytes. The views with some indices fail.
-#[derive(Drop)]
-struct Failing<'c> {
-    bytes: Vec<u8>,
-    views: &'c Cell<u64>,
-    fails: &'static [u64],
-    failures: u64,
-}
-
-impl<'c> Source for Failing<'c> {
-    ghost bytes = { λ f. f.bytes.items };
-
-    ghost failures = { λ f. f.failures };
-
-    fn view(&mut self, alloc: Global, slices: &[SourceSlice]) -> io::Result<ReadView> {
-        let number = self.views.get();
-        self.views.set(number.saturating_add(1));
-        if self.fails.contains(&number) {
-            self.failures = self.failures.saturating_add(1);
-            return Err(ErrorKind::Other.into());
-        }
-        self.bytes.view(alloc, slices)
-    }
-
-    fn failures(&self) -> u64 {
-        self.failures
-    }
-}
 
 /// Why a call is refused, if it is, and how many views there were by then.
 type Asked = (Option<Error>, u64);
@@ -51,12 +23,13 @@ fn asked(database: &mut PDB<'static, Failing<'_>>, alloc: Global, views: &Cell<u
 }
 
 /// Returns how many views the opening of file F takes, and what the calls say, if some views fail.
-fn viewed(alloc: Global, fails: &'static [u64]) -> std::result::Result<(u64, [Asked; 3]), Fail> {
+fn viewed(alloc: Global, fails: &'static [u64]) -> Result<(u64, [Asked; 3]), Fail> {
     let views = Cell::new(0);
     let source = Failing {
         bytes: file_f(alloc)?.bytes(alloc)?,
         views: &views,
         fails,
+        refusal: Refusal::Other,
         failures: 0,
     };
     let mut database = PDB::open(alloc, source)?;
@@ -69,7 +42,7 @@ fn viewed(alloc: Global, fails: &'static [u64]) -> std::result::Result<(u64, [As
 #[test]
 fn the_directory_is_read_anew_where_the_source_failed(
     rt: HostRuntime,
-) -> std::result::Result<(), Fail> {
+) -> Result<(), Fail> {
     let other = Some(Error::IoError(ErrorKind::Other));
     let rows: [(&'static [u64], u64, [Asked; 3]); 4] = [
         (&[], 3, [(None, 4), (None, 5), (None, 6)]),

@@ -140,7 +140,7 @@ fn read_again(alloc: Global, line: &str) -> Result<Result<Task, WordsFault>, All
     }
 }
 
-// The only test that fails if an allocation is refused. The other one asks again.
+// The only test of this file that fails if an allocation is refused: the other one asks again.
 #[test]
 fn first_calls_in_ample_memory(rt: HostRuntime) -> Result<(), Fail> {
     for (line, wanted) in &ROWS[..3] {

@@ -6,7 +6,8 @@ use crate::texts::question::question_about;
 use pdb_addr2line::{Context, Error, ModuleProvider};
 
 /// Asks a context all questions, in their order, and once more. Returns whether it was made. If
-/// memory ran out when it was to be made, nothing is asked.
+/// memory ran out when it was to be made, nothing is asked. The caller called `begin` before it was
+/// made.
 ///
 /// # Errors
 /// Why the context wasn't made, a failed write; out of memory.

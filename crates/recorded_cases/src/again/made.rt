@@ -3,6 +3,7 @@
 
 use crate::again::marks::{begin, end, is_refusal};
 use crate::again::{contexts, formatters};
+use crate::texts::{Data, data_of};
 use anyhow::{Result, bail};
 use pdb_addr2line::pdb::PDB;
 use pdb_addr2line::{ContextPdbData, Error, TypeFormatterFlags};
@@ -14,9 +15,6 @@ const ATTEMPTS: u32 = 2;
 
 /// An open database over a file's bytes.
 type Database = PDB<'static, Vec<u8>>;
-
-/// The data that were read of a database.
-type Data = ContextPdbData<'static, 'static, Vec<u8>>;
 
 /// Opens the database of a file's bytes.
 fn open_database(alloc: Global, bytes: &[u8]) -> Result<Database, Error> {
@@ -38,13 +36,12 @@ fn database_of(rt: &(impl Print + Eprint + AllocGlobal), bytes: &[u8]) -> Result
 
 /// Opens the database of a file's bytes, and reads its data.
 fn read_data(alloc: Global, bytes: &[u8]) -> Result<Data, Error> {
-    let database = open_database(alloc, bytes)?;
-    ContextPdbData::try_from_pdb(alloc, database)
+    data_of(alloc, Vec::from_slice(alloc, bytes)?)
 }
 
 /// Opens the database of a file's bytes and reads its data, and does both once more if memory runs
 /// out.
-fn data_of(rt: &(impl Print + Eprint + AllocGlobal), bytes: &[u8]) -> Result<Data> {
+fn data_again(rt: &(impl Print + Eprint + AllocGlobal), bytes: &[u8]) -> Result<Data> {
     begin(rt)?;
     let mut data = read_data(rt.alloc(), bytes);
     let is_refused = matches!(&data, Err(error) if is_refusal(error));
@@ -67,7 +64,8 @@ fn data_in(rt: &(impl Print + Eprint + AllocGlobal), database: &mut Database) ->
     Ok(data?)
 }
 
-/// Asks a context over a file's bytes.
+/// Makes a context over a file's bytes, and prints each question with its answer, twice. If memory
+/// runs out each time it is made, nothing is asked.
 ///
 /// # Errors
 /// What can't be read of the database, an address map that isn't ordered, a failed write; out of
@@ -103,7 +101,8 @@ fn ask_context_over(
     Ok(())
 }
 
-/// Asks a formatter over a file's bytes.
+/// Makes a formatter over a file's bytes, and prints each question with its answer, twice. If memory
+/// runs out each time it is made, nothing is asked.
 ///
 /// # Errors
 /// What can't be read of the database, a failed write; out of memory.
@@ -113,7 +112,7 @@ pub fn ask_formatter(
     flags: TypeFormatterFlags,
     questions: &str,
 ) -> Result<()> {
-    let data = data_of(rt, bytes)?;
+    let data = data_again(rt, bytes)?;
     ask_formatter_over(rt, &data, flags, questions)
 }
 
@@ -142,7 +141,8 @@ fn open_symbolizer(alloc: Global, bytes: &[u8]) -> Result<Symbolizer, LoadFault>
     }
 }
 
-/// Asks the context of a symbolizer over a file's bytes.
+/// Opens a file's bytes as a symbolizer, makes its context, and prints each question with its
+/// answer, twice. If memory runs out each time the context is made, nothing is asked.
 ///
 /// # Errors
 /// Why the file isn't loaded, a failed write; out of memory.

@@ -4,7 +4,7 @@ use crate::texts::told;
 use pdb_addr2line::Error;
 use std::io;
 
-/// Reports that a call begins.
+/// Prints `+` on standard error: a call begins.
 ///
 /// # Errors
 /// A failed write.
@@ -12,7 +12,8 @@ pub fn begin(rt: &impl Eprint) -> io::Result<()> {
     eprint!(rt; "+")
 }
 
-/// Reports that a call ended, and whether memory ran out.
+/// Prints `-` on standard error: a call ended. Prints `out of memory` on standard output if
+/// `is_refused`.
 ///
 /// # Errors
 /// A failed write.

@@ -1,6 +1,7 @@
 //! How often a context asks for modules.
 
-use crate::texts::contexts::{functions_text, told};
+use crate::texts::Data;
+use crate::texts::contexts::{functions_text, shown_answer};
 use crate::texts::question::{Asked, Question};
 use crate::texts::{each_address, forgotten};
 use pdb_addr2line::maybe_owned::MaybeOwned;
@@ -47,9 +48,6 @@ impl ModuleProvider for CountingProvider {
 
 /// An open database over a file's bytes.
 type Database<'s> = PDB<'s, Vec<u8>>;
-
-/// The data that were read of a database.
-type Data = ContextPdbData<'static, 'static, Vec<u8>>;
 
 /// Returns the answers of a context that was asked for the same before, whether it asked for
 /// modules then, and how often it asks for them now.
@@ -221,9 +219,9 @@ fn answers<P: ModuleProvider>(
         offset: rva.saturating_sub(0x1000),
         section: 1,
     };
-    let frames = told(alloc, context.find_frames(alloc, rva))?;
-    let function = told(alloc, context.find_function(alloc, rva))?;
-    let run = told(alloc, context.find_function_run(alloc, place, 0x100))?;
+    let frames = shown_answer(alloc, context.find_frames(alloc, rva))?;
+    let function = shown_answer(alloc, context.find_function(alloc, rva))?;
+    let run = shown_answer(alloc, context.find_function_run(alloc, place, 0x100))?;
     let functions = functions_text(alloc, context)?;
     Ok(format!(in alloc; "{frames}; {function}; {run}; {functions}")?)
 }

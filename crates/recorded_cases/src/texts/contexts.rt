@@ -1,8 +1,9 @@
 //! Answers of contexts about addresses.
 
+use crate::texts::Data;
 use crate::texts::question::{Asked, Question};
 use pdb_addr2line::pdb::PdbInternalSectionOffset;
-use pdb_addr2line::{Context, ContextPdbData, Error, Function, FunctionFrames, ModuleProvider};
+use pdb_addr2line::{Context, Error, Function, FunctionFrames, ModuleProvider};
 use std::alloc::Global;
 use std::fmt::Debug;
 
@@ -11,11 +12,7 @@ use std::fmt::Debug;
 ///
 /// # Errors
 /// What the context can't answer; out of memory.
-pub fn ask(
-    alloc: Global,
-    data: &ContextPdbData<'static, 'static, Vec<u8>>,
-    question: &Question<'_>,
-) -> Result<String, Error> {
+pub fn ask(alloc: Global, data: &Data, question: &Question<'_>) -> Result<String, Error> {
     if !data.address_map().is_ordered() {
         return shown(alloc, &"not ordered");
     }
@@ -33,7 +30,10 @@ fn shown<T: Debug>(alloc: Global, value: &T) -> Result<String, Error> {
 ///
 /// # Errors
 /// The answer's fault; out of memory.
-pub fn told<T: Debug + Drop>(alloc: Global, answer: Result<T, Error>) -> Result<String, Error> {
+pub fn shown_answer<T: Debug + Drop>(
+    alloc: Global,
+    answer: Result<T, Error>,
+) -> Result<String, Error> {
     match answer {
         Ok(value) => shown(alloc, &value),
         Err(fault) => Err(fault),
@@ -69,7 +69,7 @@ fn function_text<P: ModuleProvider>(
     address: u32,
 ) -> Result<String, Error> {
     let found = context.find_function(alloc, address);
-    told(alloc, copied_function(alloc, found))
+    shown_answer(alloc, copied_function(alloc, found))
 }
 
 /// Returns the frames that a context finds at an address, as their copy.
@@ -82,7 +82,7 @@ pub fn frames_text<P: ModuleProvider>(
     address: u32,
 ) -> Result<String, Error> {
     let found = context.find_frames(alloc, address);
-    told(alloc, copied_frames(alloc, found))
+    shown_answer(alloc, copied_frames(alloc, found))
 }
 
 /// Returns the frames that a context finds at an address, with shared names.
@@ -91,11 +91,12 @@ fn shared_text<P: ModuleProvider>(
     context: &mut Context<'_, '_, P>,
     address: u32,
 ) -> Result<String, Error> {
-    let found = context.find_shared_frames(alloc, address);
-    told(alloc, found)
+    let frames = context.find_shared_frames(alloc, address)?;
+    shown(alloc, &frames)
 }
 
-/// Answers a question by a context.
+/// Answers a question by a context: `prefixes` as `frames_at`, and any other that isn't about an
+/// address as `functions`.
 ///
 /// # Errors
 /// What the context can't answer; out of memory.

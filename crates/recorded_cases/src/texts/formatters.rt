@@ -1,25 +1,22 @@
 //! Answers of formatters of types.
 
+use crate::texts::Data;
 use crate::texts::question::{Asked, Question};
 use pdb_addr2line::pdb::{IdIndex, TypeIndex};
-use pdb_addr2line::{ContextPdbData, Error, ModuleProvider, TypeFormatter};
+use pdb_addr2line::{Error, ModuleProvider, TypeFormatter};
 use std::alloc::Global;
 
 /// Answers a question by a formatter with the question's flags.
 ///
 /// # Errors
 /// What the formatter can't answer; out of memory.
-pub fn ask(
-    alloc: Global,
-    data: &ContextPdbData<'static, 'static, Vec<u8>>,
-    question: &Question<'_>,
-) -> Result<String, Error> {
+pub fn ask(alloc: Global, data: &Data, question: &Question<'_>) -> Result<String, Error> {
     let flags = question.formatter_flags();
     let formatter = data.make_type_formatter_with_flags(alloc, flags)?;
     answer_by(alloc, formatter, question)
 }
 
-/// Answers a question by a formatter.
+/// Answers a question by a formatter that is asked nothing else.
 fn answer_by<P: ModuleProvider>(
     alloc: Global,
     mut formatter: TypeFormatter<'_, '_, P>,
@@ -28,7 +25,7 @@ fn answer_by<P: ModuleProvider>(
     text_by(alloc, &mut formatter, question)
 }
 
-/// Returns the text that a formatter gives, or a size as a text.
+/// Answers a question by a formatter: any but those of functions and ids as `size`.
 ///
 /// # Errors
 /// What the formatter can't answer; out of memory.

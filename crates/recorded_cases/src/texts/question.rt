@@ -2,7 +2,7 @@
 
 use pdb_addr2line::{Flags, TypeFormatterFlags};
 
-/// What a case asks for.
+/// What a case or a line of questions asks for.
 #[derive(Clone, Copy)]
 pub enum Asked {
     /// The signature of a function of a type.
@@ -73,7 +73,7 @@ fn asked_of(word: &str) -> Asked {
     Asked::Functions
 }
 
-/// The question of a case.
+/// The question of a case or a line of questions.
 #[derive(Clone, Copy)]
 pub struct Question<'q> {
     /// What the case asks for.
@@ -84,7 +84,7 @@ pub struct Question<'q> {
     pub module: usize,
     /// The flags of the formatter.
     pub flags: u32,
-    /// An index or an RVA.
+    /// An index, an RVA or an offset.
     pub index: u32,
 }
 
