@@ -12,8 +12,7 @@
 //! error has `+` before each call and `-` after it, which shows that library which requests are the
 //! call's.
 
-mod contexts;
-mod formatters;
+mod asked;
 mod made;
 mod marks;
 
