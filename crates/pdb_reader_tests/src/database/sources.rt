@@ -40,9 +40,7 @@ fn viewed(alloc: Global, fails: &'static [u64]) -> Result<(u64, [Asked; 3]), Fai
 // No table is cached if a view of the list (1) or of the directory (2) failed: the next call views
 // both anew. From then on each call views its stream alone.
 #[test]
-fn the_directory_is_read_anew_where_the_source_failed(
-    rt: HostRuntime,
-) -> Result<(), Fail> {
+fn the_directory_is_read_anew_where_the_source_failed(rt: HostRuntime) -> Result<(), Fail> {
     let other = Some(Error::IoError(ErrorKind::Other));
     let rows: [(&'static [u64], u64, [Asked; 3]); 4] = [
         (&[], 3, [(None, 4), (None, 5), (None, 6)]),
