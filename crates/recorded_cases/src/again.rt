@@ -12,7 +12,8 @@
 //! error has `+` before each call and `-` after it, which shows that library which requests are the
 //! call's.
 
-mod asked;
+mod contexts;
+mod formatters;
 mod made;
 mod marks;
 

@@ -1,8 +1,8 @@
 //! Makes contexts and formatters of a database, and asks them. If memory runs out, it makes them
 //! again.
 
-use crate::again::asked::ask_made;
 use crate::again::marks::{begin, end, is_refusal};
+use crate::again::{contexts, formatters};
 use crate::texts::{Data, data_of};
 use anyhow::{Result, bail};
 use pdb_addr2line::pdb::PDB;
@@ -94,7 +94,7 @@ fn ask_context_over(
     for _ in 0..ATTEMPTS {
         begin(rt)?;
         let made = data.make_context_with_formatter_flags(rt.alloc(), flags);
-        if ask_made(rt, made, questions)? {
+        if contexts::ask_made(rt, made, questions)? {
             break;
         }
     }
@@ -126,7 +126,7 @@ fn ask_formatter_over(
     for _ in 0..ATTEMPTS {
         begin(rt)?;
         let made = data.make_type_formatter_with_flags(rt.alloc(), flags);
-        if ask_made(rt, made, questions)? {
+        if formatters::ask_made(rt, made, questions)? {
             break;
         }
     }
@@ -187,7 +187,7 @@ fn ask_context_of(
     questions: &str,
 ) -> Result<bool> {
     match symbolizer.context(rt.alloc()) {
-        Ok(context) => ask_made(rt, Ok(context), questions),
+        Ok(context) => contexts::ask_made(rt, Ok(context), questions),
         Err(_) => {
             end(rt, true)?;
             Ok(false)

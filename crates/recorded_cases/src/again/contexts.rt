@@ -1,0 +1,57 @@
+//! Questions to contexts, each asked again if memory runs out.
+
+use crate::again::marks::{begin, end, is_refusal, print_answer};
+use crate::texts::contexts::answer_by;
+use crate::texts::question::question_about;
+use pdb_addr2line::{Context, Error, ModuleProvider};
+
+/// Asks a context all questions, in their order, and once more. Returns whether it was made. If
+/// memory ran out when it was to be made, nothing is asked. The caller called `begin` before it was
+/// made.
+///
+/// # Errors
+/// Why the context wasn't made, a failed write; out of memory.
+pub fn ask_made<P: ModuleProvider>(
+    rt: &(impl Print + Eprint + AllocGlobal),
+    made: Result<Context<'_, '_, P>, Error>,
+    questions: &str,
+) -> anyhow::Result<bool> {
+    let is_refused = matches!(&made, Err(error) if is_refusal(error));
+    end(rt, is_refused)?;
+    if is_refused {
+        return Ok(false);
+    }
+    let mut context = made?;
+    ask_all(rt, &mut context, questions)?;
+    ask_all(rt, &mut context, questions)?;
+    Ok(true)
+}
+
+/// Asks a context all questions, in their order.
+fn ask_all<P: ModuleProvider>(
+    rt: &(impl Print + Eprint + AllocGlobal),
+    context: &mut Context<'_, '_, P>,
+    questions: &str,
+) -> anyhow::Result<()> {
+    for line in questions.lines() {
+        ask_line(rt, context, line)?;
+    }
+    Ok(())
+}
+
+/// Asks a context the question of a line, and again if memory runs out.
+fn ask_line<P: ModuleProvider>(
+    rt: &(impl Print + Eprint + AllocGlobal),
+    context: &mut Context<'_, '_, P>,
+    line: &str,
+) -> anyhow::Result<()> {
+    let question = question_about(line);
+    begin(rt)?;
+    let mut answer = answer_by(rt.alloc(), context, &question);
+    let is_refused = matches!(&answer, Err(error) if is_refusal(error));
+    end(rt, is_refused)?;
+    if is_refused {
+        answer = answer_by(rt.alloc(), context, &question);
+    }
+    Ok(print_answer(rt, line, answer)?)
+}
