@@ -1,9 +1,8 @@
 //! How often a context asks for modules.
 
-use crate::texts::Data;
 use crate::texts::contexts::{functions_text, shown_answer};
 use crate::texts::question::{Asked, Question};
-use crate::texts::{each_address, forgotten};
+use crate::texts::{Data, each_address, forgotten};
 use pdb_addr2line::maybe_owned::MaybeOwned;
 use pdb_addr2line::pdb::{
     self, DebugInformation, FallibleIterator, Module, ModuleInfo, PDB, PdbInternalSectionOffset,
