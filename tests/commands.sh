@@ -4,8 +4,8 @@
 #
 #   tests/commands.sh [--write] [--slow] [PROGRAM]
 #
-# PROGRAM is the built pdb_symbolizer; if left out, the proved one. pdb_llvm_symbolizer is always the
-# proved one.
+# PROGRAM is the built pdb_symbolizer; if left out, the proved one. pdb_llvm_symbolizer is always
+# the proved one.
 # A block of a document that begins with `    $ ` is a transcript: each such line is a command, and
 # the lines below it are what it prints, on standard error too. A command with nothing below it has
 # to end with status 0. Each transcript runs in a new folder, with both programs on the path and

@@ -2,8 +2,8 @@
 //!
 //! A line of a file is a case if it contains ` => `. Before that stand five words: what is asked; a
 //! DATABASE, as in cases of reports; the index of a module; the flags; and an index, an RVA or an
-//! offset, in hexadecimal. After it stands the answer that must come, or `fault: ` and the fault. What is
-//! asked:
+//! offset, in hexadecimal. After it stands the answer that must come, or `fault: ` and the fault.
+//! What is asked:
 //!
 //! - `function`, `emitted`: the signature of a function `f` whose type has that index, returned or
 //!   written to a writer

@@ -101,8 +101,8 @@ fn ask_context_over(
     Ok(())
 }
 
-/// Makes a formatter over a file's bytes, and prints each question with its answer, twice. If memory
-/// runs out each time it is made, nothing is asked.
+/// Makes a formatter over a file's bytes, and prints each question with its answer, twice. If
+/// memory runs out each time it is made, nothing is asked.
 ///
 /// # Errors
 /// What can't be read of the database, a failed write; out of memory.
