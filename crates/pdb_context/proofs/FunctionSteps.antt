@@ -9,8 +9,8 @@ use Rattle.pdb_resolving.specs.Fault.{Fault, Fails}
 use Rattle.pdb_resolving.specs.Resolving.{Provided}
 use Rattle.pdb_functions.specs.FunctionOrder.{Function}
 use Rattle.pdb_answers.specs.Choice.{Parts}
-use Rattle.pdb_answers.specs.Scopes.{Scope}
-use Rattle.pdb_answers.specs.FramesAt.{function}
+use Rattle.pdb_frames.specs.Scopes.{Scope}
+use Rattle.pdb_frames.specs.FramesAt.{function}
 use Rattle.pdb_context.specs.Starts.{if_any}
 use Rattle.pdb_context.specs.Context.{Context, scope_in, uncounted, lookups_after}
 use Rattle.pdb_context.specs.FunctionList.{functions_at, FunctionsLeft, functions_left, none_left, GivesFunction, RisesWithin}

@@ -18,7 +18,7 @@ use Rattle.pdb_module_data.specs.Procedures.{Procedure}
 use Rattle.pdb_contributions.specs.Publics.{PublicFunction}
 use Rattle.pdb_symbols_modules.specs.Modules.{Module}
 use Rattle.pdb_answers.specs.KnownModules.{module_data, procedures_in}
-use Rattle.pdb_answers.specs.Scopes.{Scope}
+use Rattle.pdb_frames.specs.Scopes.{Scope}
 use Rattle.pdb_context.specs.Starts.{if_any, addresses_of, procedure_starts_from, is_among, IsAscending}
 
 -- ---- one address

@@ -7,7 +7,7 @@ use Rattle.pdb_resolving.specs.Fault.{Fault}
 use Rattle.pdb_resolving.specs.Resolving.{Provided}
 use Rattle.pdb_answers.specs.Printing.{Formatting}
 use Rattle.pdb_answers.specs.Choice.{Parts}
-use Rattle.pdb_answers.specs.Scopes.{Scope, scope_of}
+use Rattle.pdb_frames.specs.Scopes.{Scope, scope_of}
 use Rattle.pdb_answers.specs.FailingParts.{Failures, no_failures}
 
 -- what gives modules, what every question goes over, what names are made of, how many places were

@@ -8,8 +8,8 @@ use Rattle.pdb_resolving.specs.declared.error.Error.{Error}
 use Rattle.pdb_resolving.specs.declared.error.Error.TheVariants as errors
 use Rattle.pdb_functions.specs.FunctionOrder.{Function}
 use Rattle.pdb_answers.specs.Choice.{Parts}
-use Rattle.pdb_answers.specs.Scopes.{Scope}
-use Rattle.pdb_answers.specs.FramesAt.{function}
+use Rattle.pdb_frames.specs.Scopes.{Scope}
+use Rattle.pdb_frames.specs.FramesAt.{function}
 use Rattle.pdb_context.specs.Context.{Context, uncounted}
 use Rattle.pdb_context.specs.Starts.{if_any, start_addresses, IsAscending}
 

@@ -10,7 +10,7 @@ use Rattle.pdb_addresses.specs.Addresses.{Map, outer_of_place}
 use Rattle.pdb_symbols_modules.specs.Modules.{Module}
 use Rattle.pdb_answers.specs.KnownModules.{module_data, procedures_in}
 use Rattle.pdb_answers.specs.Choice.{Parts}
-use Rattle.pdb_answers.specs.Scopes.{Scope}
+use Rattle.pdb_frames.specs.Scopes.{Scope}
 
 -- a value that may be there, as a list
 abbrev pub if_any : {A : Type 0} → Option A → List A

@@ -9,12 +9,12 @@ ghost use Rattle.pdb_answers.specs.Parts.{parts_of};
 ghost use Rattle.pdb_context.specs.Context.{context_over, lasting, scope_in, uncounted};
 ghost use Rattle.pdb_context.specs.Context.{lookups_after};
 ghost use Rattle.pdb_answers.specs.FailingParts.{Failures as FailedParts, failed_after, told};
-ghost use Rattle.pdb_answers.specs.Failing.{Part, failing, failing_if_held};
-ghost use Rattle.pdb_answers.specs.FramesAt.{frames, frames_if_held, function};
-ghost use Rattle.pdb_answers.specs.Keys.{function_by};
+ghost use Rattle.pdb_frames.specs.Failing.{Part, failing, failing_if_held};
+ghost use Rattle.pdb_frames.specs.FramesAt.{frames, frames_if_held, function};
+ghost use Rattle.pdb_frames.specs.Keys.{function_by};
 ghost use Rattle.pdb_functions.specs.Frames.{FunctionFrames as FramesFound};
 ghost use Rattle.pdb_answers.specs.MaybeOwned.{value_of};
-ghost use Rattle.pdb_answers.specs.Runs.{database_of, function_here as function_at_place};
+ghost use Rattle.pdb_frames.specs.Runs.{database_of, function_here as function_at_place};
 ghost use Rattle.pdb_functions.specs.Databases.{IsOneRun, place_of as as_place};
 
 use pdb_addresses::{AddressMap, ImageSectionHeader, PdbInternalSectionOffset, Rva};
@@ -39,7 +39,7 @@ pub struct Context<'a, 's, P: ModuleProvider> {
 impl<'a, 's, P: ModuleProvider> Model for Context<'a, 's, P> {
     ghost use Rattle.std.specs.Prelude.{option_map};
     ghost use Rattle.pdb_context.specs.Context as contexts;
-    ghost use Rattle.pdb_answers.specs.Scopes.{entries_of, scope_of};
+    ghost use Rattle.pdb_frames.specs.Scopes.{entries_of, scope_of};
     ghost use Rattle.pdb_context.specs.Starts.{start_addresses, AreStarts};
 
     ghost Value = { contexts.Context P };

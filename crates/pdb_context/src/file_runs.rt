@@ -1,7 +1,7 @@
 //! The file of a place, and how far it goes on.
 
 ghost use Rattle.std.specs.Prelude.{◌≡◌, ◌≤◌, true, IfOk, Ok, option_and_then};
-ghost use Rattle.pdb_answers.specs.Files.{file_by, file_here, files_of, if_any};
+ghost use Rattle.pdb_frames.specs.Files.{file_by, file_here, files_of, if_any};
 ghost use Rattle.pdb_context.specs.Context.{lookups_after, scope_in, uncounted};
 ghost use Rattle.pdb_functions.specs.Databases.{IsOneRun, place_of as as_place};
 ghost use Rattle.pdb_functions.specs.FileAnswers.{file_seen};

@@ -2,7 +2,7 @@
 
 ghost use Rattle.std.specs.Prelude.{◌≡◌, ◌++◌, IfOk, OnOk, map, option_map};
 ghost use Rattle.pdb_addresses.specs.Addresses.{IsOrdered, outer_of_place};
-ghost use Rattle.pdb_answers.specs.Scopes.{scope_of, entries_of};
+ghost use Rattle.pdb_frames.specs.Scopes.{scope_of, entries_of};
 ghost use Rattle.pdb_context.specs.Starts.{if_any, addresses_of, procedure_starts_from};
 ghost use Rattle.pdb_context.specs.Starts.{start_addresses, AreStarts, IsAscending};
 ghost use Rattle.pdb_answers.specs.KnownModules.{module_data};

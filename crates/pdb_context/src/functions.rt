@@ -2,7 +2,7 @@
 
 ghost use Rattle.std.specs.Prelude.{◌≡◌, ◌-◌, ◌<◌, IfOk, IsOkUnless, OnSome, length, drop};
 ghost use Rattle.std.specs.Iterator.{at_most};
-ghost use Rattle.pdb_answers.specs.Scopes.{entries_of};
+ghost use Rattle.pdb_frames.specs.Scopes.{entries_of};
 ghost use Rattle.pdb_context.specs.Context.{scope_in, uncounted};
 ghost use Rattle.pdb_context.specs.FunctionList.{AreFunctions, GivesFunction, functions_left};
 ghost use Rattle.pdb_context.specs.FunctionList.{RisesWithin, StepsOn};

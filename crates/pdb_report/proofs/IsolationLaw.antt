@@ -5,11 +5,11 @@ use Rattle.std.proofs.lemmas.Bool.Decides.{eqb_tells}
 use mathlib.Core.Path.{fun_ext}
 use Rattle.pdb_addr2line.specs.Choice as places
 use Rattle.pdb_addr2line.specs.Choice.{held_at, place_of}
-use Rattle.pdb_addr2line.specs.FramesAt.{frames, frames_if_held, function, function_at as function_in}
-use Rattle.pdb_addr2line.specs.Held.{given, names_in}
+use Rattle.pdb_frames.specs.FramesAt.{frames, frames_if_held, function, function_at as function_in}
+use Rattle.pdb_loading.specs.Held.{given, names_in}
 use Rattle.pdb_loading.specs.ModuleInfos.{if_read}
 use Rattle.pdb_loading.specs.Loading.{tables, listed, Loaded, parts_in, none_or, loaded, load_fault, LoadingFault, AddressTableDecreases, lifted}
-use Rattle.pdb_addr2line.specs.Scopes.{Scope}
+use Rattle.pdb_frames.specs.Scopes.{Scope}
 use Rattle.pdb_engine.specs.Address.{address_of}
 use Rattle.pdb_addresses.specs.Addresses.{is_ordered}
 use Rattle.pdb_addresses.specs.declared.internal_section_offset.PdbInternalSectionOffset.{PdbInternalSectionOffset}

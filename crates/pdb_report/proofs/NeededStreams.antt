@@ -2,8 +2,8 @@
 use Rattle.std.proofs.Common.{◌≡◌, ℕ, ◌<◌, ◌^◌, Bool, true, false, cond, ltb, List, Result, Ok, Err, refl, sym, ap, ◌∙◌, arith}
 use Rattle.std.specs.Prelude.{None, IsOk}
 use Rattle.std.proofs.lemmas.Bool.{ltb-true}
-use Rattle.pdb_addr2line.specs.Held.{given}
-use Rattle.pdb_addr2line.specs.ModuleInfos.{answered, kept_info}
+use Rattle.pdb_loading.specs.Held.{given}
+use Rattle.pdb_loading.specs.ModuleInfos.{answered, kept_info}
 use Rattle.pdb_container.specs.Alike.{OpenAlike, both_refused, both_open, ReadAlike}
 use Rattle.pdb_container.specs.Container.{layout_of}
 use Rattle.pdb_container.specs.Fault as container

@@ -15,13 +15,13 @@ use Rattle.pdb_resolving.specs.Resolving.{Provided, none_failed}
 use Rattle.pdb_type_sizes.specs.Reading.{pointer_bytes}
 use Rattle.pdb_addr2line.specs.Printing.{Formatting}
 use Rattle.pdb_addr2line.specs.Choice.{Parts}
-use Rattle.pdb_addr2line.specs.Scopes.{Scope, scope_of}
+use Rattle.pdb_frames.specs.Scopes.{Scope, scope_of}
 use Rattle.pdb_addr2line.specs.Context.{Context, context_over}
 use Rattle.pdb_addr2line.specs.FailingParts.{no_failures}
-use Rattle.pdb_addr2line.specs.FramesAt.{frames, function}
+use Rattle.pdb_frames.specs.FramesAt.{frames, function}
 use Rattle.pdb_addr2line.specs.Formatters as held
-use Rattle.pdb_addr2line.specs.Files.{files_of}
-use Rattle.pdb_addr2line.specs.Runs.{database_of}
+use Rattle.pdb_frames.specs.Files.{files_of}
+use Rattle.pdb_frames.specs.Runs.{database_of}
 use Rattle.pdb_loading.specs.declared.load_fault.LoadFault.{LoadFault}
 use Rattle.pdb_loading.specs.declared.load_fault.LoadFault.TheVariants as faults
 use Rattle.pdb_loading.specs.Held.{Held, given, names_in, parts_held}

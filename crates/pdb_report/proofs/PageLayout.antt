@@ -3,9 +3,9 @@ use Rattle.std.proofs.Common.{◌≡◌, ℕ, ◌<◌, ◌^◌, List, Result, Ok
 use Rattle.std.specs.Prelude.{◌↔◌}
 use mathlib.Core.Path.{fun_ext}
 use Rattle.pdb_addresses.specs.Addresses.{Map}
-use Rattle.pdb_addr2line.specs.Files.{files_of}
-use Rattle.pdb_addr2line.specs.FramesAt.{frames, function}
-use Rattle.pdb_addr2line.specs.Runs.{database_of}
+use Rattle.pdb_frames.specs.Files.{files_of}
+use Rattle.pdb_frames.specs.FramesAt.{frames, function}
+use Rattle.pdb_frames.specs.Runs.{database_of}
 use Rattle.pdb_container.specs.Alike.{OpenAlike, ReadAlike}
 use Rattle.pdb_functions.specs.Databases.{Database}
 use Rattle.pdb_functions.specs.FileReport.{IsFileReport}

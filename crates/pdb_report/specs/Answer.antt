@@ -10,20 +10,20 @@ use Rattle.pdb_resolving.specs.Resolving.{Provided, none_failed}
 use Rattle.pdb_type_sizes.specs.Reading.{pointer_bytes}
 use Rattle.pdb_addr2line.specs.Printing.{Formatting}
 use Rattle.pdb_addr2line.specs.Choice.{Parts}
-use Rattle.pdb_addr2line.specs.Scopes.{Scope, scope_of, entries_of}
+use Rattle.pdb_frames.specs.Scopes.{Scope, scope_of, entries_of}
 use Rattle.pdb_addr2line.specs.Context.{Context, scope_in}
 use Rattle.pdb_functions.specs.Frames.{FunctionFrames}
-use Rattle.pdb_addr2line.specs.Files.{files_keyed, files_of}
-use Rattle.pdb_addr2line.specs.FramesAt.{frames, function}
-use Rattle.pdb_addr2line.specs.Keys.{keyed_of}
+use Rattle.pdb_frames.specs.Files.{files_keyed, files_of}
+use Rattle.pdb_frames.specs.FramesAt.{frames, function}
+use Rattle.pdb_frames.specs.Keys.{keyed_of}
 use Rattle.pdb_functions.specs.FileAnswers.{FileAnswer}
 use Rattle.pdb_functions.specs.declared.file_key.FileKey.{FileKey}
 use Rattle.pdb_functions.specs.declared.function_key.FunctionKey.{FunctionKey}
-use Rattle.pdb_addr2line.specs.Runs.{database_of}
+use Rattle.pdb_frames.specs.Runs.{database_of}
 use Rattle.pdb_functions.specs.Databases.{Database, Keyed}
 use Rattle.pdb_functions.specs.FunctionOrder.{Function}
-use Rattle.pdb_addr2line.specs.Held.{given, names_in}
-use Rattle.pdb_addr2line.specs.ModuleInfos.{KeptInfo, answered_at}
+use Rattle.pdb_loading.specs.Held.{given, names_in}
+use Rattle.pdb_loading.specs.ModuleInfos.{KeptInfo, answered_at}
 use Rattle.pdb_loading.specs.Loading.{LoadingFault, Loaded, loaded}
 
 -- what a file gives of the module of a number, whatever its entry; a fault says that it was stored

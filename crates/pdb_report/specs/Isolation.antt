@@ -2,7 +2,7 @@
 use Rattle.std.specs.Prelude.{◌≡◌, ◌==◌, if◌then◌else◌, ℕ, ◌<◌, ◌^◌, List, [], Option, None, Some}
 use Rattle.std.specs.Prelude.{option_map, Result, Ok, Err}
 use Rattle.pdb_addr2line.specs.Choice.{held_at, place_of}
-use Rattle.pdb_addr2line.specs.Held.{names_in}
+use Rattle.pdb_loading.specs.Held.{names_in}
 use Rattle.pdb_engine.specs.Address.{address_of}
 use Rattle.pdb_container.specs.Alike.{OpenAlike, ReadAlike}
 use Rattle.pdb_container.specs.Fault as container

@@ -5,7 +5,7 @@ ghost use Rattle.std.specs.Prelude.{option_and_then};
 ghost use Rattle.std.specs.String.{string_bytes};
 ghost use Rattle.pdb_addresses.specs.Addresses.{Map};
 ghost use Rattle.pdb_addr2line.specs.Context.{Context as ContextValue};
-ghost use Rattle.pdb_addr2line.specs.ModuleInfos.{KeptInfo};
+ghost use Rattle.pdb_loading.specs.ModuleInfos.{KeptInfo};
 ghost use Rattle.pdb_functions.specs.Databases.{Database, IsOneRun, Keyed, place_of};
 ghost use Rattle.pdb_report.specs.Answer.{AnswersAs};
 ghost use Rattle.pdb_report.specs.Answer.{answered_in};

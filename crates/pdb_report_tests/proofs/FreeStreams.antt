@@ -24,7 +24,7 @@ use Rattle.pdb_symbols_modules.specs.Modules.{module_at}
 use Rattle.pdb_symbols_modules.specs.OptionalHeader.{optional_at, value_or}
 use Rattle.pdb_symbols_modules.specs.Shared.{number, named, named_number, names_number, symbols_number, optional_number, shared, module_of_number, info_in, info_from, module_number, module_bytes, provider}
 use Rattle.pdb_symbols_modules.specs.Streams.{Streams, if_named, streams}
-use Rattle.pdb_resolving.specs.Imports.{Import, import_at}
+use Rattle.pdb_subsections.specs.Imports.{Import, import_at}
 use Rattle.pdb_resolving.specs.Reaches.{Reaches}
 use Rattle.pdb_resolving.specs.Resolving.{Modules, module_numbered, imports_read, imports_of, last_place, last_named}
 use Rattle.pdb_report.specs.Isolation.{IsFree, IsNeeded, IsRelated, modules_in}

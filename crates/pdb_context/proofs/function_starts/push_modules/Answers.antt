@@ -1,5 +1,5 @@
 use Rattle.std.proofs.Common.{◌<◌, ◌++◌, length, ap, arith}
-use Rattle.pdb_answers.specs.Scopes.{scope_of, entries_of}
+use Rattle.pdb_frames.specs.Scopes.{scope_of, entries_of}
 use Rattle.pdb_context.proofs.StartSteps.{addresses_from, modules_more}
 use Rattle.pdb_context.proofs.function_starts.push_modules.Goals as goal
 

@@ -1,5 +1,5 @@
 use Rattle.std.proofs.Common.{◌≡◌, ◌++◌, drop}
-use Rattle.pdb_answers.specs.Scopes.{scope_of, entries_of}
+use Rattle.pdb_frames.specs.Scopes.{scope_of, entries_of}
 use Rattle.pdb_context.proofs.StartSteps.{addresses_from}
 use Rattle.pdb_context.proofs.function_starts.push_modules.Given as goal
 

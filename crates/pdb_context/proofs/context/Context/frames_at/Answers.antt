@@ -1,8 +1,8 @@
 use Rattle.std.proofs.Common.{Some, subst}
 use Rattle.pdb_answers.specs.Choice.{held_at}
 use Rattle.pdb_answers.specs.FailingParts.{told}
-use Rattle.pdb_answers.specs.Failing.{failing_if_held}
-use Rattle.pdb_answers.specs.FramesAt.{frames_if_held}
+use Rattle.pdb_frames.specs.Failing.{failing_if_held}
+use Rattle.pdb_frames.specs.FramesAt.{frames_if_held}
 use Rattle.pdb_context.specs.Context.{Context, scope_in}
 use Rattle.pdb_resolving.specs.Fault.{Answers}
 use Rattle.pdb_context.proofs.context.Context.frames_at.Goals as goal
