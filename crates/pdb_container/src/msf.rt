@@ -419,9 +419,12 @@ pub trait Msf<'s, S: Source> {
     /// An MSF stream by its number, or its first `limit` bytes. It views the stream's own pages
     /// alone, unless the source failed each time that the directory was read before; then it reads
     /// that first. A call that is refused changes no later result, unless the source counts what it
-    /// lists. `StreamNotFound`, `PageReferenceOutOfRange`, `UnexpectedEof`; `IoError` past the
-    /// file's end, and where the source failed; `OutOfMemory`, also where the source refuses to
-    /// have the stream's pages listed.
+    /// lists.
+    ///
+    /// # Errors
+    /// `StreamNotFound`, `PageReferenceOutOfRange`, `UnexpectedEof`; `IoError` past the file's end,
+    /// and where the source failed; `OutOfMemory`, also where the source refuses to have the
+    /// stream's pages listed.
     fn get(&mut self, alloc: Global, stream_number: u32, limit: Option<usize>) -> Result<Stream<'s>>
         ensures { AnswersFrom S.bytes S.failures (source self.old) (source self.new) (λ s. s) result
             (stream (S.bytes (source self.old)) stream_number limit) };

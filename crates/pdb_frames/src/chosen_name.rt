@@ -55,7 +55,10 @@ fn procedure_name<'a, P: ModuleProvider>(
     }
 }
 
-/// The name of a chosen function in the module of a number.
+/// The name of a chosen function in the module with that index.
+///
+/// # Errors
+/// `AllocError` when memory runs out.
 pub fn name_of<'a, P: ModuleProvider>(
     alloc: Global,
     parts: &ContextParts<'_, '_>,

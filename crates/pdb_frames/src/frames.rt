@@ -334,6 +334,9 @@ fn frames_in_data<'a, P: ModuleProvider>(
 
 /// The frames at a place in a chosen function whose module may have no data: then the function
 /// alone, without file, line and row.
+///
+/// # Errors
+/// The first fault of those parts of the module that the frames are made of; `OutOfMemory`.
 pub fn frames_in<'a, P: ModuleProvider>(
     alloc: Global,
     parts: &ContextParts<'a, '_>,

@@ -89,6 +89,9 @@ fn contribution_numbers_of(
 }
 
 /// Where contributions begin and end.
+///
+/// # Errors
+/// `AllocError` when memory runs out.
 pub fn contribution_bounds(
     alloc: Global,
     contributions: &[ModuleSectionContribution],
@@ -122,6 +125,9 @@ fn procedure_numbers_of(alloc: Global, procedures: &[Procedure<'_>]) -> Result<V
 }
 
 /// Where procedures begin and end.
+///
+/// # Errors
+/// `AllocError` when memory runs out.
 pub fn procedure_bounds(
     alloc: Global,
     procedures: &[Procedure<'_>],

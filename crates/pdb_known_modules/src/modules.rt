@@ -135,6 +135,9 @@ impl<'a, I: ModuleTables> BasicModuleInfo<'a, I> {
     /// Reads the line program and the inlinees, and caches them, unless they were cached before.
     /// Where they have a fault nothing is cached, and so where memory is short. Returns about how
     /// many bytes were cached.
+    ///
+    /// # Errors
+    /// `AllocError` when memory runs out.
     #[tactic(auto, using(crate::proofs::KeptProcedures::nothing_kept))]
     pub fn keep_extended(&mut self, alloc: Global) -> std::result::Result<u64, AllocError>
         ensures { self.new ≡ self.old }
@@ -168,6 +171,9 @@ impl<'a, I: ModuleTables> BasicModuleInfo<'a, I> {
     /// and inlinees are cached, and caches them, unless they were cached before. Where rows or
     /// sites have a fault these aren't cached, and so where memory is short; after a fault of the
     /// rows no sites are read. Returns about how many bytes were cached.
+    ///
+    /// # Errors
+    /// `AllocError` when memory runs out.
     pub fn keep_procedure(
         &mut self,
         alloc: Global,
@@ -279,6 +285,9 @@ impl<'a, I: ModuleTables> BasicModuleInfo<'a, I> {
     /// cached, and caches them for all functions of their `DEBUG_S_LINES`, unless they were cached
     /// before. Where they have a fault nothing is cached, and so where memory is short. Returns
     /// about how many bytes were cached.
+    ///
+    /// # Errors
+    /// `AllocError` when memory runs out.
     pub fn keep_rows(
         &mut self,
         alloc: Global,
@@ -355,6 +364,9 @@ fn data_if_read<'a, I: ModuleTables>(
 
 /// The data of the module with that index, counted from 0; `None` past the list, where it has no
 /// stream, and where that or its symbols can't be read to the end.
+///
+/// # Errors
+/// `AllocError` when memory runs out.
 pub fn get_basic_module_info<'a, P: ModuleProvider>(
     alloc: Global,
     provider: &'a P,
@@ -395,8 +407,11 @@ fn extended_size(extended: &ExtendedModuleInfo<'_>, line_data_size: u32, count: 
         .saturating_add(places)
 }
 
-/// The line program of a module, and then its inlinees, each to its end. The faults of
-/// [`ModuleTables::line_program`] and [`ModuleTables::inlinees`], `UnexpectedEof`; `OutOfMemory`.
+/// The line program of a module, and then its inlinees, each to its end.
+///
+/// # Errors
+/// The faults of [`ModuleTables::line_program`] and [`ModuleTables::inlinees`], `UnexpectedEof`;
+/// `OutOfMemory`.
 #[tactic(auto, unfolding(crate::specs::KnownModules::extended_of))]
 pub fn read_extended<'a, I: ModuleTables>(
     alloc: Global,

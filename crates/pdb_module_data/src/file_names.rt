@@ -142,6 +142,9 @@ fn name_between<'t>(
 
 impl<'t, 's> FileNames<'t, 's> {
     /// The names of a string table, if there is one, gone over once.
+    ///
+    /// # Errors
+    /// `AllocError` when memory runs out.
     pub fn new(
         alloc: Global,
         strings: Option<&'t StringTable<'s>>,
@@ -165,7 +168,10 @@ impl<'t, 's> FileNames<'t, 's> {
     }
 
     /// The name at an offset as text, with U+FFFD for what is no character; `None` where there is
-    /// no string table or no such name. `AllocError` alone is returned where memory ran out.
+    /// no string table or no such name.
+    ///
+    /// # Errors
+    /// `AllocError` when memory runs out.
     pub fn text(&self, alloc: Global, name: StringRef) -> Result<Option<CowStr<'t>>, AllocError>
         ensures { IfOk result
             (λ text. option_map cow_str_bytes text

@@ -161,6 +161,9 @@ impl<'t> InlineRanges<'t> {
     /// over the place, of equally deep ones the first in the order of the file, and those of the
     /// sites that it lies in. None where no row covers the place. The deepest site is found by
     /// halving, and so is the row of each over the place.
+    ///
+    /// # Errors
+    /// `AllocError` when memory runs out.
     #[tactic(auto, using(crate::proofs::Deepest::deepest_within, crate::proofs::KeptRows::are_cut))]
     pub fn calls_over(
         &self,
