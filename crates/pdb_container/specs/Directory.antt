@@ -1,4 +1,4 @@
--- What a container keeps of its directory.
+-- What a container stores of its directory.
 use Rattle.std.specs.Prelude.{◌≡◌, ℕ, ◌*◌, ◌≤◌, ◌^◌, List, [], ◌∷◌, length, take, drop, map, min}
 use Rattle.std.specs.Prelude.{slice_index, Option, Some, None, Result, Ok, Err}
 use Rattle.std.specs.Int.{div_ceil}
@@ -28,8 +28,8 @@ pub record HasStarts (page_size : ℕ) (d : Directory) : Type 0 where
   pub exact : d.starts.items ≡ starts_in page_size d.numbers
   pub few : (k : ℕ) → slice_index d.starts.items k ≤ 2 ^ 62
 
--- What is kept of reading the directory is the file's: its numbers with their starts, or its fault;
--- or nothing is kept.
+-- What is stored of reading the directory is the file's: its numbers with their starts, or its
+-- fault; or nothing is stored.
 abbrev pub IsKept : Layout → List ℕ → Option (Result Directory Error) → Type 0
 IsKept h file None = Unit {0}
 IsKept h file (Some (Ok d)) = (directory_of h file ≡ Ok d.numbers) × HasStarts h.page_size d

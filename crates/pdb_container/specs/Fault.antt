@@ -74,7 +74,7 @@ abbrev pub said : Error → Option Fault
 said errors.OutOfMemory = None
 said e = Some (fault_of e)
 
--- an error as the fault that is kept of a module's stream; any other error stays as it is
+-- an error as the fault that is stored for a module's stream; any other error stays as it is
 abbrev pub kept_of : Error → Result ModuleFault Error
 kept_of (errors.StreamNotFound a) = Ok (kept.StreamNotFound a)
 kept_of (errors.PageReferenceOutOfRange a) = Ok (kept.PageReferenceOutOfRange a)

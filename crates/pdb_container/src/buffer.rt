@@ -306,7 +306,7 @@ impl<'b> ParseBuffer<'b> {
         &self.bytes[self.pos..]
     }
 
-    /// The same bytes at the same place, to be read on their own.
+    /// A buffer of the same bytes at the same place, to be read on its own.
     fn ahead(&self) -> ParseBuffer<'b>
         ensures { result ≡ self.now }
     {

@@ -28,9 +28,9 @@ pub fn paged()
         ↔ IsPaged file size pages count bytes }
 {}
 
-/// A stream has the length that the directory says, or the limit, and byte i of it is the file's
-/// byte in the stream's page number i / P, at i % P, where P is the size of a page; and bytes of
-/// which this is true are the stream.
+/// A stream has the length that the directory says, or the limit. Byte i of it is the file's byte
+/// in the stream's page number i / P, at i % P, where P is the size of a page. Bytes of which this
+/// is true are the stream.
 pub fn stream_byte_by_byte()
     ensures { (file : List ℕ) (n : ℕ) (limit : Option ℕ) (bytes : List ℕ)
         → (stream file n limit ≡ Ok bytes) ↔ IsStream file n limit bytes }

@@ -243,8 +243,8 @@ fn read_directory<S: Source>(
 }
 
 /// The first bytes of a stream, by the directory or its fault. The source is asked for the whole
-/// stated size, whatever the limit, since all the pages are listed; but for no more than the
-/// directory has numbers for, so that one damaged size is still a fault of that stream alone.
+/// stated size, whatever the limit, since all the pages are listed. It is asked for no more than
+/// the directory has numbers for, so that one damaged size is still a fault of that stream alone.
 #[tactic(auto, using(crate::proofs::Outside::outside_alone), unfolding(crate::specs::Container::stream_in))]
 fn read_stream<S: Source>(
     source: &mut S,

@@ -271,10 +271,10 @@ impl<'a, 's, P: ModuleProvider> Context<'a, 's, P> {
         self.counted(function)
     }
 
-    /// The function at a place, if there is one, and over how many bytes from the place on the
-    /// function is the same: the lesser of `limit`, which is at least 1, and the distance to the
-    /// next place of the section at which a contribution begins or ends, a procedure of the module
-    /// that holds the place begins or ends, or a public entry begins.
+    /// Returns the function at a place, if there is one, and over how many bytes from there on it
+    /// is the same. That is the lesser of `limit`, which is at least 1, and the distance to the
+    /// next bound in the section. Bounds are where a contribution begins or ends, where a procedure
+    /// of the module that holds the place begins or ends, and where a public entry begins.
     ///
     /// # Errors
     /// `OutOfMemory` alone.

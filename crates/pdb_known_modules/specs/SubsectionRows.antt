@@ -12,7 +12,7 @@ use Rattle.pdb_module_data.specs.declared.function_rows.LineRow.{LineRow}
 use Rattle.pdb_module_data.specs.FunctionLine.{function_rows, numbered_rows}
 use Rattle.pdb_known_modules.specs.KnownModules.{ExtendedModule, extended_of}
 
--- These rows are those of the subsection of a number, by the stream's line program.
+-- These rows are those of the subsection with that number, by the stream's line program.
 pub record AreRowsOf (stream : ModuleStream) (number : ℕ) (rows : List LineRow) : Type 0 where
   pub each : (extended : ExtendedModule) → extended_of stream ≡ Ok extended
       → numbered_rows extended.program number ≡ Ok rows
@@ -23,8 +23,8 @@ pub record AreRowsAt (stream : ModuleStream) (start : PdbInternalSectionOffset)
   pub each : (extended : ExtendedModule) → extended_of stream ≡ Ok extended
       → function_rows extended.program start ≡ Ok rows
 
--- The subsection of a number, if one is given, is that of the function that begins at a place, by
--- the stream's line program.
+-- The subsection with that number, if one is given, is that of the function that begins at a place,
+-- by the stream's line program.
 abbrev pub IsNumberAt : ModuleStream → PdbInternalSectionOffset → Option ℕ → Type 0
 IsNumberAt stream start None = Unit {0}
 IsNumberAt stream start (Some number) = (extended : ExtendedModule)

@@ -102,7 +102,7 @@ fn forget_if_full<'a, I: ModuleTables>(cached: &mut CachedModules<'a, I>)
     }
 }
 
-/// Whether the place of a number is there and empty.
+/// Whether the place with that number is there and empty.
 fn is_empty_at<'a, I: ModuleTables>(kept: &[KeptModule<'a, I>], number: usize) -> bool
     ensures { result ≡ is_empty_place (slice_get kept.now number) }
 {

@@ -340,7 +340,7 @@ impl<'a, I: ModuleTables> BasicModuleInfo<'a, I> {
     }
 }
 
-/// Whether the place of a number is there and empty.
+/// Whether the place with that number is there and empty.
 fn is_empty_at(places: &[Option<Box<KeptProcedure<'_>>>], number: usize) -> bool
     ensures { (result ≡ true) ↔ (slice_get places.now number ≡ Some None) }
 {

@@ -31,7 +31,7 @@ pub struct ExtendedProcedureInfo<'a> {
     pub ranges: InlineRanges<'a>,
 }
 
-/// The same, lent of what is cached.
+/// What [`ExtendedProcedureInfo`] has, lent from what is cached.
 #[derive(Clone, Copy)]
 pub struct LentProcedure<'m, 'a> {
     /// Its line rows.

@@ -43,7 +43,7 @@ abbrev pub answered_if_listed : Option KeptInfo → Result (Option ModuleStream)
 answered_if_listed None = Ok None
 answered_if_listed (Some info) = answered info
 
--- the answer for the module of a number, counted from 0; past the list there is none
+-- the answer for the module with that index, counted from 0; past the list there is none
 abbrev pub answered_at : List KeptInfo → ℕ → Result (Option ModuleStream) Fault
 answered_at infos number = answered_if_listed (slice_get infos number)
 

@@ -72,7 +72,7 @@ fn text_as_it_stands(names: &[u8]) -> Option<&str>
     std::str::from_utf8(names).ok()
 }
 
-/// The start of a number, if it is there.
+/// The start with that number, if it is there.
 fn start_numbered(starts: &[u32], number: usize) -> Option<u32>
     ensures { result ≡ slice_get starts.now number }
 {

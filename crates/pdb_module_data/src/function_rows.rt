@@ -171,7 +171,7 @@ fn unless_ascending(
     Ok(Some(unordered))
 }
 
-/// The row of a number, if it is there.
+/// The row with that number, if it is there.
 fn row_numbered(rows: &[LineRow], number: usize) -> Option<LineRow>
     ensures { result ≡ slice_get rows.now number }
 {
