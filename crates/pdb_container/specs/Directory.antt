@@ -13,7 +13,8 @@ abbrev pub counted_in : List ℕ → ℕ
 counted_in [] = 0
 counted_in (count ∷ sizes) = min count (length sizes)
 
--- for n streams, each 256 further, by all sizes: how many pages the streams before it have
+-- for the first of each 256 streams, n of them, by all sizes: how many pages the streams before it
+-- have
 unfoldable pub starts_from : ℕ → List ℕ → ℕ → List ℕ
 starts_from page_size sizes n =
     map (λ k. sum_by (page_count page_size) (take (256 * k) sizes)) (range_with_len 0 n)

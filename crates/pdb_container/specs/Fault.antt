@@ -92,7 +92,7 @@ abbrev pub ◌>>=◌ : {F A B : Type 0} → Result A F → (A → Result B F) �
 abbrev pub guard : {F : Type 0} → Bool → F → Result (Unit {0}) F
 guard holds fault = if holds then Ok tt else Err fault
 
--- a condition that may not hold, else the fault
+-- a condition that must not hold, else the fault
 abbrev pub refuse : {F : Type 0} → Bool → F → Result (Unit {0}) F
 refuse wrong fault = if wrong then Err fault else Ok tt
 

@@ -20,8 +20,8 @@ use crate::source::SourceSlice;
 use crate::string_table::StringRef;
 use std::hash::Hash;
 
-/// What pages hold is so many bytes, and byte i is the file's byte in page number i / size, at i %
-/// size; and bytes of which this is true are what the pages hold.
+/// What pages hold is so many bytes. Byte i is the file's byte in page number i / size, at i %
+/// size. Bytes of which this is true are what the pages hold.
 pub fn paged()
     ensures { (file pages bytes : List ℕ) (size count : ℕ)
         → (bytes_at file (page_places size pages count) ≡ Ok bytes)

@@ -242,9 +242,10 @@ fn read_directory<S: Source>(
     }
 }
 
-/// The first bytes of a stream, by the directory or its fault. The source is asked for the whole
-/// stated size, whatever the limit, since all the pages are listed. It is asked for no more than
-/// the directory has numbers for, so that one damaged size is still a fault of that stream alone.
+/// The first bytes of a stream, by the directory or its fault. The source is asked whether all the
+/// pages of the stated size may be listed, whatever the limit, since all of them are. It is asked
+/// about no more than the directory has numbers for, so that one damaged size is still a fault of
+/// that stream alone.
 #[tactic(auto, using(crate::proofs::Outside::outside_alone), unfolding(crate::specs::Container::stream_in))]
 fn read_stream<S: Source>(
     source: &mut S,
@@ -281,7 +282,8 @@ fn read_stream<S: Source>(
     }
 }
 
-/// The first bytes of a stream, where no directory is stored: it is read anew and stored.
+/// The first bytes of a stream, where no directory is stored: the directory is read anew and
+/// stored.
 #[tactic(auto, using(crate::proofs::Outside::outside_alone, crate::proofs::Outside::outside_earlier, crate::proofs::Outside::outside_later), unfolding(crate::specs::Container::stream_in))]
 fn read_anew<S: Source>(
     source: &mut S,

@@ -31,13 +31,13 @@ IsNumberAt stream start (Some number) = (extended : ExtendedModule)
     → extended_of stream ≡ Ok extended
     → subsection_numbered extended.program number ≡ subsections_for extended.program start
 
--- What is cached in places are the rows of the subsections of their numbers.
+-- The rows that are cached in places are those of the subsections with the places' numbers.
 pub record AreRowsOfStream (stream : ModuleStream)
     (places : List (Option (Box (List LineRow)))) : Type 0 where
   pub each : (number : ℕ) (rows : Box (List LineRow))
       → slice_get places number ≡ Some (Some rows) → AreRowsOf stream number (box_value rows)
 
--- Rows that are lent of a place, if some are, are those of the function that begins there.
+-- Rows that are lent for a place, if some are, are those of the function that begins there.
 abbrev pub AreLentAt :
     ModuleStream → PdbInternalSectionOffset → Option (Bor (List LineRow)) → Type 0
 AreLentAt stream start None = Unit {0}

@@ -16,8 +16,8 @@ use pdb_pieces::to_next;
 use std::alloc::{AllocError, Global};
 use std::marker::Model;
 
-/// How many numbers each section has: no offset's distance to a bound of another section is as
-/// short as 32 bits.
+/// How many numbers each section has: so many that no distance from a 32-bit offset to a bound of
+/// another section fits in 32 bits.
 const SECTION_NUMBERS: u64 = 1 << 34;
 
 /// The number of an offset in a section.

@@ -14,7 +14,7 @@ use pdb_symbols_modules::Module;
 use std::alloc::{AllocError, Global};
 use std::marker::Model;
 
-/// A place for a module's data, which are cached there once they were read: `Some(None)` of a
+/// A place for a module's data, which are cached there once they were read: `Some(None)` for a
 /// module without data.
 type KeptModule<'a, I> = Option<Option<BasicModuleInfo<'a, I>>>;
 

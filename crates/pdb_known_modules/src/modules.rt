@@ -133,8 +133,8 @@ impl<'a, I: ModuleTables> BasicModuleInfo<'a, I> {
     }
 
     /// Reads the line program and the inlinees, and caches them, unless they were cached before.
-    /// Where they have a fault nothing is cached, and so where memory is short. Returns about how
-    /// many bytes were cached.
+    /// Nothing is cached where they have a fault, or where memory is short. Returns about how many
+    /// bytes were cached.
     ///
     /// # Errors
     /// `AllocError` when memory runs out.
@@ -168,9 +168,9 @@ impl<'a, I: ModuleTables> BasicModuleInfo<'a, I> {
     }
 
     /// Reads the line rows and the inline sites of the procedure with that index, if line program
-    /// and inlinees are cached, and caches them, unless they were cached before. Where rows or
-    /// sites have a fault these aren't cached, and so where memory is short; after a fault of the
-    /// rows no sites are read. Returns about how many bytes were cached.
+    /// and inlinees are cached, and caches them, unless they were cached before. Rows or sites
+    /// aren't cached where they have a fault, or where memory is short. After a fault of the rows
+    /// no sites are read. Returns about how many bytes were cached.
     ///
     /// # Errors
     /// `AllocError` when memory runs out.
@@ -194,8 +194,8 @@ impl<'a, I: ModuleTables> BasicModuleInfo<'a, I> {
     }
 
     /// Reads the inline sites of the procedure with that index, if its line rows are cached, and
-    /// caches them, unless they were cached before. Where they have a fault nothing is cached, and
-    /// so where memory is short. Returns about how many bytes were cached.
+    /// caches them, unless they were cached before. Nothing is cached where they have a fault, or
+    /// where memory is short. Returns about how many bytes were cached.
     #[tactic(auto, using(crate::proofs::KeptProcedures::kept_now))]
     fn keep_sites(&mut self, alloc: Global, number: usize) -> std::result::Result<u64, AllocError>
         ensures { self.new ≡ self.old }
@@ -254,7 +254,7 @@ impl<'a, I: ModuleTables> BasicModuleInfo<'a, I> {
         }
     }
 
-    /// The line rows and the inline sites that are cached of a procedure with that index.
+    /// The line rows and the inline sites of a procedure with that index, if they are cached.
     pub fn extended_procedure(
         &self,
         number: usize,
@@ -283,8 +283,8 @@ impl<'a, I: ModuleTables> BasicModuleInfo<'a, I> {
 
     /// Reads the line rows of the function that begins at a place, if line program and inlinees are
     /// cached, and caches them for all functions of their `DEBUG_S_LINES`, unless they were cached
-    /// before. Where they have a fault nothing is cached, and so where memory is short. Returns
-    /// about how many bytes were cached.
+    /// before. Nothing is cached where they have a fault, or where memory is short. Returns about
+    /// how many bytes were cached.
     ///
     /// # Errors
     /// `AllocError` when memory runs out.

@@ -47,7 +47,7 @@ answered_if_listed (Some info) = answered info
 abbrev pub answered_at : List KeptInfo → ℕ → Result (Option ModuleStream) Fault
 answered_at infos number = answered_if_listed (slice_get infos number)
 
--- a value that may be missing, whatever is the reason
+-- a value that may be missing, whatever the reason
 abbrev pub if_read : {A : Type 0} → Result A Fault → Option A
 if_read (Ok x) = Some x
 if_read (Err e) = None

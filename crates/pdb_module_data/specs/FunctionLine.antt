@@ -56,7 +56,7 @@ numbered_rows program number =
 abbrev pub row_starts : List LineRow → List ℕ
 row_starts rows = map (λ row. row.start) rows
 
--- the row of a place in the function that begins at another one, of that one's rows
+-- the row of a place in the function that begins at another place, among that function's rows
 abbrev pub function_row : Program → PdbInternalSectionOffset → PdbInternalSectionOffset
     → Result (Option LineRow) Fault
 function_row program start place =

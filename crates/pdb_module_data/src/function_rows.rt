@@ -83,7 +83,7 @@ impl Model for FunctionRows {
     ghost invariant = { λ r. AreSearchable r.rows.items r.unordered };
 }
 
-/// What a row of this number covers, to the end of its section, ranked by its start.
+/// What a row with this number covers, to the end of its section, ranked by its start.
 fn row_span(number: usize, row: LineRow) -> Span
     ensures { result ≡ span_of_row number row }
 {

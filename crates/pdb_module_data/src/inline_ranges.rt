@@ -63,7 +63,7 @@ struct RowsAndSpans {
     spans: Vec<Span>,
 }
 
-/// Appends what is stored of the rows of the site of this number, and what they cover.
+/// Appends what is stored of the rows of the site with this number, and what they cover.
 fn push_site<'a>(
     rows: &mut Vec<CallRow>,
     spans: &mut Vec<Span>,

@@ -19,7 +19,7 @@ kept_at kept m n = kept_among (slice_get kept.modules.items m) n
 pub record IsSamePlaces {V : Type 0} (before after : List (Option V)) : Type 0 where
   pub each : (n : ℕ) → kept_in after n ≡ kept_in before n
 
--- A value is at a number, and at each other one what was there before.
+-- The value is at the number, and at each other number is what was there before.
 pub record IsPut {V : Type 0} (before after : List (Option V)) (number : ℕ) (value : V) :
     Type 0 where
   pub each : (n : ℕ) → kept_in after n ≡ cond (n == number) (Some value) (kept_in before n)
