@@ -23,7 +23,7 @@ lasting s = record {
   failed = no_failures;
 }
 
--- what an answer in the module of a number depends on
+-- what an answer in the module with that index depends on
 abbrev pub scope_in : {P : Type 0} → (P → Provided) → Symbolizer P → ℕ → Scope
 scope_in provided s m = scope_of provided s.provider s.formatting m
 

@@ -226,10 +226,10 @@ impl<'a, 's, P: ModuleProvider> PlaceSymbolizer<'a, 's, P> {
         )
     }
 
-    /// Returns a key of the file at a place, and how many bytes from there on have that file: the
-    /// lesser of `limit` and the distance to the next bound of functions, or to the next line row
-    /// of the place's function where there are frames. No name is made, and nothing is counted as
-    /// failed.
+    /// Returns a key of the file at a place, and how many bytes from there on have that file. That
+    /// is the lesser of `limit` and the distance to the next bound of functions or, where there are
+    /// frames, to the next line row of the place's function. No name is made, and nothing is
+    /// counted as failed.
     ///
     /// # Errors
     /// `OutOfMemory` alone.

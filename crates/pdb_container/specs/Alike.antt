@@ -29,7 +29,7 @@ pub record HaveSameStream (a b : List ℕ) (n : ℕ) : Type 0 where
   pub limited : IsOk (stream a n None) → (limit : ℕ)
       → stream a n (Some limit) ≡ stream b n (Some limit)
 
--- The same fault in opening, or none, and the same streams.
+-- Both have the same fault in opening, or none, and the same streams.
 pub record HaveSameStreams (a b : List ℕ) : Type 0 where
   pub refused : result_err (layout_of a) ≡ result_err (layout_of b)
   pub streams : (n : ℕ) → HaveSameStream a b n

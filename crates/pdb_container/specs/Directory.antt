@@ -1,4 +1,4 @@
--- What a container keeps of its directory.
+-- What a container stores of its directory.
 use Rattle.std.specs.Prelude.{◌≡◌, ℕ, ◌*◌, ◌≤◌, ◌^◌, List, [], ◌∷◌, length, take, drop, map, min}
 use Rattle.std.specs.Prelude.{slice_index, Option, Some, None, Result, Ok, Err}
 use Rattle.std.specs.Int.{div_ceil}
@@ -13,7 +13,8 @@ abbrev pub counted_in : List ℕ → ℕ
 counted_in [] = 0
 counted_in (count ∷ sizes) = min count (length sizes)
 
--- for n streams, each 256 further, by all sizes: how many pages the streams before it have
+-- for the first of each 256 streams, n of them, by all sizes: how many pages the streams before it
+-- have
 unfoldable pub starts_from : ℕ → List ℕ → ℕ → List ℕ
 starts_from page_size sizes n =
     map (λ k. sum_by (page_count page_size) (take (256 * k) sizes)) (range_with_len 0 n)
@@ -28,8 +29,8 @@ pub record HasStarts (page_size : ℕ) (d : Directory) : Type 0 where
   pub exact : d.starts.items ≡ starts_in page_size d.numbers
   pub few : (k : ℕ) → slice_index d.starts.items k ≤ 2 ^ 62
 
--- What is kept of reading the directory is the file's: its numbers with their starts, or its fault;
--- or nothing is kept.
+-- What is stored of reading the directory is the file's: its numbers with their starts, or its
+-- fault; or nothing is stored.
 abbrev pub IsKept : Layout → List ℕ → Option (Result Directory Error) → Type 0
 IsKept h file None = Unit {0}
 IsKept h file (Some (Ok d)) = (directory_of h file ≡ Ok d.numbers) × HasStarts h.page_size d

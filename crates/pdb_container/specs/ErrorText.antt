@@ -20,7 +20,7 @@ kind_text kinds.WriteZero = codes "WriteZero"
 kind_text kinds.BrokenPipe = codes "BrokenPipe"
 kind_text kind = codes "Other"
 
--- what the kept fault of a module's stream prints: its name, and its values in parentheses
+-- what the stored fault of a module's stream prints: its name, and its values in parentheses
 abbrev pub module_fault_text : ModuleFault → List ℕ
 module_fault_text (kept.StreamNotFound value) =
     codes "StreamNotFound(" ++ decimal value ++ codes ")"

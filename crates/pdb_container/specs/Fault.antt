@@ -74,7 +74,7 @@ abbrev pub said : Error → Option Fault
 said errors.OutOfMemory = None
 said e = Some (fault_of e)
 
--- an error as the fault that is kept of a module's stream; any other error stays as it is
+-- an error as the fault that is stored for a module's stream; any other error stays as it is
 abbrev pub kept_of : Error → Result ModuleFault Error
 kept_of (errors.StreamNotFound a) = Ok (kept.StreamNotFound a)
 kept_of (errors.PageReferenceOutOfRange a) = Ok (kept.PageReferenceOutOfRange a)
@@ -92,7 +92,7 @@ abbrev pub ◌>>=◌ : {F A B : Type 0} → Result A F → (A → Result B F) �
 abbrev pub guard : {F : Type 0} → Bool → F → Result (Unit {0}) F
 guard holds fault = if holds then Ok tt else Err fault
 
--- a condition that may not hold, else the fault
+-- a condition that must not hold, else the fault
 abbrev pub refuse : {F : Type 0} → Bool → F → Result (Unit {0}) F
 refuse wrong fault = if wrong then Err fault else Ok tt
 

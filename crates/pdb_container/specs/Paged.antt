@@ -5,9 +5,9 @@ use Rattle.pdb_container.specs.Container.{Layout, layout_of, directory_of, strea
 use Rattle.pdb_container.specs.Container.{stream}
 use Rattle.pdb_container.specs.Places.{IsPaged}
 
--- The bytes of stream n of a file, or its first ones: there are as many as the directory says or
--- the limit leaves, and byte i is the file's byte in the stream's page number i / P, at i % P,
--- where P is the size of a page.
+-- The bytes of stream n of a file, or its first ones. There are as many as the directory says or
+-- the limit leaves. Byte i is the file's byte in the stream's page number i / P, at i % P, where P
+-- is the size of a page.
 pub record IsStream (file : List ℕ) (n : ℕ) (limit : Option ℕ) (bytes : List ℕ) : Type 0 where
   pub layout : Layout
   pub opens : layout_of file ≡ Ok layout

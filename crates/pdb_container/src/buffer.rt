@@ -50,7 +50,10 @@ pub trait FromBuffer {
     /// What the bytes that are left say: a value and the bytes after it, or the fault.
     ghost read: { Reader Self };
 
-    /// The value at the buffer's place. Where it is refused, the place may have moved.
+    /// Reads the value at the buffer's place.
+    ///
+    /// # Errors
+    /// The fault of the bytes that are left, by `read`; the place may have moved then.
     fn from_buffer(buffer: &mut ParseBuffer<'_>) -> Result<Self>
         ensures { ReadsInSteps (λ x. x) result buffer.old buffer.new read };
 }
@@ -303,7 +306,7 @@ impl<'b> ParseBuffer<'b> {
         &self.bytes[self.pos..]
     }
 
-    /// The same bytes at the same place, to be read on their own.
+    /// A buffer of the same bytes at the same place, to be read on its own.
     fn ahead(&self) -> ParseBuffer<'b>
         ensures { result ≡ self.now }
     {

@@ -16,7 +16,10 @@ pub trait FallibleIterator {
     /// What may be returned at a state, and the state after it.
     ghost next_gives: { Self → Result (Option Self.Item) Self.Error → Self → Type 0 };
 
-    /// The next item; `None` at the end, and after an error.
+    /// Returns the next item; `None` at the end, and after an error.
+    ///
+    /// # Errors
+    /// Why the step failed; every later step returns `None`.
     fn next(&mut self) -> std::result::Result<Option<Self::Item>, Self::Error>
         ensures step { next_gives self.old result self.new }
         ensures fails { IfErr result (λ _. has_ended self.new) }

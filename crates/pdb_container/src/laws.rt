@@ -20,17 +20,17 @@ use crate::source::SourceSlice;
 use crate::string_table::StringRef;
 use std::hash::Hash;
 
-/// What pages hold is so many bytes, and byte i is the file's byte in page number i / size, at i %
-/// size; and bytes of which this is true are what the pages hold.
+/// What pages hold is so many bytes. Byte i is the file's byte in page number i / size, at i %
+/// size. Bytes of which this is true are what the pages hold.
 pub fn paged()
     ensures { (file pages bytes : List ℕ) (size count : ℕ)
         → (bytes_at file (page_places size pages count) ≡ Ok bytes)
         ↔ IsPaged file size pages count bytes }
 {}
 
-/// A stream has the length that the directory says, or the limit, and byte i of it is the file's
-/// byte in the stream's page number i / P, at i % P, where P is the size of a page; and bytes of
-/// which this is true are the stream.
+/// A stream has the length that the directory says, or the limit. Byte i of it is the file's byte
+/// in the stream's page number i / P, at i % P, where P is the size of a page. Bytes of which this
+/// is true are the stream.
 pub fn stream_byte_by_byte()
     ensures { (file : List ℕ) (n : ℕ) (limit : Option ℕ) (bytes : List ℕ)
         → (stream file n limit ≡ Ok bytes) ↔ IsStream file n limit bytes }

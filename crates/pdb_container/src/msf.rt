@@ -242,9 +242,10 @@ fn read_directory<S: Source>(
     }
 }
 
-/// The first bytes of a stream, by the directory or its fault. The source is asked for the whole
-/// stated size, whatever the limit, since all the pages are listed; but for no more than the
-/// directory has numbers for, so that one damaged size is still a fault of that stream alone.
+/// The first bytes of a stream, by the directory or its fault. The source is asked whether all the
+/// pages of the stated size may be listed, whatever the limit, since all of them are. It is asked
+/// about no more than the directory has numbers for, so that one damaged size is still a fault of
+/// that stream alone.
 #[tactic(auto, using(crate::proofs::Outside::outside_alone), unfolding(crate::specs::Container::stream_in))]
 fn read_stream<S: Source>(
     source: &mut S,
@@ -281,7 +282,8 @@ fn read_stream<S: Source>(
     }
 }
 
-/// The first bytes of a stream, where no directory is stored: it is read anew and stored.
+/// The first bytes of a stream, where no directory is stored: the directory is read anew and
+/// stored.
 #[tactic(auto, using(crate::proofs::Outside::outside_alone, crate::proofs::Outside::outside_earlier, crate::proofs::Outside::outside_later), unfolding(crate::specs::Container::stream_in))]
 fn read_anew<S: Source>(
     source: &mut S,
@@ -419,9 +421,12 @@ pub trait Msf<'s, S: Source> {
     /// An MSF stream by its number, or its first `limit` bytes. It views the stream's own pages
     /// alone, unless the source failed each time that the directory was read before; then it reads
     /// that first. A call that is refused changes no later result, unless the source counts what it
-    /// lists. `StreamNotFound`, `PageReferenceOutOfRange`, `UnexpectedEof`; `IoError` past the
-    /// file's end, and where the source failed; `OutOfMemory`, also where the source refuses to
-    /// have the stream's pages listed.
+    /// lists.
+    ///
+    /// # Errors
+    /// `StreamNotFound`, `PageReferenceOutOfRange`, `UnexpectedEof`; `IoError` past the file's end,
+    /// and where the source failed; `OutOfMemory`, also where the source refuses to have the
+    /// stream's pages listed.
     fn get(&mut self, alloc: Global, stream_number: u32, limit: Option<usize>) -> Result<Stream<'s>>
         ensures { AnswersFrom S.bytes S.failures (source self.old) (source self.new) (λ s. s) result
             (stream (S.bytes (source self.old)) stream_number limit) };

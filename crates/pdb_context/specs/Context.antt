@@ -45,7 +45,7 @@ abbrev pub lookups_after : {A : Type 0} → Bool → Result A Error → ℕ → 
 lookups_after placed (Err errors.OutOfMemory) lookups = lookups
 lookups_after placed r lookups = if placed then min (lookups + 1) (2 ^ 64 - 1) else lookups
 
--- what an answer of a context in the module of a number depends on
+-- what an answer of a context in the module with that index depends on
 abbrev pub scope_in : {P : Type 0} → (P → Provided) → Context P → ℕ → Scope
 scope_in provided c m = scope_of provided c.provider c.formatting m
 

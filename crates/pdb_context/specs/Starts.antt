@@ -21,7 +21,7 @@ if_any (Some x) = x ∷ []
 abbrev pub addresses_of : Map → List PdbInternalSectionOffset → List ℕ
 addresses_of map places = flat_map (λ p. if_any (outer_of_place map p.section p.offset)) places
 
--- where the procedures of modules begin, from the module of a number on
+-- where the procedures of modules begin, from the module with that index on
 abbrev pub procedure_starts_from : (ℕ → Scope) → ℕ → List Module → List PdbInternalSectionOffset
 procedure_starts_from scope number [] = []
 procedure_starts_from scope number (entry ∷ entries) =

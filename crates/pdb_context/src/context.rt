@@ -102,7 +102,7 @@ fn owned_frames<'a>(
 impl<'a, 's, P: ModuleProvider> Context<'a, 's, P> {
     /// A context over what gives the modules, the sections of the image, the address map, the
     /// symbol records, the string table (`/names`), the DBI stream, and a formatter of types. The
-    /// sources of the OMAPs may not decrease ([`AddressMap::is_ordered`]).
+    /// sources of the OMAPs must not decrease ([`AddressMap::is_ordered`]).
     ///
     /// # Errors
     /// `SymbolTooShort` and `UnexpectedEof` of the symbol records, as `PdbError`; then the section
@@ -141,16 +141,16 @@ impl<'a, 's, P: ModuleProvider> Context<'a, 's, P> {
         })
     }
 
-    /// How many entries the public list has: public symbols and placeholders, of each place one.
+    /// How many entries the public list has: public symbols and placeholders, one for each place.
     pub fn function_count(&self) -> usize
         ensures { result ≡ length self.now.parts.publics }
     {
         self.symbolizer.parts().publics.len()
     }
 
-    /// How many places were looked up: one for each question about an RVA that has a place, and for
-    /// each run, that wasn't refused for lack of memory; at `u64::MAX` it stays. How many
-    /// [`Context::functions`] adds no clause says.
+    /// How many places were looked up: one for each run, and for each question about an RVA that
+    /// has a place, unless it was refused for lack of memory. At `u64::MAX` the count stays. No
+    /// clause says how many [`Context::functions`] adds.
     pub fn lookups(&self) -> u64
         ensures { result ≡ self.now.lookups }
     {
@@ -271,10 +271,10 @@ impl<'a, 's, P: ModuleProvider> Context<'a, 's, P> {
         self.counted(function)
     }
 
-    /// The function at a place, if there is one, and over how many bytes from the place on the
-    /// function is the same: the lesser of `limit`, which is at least 1, and the distance to the
-    /// next place of the section at which a contribution begins or ends, a procedure of the module
-    /// that holds the place begins or ends, or a public entry begins.
+    /// Returns the function at a place, if there is one, and over how many bytes from there on it
+    /// is the same. That is the lesser of `limit`, which is at least 1, and the distance to the
+    /// next bound in the section. Bounds are where a contribution begins or ends, where a procedure
+    /// of the module that holds the place begins or ends, and where a public entry begins.
     ///
     /// # Errors
     /// `OutOfMemory` alone.

@@ -73,7 +73,7 @@ fn push_procedures(
     Ok(())
 }
 
-/// Appends the RVAs at which the procedures of the module of a number, counted from 0, begin.
+/// Appends the RVAs at which the procedures of the module with that index, counted from 0, begin.
 fn push_module<P: ModuleProvider>(
     alloc: Global,
     addresses: &mut Vec<u32>,

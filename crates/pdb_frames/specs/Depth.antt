@@ -25,7 +25,7 @@ abbrev pub depth_of : Option Site → ℕ
 depth_of None = 0
 depth_of (Some site) = site.depth
 
--- the depth of the site of a number; 0 without one
+-- the depth of the site with that number; 0 without one
 abbrev pub depth_at : List Site → Option ℕ → ℕ
 depth_at sites None = 0
 depth_at sites (Some number) = depth_of (slice_get sites number)

@@ -18,7 +18,7 @@ pub record Scope : Type 0 where
 abbrev pub entries_of : {P : Type 0} → Formatting P → List Module
 entries_of f = f.reading.modules.entries
 
--- what an answer in the module of a number depends on
+-- what an answer in the module with that index depends on
 abbrev pub scope_of : {P : Type 0} → (P → Provided) → P → Formatting P → ℕ → Scope
 scope_of provided provider f m =
     record { own = own_of (provided provider) (entries_of f) m; env = env_of provided f m }

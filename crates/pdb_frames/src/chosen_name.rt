@@ -32,8 +32,8 @@ fn public_name<'p, 'a>(
     }
 }
 
-/// A procedure's name in the module of a number: the decorated public name in place of its own, or
-/// that by its type.
+/// A procedure's name in the module with that index: the decorated public name in place of its own,
+/// or that by its type.
 fn procedure_name<'a, P: ModuleProvider>(
     alloc: Global,
     parts: &ContextParts<'_, '_>,
@@ -55,7 +55,10 @@ fn procedure_name<'a, P: ModuleProvider>(
     }
 }
 
-/// The name of a chosen function in the module of a number.
+/// The name of a chosen function in the module with that index.
+///
+/// # Errors
+/// `AllocError` when memory runs out.
 pub fn name_of<'a, P: ModuleProvider>(
     alloc: Global,
     parts: &ContextParts<'_, '_>,

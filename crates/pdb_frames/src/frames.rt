@@ -159,7 +159,7 @@ fn frame_row(
     }
 }
 
-/// The row of an inlined call, if that has code at the place, whose start has an RVA.
+/// The row of an inlined call, if the call has code at the place and that code's start has an RVA.
 fn call_row(parts: &ContextParts<'_, '_>, code: Option<CodeSpan>) -> Option<FrameRow>
     ensures { result ≡ call_row_of parts.now code }
 {
@@ -225,7 +225,7 @@ fn call_frames<'a, P: ModuleProvider>(
     Ok(frames)
 }
 
-/// The frame of a function with a name that begins in a section, by its line row.
+/// The frame of a function that begins in a section, by its name and its line row.
 fn function_frame<'a>(
     alloc: Global,
     parts: &ContextParts<'a, '_>,
@@ -334,6 +334,9 @@ fn frames_in_data<'a, P: ModuleProvider>(
 
 /// The frames at a place in a chosen function whose module may have no data: then the function
 /// alone, without file, line and row.
+///
+/// # Errors
+/// The first fault of those parts of the module that the frames are made of; `OutOfMemory`.
 pub fn frames_in<'a, P: ModuleProvider>(
     alloc: Global,
     parts: &ContextParts<'a, '_>,

@@ -23,6 +23,9 @@ pub trait Runs {
 
     /// Returns a key of the answer at a place, and over how many places from it on there is no
     /// bound, `limit` at most.
+    ///
+    /// # Errors
+    /// `AllocError` when memory runs out.
     fn run_at(
         &mut self,
         alloc: Global,
@@ -40,6 +43,9 @@ pub trait Runs {
             ≡ min (lookups self.old + 1) (2 ^ 64 - 1)) };
 
     /// Returns the answer that a key stands for, if there is one.
+    ///
+    /// # Errors
+    /// `AllocError` when memory runs out.
     fn answer_of(
         &mut self,
         alloc: Global,

@@ -23,13 +23,13 @@ use Rattle.pdb_resolving.specs.Fault.{Fault, PdbError, ProcedureInlineRangesUnsu
 
 -- ---- a module's data
 
--- what a provider gives of the module of a number with an entry, if it has one
+-- what a provider gives of the module with that index, by its entry; nothing without one
 abbrev pub given_if_listed :
     Provided → ℕ → Option Module → Result (Option ModuleStream) container.Fault
 given_if_listed provided number None = Ok None
 given_if_listed provided number (Some entry) = provided number entry
 
--- what a provider gives of the module of a number, counted from 0; past the list there is none
+-- what a provider gives of the module with that index, counted from 0; past the list there is none
 abbrev pub own_of : Provided → List Module → ℕ → Result (Option ModuleStream) container.Fault
 own_of provided entries number = given_if_listed provided number (slice_get entries number)
 
@@ -61,7 +61,7 @@ abbrev pub procedures_in : Option ModuleData → List Procedure
 procedures_in None = []
 procedures_in (Some known) = known.procedures
 
--- the procedure of a number, if a number is given
+-- the procedure with that number, if one is given
 abbrev pub procedure_if_numbered : List Procedure → Option ℕ → Option Procedure
 procedure_if_numbered procedures number = option_and_then (λ k. slice_get procedures k) number
 

@@ -12,7 +12,7 @@ use Rattle.pdb_module_data.specs.declared.function_rows.LineRow.{LineRow}
 use Rattle.pdb_module_data.specs.FunctionLine.{function_rows, numbered_rows}
 use Rattle.pdb_known_modules.specs.KnownModules.{ExtendedModule, extended_of}
 
--- These rows are those of the subsection of a number, by the stream's line program.
+-- These rows are those of the subsection with that number, by the stream's line program.
 pub record AreRowsOf (stream : ModuleStream) (number : ℕ) (rows : List LineRow) : Type 0 where
   pub each : (extended : ExtendedModule) → extended_of stream ≡ Ok extended
       → numbered_rows extended.program number ≡ Ok rows
@@ -23,21 +23,21 @@ pub record AreRowsAt (stream : ModuleStream) (start : PdbInternalSectionOffset)
   pub each : (extended : ExtendedModule) → extended_of stream ≡ Ok extended
       → function_rows extended.program start ≡ Ok rows
 
--- The subsection of a number, if one is given, is that of the function that begins at a place, by
--- the stream's line program.
+-- The subsection with that number, if one is given, is that of the function that begins at a place,
+-- by the stream's line program.
 abbrev pub IsNumberAt : ModuleStream → PdbInternalSectionOffset → Option ℕ → Type 0
 IsNumberAt stream start None = Unit {0}
 IsNumberAt stream start (Some number) = (extended : ExtendedModule)
     → extended_of stream ≡ Ok extended
     → subsection_numbered extended.program number ≡ subsections_for extended.program start
 
--- What is cached in places are the rows of the subsections of their numbers.
+-- The rows that are cached in places are those of the subsections with the places' numbers.
 pub record AreRowsOfStream (stream : ModuleStream)
     (places : List (Option (Box (List LineRow)))) : Type 0 where
   pub each : (number : ℕ) (rows : Box (List LineRow))
       → slice_get places number ≡ Some (Some rows) → AreRowsOf stream number (box_value rows)
 
--- Rows that are lent of a place, if some are, are those of the function that begins there.
+-- Rows that are lent for a place, if some are, are those of the function that begins there.
 abbrev pub AreLentAt :
     ModuleStream → PdbInternalSectionOffset → Option (Bor (List LineRow)) → Type 0
 AreLentAt stream start None = Unit {0}

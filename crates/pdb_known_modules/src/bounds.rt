@@ -16,8 +16,8 @@ use pdb_pieces::to_next;
 use std::alloc::{AllocError, Global};
 use std::marker::Model;
 
-/// How many numbers each section has: no offset's distance to a bound of another section is as
-/// short as 32 bits.
+/// How many numbers each section has: so many that no distance from a 32-bit offset to a bound of
+/// another section fits in 32 bits.
 const SECTION_NUMBERS: u64 = 1 << 34;
 
 /// The number of an offset in a section.
@@ -89,6 +89,9 @@ fn contribution_numbers_of(
 }
 
 /// Where contributions begin and end.
+///
+/// # Errors
+/// `AllocError` when memory runs out.
 pub fn contribution_bounds(
     alloc: Global,
     contributions: &[ModuleSectionContribution],
@@ -122,6 +125,9 @@ fn procedure_numbers_of(alloc: Global, procedures: &[Procedure<'_>]) -> Result<V
 }
 
 /// Where procedures begin and end.
+///
+/// # Errors
+/// `AllocError` when memory runs out.
 pub fn procedure_bounds(
     alloc: Global,
     procedures: &[Procedure<'_>],

@@ -14,7 +14,7 @@ use pdb_symbols_modules::Module;
 use std::alloc::{AllocError, Global};
 use std::marker::Model;
 
-/// A place for a module's data, which are cached there once they were read: `Some(None)` of a
+/// A place for a module's data, which are cached there once they were read: `Some(None)` for a
 /// module without data.
 type KeptModule<'a, I> = Option<Option<BasicModuleInfo<'a, I>>>;
 
@@ -56,8 +56,11 @@ fn empty_places<'a, I: ModuleTables>(
     Ok(places)
 }
 
-/// Nothing is cached yet of so many modules, in a database of at most so many bytes
+/// Makes an empty cache for so many modules, of a database of at most so many bytes
 /// ([`ModuleProvider::size_hint`]).
+///
+/// # Errors
+/// `AllocError` when memory runs out.
 pub fn nothing_cached<'a, I: ModuleTables>(
     alloc: Global,
     count: usize,
@@ -99,7 +102,7 @@ fn forget_if_full<'a, I: ModuleTables>(cached: &mut CachedModules<'a, I>)
     }
 }
 
-/// Whether the place of a number is there and empty.
+/// Whether the place with that number is there and empty.
 fn is_empty_at<'a, I: ModuleTables>(kept: &[KeptModule<'a, I>], number: usize) -> bool
     ensures { result ≡ is_empty_place (slice_get kept.now number) }
 {
@@ -109,6 +112,9 @@ fn is_empty_at<'a, I: ModuleTables>(kept: &[KeptModule<'a, I>], number: usize) -
 /// Reads the data of the module with that index, counted from 0, and caches them, unless they were
 /// cached before. Where more is cached than the meter allows, all of it is forgotten first. Nothing
 /// is cached where memory is short.
+///
+/// # Errors
+/// `AllocError` when memory runs out.
 #[tactic(auto, using(crate::proofs::KeptSteps::known_if_full, crate::proofs::KeptSteps::empty_is, crate::proofs::KeptSteps::known_now, crate::proofs::KeptSteps::kept_now))]
 pub fn keep_module<'a, P: ModuleProvider>(
     alloc: Global,
@@ -150,6 +156,9 @@ fn keep_lines_at<'a, I: ModuleTables>(
 
 /// Reads line program and inlinees of the module with that index, if its data are cached, and
 /// caches them too.
+///
+/// # Errors
+/// `AllocError` when memory runs out.
 pub fn keep_lines<'a, I: ModuleTables>(
     alloc: Global,
     kept: &mut CachedModules<'a, I>,
@@ -181,6 +190,9 @@ fn keep_procedure_at<'a, I: ModuleTables>(
 
 /// Reads the data of the procedure with that index in the module with that index, if the module's
 /// data are cached, and caches them too.
+///
+/// # Errors
+/// `AllocError` when memory runs out.
 pub fn keep_procedure<'a, I: ModuleTables>(
     alloc: Global,
     kept: &mut CachedModules<'a, I>,
@@ -213,6 +225,9 @@ fn keep_public_rows_at<'a, I: ModuleTables>(
 
 /// Reads the line rows of the function that begins at a place in the module with that index, if the
 /// module's data are cached, and caches them too.
+///
+/// # Errors
+/// `AllocError` when memory runs out.
 pub fn keep_public_rows<'a, I: ModuleTables>(
     alloc: Global,
     kept: &mut CachedModules<'a, I>,

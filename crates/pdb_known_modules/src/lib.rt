@@ -1,7 +1,8 @@
-//! One cache of modules that were asked for: a place for each, in which the data of its stream, of
-//! its line program and inlinees, of its line rows by subsection, and of its procedures stand once
-//! they were read; and where contributions and procedures begin and end in sections, and how far it
-//! is to the next such place. It knows no names and no addresses of an image.
+//! One cache of modules that were asked for. It has a place for each, in which stands what was read
+//! of it: the data of its stream, its line program and inlinees, its line rows by subsection, and
+//! the data of its procedures. The crate also says where contributions and procedures begin and end
+//! in sections, and how far it is to the next such place. It knows no names and no addresses of an
+//! image.
 #![tactic(auto)]
 
 mod bounds;

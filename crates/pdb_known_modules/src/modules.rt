@@ -133,8 +133,11 @@ impl<'a, I: ModuleTables> BasicModuleInfo<'a, I> {
     }
 
     /// Reads the line program and the inlinees, and caches them, unless they were cached before.
-    /// Where they have a fault nothing is cached, and so where memory is short. Returns about how
-    /// many bytes were cached.
+    /// Nothing is cached where they have a fault, or where memory is short. Returns about how many
+    /// bytes were cached.
+    ///
+    /// # Errors
+    /// `AllocError` when memory runs out.
     #[tactic(auto, using(crate::proofs::KeptProcedures::nothing_kept))]
     pub fn keep_extended(&mut self, alloc: Global) -> std::result::Result<u64, AllocError>
         ensures { self.new ≡ self.old }
@@ -165,9 +168,12 @@ impl<'a, I: ModuleTables> BasicModuleInfo<'a, I> {
     }
 
     /// Reads the line rows and the inline sites of the procedure with that index, if line program
-    /// and inlinees are cached, and caches them, unless they were cached before. Where rows or
-    /// sites have a fault these aren't cached, and so where memory is short; after a fault of the
-    /// rows no sites are read. Returns about how many bytes were cached.
+    /// and inlinees are cached, and caches them, unless they were cached before. Rows or sites
+    /// aren't cached where they have a fault, or where memory is short. After a fault of the rows
+    /// no sites are read. Returns about how many bytes were cached.
+    ///
+    /// # Errors
+    /// `AllocError` when memory runs out.
     pub fn keep_procedure(
         &mut self,
         alloc: Global,
@@ -188,8 +194,8 @@ impl<'a, I: ModuleTables> BasicModuleInfo<'a, I> {
     }
 
     /// Reads the inline sites of the procedure with that index, if its line rows are cached, and
-    /// caches them, unless they were cached before. Where they have a fault nothing is cached, and
-    /// so where memory is short. Returns about how many bytes were cached.
+    /// caches them, unless they were cached before. Nothing is cached where they have a fault, or
+    /// where memory is short. Returns about how many bytes were cached.
     #[tactic(auto, using(crate::proofs::KeptProcedures::kept_now))]
     fn keep_sites(&mut self, alloc: Global, number: usize) -> std::result::Result<u64, AllocError>
         ensures { self.new ≡ self.old }
@@ -248,7 +254,7 @@ impl<'a, I: ModuleTables> BasicModuleInfo<'a, I> {
         }
     }
 
-    /// The line rows and the inline sites that are cached of a procedure with that index.
+    /// The line rows and the inline sites of a procedure with that index, if they are cached.
     pub fn extended_procedure(
         &self,
         number: usize,
@@ -277,8 +283,11 @@ impl<'a, I: ModuleTables> BasicModuleInfo<'a, I> {
 
     /// Reads the line rows of the function that begins at a place, if line program and inlinees are
     /// cached, and caches them for all functions of their `DEBUG_S_LINES`, unless they were cached
-    /// before. Where they have a fault nothing is cached, and so where memory is short. Returns
-    /// about how many bytes were cached.
+    /// before. Nothing is cached where they have a fault, or where memory is short. Returns about
+    /// how many bytes were cached.
+    ///
+    /// # Errors
+    /// `AllocError` when memory runs out.
     pub fn keep_rows(
         &mut self,
         alloc: Global,
@@ -331,7 +340,7 @@ impl<'a, I: ModuleTables> BasicModuleInfo<'a, I> {
     }
 }
 
-/// Whether the place of a number is there and empty.
+/// Whether the place with that number is there and empty.
 fn is_empty_at(places: &[Option<Box<KeptProcedure<'_>>>], number: usize) -> bool
     ensures { (result ≡ true) ↔ (slice_get places.now number ≡ Some None) }
 {
@@ -355,6 +364,9 @@ fn data_if_read<'a, I: ModuleTables>(
 
 /// The data of the module with that index, counted from 0; `None` past the list, where it has no
 /// stream, and where that or its symbols can't be read to the end.
+///
+/// # Errors
+/// `AllocError` when memory runs out.
 pub fn get_basic_module_info<'a, P: ModuleProvider>(
     alloc: Global,
     provider: &'a P,
@@ -395,8 +407,11 @@ fn extended_size(extended: &ExtendedModuleInfo<'_>, line_data_size: u32, count: 
         .saturating_add(places)
 }
 
-/// The line program of a module, and then its inlinees, each to its end. The faults of
-/// [`ModuleTables::line_program`] and [`ModuleTables::inlinees`], `UnexpectedEof`; `OutOfMemory`.
+/// The line program of a module, and then its inlinees, each to its end.
+///
+/// # Errors
+/// The faults of [`ModuleTables::line_program`] and [`ModuleTables::inlinees`], `UnexpectedEof`;
+/// `OutOfMemory`.
 #[tactic(auto, unfolding(crate::specs::KnownModules::extended_of))]
 pub fn read_extended<'a, I: ModuleTables>(
     alloc: Global,

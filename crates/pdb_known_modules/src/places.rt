@@ -15,7 +15,7 @@ pub fn empty_places<T: Drop>(alloc: Global, count: usize) -> Result<Vec<Option<B
     Ok(places)
 }
 
-/// The place of a number, if it is there.
+/// The place with that number, if it is there.
 pub fn place_at<T>(places: &Vec<Option<Box<T>>>, number: usize) -> Option<&Option<Box<T>>>
     ensures { option_map (λ p. p.now) result ≡ slice_get places.now.items number }
 {

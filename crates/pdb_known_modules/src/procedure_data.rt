@@ -31,7 +31,7 @@ pub struct ExtendedProcedureInfo<'a> {
     pub ranges: InlineRanges<'a>,
 }
 
-/// The same, lent of what is cached.
+/// What [`ExtendedProcedureInfo`] has, lent from what is cached.
 #[derive(Clone, Copy)]
 pub struct LentProcedure<'m, 'a> {
     /// Its line rows.
@@ -57,8 +57,8 @@ pub struct KeptProcedure<'a> {
 }
 
 impl<'a> KeptProcedure<'a> {
-    /// What is cached of a procedure with these sites, and with the rows of the `DEBUG_S_LINES` of
-    /// that number.
+    /// What is cached of a procedure with these sites, and with the rows of the `DEBUG_S_LINES`
+    /// with that number.
     pub fn new(
         procedure: &Procedure<'_>,
         subsection: usize,
@@ -113,9 +113,11 @@ fn read_ranges<'a>(
     }
 }
 
-/// The inline sites of a procedure of a module, read to their end. The faults of
-/// [`ModuleTables::symbols`] and of the sites, as `PdbError`; `ProcedureInlineRangesUnsuccessful`;
-/// `OutOfMemory`.
+/// The inline sites of a procedure of a module, read to their end.
+///
+/// # Errors
+/// The faults of [`ModuleTables::symbols`] and of the sites, as `PdbError`;
+/// `ProcedureInlineRangesUnsuccessful`; `OutOfMemory`.
 #[tactic(auto, using(pdb_resolving::proofs::Lifting::parsed_fails_on, pdb_resolving::proofs::Lifting::fails_on))]
 pub fn procedure_ranges<'a, I: ModuleTables>(
     alloc: Global,

@@ -129,7 +129,7 @@ abbrev pub subsections_for : Program → PdbInternalSectionOffset → List Lines
 subsections_for p place = subsection_in_section place.section
     (last_subsection_at (place_rank place.section place.offset) p.subsections)
 
--- the subsection of a number, these counted from 1 in their order; none of 0
+-- the subsection with that number, where subsections are counted from 1 in their order; none for 0
 abbrev pub subsection_numbered : Program → ℕ → List LinesSubsection
 subsection_numbered p number = drop (number - 1) (take number p.subsections)
 

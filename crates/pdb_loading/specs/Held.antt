@@ -44,7 +44,7 @@ kept_infos s modules = map (λ m. kept_info (module_info s m)) modules
 abbrev pub names_in : Streams → Option (List ℕ)
 names_in s = if_read (names (shared s))
 
--- what a file gives of the module of a number, with a fault as it is stored
+-- what a file gives of the module with that index, with a fault as it is stored
 abbrev pub given : Streams → ℕ → Result (Option ModuleStream) Fault
 given s number = answered (kept_info (provider s number))
 

@@ -43,11 +43,11 @@ abbrev pub answered_if_listed : Option KeptInfo → Result (Option ModuleStream)
 answered_if_listed None = Ok None
 answered_if_listed (Some info) = answered info
 
--- the answer for the module of a number, counted from 0; past the list there is none
+-- the answer for the module with that index, counted from 0; past the list there is none
 abbrev pub answered_at : List KeptInfo → ℕ → Result (Option ModuleStream) Fault
 answered_at infos number = answered_if_listed (slice_get infos number)
 
--- a value that may be missing, whatever is the reason
+-- a value that may be missing, whatever the reason
 abbrev pub if_read : {A : Type 0} → Result A Fault → Option A
 if_read (Ok x) = Some x
 if_read (Err e) = None

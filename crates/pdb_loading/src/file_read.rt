@@ -24,9 +24,9 @@ const AT_ONCE: usize = 16_384;
 /// How often a read is tried again where a signal interrupts it.
 const TRIES: u32 = u32::MAX;
 
-/// The bytes of a file from where its reader stands: of a big MSF container no more than its first
-/// 4096 and the pages that its header counts; the first 32 of a file that is longer and doesn't
-/// begin as one does. No more is read, however long the file is.
+/// Reads a file from where its reader stands. Of a big MSF container no more is read than its first
+/// 4096 bytes and the pages that its header counts. Of a file that is longer than 32 bytes and
+/// doesn't begin as one does, the first 32 are read. No more is read, however long the file is.
 ///
 /// # Errors
 /// As the reader's; a read that a signal interrupts is tried again.

@@ -46,7 +46,7 @@ row_at (row ∷ rows) offset = later_row (if_begun row offset) (row_at rows offs
 abbrev pub function_rows : Program → PdbInternalSectionOffset → Result (List LineRow) Fault
 function_rows program start = whole (lines_for program start) >>= λ rows. Ok (map row_of rows)
 
--- the rows of the subsection of a number, which have to be there to their end; none of 0
+-- the rows of the subsection with that number, which have to be there to their end; none for 0
 abbrev pub numbered_rows : Program → ℕ → Result (List LineRow) Fault
 numbered_rows program number =
     whole (rows_of (marks_of (subsection_numbered program number))) >>= λ rows.
@@ -56,7 +56,7 @@ numbered_rows program number =
 abbrev pub row_starts : List LineRow → List ℕ
 row_starts rows = map (λ row. row.start) rows
 
--- the row of a place in the function that begins at another one, of that one's rows
+-- the row of a place in the function that begins at another place, among that function's rows
 abbrev pub function_row : Program → PdbInternalSectionOffset → PdbInternalSectionOffset
     → Result (Option LineRow) Fault
 function_row program start place =

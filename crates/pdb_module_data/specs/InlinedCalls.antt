@@ -40,7 +40,7 @@ last_inlinee (function ∷ functions) id =
 abbrev pub inlinees_by_id : Listing InlinedFunction → Result (ℕ → Option InlinedFunction) Fault
 inlinees_by_id functions = whole functions >>= λ all. Ok (last_inlinee all)
 
--- the inlined functions that are kept
+-- the inlined functions that are stored
 abbrev pub given_by : Inlinees → ℕ → Option InlinedFunction
 given_by inlinees id = option_map inlined_function (get nat_cmp inlinees.by_id id)
 

@@ -34,9 +34,9 @@ pub record Procedure : Type 0 where
 abbrev pub is_at : PdbInternalSectionOffset → PdbInternalSectionOffset → Bool
 is_at a b = (a.section == b.section) && (a.offset == b.offset)
 
--- ---- the procedures that are kept
+-- ---- the procedures that are taken
 
--- separated code by the procedure that was kept last: it has that one's name and type, if that one
+-- separated code by the procedure that was taken last: it has that one's name and type, if that one
 -- begins at its parent's place
 abbrev pub separated_from : Option Procedure → ℕ → SeparatedCodeSymbol → Option Procedure
 separated_from None index code = None
@@ -56,7 +56,7 @@ separated_from (Some q) index code =
 abbrev pub is_procedure_kind : ℕ → Bool
 is_procedure_kind kind = is_procedure kind || is_thunk kind || is_separated_code kind
 
--- what a symbol says as a procedure, after the procedure that was kept last; a thunk has type 0
+-- what a symbol says as a procedure, after the procedure that was taken last; a thunk has type 0
 abbrev pub said_procedure : Option Procedure → ℕ → Result SymbolForm Fault → Option Procedure
 said_procedure last index (Ok (forms.Procedure p)) =
     Some record {
@@ -84,17 +84,17 @@ abbrev pub with_code : Option Procedure → Option Procedure
 with_code None = None
 with_code (Some q) = if q.len == 0 then None else Some q
 
--- the procedure that is kept of a symbol, if one is
+-- the procedure that is taken from a symbol, if one is
 abbrev pub kept_of : Option Procedure → Symbol → Option Procedure
 kept_of last s = with_code (said_procedure last s.index (symbol_form_of s))
 
--- a procedure that may be kept, and those after it by the one that is kept last then
+-- a procedure that may be taken, and those after it by the one that is taken last then
 abbrev pub kept_before : Option Procedure → Option Procedure → (Option Procedure → List Procedure)
     → List Procedure
 kept_before None last others = others last
 kept_before (Some q) last others = q ∷ others (Some q)
 
--- the procedures that are kept of symbols in their order, after the one that was kept last
+-- the procedures that are taken from symbols in their order, after the one that was taken last
 abbrev pub kept_behind : Option Procedure → List Symbol → List Procedure
 kept_behind last [] = []
 kept_behind last (s ∷ symbols) =
@@ -119,7 +119,7 @@ abbrev pub firsts_onto : List Procedure → List Procedure → List Procedure
 firsts_onto procedures [] = procedures
 firsts_onto procedures (q ∷ others) = firsts_onto (onto_new procedures q) others
 
--- the procedures among symbols: those that are kept, of one start the first
+-- the procedures among symbols: those that are taken, of one start the first
 abbrev pub procedures_among : List Symbol → List Procedure
 procedures_among symbols = firsts_onto [] (kept_behind None symbols)
 

@@ -72,7 +72,7 @@ fn text_as_it_stands(names: &[u8]) -> Option<&str>
     std::str::from_utf8(names).ok()
 }
 
-/// The start of a number, if it is there.
+/// The start with that number, if it is there.
 fn start_numbered(starts: &[u32], number: usize) -> Option<u32>
     ensures { result ≡ slice_get starts.now number }
 {
@@ -142,6 +142,9 @@ fn name_between<'t>(
 
 impl<'t, 's> FileNames<'t, 's> {
     /// The names of a string table, if there is one, gone over once.
+    ///
+    /// # Errors
+    /// `AllocError` when memory runs out.
     pub fn new(
         alloc: Global,
         strings: Option<&'t StringTable<'s>>,
@@ -165,7 +168,10 @@ impl<'t, 's> FileNames<'t, 's> {
     }
 
     /// The name at an offset as text, with U+FFFD for what is no character; `None` where there is
-    /// no string table or no such name. `AllocError` alone is returned where memory ran out.
+    /// no string table or no such name.
+    ///
+    /// # Errors
+    /// `AllocError` when memory runs out.
     pub fn text(&self, alloc: Global, name: StringRef) -> Result<Option<CowStr<'t>>, AllocError>
         ensures { IfOk result
             (λ text. option_map cow_str_bytes text

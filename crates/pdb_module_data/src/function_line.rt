@@ -12,7 +12,10 @@ use std::borrow::CowStr;
 
 /// The name of a source file of a line program as text: that of its entry in `DEBUG_S_FILECHKSMS`,
 /// in the string table (`/names`). `None` where there is no string table, no such entry, or no such
-/// name. `AllocError` alone is returned where memory ran out.
+/// name.
+///
+/// # Errors
+/// `AllocError` when memory runs out.
 #[tactic(auto, using(crate::proofs::KnownNames::no_entry, crate::proofs::KnownNames::entry_named))]
 pub fn file_name<'t>(
     alloc: Global,

@@ -83,7 +83,7 @@ impl Model for FunctionRows {
     ghost invariant = { λ r. AreSearchable r.rows.items r.unordered };
 }
 
-/// What a row of this number covers, to the end of its section, ranked by its start.
+/// What a row with this number covers, to the end of its section, ranked by its start.
 fn row_span(number: usize, row: LineRow) -> Span
     ensures { result ≡ span_of_row number row }
 {
@@ -171,7 +171,7 @@ fn unless_ascending(
     Ok(Some(unordered))
 }
 
-/// The row of a number, if it is there.
+/// The row with that number, if it is there.
 fn row_numbered(rows: &[LineRow], number: usize) -> Option<LineRow>
     ensures { result ≡ slice_get rows.now number }
 {

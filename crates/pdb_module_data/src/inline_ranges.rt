@@ -63,7 +63,7 @@ struct RowsAndSpans {
     spans: Vec<Span>,
 }
 
-/// Appends what is stored of the rows of the site of this number, and what they cover.
+/// Appends what is stored of the rows of the site with this number, and what they cover.
 fn push_site<'a>(
     rows: &mut Vec<CallRow>,
     spans: &mut Vec<Span>,
@@ -156,11 +156,14 @@ impl<'t> InlineRanges<'t> {
         })
     }
 
-    /// The inlined calls over a place, innermost first, where the procedure begins at `start` and
-    /// these are the inlinees that the pieces were made by: that of the deepest site with a row
-    /// over the place, of equally deep ones the first in the order of the file, and those of the
-    /// sites that it lies in. None where no row covers the place. The deepest site is found by
-    /// halving, and so is the row of each over the place.
+    /// The inlined calls over a place, innermost first: that of the deepest site with a row over
+    /// the place, and those of the sites that it lies in. Of equally deep sites the first in the
+    /// order of the file counts. There are none where no row covers the place. The procedure has to
+    /// begin at `start`, and `inlinees` have to be those that the pieces were made by. The deepest
+    /// site is found by halving, and so is the row of each over the place.
+    ///
+    /// # Errors
+    /// `AllocError` when memory runs out.
     #[tactic(auto, using(crate::proofs::Deepest::deepest_within, crate::proofs::KeptRows::are_cut))]
     pub fn calls_over(
         &self,

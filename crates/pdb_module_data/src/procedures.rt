@@ -56,7 +56,7 @@ impl<'t> Model for Procedure<'t> {
     } };
 }
 
-/// Separated code by the procedure that was kept last: with that one's name and type, if that one
+/// Separated code by the procedure that was taken last: with that one's name and type, if that one
 /// begins at its parent's place.
 fn separated_code<'t>(
     last: Option<&Procedure<'t>>,
@@ -86,7 +86,7 @@ fn may_be_procedure(kind: u16) -> bool
     is_procedure(kind) || is_thunk(kind) || is_separated_code(kind)
 }
 
-/// What a symbol says as a procedure, after the procedure that was kept last. No symbol of another
+/// What a symbol says as a procedure, after the procedure that was taken last. No symbol of another
 /// kind is parsed.
 #[tactic(auto, using(crate::proofs::ProcedureSteps::no_procedure))]
 fn parse_procedure<'t>(last: Option<&Procedure<'t>>, symbol: &Symbol<'t>) -> Option<Procedure<'t>>
@@ -118,7 +118,7 @@ fn parse_procedure<'t>(last: Option<&Procedure<'t>>, symbol: &Symbol<'t>) -> Opt
     }
 }
 
-/// The procedure that is kept of a symbol, after the one that was kept last: one that has code.
+/// The procedure that is taken from a symbol, after the one that was taken last: one that has code.
 fn kept_procedure<'t>(last: Option<&Procedure<'t>>, symbol: &Symbol<'t>) -> Option<Procedure<'t>>
     ensures { result ≡ kept_of_symbol (option_map (λ q. q.now) last.entry) symbol.now }
 {
@@ -166,8 +166,8 @@ fn push_new<'t>(
 
 /// The procedures among a module's symbols, which are read to their end: procedure symbols, thunks
 /// and separated code that can be read and have code, in their order; of those with one start the
-/// first. Separated code takes name and type of the procedure kept last before it, if that one
-/// begins at its parent's place; else it isn't kept.
+/// first. Separated code has the name and the type of the procedure taken last before it, if that
+/// one begins at its parent's place; else it isn't taken.
 ///
 /// # Errors
 /// The first fault of the symbols: `SymbolTooShort`, `UnexpectedEof`. `OutOfMemory`.

@@ -15,11 +15,11 @@ kept_among places n = option_and_then (λ list. kept_in list.items n) places
 abbrev pub kept_at : {V : Type 0} → ByNumber V → ℕ → ℕ → Option V
 kept_at kept m n = kept_among (slice_get kept.modules.items m) n
 
--- The same values are at each number before and after.
+-- At each number the value is the same before and after.
 pub record IsSamePlaces {V : Type 0} (before after : List (Option V)) : Type 0 where
   pub each : (n : ℕ) → kept_in after n ≡ kept_in before n
 
--- A value is at a number, and at each other one what was there before.
+-- The value is at the number, and at each other number is what was there before.
 pub record IsPut {V : Type 0} (before after : List (Option V)) (number : ℕ) (value : V) :
     Type 0 where
   pub each : (n : ℕ) → kept_in after n ≡ cond (n == number) (Some value) (kept_in before n)

@@ -26,7 +26,8 @@ use Rattle.pdb_loading.specs.Held.{given, names_in}
 use Rattle.pdb_loading.specs.ModuleInfos.{KeptInfo, answered_at}
 use Rattle.pdb_loading.specs.Loading.{LoadingFault, Loaded, loaded}
 
--- what a file gives of the module of a number, whatever its entry; a fault says that it was stored
+-- what a file gives of the module with that index, whatever its entry; a fault says that it was
+-- stored
 abbrev pub given_in : Streams → Provided
 given_in s number entry = given s number
 
@@ -47,7 +48,7 @@ formatting_in s l = record {
   flags = 23;
 }
 
--- what an answer in the module of a number depends on
+-- what an answer in the module with that index depends on
 unfoldable pub scope : Streams → Loaded → ℕ → Scope
 scope s l = scope_of given_in s (formatting_in s l)
 
@@ -120,7 +121,7 @@ address_map s = map_by (loaded (shared s))
 
 -- ---- by a context
 
--- what stored modules give of the module of a number, whatever its entry
+-- what stored modules give of the module with that index, whatever its entry
 abbrev pub answered_in : List KeptInfo → Provided
 answered_in infos number entry = answered_at infos number
 

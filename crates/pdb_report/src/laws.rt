@@ -46,10 +46,10 @@ pub fn size_reports_add_up()
 {}
 
 /// The counts of a file's report by source file, and those on two ranges, add up as those of the
-/// report by function do ([`size_reports_add_up`]). The counts, of known files, of no known file
-/// and of frames that can't be read, add up to the counts of all functions and the number of
-/// addresses that the report by function leaves out: those that have no function and yet one of
-/// these. Its count of nothing is more by that number.
+/// report by function do ([`size_reports_add_up`]). The counts of known files, of no known file and
+/// of frames that can't be read add up to the counts of all functions and the number of addresses
+/// that the report by function leaves out. These are the addresses that have no function and yet
+/// one of those three. The report by function counts that many more as having nothing.
 pub fn file_reports_add_up()
     ensures sum { (s : Streams) (start end : ℕ) (text : List ℕ) → start ≤ end
         → (r : IsSizesByFile s start end text)
@@ -76,8 +76,8 @@ pub fn file_reports_add_up()
 
 /// Isolation: damage in one module leaves the others' answers alone. Two files that open alike, and
 /// read alike at every number that isn't free for a module in the first, have the same loading
-/// fault, or none; and at every address that the module holds in the first they have the same
-/// frames, the same function, and the same line of a report.
+/// fault, or none. At every address that the module holds in the first they have the same frames,
+/// the same function, and the same line of a report.
 pub fn isolation()
     ensures loads { (a b : List ℕ) (m : ℕ) → AreAlikeFor m a b
         → load_fault (streams a) ≡ load_fault (streams b) }

@@ -192,8 +192,8 @@ pub fn run_frames<R: Read, W: Write>(
         (λ input. WritesFront W.contents writer.old writer.new
         (report (line_text (answer (streams bytes.items))) input))) }
     // The file's answers are those of every other file that is alike for the module that holds the
-    // address; and at `Ok` what is out is also the report in which the lines of one module's
-    // addresses are such a file's.
+    // address. At `Ok` what is out is also the report in which the lines of one module's addresses
+    // are such a file's.
     ensures isolated { IsIsolated bytes.items }
     ensures exchanged { OnOk result (IfSome (R.remaining (inner_of reader.old)) (λ input.
         (other : List ℕ) (m : ℕ) → AreAlikeFor m bytes.items other
@@ -259,8 +259,8 @@ pub fn run_frames_ending<R: Read, W: Write>(
         (λ input. WritesFront W.contents writer.old writer.new
         (report (line_text (answer (streams bytes.items))) input))) }
     // The file's answers are those of every other file that is alike for the module that holds the
-    // address; and at `Ok` what is out is also the report in which the lines of one module's
-    // addresses are such a file's.
+    // address. At `Ok` what is out is also the report in which the lines of one module's addresses
+    // are such a file's.
     ensures isolated { IsIsolated bytes.items }
     ensures exchanged { OnOk result (IfSome (R.remaining (inner_of reader.old)) (λ input.
         (other : List ℕ) (m : ℕ) → AreAlikeFor m bytes.items other

@@ -193,8 +193,8 @@ fn run_report<A: Counted, W: Write>(
 }
 
 /// Writes how many of the addresses from `start` on and before `end` each function has in the
-/// program database of the bytes: a line for each function, in the order of start, end and name,
-/// and last `none` and how many addresses have none.
+/// program database of the bytes: a line for each function, in the order of start, end and name.
+/// Last come `none` and how many addresses have no function.
 ///
 /// # Errors
 /// `Load` where the file has a loading fault, then `ReversedRange` where `start` is above `end`,
@@ -238,9 +238,10 @@ pub fn run_sizes<W: Write>(
 }
 
 /// Writes how many of the addresses from `start` on and before `end` each source file has in the
-/// program database of the bytes: a line for each file, its count and its text, in the order of the
-/// texts' bytes; and last `no file`, `none` and `unreadable` with how many addresses have a
-/// function without a known file, no function, and a function whose frames can't be read.
+/// program database of the bytes: a line for each file, with its count and its text. The lines
+/// stand in the order of the texts' bytes. Last come `no file`, `none` and `unreadable`: how many
+/// addresses have a function without a known file, no function, and a function whose frames can't
+/// be read.
 ///
 /// # Errors
 /// `Load` where the file has a loading fault, then `ReversedRange` where `start` is above `end`,

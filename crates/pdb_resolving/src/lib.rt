@@ -1,7 +1,7 @@
-//! How an index that leads into another module is resolved (`Resolver`): what gives a module's own
-//! stream, and the names of modules, their imports and exports, as they are read and cached; which
-//! parts of a database could not be read when they were asked for; and what answers about types and
-//! functions fail with.
+//! How an index that leads into another module is resolved (`Resolver`). A resolver uses what gives
+//! a module's own stream, and modules' names, imports and exports, as they are read and cached. The
+//! crate also says which parts of a database could not be read when they were asked for, and what
+//! answers about types and functions fail with.
 #![tactic(auto)]
 
 mod error;

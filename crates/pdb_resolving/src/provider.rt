@@ -21,21 +21,36 @@ pub trait ModuleTables {
     ghost held: { Self → ModuleStream };
 
     /// As [`ModuleInfo::symbols`].
+    ///
+    /// # Errors
+    /// As [`ModuleInfo::symbols`].
     fn symbols(&self) -> std::result::Result<SymbolIter<'_>, Error>
         ensures { Parses (λ it. it) result (iteration_in (held self.now) 4) };
 
+    /// As [`ModuleInfo::line_program`].
+    ///
+    /// # Errors
     /// As [`ModuleInfo::line_program`].
     fn line_program(&self, alloc: Global) -> std::result::Result<LineProgram<'_>, Error>
         ensures { Gives (λ p. p) ⊥ result (line_program_in (held self.now)) };
 
     /// As [`ModuleInfo::inlinees`].
+    ///
+    /// # Errors
+    /// As [`ModuleInfo::inlinees`].
     fn inlinees(&self) -> std::result::Result<InlineeIterator<'_>, Error>
         ensures { Parses (λ i. i) result (inlinees_in (held self.now)) };
 
     /// As [`ModuleInfo::imports`].
+    ///
+    /// # Errors
+    /// As [`ModuleInfo::imports`].
     fn imports(&self, alloc: Global) -> std::result::Result<CrossModuleImports<'_>, Error>
         ensures { Gives (λ i. i) ⊥ result (imports_in (held self.now)) };
 
+    /// As [`ModuleInfo::exports`].
+    ///
+    /// # Errors
     /// As [`ModuleInfo::exports`].
     fn exports(&self) -> std::result::Result<CrossModuleExports<'_>, Error>
         ensures { Parses (λ e. e) result (exports_in (held self.now)) };

@@ -7,8 +7,8 @@ use std::ops::{
     BitAnd, BitAndAssign, BitOr, BitOrAssign, BitXor, BitXorAssign, Not, Sub, SubAssign,
 };
 
-/// Flags of a formatter of types: a set of bits, of which six are known. The other bits are kept
-/// and change nothing.
+/// Flags of a formatter of types: a set of bits, of which six are known. The other bits stay, and
+/// change nothing.
 #[derive(Clone, Copy, Debug, PartialEq, Eq)]
 pub struct TypeFormatterFlags {
     bits: u32,
