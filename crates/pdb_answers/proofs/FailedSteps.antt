@@ -1,4 +1,4 @@
--- What is told of a part that fails.
+-- What is reported of a part that fails.
 use Rattle.std.proofs.Common.{◌≡◌, Result, Ok, Err, false, refl, ap, sym, subst}
 use Rattle.std.specs.Prelude.{None, Some, if◌then◌else◌}
 use Rattle.pdb_resolving.specs.declared.error.Error.{Error}
@@ -6,7 +6,7 @@ use Rattle.pdb_resolving.specs.Fault.{Fault, Fails}
 use Rattle.pdb_frames.specs.FailingParts.{Failures, has_failed, told, unsuccessful}
 use Rattle.pdb_frames.specs.Failing.{Part}
 
--- without a part that fails, an answer is told as it is
+-- without a part that fails, an answer is reported as it is
 told_as_it_is : {A : Type 0} (f : Failures) (r : Result A Fault) → told f None r ≡ r
 told_as_it_is f (Ok x) = refl
 told_as_it_is f (Err e) = refl

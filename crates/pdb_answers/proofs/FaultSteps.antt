@@ -1,4 +1,5 @@
--- Where a part of a chosen function can't be read, its frames have a fault; and what is told of it where the part stands as failed.
+-- Where a part of a chosen function can't be read, its frames have a fault; and what is reported of
+-- it where the part stands as failed.
 use Rattle.std.proofs.Common.{◌≡◌, ℕ, true, List, Option, None, Some, Result, Ok, Err, ap, ◌∙◌}
 use Rattle.std.specs.Prelude.{if◌then◌else◌}
 use Rattle.pdb_container.specs.Fault as container
@@ -46,7 +47,7 @@ calls_fault m stream extended (Proc q) place part h =
     symbols_fault (iteration_in stream 4) (λ symbols. sites_lifted (sites_of symbols.bytes (q.symbol_index).0 (q.end_symbol_index).0)) (λ sites. calls_over (call_rows extended.inlinees q.offset) sites place) (ProcedureInlineRanges m q.offset) part h
 calls_fault m stream extended (Public f) place part h = absurd (none_is_some part h)
 
--- calls behind a row
+-- calls after a row
 abbrev with_calls : {A B : Type 0} → Result A Fault → B → Result (B × A) Fault
 with_calls calls row = calls >>= λ found. Ok (row, found)
 
@@ -74,7 +75,7 @@ frames_fault : (p : Parts) (env : _) (m : ℕ) (known : Option ModuleData) (c : 
 frames_fault p env m None c place part h = absurd (none_is_some part h)
 frames_fault p env m (Some held) c place part h = then_fault (frames_in_data p env held c place) _ (data_fault p env m held c place part h)
 
--- ---- what is told
+-- ---- what is reported
 
 is_unsuccessful : {A : Type 0} (part : Part) (read : Result A Fault) → read ≡ Err (unsuccessful part) → Fails (unsuccessful_error part) read
 is_unsuccessful (Extended m) read h = h
@@ -85,7 +86,8 @@ told_stands : {A : Type 0} (f : Failures) (part : Part) (read : Result A Fault) 
 told_stands f part (Ok x) stands h = absurd h
 told_stands f part (Err e) stands h = ap (λ b. Err (if b then unsuccessful part else e)) stands
 
--- of a part that stands as failed and is the first that can't be read, it is told that it stands so
+-- of a part that stands as failed and is the first that can't be read, it is reported that it
+-- stands so
 pub told_standing : (p : Parts) (env : _) (m : ℕ) (known : Option ModuleData) (c : Chosen) (place : PdbInternalSectionOffset) (f : Failures) (part : Part)
     → failing_in m known c ≡ Some part → has_failed f part ≡ true → Fails (unsuccessful_error part) (told f (failing_in m known c) (frames_of_chosen p env known place (Some c)))
 told_standing p env m known c place f part failing stands =

@@ -70,7 +70,7 @@ fails_alike m known c (Extended n) h other about = in_module m n known c other h
 fails_alike m known c (ProcedureLines n start) h other about = alike m known c other about ∙ h
 fails_alike m known c (ProcedureInlineRanges n start) h other about = alike m known c other about ∙ h
 
--- ---- what is kept
+-- ---- what is stored
 
 apart_is_not_at : (k q : ℕ) → q ≢ k → is_at (nat_cmp k) q ≡ false
 apart_is_not_at k q apart = grind (arith, nat_tests)

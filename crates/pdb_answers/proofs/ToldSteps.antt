@@ -1,4 +1,4 @@
--- What is told of the frames in a chosen function is what is told of those at its place.
+-- What is reported of the frames in a chosen function is what is reported of those at its place.
 use Rattle.std.proofs.Common.{◌≡◌, ℕ, Option, Some, Result, sym, ap, ◌∙◌}
 use Rattle.pdb_addresses.specs.declared.internal_section_offset.PdbInternalSectionOffset.{PdbInternalSectionOffset}
 use Rattle.pdb_contributions.specs.declared.contribution.ModuleSectionContribution.{ModuleSectionContribution}
@@ -16,7 +16,7 @@ use Rattle.pdb_answers.specs.KnownFailures.{data_of_modules}
 
 module _ {P : Type 0} (provided : P → Provided) (provider : P) (f : Formatting P) (p : Parts)
     (failed : Failures) (c : ModuleSectionContribution) (place : PdbInternalSectionOffset) where
-  -- what is told of what may be chosen, by the data of a module
+  -- what is reported of what may be chosen, by the data of a module
   abbrev told_in : ℕ → Option ModuleData → Option Chosen → Result (Option FunctionFrames) Fault
   told_in n known found =
       told failed (failing_of_chosen n known found)

@@ -1,4 +1,4 @@
--- Whether what every question goes over can be had is the fault of reading it, without what is read.
+-- Whether what every question goes over can be had: the fault of reading it, without what is read.
 use Rattle.std.proofs.Common.{◌≡◌, ℕ, List, ◌++◌, Option, Result, Ok, Err, refl, subst}
 use Rattle.pdb_container.specs.Fault as container
 use Rattle.pdb_container.specs.Fault.{◌>>=◌}
@@ -25,7 +25,7 @@ checked_is : (sections : List ImageSectionHeader) (map : Map) (symbols contribut
 unfolding parts_of parts_checked
 checked_is sections map symbols contributions names = same_outcome sections map names (whole (symbols_from symbols 0)) (held_of sections contributions)
 
--- reading without keeping answers what reading does
+-- reading without storing answers what reading does
 pub as_checked : (sections : List ImageSectionHeader) (map : Map) (symbols contributions : List ℕ) (names : Option (List ℕ)) (result : Result (Unit {0}) Error)
     → Answers (λ _. tt) result (parts_checked sections symbols contributions) → Answers (λ _. tt) result (outcome (parts_of sections map symbols contributions names))
 as_checked sections map symbols contributions names result h = subst (λ (r : Result (Unit {0}) Fault). Answers (λ _. tt) result r) (checked_is sections map symbols contributions names) h

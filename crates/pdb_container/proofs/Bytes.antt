@@ -94,7 +94,7 @@ both true true x y e = refl
 both true false x y e = refl
 both false b x y e = refl
 
--- the bytes of places behind others are those of the first behind those of the second
+-- the bytes of places, and of others after them, are those of the former and then of the latter
 pub bytes_at_append : (file xs ys : List ℕ) → bytes_at file (xs ++ ys) ≡ joined (bytes_at file xs) (bytes_at file ys)
 unfolding bytes_at
 bytes_at_append file xs ys =
@@ -104,7 +104,7 @@ bytes_at_append file xs ys =
 abbrev pub with_front : List ℕ → Result (List ℕ) Fault → Result (List ℕ) Fault
 with_front front read = read >>= λ y. Ok (front ++ y)
 
--- bytes in front of what is joined may be joined before
+-- bytes before what is joined may be joined first
 pub regroup : (front x : List ℕ) (read : Result (List ℕ) Fault) → with_front front (joined (Ok x) read) ≡ with_front (front ++ x) read
 regroup front x (Ok y) = ap (λ (z : List ℕ). Ok z) (sym (append_assoc front x y))
 regroup front x (Err e) = refl
@@ -157,7 +157,7 @@ one_within file (s ∷ slices) zero d lt h = (and_parts _ _ (sym (ok_append file
 one_within file (s ∷ slices) (suc i) d lt h =
     one_within file slices i d (omega arith) (and_parts _ _ (sym (ok_append file (slice_places s) (places_of slices)) ∙ h)).1
 
--- one slice's bytes more behind those in front
+-- one slice's bytes more after those read before
 pub goes_on : (file front part : List ℕ) (slices : List SourceSlice) (i : ℕ) (d : SourceSlice) → i < length slices
     → bytes_at file (slice_places (get_or slices i d)) ≡ Ok part
     → with_front front (bytes_at file (places_of (drop i slices))) ≡ bytes_at file (places_of slices)

@@ -1,4 +1,4 @@
--- Entries one behind the other, as a loop reads them.
+-- Entries one after the other, as a loop reads them.
 use Rattle.std.proofs.Common.{◌≡◌, ◌≢◌, ℕ, suc, ◌-◌, ◌+◌, ◌≤◌, ◌<◌, List, [], ◌∷◌, ◌++◌, length, Result, Ok, Err, refl, sym, ap, ◌∙◌, append_assoc, arith}
 use Rattle.std.proofs.lemmas.List.{append-nil}
 use Rattle.pdb_container.specs.Fault.{Fault, ◌>>=◌}
@@ -12,7 +12,7 @@ regroup : {A : Type 0} (front : List A) (x : A) (read : Result (List A) Fault) �
 regroup {A} front x (Ok others) = ap (λ (xs : List A). Ok xs) (sym (append_assoc front (x ∷ []) others))
 regroup front x (Err e) = refl
 
--- nothing in front of all entries is all entries
+-- nothing before all entries is all entries
 pub entries_start : {A : Type 0} (one : List ℕ → Result (A × List ℕ) Fault) (count : ℕ) (bytes : List ℕ) → entries_front [] (entries_within one (count - 0) bytes) ≡ entries_within one count bytes
 entries_start {A} one count bytes =
     let k : count - 0 ≡ count = omega arith in
@@ -25,7 +25,7 @@ unfolding entries_within
 step one n [] some = absurd (some refl)
 step one n (b ∷ bytes) some = refl
 
--- one entry more in front, and one step less behind it
+-- one entry more read before, and one step less after it
 pub entries_more : {A : Type 0} (one : List ℕ → Result (A × List ℕ) Fault) (front : List A) (count i : ℕ) (bytes rest : List ℕ) (x : A) (total : Result (List A) Fault) → i < count → length bytes ≢ 0
     → one bytes ≡ Ok (x, rest) → entries_front front (entries_within one (count - i) bytes) ≡ total
     → entries_front (front ++ x ∷ []) (entries_within one (count - (i + 1)) rest) ≡ total
@@ -53,14 +53,14 @@ unfolding entries_within
 no_step_left one [] = refl
 no_step_left one (b ∷ bytes) = refl
 
--- no byte left: those in front are all entries
+-- no byte left: those read before are all entries
 pub entries_end : {A : Type 0} (one : List ℕ → Result (A × List ℕ) Fault) (front : List A) (n : ℕ) (bytes : List ℕ) (total : Result (List A) Fault) → length bytes ≡ 0
     → entries_front front (entries_within one n bytes) ≡ total → total ≡ Ok front
 entries_end {A} one front n bytes total none so_far =
     let now : entries_front front (entries_within one n bytes) ≡ Ok front = rw (nothing_left one n bytes none) (ap (λ (xs : List A). Ok xs) (append-nil front)) in
     sym so_far ∙ now
 
--- no step left: those in front are all entries
+-- no step left: those read before are all entries
 pub entries_done : {A : Type 0} (one : List ℕ → Result (A × List ℕ) Fault) (front : List A) (count i : ℕ) (bytes : List ℕ) (total : Result (List A) Fault) → count ≤ i
     → entries_front front (entries_within one (count - i) bytes) ≡ total → total ≡ Ok front
 entries_done {A} one front count i bytes total past so_far =

@@ -1,4 +1,4 @@
--- What stands one behind the other, as an iterator goes over it and as a loop gathers it.
+-- What stands one after the other, as an iterator goes over it and as a loop gathers it.
 use Rattle.std.proofs.Common.{◌≡◌, ◌≢◌, ℕ, zero, suc, ◌≤◌, ◌<◌, inl, inr, List, [], ◌∷◌, ◌++◌, length, drop, None, Some, Result, Ok, Err, refl, sym, ap, ◌∙◌, append_assoc, arith}
 use Rattle.std.proofs.lemmas.Bool.{cases_lt, lt-ltb, le-ltb}
 use Rattle.std.proofs.lemmas.List.{append-nil, drop_all}
@@ -51,21 +51,21 @@ module _ {A : Type 0} (one : Reader A) where
 
 -- ---- what was gathered, before what is still to come
 
--- values in front of a listing
+-- values before a listing
 abbrev pub onto : {A : Type 0} → List A → Listing A → Listing A
 onto front l = record { items = front ++ l.items; fault = l.fault }
 
--- no values in front of a listing
+-- no values before a listing
 pub gather_start : {A : Type 0} (l : Listing A) → onto [] l ≡ l
 gather_start l = refl
 
--- the first value of a listing moved to those in front
+-- the first value of a listing moved to those before it
 pub gather_more : {A : Type 0} (front : List A) (l others total : Listing A) (x : A) → l ≡ before x others → onto front l ≡ total → onto (front ++ x ∷ []) others ≡ total
 gather_more {A} front l others total x step so_far =
     let now : onto front l ≡ onto (front ++ x ∷ []) others = ap (onto front) step ∙ ap (λ (xs : List A). record { items = xs; fault = others.fault }) (sym (append_assoc front (x ∷ []) others.items)) in
     sym now ∙ so_far
 
--- a listing that ended well: those in front are the whole of it
+-- a listing that ended well: those before it are the whole
 pub gather_end : {A : Type 0} (front : List A) (l total : Listing A) → l ≡ ending None → onto front l ≡ total → whole total ≡ Ok front
 gather_end {A} front l total end so_far =
     let now : total ≡ onto front (ending None) = sym so_far ∙ ap (onto front) end in

@@ -16,7 +16,7 @@ word bytes le = rw (le-ltb (length bytes) 4 le) refl
 no_word : (bytes : List ℕ) → length bytes < 4 → number_at w32 bytes ≡ Err UnexpectedEof
 no_word bytes lt = rw (lt-ltb (length bytes) 4 lt) refl
 
--- what three numbers, and the bytes behind them, say
+-- what three numbers, and the bytes after them, say
 abbrev said : ℕ → ℕ → ℕ → List ℕ → Result (List ℕ) Fault
 said signature version size left =
     refuse (not ((signature == 0xeffeeffe) && ((version == 1) || (version == 2)))) (UnimplementedFeature (codes "string table")) >>= λ _. bytes_of size left >>= λ names. Ok names.0

@@ -1,4 +1,4 @@
--- Slices one after the other: their places, and that none is empty and none ends where the next begins.
+-- Slices one after another: their places; that none is empty, and none ends where the next begins.
 use Rattle.std.proofs.Common.{◌≡◌, ◌≢◌, ℕ, zero, suc, ◌+◌, ◌<◌, ◌≤◌, List, [], ◌∷◌, ◌++◌, length, get_or, set, take, drop, refl, sym, ap, ◌∙◌, append_assoc, arith}
 use Rattle.std.specs.List.{range_with_len}
 use Rattle.std.proofs.lemmas.List.{append-nil, drop_more, take-append-drop, length-append, take-append-le, set_split, drop_all, take_more, take_more_set, take_at}
@@ -55,7 +55,7 @@ places_push slices s = flat_map-append slice_places slices (s ∷ []) ∙ ap (λ
 pub places_cut : (slices : List SourceSlice) (i bytes : ℕ) → length (places_of (take i slices)) ≡ bytes → places_of (take i slices) ≡ take bytes (places_of slices)
 places_cut slices i bytes e = sym (ap (take bytes) (places_split slices i) ∙ take_at (places_of (take i slices)) (places_of (drop i slices)) bytes e)
 
--- places that end inside a slice are those of the slices before it and of its front
+-- places that end inside a slice are those of the slices before it and of its prefix
 pub places_cut_in : (slices : List SourceSlice) (i left bytes : ℕ) (d : SourceSlice) → i < length slices → left < (get_or slices i d).size → length (places_of (take i slices)) + left ≡ bytes
     → places_of (take (i + 1) (set slices i (record { offset = (get_or slices i d).offset; size = left }))) ≡ take bytes (places_of slices)
 places_cut_in slices i left bytes d lt less e =

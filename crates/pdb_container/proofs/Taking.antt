@@ -22,7 +22,7 @@ at b place = record { bytes = b.bytes; pos = place }
 abbrev pub after : Buffer → ℕ → Buffer
 after b n = record { bytes = b.bytes; pos = b.pos + n }
 
--- bytes that are there are behind their place
+-- bytes that are there are after their place
 pub taken : (b : Buffer) (n : ℕ) → b.pos ≤ length b.bytes → n ≤ length (rest b) → after b n ≡ behind b (rest (after b n))
 unfolding rest
 taken b n within le =

@@ -12,7 +12,7 @@ AlikeByVariant [] same look = Unit {0}
 AlikeByVariant (Fs ∷ Fss) same look = ((x y : Values Fs) → same.0 x y ≡ true → look (inl x) ≡ look (inl y)) × AlikeByVariant Fss same.1 (λ c. look (inr c))
 
 infixr 5 ◌&◌
--- what holds of a variant, in front of what holds of each later one
+-- what holds of a variant, before what holds of each later one
 abbrev pub ◌&◌ : {A B : Type 0} → A → B → A × B
 first & later = (first, later)
 

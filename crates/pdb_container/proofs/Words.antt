@@ -1,4 +1,4 @@
--- Numbers that the bytes spell, and page numbers from the front.
+-- Numbers that the bytes spell, and page numbers from the first on.
 use Rattle.std.proofs.Common.{◌≡◌, ℕ, suc, ◌+◌, ◌*◌, ◌<◌, ◌≤◌, ◌-◌, ◌⊎◌, inl, inr, List, [], ◌∷◌, ◌++◌, length, get_or, drop, Result, Ok, Err, refl, sym, ap, ◌∙◌, arith}
 use Rattle.std.specs.Prelude.{nat_le}
 use Rattle.std.proofs.lemmas.Bool.{le-leb, lt-leb}
@@ -68,7 +68,7 @@ pages_done used count i front numbers le so_far =
     let k : count - i ≡ 0 = omega arith in
     sym so_far ∙ rw k (ap (λ (xs : List ℕ). Ok xs) (append-nil front))
 
--- no page number in front of all
+-- no page number before all
 pub pages_start : (used count : ℕ) (numbers : List ℕ) → with_front [] (pages_in used (count - 0) (drop 0 numbers)) ≡ pages_in used count numbers
 pages_start used count numbers =
     let k : count - 0 ≡ count = omega arith in

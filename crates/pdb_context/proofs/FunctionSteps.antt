@@ -46,14 +46,14 @@ module _ (p : Parts) (scope : ℕ → Scope) where
   functions_first addresses next found f total lt answered one so_far =
       sym so_far ∙ first_address addresses next lt ∙ ap (λ (o : Option Function). if_any o ++ functions_at p scope (drop (next + 1) addresses)) (same_ok _ _ answered ∙ one)
 
-  -- nothing is left behind the last address
+  -- nothing is left after the last address
   pub functions_end : (addresses : List ℕ) (next : ℕ) → length addresses ≤ next → functions_left p scope (drop next addresses) ≡ none_left
   functions_end addresses next past = ap (functions_left p scope) (drop_all next addresses past)
 
 ok_is_not_err : {A : Type 0} {x : A} {e : Fault} → Ok x ≡ Err e → ⊥
 ok_is_not_err {A} {x} {e} h = cc
 
--- what can't fail fails for want of memory alone
+-- what can't fail is refused only where memory runs out
 pub fails_gives : {A : Type 0} (old : FunctionsLeft) (e : Error) (new : FunctionsLeft) (x : A) → Fails e (Ok x) → new ≡ none_left → GivesFunction old (Some (Err e)) new
 fails_gives old errors.OutOfMemory new x h none = none
 fails_gives old (errors.PdbError causes.OutOfMemory) new x h none = h
@@ -67,7 +67,7 @@ counted_by : (placed : Bool) (most first a b n : ℕ) → b ≡ (if placed then 
 counted_by true most first a b n is rises more = record { least = omega (arith, rises.least); most_is = omega (arith, rises.most_is) }
 counted_by false most first a b n is rises more = record { least = omega (arith, rises.least); most_is = omega (arith, rises.most_is) }
 
--- one more question was answered, or refused for want of memory
+-- one more question was answered, or memory ran out
 pub counted_more : {A : Type 0} (placed : Bool) (r : Result A Error) (most first a b n : ℕ) → b ≡ lookups_after placed r a → RisesWithin most first a → most + 1 ≤ n → RisesWithin n first b
 counted_more placed (Err errors.OutOfMemory) most first a b n is rises more = record { least = omega (arith, rises.least); most_is = omega (arith, rises.most_is) }
 counted_more placed r most first a b n is rises more = counted_by placed most first a b n is rises more

@@ -67,7 +67,8 @@ answers-around view text requests i r h is =
     ∙ ap (λ l. l ++ flat_map text (lines_of view (drop (i + 1) requests))) (answers-more view text requests i r h is)
     ∙ append_assoc (flat_map text (lines_of view (take i requests))) (text (view r.line)) _
 
--- One line more, as what a writer holds and what is pending; the text may have another name at that call.
+-- One line more, as what a writer holds and what is pending.
+-- The text may have another name at that call.
 pub out_more : {L : Type 0} (view : L → List ℕ) (text text' : List ℕ → List ℕ) (a b c : Option (List ℕ)) (pending pending' : List ℕ) (requests : List (Request L)) (i : ℕ) (r : Request L) → i < length requests → r ≡ get_or requests i r → text' ≡ text
     → AllBut a b pending (flat_map text (lines_of view (take i requests))) → AllBut b c pending' (pending ++ text' (view r.line)) → AllBut a c pending' (flat_map text (lines_of view (take (i + 1) requests)))
 out_more view text text' a b c pending pending' requests i r h is et (out, p, e) (out', q, e') =

@@ -113,7 +113,8 @@ counted_as sections db picks (Some x) none low = low_as (2 ^ 32 - 1) x (λ y. pi
 
 -- ---- a range
 
--- Addresses of answers of some kind, none of it no answer at all: over the ranges that a range becomes, and one by one.
+-- Addresses of answers of some kind, none of it no answer at all: over the ranges that a range
+-- becomes, and one by one.
 pub ranges_one_by_one : {A : Type 0} (laid : (omap : Option (List OMAPRecord)) (start end : ℕ) → laid_out (runs omap start end) ≡ one_by_one omap start end)
     → (m : Map) (db : Database A) (picks : Option A → Bool) (s e : ℕ) → picks None ≡ false → e ≤ 2 ^ 32
     → in_ranges (λ _ x. picks (answer_at m.internal db x)) (internal_ranges m.to_internal s e) ≡ how_many (λ a. picks (counted_at m db a)) s (e - s)

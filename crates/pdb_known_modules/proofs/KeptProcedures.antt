@@ -60,7 +60,7 @@ kept_now stream places n info kept empty is =
     let lt = slice_get_within places n None empty in
     record { each = have_now (IsAt stream) places n info kept.each lt is }
 
--- empty places keep nothing
+-- empty places hold nothing
 pub nothing_kept : (stream : ModuleStream) (count : ℕ) → AreOfStream stream (replicate count None)
 nothing_kept stream count = record { each = nothing_in (IsAt stream) count }
 

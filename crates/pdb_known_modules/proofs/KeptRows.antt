@@ -23,7 +23,7 @@ Kept = Box (List LineRow)
 abbrev AreAt : ModuleStream → ℕ → Kept → Type 0
 AreAt stream number rows = AreRowsOf stream number (box_value rows)
 
--- no places keep nothing
+-- no places hold nothing
 pub no_places : (stream : ModuleStream) → AreRowsOfStream stream []
 no_places stream = record { each = nothing_in_none (AreAt stream) }
 

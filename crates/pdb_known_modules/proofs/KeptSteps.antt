@@ -87,7 +87,7 @@ empty_at_all count n known e = elim (cases_lt n count) [
       cc
 ]
 
--- so many empty places keep nothing that isn't the modules' own
+-- so many empty places hold nothing that isn't the modules' own
 pub none_kept : (own : ℕ → Option ModuleData) (places : Places) → AreKept own places → AreKept own (replicate (length places) None)
 none_kept own places kept = record {
   each = λ n known e. absurd (empty_at_all (length places) n known e);

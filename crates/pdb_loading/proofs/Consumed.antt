@@ -50,7 +50,7 @@ short_read None after bytes h end = tt
 short_read (Some file) None bytes h end = absurd h
 short_read (Some file) (Some rest) bytes h end = all (sym (h ∙ ap (λ ws. bytes ++ ws) end ∙ append-nil bytes))
 
--- a front that is no container's
+-- a prefix that is no container's
 pub front_read : (known after : Option (List ℕ)) (bytes : List ℕ) → Consumes known after bytes → (length bytes < 32 → IsAtEnd after) → starts_with nat_eq bytes magic ≡ false → IfSome known (λ file. IsRead file bytes)
 front_read None after bytes h end other = tt
 front_read (Some file) None bytes h end other = absurd h
@@ -59,7 +59,7 @@ front_read (Some file) (Some rest) bytes h end other = elim (cases_lt (length by
   | inr le ↦ front rest h le other
 ]
 
--- what was taken behind a front stands behind it
+-- what was taken after a prefix stands after it
 pub rest_taken : (a b c : Option (List ℕ)) (begun whole : List ℕ) → StartsWith whole begun → Consumes a b begun → Consumes b c (appended_bytes begun whole) → Consumes a c whole
 rest_taken a b c begun whole more h k = subst (Consumes a c) (sym (starts_with_rest whole begun more)) (one_more a b c begun _ h k)
 
@@ -91,7 +91,7 @@ pub same_end : (begun whole : List ℕ) → StartsWith whole begun → 4096 ≤ 
 same_end begun whole more long =
     ap (λ n. (n + 1) * word_at whole 32) (same_word begun whole 40 more (omega (arith, long))) ∙ ap (λ n. (word_at begun 40 + 1) * n) (same_word begun whole 32 more (omega (arith, long)))
 
--- past a header there are fewer bytes than the pages need exactly where the pages' end isn't reached
+-- past a header there are fewer bytes than the pages need exactly where their end isn't reached
 pub before_end : (count header end whole_end : ℕ) → 4096 ≤ header → header ≤ count → whole_end ≡ end → count < max 4096 whole_end → count < end
 before_end count header end whole_end long more same lt = omega arith
 

@@ -51,13 +51,13 @@ by_entry : (s : Streams) (k : ℕ) (found : Option Module) → module_of_number 
 by_entry s k None h = sym (ap (λ r. answered (kept_info r)) (past_the_list s k h))
 by_entry s k (Some m) h = sym (ap (λ r. answered (kept_info r)) (provided s k m h))
 
--- what a file gives of a module is what there is to keep of it, by its entry
+-- what a file gives of a module is what there is to store of it, by its entry
 pub modules_given : (s : Streams) (d : Dbi) (k : ℕ) → debug_information (shared s) ≡ Ok d → (modules_of d.modules).fault ≡ None → answered_at (kept_infos s (modules_of d.modules).items) k ≡ given s k
 modules_given s d k read ends =
     ap answered_if_listed (get_kept (λ m. kept_info (module_info s m)) (modules_of d.modules).items k)
     ∙ by_entry s k (slice_get (modules_of d.modules).items k) (module_listed s d (modules_of d.modules).items k read (whole_is (modules_of d.modules) ends))
 
--- what was kept of a module, as it is answered
+-- what was stored of a module, as it is answered
 as_answered : (failed : Type 0) (kept there : KeptInfo) → KeepsInfo failed kept there → KeepsAt AnswersSourceFault failed (answered kept) (answered there)
 as_answered failed kept there (inl is) = inl (ap answered is)
 as_answered failed (Ok found) there (inr h) = absurd h.1
@@ -75,7 +75,7 @@ length_kept : (s : Streams) (modules : List Module) → length (kept_infos s mod
 length_kept s [] = refl
 length_kept s (m ∷ modules) = ap suc (length_kept s modules)
 
--- names and modules that were kept, each while the source was counted
+-- names and modules that were stored, each while the source was counted
 pub own_held : (s : Streams) (d : Dbi) (u : Unit {0}) (h : Held) (a b c e : ℕ) → h.debug_information ≡ d → debug_information (shared s) ≡ Ok d → listed d ≡ Ok u → a ≤ b → b ≤ c → c ≤ e
     → KeepsInfos (HasRisen b c) h.infos (kept_infos s (modules_of d.modules).items) → KeepsNames (HasRisen c e) h.names (names_in s) → IsOwn s (HasRisen a e) h
 own_held s d u h a b c e same read whole_list ab bc ce infos names = record {

@@ -1,4 +1,4 @@
--- What is kept of a module's stream and of the names, by what the calls of an open database answer.
+-- What is stored of a module's stream and of the names, by what calls of an open database answer.
 use Rattle.std.proofs.Common.{◌≡◌, ℕ, ◌+◌, ◌<◌, ◌≤◌, ◌⊎◌, List, [], ◌∷◌, ◌++◌, length, get_or, take, Result, Ok, Err, inl, inr, refl, sym, ap, subst, ◌∙◌, arith}
 use Rattle.std.specs.Prelude.{Option, None, Some, map}
 use Rattle.std.specs.Result.{IsErrAnd}
@@ -38,7 +38,7 @@ infos_wider a b (k ∷ kept) (t ∷ there) wider h = (kept_wider (λ (x : KeptIn
 pub names_there : (x : List ℕ) (failed : Type 0) (read : Result (List ℕ) Fault) → read ≡ Ok x → KeepsNames failed (Some x) (if_read read)
 names_there x failed read h = inl (sym (ap if_read h))
 
--- a fault that isn't want of memory is the file's or the source's
+-- a fault other than out of memory is the file's or the source's
 pub names_missing : (e : Error) (failed : Type 0) (read : Result (List ℕ) Fault) → (e ≡ errors.OutOfMemory → ⊥)
     → (IsOutside e failed ⊎ (read ≡ Err (fault_of e))) → KeepsNames failed None (if_read read)
 names_missing errors.OutOfMemory failed read other h = absurd (other refl)
@@ -49,14 +49,14 @@ names_missing e failed read other (inr h) = inl (sym (ap if_read h))
 
 -- ---- a module
 
--- a module that was read is kept as it is
+-- a module that was read is stored as it is
 pub info_there : (found : Option ModuleStream) (failed : Type 0) (read : Result (Option ModuleStream) Fault) → read ≡ Ok found → KeepsInfo failed (Ok found) (kept_info read)
 info_there found failed read h = inl (sym (ap kept_info h))
 
 not_of_stream : (e : Fault) (read : Result (Option ModuleStream) Fault) → FailsAsStream read → read ≡ Err e → IsStreamFault e
 not_of_stream e read fails h = rw h at fails
 
--- the fault of a stream is kept, and any other error is want of memory
+-- the fault of a stream is stored, and any other error is out of memory
 pub info_kept : (e : Error) (failed : Type 0) (read : Result (Option ModuleStream) Fault) → FailsAsStream read
     → (IsOutside e failed ⊎ (read ≡ Err (fault_of e))) → Keeps {X = KeptInfo} {Y = KeptInfo} (KeepsInfo failed) (λ k. k) (kept_as (kept_of e)) (kept_info read)
 info_kept errors.OutOfMemory failed read fails h = tt
@@ -77,7 +77,7 @@ map_more : (f : Module → KeptInfo) (modules : List Module) (m : Module) → ma
 map_more f [] m = refl
 map_more f (x ∷ modules) m = ap (λ rest. f x ∷ rest) (map_more f modules m)
 
--- one module more was kept behind those before it
+-- one module more was stored after those before it
 pub infos_more : (s : Streams) (modules : List Module) (i : ℕ) (m : Module) (infos : List KeptInfo) (k : KeptInfo) (a b : Type 0) → i < length modules → m ≡ get_or modules i m → (a → b)
     → KeepsInfos a infos (kept_infos s (take i modules)) → KeepsInfo b k (kept_info (module_info s m)) → KeepsInfos b (infos ++ k ∷ []) (kept_infos s (take (i + 1) modules))
 infos_more s modules i m infos k a b lt is wider so_far new =

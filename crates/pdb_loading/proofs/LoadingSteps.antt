@@ -129,7 +129,7 @@ parts_refused (contexts.PdbError errors.OutOfMemory) parts f h = h
 parts_refused (contexts.FormatError cause) parts f h = absurd h
 parts_refused e parts f h = ap (λ r. in_loading r >>= f) (bind_failed parts (answers.fault_of e) h)
 
--- ---- what is kept
+-- ---- what is stored
 
 -- stream 3 and what stands after it, where both were read
 abbrev dbi_or : Dbi → Result DatabaseRead Fault → Dbi
@@ -178,7 +178,7 @@ loaded_fully s h parts is_open dbi_is read_is ordered list_is names_are parts_ar
     opened s is_open ∙ behind_tables (shared s) h.debug_information h.tables dbi_is read_is ∙ behind_list (shared s) h.debug_information h.tables tt ordered list_is
     ∙ ap (λ r. r >>= λ (p : Parts). Ok (record { debug_information = h.debug_information; tables = h.tables; parts = p })) (same_parts s h names_are ∙ ap in_loading parts_are)
 
--- what was kept of a loaded file is the file's
+-- what was stored of a loaded file is the file's
 pub is_kept : (file : List ℕ) (dbi : Dbi) (read : Tables) (h : Held) (u : Unit {0}) → (streams file).open_fault ≡ None → debug_information (shared (streams file)) ≡ Ok dbi → tables (shared (streams file)) dbi ≡ Ok read
     → is_ordered read.map ≡ true → IsOrdered read.map → read_after dbi read ≡ Ok (read_in h) → IsOwn (streams file) (HasRisen 0 0) h → parts_checked h ≡ Ok u → IsLoadedFrom file h
 is_kept file dbi read h u is_open dbi_is tables_are ordered is_so loads own was_checked =
@@ -218,7 +218,7 @@ held_is_kept file dbi read h is_open are loads own was_checked = is_kept file db
 no_fault : (r : Result Loaded LoadingFault) (l : Loaded) → r ≡ Ok l → fault_in r ≡ None
 no_fault r l h = ap fault_in h
 
--- a file that is kept has no load fault
+-- a file that was loaded has no load fault
 pub kept_loads : (file : List ℕ) (h : Held) → IsLoadedFrom file h → load_fault (streams file) ≡ None
 kept_loads file h is = no_fault (loaded (shared (streams file))) _ is.loaded_is
 

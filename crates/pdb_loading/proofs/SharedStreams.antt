@@ -25,7 +25,7 @@ found_parts m n (Ok None) = refl
 found_parts m n (Ok (Some bytes)) = refl
 found_parts m n (Err e) = refl
 
--- what is kept of one module is what another one has that names the same stream
+-- what is stored of one module is what another one has that names the same stream
 pub own_parts : (s : Streams) (m : Module) → IsOfStream s m.stream (kept_info (module_info s m))
 unfolding module_info info_in
 own_parts s m n same = subst (λ (number : ℕ). kept_info (if_named number (s.at number) >>= λ f. Ok (option_map (module_stream n) f)) ≡ in_parts_of n (kept_info (if_named m.stream (s.at m.stream) >>= λ f. Ok (option_map (module_stream m) f))))
@@ -37,12 +37,12 @@ same_fault m (Ok None) h = h
 same_fault m (Ok (Some info)) h = h
 same_fault m (Err fault) h = h
 
--- a module has what was kept of the stream that it names
+-- a module has what was stored of the stream that it names
 of_stream : (s : Streams) (m : Module) (failed : Type 0) (kept : KeptInfo) → KeepsStream s failed m.stream kept → KeepsInfo failed (in_parts_of m kept) (kept_info (module_info s m))
 of_stream s m failed kept (inl h) = inl (sym (h m refl))
 of_stream s m failed kept (inr h) = inr (h.0, same_fault m kept h.1)
 
--- what was read for a module is kept of the stream that it names
+-- what was read for a module is stored of the stream that it names
 first_of_stream : (s : Streams) (m : Module) (failed : Type 0) (kept : KeptInfo) → KeepsInfo failed kept (kept_info (module_info s m)) → KeepsStream s failed m.stream kept
 first_of_stream s m failed kept (inl h) = inl (subst (λ (k : KeptInfo). IsOfStream s m.stream k) (sym h) (own_parts s m))
 first_of_stream s m failed kept (inr h) = inr h

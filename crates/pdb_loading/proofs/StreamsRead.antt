@@ -20,7 +20,7 @@ other_front file other = elim (cases_Bool (nat_lt (length file) 4096)) [
   | inr long ↦ rw (long, take-take 32 4096 file (omega arith), other) refl
 ]
 
--- what stands after the front doesn't make one
+-- what stands after the prefix doesn't make one
 pub front_tells : (bytes rest : List ℕ) → 32 ≤ length bytes → starts_with nat_eq bytes magic ≡ false → starts_with nat_eq (bytes ++ rest) magic ≡ false
 front_tells bytes rest long other = rw (take-append-le 32 bytes rest long) other
 

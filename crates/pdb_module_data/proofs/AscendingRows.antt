@@ -18,12 +18,12 @@ ascend_at low [] i row h e = cc
 ascend_at low (r ∷ rows) zero row h e = let same : r ≡ row = cc in subst (λ (x : LineRow). low ≤ x.start) same h.0
 ascend_at low (r ∷ rows) (suc i) row h e = let k = ascend_at r.start rows i row h.1 e in omega (arith, h.0)
 
--- the row in front of a number
+-- the row before a number
 abbrev pub row_before : List LineRow → ℕ → Option LineRow
 row_before rows zero = None
 row_before rows (suc n) = slice_get rows n
 
--- so many rows begin at an offset or before it, and those behind them past it.
+-- so many rows begin at an offset or before it, and those after them past it.
 pub record AreSplit (rows : List LineRow) (offset n : ℕ) : Type 0 where
   pub front : (i : ℕ) (row : LineRow) → i < n → slice_get rows i ≡ Some row → row.start ≤ offset
   pub back : (i : ℕ) (row : LineRow) → n ≤ i → slice_get rows i ≡ Some row → offset < row.start
@@ -71,7 +71,7 @@ split_by rows offset n at = record {
 pub split_within : (rows : List LineRow) (offset n : ℕ) → IsSplit (map (λ row. row.start) rows) offset n → n ≤ length rows
 split_within rows offset n at = simp length-map at at.bound
 
--- the row in front of a number that isn't 0
+-- the row before a number that isn't 0
 pub row_in_front : (rows : List LineRow) (n : ℕ) → (n ≡ 0 → ⊥) → row_before rows n ≡ slice_get rows (n - 1)
 row_in_front rows zero h = absurd (h refl)
 row_in_front rows (suc n) h = let e : suc n - 1 ≡ n = omega arith in rw e refl

@@ -30,16 +30,16 @@ past_by bytes place further (Ok (Some found)) e same =
 past_by bytes place further (Ok None) e same = let end : length bytes ≡ further = cc in omega arith
 past_by bytes place further (Err fault) e same = absurd (cc)
 
--- the place behind what is found from a place on lies past it, or at the list's end
+-- the place after what is found from a place on lies past it, or at the list's end
 pub past_further : (bytes : List ℕ) (place further : ℕ) → past bytes place ≡ Ok further → length bytes - further ≤ length bytes - (place + 1)
 past_further bytes place further same = past_by bytes place further (next bytes place) refl same
 
--- a value behind faults of the symbols
+-- a value is the same before faults become those of the symbols
 pub past_of_symbols : (r : Result ℕ Fault) (further : ℕ) → in_symbols r ≡ Ok further → r ≡ Ok further
 past_of_symbols (Ok x) further same = let one : x ≡ further = cc in ap Ok one
 past_of_symbols (Err fault) further same = absurd (cc)
 
--- where a symbol was found: at the place or later, and before what is behind it, within the list
+-- where a symbol was found: at the place or later, and before what is after it, within the list
 pub record IsBetween (bytes : List ℕ) (place index behind : ℕ) : Type 0 where
   pub later : place ≤ index
   pub before : index < behind

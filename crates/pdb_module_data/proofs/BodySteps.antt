@@ -33,7 +33,7 @@ pub body_plain : (bytes : List ℕ) (limit depth place : ℕ) (s : Symbol) (behi
     → body bytes limit depth place ≡ body bytes limit depth behind
 body_plain bytes limit depth place s behind found lt is = body_element bytes limit depth place s behind Plain found lt is
 
--- a nested procedure is passed over with the symbol at its end, and has to end behind its own symbol
+-- a nested procedure is passed over with the symbol at its end, and has to end after its own symbol
 pub body_nested : (bytes : List ℕ) (limit depth place : ℕ) (s : Symbol) (behind last : ℕ) → next bytes place ≡ Ok (Some (s, behind)) → s.index < limit → element_of s ≡ Nested last
     → body bytes limit depth place ≡ (if nat_lt s.index last then (in_symbols (past bytes last) >>= body bytes limit depth) else Err Unsuccessful)
 body_nested bytes limit depth place s behind last found lt is = body_element bytes limit depth place s behind (Nested last) found lt is

@@ -1,4 +1,5 @@
--- The row of an inlined call over a place: of rows that lie apart the last one that begins there or before, else by pieces.
+-- The row of an inlined call over a place: of rows that lie apart the last one that begins there or
+-- before, else by pieces.
 use Rattle.std.proofs.Common.{◌≡◌, ℕ, zero, suc, ◌+◌, ◌-◌, ◌^◌, ◌<◌, ◌≤◌, Bool, true, false, List, [], ◌∷◌, Option, None, Some, refl, sym, ap, ◌∙◌, arith}
 use Rattle.std.specs.Prelude.{map, slice_get, option_and_then, if◌then◌else◌}
 use Rattle.std.specs.List.{find}

@@ -9,7 +9,8 @@ use Rattle.pdb_symbols.specs.Forms.{InlineSiteForm}
 use Rattle.pdb_module_data.specs.Forest.{Site}
 use Rattle.pdb_module_data.specs.InlinedCalls.{is_over, deeper, deepest_from, deepest, IsDeepest}
 
--- of the sites from a number on that are over the place this one, by its number and depth, is the deepest, of equals the first
+-- of the sites from a number on that are over the place this one, by its number and depth, is the
+-- deepest, of equals the first
 pub record IsBest (rows : InlineSiteForm → List LineInfo) (place : PdbInternalSectionOffset) (from : ℕ) (sites : List Site) (found : ℕ × ℕ) : Type 0 where
   pub index : ℕ
   pub counted : found.0 ≡ from + index
@@ -111,7 +112,7 @@ module _ (rows : InlineSiteForm → List LineInfo) (place : PdbInternalSectionOf
   best_of_both found true l lies b = best_beaten found b (ltb-true site.depth found.1 l)
   best_of_both found false l lies b = best_kept lies found b (ltb-false site.depth found.1 l)
 
-  -- one more site in front
+  -- one more site before the others
   best_more : (over : Bool) (found : Option (ℕ × ℕ)) → is_over rows place site ≡ over → Best rows place (from + 1) sites found
       → Best rows place from (site ∷ sites) (deeper (if over then Some (from, site.depth) else None) found)
   best_more false None apart below = none_more apart below

@@ -1,4 +1,4 @@
--- What is kept of rows answers as the rows do.
+-- What is stored of rows answers as the rows do.
 use Rattle.std.proofs.Common.{◌≡◌, ℕ, zero, suc, ◌+◌, ◌-◌, ◌≤◌, Bool, true, false, List, [], ◌∷◌, ◌++◌, length, get_or, drop, Option, None, Some, refl, sym, ap, ◌∙◌, append_assoc, add-one, arith}
 use Rattle.pdb_symbols.specs.Forms.{InlineSiteForm}
 use Rattle.pdb_module_data.specs.Forest.{Site}
@@ -15,7 +15,7 @@ use Rattle.pdb_module_data.specs.declared.call_rows.CallRow.{CallRow}
 use Rattle.pdb_module_data.specs.InlinedCalls.{has_length, call_by}
 use Rattle.pdb_module_data.specs.InlinePieces.{kept_rows, rows_of_sites, starts_of_sites, rows_between, covers_kept, call_by_kept, AreCut}
 
--- what is kept of a row that covers anything
+-- what is stored of a row that covers anything
 abbrev kept_one : LineInfo → CallRow
 kept_one row = record { offset = row.offset; length = unwrap_or row.length 0; file_index = row.file_index; line_start = row.line_start }
 
@@ -28,7 +28,7 @@ any_of : (row : LineInfo) (rows : List LineInfo) (place : PdbInternalSectionOffs
 any_of row rows place true e h = ap (λ b. covers row place || b) h
 any_of row rows place false e h = h ∙ sym (ap (λ b. b || list_any (λ r. covers r place) rows) (covers_nothing row place e))
 
--- one of the rows covers a place where one of what is kept does
+-- one of the rows covers a place where one of what is stored does
 pub any_kept : (rows : List LineInfo) (place : PdbInternalSectionOffset) → list_any (covers_kept place) (kept_rows rows) ≡ list_any (λ row. covers row place) rows
 any_kept [] place = refl
 any_kept (row ∷ rows) place = any_of row rows place (has_length row) refl (any_kept rows place)
@@ -63,7 +63,7 @@ call_found : (id : IdIndex) (rows : List LineInfo) (over : Option LineInfo) → 
 call_found id rows (Some row) = refl
 call_found id rows None = file_kept id rows
 
--- a call by what is kept of its rows is the call by these
+-- a call by what is stored of its rows is the call by these
 pub call_kept : (id : IdIndex) (rows : List LineInfo) (kept : List CallRow) (place : PdbInternalSectionOffset) → kept ≡ kept_rows rows
     → call_by_kept id (find (covers_kept place) kept) kept ≡ call_by id (find (λ row. covers row place) rows) (find has_length rows)
 call_kept id rows kept place e =
@@ -74,7 +74,7 @@ first_start : (lines : InlineSiteForm → List LineInfo) (n : ℕ) (sites : List
 first_start lines n [] = refl
 first_start lines n (site ∷ sites) = refl
 
--- rows behind others, up to their end
+-- rows after others, up to their end
 cut_out : (front kept rest : List CallRow) (n m : ℕ) → length front ≡ n → m ≡ n + length kept → rows_between (front ++ (kept ++ rest)) n m ≡ kept
 cut_out front kept rest n m e f =
     let d : drop n (front ++ (kept ++ rest)) ≡ kept ++ rest = ap (λ i. drop i (front ++ (kept ++ rest))) (sym e) ∙ drop-append_seam front (kept ++ rest) in
@@ -93,7 +93,7 @@ kept_behind lines front n (s ∷ sites) (suc k) site e g =
     let far : length (front ++ kept) ≡ n + length kept = omega (arith, length-append front kept) in
     ap (λ all. rows_between all (get_or starts k 0) (get_or starts (suc k) 0)) (sym (append_assoc front kept (rows_of_sites lines sites))) ∙ kept_behind lines (front ++ kept) (n + length kept) sites k site far g
 
--- what is kept of the rows of the site of a number
+-- what is stored of the rows of the site of a number
 pub kept_at : (rows : List CallRow) (starts : List ℕ) (sites : List Site) (lines : InlineSiteForm → List LineInfo) (k : ℕ) (site : Site) → rows ≡ rows_of_sites lines sites → starts ≡ starts_of_sites lines 0 sites
     → slice_get sites k ≡ Some site → rows_between rows (get_or starts k 0) (get_or starts (k + 1) 0) ≡ kept_rows (lines site.call)
 kept_at rows starts sites lines k site e f g =

@@ -12,7 +12,7 @@ use Rattle.pdb_module_data.proofs.ForestGrammar.{forest_is}
 abbrev pub site_at : InlineSiteForm → Option ℕ → ℕ → Site
 site_at call parent depth = record { call = call; parent = parent; depth = depth }
 
--- sites, one more, those in it and those behind it, as one list
+-- sites, one more, those in it and those after it, as one list
 pub regroup : (sites : List Site) (x : Site) (below rest : List Site) → ((sites ++ x ∷ []) ++ below) ++ rest ≡ sites ++ (x ∷ (below ++ rest))
 regroup sites x below rest = append_assoc (sites ++ x ∷ []) below rest ∙ append_assoc sites (x ∷ []) (below ++ rest)
 

@@ -33,7 +33,7 @@ pub record LeadsTo (it : SymbolIteration) (opens : List Open) (sites : List Site
 
 -- ---- what an iterator found
 
--- an iterator found a symbol, and stands behind it then
+-- an iterator found a symbol, and stands after it then
 pub record HasFound (it : SymbolIteration) (s : Symbol) (new : SymbolIteration) : Type 0 where
   pub is : next it.bytes it.place ≡ Ok (Some (s, new.place))
   pub same : new.bytes ≡ it.bytes
@@ -103,7 +103,7 @@ scan_closed it new s o os sites found le =
     ap (λ bytes. completed bytes os sites new.place) found.same
     ∙ sym (completed_empty it.bytes o os sites it.place new.place (body_closed it.bytes o.limit (length os) it.place s new.place found.is le))
 
--- the stack, kept with the innermost last
+-- the stack, stored with the innermost last
 reverse_push : (xs : List Open) (o : Open) → reverse (xs ++ o ∷ []) ≡ o ∷ reverse xs
 reverse_push xs o = reverse-append xs (o ∷ [])
 
@@ -134,7 +134,7 @@ nested_by bytes index last read =
       | inr le ↦ rw (le-ltb index last le) refl
     ]
 
--- what is behind a nested procedure, or why it can't be passed over
+-- what is after a nested procedure, or why it can't be passed over
 completed_nested : (it new : SymbolIteration) (s : Symbol) (o : Open) (os : List Open) (sites : List Site) (last : ℕ) → HasFound it s new → s.index < o.limit → element_of s ≡ Nested last
     → (r : Result ℕ SitesFault) → nested_past new.bytes s.index last ≡ r → completed_at it (o ∷ os) sites ≡ (r >>= completed it.bytes (o ∷ os) sites)
 completed_nested it new s o os sites last found lt is r past =
@@ -159,7 +159,7 @@ pub scan_refused : (it new : SymbolIteration) (s : Symbol) (o : Open) (os : List
     → nested_past new.bytes s.index last ≡ Err fault → completed_at it (o ∷ os) sites ≡ Err fault
 scan_refused it new s o os sites last fault found lt is past = completed_nested it new s o os sites last found lt is (Err fault) past
 
--- behind a nested procedure there is less to read
+-- after a nested procedure there is less to read
 pub nested_fewer : (it new further : SymbolIteration) (s : Symbol) (last : ℕ) → HasFound it s new → nested_past new.bytes s.index last ≡ Ok further.place → further.bytes ≡ new.bytes
     → length further.bytes - further.place < length it.bytes - it.place
 nested_fewer it new further s last found behind same =
@@ -191,7 +191,7 @@ joined sites parent depth call inner after deeper first behind deep next last =
     let b : numbered parent depth behind after ≡ numbered parent depth (n + 1 + length below) after = ap (λ z. numbered parent depth z after) k in
     ap (λ ys. ((sites ++ x ∷ []) ++ ys) ++ numbered parent depth behind after) a ∙ ap (λ ys. ((sites ++ x ∷ []) ++ below) ++ ys) b ∙ regroup sites x below (numbered parent depth (n + 1 + length below) after)
 
--- the sites so far, those of a new site's body and those behind it, as one tree gives them
+-- the sites so far, those of a new site's body and those after it, as one tree gives them
 opened : (o : Open) (os : List Open) (sites : List Site) (call : InlineSiteForm) (inner after : Forest)
     → let with_it = (sites ++ site_at call o.site (length os + 1) ∷ []) ++ numbered (Some (length sites)) (length (o ∷ os) + 1) (length (sites ++ site_at call o.site (length os + 1) ∷ [])) inner in
     with_it ++ numbered o.site (length os + 1) (length with_it) after ≡ sites ++ numbered o.site (length os + 1) (length sites) (Tree call inner after)
@@ -202,7 +202,7 @@ opened o os sites call inner after =
     let all = length-append (sites ++ x ∷ []) below in
     joined sites o.site (length os + 1) call inner after (length (o ∷ os) + 1) (length (sites ++ x ∷ [])) (length ((sites ++ x ∷ []) ++ below)) (omega arith) (omega arith) all
 
--- a site with the sites in it, by those behind it
+-- a site with the sites in it, by those after it
 abbrev tree_before : InlineSiteForm → Forest → Forest × ℕ → Result (Forest × ℕ) SitesFault
 tree_before call inner others = Ok (Tree call inner others.0, others.1)
 

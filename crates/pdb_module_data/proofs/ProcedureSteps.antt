@@ -43,9 +43,9 @@ no_procedure last s h =
     either last s.index (is_public (kind_of s)) _ _ (other_form last s.index forms.Public _ (λ form. refl)) (rw (none.0, none.1, none.2)
     (either last s.index (is_inline_site (kind_of s)) _ _ (other_form last s.index forms.InlineSite _ (λ form. refl)) (end_is_none last s.index (kind_of s))))
 
--- ---- the procedures that are kept
+-- ---- the procedures that are taken
 
--- procedures and the one that was kept last, with those of the symbols that are still to come
+-- procedures and the one that was taken last, with those of the symbols that are still to come
 abbrev pub procedures_left : List Procedure → Option Procedure → Listing Symbol → Result (List Procedure) Fault
 procedures_left procedures last left = whole left >>= λ all. Ok (firsts_onto procedures (kept_behind last all))
 
@@ -63,7 +63,7 @@ not_here : (procedures : List Procedure) (last : Option Procedure) (x : Symbol) 
 not_here procedures last x others None kept = ap (λ k. Ok (firsts_onto procedures (kept_before k last (λ l. kept_behind l others)))) kept
 not_here procedures last x others (Some e) kept = refl
 
--- a symbol more, which is kept
+-- a symbol more, which is taken
 pub kept_more : (procedures new : List Procedure) (last : Option Procedure) (q : Procedure) (x : Symbol) (left others : Listing Symbol) (total : Result (List Procedure) Fault)
     → left ≡ before x others → kept_of last x ≡ Some q → new ≡ onto_new procedures q → procedures_left procedures last left ≡ total → procedures_left new (Some q) others ≡ total
 kept_more procedures new last q x left others total step kept is so_far =
@@ -105,7 +105,7 @@ start_added (k ∷ kept) p q =
       | false ↦ refl
     ])
 
--- one more start in the set is one more procedure that is kept
+-- one more start in the set is one more procedure that is taken
 pub starts_more : (kept : List Procedure) (p : Procedure) (q : PdbInternalSectionOffset) (before now : Bool) → now ≡ cond (is_eq (place_cmp ((p.offset).section, (p.offset).offset) (q.section, q.offset))) true before → before ≡ has_start kept q → now ≡ has_start (kept ++ p ∷ []) q
 starts_more kept p q before now added same =
     added ∙ ap (λ t. cond t true before) (cmp_place p.offset q) ∙ ap (λ t. cond (is_at p.offset q) true t) same ∙ sym (start_added kept p q)

@@ -44,7 +44,7 @@ stands_with : (n : ℕ) (row : LineRow) (rows : List LineRow) (m : Option Mark) 
 stands_with n row rows m o true h = later_of_two n row rows m o h
 stands_with n row rows m o false h = rw (better-none m) (one_behind n row rows m o h)
 
--- the best mark, where a row's span comes behind those of the others
+-- the best mark, where a row's span comes after those of the others
 best_behind : (n : ℕ) (row : LineRow) (rows : List LineRow) (offset : ℕ) → offset < 2 ^ 32
     → best (row_spans n (row ∷ rows)) offset ≡ better (best (row_spans (n + 1) rows) offset) (if nat_le row.start offset then Some record { rank = row.start; value = n } else None)
 best_behind n row rows offset small =

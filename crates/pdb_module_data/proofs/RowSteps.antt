@@ -7,7 +7,7 @@ use Rattle.pdb_subsections.specs.declared.line_info.LineInfo.{LineInfo}
 use Rattle.pdb_module_data.specs.declared.function_rows.LineRow.{LineRow}
 use Rattle.pdb_module_data.specs.FunctionLine.{row_of}
 
--- what is kept so far, with what is kept of the rows that are still to come
+-- what is stored so far, with what is stored of the rows that are still to come
 abbrev pub rows_onto : List LineRow → Listing LineInfo → Result (List LineRow) Fault
 rows_onto rows left = whole left >>= λ others. Ok (rows ++ map row_of others)
 

@@ -23,7 +23,8 @@ adds_pieces old new number rows pieces updates are = record {
 pub adds_none : (kept : BTreeMap ℕ (List Span)) (number : ℕ) (rows : List CallRow) → AreApart 0 rows → AddsFound kept kept number rows
 adds_none kept number rows are = record { own = λ free. rw free are; others = λ k apart. refl }
 
--- so far pieces stand under the numbers below one, unless rows lie apart, and none under it and past it
+-- so far pieces stand under the numbers below one, unless rows lie apart,
+-- and none under it and past it
 pub record AreFoundBelow (number : ℕ) (rows : List CallRow) (starts : List ℕ) (pieces : BTreeMap ℕ (List Span)) : Type 0 where
   pub found : AreAllFound number rows starts pieces
   pub free : (k : ℕ) → number ≤ k → get nat_cmp pieces k ≡ None

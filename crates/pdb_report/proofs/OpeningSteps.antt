@@ -75,7 +75,7 @@ unfolding scope
 same_scope s h parts m modules_are names_are =
     ap (λ p. scope_given p h.names h m) (same_given s h modules_are) ∙ ap (λ names. scope_given (given_in s) names h m) names_are
 
--- a context over what is kept
+-- a context over what is stored
 abbrev context_of : Held → Parts → Context (List KeptInfo)
 context_of h parts = record { provider = h.infos; parts = parts; formatting = held.formatting_of h 23; lookups = 0; failed = no_failures }
 
@@ -98,7 +98,7 @@ over_kept file h is parts parts_are loaded_is =
       list = ap (λ known. Some (listing_in h parts known)) scopes ∙ ap (λ r. listing_by s r) (sym loaded_is);
     }
 
--- the context that was made is that over what is kept
+-- the context that was made is that over what is stored
 pub context_answers : (file : List ℕ) (h : Held) (c : Context (List KeptInfo)) → IsLoadedFrom file h → held.context_in h 23 ≡ Ok c → AnswersAs answered_in (streams file) c
 context_answers file h c is made =
     let c_is : context_of h is.parts ≡ c = ap (made_or c) (ap (λ r. context_over h.infos (held.formatting_of h 23) r) (sym is.parts_are) ∙ made) in
@@ -120,7 +120,7 @@ context_unfailed file h c is made =
     let c_is : context_of h is.parts ≡ c = ap (made_or c) (ap (λ r. context_over h.infos (held.formatting_of h 23) r) (sym is.parts_are) ∙ made) in
     sym (ap (λ (k : Context (List KeptInfo)). k.failed) c_is)
 
--- the address map that is kept is the file's
+-- the address map that is stored is the file's
 pub map_kept : (file : List ℕ) (h : Held) → IsLoadedFrom file h → address_map (streams file) ≡ Some h.tables.map
 unfolding address_map
 map_kept file h is = ap map_by is.loaded_is

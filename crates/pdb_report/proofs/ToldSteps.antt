@@ -1,4 +1,4 @@
--- What is written for an address is the same, whichever fault is told of a part that fails.
+-- What is written for an address is the same, whichever fault is reported of a part that fails.
 use Rattle.std.proofs.Common.{◌≡◌, Result, Ok, Err, refl, sym, ap, ◌∙◌}
 use Rattle.std.specs.Prelude.{Option}
 use Rattle.pdb_resolving.specs.Fault.{Fault}

@@ -38,7 +38,7 @@ all_gone_over exports items left yielded made passed none =
 
 -- ---- the first of each index
 
--- an export behind others counts where none of them has its index
+-- an export after others counts where none of them has its index
 first_behind : (exports : List Entry) (e : Entry) (local : ℕ)
     → first_export (exports ++ e ∷ []) local ≡ option_or (first_export exports local) (cond (e.local == local) (Some e.global) None)
 first_behind [] e local = elim (e.local == local) as (λ b. option_map (λ x. x.global) (cond b (Some e) None) ≡ cond b (Some e.global) None) [ true ↦ refl | false ↦ refl ]
@@ -46,7 +46,7 @@ first_behind (x ∷ exports) e local =
     elim (x.local == local) as (λ b. option_map (λ y. y.global) (cond b (Some x) (find (λ y. y.local == local) (exports ++ e ∷ []))) ≡ option_or (option_map (λ y. y.global) (cond b (Some x) (find (λ y. y.local == local) exports))) (cond (e.local == local) (Some e.global) None))
     [ true ↦ refl | false ↦ first_behind exports e local ]
 
--- what is kept under an index stays, and one more is kept under its own where nothing is
+-- what is stored under an index stays, and one more is stored under its own where nothing is
 value_kept : (global : ℕ) (before : Option ℕ) → Some (unwrap_or before global) ≡ option_or before (Some global)
 value_kept global (Some x) = refl
 value_kept global None = refl
@@ -69,7 +69,7 @@ kept_with firsts key global local = elim (eqb_tells key local) [
   | inr apart ↦ rw (apart_is_not_at key local apart.1, apart.0) (others_kept (get nat_cmp firsts local))
 ]
 
--- what is kept under an index with one more export is what the first export of it gives
+-- what is stored under an index with one more export is what the first export of it gives
 pub kept_further : (exports : List CrossModuleExport) (export : CrossModuleExport) (firsts : BTreeMap ℕ ℕ) (key value local : ℕ) (kept : Option ℕ) → AreFirst (map entry_of exports) firsts
     → key ≡ (entry_of export).local → value ≡ unwrap_or (get nat_cmp firsts key) (entry_of export).global → kept ≡ cond (is_at (nat_cmp key) local) (Some value) (get nat_cmp firsts local)
     → kept ≡ first_export (map entry_of (exports ++ export ∷ [])) local

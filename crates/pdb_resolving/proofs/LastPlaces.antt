@@ -12,7 +12,7 @@ use Rattle.pdb_symbols_modules.specs.Modules.{Module}
 use Rattle.pdb_resolving.specs.KeptTables.{AreLast}
 use Rattle.pdb_resolving.specs.Resolving.{is_named, place_from, last_place, last_named}
 
--- an element behind others comes first
+-- an element after others comes first
 last_place_behind : {A : Type 0} (test : A → Bool) (xs : List A) (x : A) → last_place test (xs ++ x ∷ []) ≡ cond (test x) (Some (length xs)) (last_place test xs)
 unfolding last_place
 last_place_behind test [] x = refl

@@ -50,19 +50,19 @@ pub by_steps : (modules : Modules) (asking index : ℕ) (result : Result ℕ Sto
     → Finds (λ n. n) result (resolved_by_steps modules asking index) → Finds (λ n. n) result (resolved_elsewhere modules asking index)
 by_steps modules asking index result answer = subst (λ read. Finds (λ n. n) result read) (same_steps modules asking index) answer
 
--- the last module of a name is what is kept under the name in lower case
+-- the last module of a name is what is stored under the name in lower case
 kept_last : (entries : List Module) (names : ModuleNames) (name lower : List ℕ) (kept : Option (BTreeMap (String Global) ℕ)) → AreNames entries names → names.numbers ≡ kept → IsSome kept
     → lower ≡ str_to_ascii_lowercase name → option_and_then (λ numbers. get_by_text numbers lower) kept ≡ last_named name entries
 kept_last entries names name lower (Some numbers) right is there lowered = rw lowered ((right.each numbers is).each name)
 kept_last entries names name lower None right is there lowered = cc
 
--- a number that is kept is that of the last module of the name
+-- a number that is stored is that of the last module of the name
 pub number_kept : (entries : List Module) (names : ModuleNames) (name lower : List ℕ) (n : ℕ) → AreNames entries names → IsSome names.numbers → lower ≡ str_to_ascii_lowercase name
     → option_and_then (λ numbers. get_by_text numbers lower) names.numbers ≡ Some n → numbered name entries ≡ Ok n
 number_kept entries names name lower n right there lowered found =
     ap (λ o. ok_or o (ModuleNameNotFound (str_to_ascii_lowercase name))) (sym (kept_last entries names name lower names.numbers right refl there lowered) ∙ found)
 
--- where none is kept, no module has the name
+-- where none is stored, no module has the name
 pub number_missing : (entries : List Module) (names : ModuleNames) (name lower : List ℕ) → AreNames entries names → IsSome names.numbers → lower ≡ str_to_ascii_lowercase name
     → option_and_then (λ numbers. get_by_text numbers lower) names.numbers ≡ None → numbered name entries ≡ Err (ModuleNameNotFound lower)
 number_missing entries names name lower right there lowered missing =

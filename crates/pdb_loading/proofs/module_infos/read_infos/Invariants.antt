@@ -6,7 +6,7 @@ use Rattle.pdb_loading.specs.ModuleInfos.{KeepsInfos}
 use Rattle.pdb_loading.specs.Sharing.{AreOfStreams}
 use Rattle.pdb_loading.proofs.module_infos.read_infos.Given as goal
 
--- the modules so far are kept, and failures of the source since then
+-- the modules so far are stored, and failures of the source since then
 abbrev pub invariant-loop-entry : goal.invariant-loop-entry
 invariant-loop-entry g l = record {
   same : g.S.Source.bytes l.pdb ≡ g.S.Source.bytes l.fn.pdb;

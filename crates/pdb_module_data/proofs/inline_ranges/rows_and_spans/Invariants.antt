@@ -3,7 +3,8 @@ use Rattle.pdb_module_data.specs.InlinedCalls.{given_by, call_rows}
 use Rattle.pdb_module_data.specs.InlinePieces.{rows_of_sites, starts_of_sites, site_spans, AreShortSites}
 use Rattle.pdb_module_data.proofs.inline_ranges.rows_and_spans.Given as goal
 
--- with what the sites left add, rows, starts and spans are what they must be; and if those left are short, all are
+-- with what the sites left add, rows, starts and spans are what they must be;
+-- and if those left are short, all are
 abbrev pub invariant-loop-number : goal.invariant-loop-number
 invariant-loop-number l =
     let rows = call_rows (given_by l.inlinees) l.start in

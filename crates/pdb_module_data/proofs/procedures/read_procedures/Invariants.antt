@@ -6,7 +6,8 @@ use Rattle.pdb_module_data.specs.Procedures.{place_cmp, has_start, procedures_of
 use Rattle.pdb_module_data.proofs.ProcedureSteps.{procedures_left}
 use Rattle.pdb_module_data.proofs.procedures.read_procedures.Given as goal
 
--- the procedures so far, with those of the symbols that are still to come, are all; and the set has their starts
+-- the procedures so far, with those of the symbols that are still to come, are all;
+-- and the set has their starts
 abbrev pub invariant-loop-procedures : goal.invariant-loop-procedures
 invariant-loop-procedures l = record {
   so_far : procedures_left l.procedures.items l.last (symbols_left l.symbols) ≡ procedures_of (symbols_left l.fn.symbols);

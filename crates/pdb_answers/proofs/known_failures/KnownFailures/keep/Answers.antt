@@ -5,7 +5,7 @@ use Rattle.pdb_answers.specs.declared.known_failures.KnownFailure.{KnownFailure}
 use Rattle.pdb_answers.proofs.KnownSteps.{known_now}
 use Rattle.pdb_answers.proofs.known_failures.KnownFailures.keep.Goals as goal
 
--- what is kept is the part that fails in the functions like the chosen one
+-- what is stored is the part that fails in the functions like the chosen one
 pub returns : goal.returns
 returns c =
     let kept : Asked → KnownFailure = λ a. record { module_index = c.args.module_index; asked = a; part = c.args.part } in

@@ -30,7 +30,7 @@ invariant_of-self-2 g c =
           c.self.invariant.1),
     )
 
--- what is told of the frames in the chosen function is what is told of those at the place
+-- what is reported of the frames in the chosen function is what is reported of those at the place
 pub returns-clause-frames : goal.returns-clause-frames
 returns-clause-frames g c =
     let provided = g.P.ModuleProvider.provided in
