@@ -1,8 +1,8 @@
 #!/usr/bin/env python3
 """Writes C++ code without headers, to be measured: generate.py FOLDER MODULES FUNCTIONS [SEED]
 
-FOLDER gets MODULES files of FUNCTIONS functions each, with classes, templates, virtual methods, anonymous namespaces, lambdas and
-chains of forced inlining, and main.cpp, which calls them all."""
+FOLDER gets MODULES files of FUNCTIONS functions each, with classes, templates, virtual methods,
+anonymous namespaces, lambdas and chains of forced inlining, and main.cpp, which calls them all."""
 import os
 import random
 import sys
@@ -54,8 +54,9 @@ void operator delete(void *) noexcept {}
 void operator delete(void *, decltype(sizeof(0))) noexcept {}
 """
 
-# Each kind of function: what is written of it, and how it is called. @N is its name, @T and @U types, @D one of the functions s1 to
-# s10 that it calls, @A, @B, @C others of these, @M the number of its module, @R a length.
+# Each kind of function: what is written of it, and how it is called. @N is its name, and @T and @U
+# are types. @D is one of the functions s1 to s10 that it calls, and @A, @B and @C are others of
+# these. @M is the number of its module, and @R a length.
 KINDS = [
     ("""NOINLINE int @N(@T a, @U b, const Public@M &p) {
   int r = lib::s@D((int)a);

@@ -3,17 +3,19 @@
 #
 #   bench/run.sh [--count] OUT [PROGRAM [ORIGINAL]]
 #
-# OUT, outside the repository, gets the generated sources, their databases and lists of addresses; what is there is used again.
-# PROGRAM is the built pdb_symbolizer, by default the proved one in crates/pdb_symbolizer/out. ORIGINAL, if given, is the ported
-# crate to compare with: a program that is called as `ORIGINAL frames FILE < ADDRESSES` and writes
-# the same report, with or without the rows of frames (` @START+LENGTH`), or the folder of a Cargo
-# workspace that has one, which is built by `cargo build --release`. Without it its columns are left
-# out.
-# Times are the least of five runs in turn, and ratios are given from three such rounds: a shared machine varies by a third.
-# With --count instructions and cache misses are counted too, by valgrind, which takes some minutes.
+# OUT, outside the repository, gets the generated sources, their databases and lists of addresses;
+# what is there is used again. PROGRAM is the built pdb_symbolizer, by default the proved one in
+# crates/pdb_symbolizer/out. ORIGINAL, if given, is the ported crate to compare with. It is a
+# program that is called as `ORIGINAL frames FILE < ADDRESSES` and writes the same report, with or
+# without the rows of frames (` @START+LENGTH`). Or it is the folder of a Cargo workspace that has
+# one, which is built by `cargo build --release`. Without it its columns are left out.
 #
-# Debian: clang-19 lld-19 llvm-19, and valgrind for --count. The databases have 10 and 90 MB; DATABASES="NAME MODULES FUNCTIONS; .."
-# names others. The greater one takes minutes to be made.
+# Times are the least of five runs in turn, and ratios are given from three such rounds: a shared
+# machine varies by a third. With --count instructions and cache misses are counted too, by
+# valgrind, which takes some minutes.
+#
+# Debian: clang-19 lld-19 llvm-19, and valgrind for --count. The databases have 10 and 90 MB;
+# DATABASES="NAME MODULES FUNCTIONS; .." names others. The greater one takes minutes to be made.
 set -eu
 here=$(cd "$(dirname "$0")" && pwd)
 count=

@@ -1,12 +1,13 @@
 #!/usr/bin/env python3
-"""Compares the program with llvm-symbolizer at each address of the code of the databases that make.sh made:
+"""Compares the program with llvm-symbolizer at each address of the code of the databases that
+make.sh made:
 
     examples/compare.py PROGRAM OUT
 
-For each database it prints how many addresses have equal answers, and the ranges of the others with both answers. Names are
-compared without their arguments, since llvm-symbolizer prints those of the decorated name, and of inlined calls none, and
-without the blanks in them. GNU ld's database can't be read by llvm-symbolizer; in its place it is asked of the same code with
-DWARF.
+For each database it prints how many addresses have equal answers, and the ranges of the others with
+both answers. Names are compared without their arguments, since llvm-symbolizer prints those of the
+decorated name, and of inlined calls none, and without the blanks in them. GNU ld's database can't
+be read by llvm-symbolizer; in its place it is asked of the same code with DWARF.
 It needs llvm-symbolizer-19 and llvm-readobj-19 (Debian's llvm-19)."""
 import json
 import re
@@ -15,7 +16,7 @@ import sys
 
 
 def bare(name):
-    """A name without its arguments, and without what stands behind them."""
+    """A name without its arguments, and without what stands after them."""
     name = name.replace(", ", ",")
     depth = 0
     for at, char in enumerate(name):
@@ -34,7 +35,7 @@ def path(file):
 
 
 def code_of(image):
-    """The addresses of the code of an image: the first one, and the first behind it."""
+    """The addresses of the code of an image: the first one, and the first one after it."""
     text = subprocess.run(["llvm-readobj-19", "--sections", image], capture_output=True, text=True, check=True).stdout
     found = re.search(r"Name: \.text .*?VirtualSize: (0x\w+)\s+VirtualAddress: (0x\w+)", text, re.S)
     size, start = int(found[1], 16), int(found[2], 16)

@@ -6,10 +6,10 @@
 #
 # PROGRAM is the built pdb_symbolizer; if left out, the proved one. pdb_llvm_symbolizer is always
 # the proved one.
-# A block of a document that begins with `    $ ` is a transcript: each such line is a command, and
+# A block of a document that begins with `    $ ` is a transcript. Each such line is a command, and
 # the lines below it are what it prints, on standard error too. A command with nothing below it has
 # to end with status 0. Each transcript runs in a new folder, with both programs on the path and
-# their data in data/; what compiles or copies runs in a copy of the repository. What proves or
+# their data in data/. What compiles or copies runs in a copy of the repository. What proves or
 # measures isn't run here. RELEASING's command that tries a thousand files runs with --slow alone.
 # Each block ```rust has to stand in crates/example_calls. With --write what came is put into the
 # documents. The last line is `N passed, M failed`.

@@ -55,6 +55,7 @@ def whole():
     about, _, usage, *rest = help_of()
     version = open(f"{top}/VERSION").read().strip()
     at = rest.index("Examples:")
+    last = next(it for it, line in enumerate(rest) if line.startswith("The exit status is "))
     names = [it.split()[0] for it in rest if re.match(r"  [a-z]+ {2,}[A-Z]", it)]
     names = [it for it in names if it != "help"]
     made = [f'.TH PDB_SYMBOLIZER 1 "" "pdb_symbolizer {version}"']
@@ -64,7 +65,8 @@ def whole():
     for name in names:
         made += command(name)
     made += [".SH OPTIONS", *paragraphs(rest[rest.index("Options:") + 1 : at - 1])]
-    made += [".SH EXAMPLES", *paragraphs(rest[at + 1 :])]
+    made += [".SH EXAMPLES", *paragraphs(rest[at + 1 : last])]
+    made += [".SH EXIT STATUS", *paragraphs(rest[last:])]
     lines = [it for at, it in enumerate(made) if it != ".PP" or made[at + 1 : at + 2] not in ([".PP"], [])]
     return "\n".join(lines) + "\n"
 

@@ -300,7 +300,8 @@ class Program:
         return self.functions[after - 1][1] if after else "?"
 
     def run(self, case, number=None):
-        """Runs a case with the request of a number refused; gives what came, how many requests there were, and who asked."""
+        """Runs a case with the request with that number refused, or with none. It gives what came,
+        how many requests there were, and who asked."""
         read, write = os.pipe()
         environment = {**self.environment, "REFUSE_REPORT": str(write)}
         if number:
