@@ -4,7 +4,7 @@ use Rattle.pdb_loading.specs.Held.{Held, parts_held}
 use Rattle.pdb_loading.specs.ModuleInfos.{KeptInfo}
 use Rattle.pdb_symbols_modules.specs.Machine.{machine_of}
 use Rattle.pdb_symbols_modules.specs.Modules.{modules_of}
-use Rattle.pdb_type_sizes.specs.Reading.{Reading, pointer_bytes}
+use Rattle.pdb_module_items.specs.Reading.{Reading, pointer_bytes}
 use Rattle.pdb_context.specs.Printing.{Formatting}
 use Rattle.pdb_resolving.specs.Fault.{Fault}
 use Rattle.pdb_resolving.specs.Resolving.{none_failed}

@@ -28,10 +28,10 @@ use Rattle.pdb_symbols_modules.specs.ModuleStream.{ModuleStream}
 use Rattle.pdb_symbols_modules.specs.Modules.{Module, modules_of}
 use Rattle.pdb_symbols_modules.specs.Shared.{Shared, shared}
 use Rattle.pdb_symbols_modules.specs.Streams.{Streams, streams, fault_in}
-use Rattle.pdb_type_sizes.specs.Reading.{Parts as Reading, parts_by}
+use Rattle.pdb_module_items.specs.Reading.{Parts as Reading, parts_by}
 use Rattle.pdb_report.proofs.NeededStreams.{NeedsAlike, needs_alike, shared_alike, given_alike}
 use Rattle.pdb_resolving.proofs.ResolveAlike.{bind_cases, GivenAlike, resolve_alike}
-use Rattle.pdb_type_sizes.proofs.ReadingAlike.{types_alike, ids_alike, sizes_alike}
+use Rattle.pdb_module_items.proofs.ReadingAlike.{types_alike, ids_alike, sizes_alike}
 
 -- ---- what an answer depends on
 

@@ -12,7 +12,7 @@ use Rattle.pdb_resolving.specs.declared.error.Error as context
 use Rattle.pdb_resolving.specs.declared.error.Error.TheVariants as contexts
 use Rattle.pdb_resolving.specs.Fault as answers
 use Rattle.pdb_resolving.specs.Resolving.{Provided, none_failed}
-use Rattle.pdb_type_sizes.specs.Reading.{pointer_bytes}
+use Rattle.pdb_module_items.specs.Reading.{pointer_bytes}
 use Rattle.pdb_addr2line.specs.Printing.{Formatting}
 use Rattle.pdb_addr2line.specs.Choice.{Parts}
 use Rattle.pdb_frames.specs.Scopes.{Scope, scope_of}

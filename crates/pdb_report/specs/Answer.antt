@@ -7,7 +7,7 @@ use Rattle.pdb_symbols_modules.specs.Shared.{shared}
 use Rattle.pdb_symbols_modules.specs.Streams.{Streams}
 use Rattle.pdb_resolving.specs.Fault.{Fault}
 use Rattle.pdb_resolving.specs.Resolving.{Provided, none_failed}
-use Rattle.pdb_type_sizes.specs.Reading.{pointer_bytes}
+use Rattle.pdb_module_items.specs.Reading.{pointer_bytes}
 use Rattle.pdb_addr2line.specs.Printing.{Formatting}
 use Rattle.pdb_addr2line.specs.Choice.{Parts}
 use Rattle.pdb_frames.specs.Scopes.{Scope, scope_of, entries_of}

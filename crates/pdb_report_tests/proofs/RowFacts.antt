@@ -40,7 +40,7 @@ use Rattle.pdb_symbols_modules.specs.OptionalHeader.{optional_at}
 use Rattle.pdb_symbols_modules.specs.Shared.{optional_in, named, named_number, symbols_number, optional_number, shared, module_of_number, info_in, info_from, module_number, module_bytes, provider}
 use Rattle.pdb_symbols_modules.specs.Streams.{if_named, streams}
 use Rattle.pdb_resolving.specs.Fault.{PdbError}
-use Rattle.pdb_type_sizes.specs.Reading.{type_in, type_at, id_in, id_at}
+use Rattle.pdb_module_items.specs.Reading.{type_in, type_at, id_in, id_at}
 use Rattle.pdb_type_text.specs.Ids.{visit_id}
 use Rattle.pdb_type_text.specs.Types.{visit}
 use Rattle.pdb_contributions.specs.MergedContributions.{held_by, held_of}

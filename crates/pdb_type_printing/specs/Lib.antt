@@ -4,5 +4,5 @@ pub mod Level
 pub mod Printing
 pub mod This
 pub mod Types
-pub use Rattle.pdb_type_sizes.specs.Reading
-pub use Rattle.pdb_type_sizes.specs.Sizes
+pub use Rattle.pdb_module_items.specs.Reading
+pub use Rattle.pdb_module_items.specs.Sizes

@@ -2,9 +2,9 @@
 use Rattle.std.specs.Prelude.{ℕ}
 use Rattle.pdb_resolving.specs.declared.table.Table.{Table}
 use Rattle.pdb_resolving.specs.Resolving.{Provided}
-use Rattle.pdb_type_sizes.specs.Reading.{Reading, parts_by, type_at, id_at}
-use Rattle.pdb_type_sizes.specs.Reading.{with_failed as reading_with_failed}
-use Rattle.pdb_type_sizes.specs.Sizes.{size_at}
+use Rattle.pdb_module_items.specs.Reading.{Reading, parts_by, type_at, id_at}
+use Rattle.pdb_module_items.specs.Reading.{with_failed as reading_with_failed}
+use Rattle.pdb_module_items.specs.Sizes.{size_at}
 use Rattle.pdb_type_printing.specs.Env.{Env}
 
 -- what types and ids are read from, and the flags

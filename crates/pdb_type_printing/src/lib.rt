@@ -8,5 +8,5 @@ mod printer;
 mod types;
 
 pub use asker::Asker;
-pub use pdb_type_sizes::ItemReader;
+pub use pdb_module_items::ItemReader;
 pub use printer::TypePrinter;

@@ -12,12 +12,12 @@ ghost use Rattle.pdb_type_printing.specs.This.{this_of, this_to};
 use crate::asker::Asker;
 use crate::elements::{Elements, MAX_ELEMENTS, array_step};
 use pdb_indices::{IdIndex, TypeIndex};
+use pdb_module_items::ItemReader;
 use pdb_records::{ArrayType, IdData, TypeData};
 use pdb_resolving::stop::{Result, Stop};
 use pdb_resolving::{Error, ModuleProvider, Table};
 use pdb_symbols_modules::Module;
 use pdb_text_pieces::{IndexPath, TypeFormatterFlags, first_or_zero, this_behind};
-use pdb_type_sizes::ItemReader;
 use std::alloc::AllocError;
 use std::marker::Model;
 

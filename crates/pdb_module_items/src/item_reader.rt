@@ -1,0 +1,218 @@
+//! Types and ids by their indices as a module has them.
+
+ghost use Rattle.std.specs.Prelude.{◌≡◌, ℕ, Ok, option_map, IfOk, IsOkUnless, OnErr, OnOk};
+ghost use Rattle.pdb_container.specs.declared.error.Error.TheVariants as causes;
+ghost use Rattle.pdb_records.specs.IdForms.{id_shape};
+ghost use Rattle.pdb_records.specs.Shapes.{shape};
+ghost use Rattle.pdb_symbols_modules.specs.Machine.{machine_of};
+ghost use Rattle.pdb_resolving.specs.Cause.{Finds};
+ghost use Rattle.pdb_resolving.specs.Fault.{Answers};
+ghost use Rattle.pdb_resolving.specs.Resolving.{modules_by, none_failed, resolve};
+ghost use Rattle.pdb_module_items.specs.Reading.{id_in, type_at, id_at, parts_by, pointer_bytes};
+ghost use Rattle.pdb_module_items.specs.Reading.{with_failed};
+ghost use Rattle.pdb_module_items.specs.Sizes.{resolved_bytes, size_at, stated_bytes};
+
+use crate::item_map::ItemMap;
+use crate::sizes::Stated;
+use crate::type_size_cache::TypeSizeCache;
+use pdb_container::StringTable;
+use pdb_indices::{IdIndex, TypeIndex};
+use pdb_items::{IdInformation, TypeInformation};
+use pdb_records::{IdData, TypeData};
+use pdb_resolving::stop::{self, Stop};
+use pdb_resolving::{Error, ModuleProvider, Resolver, Result, Table};
+use pdb_symbols_modules::{DebugInformation, MachineType, Module};
+use std::alloc::{AllocError, Global};
+use std::marker::Model;
+
+/// How many types a size may lead through, the one that is asked for among them.
+const MOST_STEPS: u32 = 1024;
+
+/// Reads types and ids by their indices, as the modules of a database have them.
+#[derive(Drop)]
+pub struct ItemReader<'a, 's, P: ModuleProvider> {
+    resolver: Resolver<'a, 's, P>,
+    types: TypeSizeCache<'a>,
+    ids: ItemMap<'a, IdIndex>,
+    pointer_size: u64,
+}
+
+impl<'a, 's, P: ModuleProvider> Model for ItemReader<'a, 's, P> {
+    ghost use Rattle.pdb_module_items.specs.Reading.{Reading};
+
+    ghost Value = { Reading P };
+
+    ghost view = { λ r. record {
+      modules = r.resolver;
+      types = r.types;
+      ids = r.ids;
+      pointer_size = r.pointer_size;
+    } };
+}
+
+impl<'a, 's, P: ModuleProvider> ItemReader<'a, 's, P> {
+    /// A reader over what gives the modules, their entries in order, the image for which the
+    /// database was written, the tables of types and of ids, and the table of names, if there is
+    /// one. No table of a module stands as failed.
+    ///
+    /// # Errors
+    /// `OutOfMemory`, and no other.
+    pub fn new(
+        alloc: Global,
+        provider: &'a P,
+        modules: Vec<Module<'a>>,
+        debug_information: &DebugInformation<'_>,
+        type_information: &'a TypeInformation<'_>,
+        id_information: &'a IdInformation<'_>,
+        string_table: Option<&'a StringTable<'s>>,
+    ) -> pdb_container::Result<ItemReader<'a, 's, P>>
+        ensures parts { IfOk result (λ r. r ≡ record {
+          modules =
+              record {
+                provider = provider.now;
+                entries = modules.entry.items;
+                names = option_map (λ t. t.now) string_table.entry;
+                failed = none_failed;
+              };
+          types = type_information.now;
+          ids = id_information.now;
+          pointer_size = pointer_bytes (machine_of debug_information.now.machine);
+        }) }
+        ensures memory { IsOkUnless result causes.OutOfMemory }
+    {
+        let types = TypeSizeCache::of(alloc, type_information)?;
+        let ids = ItemMap::of_ids(alloc, id_information)?;
+        Ok(ItemReader {
+            resolver: Resolver::new(alloc, provider, modules, string_table),
+            types,
+            ids,
+            pointer_size: pointer_size(debug_information.machine_type()),
+        })
+    }
+
+    /// The modules in order.
+    pub fn modules(&self) -> &[Module<'a>]
+        ensures { result.now ≡ self.now.modules.entries }
+    {
+        self.resolver.modules()
+    }
+
+    /// Stores a module's table as failed. Nothing changes when memory runs out.
+    ///
+    /// # Errors
+    /// `AllocError` when memory runs out.
+    pub fn keep_failed(&mut self, table: Table) -> std::result::Result<(), AllocError>
+        ensures kept { OnOk result (self.new ≡ with_failed self.old table) }
+        ensures same { OnErr result (self.new ≡ self.old) }
+    {
+        self.resolver.keep_failed(table)
+    }
+
+    /// The type with that index, as the module at `module_index` (counted from 0) names it.
+    ///
+    /// # Errors
+    /// The first fault of: resolving the index ([`Resolver::resolve`]); finding its item
+    /// (`TypeNotFound`, or the fault at which the table ends); parsing its record. `OutOfMemory`.
+    #[tactic(auto, using(pdb_resolving::proofs::Ending::ends_on, pdb_resolving::proofs::Ending::ends_by_error), unfolding(crate::specs::Reading::type_at))]
+    pub fn read_type(
+        &mut self,
+        alloc: Global,
+        module_index: usize,
+        index: TypeIndex,
+    ) -> stop::Result<TypeData<'a>>
+        ensures same { self.new ≡ self.old }
+        ensures value { Finds shape result
+            (type_at (parts_by P.provided self.old) module_index index.0) }
+    {
+        match self.resolver.resolve(alloc, module_index, index.0) {
+            Ok(resolved) => Ok(self.types.read(alloc, resolved)?),
+            Err(stop) => Err(stop),
+        }
+    }
+
+    /// The id with that index, as the module at `module_index` (counted from 0) names it.
+    ///
+    /// # Errors
+    /// As [`ItemReader::read_type`].
+    #[tactic(auto, using(pdb_resolving::proofs::Ending::ends_on, pdb_resolving::proofs::Ending::ends_by_error), unfolding(crate::specs::Reading::id_at))]
+    pub fn read_id(
+        &mut self,
+        alloc: Global,
+        module_index: usize,
+        index: IdIndex,
+    ) -> stop::Result<IdData<'a>>
+        ensures same { self.new ≡ self.old }
+        ensures value { Finds id_shape result
+            (id_at (parts_by P.provided self.old) module_index index.0) }
+    {
+        match self.resolver.resolve(alloc, module_index, index.0) {
+            Ok(resolved) => Ok(read_id_in(alloc, &mut self.ids, resolved)?),
+            Err(stop) => Err(stop),
+        }
+    }
+
+    /// The size in bytes of the type with that index, as the module at `module_index` (counted from
+    /// 0) names it. It is 0 for a type that can't be read, that leads back to itself, or whose size
+    /// is that of more than 1,023 others in a row.
+    ///
+    /// # Errors
+    /// `OutOfMemory`, and no other.
+    #[tactic(auto, using(crate::proofs::SizeSteps::size_known, crate::proofs::SizeSteps::size_on, crate::proofs::SizeSteps::size_past))]
+    pub fn size(&mut self, alloc: Global, module_index: usize, index: TypeIndex) -> Result<u64>
+        ensures same { self.new ≡ self.old }
+        ensures value { Answers (λ n. n) result
+            (Ok (size_at (parts_by P.provided self.old) module_index index.0)) }
+    {
+        let mut current = index;
+        for _ in 0..MOST_STEPS {
+            match self.stated(alloc, module_index, current)? {
+                Stated::Bytes(size) => return Ok(size),
+                Stated::SameAs(underlying) => current = underlying,
+            }
+        }
+        Ok(0)
+    }
+
+    /// What is known of the size of the type with that index; 0 where it can't be read.
+    fn stated(
+        &mut self,
+        alloc: Global,
+        module_index: usize,
+        index: TypeIndex,
+    ) -> std::result::Result<Stated, AllocError>
+        ensures same { self.new ≡ self.old }
+        ensures size { IfOk result (λ s. (of : ℕ → ℕ)
+            → stated_bytes of s ≡ resolved_bytes self.old.types self.old.pointer_size of
+            (resolve (modules_by P.provided self.old.modules) module_index index.0)) }
+    {
+        match self.resolver.resolve(alloc, module_index, index.0) {
+            Ok(resolved) => self.types.stated(alloc, self.pointer_size, resolved),
+            Err(Stop::ByError(Error::OutOfMemory)) => Err(AllocError),
+            Err(_) => Ok(Stated::Bytes(0)),
+        }
+    }
+}
+
+/// How many bytes a machine's pointers have.
+fn pointer_size(machine: MachineType) -> u64
+    ensures { result ≡ pointer_bytes machine }
+{
+    match machine {
+        MachineType::Amd64 => 8,
+        MachineType::Arm64 => 8,
+        MachineType::Ia64 => 8,
+        MachineType::RiscV64 => 8,
+        MachineType::RiscV128 => 16,
+        MachineType::Other(_) => 4,
+    }
+}
+
+/// The id with that index of the table. Its item's fault, or that of its record.
+#[tactic(auto, unfolding(crate::specs::Reading::id_in))]
+fn read_id_in<'t>(alloc: Global, ids: &mut ItemMap<'t, IdIndex>, index: u32) -> Result<IdData<'t>>
+    ensures same { ids.new ≡ ids.old }
+    ensures value { Answers id_shape result (id_in ids.old index) }
+{
+    let item = ids.try_get(IdIndex(index))?;
+    Ok(item.parse(alloc)?)
+}
