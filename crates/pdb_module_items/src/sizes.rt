@@ -7,7 +7,8 @@ ghost use Rattle.pdb_resolving.specs.Fault.{Answers};
 ghost use Rattle.pdb_module_items.specs.KeptSizes.{AreSizes};
 ghost use Rattle.pdb_module_items.specs.Reading.{type_in};
 ghost use Rattle.pdb_module_items.specs.Sizes.{variant_bytes, last_dimension as last_dimension_of};
-ghost use Rattle.pdb_module_items.specs.Sizes.{key_name as key_name_of, aggregate_bytes, form_bytes};
+ghost use Rattle.pdb_module_items.specs.Sizes.{key_name as key_name_of};
+ghost use Rattle.pdb_module_items.specs.Sizes.{aggregate_bytes, form_bytes};
 ghost use Rattle.pdb_module_items.specs.Sizes.{read_bytes, stated_bytes};
 
 use crate::definitions::{aggregate_size, is_forward_reference, key_name};
