@@ -73,18 +73,47 @@ struct Reading<'s> {
 fn read_copy<'s>(rt: &(impl Clock + AllocGlobal), file: &[u8], count: u32) -> Result<Reading<'s>>
     ensures { IfOk result (λ r. AreFirst file.now count r.streams.items) }
 {
-    let start = Instant::now(rt)?;
-    let copy = Vec::from_slice(rt.alloc(), file)?;
-    let copied = start.elapsed(rt)?;
-    let start = Instant::now(rt)?;
-    let mut container = open_msf(rt.alloc(), copy)?;
-    let streams = all_streams(rt.alloc(), &mut container, count)?;
-    let read = start.elapsed(rt)?;
+    let (copy, copied) = copy_timed(rt, file)?;
+    let (streams, read) = read_timed(rt, copy, count)?;
     Ok(Reading {
         streams,
         copied,
         read,
     })
+}
+
+/// Copies a container, and returns how long that took.
+fn copy_timed(rt: &(impl Clock + AllocGlobal), file: &[u8]) -> Result<(Vec<u8>, Duration)>
+    ensures { IfOk result (λ r. r.0.items ≡ file.now) }
+{
+    let start = Instant::now(rt)?;
+    let copy = Vec::from_slice(rt.alloc(), file)?;
+    Ok((copy, start.elapsed(rt)?))
+}
+
+/// Opens a container and reads its first `count` streams, and returns how long that took.
+fn read_timed<'s>(
+    rt: &(impl Clock + AllocGlobal),
+    file: Vec<u8>,
+    count: u32,
+) -> Result<(Vec<Stream<'s>>, Duration)>
+    ensures { IfOk result (λ r. AreFirst file.items count r.0.items) }
+{
+    let start = Instant::now(rt)?;
+    let streams = streams_of(rt.alloc(), file, count)?;
+    Ok((streams, start.elapsed(rt)?))
+}
+
+/// Opens a container, and reads its first `count` streams.
+fn streams_of<'s>(
+    alloc: Global,
+    file: Vec<u8>,
+    count: u32,
+) -> pdb_container::Result<Vec<Stream<'s>>>
+    ensures { IfOk result (λ streams. AreFirst file.items count streams.items) }
+{
+    let mut container = open_msf(alloc, file)?;
+    all_streams(alloc, &mut container, count)
 }
 
 /// Reads the first `count` streams.

@@ -1,7 +1,7 @@
 //! The command that the program's arguments are read by, with its help.
 
-ghost use Rattle.std.specs.Prelude.{◌≡◌, IfOk, false};
-ghost use Rattle.clap.specs.Words.{app_of, new_app, rule_of, with_subcommand};
+ghost use Rattle.std.specs.Prelude.{◌≡◌, IfOk, codes, false};
+ghost use Rattle.clap.specs.Words.{app_of, new_app, rule_of, with_rule, with_subcommand};
 ghost use Rattle.clap.specs.declared.builder.command.Command.TheViews.{out-Command as fields_of};
 ghost use Rattle.pdb_arguments.specs.Task.{program_app, frames_app, sizes_app, bare_app, needed};
 ghost use Rattle.pdb_arguments.specs.Task.{flagged};
@@ -94,8 +94,18 @@ fn frames_command<'a>(alloc: Global) -> Result<Command<'a>, AllocError>
     ensures local { IfOk result (λ c. (fields_of c).has_globals ≡ false) }
 {
     let file = needed_word(alloc, "FILE", FILE_HELP);
-    let frames = described(alloc, "frames", FRAMES_ABOUT, FRAMES_EXAMPLE).arg(file)?;
-    Ok(frames)
+    described(alloc, "frames", FRAMES_ABOUT, FRAMES_EXAMPLE).arg(file)
+}
+
+/// Adds the arguments `START END`.
+fn with_range<'a>(alloc: Global, command: Command<'a>) -> Result<Command<'a>, AllocError>
+    ensures app { IfOk result (λ c. app_of c ≡ with_rule (with_rule (app_of command.entry)
+        (needed (codes "START"))) (needed (codes "END"))) }
+    ensures local { (fields_of command.entry).has_globals ≡ false
+        → IfOk result (λ c. (fields_of c).has_globals ≡ false) }
+{
+    let with_start = command.arg(needed_word(alloc, "START", START_HELP))?;
+    with_start.arg(needed_word(alloc, "END", END_HELP))
 }
 
 /// The command `sizes FILE START END`, with the flag `--by-file`.
@@ -103,12 +113,9 @@ fn sizes_command<'a>(alloc: Global) -> Result<Command<'a>, AllocError>
     ensures app { IfOk result (λ c. app_of c ≡ sizes_app) }
     ensures local { IfOk result (λ c. (fields_of c).has_globals ≡ false) }
 {
-    let bare = described(alloc, "sizes", SIZES_ABOUT, SIZES_EXAMPLE);
-    let with_file = bare.arg(needed_word(alloc, "FILE", FILE_HELP))?;
-    let with_start = with_file.arg(needed_word(alloc, "START", START_HELP))?;
-    let with_end = with_start.arg(needed_word(alloc, "END", END_HELP))?;
-    let with_flag = with_end.arg(flag(alloc, "by-file", BY_FILE_HELP))?;
-    Ok(with_flag)
+    let file = needed_word(alloc, "FILE", FILE_HELP);
+    let with_file = described(alloc, "sizes", SIZES_ABOUT, SIZES_EXAMPLE).arg(file)?;
+    with_range(alloc, with_file)?.arg(flag(alloc, "by-file", BY_FILE_HELP))
 }
 
 /// The program's command, which requires a subcommand and has none yet. Its name appears in the

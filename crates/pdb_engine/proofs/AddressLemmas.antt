@@ -1,12 +1,13 @@
 -- The first twelve bytes of a line decide its address.
 use Rattle.std.specs.Prelude.{◌≡◌, ℕ, zero, suc, ◌+◌, ◌-◌, ◌≤◌, nat_le, Bool, true, false, cond, List, length, take, drop, None, ◌⊎◌}
-use Rattle.std.proofs.Common.{ap, inl, inr, sym, refl, ◌∙◌, arith, length-drop, Some, ◌&&◌}
+use Rattle.std.proofs.Common.{ap, inl, inr, sym, ◌∙◌, arith, length-drop, Some, ◌&&◌}
 use Rattle.std.specs.Char.{is_digit}
 use Rattle.std.specs.List.{list_all}
 use Rattle.std.specs.Str.Parse.{digits_value}
 use Rattle.std.proofs.lemmas.List.{take_all, length-take}
 use Rattle.std.proofs.lemmas.Bool.Decides.{nat_tests}
 use Rattle.pdb_engine.specs.Address.{address_of, value_of, without_return, without_prefix}
+use Rattle.pdb_engine.proofs.Hex.{and_false}
 
 cond_long : (b : Bool) (xs ys : List ℕ) (n : ℕ) → n ≤ length xs → n ≤ length ys → n ≤ length (cond b xs ys)
 cond_long true xs ys n p q = p
@@ -18,10 +19,6 @@ return_long line n h = cond_long _ (take (length line - 1) line) line n (omega (
 
 prefix_long : (line : List ℕ) (n : ℕ) → n + 2 ≤ length line → n ≤ length (without_prefix line)
 prefix_long line n h = cond_long _ (drop 2 line) line n (omega (arith, length-drop 2 line)) (omega arith)
-
-and_false : (b : Bool) → (b && false) ≡ false
-and_false true = refl
-and_false false = refl
 
 value_long : (digits : List ℕ) → 9 ≤ length digits → value_of digits ≡ None
 value_long digits h =

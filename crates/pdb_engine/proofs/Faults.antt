@@ -72,6 +72,14 @@ no_write P fault kind e = subst (λ (f : InputFault). OnWrite f P) (sym e) (said
     said kinds.OutOfMemory = tt
     said kind = tt
 
+-- nor says it that the input is too long
+pub no_read_length : (P : Type 0) (fault : InputFault) (kind : ErrorKind) → fault ≡ read_fault_of kind → OnTooLong fault P
+no_read_length P fault kind e = subst (λ (f : InputFault). OnTooLong f P) (sym e) (said kind)
+  where
+    said : (kind : ErrorKind) → OnTooLong (read_fault_of kind) P
+    said kinds.OutOfMemory = tt
+    said kind = tt
+
 -- the last of several writes, after those of which none failed
 pub write_end : {T : Type 0} (r : Result (Unit {0}) InputFault) (a b c : Watched T) → IsQuiet a b → IfErr r (λ fault. OnWrite fault (λ kind. CountsFailure b c kind)) → IfErr r (λ fault. OnWrite fault (λ kind. CountsFailure a c kind))
 write_end (Ok done) a b c quiet failed = tt

@@ -1,9 +1,9 @@
 -- What was read and answered, and one read more.
 use Rattle.std.proofs.Common.{◌≡◌, ℕ, zero, suc, ◌∷◌, ◌+◌, ◌-◌, ◌≤◌, ◌<◌, List, [], ◌++◌, refl, sym, ap, subst, ◌∙◌, append_assoc, append-nil, length, take, drop, arith, length-append, take-append-drop}
-use Rattle.std.specs.Prelude.{Option}
+use Rattle.std.specs.Prelude.{Option, min}
 use Rattle.std.specs.List.{flat_map}
-use Rattle.std.specs.Io.KnownBytes.{Appends, Consumes}
-use Rattle.std.proofs.KnownBytes.{Appends-trans, Consumes-trans}
+use Rattle.std.specs.Io.KnownBytes.{Appends, Consumes, IsAtEnd, Keeps}
+use Rattle.std.proofs.KnownBytes.{Appends-trans, Consumes-trans, Consumes-kept, Consumes-nil}
 use Rattle.std.proofs.Math.Seq.{take-append-add}
 use Rattle.std.proofs.lemmas.Grind.{flat_map-append}
 use Rattle.pdb_engine.specs.declared.fault.InputFault.{InputFault}
@@ -47,6 +47,35 @@ joined room text kept taken piece = ap (flat_map text) (kept_lines-append room k
 same_answers : (room : ℕ) (text text' : List ℕ → List ℕ) (start start' piece : List ℕ) → text' ≡ text → start ≡ start' → flat_map text' (kept_lines room start piece) ≡ flat_map text (kept_lines room start' piece)
 same_answers room text text' start start' piece et es = ap (λ (t : List ℕ → List ℕ). flat_map t (kept_lines room start piece)) et ∙ ap (λ (k : List ℕ). flat_map text (kept_lines room k piece)) es
 
+-- a read that failed took nothing
+pub none_taken : (a b : Option (List ℕ)) → Keeps a b → Consumes a b []
+none_taken a b kept = Consumes-kept a a b [] (Consumes-nil a) kept
+
+-- the answers to the lines that end in what one read took
+pub read_all : (room : ℕ) (text : List ℕ → List ℕ) (ra rb wa wb : Option (List ℕ)) (kept start chunk chunk' : List ℕ) (count within left : ℕ) → chunk' ≡ chunk → within ≡ min count left → count ≤ left → count ≡ length (take count chunk)
+    → Consumes ra rb (take count chunk) → Appends wa wb (flat_map text (kept_lines room kept (take within chunk'))) → start ≡ kept_rest room kept (take within chunk') → Answered room text ra rb wa wb kept start count left
+read_all room text ra rb wa wb kept start chunk chunk' count within left same is fits counted read written rest =
+    let piece : take within chunk' ≡ take count chunk = ap (λ n. take n chunk') (is ∙ omega arith) ∙ ap (take count) same in (
+      take count chunk,
+      read,
+      sym counted,
+      fits,
+      subst (λ (l : List ℕ). Appends wa wb (flat_map text (kept_lines room kept l))) piece written,
+      rest ∙ ap (kept_rest room kept) piece,
+    )
+
+-- those to the lines that end in as much of it as may be read
+pub read_past : (room : ℕ) (text : List ℕ → List ℕ) (ra rb wa wb : Option (List ℕ)) (kept chunk chunk' : List ℕ) (count within left : ℕ) → chunk' ≡ chunk → within ≡ min count left → left < count → count ≡ length (take count chunk)
+    → Consumes ra rb (take count chunk) → Appends wa wb (flat_map text (kept_lines room kept (take within chunk'))) → IsTooLong room text ra rb wa wb kept left
+read_past room text ra rb wa wb kept chunk chunk' count within left same is past counted read written =
+    let piece : take within chunk' ≡ take left (take count chunk) =
+    ap (λ n. take n chunk') (is ∙ omega arith) ∙ ap (take left) same ∙ sym (take_take left count chunk (omega arith)) in (
+      take count chunk,
+      read,
+      omega arith,
+      subst (λ (l : List ℕ). Appends wa wb (flat_map text (kept_lines room kept l))) piece written,
+    )
+
 -- a prefix of the answers to the lines that end in the first bytes of what one read took
 pub read_part : (room : ℕ) (text : List ℕ → List ℕ) (ra rb wa wb : Option (List ℕ)) (kept chunk chunk' : List ℕ) (count within : ℕ) → chunk' ≡ chunk → within ≤ count → Consumes ra rb (take count chunk)
     → ((out : List ℕ) × Appends wa wb out × Begins out (flat_map text (kept_lines room kept (take within chunk')))) → IsPart room text ra rb wa wb kept
@@ -78,6 +107,12 @@ module _ (room : ℕ) (text text' : List ℕ → List ℕ) (ra rb rc wa wb wc : 
             (Appends-trans wa wb wc _ _ so_far.3 written),
         rest ∙ ap (λ k. kept_rest room k piece) so_far.4 ∙ sym (kept_rest-append room kept taken piece),
       )
+
+  -- ..and it reached the end
+  pub taken_all : (start' : List ℕ) (count : ℕ) → Answered room text' rb rc wb wc start start' count left → IsAtEnd rc
+      → (taken : List ℕ) × Consumes ra rc taken × IsAtEnd rc × (length taken ≤ limit) × Appends wa wc (flat_map text (kept_lines room kept taken)) × (start' ≡ kept_rest room kept taken)
+  taken_all start' count answered end =
+      let all = taken_more start' count answered in (all.0, all.1, end, omega (arith, all.2), all.3, all.4)
 
   too_long_more : IsTooLong room text' rb rc wb wc start left → IsTooLong room text ra rc wa wc kept limit
   too_long_more (piece, read, past, written) =

@@ -1,6 +1,6 @@
 -- Requests: the lines that bytes end, one byte at a time, and answers to them, one at a time.
-use Rattle.std.proofs.Common.{arith, ◌-◌, length-append, ◌≡◌, ℕ, ◌+◌, ◌<◌, ◌≤◌, List, [], ◌∷◌, ◌++◌, sym, ap, ◌∙◌, append_assoc, append-nil, length, take, drop, get_or, true, Bool, take-append-drop, slice_index_or, slice_set}
-use Rattle.std.specs.Prelude.{Option, Result, Ok, Err, OnErr}
+use Rattle.std.proofs.Common.{arith, ◌-◌, length-append, ◌≡◌, ℕ, ◌+◌, ◌<◌, ◌≤◌, List, [], ◌∷◌, ◌++◌, sym, ap, subst, ◌∙◌, append_assoc, append-nil, length, take, drop, get_or, true, Bool, take-append-drop, slice_index_or, slice_set}
+use Rattle.std.specs.Prelude.{Option, Result, Ok, Err, OnErr, OnOk}
 use Rattle.std.specs.List.{flat_map, slice_range}
 use Rattle.std.specs.Io.KnownBytes.{Appends}
 use Rattle.std.proofs.KnownBytes.{Appends-trans}
@@ -100,6 +100,14 @@ part_more view text text' a b c pending requests i r h is et (out, p, e) (out', 
       ),
     )
 
+-- the pending text, after the answers to all
+pub out_last : {T E L : Type 0} (view : L → List ℕ) (r : Result T E) (text : List ℕ → List ℕ) (a b c : Option (List ℕ)) (pending : List ℕ) (requests : List (Request L)) (i : ℕ) → length requests ≤ i
+    → AllBut a b pending (flat_map text (lines_of view (take i requests)))
+    → OnOk r (Appends b c pending) → OnOk r (Appends a c (flat_map text (lines_of view requests)))
+out_last view (Err x) text a b c pending requests i past so_far h = tt
+out_last view (Ok x) text a b c pending requests i past (out, p, e) q =
+    subst (λ (l : List ℕ). Appends a c l) (sym e ∙ ap (λ l. flat_map text (lines_of view l)) (take_all i requests past)) (Appends-trans a b c out pending p q)
+
 -- a prefix of the pending text, after the answers to all
 pub part_last : {T E L : Type 0} (view : L → List ℕ) (r : Result T E) (text : List ℕ → List ℕ) (a b c : Option (List ℕ)) (pending : List ℕ) (requests : List (Request L)) (i : ℕ) → length requests ≤ i
     → AllBut a b pending (flat_map text (lines_of view (take i requests)))
@@ -113,3 +121,9 @@ part_last view (Err x) text a b c pending requests i past (out, p, e) (out', q, 
     ap (λ l. flat_map text (lines_of view l)) (sym (take_all i requests past)) ∙ e ∙ ap (λ l. out ++ l) begins ∙ sym (append_assoc out out' more),
   ),
 )
+
+-- the same prefix, where the text and the lines have other names
+pub part_same : {T E : Type 0} (r : Result T E) (a b : Option (List ℕ)) (text text' : List ℕ → List ℕ) (lines lines' : List (List ℕ)) → text' ≡ text → lines' ≡ lines
+    → OnErr r ((out : List ℕ) × Appends a b out × Begins out (flat_map text' lines')) → OnErr r ((out : List ℕ) × Appends a b out × Begins out (flat_map text lines))
+part_same r a b text text' lines lines' et el h =
+    subst (λ (l : List ℕ). OnErr r ((out : List ℕ) × Appends a b out × Begins out l)) (ap (λ (t : List ℕ → List ℕ). flat_map t lines') et ∙ ap (flat_map text) el) h

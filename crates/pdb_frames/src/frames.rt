@@ -256,6 +256,17 @@ fn function_frame<'a>(
     }
 }
 
+/// A place in a chosen function, and the index of the function's module.
+#[derive(Clone, Copy)]
+pub struct PlaceInFunction<'c, 'a> {
+    /// The index of the module that holds the place.
+    pub module_index: u16,
+    /// The function that is chosen there.
+    pub chosen: Chosen<'c, 'a>,
+    /// The place.
+    pub place: PdbInternalSectionOffset,
+}
+
 /// The frames at a place in a chosen function, by its module's line program and inlinees: the rows
 /// of the function's subsection and a procedure's sites are read in this order, and the first fault
 /// is returned.
@@ -264,17 +275,21 @@ fn frames_by<'a, 'm, P: ModuleProvider>(
     alloc: Global,
     parts: &ContextParts<'a, '_>,
     namer: &mut Namer<'a, '_, P>,
-    module_index: u16,
     known: &BasicModuleInfo<'m, P::Info>,
     extended: &ExtendedModuleInfo<'m>,
-    chosen: Chosen<'_, 'a>,
-    place: PdbInternalSectionOffset,
+    at: PlaceInFunction<'_, 'a>,
 ) -> Result<Vec<SharedFrame<'a>>>
     requires extended { extended_of (known.now).stream ≡ Ok (extended_seen extended.now) }
     ensures same { namer.new ≡ namer.old }
     ensures frames { Answers (λ v. v.items) result (frames_of_data parts.now
-        (env_of P.provided namer.old module_index) known.now (chosen_seen chosen.entry) place) }
+        (env_of P.provided namer.old at.entry.module_index) known.now
+        (chosen_seen at.entry.chosen) at.entry.place) }
 {
+    let PlaceInFunction {
+        module_index,
+        chosen,
+        place,
+    } = at;
     let (row, calls) = row_and_calls_in(alloc, known, extended, chosen, place)?;
     let mut frames = call_frames(
         alloc,
@@ -298,38 +313,19 @@ fn frames_in_data<'a, P: ModuleProvider>(
     alloc: Global,
     parts: &ContextParts<'a, '_>,
     namer: &mut Namer<'a, '_, P>,
-    module_index: u16,
     known: &BasicModuleInfo<'_, P::Info>,
-    chosen: Chosen<'_, 'a>,
-    place: PdbInternalSectionOffset,
+    at: PlaceInFunction<'_, 'a>,
 ) -> Result<Vec<SharedFrame<'a>>>
     ensures same { namer.new ≡ namer.old }
     ensures frames { Answers (λ v. v.items) result (frames_of_data parts.now
-        (env_of P.provided namer.old module_index) known.now (chosen_seen chosen.entry) place) }
+        (env_of P.provided namer.old at.entry.module_index) known.now
+        (chosen_seen at.entry.chosen) at.entry.place) }
 {
     let Some(extended) = known.extended() else {
         let extended = read_extended(alloc, known.module_info)?;
-        return frames_by(
-            alloc,
-            parts,
-            namer,
-            module_index,
-            known,
-            &extended,
-            chosen,
-            place,
-        );
+        return frames_by(alloc, parts, namer, known, &extended, at);
     };
-    frames_by(
-        alloc,
-        parts,
-        namer,
-        module_index,
-        known,
-        extended,
-        chosen,
-        place,
-    )
+    frames_by(alloc, parts, namer, known, extended, at)
 }
 
 /// The frames at a place in a chosen function whose module may have no data: then the function
@@ -341,19 +337,17 @@ pub fn frames_in<'a, P: ModuleProvider>(
     alloc: Global,
     parts: &ContextParts<'a, '_>,
     namer: &mut Namer<'a, '_, P>,
-    module_index: u16,
     known: Option<&BasicModuleInfo<'_, P::Info>>,
-    chosen: Chosen<'_, 'a>,
-    place: PdbInternalSectionOffset,
+    at: PlaceInFunction<'_, 'a>,
 ) -> Result<Vec<SharedFrame<'a>>>
     ensures same { namer.new ≡ namer.old }
     ensures frames { Answers (λ v. v.items) result (frames_of_module parts.now
-        (env_of P.provided namer.old module_index) (option_copied known.entry)
-        (chosen_seen chosen.entry) place) }
+        (env_of P.provided namer.old at.entry.module_index) (option_copied known.entry)
+        (chosen_seen at.entry.chosen) at.entry.place) }
 {
     match known {
         None => {
-            let function = name_of(alloc, parts, namer, module_index, chosen)?;
+            let function = name_of(alloc, parts, namer, at.module_index, at.chosen)?;
             let mut frames = Vec::new(alloc);
             frames.push(SharedFrame {
                 function,
@@ -363,7 +357,7 @@ pub fn frames_in<'a, P: ModuleProvider>(
             })?;
             Ok(frames)
         }
-        Some(known) => { frames_in_data(alloc, parts, namer, module_index, known, chosen, place) }
+        Some(known) => frames_in_data(alloc, parts, namer, known, at),
     }
 }
 

@@ -9,7 +9,7 @@ pub mod laws;
 
 pub use chosen_name::name_of;
 pub use file_runs::{Stretch, file_named, file_run_in};
-pub use frames::{check_frames, frames_in};
+pub use frames::{PlaceInFunction, check_frames, frames_in};
 pub use pdb_choice::{
     Chosen, ContextParts, Failures, FunctionEnd, Part, choose, failing_in, number_of,
     to_next_bound, to_next_shared_bound, unsuccessful,

@@ -1,6 +1,6 @@
 use Rattle.std.proofs.Common.{rules, ◌∙◌}
 use Rattle.pdb_engine.proofs.Faults.{read_later, write_later}
-use Rattle.pdb_engine.proofs.Pumped.{taken_more, taken_too_long, taken_part, taken_before}
+use Rattle.pdb_engine.proofs.Pumped.{taken_all, taken_more, taken_too_long, taken_part, taken_before}
 use Rattle.pdb_engine.proofs.engine.pump.Goals as goal
 
 pub reads-preserved : goal.reads-preserved
@@ -11,6 +11,9 @@ reads-preserved g c = record {
   quiet_reader = search rules;
   quiet_writer = search rules;
 }
+
+pub returns-in-Ok-eq0-clause-ok : goal.returns-in-Ok-eq0-clause-ok
+returns-in-Ok-eq0-clause-ok g c = λ known. taken_all _ _ _ _ _ _ _ _ _ _ _ _ _ (c.reads.invariant.out known) c.reads.invariant.same _ _ (c.in-Ok-eq0.ensures.ok known) (c.in-Ok-eq0.ensures.end c.in-Ok-eq0.field-0-test)
 
 pub returns-in-Err-clause-read_out : goal.returns-in-Err-clause-read_out
 returns-in-Err-clause-read_out g c = λ known. taken_before _ g.W.Write.contents _ _ _ _ _ _ _ _ _ _ _ c.in-Err.fault (c.reads.invariant.out known) c.in-Err.ensures.read_once

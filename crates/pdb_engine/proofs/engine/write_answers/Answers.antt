@@ -1,6 +1,7 @@
 use Rattle.std.proofs.Common.{rules, arith, ◌∙◌}
 use Rattle.pdb_engine.proofs.LineLemmas.{on_err}
-use Rattle.pdb_engine.proofs.RequestSteps.{out_more, part_more, part_last}
+use Rattle.pdb_engine.proofs.Faults.{quiet_end, write_end}
+use Rattle.pdb_engine.proofs.RequestSteps.{out_last, out_more, part_more, part_last}
 use Rattle.pdb_engine.proofs.engine.write_answers.Goals as goal
 
 pub returns-in_err-gather_answer-clause-part : goal.returns-in_err-gather_answer-clause-part
@@ -16,3 +17,12 @@ loop-request-preserved g c = record {
 
 pub returns-clause-part : goal.returns-clause-part
 returns-clause-part g c = λ known. part_last _ c.write_pending.result _ _ _ _ _ c.args.requests.now c.loop-request.request-index (omega arith) (c.loop-request.invariant.out known) c.write_pending.ensures.part
+
+pub returns-clause-ok : goal.returns-clause-ok
+returns-clause-ok g c = λ known. out_last _ c.write_pending.result _ _ _ _ _ c.args.requests.now c.loop-request.request-index (omega arith) (c.loop-request.invariant.out known) c.write_pending.ensures.ok
+
+pub returns-clause-quiet : goal.returns-clause-quiet
+returns-clause-quiet g c = quiet_end c.write_pending.result _ _ _ c.loop-request.invariant.quiet c.write_pending.ensures.quiet
+
+pub returns-clause-fails : goal.returns-clause-fails
+returns-clause-fails g c = write_end c.write_pending.result _ _ _ c.loop-request.invariant.quiet c.write_pending.ensures.fails
