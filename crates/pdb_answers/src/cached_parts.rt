@@ -91,13 +91,13 @@ pub(crate) fn keep_parts<'a, I: ModuleTables>(
     if failed.has(Part::ExtendedModule(module_index)) {
         return Ok(());
     }
-    let place_number = usize::from(module_index);
-    keep_lines(alloc, cached, place_number)?;
+    let cache_place = usize::from(module_index);
+    keep_lines(alloc, cached, cache_place)?;
     let Some(number) = held.number else {
         return keep_public_entry(alloc, cached, parts, failed, held);
     };
-    if stands_in_part(failed, known_at(cached, place_number), number, module_index) {
+    if stands_in_part(failed, known_at(cached, cache_place), number, module_index) {
         return Ok(());
     }
-    keep_procedure(alloc, cached, place_number, number)
+    keep_procedure(alloc, cached, cache_place, number)
 }

@@ -184,15 +184,9 @@ impl<'a, 's, P: ModuleProvider> PlaceSymbolizer<'a, 's, P> {
     {
         let module_index = contribution.module_index();
         let modules = self.namer.modules();
-        let place_number = usize::from(module_index);
-        keep_module(
-            alloc,
-            &mut self.cached,
-            self.provider,
-            modules,
-            place_number,
-        )?;
-        let number = number_over(known_at(&self.cached, place_number), place);
+        let cache_place = usize::from(module_index);
+        keep_module(alloc, &mut self.cached, self.provider, modules, cache_place)?;
+        let number = number_over(known_at(&self.cached, cache_place), place);
         let held = HeldPlace {
             contribution,
             place,
@@ -206,7 +200,7 @@ impl<'a, 's, P: ModuleProvider> PlaceSymbolizer<'a, 's, P> {
             &self.known_failures,
             held,
         )?;
-        let known = known_at(&self.cached, place_number);
+        let known = known_at(&self.cached, cache_place);
         let far = to_next_bound(&self.parts, known, place, limit);
         let Some(chosen) = choose(&self.parts, known, number, contribution, place) else {
             return Ok((None, far));

@@ -20,8 +20,8 @@ use crate::symbolizer::PlaceSymbolizer;
 use pdb_addresses::PdbInternalSectionOffset;
 use pdb_contributions::ModuleSectionContribution;
 use pdb_frames::{
-    Chosen, ContextParts, Failures, Namer, Part, check_frames, choose, failing_in, frames_in,
-    unsuccessful,
+    Chosen, ContextParts, Failures, Namer, Part, PlaceInFunction, check_frames, choose, failing_in,
+    frames_in, unsuccessful,
 };
 use pdb_functions::SharedFunctionFrames;
 use pdb_known_modules::{BasicModuleInfo, keep_module, known_at, number_over};
@@ -63,7 +63,12 @@ fn frames_of<'a, P: ModuleProvider>(
         check_frames(alloc, known, chosen, place)?;
         return Ok(None);
     };
-    let frames = frames_in(alloc, parts, namer, module_index, known, chosen, place)?;
+    let at = PlaceInFunction {
+        module_index,
+        chosen,
+        place,
+    };
+    let frames = frames_in(alloc, parts, namer, known, at)?;
     Ok(Some(SharedFunctionFrames {
         start_rva,
         end_rva: chosen.end_of_frames(parts, start_rva),
@@ -168,22 +173,16 @@ impl<'a, 's, P: ModuleProvider> PlaceSymbolizer<'a, 's, P> {
     {
         let module_index = contribution.module_index();
         let modules = self.namer.modules();
-        let place_number = usize::from(module_index);
-        keep_module(
-            alloc,
-            &mut self.cached,
-            self.provider,
-            modules,
-            place_number,
-        )?;
-        let number = number_over(known_at(&self.cached, place_number), place);
+        let cache_place = usize::from(module_index);
+        keep_module(alloc, &mut self.cached, self.provider, modules, cache_place)?;
+        let number = number_over(known_at(&self.cached, cache_place), place);
         let held = HeldPlace {
             contribution,
             place,
             number,
         };
         keep_parts(alloc, &mut self.cached, &self.parts, &self.failed, held)?;
-        let known = known_at(&self.cached, place_number);
+        let known = known_at(&self.cached, cache_place);
         let Some(chosen) = choose(&self.parts, known, number, contribution, place) else {
             return Ok(None);
         };

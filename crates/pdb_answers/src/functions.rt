@@ -119,15 +119,9 @@ impl<'a, 's, P: ModuleProvider> PlaceSymbolizer<'a, 's, P> {
     {
         let module_index = contribution.module_index();
         let modules = self.namer.modules();
-        let place_number = usize::from(module_index);
-        keep_module(
-            alloc,
-            &mut self.cached,
-            self.provider,
-            modules,
-            place_number,
-        )?;
-        let known = known_at(&self.cached, place_number);
+        let cache_place = usize::from(module_index);
+        keep_module(alloc, &mut self.cached, self.provider, modules, cache_place)?;
+        let known = known_at(&self.cached, cache_place);
         let number = number_over(known, place);
         let Some(chosen) = choose(&self.parts, known, number, contribution, place) else {
             return Ok(None);
@@ -174,15 +168,9 @@ impl<'a, 's, P: ModuleProvider> PlaceSymbolizer<'a, 's, P> {
             (scope_in P.provided self.old) (Some contribution)) place) place.offset limit) }
     {
         let modules = self.namer.modules();
-        let place_number = usize::from(contribution.module_index());
-        keep_module(
-            alloc,
-            &mut self.cached,
-            self.provider,
-            modules,
-            place_number,
-        )?;
-        let known = known_at(&self.cached, place_number);
+        let cache_place = usize::from(contribution.module_index());
+        keep_module(alloc, &mut self.cached, self.provider, modules, cache_place)?;
+        let known = known_at(&self.cached, cache_place);
         let count = to_next_bound(&self.parts, known, place, limit);
         Ok((key_at(&self.parts, known, contribution, place), count))
     }
@@ -222,15 +210,9 @@ impl<'a, 's, P: ModuleProvider> PlaceSymbolizer<'a, 's, P> {
             (scope_in P.provided self.old) key.now)) }
     {
         let modules = self.namer.modules();
-        let place_number = usize::from(key.module_index());
-        keep_module(
-            alloc,
-            &mut self.cached,
-            self.provider,
-            modules,
-            place_number,
-        )?;
-        let known = known_at(&self.cached, place_number);
+        let cache_place = usize::from(key.module_index());
+        keep_module(alloc, &mut self.cached, self.provider, modules, cache_place)?;
+        let known = known_at(&self.cached, cache_place);
         let Some(chosen) = choose_by(&self.parts, known, key) else {
             return Ok(None);
         };

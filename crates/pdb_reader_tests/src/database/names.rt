@@ -2,7 +2,7 @@
 
 use crate::database::files::database_of;
 use pdb_samples::{SampleError, push_u32};
-use pdb_symbols_modules::StreamNames;
+use pdb_symbols_modules::{PDB, StreamNames};
 use std::alloc::Global;
 use std::test::Fail;
 
@@ -25,19 +25,33 @@ fn information(alloc: Global) -> Result<Vec<u8>, SampleError> {
     Ok(stream)
 }
 
-/// Returns how many names there are, and the lengths of the first and the last in bytes.
-fn said(names: &StreamNames<'_>) -> (usize, Option<usize>, Option<usize>) {
+/// How many names there are, and the lengths of the first and the last in bytes.
+type Said = (usize, Option<usize>, Option<usize>);
+
+/// Returns what the names of an information stream are.
+fn said(names: &StreamNames<'_>) -> Said {
     let first = names.iter().next().map(|entry| entry.name.len());
     let last = names.iter().last().map(|entry| entry.name.len());
     (names.iter().count(), first, last)
 }
 
+/// Returns what the names of a database are.
+fn said_of(alloc: Global, database: &mut PDB<'_, Vec<u8>>) -> pdb_container::Result<Said> {
+    let information = database.pdb_information(alloc)?;
+    let names = information.stream_names(alloc)?;
+    Ok(said(&names))
+}
+
+/// Returns what the names of the sample are.
+fn said_of_sample(alloc: Global) -> Result<Said, Fail> {
+    let mut database = database_of(alloc, 1, information(alloc)?)?;
+    Ok(said_of(alloc, &mut database)?)
+}
+
 // If each name was looked for from its own start on, this would take minutes.
 #[test]
 fn many_names_in_linear_time(rt: HostRuntime) -> Result<(), Fail> {
-    let mut database = database_of(rt.alloc(), 1, information(rt.alloc())?)?;
-    let information = database.pdb_information(rt.alloc())?;
-    let names = information.stream_names(rt.alloc())?;
-    assert_eq!(rt; said(&names), (1_000_000, Some(3_999_999), Some(3_000_000)));
+    let said = said_of_sample(rt.alloc())?;
+    assert_eq!(rt; said, (1_000_000, Some(3_999_999), Some(3_000_000)));
     Ok(())
 }

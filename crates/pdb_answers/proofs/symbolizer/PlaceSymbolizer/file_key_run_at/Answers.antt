@@ -10,9 +10,9 @@ invariant_of-self-2 g c =
     let provider = c.self.inside.provider.now in
     let namer = c.self.inside.namer in
     let known = data_known provided provider namer c.modules-modules.result.now
-    c.module_index-module_index.result c.from-place_number.result c.keep_module.new.kept
+    c.module_index-module_index.result c.from-cache_place.result c.keep_module.new.kept
     c.keep_rows.new.cached _ c.in_ok-keep_module.ensures.known c.modules-modules.ensures
-    c.from-place_number.ensures c.keep_rows.ensures c.known_at-known.ensures in (
+    c.from-cache_place.ensures c.keep_rows.ensures c.known_at-known.ensures in (
       kept_on provided provider namer namer c.modules-modules.result.now c.keep_module.new.kept
           c.keep_rows.new.cached c.in_ok-keep_module.ensures.kept c.modules-modules.ensures refl
           c.keep_rows.ensures,
