@@ -7,7 +7,6 @@ import random
 import re
 import subprocess
 import sys
-import time
 
 count = sys.argv[1] == "--count"
 out, program, original, *names = sys.argv[1 + count :]
@@ -31,15 +30,26 @@ def addresses_of(name):
         yield words, file
 
 
+# Starts a program and prints its processor seconds, its greatest memory in KB and its status. It is a
+# process of its own, and a small one: what a process holds as it becomes another program counts as
+# that program's memory.
+METER = """
+import os, sys
+started = os.posix_spawn(sys.argv[1], sys.argv[1:], os.environ)
+_, status, used = os.wait4(started, 0)
+print(used.ru_utime + used.ru_stime, used.ru_maxrss, status, file=sys.stderr)
+"""
+
+
 def once(which, pdb, asked):
-    """The seconds and the greatest memory in MB of a run."""
-    start = time.time()
-    with open(asked, "rb") as given, open(os.devnull, "wb") as taken:
-        started = subprocess.Popen([which, "frames", pdb], stdin=given, stdout=taken)
-        _, status, used = os.wait4(started.pid, 0)
-    if status:
+    """The processor seconds (user and system) and the greatest memory in MB of a run."""
+    words = [sys.executable, "-I", "-S", "-c", METER, which, "frames", pdb]
+    with open(asked, "rb") as given:
+        ran = subprocess.run(words, stdin=given, stdout=subprocess.DEVNULL, stderr=subprocess.PIPE, text=True)
+    seconds, memory, status = ran.stderr.split()[-3:]
+    if int(status):
         sys.exit(f"{which} frames {pdb} < {asked}: status {status}")
-    return time.time() - start, used.ru_maxrss / 1024
+    return float(seconds), int(memory) / 1024
 
 
 def written(which, pdb, asked):

@@ -10,9 +10,9 @@
 # without the rows of frames (` @START+LENGTH`). Or it is the folder of a Cargo workspace that has
 # one, which is built by `cargo build --release`. Without it its columns are left out.
 #
-# Times are the least of five runs in turn, and ratios are given from three such rounds: a shared
-# machine varies by a third. With --count instructions and cache misses are counted too, by
-# valgrind, which takes some minutes.
+# Times are processor seconds, the least of five runs in turn, and ratios are given from three such
+# rounds: a shared machine varies by a third. With --count instructions and cache misses are counted
+# too, by valgrind, which takes some minutes.
 #
 # Debian: clang-19 lld-19 llvm-19, and valgrind for --count. The databases have 10 and 90 MB;
 # DATABASES="NAME MODULES FUNCTIONS; .." names others. The greater one takes minutes to be made.
