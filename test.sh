@@ -33,11 +33,12 @@ count() {
 }
 
 # A second job of one check loads once more what that stands on: a quarter more processor time. On
-# few processors all of them are busy without it, so each check has one job, if memory is enough.
+# few processors all of them are busy without it. So there `rt ci` runs as many checks as there are
+# processors (RT_JOBS), each with one job, if memory is enough: 4 GB for each.
 processors=$(nproc)
 memory=$(awk '/^MemAvailable/ { print int($2 / 4000000) }' /proc/meminfo)
 if ((processors <= 4 && memory >= processors)); then
-    export RT_JOBS=$processors
+    export RT_JOBS=${RT_JOBS:-$processors}
 fi
 
 count rt ci

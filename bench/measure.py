@@ -30,9 +30,9 @@ def addresses_of(name):
         yield words, file
 
 
-# Starts a program and prints its processor seconds, its greatest memory in KB and its status. It is a
-# process of its own, and a small one: what a process holds as it becomes another program counts as
-# that program's memory.
+# Starts a program and prints its processor seconds, its greatest memory in KB and its status. It is
+# a process of its own, and a small one: what a process holds as it becomes another program counts
+# as that program's memory.
 METER = """
 import os, sys
 started = os.posix_spawn(sys.argv[1], sys.argv[1:], os.environ)
@@ -45,7 +45,8 @@ def once(which, pdb, asked):
     """The processor seconds (user and system) and the greatest memory in MB of a run."""
     words = [sys.executable, "-I", "-S", "-c", METER, which, "frames", pdb]
     with open(asked, "rb") as given:
-        ran = subprocess.run(words, stdin=given, stdout=subprocess.DEVNULL, stderr=subprocess.PIPE, text=True)
+        outputs = {"stdout": subprocess.DEVNULL, "stderr": subprocess.PIPE}
+        ran = subprocess.run(words, stdin=given, text=True, **outputs)
     seconds, memory, status = ran.stderr.split()[-3:]
     if int(status):
         sys.exit(f"{which} frames {pdb} < {asked}: status {status}")

