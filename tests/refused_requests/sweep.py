@@ -42,7 +42,7 @@ GREATEST = 100_000
 # The longest answer of a recorded read, in bytes: a text of it is made piece by piece.
 LONGEST = 1_000
 # Recorded texts of several calls or several files, which aren't asked here, and comments.
-LEFT_OUT = ("#", "all_again", "each_again", "file_run_again", "forgotten", "prefixes")
+LEFT_OUT = ("#", "each_again", "file_run_again", "forgotten", "prefixes")
 # Recorded texts of formatters; all others are of contexts.
 FORMATTED = ("function", "unnamed", "emitted", "id", "emitted_id", "size")
 

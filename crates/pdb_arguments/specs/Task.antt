@@ -25,11 +25,14 @@ flagged name = record (new_rule name) { long = Some name; action = Some SetTrue 
 abbrev pub frames_app : App
 frames_app = with_rule (new_app (codes "frames")) (needed (codes "FILE"))
 
--- `sizes FILE START END`, with the flag `--by-file`
+-- `sizes FILE START END`
+abbrev pub range_app : App
+range_app = with_rule (with_rule (with_rule (new_app (codes "sizes")) (needed (codes "FILE")))
+    (needed (codes "START"))) (needed (codes "END"))
+
+-- the same with the flag `--by-file`
 abbrev pub sizes_app : App
-sizes_app =
-    with_rule (with_rule (with_rule (with_rule (new_app (codes "sizes")) (needed (codes "FILE")))
-    (needed (codes "START"))) (needed (codes "END"))) (flagged (codes "by-file"))
+sizes_app = with_rule range_app (flagged (codes "by-file"))
 
 -- a subcommand is required, no argument is the program's name, and there is a version to ask for
 abbrev pub bare_app : App

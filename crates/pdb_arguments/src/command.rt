@@ -4,7 +4,7 @@ ghost use Rattle.std.specs.Prelude.{◌≡◌, IfOk, codes, false};
 ghost use Rattle.clap.specs.Words.{app_of, new_app, rule_of, with_rule, with_subcommand};
 ghost use Rattle.clap.specs.declared.builder.command.Command.TheViews.{out-Command as fields_of};
 ghost use Rattle.pdb_arguments.specs.Task.{program_app, frames_app, sizes_app, bare_app, needed};
-ghost use Rattle.pdb_arguments.specs.Task.{flagged};
+ghost use Rattle.pdb_arguments.specs.Task.{flagged, range_app};
 
 use clap::{Arg, ArgAction, Command};
 use std::alloc::{AllocError, Global};
@@ -62,11 +62,26 @@ const END_HELP: &str =
     "The address after the range's last, which isn't counted, such as 2000 or 0x2000";
 
 /// A required argument, with its help.
-fn needed_word<'a>(alloc: Global, name: &'a str, help: &'a str) -> Arg<'a>
+fn needed_argument<'a>(alloc: Global, name: &'a str, help: &'a str) -> Arg<'a>
     ensures rule { rule_of result ≡ needed name.entry.now }
     ensures local { result.global ≡ false }
 {
     Arg::new(alloc, name).required(true).help(help)
+}
+
+/// Adds a required argument, with its help.
+fn with_needed<'a>(
+    alloc: Global,
+    command: Command<'a>,
+    name: &'a str,
+    help: &'a str,
+) -> Result<Command<'a>, AllocError>
+    ensures app { IfOk result (λ c. app_of c ≡ with_rule (app_of command.entry)
+        (needed name.entry.now)) }
+    ensures local { (fields_of command.entry).has_globals ≡ false
+        → IfOk result (λ c. (fields_of c).has_globals ≡ false) }
+{
+    command.arg(needed_argument(alloc, name, help))
 }
 
 /// A flag, with its help.
@@ -78,6 +93,21 @@ fn flag<'a>(alloc: Global, name: &'a str, help: &'a str) -> Arg<'a>
         .long(name)
         .action(ArgAction::SetTrue)
         .help(help)
+}
+
+/// Adds a flag, with its help.
+fn with_flag<'a>(
+    alloc: Global,
+    command: Command<'a>,
+    name: &'a str,
+    help: &'a str,
+) -> Result<Command<'a>, AllocError>
+    ensures app { IfOk result (λ c. app_of c ≡ with_rule (app_of command.entry)
+        (flagged name.entry.now)) }
+    ensures local { (fields_of command.entry).has_globals ≡ false
+        → IfOk result (λ c. (fields_of c).has_globals ≡ false) }
+{
+    command.arg(flag(alloc, name, help))
 }
 
 /// A command of this name with its help, and no arguments yet.
@@ -93,8 +123,8 @@ fn frames_command<'a>(alloc: Global) -> Result<Command<'a>, AllocError>
     ensures app { IfOk result (λ c. app_of c ≡ frames_app) }
     ensures local { IfOk result (λ c. (fields_of c).has_globals ≡ false) }
 {
-    let file = needed_word(alloc, "FILE", FILE_HELP);
-    described(alloc, "frames", FRAMES_ABOUT, FRAMES_EXAMPLE).arg(file)
+    let command = described(alloc, "frames", FRAMES_ABOUT, FRAMES_EXAMPLE);
+    with_needed(alloc, command, "FILE", FILE_HELP)
 }
 
 /// Adds the arguments `START END`.
@@ -104,8 +134,17 @@ fn with_range<'a>(alloc: Global, command: Command<'a>) -> Result<Command<'a>, Al
     ensures local { (fields_of command.entry).has_globals ≡ false
         → IfOk result (λ c. (fields_of c).has_globals ≡ false) }
 {
-    let with_start = command.arg(needed_word(alloc, "START", START_HELP))?;
-    with_start.arg(needed_word(alloc, "END", END_HELP))
+    let with_start = with_needed(alloc, command, "START", START_HELP)?;
+    with_needed(alloc, with_start, "END", END_HELP)
+}
+
+/// The command `sizes FILE START END`.
+fn range_command<'a>(alloc: Global) -> Result<Command<'a>, AllocError>
+    ensures app { IfOk result (λ c. app_of c ≡ range_app) }
+    ensures local { IfOk result (λ c. (fields_of c).has_globals ≡ false) }
+{
+    let command = described(alloc, "sizes", SIZES_ABOUT, SIZES_EXAMPLE);
+    with_range(alloc, with_needed(alloc, command, "FILE", FILE_HELP)?)
 }
 
 /// The command `sizes FILE START END`, with the flag `--by-file`.
@@ -113,9 +152,7 @@ fn sizes_command<'a>(alloc: Global) -> Result<Command<'a>, AllocError>
     ensures app { IfOk result (λ c. app_of c ≡ sizes_app) }
     ensures local { IfOk result (λ c. (fields_of c).has_globals ≡ false) }
 {
-    let file = needed_word(alloc, "FILE", FILE_HELP);
-    let with_file = described(alloc, "sizes", SIZES_ABOUT, SIZES_EXAMPLE).arg(file)?;
-    with_range(alloc, with_file)?.arg(flag(alloc, "by-file", BY_FILE_HELP))
+    with_flag(alloc, range_command(alloc)?, "by-file", BY_FILE_HELP)
 }
 
 /// The program's command, which requires a subcommand and has none yet. Its name appears in the

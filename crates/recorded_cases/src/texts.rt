@@ -20,11 +20,9 @@
 //! - `file_run_again`: what `file_run_from` asks, of a context that was asked before for the frames
 //!   at that offset from RVA 0x1000
 //! - `functions`: how many entries the public list has, and all functions
-//! - `all_again`: frames, function, run and functions, of a context that was asked for them before;
-//!   whether it asked for modules then, and how often it asks for them now
-//! - `each_again`: for each of these four, at how many of the 288 addresses from that RVA on a new
-//!   context asks for modules, and how often such contexts ask when they are asked again. Then how
-//!   often one context asks that was asked for all four at each address
+//! - `each_again`: for frames, function, run and functions, at how many of the 288 addresses from
+//!   that RVA on a new context asks for modules, and how often such contexts ask when they are asked
+//!   again. Then how often one context asks that was asked for all four at each address
 //! - `forgotten`: at how many of the 288 addresses from that RVA on a context that is asked for the
 //!   frames asks for modules. Then at how many of every eighth its frames are those of a new one
 //! - `prefixes`: the frames at that RVA in each prefix of the file: each length, in hexadecimal,
@@ -93,7 +91,7 @@ pub fn told(alloc: Global, answer: Result<String, Error>) -> Result<String, Allo
 /// Answers a question by a file's bytes.
 fn answer(alloc: Global, bytes: Vec<u8>, question: &Question<'_>) -> Result<String, Error> {
     match question.asked {
-        Asked::AllAgain | Asked::EachAgain | Asked::Forgotten => calls::ask(alloc, bytes, question),
+        Asked::EachAgain | Asked::Forgotten => calls::ask(alloc, bytes, question),
         Asked::Prefixes => prefixes::ask(alloc, &bytes, question),
         _ => ask(alloc, bytes, question),
     }

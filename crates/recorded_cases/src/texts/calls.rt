@@ -1,12 +1,10 @@
 //! How often a context asks for modules.
 
-use crate::texts::contexts::{functions_text, shown_answer};
 use crate::texts::question::{Asked, Question};
 use crate::texts::{Data, each_address, forgotten};
 use pdb_addr2line::maybe_owned::MaybeOwned;
 use pdb_addr2line::pdb::{
-    self, DebugInformation, FallibleIterator, Module, ModuleInfo, PDB, PdbInternalSectionOffset,
-    StringTable,
+    self, DebugInformation, FallibleIterator, Module, ModuleInfo, PDB, StringTable,
 };
 use pdb_addr2line::{
     Context, ContextPdbData, Error, ModuleProvider, Tables, TypeFormatter, read_tables,
@@ -48,8 +46,8 @@ impl ModuleProvider for CountingProvider {
 /// An open database over a file's bytes.
 type Database<'s> = PDB<'s, Vec<u8>>;
 
-/// Returns the answers of a context that was asked for the same before, whether it asked for
-/// modules then, and how often it asks for them now.
+/// Answers a question about how often contexts ask for modules: any but `each_again` as
+/// `forgotten`.
 ///
 /// # Errors
 /// What can't be read of the database, or answered by it; out of memory.
@@ -174,7 +172,7 @@ pub fn context_of<'d, 's, P: ModuleProvider>(
     )
 }
 
-/// Returns the answers over what was read, and how often modules are asked for.
+/// Answers as [`ask`], over what was read.
 fn ask_over<P: ModuleProvider>(
     alloc: Global,
     provider: &P,
@@ -184,43 +182,6 @@ fn ask_over<P: ModuleProvider>(
 ) -> Result<String, Error> {
     match question.asked {
         Asked::EachAgain => each_address::ask(alloc, provider, calls, parts, question),
-        Asked::Forgotten => forgotten::ask(alloc, provider, calls, parts, question),
-        _ => {
-            let mut context = context_of(alloc, provider, parts, question)?;
-            ask_twice(alloc, &mut context, calls, question.index)
-        }
+        _ => forgotten::ask(alloc, provider, calls, parts, question),
     }
-}
-
-/// Returns the answers of a context about an RVA about which it was asked before.
-fn ask_twice<P: ModuleProvider>(
-    alloc: Global,
-    context: &mut Context<'_, '_, P>,
-    calls: &Cell<u32>,
-    rva: u32,
-) -> Result<String, Error> {
-    answers(alloc, context, rva)?;
-    let first = calls.get();
-    let answers = answers(alloc, context, rva)?;
-    let again = calls.get().saturating_sub(first);
-    let at_first = first > 0;
-    Ok(format!(in alloc; "{answers}; asked at first: {at_first}, then {again}")?)
-}
-
-/// Returns the frames and the function at an RVA, how far that function goes on in section 1, which
-/// begins at 0x1000, and all functions.
-fn answers<P: ModuleProvider>(
-    alloc: Global,
-    context: &mut Context<'_, '_, P>,
-    rva: u32,
-) -> Result<String, Error> {
-    let place = PdbInternalSectionOffset {
-        offset: rva.saturating_sub(0x1000),
-        section: 1,
-    };
-    let frames = shown_answer(alloc, context.find_frames(alloc, rva))?;
-    let function = shown_answer(alloc, context.find_function(alloc, rva))?;
-    let run = shown_answer(alloc, context.find_function_run(alloc, place, 0x100))?;
-    let functions = functions_text(alloc, context)?;
-    Ok(format!(in alloc; "{frames}; {function}; {run}; {functions}")?)
 }

@@ -32,8 +32,6 @@ pub enum Asked {
     FileRunAgain,
     /// All functions.
     Functions,
-    /// All answers of a context that was asked before.
-    AllAgain,
     /// How often contexts that were asked before ask for modules, at each of many addresses.
     EachAgain,
     /// The frames at each of many addresses, by a context that forgets.
@@ -57,7 +55,6 @@ const ASKED: &[(&str, Asked)] = &[
     ("file_run_from", Asked::FileRunFrom),
     ("file_run_again", Asked::FileRunAgain),
     ("functions", Asked::Functions),
-    ("all_again", Asked::AllAgain),
     ("each_again", Asked::EachAgain),
     ("forgotten", Asked::Forgotten),
     ("prefixes", Asked::Prefixes),
