@@ -1,14 +1,10 @@
-//! The public calls, each once in ample memory; and printed faults.
+//! The public calls, each once in ample memory; and parts of a sample file.
 
-use crate::files::{F, run_over, told};
+use crate::files::{F, run_over};
 use pdb_container::Error as Cause;
-use pdb_report::{
-    Error, LoadFault, RunFault, Symbolizer, Watched, parse_address, read_file, run_sizes,
-    run_sizes_by_file,
-};
-use pdb_samples::Change;
+use pdb_report::{Error, Symbolizer, Watched, read_file, run_sizes, run_sizes_by_file};
 use std::alloc::Global;
-use std::io::{self, ErrorKind, Read};
+use std::io::{self, Read};
 use std::test::Fail;
 
 /// Opens a file.
@@ -89,59 +85,6 @@ fn are_right(alloc: Global) -> Result<[bool; 6], Fail> {
 #[test]
 fn first_calls_in_ample_memory(rt: HostRuntime) -> Result<(), Fail> {
     assert_eq!(rt; are_right(rt.alloc())?, [true; 6]);
-    Ok(())
-}
-
-/// Lines, each with the address that it stands for.
-const ADDRESSES: &[(&[u8], Option<u32>)] = &[
-    (b"1014", Some(0x1014)),
-    (b"0x1014", Some(0x1014)),
-    (b"0X1014\r", Some(0x1014)),
-    (b"deadBEEF", Some(0xdead_beef)),
-    (b"00000000", Some(0)),
-    (b"000000001", None),
-    (b"", None),
-    (b"0x", None),
-    (b"0x0x1", None),
-    (b"1\r\r", None),
-    (b" 1", None),
-    (b"12g4", None),
-];
-
-#[test]
-fn addresses(rt: HostRuntime) {
-    for (line, address) in ADDRESSES {
-        assert_eq!(rt; parse_address(*line), *address, "at {line:?}");
-    }
-}
-
-/// Returns whether a fault is reported with that text, and with the status 1.
-fn is_told(alloc: Global, fault: RunFault, text: &str) -> Result<bool, Fail> {
-    let (status, errors) = told(alloc, Err(fault))?;
-    Ok(status == 1 && errors.as_slice() == text.as_bytes())
-}
-
-/// Returns for each of the faults that no file here has whether it is reported.
-fn are_told(alloc: Global) -> Result<[bool; 3], Fail> {
-    let decreasing = RunFault::Load(LoadFault::AddressTableDecreases);
-    Ok([
-        is_told(alloc, decreasing, "fault: AddressTableDecreases\n")?,
-        is_told(
-            alloc,
-            RunFault::Read(ErrorKind::BrokenPipe),
-            "fault: Read(BrokenPipe)\n",
-        )?,
-        is_told(
-            alloc,
-            RunFault::Write(ErrorKind::WriteZero),
-            "fault: Write(WriteZero)\n",
-        )?,
-    ])
-}
-
-#[test]
-fn told_faults(rt: HostRuntime) -> Result<(), Fail> {
-    assert_eq!(rt; are_told(rt.alloc())?, [true; 3]);
     Ok(())
 }
 

@@ -1,12 +1,11 @@
 //! The files that the tests report on, and reports on them.
 
-use pdb_report::{RunFault, Watched, finish_run, run_frames};
+use pdb_report::{RunFault, Watched, run_frames};
 use pdb_samples::{
     Change, ProgramDatabase, Result, SampleError, file_f, file_with, nested_sites, push_u32,
 };
 use std::alloc::Global;
 use std::io::{ErrorKind, Read};
-use std::test::Fail;
 
 /// A file.
 #[derive(Clone, Copy)]
@@ -138,17 +137,4 @@ pub fn run_over<R: Read + Drop>(alloc: Global, bytes: Vec<u8>, input: R) -> (Vec
 /// `OutOfMemory`, if memory runs out twice.
 pub fn line_buffer(alloc: Global) -> Result<Vec<u8>> {
     Ok(Vec::with_capacity(alloc, 256).or_else(|_| Vec::with_capacity(alloc, 256))?)
-}
-
-/// Returns the status of a run with that outcome, and what is reported of its fault.
-///
-/// # Errors
-/// Out of memory.
-pub fn told(
-    alloc: Global,
-    outcome: std::result::Result<(), RunFault>,
-) -> std::result::Result<(u8, Vec<u8>), Fail> {
-    let mut errors = line_buffer(alloc)?;
-    let status = finish_run(outcome, &mut errors);
-    Ok((status, errors))
 }

@@ -13,7 +13,7 @@ ghost use Rattle.pdb_addr2line.specs.Loading.{Loaded, loaded};
 ghost use Rattle.pdb_resolving.specs.Fault.{Fault};
 
 /// An answer with a fault has a part that fails. That part stands as failed from then on.
-#[tactic(auto, using(crate::proofs::FailingParts::answers_fail_in_a_part))]
+#[tactic(auto, using(crate::proofs::laws::FailingParts::answers_fail_in_a_part))]
 pub fn answers_fail_in_a_part()
     ensures { (parts : Parts) (scope : ℕ → Scope) (address : ℕ) (e : Fault)
         → frames parts scope address ≡ Err e → is_some (failing parts scope address) ≡ true }

@@ -7,16 +7,19 @@
 mod addr2line;
 #[cfg(test)]
 mod calls;
-pub mod definitions;
+#[cfg(test)]
+mod definitions;
 #[cfg(test)]
 mod files;
-pub mod laws;
+#[cfg(test)]
+mod laws;
 #[cfg(test)]
 mod limits;
 #[cfg(test)]
 mod sizes;
 #[cfg(test)]
 mod streams;
-pub mod words;
+#[cfg(test)]
+mod words;
 #[cfg(test)]
 mod writes;

@@ -1,7 +1,5 @@
 //! The tasks of arguments, the texts of help and on wrong arguments, and where they are reported.
 
-pub mod definitions;
-#[cfg(test)]
+mod definitions;
 mod reading;
-#[cfg(test)]
 mod telling;

@@ -1,4 +1,4 @@
-//! How many writes answers take, and a fault that can't be reported whole.
+//! How many writes answers take, and how faults are reported, whole or in part.
 
 use crate::files::{F0, Outcome, Stop, ended, line_buffer};
 use pdb_report::{RunFault, Watched, finish_run, run_frames};
@@ -78,6 +78,23 @@ fn gathered_answers(rt: HostRuntime) -> Result<(), Fail> {
         let is_right = are_gathered(rt.alloc(), *lines, *most, *writes)?;
         assert!(rt; is_right, "{lines} lines, {most} at a read");
     }
+    Ok(())
+}
+
+/// Returns whether a fault is reported with that text, and with the status 1.
+fn is_reported(alloc: Global, fault: RunFault, text: &str) -> Result<bool, Fail> {
+    let mut errors = line_buffer(alloc)?;
+    let status = finish_run(Err(fault), &mut errors);
+    Ok(status == 1 && errors.as_slice() == text.as_bytes())
+}
+
+// The two faults that no recorded report has.
+#[test]
+fn reported_faults(rt: HostRuntime) -> Result<(), Fail> {
+    let read = RunFault::Read(ErrorKind::BrokenPipe);
+    let write = RunFault::Write(ErrorKind::WriteZero);
+    assert!(rt; is_reported(rt.alloc(), read, "fault: Read(BrokenPipe)\n")?);
+    assert!(rt; is_reported(rt.alloc(), write, "fault: Write(WriteZero)\n")?);
     Ok(())
 }
 

@@ -2,7 +2,7 @@
 
 use crate::addr2line::files::{Data, data_of};
 use pdb_addr2line::pdb::Error as Cause;
-use pdb_addr2line::{Context, Error, Function, FunctionFrames, KeptModules, ModuleProvider};
+use pdb_addr2line::{Context, Error, Function, KeptModules, ModuleProvider};
 use pdb_samples::{cross_imports, short_line_block};
 use std::alloc::Global;
 use std::test::Fail;
@@ -13,8 +13,6 @@ enum Question {
     /// The first function, and after the list of all is dropped the one at 0x1014, each as its
     /// copy.
     Functions,
-    /// The frames at 0x1014, as their copy.
-    Frames,
     /// The frames at 0x1014 with shared names, which may go to another thread.
     SharedFrames,
     /// The frames at 0x1014, whose lines can't be read, twice.
@@ -59,24 +57,6 @@ fn functions_by<P: ModuleProvider>(
     let first = first_function(alloc, context)?;
     let second = function_by(alloc, context)?;
     Ok(format!(in alloc; "{first}; {second}")?)
-}
-
-/// Returns the text of the copy of frames.
-fn told_frames(alloc: Global, found: &FunctionFrames<'_>) -> Result<String, Error> {
-    let copy = found.try_clone(alloc)?;
-    Ok(format!(in alloc; "{copy:?}")?)
-}
-
-/// Returns the frames that a context finds at 0x1014, as their copy.
-fn frames_by<P: ModuleProvider>(
-    alloc: Global,
-    context: &mut Context<'_, '_, P>,
-) -> Result<String, Error> {
-    match context.find_frames(alloc, 0x1014) {
-        Ok(Some(found)) => told_frames(alloc, &found),
-        Ok(None) => Ok(String::new(alloc)),
-        Err(fault) => Err(fault),
-    }
 }
 
 /// Takes a value that may go to another thread.
@@ -125,7 +105,6 @@ fn asked<P: ModuleProvider>(
 ) -> Result<String, Error> {
     match question {
         Question::Functions => functions_by(alloc, &mut context),
-        Question::Frames => frames_by(alloc, &mut context),
         Question::SharedFrames => shared_frames_by(alloc, &mut context),
         Question::FailedLines => lines_faults(alloc, &mut context),
     }
@@ -162,20 +141,6 @@ fn functions_and_then_one(rt: HostRuntime) -> Result<(), Fail> {
         text.as_str(),
         "Function { start_rva: 4112, end_rva: Some(4144), name: Some(\"f\") }; \
         Function { start_rva: 4112, end_rva: Some(4144), name: Some(\"f\") }"
-    );
-    Ok(())
-}
-
-#[test]
-fn copies_of_frames(rt: HostRuntime) -> Result<(), Fail> {
-    let text = answer(rt.alloc(), cross_imports(rt.alloc())?, Question::Frames)?;
-    assert_eq!(rt;
-        text.as_str(),
-        "FunctionFrames { start_rva: 4112, end_rva: Some(4144), frames: [\
-        Frame { function: Some(\"g()\"), file: Some(\"b.h\"), line: Some(3), \
-        row: Some(FrameRow { start_rva: 4112, length: Some(8) }) }, \
-        Frame { function: Some(\"f\"), file: Some(\"a.c\"), line: Some(5), \
-        row: Some(FrameRow { start_rva: 4112, length: Some(8) }) }] }"
     );
     Ok(())
 }

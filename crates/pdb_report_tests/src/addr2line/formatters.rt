@@ -3,8 +3,8 @@
 ghost use Rattle.std.specs.Prelude.{◌≡◌, ◌+◌, ◌-◌, ◌^◌};
 
 use crate::addr2line::files::{Data, data_of};
-use pdb_addr2line::pdb::{IdIndex, PDB, StringRef, StringTable, TypeIndex};
-use pdb_addr2line::{ContextPdbData, Error, ModuleProvider, TextWriter, TypeFormatter};
+use pdb_addr2line::pdb::{IdIndex, TypeIndex};
+use pdb_addr2line::{Error, ModuleProvider, TextWriter, TypeFormatter};
 use pdb_samples::{cross_imports, imports_of_no_stream};
 use std::alloc::Global;
 use std::fmt;
@@ -13,9 +13,7 @@ use std::test::Fail;
 /// What a formatter is asked for.
 #[derive(Clone, Copy)]
 enum Question {
-    /// To write a function and an id to a writer.
-    Emitted,
-    /// To write both to a writer that refuses them.
+    /// To write a function and an id to a writer that refuses them.
     Refused,
     /// Ids whose imports can't be read, and then one whose imports can.
     FailedImports,
@@ -44,18 +42,6 @@ impl TextWriter for Refusing {
 
 /// The id of the inlined calls.
 const INLINEE: IdIndex = IdIndex(0x8000_0000);
-
-/// Returns whether a formatter writes a function to a writer, and then an id in the second module,
-/// and whether the writer has their texts.
-fn are_emitted<P: ModuleProvider>(
-    alloc: Global,
-    formatter: &mut TypeFormatter<'_, '_, P>,
-) -> (bool, bool, bool) {
-    let mut text = String::new(alloc);
-    let function = formatter.emit_function(alloc, &mut text, "f", 0, TypeIndex(0x1001));
-    let id = formatter.emit_id(alloc, &mut text, 1, INLINEE);
-    (function.is_ok(), id.is_ok(), text.as_str() == "f()h()")
-}
 
 /// Returns whether a formatter reports that a function, and then an id, was refused, and whether
 /// the writer was asked once for each.
@@ -112,7 +98,6 @@ fn asked<P: ModuleProvider>(
     question: Question,
 ) -> (bool, bool, bool) {
     match question {
-        Question::Emitted => are_emitted(alloc, &mut formatter),
         Question::Refused => are_refused(alloc, &mut formatter),
         Question::FailedImports => are_imports_failed(alloc, &mut formatter),
         Question::FailedExports => are_exports_failed(alloc, &mut formatter),
@@ -129,13 +114,6 @@ fn asked_over(alloc: Global, data: &Data, question: Question) -> Result<(bool, b
 fn answer(alloc: Global, bytes: Vec<u8>, question: Question) -> Result<(bool, bool, bool), Error> {
     let data = data_of(alloc, bytes)?;
     asked_over(alloc, &data, question)
-}
-
-#[test]
-fn texts_for_a_writer(rt: HostRuntime) -> Result<(), Fail> {
-    let said = answer(rt.alloc(), cross_imports(rt.alloc())?, Question::Emitted)?;
-    assert_eq!(rt; said, (true, true, true));
-    Ok(())
 }
 
 #[test]
@@ -164,60 +142,5 @@ fn exports_that_failed_before(rt: HostRuntime) -> Result<(), Fail> {
         Question::FailedExports,
     )?;
     assert_eq!(rt; said, (true, true, true));
-    Ok(())
-}
-
-/// Returns the name at 5 of a names table.
-fn name_at_five(alloc: Global, table: &StringTable<'_>) -> Result<String, Error> {
-    let name = table.get(StringRef(5))?;
-    Ok(format!(in alloc; "{name}")?)
-}
-
-/// Returns the name at 5 of an open database's names table.
-fn name_of_module(alloc: Global, pdb: &mut PDB<'static, Vec<u8>>) -> Result<String, Error> {
-    let table = pdb.string_table(alloc)?;
-    name_at_five(alloc, &table)
-}
-
-/// Returns the text of the inlined calls' id in the first module.
-fn inlinee_text<P: ModuleProvider>(
-    alloc: Global,
-    mut formatter: TypeFormatter<'_, '_, P>,
-) -> Result<String, Error> {
-    formatter.format_id(alloc, 0, INLINEE)
-}
-
-/// Returns the text of the inlined calls' id over what was read.
-fn text_of(alloc: Global, data: &Data) -> Result<String, Error> {
-    let formatter = data.make_type_formatter(alloc)?;
-    inlinee_text(alloc, formatter)
-}
-
-/// Returns the text of the inlined calls' id over a database that is only lent.
-fn text_of_lent(alloc: Global, pdb: &mut PDB<'static, Vec<u8>>) -> Result<String, Error> {
-    let data: Data = ContextPdbData::try_from_pdb_ref(alloc, pdb)?;
-    text_of(alloc, &data)
-}
-
-/// Returns a name of the names table, a text over the database while it is lent, and the name
-/// again.
-fn lent_and_back(alloc: Global, pdb: &mut PDB<'static, Vec<u8>>) -> Result<String, Error> {
-    let before = name_of_module(alloc, pdb)?;
-    let text = text_of_lent(alloc, pdb)?;
-    let after = name_of_module(alloc, pdb)?;
-    Ok(format!(in alloc; "{before} {text} {after}")?)
-}
-
-/// Opens a file's bytes, and returns the texts of [`lent_and_back`].
-fn texts_of_file(alloc: Global, bytes: Vec<u8>) -> Result<String, Error> {
-    let mut pdb = PDB::open(alloc, bytes)?;
-    lent_and_back(alloc, &mut pdb)
-}
-
-// What was read borrows nothing of the database, and leaves it as it was.
-#[test]
-fn lent_database(rt: HostRuntime) -> Result<(), Fail> {
-    let texts = texts_of_file(rt.alloc(), cross_imports(rt.alloc())?)?;
-    assert_eq!(rt; texts.as_str(), "c.obj g() c.obj");
     Ok(())
 }

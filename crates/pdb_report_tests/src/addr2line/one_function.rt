@@ -63,7 +63,7 @@ fn function_at(
 }
 
 /// Returns how far the answer at a place goes on.
-#[tactic(auto, using(crate::proofs::OneFunctionSteps::elsewhere, crate::proofs::OneFunctionSteps::past, crate::proofs::OneFunctionSteps::before, crate::proofs::OneFunctionSteps::inside))]
+#[tactic(auto, using(crate::proofs::addr2line::OneFunctionSteps::elsewhere, crate::proofs::addr2line::OneFunctionSteps::past, crate::proofs::addr2line::OneFunctionSteps::before, crate::proofs::addr2line::OneFunctionSteps::inside))]
 fn run_at(place: PdbInternalSectionOffset, limit: u32) -> u32
     requires { 1 ≤ limit }
     ensures { IsOneRun one_function (place_of place) limit result }

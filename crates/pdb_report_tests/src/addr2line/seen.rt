@@ -35,34 +35,3 @@ fn levels_of_a_path(rt: HostRuntime) -> Result<(), Fail> {
     );
     Ok(())
 }
-
-/// Puts 40 indices on a path, each 2,048 greater than the one before: their low bits have two
-/// values.
-fn push_all(path: &mut IndexPath) -> Result<(), Fail> {
-    for k in 0..40u32 {
-        if path.may_enter(2048 * k) {
-            path.push(2048 * k)?;
-        }
-    }
-    Ok(())
-}
-
-#[test]
-fn long_path(rt: HostRuntime) -> Result<(), Fail> {
-    let mut path = IndexPath::new(rt.alloc());
-    push_all(&mut path)?;
-    let whole = (
-        path.contains(2048 * 39),
-        path.contains(2048 * 40),
-        path.contains(1),
-    );
-    path.truncate(33);
-    let cut = (
-        path.contains(2048 * 32),
-        path.contains(2048 * 33),
-        path.len(),
-    );
-    assert_eq!(rt; whole, (true, false, false));
-    assert_eq!(rt; cut, (true, false, 33));
-    Ok(())
-}

@@ -1,4 +1,4 @@
-use Rattle.pdb_report_tests.proofs.FreeStreams as facts
+use Rattle.pdb_report_tests.proofs.definitions.FreeStreams as facts
 use Rattle.pdb_report_tests.proofs.definitions.free_streams.Goals as goal
 
 pub returns-clause-free : goal.returns-clause-free

@@ -1,4 +1,4 @@
-use Rattle.pdb_report_tests.proofs.RowFacts as facts
+use Rattle.pdb_report_tests.proofs.definitions.RowFacts as facts
 use Rattle.pdb_report_tests.proofs.definitions.no_lines.Goals as goal
 
 pub returns-clause-loads : goal.returns-clause-loads

@@ -1,4 +1,4 @@
-use Rattle.pdb_report_tests.proofs.DeepAnswers.{answer_deep}
+use Rattle.pdb_report_tests.proofs.laws.DeepAnswers.{answer_deep}
 use Rattle.pdb_report_tests.proofs.laws.answers_as_deep.Goals as goal
 
 pub returns : goal.returns

@@ -1,0 +1,2 @@
+mod FreeStreams
+mod RowFacts

@@ -1,0 +1,2 @@
+mod DeepAnswers
+mod FailingParts
