@@ -30,7 +30,7 @@ abbrev pub range_app : App
 range_app = with_rule (with_rule (with_rule (new_app (codes "sizes")) (needed (codes "FILE")))
     (needed (codes "START"))) (needed (codes "END"))
 
--- the same with the flag `--by-file`
+-- `sizes FILE START END`, with the flag `--by-file`
 abbrev pub sizes_app : App
 sizes_app = with_rule range_app (flagged (codes "by-file"))
 

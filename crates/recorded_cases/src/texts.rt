@@ -21,8 +21,8 @@
 //!   at that offset from RVA 0x1000
 //! - `functions`: how many entries the public list has, and all functions
 //! - `each_again`: for frames, function, run and functions, at how many of the 288 addresses from
-//!   that RVA on a new context asks for modules, and how often such contexts ask when they are asked
-//!   again. Then how often one context asks that was asked for all four at each address
+//!   that RVA on a new context asks for modules, and how often such contexts ask for them when they
+//!   are asked again. Then how often one context does that was asked for all four at each address
 //! - `forgotten`: at how many of the 288 addresses from that RVA on a context that is asked for the
 //!   frames asks for modules. Then at how many of every eighth its frames are those of a new one
 //! - `prefixes`: the frames at that RVA in each prefix of the file: each length, in hexadecimal,
