@@ -141,13 +141,16 @@ fn tell_function(rt: &impl Print, function: &Function) -> Result<()> {
 fn tell_types(rt: &(impl Files + Print + AllocGlobal), file: &str) -> Result<()> {
     let pdb = PDB::open(rt.alloc(), fs::read(rt, file)?)?;
     let held: Held = ContextPdbData::try_from_pdb(rt.alloc(), pdb)?;
-    let plain = held.make_type_formatter(rt.alloc())?;
-    tell_texts(rt, plain)?;
+    tell_held(rt, &held)
+}
+
+/// Prints what formatters over a database say of types, and all functions without their arguments.
+fn tell_held(rt: &(impl Print + AllocGlobal), held: &Held) -> Result<()> {
+    tell_texts(rt, held.make_type_formatter(rt.alloc())?)?;
     // Flags replace the default ones, so those that are to stay are named too.
     let flags = TypeFormatterFlags::default() - TypeFormatterFlags::NO_FUNCTION_RETURN;
-    let with_returns = held.make_type_formatter_with_flags(rt.alloc(), flags)?;
-    tell_texts(rt, with_returns)?;
-    tell_bare_names(rt, &held)
+    tell_texts(rt, held.make_type_formatter_with_flags(rt.alloc(), flags)?)?;
+    tell_bare_names(rt, held)
 }
 
 /// Prints all functions without their arguments, by a context that is made by hand.

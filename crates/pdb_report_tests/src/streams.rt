@@ -272,6 +272,38 @@ fn readers(rt: HostRuntime) -> Result<(), Fail> {
     Ok(())
 }
 
+/// Returns whether the two parts of a row's input, cut after a newline, have the texts of their own
+/// lines.
+fn are_parts_read(alloc: Global, row: &Row, cut: usize) -> Result<bool, Fail> {
+    let cut = cut.min(row.input.len());
+    let lines = count_ended(&row.input[..cut]).min(row.texts.len());
+    let first = Row {
+        input: &row.input[..cut],
+        texts: &row.texts[..lines],
+        ..*row
+    };
+    let second = Row {
+        input: &row.input[cut..],
+        texts: &row.texts[lines..],
+        ..*row
+    };
+    Ok(
+        is_read(alloc, &first, usize::MAX, cut, None)?
+            && is_read(alloc, &second, usize::MAX, 0, None)?,
+    )
+}
+
+#[test]
+fn joined_inputs(rt: HostRuntime) -> Result<(), Fail> {
+    for cut in [5, 8, 9] {
+        assert!(rt;
+            are_parts_read(rt.alloc(), &ODD_INPUT, cut)?,
+            "after {cut} bytes"
+        );
+    }
+    Ok(())
+}
+
 /// Returns whether the written prefix of the report is as long as the writer's room. The writer
 /// takes one byte at a time, and then fails or stalls.
 fn is_written(
