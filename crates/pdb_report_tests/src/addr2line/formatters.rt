@@ -3,8 +3,8 @@
 ghost use Rattle.std.specs.Prelude.{◌≡◌, ◌+◌, ◌-◌, ◌^◌};
 
 use crate::addr2line::files::{Data, data_of};
-use pdb_addr2line::pdb::{IdIndex, TypeIndex};
-use pdb_addr2line::{Error, ModuleProvider, TextWriter, TypeFormatter};
+use pdb_addr2line::pdb::{IdIndex, PDB, StringRef, StringTable, TypeIndex};
+use pdb_addr2line::{ContextPdbData, Error, ModuleProvider, TextWriter, TypeFormatter};
 use pdb_samples::{cross_imports, imports_of_no_stream};
 use std::alloc::Global;
 use std::fmt;
@@ -142,5 +142,60 @@ fn exports_that_failed_before(rt: HostRuntime) -> Result<(), Fail> {
         Question::FailedExports,
     )?;
     assert_eq!(rt; said, (true, true, true));
+    Ok(())
+}
+
+/// Returns the name at 5 of a names table.
+fn name_at_five(alloc: Global, table: &StringTable<'_>) -> Result<String, Error> {
+    let name = table.get(StringRef(5))?;
+    Ok(format!(in alloc; "{name}")?)
+}
+
+/// Returns the name at 5 of an open database's names table.
+fn name_of_module(alloc: Global, pdb: &mut PDB<'static, Vec<u8>>) -> Result<String, Error> {
+    let table = pdb.string_table(alloc)?;
+    name_at_five(alloc, &table)
+}
+
+/// Returns the text of the inlined calls' id in the first module.
+fn inlinee_text<P: ModuleProvider>(
+    alloc: Global,
+    mut formatter: TypeFormatter<'_, '_, P>,
+) -> Result<String, Error> {
+    formatter.format_id(alloc, 0, INLINEE)
+}
+
+/// Returns the text of the inlined calls' id over what was read.
+fn text_of(alloc: Global, data: &Data) -> Result<String, Error> {
+    let formatter = data.make_type_formatter(alloc)?;
+    inlinee_text(alloc, formatter)
+}
+
+/// Returns the text of the inlined calls' id over a database that is only lent.
+fn text_of_lent(alloc: Global, pdb: &mut PDB<'static, Vec<u8>>) -> Result<String, Error> {
+    let data: Data = ContextPdbData::try_from_pdb_ref(alloc, pdb)?;
+    text_of(alloc, &data)
+}
+
+/// Returns a name of the names table, a text over the database while it is lent, and the name
+/// again.
+fn lent_and_back(alloc: Global, pdb: &mut PDB<'static, Vec<u8>>) -> Result<String, Error> {
+    let before = name_of_module(alloc, pdb)?;
+    let text = text_of_lent(alloc, pdb)?;
+    let after = name_of_module(alloc, pdb)?;
+    Ok(format!(in alloc; "{before} {text} {after}")?)
+}
+
+/// Opens a file's bytes, and returns the texts of [`lent_and_back`].
+fn texts_of_file(alloc: Global, bytes: Vec<u8>) -> Result<String, Error> {
+    let mut pdb = PDB::open(alloc, bytes)?;
+    lent_and_back(alloc, &mut pdb)
+}
+
+// What was read borrows nothing of the database, and leaves it as it was.
+#[test]
+fn lent_database(rt: HostRuntime) -> Result<(), Fail> {
+    let texts = texts_of_file(rt.alloc(), cross_imports(rt.alloc())?)?;
+    assert_eq!(rt; texts.as_str(), "c.obj g() c.obj");
     Ok(())
 }
