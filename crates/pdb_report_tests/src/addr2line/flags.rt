@@ -46,3 +46,18 @@ fn operators_on_flags(rt: HostRuntime) -> Result<(), Fail> {
     assert!(rt; !STATIC.contains(COMMA));
     Ok(())
 }
+
+/// Each flag, in the order of its bit.
+const NAMED: [TypeFormatterFlags; 6] = [
+    TypeFormatterFlags::NO_FUNCTION_RETURN,
+    STATIC,
+    COMMA,
+    TypeFormatterFlags::SPACE_BEFORE_POINTER,
+    TypeFormatterFlags::NAME_ONLY,
+    ARGUMENTS,
+];
+
+#[test]
+fn bits_of_flags(rt: HostRuntime) {
+    assert_eq!(rt; NAMED.map(|flag| flag.bits()), [1, 2, 4, 8, 16, 32]);
+}
