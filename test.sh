@@ -1,6 +1,6 @@
 #!/usr/bin/env bash
-# Runs all tests: `rt ci` (every proof, must-fail edit, test and program), then
-# the scripts below. What each of them checks stands at its head, and in docs/RELEASING.md.
+# Runs all tests: `rt ci` (every proof, must-fail edit, test and program), says how long it took,
+# then runs the scripts below. What each of them checks stands at its head, and in docs/RELEASING.md.
 # It fails where one fails; the last line counts all.
 set -u
 cd "$(dirname "$0")"
@@ -41,7 +41,8 @@ if ((processors <= 4 && memory >= processors)); then
     export RT_JOBS=${RT_JOBS:-$processors}
 fi
 
-count rt ci
+TIMEFORMAT='rt ci took %U seconds of user time, %S of system time and %R of wall time'
+time count rt ci
 count python3 tests/refused_requests/sweep.py
 count tests/commands.sh
 count tests/manual.sh
