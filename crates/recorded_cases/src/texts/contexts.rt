@@ -27,13 +27,7 @@ fn shown<T: Debug>(alloc: Global, value: &T) -> Result<String, Error> {
 }
 
 /// Returns an answer as a text.
-///
-/// # Errors
-/// The answer's fault; out of memory.
-pub fn shown_answer<T: Debug + Drop>(
-    alloc: Global,
-    answer: Result<T, Error>,
-) -> Result<String, Error> {
+fn shown_answer<T: Debug + Drop>(alloc: Global, answer: Result<T, Error>) -> Result<String, Error> {
     match answer {
         Ok(value) => shown(alloc, &value),
         Err(fault) => Err(fault),
