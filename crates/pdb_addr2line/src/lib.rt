@@ -5,7 +5,7 @@
 //! then:
 //!
 //! ```text
-//! let pdb = PDB::open(alloc, bytes)?;
+//! let pdb = PDB::open(alloc, BoundedBytes::new(bytes))?;
 //! let held = ContextPdbData::try_from_pdb(alloc, pdb)?;
 //! if held.address_map().is_ordered() {
 //!     let mut context = held.make_context(alloc)?;
@@ -21,7 +21,7 @@
 //! | to | call |
 //! |---|---|
 //! | read what is asked of a database | [`ContextPdbData::try_from_pdb`], `try_from_pdb_ref` |
-//! | read it in two halves | [`read_tables`], `try_from_tables` |
+//! | read what a context made of parts needs | [`read_tables`], [`Context::new_from_parts`] |
 //! | make a context | `make_context` |
 //! | make one with flags in place of the default ones | `make_context_with_formatter_flags` |
 //! | ask for the frames at an address | [`Context::find_frames`] |

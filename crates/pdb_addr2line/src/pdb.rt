@@ -6,6 +6,7 @@ pub use pdb_container_types::ArrayType;
 pub use pdb_container_types::BaseClassType;
 pub use pdb_container_types::BigMSF;
 pub use pdb_container_types::BitfieldType;
+pub use pdb_container_types::BoundedBytes;
 pub use pdb_container_types::BuildInfoId;
 pub use pdb_container_types::ClassKind;
 pub use pdb_container_types::ClassType;

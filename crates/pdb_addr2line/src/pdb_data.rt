@@ -2,13 +2,11 @@
 
 ghost use Rattle.std.specs.Prelude.{◌≡◌, ◌≤◌, IfOk, IsOkUnless};
 ghost use Rattle.pdb_addresses.specs.Addresses.{IsOrdered};
-ghost use Rattle.pdb_container.specs.SourceAnswers.{AnswersFrom};
 ghost use Rattle.pdb_container.specs.Fault.{HasRisen};
 ghost use Rattle.pdb_addr2line.specs.Formatters.{formatting_of, context_in};
-ghost use Rattle.pdb_loading.specs.Held.{parts_checked, read_in, IsOwn};
-ghost use Rattle.pdb_loading.specs.Loading.{database_read, read_after};
+ghost use Rattle.pdb_loading.specs.Held.{read_in, IsOwn};
+ghost use Rattle.pdb_loading.specs.Loading.{database_read};
 ghost use Rattle.pdb_resolving.specs.Fault.{Answers};
-ghost use Rattle.pdb_symbols_modules.specs.DatabaseCalls.{debug_information as read_dbi};
 ghost use Rattle.pdb_addr2line.specs.Refused.{CanFail, Loads};
 ghost use Rattle.pdb_symbols_modules.specs.Shared.{shared};
 ghost use Rattle.pdb_symbols_modules.specs.Streams.{streams};
@@ -17,11 +15,9 @@ use pdb_addresses::AddressMap;
 use pdb_container::{Result, Source};
 use pdb_context::maybe_owned::MaybeOwned;
 use pdb_context::{Context, TypeFormatter};
-use pdb_loading::{
-    HeldDatabase, KeptModules, Tables, collect_modules, read_after_tables, read_database,
-};
+use pdb_loading::{HeldDatabase, KeptModules, collect_modules, read_database};
 use pdb_resolving::{Error, ModuleProvider};
-use pdb_symbols_modules::{DebugInformation, Module, ModuleInfo, PDB};
+use pdb_symbols_modules::{Module, ModuleInfo, PDB};
 use pdb_text_pieces::TypeFormatterFlags;
 use std::alloc::Global;
 use std::marker::{Model, PhantomData};
@@ -54,31 +50,6 @@ impl<'p, 's, S: Source> Drop for ContextPdbData<'p, 's, S> {
 }
 
 impl<'p, 's, S: Source + Drop> ContextPdbData<'p, 's, S> {
-    /// Reads the rest of what formatters and contexts need, after stream 3 and what
-    /// [`read_tables`] read: the module list, the modules' own streams and the names table. With
-    /// these two calls a fault of one's own can be answered between them.
-    ///
-    /// # Errors
-    /// `UnexpectedEof` of the module list; `OutOfMemory`. The names table and the modules' own
-    /// streams are missing where they can't be read.
-    #[tactic(auto, using(pdb_container::proofs::Outside::outside_alone))]
-    pub fn try_from_tables(
-        alloc: Global,
-        pdb: &mut PDB<'s, S>,
-        debug_information: DebugInformation<'s>,
-        tables: Tables<'s>,
-    ) -> Result<ContextPdbData<'p, 's, S>>
-        requires { read_dbi (shared (streams (S.bytes pdb.old))) ≡ Ok debug_information }
-        ensures loads { AnswersFrom S.bytes S.failures pdb.old pdb.new read_in result
-            (read_after debug_information.entry tables.entry) }
-        ensures own { IfOk result
-            (λ d. IsOwn (streams (S.bytes pdb.old))
-            (HasRisen (S.failures pdb.old) (S.failures pdb.new)) d) }
-    {
-        let held = read_after_tables(pdb, alloc, debug_information, tables)?;
-        Ok(ContextPdbData::from_held(held))
-    }
-
     /// Reads what formatters and contexts need of a database that is open, and lets go of it.
     ///
     /// # Errors
@@ -223,18 +194,6 @@ impl<'p, 's, S: Source> ContextPdbData<'p, 's, S> {
             &self.held.debug_information,
             MaybeOwned::Owned(formatter),
         )
-    }
-
-    /// Whether a context can be made: `Ok`, or the fault that [`ContextPdbData::make_context`] has.
-    /// The sources of the OMAPs may not decrease.
-    ///
-    /// # Errors
-    /// As [`Context::new_from_parts`].
-    pub fn check_context(&self, alloc: Global) -> std::result::Result<(), Error>
-        requires { IsOrdered self.now.tables.map }
-        ensures { Answers (λ _. tt) result (parts_checked self.now) }
-    {
-        self.held.check_parts(alloc)
     }
 }
 

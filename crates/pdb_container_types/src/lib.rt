@@ -8,8 +8,8 @@ pub use pdb_addresses::{
     laws as address_laws, parse_omap, parse_section_headers,
 };
 pub use pdb_container::{
-    BigMSF, Error, FallibleIterator, FromBuffer, ModuleFault, Msf, PageList, ParseBuffer,
-    RawString, ReadView, Result, Source, SourceSlice, Stream, StringRef, StringTable,
+    BigMSF, BoundedBytes, Error, FallibleIterator, FromBuffer, ModuleFault, Msf, PageList,
+    ParseBuffer, RawString, ReadView, Result, Source, SourceSlice, Stream, StringRef, StringTable,
     laws as container_laws, open_msf,
 };
 pub use pdb_indices::{

@@ -8,8 +8,8 @@ use Rattle.pdb_names.specs.Env.{Env}
 use Rattle.pdb_names.specs.Printing.{Formatting, env_of}
 use Rattle.pdb_known_modules.specs.KnownModules.{own_of}
 
--- what an answer in one module depends on besides: the module's own stream, and what names of types
--- and ids are read from
+-- what an answer in one module depends on beside the parts: the module's own stream, and what names
+-- of types and ids are read from
 pub record Scope : Type 0 where
   pub own : Result (Option ModuleStream) container.Fault
   pub env : Env

@@ -31,7 +31,7 @@ method_text env path parent name t w = do
   w ← say (name_or_omitted name) w
   method_arguments env (visiting env path) path t true w
 
--- the arguments of a function in brackets, which flag 32 leaves out
+-- the arguments of a function in brackets, which flag 32 (NO_ARGUMENTS) leaves out
 abbrev pub arguments_unless : Env → Path → TypeIndex → Text → Printed
 arguments_unless env path list w = if has_bit env.flags 32 then Done w else (do
   w ← say (codes "(") w

@@ -1,7 +1,7 @@
 -- Fields of records: each is a value and the bytes after it, or the fault of what is missing.
 -- Numeric leaves and names are those of microsoft-pdb's cvinfo.h and of LLVM's CodeView Type
 -- Records.
-use Rattle.std.specs.Prelude.{ℕ, ◌||◌, List, Option, Some, None, Ok, Err, nat_lt, ◌==◌}
+use Rattle.std.specs.Prelude.{ℕ, List, Ok, Err, nat_lt, ◌==◌}
 use Rattle.std.specs.Prelude.{if◌then◌else◌, Result, zero, suc, [], ◌∷◌}
 use Rattle.std.specs.Int.{w8, w16, w32, w64}
 use Rattle.pdb_container.specs.declared.error.Error.{Error}
@@ -30,18 +30,6 @@ unfoldable pub id_index_at : Reader IdIndex
 id_index_at bytes = do
   n ← number_at w32 bytes
   Ok (record { 0 = n.0 }, n.1)
-
--- the index of a type, 4 bytes: none at 0 and at 0xffff
-unfoldable pub optional_type_index_at : Reader (Option TypeIndex)
-optional_type_index_at bytes = do
-  n ← number_at w32 bytes
-  if n.0 == 0 || n.0 == 0xffff then Ok (None, n.1) else Ok (Some record { 0 = n.0 }, n.1)
-
--- the index of an id, 4 bytes: none at 0 and at 0xffff
-unfoldable pub optional_id_index_at : Reader (Option IdIndex)
-optional_id_index_at bytes = do
-  n ← number_at w32 bytes
-  if n.0 == 0 || n.0 == 0xffff then Ok (None, n.1) else Ok (Some record { 0 = n.0 }, n.1)
 
 -- ---- numbers that say their own width
 

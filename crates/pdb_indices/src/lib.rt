@@ -11,7 +11,5 @@ mod variant;
 
 pub use index::{IdIndex, ItemIndex, Local, TypeIndex};
 pub use numbers::{FileIndex, SymbolIndex};
-pub use record_fields::{
-    parse_many, parse_name, parse_optional_id_index, parse_optional_type_index,
-};
+pub use record_fields::{parse_many, parse_name};
 pub use variant::{Variant, parse_numeric, parse_variant};

@@ -4,7 +4,6 @@ ghost use Rattle.std.specs.Prelude.{◌≡◌};
 ghost use Rattle.pdb_container.specs.Buffer.{rest, ParsesFront};
 ghost use Rattle.pdb_container.specs.RawString.{raw_bytes};
 ghost use Rattle.pdb_indices.specs.RecordFields.{GivesFront, type_index_at, id_index_at};
-ghost use Rattle.pdb_indices.specs.RecordFields.{optional_type_index_at, optional_id_index_at};
 ghost use Rattle.pdb_indices.specs.RecordFields.{name_at, many_at};
 
 use crate::index::{IdIndex, TypeIndex};
@@ -27,38 +26,6 @@ impl FromBuffer for IdIndex {
     fn from_buffer(buffer: &mut ParseBuffer<'_>) -> Result<IdIndex> {
         Ok(IdIndex(buffer.parse_u32()?))
     }
-}
-
-/// A type index, or none where the number is 0 or 0xffff.
-///
-/// # Errors
-/// `UnexpectedEof` where fewer than four bytes are left.
-#[tactic(auto, unfolding(crate::specs::RecordFields::optional_type_index_at))]
-pub fn parse_optional_type_index(buffer: &mut ParseBuffer<'_>) -> Result<Option<TypeIndex>>
-    ensures { ParsesFront (λ x. x) result (rest buffer.new)
-        (optional_type_index_at (rest buffer.old)) }
-{
-    let number = buffer.parse_u32()?;
-    if number == 0 || number == 0xffff {
-        return Ok(None);
-    }
-    Ok(Some(TypeIndex(number)))
-}
-
-/// An id index, or none where the number is 0 or 0xffff.
-///
-/// # Errors
-/// `UnexpectedEof` where fewer than four bytes are left.
-#[tactic(auto, unfolding(crate::specs::RecordFields::optional_id_index_at))]
-pub fn parse_optional_id_index(buffer: &mut ParseBuffer<'_>) -> Result<Option<IdIndex>>
-    ensures { ParsesFront (λ x. x) result (rest buffer.new)
-        (optional_id_index_at (rest buffer.old)) }
-{
-    let number = buffer.parse_u32()?;
-    if number == 0 || number == 0xffff {
-        return Ok(None);
-    }
-    Ok(Some(IdIndex(number)))
 }
 
 /// A name in a record with that leaf: a C string above 0x1500, else a Pascal string.

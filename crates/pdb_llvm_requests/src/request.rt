@@ -25,7 +25,7 @@ pub enum Command {
 pub struct LineRequest<'l> {
     /// What is asked.
     pub command: Command,
-    /// The file's name, as it stands in the line, and None where the file is given beside.
+    /// The file's name, as it stands in the line; None where the arguments name the file.
     pub file: Option<&'l [u8]>,
     /// The address, as it is asked for.
     pub address: u64,
@@ -163,8 +163,8 @@ fn read_short(line: &[u8], file_given: bool) -> Result<LineRequest<'_>, RequestF
     })
 }
 
-/// The request of a line, where the file is given beside the lines (`file_given`) or else stands in
-/// the line: a command and one space, if any, the file, a word or in quotes, and the address. What
+/// The request of a line, where the arguments name the file (`file_given`) or else it stands in the
+/// line: a command and one space, if any, the file, a word or in quotes, and the address. What
 /// follows the address doesn't count. The first 4,352 bytes of a line decide it.
 ///
 /// # Errors

@@ -42,7 +42,7 @@ pub struct Arguments<'m> {
     pub database: Option<&'m str>,
     /// Whether addresses are relative to the image.
     pub relative: bool,
-    /// What is taken from each address.
+    /// What is subtracted from each address.
     pub adjust: u64,
     /// The names of functions.
     pub function: FunctionName,
@@ -54,89 +54,134 @@ pub struct Arguments<'m> {
     pub addresses: &'m [&'m str],
 }
 
-/// An option: its name, letter and other name, what stands for its value in the help, if it has
-/// one, and what the help says; that is empty where the option changes nothing, and the help
-/// leaves it out.
-type Described = (
-    &'static str,
-    Option<char>,
-    Option<&'static str>,
-    Option<&'static str>,
-    &'static str,
-);
+/// An option of the program.
+struct Described {
+    /// Its name.
+    name: &'static str,
+    /// Its letter, if it has one.
+    letter: Option<char>,
+    /// Its other name, if it has one.
+    alias: Option<&'static str>,
+    /// What stands for its value in the help, if it has a value.
+    value: Option<&'static str>,
+    /// What the help says. It is empty where the option changes nothing: the help leaves that out.
+    help: &'static str,
+}
 
 /// The options but `--functions`, in the order of the help.
 const OPTIONS: [Described; 16] = [
-    (
-        "obj",
-        Some('e'),
-        Some("exe"),
-        Some("FILE"),
-        "The image (.exe, .dll), or a database (.pdb)",
-    ),
-    (
-        "pdb",
-        None,
-        None,
-        Some("FILE"),
-        "The database of the image, in place of the one that it names",
-    ),
-    (
-        "relative-address",
-        None,
-        None,
-        None,
-        "Addresses are relative to the image",
-    ),
-    (
-        "adjust-vma",
-        None,
-        None,
-        Some("OFFSET"),
-        "Is taken from each address",
-    ),
-    (
-        "inlines",
-        Some('i'),
-        Some("inlining"),
-        None,
-        "Reports inlined calls, as is done without it",
-    ),
-    ("no-inlines", None, None, None, "Reports no inlined calls"),
-    (
-        "basenames",
-        Some('s'),
-        None,
-        None,
-        "Reports files without their folders",
-    ),
-    (
-        "addresses",
-        Some('a'),
-        Some("print-address"),
-        None,
-        "Writes each address before its answer",
-    ),
-    (
-        "pretty-print",
-        Some('p'),
-        None,
-        None,
-        "Writes each frame on one line",
-    ),
-    (
-        "output-style",
-        None,
-        None,
-        Some("STYLE"),
-        "LLVM, GNU or JSON",
-    ),
-    ("demangle", Some('C'), None, None, ""),
-    ("no-demangle", None, None, None, ""),
-    ("no-debuginfod", None, None, None, ""),
-    ("no-untag-addresses", None, None, None, ""),
-    ("relativenames", None, None, None, ""),
-    ("default-arch", None, None, Some("NAME"), ""),
+    Described {
+        name: "obj",
+        letter: Some('e'),
+        alias: Some("exe"),
+        value: Some("FILE"),
+        help: "The image (.exe, .dll), or a database (.pdb)",
+    },
+    Described {
+        name: "pdb",
+        letter: None,
+        alias: None,
+        value: Some("FILE"),
+        help: "The database of the image, in place of the one that it names",
+    },
+    Described {
+        name: "relative-address",
+        letter: None,
+        alias: None,
+        value: None,
+        help: "Addresses are relative to the image",
+    },
+    Described {
+        name: "adjust-vma",
+        letter: None,
+        alias: None,
+        value: Some("OFFSET"),
+        help: "Is subtracted from each address",
+    },
+    Described {
+        name: "inlines",
+        letter: Some('i'),
+        alias: Some("inlining"),
+        value: None,
+        help: "Reports inlined calls (the default)",
+    },
+    Described {
+        name: "no-inlines",
+        letter: None,
+        alias: None,
+        value: None,
+        help: "Reports no inlined calls",
+    },
+    Described {
+        name: "basenames",
+        letter: Some('s'),
+        alias: None,
+        value: None,
+        help: "Reports files without their folders",
+    },
+    Described {
+        name: "addresses",
+        letter: Some('a'),
+        alias: Some("print-address"),
+        value: None,
+        help: "Writes each address before its answer",
+    },
+    Described {
+        name: "pretty-print",
+        letter: Some('p'),
+        alias: None,
+        value: None,
+        help: "Writes each frame on one line",
+    },
+    Described {
+        name: "output-style",
+        letter: None,
+        alias: None,
+        value: Some("STYLE"),
+        help: "LLVM, GNU or JSON",
+    },
+    Described {
+        name: "demangle",
+        letter: Some('C'),
+        alias: None,
+        value: None,
+        help: "",
+    },
+    Described {
+        name: "no-demangle",
+        letter: None,
+        alias: None,
+        value: None,
+        help: "",
+    },
+    Described {
+        name: "no-debuginfod",
+        letter: None,
+        alias: None,
+        value: None,
+        help: "",
+    },
+    Described {
+        name: "no-untag-addresses",
+        letter: None,
+        alias: None,
+        value: None,
+        help: "",
+    },
+    Described {
+        name: "relativenames",
+        letter: None,
+        alias: None,
+        value: None,
+        help: "",
+    },
+    Described {
+        name: "default-arch",
+        letter: None,
+        alias: None,
+        value: Some("NAME"),
+        help: "",
+    },
 ];
 
 /// The argument of an option, by its letter if it has one.
@@ -157,13 +202,12 @@ fn with_value<'a>(arg: Arg<'a>, value: Option<&'a str>) -> Arg<'a> {
 
 /// The argument of an option.
 fn argument<'a>(alloc: Global, option: &Described) -> Result<Arg<'a>, AllocError> {
-    let (name, letter, alias, value, help) = *option;
-    let bare = Arg::new(alloc, name)
-        .long(name)
-        .help(help)
-        .hide(help.is_empty());
-    let arg = with_value(with_letter(bare, letter), value);
-    match alias {
+    let bare = Arg::new(alloc, option.name)
+        .long(option.name)
+        .help(option.help)
+        .hide(option.help.is_empty());
+    let arg = with_value(with_letter(bare, option.letter), option.value);
+    match option.alias {
         None => Ok(arg),
         Some(alias) => arg.alias(alias),
     }
@@ -221,7 +265,7 @@ fn function_in(matches: &ArgMatches<'_>) -> FunctionName {
     }
 }
 
-/// What is taken from each address; None where the argument is no number.
+/// What is subtracted from each address; None where the argument is no number.
 fn adjust_in(matches: &ArgMatches<'_>) -> Option<u64> {
     match matches.get_str("adjust-vma") {
         None => Some(0),

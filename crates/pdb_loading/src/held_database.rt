@@ -117,8 +117,8 @@ pub fn read_database<'s, S: Source + Drop>(
 }
 
 impl<'s> HeldDatabase<'s> {
-    /// Whether a context can be made: `Ok`, or the fault of the symbol records, which are gone over
-    /// to their end, or of the section contributions.
+    /// Checks that a context can be made: the symbol records are gone over to their end, and the
+    /// section contributions are merged.
     ///
     /// # Errors
     /// As [`ContextParts::new`].

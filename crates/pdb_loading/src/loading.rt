@@ -78,7 +78,7 @@ fn read_in_order(
     Ok((debug_information, tables))
 }
 
-/// Reads what contexts are made of. That a context can be made is tried.
+/// Reads what contexts are made of, and checks that a context can be made.
 fn read_held(alloc: Global, pdb: &mut FileDatabase) -> Result<HeldDatabase<'static>, LoadFault>
     requires { (streams pdb.old).open_fault ≡ None }
     ensures same { OnOk result (pdb.new ≡ pdb.old) }

@@ -14,7 +14,7 @@ is_public kind = kind == 0x110e || kind == 0x1009
 abbrev pub is_global : ℕ → Bool
 is_global kind = kind == 0x1110 || kind == 0x100b || kind == 0x1147
 
--- a procedure that is called deferred: S_LPROC32_DPC, S_LPROC32_DPC_ID
+-- a deferred procedure call: S_LPROC32_DPC, S_LPROC32_DPC_ID
 abbrev pub is_dpc : ℕ → Bool
 is_dpc kind = kind == 0x1155 || kind == 0x1156
 

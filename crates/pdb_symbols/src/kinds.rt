@@ -62,10 +62,10 @@ pub const S_INLINESITE_END: u16 = 0x114e;
 /// The end of a procedure whose type is an id (0x114f).
 pub const S_PROC_ID_END: u16 = 0x114f;
 
-/// A procedure of one module that is called deferred (0x1155).
+/// A deferred procedure call (DPC) of one module (0x1155).
 pub const S_LPROC32_DPC: u16 = 0x1155;
 
-/// A procedure of one module that is called deferred, whose type is an id (0x1156).
+/// A deferred procedure call (DPC) of one module, whose type is an id (0x1156).
 pub const S_LPROC32_DPC_ID: u16 = 0x1156;
 
 /// An inline site, with how often it is called (0x115d).
@@ -92,7 +92,7 @@ pub fn is_global(kind: u16) -> bool
     kind == S_GPROC32 || kind == S_GPROC32_ST || kind == S_GPROC32_ID
 }
 
-/// Whether the kind is that of a procedure that is called deferred.
+/// Whether the kind is that of a deferred procedure call (DPC).
 pub fn is_dpc(kind: u16) -> bool
     ensures { result ≡ is_dpc_kind kind }
 {

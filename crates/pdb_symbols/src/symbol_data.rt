@@ -49,7 +49,7 @@ pub struct PublicSymbol<'t> {
 pub struct ProcedureSymbol<'t> {
     /// Whether other modules see it, by its kind.
     pub global: bool,
-    /// Whether it is called deferred, by its kind.
+    /// Whether it is a deferred procedure call (DPC), by its kind.
     pub dpc: bool,
     /// The symbol around it, where one is named.
     pub parent: Option<SymbolIndex>,
@@ -87,7 +87,7 @@ pub struct ThunkSymbol<'t> {
     pub offset: PdbInternalSectionOffset,
     /// How many bytes of code it has.
     pub len: u16,
-    /// What it leads to, as it is stored.
+    /// What sort of thunk it is (`THUNK_ORDINAL`), as it is stored.
     pub kind: u8,
     /// Its name as it is stored.
     pub name: RawString<'t>,

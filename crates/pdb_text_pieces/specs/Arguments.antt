@@ -4,7 +4,7 @@ use Rattle.std.specs.List.{concat}
 use Rattle.pdb_indices.specs.Bits.{has_bit}
 use Rattle.pdb_text_pieces.specs.Printed.{Text}
 
--- what stands between arguments: a comma, and a space under flag 4
+-- what stands between arguments: a comma, and a space under flag 4 (SPACE_AFTER_COMMA)
 abbrev pub comma : ℕ → Text
 comma flags = if has_bit flags 4 then codes ", " else codes ","
 

@@ -85,7 +85,7 @@ class_word classes.Class = codes "class "
 class_word classes.Struct = codes "struct "
 class_word classes.Interface = codes "interface "
 
--- a name after its keyword, which flag 16 leaves out
+-- a name after its keyword, which flag 16 (NAME_ONLY) leaves out
 abbrev pub named : ℕ → Text → List ℕ → Text → Printed
 named flags word name w = (if has_bit flags 16 then Done w else say word w)
     >>= say (utf8_lossy name)

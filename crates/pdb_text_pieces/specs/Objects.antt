@@ -6,7 +6,8 @@ use Rattle.pdb_records.specs.Forms as forms
 use Rattle.pdb_records.specs.Forms.{TypeForm, Plain}
 use Rattle.pdb_text_pieces.specs.Printed.{Text, Printed, Done, say}
 
--- the keyword before a method that has no object, which flag 2 leaves out
+-- the keyword before a method that has no object, which flag 2 (NO_MEMBER_FUNCTION_STATIC) leaves
+-- out
 abbrev pub static_word : ℕ → Option TypeIndex → Text → Printed
 static_word flags None w = if has_bit flags 2 then Done w else say (codes "static ") w
 static_word flags (Some this) w = Done w

@@ -50,8 +50,8 @@ target_text may_space p =
     if p.leads_to_constant then (if may_space then codes " const" else codes "const")
     else []
 
--- the space before the sign, under flag 8: none after another sign, and none where the pointers
--- begin and may not begin with one
+-- the space before the sign, under flag 8 (SPACE_BEFORE_POINTER): none after another sign, and
+-- none where the pointers begin and may not begin with one
 abbrev pub space_text : ℕ → Bool → Bool → PointerLevel → Text
 space_text flags may_space behind_sigil p =
     if has_bit flags 8 && (p.leads_to_constant || (may_space && not behind_sigil)) then codes " "

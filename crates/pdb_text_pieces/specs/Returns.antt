@@ -6,7 +6,7 @@ use Rattle.pdb_records.specs.declared.type_attributes.FunctionAttributes.{Functi
 use Rattle.pdb_records.specs.Attributes.{constructs}
 
 -- the type with which a function's text begins: none for a constructor, and none where flag 1
--- leaves it out; the flag doesn't apply to a function that pointers point to
+-- (NO_FUNCTION_RETURN) leaves it out, which it does unless pointers point to the function
 abbrev pub shown_return : ℕ → Option TypeIndex → FunctionAttributes → (behind_pointers : Bool)
     → Option TypeIndex
 shown_return flags t attributes behind_pointers =

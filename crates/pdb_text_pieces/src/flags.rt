@@ -43,7 +43,7 @@ static FLAGS: [Flag<TypeFormatterFlags>; 6] = [
 ];
 
 impl TypeFormatterFlags {
-    /// The return type of the function itself isn't printed.
+    /// The return type of a function isn't printed, unless a pointer leads to the function.
     pub const NO_FUNCTION_RETURN: TypeFormatterFlags = TypeFormatterFlags { bits: 1 };
 
     /// `static` isn't printed before a method without a `this` pointer.
@@ -58,7 +58,7 @@ impl TypeFormatterFlags {
     /// `class`, `struct`, `interface`, `union` and `enum` aren't printed before names.
     pub const NAME_ONLY: TypeFormatterFlags = TypeFormatterFlags { bits: 16 };
 
-    /// The arguments of the function itself aren't printed.
+    /// The arguments of the function that is asked for, and of methods anywhere, aren't printed.
     pub const NO_ARGUMENTS: TypeFormatterFlags = TypeFormatterFlags { bits: 32 };
 }
 

@@ -56,7 +56,7 @@ returned visit path (Some t) attributes w =
     if constructs attributes then Done w
     else (visit Whole path t.0 w >>= say (codes " "))
 
--- the type that a function returns, and a space, where flag 1 doesn't leave it out
+-- the type that a function returns, and a space, unless flag 1 (NO_FUNCTION_RETURN) leaves it out
 abbrev pub returned_unless : Env → Visit → Path → Option TypeIndex → FunctionAttributes
     → Text → Printed
 returned_unless env visit path t attributes w =
@@ -91,7 +91,7 @@ in_brackets env visit path says_constant ts this w = do
   w ← say (codes ")") w
   if this.0 && says_constant then say (codes " const") w else Done w
 
--- the arguments of a method, which flag 32 leaves out
+-- the arguments of a method, which flag 32 (NO_ARGUMENTS) leaves out
 abbrev pub method_arguments : Env → Visit → Path → MemberFunctionType → Bool → Text → Printed
 method_arguments env visit path t says_constant w =
     if has_bit env.flags 32 then Done w
