@@ -9,7 +9,8 @@
 #![tactic(auto)]
 
 use anyhow::{Context as _, Result, bail};
-use pdb_addr2line::pdb::{PDB, TypeIndex};
+use bytes::Bytes;
+use pdb_addr2line::pdb::{BoundedBytes, PDB, TypeIndex};
 use pdb_addr2line::{
     Context, ContextPdbData, Frame, FrameRow, Function, ModuleProvider, TypeFormatter,
     TypeFormatterFlags,
@@ -21,7 +22,7 @@ use std::rt::{Env, Files};
 use std::{env, fs};
 
 /// A database that is held for formatters.
-type Held = ContextPdbData<'static, 'static, Vec<u8>>;
+type Held = ContextPdbData<'static, 'static, BoundedBytes>;
 
 fn main(rt: HostRuntime) -> Result<()> {
     let file = env::args(&rt)?
@@ -139,7 +140,8 @@ fn tell_function(rt: &impl Print, function: &Function) -> Result<()> {
 
 /// Prints what formatters say of types.
 fn tell_types(rt: &(impl Files + Print + AllocGlobal), file: &str) -> Result<()> {
-    let pdb = PDB::open(rt.alloc(), fs::read(rt, file)?)?;
+    let bytes = Bytes::from_vec(fs::read(rt, file)?)?;
+    let pdb = PDB::open(rt.alloc(), BoundedBytes::new(bytes))?;
     let held: Held = ContextPdbData::try_from_pdb(rt.alloc(), pdb)?;
     tell_held(rt, &held)
 }

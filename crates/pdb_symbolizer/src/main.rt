@@ -23,9 +23,9 @@ fn main(rt: HostRuntime) -> ExitCode {
     let words = match given_words(&rt) {
         Ok(words) => words,
         Err(error) if error.kind() == ErrorKind::OutOfMemory => {
-            return told(&mut errors, "fault: OutOfMemory\n", 1);
+            return exit_with(&mut errors, "fault: OutOfMemory\n", 1);
         }
-        Err(_) => return told(&mut errors, NOT_UTF8, 2),
+        Err(_) => return exit_with(&mut errors, NOT_UTF8, 2),
     };
     let task = match read_words(rt.alloc(), words.as_slice()) {
         Ok(task) => task,
@@ -40,9 +40,9 @@ fn main(rt: HostRuntime) -> ExitCode {
     let bytes = match bytes_of(&rt, file) {
         Ok(bytes) => bytes,
         Err(error) if error.kind() == ErrorKind::OutOfMemory => {
-            return told(&mut errors, "fault: OutOfMemory\n", 1);
+            return exit_with(&mut errors, "fault: OutOfMemory\n", 1);
         }
-        Err(_) => return told(&mut errors, "fault: ReadFile\n", 1),
+        Err(_) => return exit_with(&mut errors, "fault: ReadFile\n", 1),
     };
     let mut reader = Watched::new(rt.stdin());
     let mut writer = Watched::new(rt.stdout());
@@ -117,7 +117,7 @@ fn count_sizes<W: Write>(
 }
 
 /// Writes a text, and returns the status; a write that fails is ignored.
-fn told(stream: &mut impl Write, text: &str, status: u8) -> ExitCode {
+fn exit_with(stream: &mut impl Write, text: &str, status: u8) -> ExitCode {
     let _ = stream.write_all(text.as_bytes());
     ExitCode::from(status)
 }
