@@ -1,7 +1,7 @@
 //! The files of a run, each loaded once, and the answers to lines by them.
 
 use crate::arguments::Arguments;
-use crate::loaded::{Asked, LoadedFile, load};
+use crate::loaded::{Asked, FileContexts, load};
 use crate::open_error::OpenError;
 use bumpalo::Bump;
 use pdb_llvm_requests::{LineRequest, RequestFault, read_request};
@@ -16,7 +16,7 @@ use std::rt::Files;
 #[derive(Drop)]
 struct AskedFile<'a> {
     text: String,
-    loaded: Result<LoadedFile<'a>, String>,
+    loaded: Result<FileContexts<'a>, String>,
 }
 
 /// The files that were asked for, each loaded once, and how their addresses are answered.
@@ -55,7 +55,7 @@ fn load_or_reason<'a>(
     arena: &'a Bump,
     arguments: &Arguments<'_>,
     file: &str,
-) -> Result<Result<LoadedFile<'a>, String>, AllocError> {
+) -> Result<Result<FileContexts<'a>, String>, AllocError> {
     match load(rt, arena, arguments, file) {
         Ok(loaded) => Ok(Ok(loaded)),
         Err(OpenError::Load(LoadFault::OutOfMemory)) => Err(AllocError),

@@ -10,15 +10,18 @@ use std::alloc::{AllocError, Global};
 use std::io::Write;
 use std::rt::Files;
 
-/// What answers the lines of a run: its files, and room for a text.
+/// What answers the requests of a run: its files, and room for a text.
 #[derive(Drop)]
-pub struct LineAnswers<'a, S: Files + Eprint + AllocGlobal> {
+pub struct RequestAnswers<'a, S: Files + Eprint + AllocGlobal> {
+    /// What opens files and writes errors.
     pub system: &'a S,
+    /// The files that were asked for.
     pub files: AskedFiles<'a>,
+    /// Room in which each text is made.
     pub room: Vec<u8>,
 }
 
-impl<'a, S: Files + Eprint + AllocGlobal> Answers for LineAnswers<'a, S> {
+impl<'a, S: Files + Eprint + AllocGlobal> Answers for RequestAnswers<'a, S> {
     type Start = LongStart;
 
     // A line may name a file that is opened for it.
@@ -59,7 +62,7 @@ fn append_mark(
     Ok(())
 }
 
-impl<'a, S: Files + Eprint + AllocGlobal> LineAnswers<'a, S> {
+impl<'a, S: Files + Eprint + AllocGlobal> RequestAnswers<'a, S> {
     /// Makes the answer to an address among the arguments, with what stands before it in an array.
     fn make_answer(
         &mut self,
@@ -102,7 +105,7 @@ fn write_made<W: Write>(
 /// # Errors
 /// `OutOfMemory`, or that the writer failed.
 pub fn write_answers<S: Files + Eprint + AllocGlobal, W: Write>(
-    answers: &mut LineAnswers<'_, S>,
+    answers: &mut RequestAnswers<'_, S>,
     arguments: &Arguments<'_>,
     writer: &mut Watched<W>,
 ) -> Result<(), InputFault> {

@@ -18,9 +18,9 @@ use std::rt::Files;
 /// A context over what is held of a file.
 type FileContext<'a> = Context<'a, 'static, KeptModules<'static>>;
 
-/// What answers the addresses of a file.
+/// What answers the addresses of a file: two contexts over it.
 #[derive(Drop)]
-pub struct LoadedFile<'a> {
+pub struct FileContexts<'a> {
     image_base: u64,
     /// Finds frames. It names functions without arguments.
     frames: FileContext<'a>,
@@ -65,14 +65,14 @@ fn over<'a>(
     alloc: Global,
     database: Database<'a>,
     function: FunctionName,
-) -> Result<LoadedFile<'a>, OpenError> {
+) -> Result<FileContexts<'a>, OpenError> {
     let Database { image_base, held } = database;
     if !held.address_map().is_ordered() {
         return Err(OpenError::Load(LoadFault::AddressTableDecreases));
     }
     let frames = held.make_context_with_formatter_flags(alloc, short_flags())?;
     let names = held.make_context_with_formatter_flags(alloc, flags_of(function))?;
-    Ok(LoadedFile {
+    Ok(FileContexts {
         image_base,
         frames,
         names,
@@ -88,7 +88,7 @@ pub fn load<'a>(
     arena: &'a Bump,
     arguments: &Arguments<'_>,
     file: &str,
-) -> Result<LoadedFile<'a>, OpenError> {
+) -> Result<FileContexts<'a>, OpenError> {
     let database = open(rt, arena, file, arguments.database)?;
     over(rt.alloc(), database, arguments.function)
 }
@@ -113,7 +113,7 @@ fn no_function<'f>() -> ReportedFrame<'f> {
     }
 }
 
-impl<'a> LoadedFile<'a> {
+impl<'a> FileContexts<'a> {
     /// The frames at an address; none where the lines or inlined calls there can't be read.
     fn frames_at(
         &mut self,

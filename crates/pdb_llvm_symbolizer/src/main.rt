@@ -13,7 +13,7 @@ use anyhow::{Result, bail};
 use arguments::{Arguments, command, read};
 use bumpalo::Bump;
 use files::AskedFiles;
-use lines::{LineAnswers, write_answers};
+use lines::{RequestAnswers, write_answers};
 use pdb_engine::{InputFault, Watched, run};
 use std::env;
 use std::io::{self, Read, Write};
@@ -73,7 +73,7 @@ fn answer<S: Files + Eprint + AllocGlobal, R: Read, W: Write>(
     let arena = Bump::new(rt.alloc());
     let files = AskedFiles::new(rt.alloc(), arguments, &arena);
     let room = Vec::new(rt.alloc());
-    let mut answers = LineAnswers {
+    let mut answers = RequestAnswers {
         system: rt,
         files,
         room,
@@ -85,7 +85,7 @@ fn answer<S: Files + Eprint + AllocGlobal, R: Read, W: Write>(
 
 /// Loads the file of `--obj`, and answers the addresses.
 fn answer_by<S: Files + Eprint + AllocGlobal, R: Read, W: Write>(
-    answers: &mut LineAnswers<'_, S>,
+    answers: &mut RequestAnswers<'_, S>,
     arguments: &Arguments<'_>,
     reader: &mut Watched<R>,
     writer: &mut Watched<W>,
