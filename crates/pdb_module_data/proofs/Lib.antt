@@ -4,6 +4,7 @@ mod BodySteps
 pub mod CallRowSteps
 mod CallsDeep
 pub mod ChainSteps
+mod FirstStarts
 mod ForestGrammar
 pub mod KeptRows
 pub mod KnownNames

@@ -136,7 +136,7 @@ chain sites number = chain_from sites (suc number) (Some number)
 
 -- ---- calls
 
--- the call covers some place by the row
+-- the row has a length other than 0
 abbrev pub has_length : LineInfo → Bool
 has_length row = nat_lt 0 (unwrap_or row.length 0)
 

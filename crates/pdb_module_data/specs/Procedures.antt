@@ -3,7 +3,7 @@
 -- pdb-addr2line crate does.
 use Rattle.std.specs.Prelude.{ℕ, ◌+◌, Bool, ◌&&◌, ◌||◌, List, [], ◌∷◌, ◌++◌, nat_lt, nat_le, ◌==◌}
 use Rattle.std.specs.Prelude.{Option, None, Some, if◌then◌else◌, Result, Ok}
-use Rattle.std.specs.List.{list_any}
+use Rattle.std.specs.List.{list_any, position_or_len}
 use Rattle.std.specs.declared.cmp.Ordering.{Ordering}
 use Rattle.std.specs.Ordering.{nat_cmp, ordering_then}
 use Rattle.pdb_container.specs.Fault.{Fault, ◌>>=◌}
@@ -52,7 +52,7 @@ separated_from (Some q) index code =
     }
     else None
 
--- whether a symbol of a kind may say a procedure
+-- whether a symbol of a kind may be a procedure's
 abbrev pub is_procedure_kind : ℕ → Bool
 is_procedure_kind kind = is_procedure kind || is_thunk kind || is_separated_code kind
 
@@ -118,6 +118,10 @@ onto_new procedures q = if has_start procedures q.offset then procedures else pr
 abbrev pub firsts_onto : List Procedure → List Procedure → List Procedure
 firsts_onto procedures [] = procedures
 firsts_onto procedures (q ∷ others) = firsts_onto (onto_new procedures q) others
+
+-- the number of the first procedure that begins there; how many there are, if none does
+abbrev pub first_number : List Procedure → PdbInternalSectionOffset → ℕ
+first_number procedures p = position_or_len (λ q. is_at q.offset p) procedures
 
 -- the procedures among symbols: those that are taken, of one start the first
 abbrev pub procedures_among : List Symbol → List Procedure

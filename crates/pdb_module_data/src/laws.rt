@@ -1,6 +1,8 @@
 //! What the definitions say, in other words.
 
-ghost use Rattle.std.specs.Prelude.{◌≡◌, ◌↔◌, ℕ, List, Some, None, Ok, true, length, slice_get};
+ghost use Rattle.std.specs.Prelude.{◌≡◌, ◌↔◌, ◌<◌, ℕ, List, [], Some, None, Ok, true};
+ghost use Rattle.std.specs.Prelude.{length, slice_get};
+ghost use Rattle.std.specs.List.{AllPairs, IsDistinct, find};
 ghost use Rattle.pdb_addresses.specs.declared.internal_section_offset.PdbInternalSectionOffset.{
   PdbInternalSectionOffset,
 };
@@ -12,6 +14,7 @@ ghost use Rattle.pdb_module_data.specs.Forest.{Site, IsForest, sites_from};
 ghost use Rattle.pdb_module_data.specs.FunctionLine.{function_rows, numbered_rows};
 ghost use Rattle.pdb_module_data.specs.InlinedCalls.{IsNested, IsDeepest, is_over, deepest};
 ghost use Rattle.pdb_module_data.specs.InlinedCalls.{depth_over, calls_over};
+ghost use Rattle.pdb_module_data.specs.Procedures.{Procedure, is_at, firsts_onto, first_number};
 
 /// The sites from a place on are those that the grammar gives, and no others.
 pub fn forest_is_grammar()
@@ -54,4 +57,17 @@ pub fn rows_of_a_subsection()
     ensures { (program : Program) (start : PdbInternalSectionOffset) (number : ℕ)
         → subsection_numbered program number ≡ subsections_for program start
         → numbered_rows program number ≡ function_rows program start }
+{}
+
+/// Of the procedures that are taken the first of each start counts: the one that begins at a place
+/// is the first of all that begin there, no two begin at one place, and they stand in the order in
+/// which they were taken.
+pub fn first_of_each_start()
+    ensures first { (taken : List Procedure) (p : PdbInternalSectionOffset)
+        → find (λ q. is_at q.offset p) (firsts_onto [] taken) ≡ find (λ q. is_at q.offset p) taken }
+    ensures once { (taken : List Procedure)
+        → IsDistinct (λ a b. is_at a.offset b.offset) (firsts_onto [] taken) }
+    ensures order { (taken : List Procedure)
+        → AllPairs (λ a b. first_number taken a.offset < first_number taken b.offset)
+        (firsts_onto [] taken) }
 {}

@@ -1,6 +1,6 @@
 //! The procedures of a module, and a search of the one over a place by halving.
 
-ghost use Rattle.std.specs.Prelude.{◌≡◌, IfOk, option_map, option_and_then, slice_get};
+ghost use Rattle.std.specs.Prelude.{◌≡◌, IfOk, option_and_then, slice_get};
 ghost use Rattle.pdb_container.specs.Fault.{Gives};
 ghost use Rattle.pdb_module_data.specs.ProcedurePieces.{procedure_span as span_of_procedure};
 ghost use Rattle.pdb_module_data.specs.ProcedurePieces.{procedure_spans as spans_of_procedures};
@@ -110,16 +110,6 @@ impl<'t> Procedures<'t> {
         ensures { option_and_then (λ k. slice_get self.now k) result ≡ over_of self.now place }
     {
         self.pieces.value_at(place)
-    }
-
-    /// The procedure over a place.
-    pub fn over(&self, place: PdbInternalSectionOffset) -> Option<&Procedure<'t>>
-        ensures { option_map (λ q. q.now) result ≡ over_of self.now place }
-    {
-        match self.number_over(place) {
-            None => None,
-            Some(number) => self.list.get(number),
-        }
     }
 
     /// About how many bytes of memory they take, at most.

@@ -79,7 +79,7 @@ fn separated_code<'t>(
     })
 }
 
-/// Whether a symbol of a kind may say a procedure.
+/// Whether a symbol of a kind may be a procedure's.
 fn may_be_procedure(kind: u16) -> bool
     ensures { result ≡ is_procedure_kind kind }
 {
