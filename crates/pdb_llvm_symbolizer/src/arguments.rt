@@ -13,7 +13,8 @@ Answers addresses of Windows images by their program databases (PDB), as llvm-sy
 
 const EXAMPLES: &str = "\
 Without ADDRESS each line of standard input is one: ADDRESS with --obj, and otherwise FILE ADDRESS.
-CODE, DATA or FRAME may stand before it. An address is decimal, or hexadecimal after 0x.
+CODE, DATA or FRAME may stand before it. An address is decimal, hexadecimal after 0x, or octal
+after 0.
 
 Examples:
   pdb_llvm_symbolizer --obj=program.exe 0x140001148
