@@ -87,7 +87,7 @@ procedures_end m numbers total procedures index past so_far =
 abbrev pub module_addresses : Map → Scope → List ℕ
 module_addresses m scope = procedure_addresses m (procedures_in (module_data scope.own))
 
--- the image addresses at which the procedures of modules begin, from the module of a number on
+-- the image addresses at which the procedures of modules begin, from the module with that index on
 abbrev pub addresses_from : Map → (ℕ → Scope) → ℕ → List Module → List ℕ
 addresses_from m scope number entries = addresses_of m (procedure_starts_from scope number entries)
 

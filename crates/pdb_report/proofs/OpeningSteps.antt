@@ -62,7 +62,7 @@ over_given p names h = record {
   flags = 23;
 }
 
--- what an answer in the module of a number depends on, by what gives modules
+-- what an answer in the module with an index depends on, by what gives modules
 abbrev scope_given : Provided → Option (List ℕ) → Held → ℕ → Scope
 scope_given p names h m = scope_of (λ (q : Provided). q) p (over_given p names h) m
 

@@ -1,4 +1,4 @@
--- What the module of a number holds, by what is found of it.
+-- What the module with an index holds, by what is found of it.
 use Rattle.std.proofs.Common.{◌≡◌, ℕ, List, Ok, Err, refl}
 use Rattle.std.specs.Prelude.{Some, None, slice_get}
 use Rattle.pdb_resolving.specs.declared.error.Error.{Error}
