@@ -33,8 +33,10 @@ import sys
 import tempfile
 
 HERE = os.path.dirname(os.path.realpath(__file__))
-ROOT = os.path.dirname(os.path.dirname(HERE))
-DATA = f"{ROOT}/crates/recorded_cases/data"
+sys.path.insert(0, os.path.dirname(HERE))
+sys.dont_write_bytecode = True
+from recorded import DATA, ROOT, Malformed, database_of, reports_of, stop  # noqa: E402
+
 READS = f"{ROOT}/crates/recorded_reads/data"
 SECONDS = 60
 # The greatest file that contexts are asked about: in greater ones each of 65,536 frames is a request of its own.
@@ -50,75 +52,20 @@ FORMATTED = ("function", "unnamed", "emitted", "id", "emitted_id", "size")
 # Recorded cases
 
 
-def bytes_of(text):
-    """The bytes that a recorded text stands for."""
-    plain = re.sub(r"\\x(..)|\\r", lambda it: chr(int(it[1], 16)) if it[1] else "\r", text)
-    return plain.encode("latin-1")
-
-
-def database_of(name, folder):
-    """The file of a database, written out where it is recorded as text."""
-    if name.endswith(".pdb"):
-        return f"{DATA}/{name}"
-    path = f"{folder}/{name}"
-    if not os.path.exists(path):
-        with open(f"{DATA}/{name}", encoding="ascii") as text:
-            content = bytearray(int(next(text).split()[1]))
-            for line in text:
-                place, digits = line.split()
-                piece = bytes.fromhex(digits)
-                content[int(place, 16) : int(place, 16) + len(piece)] = piece
-        with open(path, "wb") as file:
-            file.write(content)
-    return path
-
-
-class Row:
-    """A recorded report: what is asked of a database, and what comes. recorded_cases/src/reports.rt says how it is written."""
-
-    def __init__(self, paragraph):
-        self.range, self.status, self.change, texts = [], 0, None, {"<": b"", ">": b"", "!": b""}
-        for line in paragraph.splitlines():
-            word, _, rest = line.partition(" ")
-            if word == "case":
-                self.name, self.database = rest.split()
-            elif word in ("sizes", "by-file"):
-                self.range, self.flags = rest.split(), ["--by-file"] * (word == "by-file")
-            elif word == "status":
-                self.status = int(rest)
-            elif word in ("prefixes", "numbers", "bytes"):
-                self.change = self.change or [word, *rest.split()]
-            else:
-                mark = word[1:]
-                times = int(mark) if mark.isdigit() else 1
-                texts[word[0]] += (bytes_of(rest) + b"\n" * (mark != "-")) * times
-        self.given, self.output, self.errors = texts["<"], texts[">"], texts["!"]
-
-    def file(self, folder):
-        """Its database; of a row of several files that differ in one thing, the first."""
-        path = database_of(self.database, folder)
-        if not self.change:
-            return path
-        with open(path, "rb") as file:
-            content = bytearray(file.read())
-        word, place, *rest = self.change
-        if word == "prefixes":
-            content = content[: int(place, 16)]
-        else:
-            piece = int(rest[0], 16).to_bytes(4, "little") if word == "numbers" else bytes.fromhex(rest[0])
-            content[int(place, 16) : int(place, 16) + len(piece)] = piece
-        with open(f"{folder}/{self.name}", "wb") as file:
-            file.write(content)
-        return f"{folder}/{self.name}"
-
-    def addresses(self):
-        """The addresses of its input."""
-        return re.findall(r"^(?:0x)?([0-9a-f]{1,8})$", self.given.decode("latin-1"), re.M)
-
-
 def rows():
-    with open(f"{DATA}/rows.txt", encoding="ascii") as text:
-        return [Row(it) for it in text.read().split("\n\n") if not it.startswith("#")]
+    """The recorded reports of which each request is refused."""
+    return reports_of(f"{DATA}/rows.txt")
+
+
+def file_of(row, folder):
+    """The file of a row; of one of several files that differ in one thing, the first."""
+    if not row.changes:
+        return database_of(row.database, folder)
+    path = f"{folder}/{row.name}"
+    _, content = next(row.files())
+    with open(path, "wb") as file:
+        file.write(content)
+    return path
 
 
 def recorded_texts():
@@ -214,8 +161,7 @@ class Asked(Repeating):
 def reports(folder):
     """The program on the recorded rows, and on arguments that ask for no report."""
     for row in rows():
-        path = row.file(folder)
-        case = Report(row.name, ["sizes", *row.flags, path, *row.range] if row.range else ["frames", path])
+        case = Report(row.name, row.arguments(file_of(row, folder)))
         case.given, case.wanted = row.given, (row.status, row.output, row.errors)
         yield case
     for words in ("", "help", "help sizes", "frames --help", "frames", "sizes F 10 zz", "sizes --by-file F 10 zz", "frame F", "frames F --hlep"):
@@ -364,12 +310,6 @@ def shown(came):
 # All
 
 
-def stop(why):
-    """Ends where nothing can be swept."""
-    print(f"{why}\n0 passed, 1 failed")
-    sys.exit(1)
-
-
 def exceptions_of():
     """The cases of exceptions.txt."""
     with open(f"{HERE}/exceptions.txt", encoding="utf-8") as text:
@@ -414,4 +354,7 @@ def main(words):
 
 
 if __name__ == "__main__":
-    sys.exit(main(sys.argv[1:]))
+    try:
+        sys.exit(main(sys.argv[1:]))
+    except Malformed as malformed:
+        stop(malformed)

@@ -1,9 +1,9 @@
 //! Cases of texts: what formatters of types print, and what contexts answer about addresses.
 //!
-//! A line of a file is a case if it contains ` => `. Before that stand five words: what is asked; a
-//! DATABASE, as in cases of reports; the index of a module; the flags; and an index, an RVA or an
-//! offset, in hexadecimal. After it stands the answer that must come, or `fault: ` and the fault.
-//! What is asked:
+//! A line of a file is a case if it contains ` => `. Before that stand five words: what is asked;
+//! the file of a database, as `database.rt` describes it; the index of a module; the flags; and an
+//! index, an RVA or an offset, in hexadecimal. After it stands the answer that must come, or
+//! `fault: ` and the fault. What is asked:
 //!
 //! - `function`, `emitted`: the signature of a function `f` whose type has that index, returned or
 //!   written to a writer
@@ -38,7 +38,7 @@ pub mod formatters;
 mod prefixes;
 pub mod question;
 
-use crate::reports::database::database_bytes;
+use crate::database::database_bytes;
 use anyhow::Result;
 use pdb_addr2line::pdb::PDB;
 use pdb_addr2line::{ContextPdbData, Error};

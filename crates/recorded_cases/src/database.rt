@@ -1,4 +1,8 @@
 //! The files of program databases.
+//!
+//! A file whose name ends in `.pdb` is the database itself. Any other is a text of it: a line
+//! `length NUMBER`, and below that lines `PLACE BYTES`, both hexadecimal, with the bytes from that
+//! place on. Bytes that no line names are zero.
 
 use anyhow::{Context, Result, ensure};
 use std::alloc::Global;
@@ -48,10 +52,7 @@ fn write_line(alloc: Global, bytes: &mut [u8], line: &str) -> Result<()> {
 }
 
 /// Writes a piece over the bytes from a place on.
-///
-/// # Errors
-/// A piece that reaches past the end.
-pub fn write_piece(bytes: &mut [u8], place: usize, piece: &[u8]) -> Result<()> {
+fn write_piece(bytes: &mut [u8], place: usize, piece: &[u8]) -> Result<()> {
     let (_, rest) = bytes
         .split_at_mut_checked(place)
         .context("the place lies past the end")?;

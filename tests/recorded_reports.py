@@ -1,0 +1,210 @@
+#!/usr/bin/env python3
+"""Runs pdb_symbolizer on the recorded reports; recorded.py beside this says how one is written.
+
+    tests/recorded_reports.py [--built PROGRAM | --unproved] [FILE or NAME ..]
+
+Output, error output and exit status have to be exactly as recorded, for each file of a case. An
+input of several lines is handed over twice, each time to a run of its own: at once, as a regular
+file, whose lines are answered in the order of their addresses; and by line, where each read gives
+one line, which is answered after those before it.
+
+FILE is a file of cases, in crates/recorded_cases/data or elsewhere; their databases lie in that
+folder. NAME is that of a case in one of the files below; without a word all of these are run.
+PROGRAM is the built program; if left out, the proved one, as each compiler of `rt ci` built it. A
+run that differs is printed by the name of its case, what differs in the file, and how the input was
+handed over, with the first line that differs. The last line is `N passed, M failed`, in cases of a
+program.
+
+With --unproved `rt try` compiles the program without proof, and runs it on each file of a few
+cases, input at once. It compares the output and prints the status; its last line counts the runs.
+"""
+import argparse
+import concurrent.futures
+import itertools
+import os
+import re
+import socket
+import subprocess
+import sys
+import tempfile
+
+sys.dont_write_bytecode = True
+from recorded import DATA, ROOT, Malformed, reports_of, stop  # noqa: E402
+
+FILES = [
+    "rows.txt",
+    "sound.txt",
+    "damaged.txt",
+    "signatures.txt",
+    "again.txt",
+    "permuted.txt",
+    "samples.txt",
+    "hostile.txt",
+    "addresses.txt",
+    "real.txt",
+    "by_file.txt",
+]
+BUILT = f"{ROOT}/crates/pdb_symbolizer/out/pdb_symbolizer"
+SECONDS = 120
+# The most bytes that the program asks a read for: a longer line wouldn't come by one.
+LONGEST = 65_536
+
+
+def run_at_once(words, given, streams):
+    """The status of a run whose standard input is a file."""
+    with tempfile.TemporaryFile() as file:
+        file.write(given)
+        file.seek(0)
+        return subprocess.run(words, stdin=file, timeout=SECONDS, **streams).returncode
+
+
+def run_by_line(words, given, streams):
+    """The status of a run whose standard input is a socket of packets: a read gives one, a line."""
+    ours, theirs = socket.socketpair(socket.AF_UNIX, socket.SOCK_SEQPACKET)
+    with ours, subprocess.Popen(words, stdin=theirs, **streams) as started:
+        theirs.close()
+        ours.settimeout(SECONDS)
+        try:
+            for line in lines_of(given):
+                ours.send(line)
+            ours.close()
+            return started.wait(SECONDS)
+        except (BrokenPipeError, ConnectionResetError):
+            return started.wait(SECONDS)  # It ended before the input did.
+        finally:
+            started.kill()
+
+
+def lines_of(text):
+    """The lines of a text, with their newlines."""
+    return re.findall(rb".*\n|.+", text)
+
+
+def paces_of(report):
+    """How its input is handed over."""
+    lines = lines_of(report.given)
+    if max(map(len, lines), default=0) > LONGEST:
+        raise Malformed(f"a line of input is longer than {LONGEST} bytes")
+    paces = [("at once", run_at_once), ("by line", run_by_line)]
+    return paces if len(lines) > 1 else paces[:1]
+
+
+def differences(report, words, run):
+    """In what a run differs from what is recorded."""
+    with tempfile.TemporaryFile() as output, tempfile.TemporaryFile() as errors:
+        try:
+            status = run(words, report.given, {"stdout": output, "stderr": errors})
+        except (subprocess.TimeoutExpired, TimeoutError):
+            yield f"no end after {SECONDS} seconds"
+            return
+        yield from first_difference("output", output, report.output)
+        yield from first_difference("error output", errors, report.errors)
+    if status != report.status:
+        yield f"status {status} and not {report.status}"
+
+
+def first_difference(which, file, wanted):
+    """The first line in which what a file holds differs from what has to come, if any does."""
+    file.seek(0)
+    pairs = itertools.zip_longest(lines_of(file.read()), lines_of(wanted), fillvalue=b"")
+    for number, (line, other) in enumerate(pairs, 1):
+        if line != other:
+            yield f"{which}, line {number}\n  gives   {shown(line)}\n  and not {shown(other)}"
+            return
+
+
+def shown(line):
+    """The text of a line's bytes, in quotes."""
+    return ascii(line.decode("latin-1"))
+
+
+def run_case(program, report):
+    """Runs a case on each of its files, and tells what differs."""
+    told = []
+    try:
+        for change, content in report.files():
+            with tempfile.NamedTemporaryFile(suffix=".pdb") as file:
+                file.write(content)
+                file.flush()
+                words = [program, *report.arguments(file.name)]
+                for pace, run in paces_of(report):
+                    label = f"{os.path.basename(program)}, {report.name}, {change}, {pace}"
+                    told += (f"{label}: {it}\n" for it in differences(report, words, run))
+    except Malformed as why:
+        raise Malformed(f"{report.name}: {why}") from why
+    return "".join(told)
+
+
+def chosen(words):
+    """The cases of the files that words name, or of that name; all of FILES without a word."""
+    cases = {it.name: it for file in FILES for it in reports_of(f"{DATA}/{file}")}
+    for word in words or FILES:
+        paths = [it for it in (f"{DATA}/{word}", word) if os.path.isfile(it)]
+        if word in cases:
+            yield cases[word]
+        elif paths:
+            yield from reports_of(paths[0])
+        else:
+            stop(f"{word}: neither a file of cases nor the name of one")
+
+
+def run_unproved(cases):
+    """Has `rt try` compile the program, and run it on each file of cases; gives its status."""
+    with tempfile.TemporaryDirectory() as folder:
+        os.mkdir(f"{folder}/cases")
+        data = []
+        for report in cases:
+            for change, content in report.files():
+                name = f"{report.name} {change}".replace(" ", "-")
+                arguments = "\n".join(report.arguments(f"{name}.pdb"))
+                write(f"{folder}/cases/{name}", report.given)
+                write(f"{folder}/cases/{name}.args", arguments.encode())
+                write(f"{folder}/cases/{name}.stdout", report.output)
+                write(f"{folder}/{name}.pdb", content)
+                data += ["--data", f"{name}.pdb={folder}/{name}.pdb"]
+        words = ["rt", "try", "--cases", f"{folder}/cases", *data]
+        return subprocess.run(words, cwd=f"{ROOT}/crates/pdb_symbolizer").returncode
+
+
+def write(path, content):
+    """Writes a file."""
+    with open(path, "wb") as file:
+        file.write(content)
+
+
+def built(program):
+    """The program of that name; without one, those that the compilers of `rt ci` built."""
+    program = os.path.abspath(program or BUILT)
+    if not os.path.isfile(program):
+        stop(f"{program} isn't there: rt ci builds it, or rt run in crates/pdb_symbolizer")
+    other = f"{BUILT}.by-rattle"
+    return [program, other] if program == BUILT and os.path.isfile(other) else [program]
+
+
+def run_built(programs, cases):
+    """Runs programs on cases, as many at a time as there are processors; gives the status."""
+    runs = list(itertools.product(programs, cases))
+    failed = 0
+    with concurrent.futures.ThreadPoolExecutor(os.cpu_count()) as lanes:
+        for told in lanes.map(run_case, *zip(*runs)):
+            print(told, end="")
+            failed += bool(told)
+    print(f"{len(runs) - failed} passed, {failed} failed")
+    return 1 if failed else 0
+
+
+def main():
+    parser = argparse.ArgumentParser(usage=__doc__.split("\n\n")[1].strip())
+    parser.add_argument("--built")
+    parser.add_argument("--unproved", action="store_true")
+    parser.add_argument("words", nargs="*")
+    given = parser.parse_args()
+    cases = list(chosen(given.words))
+    return run_unproved(cases) if given.unproved else run_built(built(given.built), cases)
+
+
+if __name__ == "__main__":
+    try:
+        sys.exit(main())
+    except Malformed as malformed:
+        stop(malformed)
