@@ -20,7 +20,7 @@ use Rattle.pdb_known_modules.specs.ProcedureData.{IsReadBy, IsOfProcedure, IsOfS
 use Rattle.pdb_known_modules.specs.ProcedureData.{AreOfStream, AreLent}
 use Rattle.pdb_known_modules.specs.SubsectionRows.{AreRowsOf, IsNumberAt}
 use Rattle.pdb_known_modules.proofs.KeptRows.{at_number}
-use Rattle.pdb_known_modules.proofs.KeptPlaces.{have_now, nothing_in, nothing_in_none}
+use Rattle.pdb_known_modules.proofs.KeptSlots.{have_now, nothing_in, nothing_in_none}
 
 -- what is cached in a place
 abbrev Kept : Type 0
@@ -60,13 +60,13 @@ kept_now stream places n info kept empty is =
     let lt = slice_get_within places n None empty in
     record { each = have_now (IsAt stream) places n info kept.each lt is }
 
--- empty places hold nothing
+-- empty slots hold nothing
 pub nothing_kept : (stream : ModuleStream) (count : ℕ) → AreOfStream stream (replicate count None)
 nothing_kept stream count = record { each = nothing_in (IsAt stream) count }
 
--- and so do no places
-pub no_places : (stream : ModuleStream) → AreOfStream stream []
-no_places stream = record { each = nothing_in_none (IsAt stream) }
+-- and so do no slots
+pub no_slots : (stream : ModuleStream) → AreOfStream stream []
+no_slots stream = record { each = nothing_in_none (IsAt stream) }
 
 -- what is cached of a procedure is the procedure's
 pub lent_of : (stream : ModuleStream) (places : List (Option Kept)) (k : ℕ) (info : Kept)

@@ -14,7 +14,7 @@ use Rattle.pdb_module_data.proofs.SubsectionRows.{same_rows}
 use Rattle.pdb_known_modules.specs.KnownModules.{ExtendedModule, extended_of}
 use Rattle.pdb_known_modules.specs.SubsectionRows.{AreRowsAt, AreRowsOf, AreRowsOfStream}
 use Rattle.pdb_known_modules.specs.SubsectionRows.{AreLentAt, IsNumberAt}
-use Rattle.pdb_known_modules.proofs.KeptPlaces.{have_now, nothing_in, nothing_in_none}
+use Rattle.pdb_known_modules.proofs.KeptSlots.{have_now, nothing_in, nothing_in_none}
 
 -- what is cached in a place
 abbrev Kept : Type 0
@@ -23,11 +23,11 @@ Kept = Box (List LineRow)
 abbrev AreAt : ModuleStream → ℕ → Kept → Type 0
 AreAt stream number rows = AreRowsOf stream number (box_value rows)
 
--- no places hold nothing
-pub no_places : (stream : ModuleStream) → AreRowsOfStream stream []
-no_places stream = record { each = nothing_in_none (AreAt stream) }
+-- no slots hold nothing
+pub no_slots : (stream : ModuleStream) → AreRowsOfStream stream []
+no_slots stream = record { each = nothing_in_none (AreAt stream) }
 
--- and so do empty places
+-- and so do empty slots
 pub nothing_kept : (stream : ModuleStream) (count : ℕ)
     → AreRowsOfStream stream (replicate count None)
 nothing_kept stream count = record { each = nothing_in (AreAt stream) count }

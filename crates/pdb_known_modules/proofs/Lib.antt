@@ -1,6 +1,6 @@
 mod Fills
 pub mod BoundSteps
-pub mod KeptPlaces
+pub mod KeptSlots
 pub mod KeptProcedures
 pub mod KeptRows
 pub mod KeptSteps

@@ -31,11 +31,11 @@ IsNumberAt stream start (Some number) = (extended : ExtendedModule)
     → extended_of stream ≡ Ok extended
     → subsection_numbered extended.program number ≡ subsections_for extended.program start
 
--- The rows that are cached in places are those of the subsections with the places' numbers.
+-- The rows that are cached in slots are those of the subsections with the slots' numbers.
 pub record AreRowsOfStream (stream : ModuleStream)
-    (places : List (Option (Box (List LineRow)))) : Type 0 where
+    (slots : List (Option (Box (List LineRow)))) : Type 0 where
   pub each : (number : ℕ) (rows : Box (List LineRow))
-      → slice_get places number ≡ Some (Some rows) → AreRowsOf stream number (box_value rows)
+      → slice_get slots number ≡ Some (Some rows) → AreRowsOf stream number (box_value rows)
 
 -- Rows that are lent for a place, if some are, are those of the function that begins there.
 abbrev pub AreLentAt :

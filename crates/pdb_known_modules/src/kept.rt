@@ -3,25 +3,26 @@
 ghost use Rattle.std.specs.Prelude.{◌≡◌, ℕ, IfOk, length, Option, option_copied, replicate, None};
 ghost use Rattle.std.specs.Prelude.{slice_get};
 ghost use Rattle.pdb_known_modules.specs.CachedModules.{AreKept, known_in};
-ghost use Rattle.pdb_known_modules.specs.CachedModules.{is_empty as is_empty_place};
+ghost use Rattle.pdb_known_modules.specs.CachedModules.{is_empty as is_empty_slot};
 ghost use Rattle.pdb_known_modules.specs.KnownModules.{ModuleData, module_data, own_of};
 
 use crate::meter::Meter;
 use crate::modules::{BasicModuleInfo, get_basic_module_info};
+use crate::slots::empty_slots;
 use pdb_addresses::PdbInternalSectionOffset;
 use pdb_resolving::{ModuleProvider, ModuleTables};
 use pdb_symbols_modules::Module;
 use std::alloc::{AllocError, Global};
 use std::marker::Model;
 
-/// A place for a module's data, which are cached there once they were read: `Some(None)` for a
+/// A slot for a module's data, which are cached there once they were read: `Some(None)` for a
 /// module without data.
 type KeptModule<'a, I> = Option<Option<BasicModuleInfo<'a, I>>>;
 
 /// What is cached of the modules that were asked for, each at its index, and how many bytes that
 /// takes.
 pub struct CachedModules<'a, I: ModuleTables> {
-    places: Vec<KeptModule<'a, I>>,
+    slots: Vec<KeptModule<'a, I>>,
     meter: Meter,
 }
 
@@ -31,29 +32,15 @@ impl<'a, I: ModuleTables> Model for CachedModules<'a, I> {
 
     ghost Value = { List (Option (Option ModuleData)) };
 
-    ghost view = { λ c. c.places.items };
+    ghost view = { λ c. c.slots.items };
 }
 
 impl<'a, I: ModuleTables> Drop for CachedModules<'a, I> {
     fn drop(self) {
-        let CachedModules { places, meter } = self;
-        drop(places);
+        let CachedModules { slots, meter } = self;
+        drop(slots);
         drop(meter);
     }
-}
-
-/// Empty places for so many modules.
-fn empty_places<'a, I: ModuleTables>(
-    alloc: Global,
-    count: usize,
-) -> Result<Vec<KeptModule<'a, I>>, AllocError>
-    ensures { IfOk result (λ v. v.items ≡ replicate count None) }
-{
-    let mut places = Vec::with_capacity(alloc, count)?;
-    for _ in 0..count {
-        places.push(None)?;
-    }
-    Ok(places)
 }
 
 /// Makes an empty cache for so many modules, of a database of at most so many bytes
@@ -68,27 +55,27 @@ pub fn nothing_cached<'a, I: ModuleTables>(
 ) -> Result<CachedModules<'a, I>, AllocError>
     ensures { IfOk result (λ cached. cached ≡ replicate count None) }
 {
-    let places = empty_places(alloc, count)?;
+    let slots = empty_slots(alloc, count)?;
     Ok(CachedModules {
-        places,
+        slots,
         meter: Meter::new(alloc, database_size),
     })
 }
 
-/// Empties all places.
-fn empty_all<'a, I: ModuleTables>(places: &mut [KeptModule<'a, I>])
-    ensures { places.new ≡ replicate (length places.old) None }
+/// Empties all slots.
+fn empty_all<'a, I: ModuleTables>(slots: &mut [KeptModule<'a, I>])
+    ensures { slots.new ≡ replicate (length slots.old) None }
 {
-    for place in 0..places.len() {
-        places[place] = None;
+    for slot in 0..slots.len() {
+        slots[slot] = None;
     }
 }
 
-/// Forgets what is cached: all places are as empty as before the first question.
+/// Forgets what is cached: all slots are as empty as before the first question.
 fn forget<'a, I: ModuleTables>(cached: &mut CachedModules<'a, I>)
     ensures { cached.new ≡ replicate (length cached.old) None }
 {
-    empty_all(&mut cached.places);
+    empty_all(&mut cached.slots);
     cached.meter.clear();
 }
 
@@ -102,9 +89,9 @@ fn forget_if_full<'a, I: ModuleTables>(cached: &mut CachedModules<'a, I>)
     }
 }
 
-/// Whether the place with that number is there and empty.
+/// Whether the slot with that number is there and empty.
 fn is_empty_at<'a, I: ModuleTables>(kept: &[KeptModule<'a, I>], number: usize) -> bool
-    ensures { result ≡ is_empty_place (slice_get kept.now number) }
+    ensures { result ≡ is_empty_slot (slice_get kept.now number) }
 {
     matches!(kept.get(number), Some(None))
 }
@@ -131,12 +118,12 @@ pub fn keep_module<'a, P: ModuleProvider>(
         ≡ module_data (own_of (P.provided provider.now) modules.now module_index)) }
 {
     forget_if_full(kept);
-    if !is_empty_at(&kept.places, module_index) {
+    if !is_empty_at(&kept.slots, module_index) {
         return Ok(());
     }
     let known = get_basic_module_info(alloc, provider, modules, module_index)?;
     kept.meter.count_module(&known, modules.get(module_index))?;
-    kept.places[module_index] = Some(known);
+    kept.slots[module_index] = Some(known);
     Ok(())
 }
 
@@ -166,8 +153,8 @@ pub fn keep_lines<'a, I: ModuleTables>(
 ) -> Result<(), AllocError>
     ensures { kept.new ≡ kept.old }
 {
-    if module_index < kept.places.len() {
-        let bytes = keep_lines_at(alloc, &mut kept.places[module_index])?;
+    if module_index < kept.slots.len() {
+        let bytes = keep_lines_at(alloc, &mut kept.slots[module_index])?;
         kept.meter.count(bytes);
     }
     Ok(())
@@ -201,8 +188,8 @@ pub fn keep_procedure<'a, I: ModuleTables>(
 ) -> Result<(), AllocError>
     ensures { kept.new ≡ kept.old }
 {
-    if module_index < kept.places.len() {
-        let bytes = keep_procedure_at(alloc, &mut kept.places[module_index], number)?;
+    if module_index < kept.slots.len() {
+        let bytes = keep_procedure_at(alloc, &mut kept.slots[module_index], number)?;
         kept.meter.count(bytes);
     }
     Ok(())
@@ -236,8 +223,8 @@ pub fn keep_public_rows<'a, I: ModuleTables>(
 ) -> Result<(), AllocError>
     ensures { kept.new ≡ kept.old }
 {
-    if module_index < kept.places.len() {
-        let bytes = keep_public_rows_at(alloc, &mut kept.places[module_index], start)?;
+    if module_index < kept.slots.len() {
+        let bytes = keep_public_rows_at(alloc, &mut kept.slots[module_index], start)?;
         kept.meter.count(bytes);
     }
     Ok(())
@@ -250,7 +237,7 @@ pub fn known_at<'m, 'a, I: ModuleTables>(
 ) -> Option<&'m BasicModuleInfo<'a, I>>
     ensures { option_copied result ≡ known_in kept.now module_index }
 {
-    match kept.places.get(module_index) {
+    match kept.slots.get(module_index) {
         Some(Some(known)) => known.as_ref(),
         _ => None,
     }

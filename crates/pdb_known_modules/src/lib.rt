@@ -9,8 +9,8 @@ mod bounds;
 mod kept;
 mod meter;
 mod modules;
-mod places;
 mod procedure_data;
+mod slots;
 mod subsection_rows;
 
 pub use bounds::{SortedBounds, contribution_bounds, procedure_bounds};

@@ -16,8 +16,8 @@ ghost use Rattle.pdb_known_modules.specs.KnownModules.{module_data, own_of, proc
 ghost use Rattle.pdb_known_modules.specs.KnownModules.{procedures_in as procedures_of_module};
 
 use crate::bounds::{SortedBounds, procedure_bounds};
-use crate::places::{empty_places, place_at};
 use crate::procedure_data::{KeptProcedure, LentProcedure, procedure_ranges};
+use crate::slots::{empty_slots, slot_at};
 use crate::subsection_rows::SubsectionRows;
 use pdb_addresses::PdbInternalSectionOffset;
 use pdb_container::{Error, Result};
@@ -44,10 +44,10 @@ pub struct BasicModuleInfo<'a, I: ModuleTables> {
     bounds: SortedBounds,
     /// Its line program and inlinees, once they were read.
     extended: Option<ExtendedModuleInfo<'a>>,
-    /// For each procedure a place, in which its data are cached once they were read; no place
-    /// before line program and inlinees are.
+    /// For each procedure a slot, in which its data are cached once they were read; no slot before
+    /// line program and inlinees are.
     kept_procedures: Vec<Option<Box<KeptProcedure<'a>>>>,
-    /// For each `DEBUG_S_LINES` a place, in which its rows are cached once they were read; no place
+    /// For each `DEBUG_S_LINES` a slot, in which its rows are cached once they were read; no slot
     /// before line program and inlinees are.
     subsection_rows: SubsectionRows,
     /// How many bytes its line data have.
@@ -70,7 +70,7 @@ impl<'a, I: ModuleTables> Model for BasicModuleInfo<'a, I> {
     ghost invariant = { λ m. AreProcedureBounds m.procedures m.bounds
         × AreExtended (I.held m.module_info.now) m.extended
         × AreOfStream (I.held m.module_info.now) m.kept_procedures.items
-        × AreRowsOfStream (I.held m.module_info.now) m.subsection_rows.places.items };
+        × AreRowsOfStream (I.held m.module_info.now) m.subsection_rows.slots.items };
 }
 
 impl<'a, I: ModuleTables> Drop for BasicModuleInfo<'a, I> {
@@ -95,7 +95,7 @@ impl<'a, I: ModuleTables> Drop for BasicModuleInfo<'a, I> {
 impl<'a, I: ModuleTables> BasicModuleInfo<'a, I> {
     /// The data of a module's stream, whose symbols are read to their end. The faults of
     /// [`ModuleTables::symbols`], `SymbolTooShort`, `UnexpectedEof`; `OutOfMemory`.
-    #[tactic(auto, using(crate::proofs::KeptProcedures::no_places), unfolding(crate::specs::KnownModules::data_of_stream))]
+    #[tactic(auto, using(crate::proofs::KeptProcedures::no_slots), unfolding(crate::specs::KnownModules::data_of_stream))]
     fn try_from_module_info(
         alloc: Global,
         module_info: &'a I,
@@ -150,8 +150,8 @@ impl<'a, I: ModuleTables> BasicModuleInfo<'a, I> {
                 let count = self.procedures.as_slice().len();
                 let bytes = extended_size(&extended, self.line_data_size, count);
                 let subsections = extended.line_program.subsection_count();
-                self.kept_procedures = empty_places(alloc, count)?;
-                self.subsection_rows = SubsectionRows::with_places(alloc, subsections)?;
+                self.kept_procedures = empty_slots(alloc, count)?;
+                self.subsection_rows = SubsectionRows::with_slots(alloc, subsections)?;
                 self.extended = Some(extended);
                 Ok(bytes)
             }
@@ -248,7 +248,7 @@ impl<'a, I: ModuleTables> BasicModuleInfo<'a, I> {
     fn kept_procedure(&self, number: usize, procedure: &Procedure<'_>) -> Option<&KeptProcedure<'a>>
         ensures { IsKeptOf (self.now).stream procedure.now result }
     {
-        match place_at(&self.kept_procedures, number) {
+        match slot_at(&self.kept_procedures, number) {
             Some(Some(data)) if data.is_of(procedure) => Some(data.as_ref()),
             _ => None,
         }
@@ -340,11 +340,11 @@ impl<'a, I: ModuleTables> BasicModuleInfo<'a, I> {
     }
 }
 
-/// Whether the place with that number is there and empty.
-fn is_empty_at(places: &[Option<Box<KeptProcedure<'_>>>], number: usize) -> bool
-    ensures { (result ≡ true) ↔ (slice_get places.now number ≡ Some None) }
+/// Whether the slot with that number is there and empty.
+fn is_empty_at(slots: &[Option<Box<KeptProcedure<'_>>>], number: usize) -> bool
+    ensures { (result ≡ true) ↔ (slice_get slots.now number ≡ Some None) }
 {
-    matches!(places.get(number), Some(None))
+    matches!(slots.get(number), Some(None))
 }
 
 /// The data of a module's stream; `None` where its symbols can't be read to their end.
@@ -397,14 +397,14 @@ pub struct ExtendedModuleInfo<'a> {
 }
 
 /// About how many bytes of memory line program and inlinees of a module take, at most, with the
-/// places for the data of so many procedures. A subsection of 20 bytes or more takes 32, and 8 for
-/// the place of its rows.
+/// slots for the data of so many procedures. A subsection of 20 bytes or more takes 32, and 8 for
+/// the slot of its rows.
 fn extended_size(extended: &ExtendedModuleInfo<'_>, line_data_size: u32, count: usize) -> u64 {
     let lines = u64::from(line_data_size) * 2;
-    let places = memory_of(count, size_of::<usize>());
+    let slots = memory_of(count, size_of::<usize>());
     lines
         .saturating_add(extended.inlinees.memory_size())
-        .saturating_add(places)
+        .saturating_add(slots)
 }
 
 /// The line program of a module, and then its inlinees, each to its end.

@@ -6,7 +6,7 @@ ghost use Rattle.std.specs.Box.{box_value};
 ghost use Rattle.pdb_symbols_modules.specs.ModuleStream.{ModuleStream};
 ghost use Rattle.pdb_known_modules.specs.SubsectionRows.{AreRowsOf, AreRowsOfStream};
 
-use crate::places::{empty_places, place_at};
+use crate::slots::{empty_slots, slot_at};
 use pdb_module_data::FunctionRows;
 use std::alloc::{AllocError, Global};
 
@@ -14,36 +14,36 @@ use std::alloc::{AllocError, Global};
 /// At 0 are those of functions without a subsection: none.
 #[derive(Drop)]
 pub struct SubsectionRows {
-    places: Vec<Option<Box<FunctionRows>>>,
+    slots: Vec<Option<Box<FunctionRows>>>,
 }
 
 impl SubsectionRows {
-    /// No rows, and no place for any.
-    #[tactic(auto, using(crate::proofs::KeptRows::no_places))]
+    /// No rows, and no slot for any.
+    #[tactic(auto, using(crate::proofs::KeptRows::no_slots))]
     pub fn new(alloc: Global) -> SubsectionRows
-        ensures { (stream : ModuleStream) → AreRowsOfStream stream result.places.items }
+        ensures { (stream : ModuleStream) → AreRowsOfStream stream result.slots.items }
     {
         SubsectionRows {
-            places: Vec::new(alloc),
+            slots: Vec::new(alloc),
         }
     }
 
-    /// Empty places for the rows of so many subsections.
+    /// Empty slots for the rows of so many subsections.
     #[tactic(auto, using(crate::proofs::KeptRows::nothing_kept))]
-    pub fn with_places(alloc: Global, count: usize) -> Result<SubsectionRows, AllocError>
+    pub fn with_slots(alloc: Global, count: usize) -> Result<SubsectionRows, AllocError>
         ensures { IfOk result (λ kept. (stream : ModuleStream)
-            → AreRowsOfStream stream kept.places.items) }
+            → AreRowsOfStream stream kept.slots.items) }
     {
-        let places = empty_places(alloc, count.saturating_add(1))?;
-        Ok(SubsectionRows { places })
+        let slots = empty_slots(alloc, count.saturating_add(1))?;
+        Ok(SubsectionRows { slots })
     }
 
     /// The rows of the subsection of that number, if they are cached.
     pub fn get(&self, number: usize) -> Option<&FunctionRows>
-        ensures { (stream : ModuleStream) → AreRowsOfStream stream (self.now).places.items
+        ensures { (stream : ModuleStream) → AreRowsOfStream stream (self.now).slots.items
             → IfSome result (λ rows. AreRowsOf stream number rows.now) }
     {
-        match place_at(&self.places, number) {
+        match slot_at(&self.slots, number) {
             Some(Some(rows)) => Some(rows.as_ref()),
             _ => None,
         }
@@ -53,11 +53,11 @@ impl SubsectionRows {
     #[tactic(auto, using(crate::proofs::KeptRows::kept_now))]
     pub fn keep(&mut self, number: usize, rows: Box<FunctionRows>)
         ensures { (stream : ModuleStream) → AreRowsOf stream number (box_value rows)
-            → AreRowsOfStream stream (self.old).places.items
-            → AreRowsOfStream stream (self.new).places.items }
+            → AreRowsOfStream stream (self.old).slots.items
+            → AreRowsOfStream stream (self.new).slots.items }
     {
-        if number < self.places.len() {
-            self.places[number] = Some(rows);
+        if number < self.slots.len() {
+            self.slots[number] = Some(rows);
         }
     }
 }

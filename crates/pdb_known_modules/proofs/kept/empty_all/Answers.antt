@@ -3,11 +3,11 @@ use Rattle.std.specs.Prelude.{slice_set}
 use Rattle.pdb_known_modules.proofs.Fills.{fill_more, fill_all}
 use Rattle.pdb_known_modules.proofs.kept.empty_all.Goals as goal
 
-pub loop-place-init : goal.loop-place-init
-loop-place-init g c = refl
+pub loop-slot-init : goal.loop-slot-init
+loop-slot-init g c = refl
 
-pub loop-place-preserved : goal.loop-place-preserved
-loop-place-preserved g c = ap (λ xs. slice_set xs c.loop-place.place None) c.loop-place.invariant ∙ fill_more c.loop-place.place None c.args.places.now c.loop-place-test.true
+pub loop-slot-preserved : goal.loop-slot-preserved
+loop-slot-preserved g c = ap (λ xs. slice_set xs c.loop-slot.slot None) c.loop-slot.invariant ∙ fill_more c.loop-slot.slot None c.args.slots.now c.loop-slot-test.true
 
 pub returns : goal.returns
-returns g c = c.loop-place.invariant ∙ fill_all c.loop-place.place None c.args.places.now c.loop-place.auto.place-end c.loop-place-test.false
+returns g c = c.loop-slot.invariant ∙ fill_all c.loop-slot.slot None c.args.slots.now c.loop-slot.auto.slot-end c.loop-slot-test.false

@@ -2,5 +2,5 @@ use Rattle.std.proofs.Common.{◌≡◌, None, ◌++◌, drop}
 use Rattle.std.specs.Prelude.{replicate}
 use Rattle.pdb_known_modules.proofs.kept.empty_all.Given as goal
 
-abbrev pub invariant-loop-place : goal.invariant-loop-place
-invariant-loop-place g l = l.places ≡ replicate l.place None ++ drop l.place l.fn.places
+abbrev pub invariant-loop-slot : goal.invariant-loop-slot
+invariant-loop-slot g l = l.slots ≡ replicate l.slot None ++ drop l.slot l.fn.slots

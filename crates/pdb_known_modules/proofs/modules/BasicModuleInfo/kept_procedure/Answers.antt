@@ -11,7 +11,7 @@ returns-in-Some-Some g c =
     let stream = c.args.self.now.stream in
     let q = c.args.procedure.now in
     let at : slice_get kept c.args.number ≡ Some (Some c.in-Some-Some.data) =
-    sym c.place_at.ensures ∙ ap (option_map (λ p. p.now)) c.in-Some-Some.is
+    sym c.slot_at.ensures ∙ ap (option_map (λ p. p.now)) c.in-Some-Some.is
     ∙ ap Some c.in-Some-Some.field-0-is in
     let has = subst (IsReadBy q) c.deref.ensures (c.is_of.ensures.0 c.if-is_of.true) in
     let same = ap (λ (m : ModuleData). m.stream) c.self.view_is in

@@ -8,7 +8,7 @@ pub returns : goal.returns
 returns g c =
     let stream = c.args.self.now.stream in
     let same = ap (λ (m : ModuleData). m.stream) c.self.view_is in
-    let places = c.self.inside.subsection_rows.places.items in
+    let places = c.self.inside.subsection_rows.slots.items in
     let held = subst (λ s. AreRowsOfStream s places) same c.self.invariant.3 in
     let number = c.in_ok-number.number in
     lent_at stream c.args.start number c.get.result c.in_ok-number.ensures

@@ -5,11 +5,11 @@ use Rattle.pdb_known_modules.proofs.subsection_rows.SubsectionRows.get.Goals as 
 
 pub returns-in-Some-Some : goal.returns-in-Some-Some
 returns-in-Some-Some c =
-    let places = c.args.self.now.places.items in
+    let places = c.args.self.now.slots.items in
     let number = c.args.number in
     let rows = c.in-Some-Some.rows in
     let at : slice_get places number ≡ Some (Some rows) =
-    sym c.place_at.ensures ∙ ap (option_map (λ p. p.now)) c.in-Some-Some.is
+    sym c.slot_at.ensures ∙ ap (option_map (λ p. p.now)) c.in-Some-Some.is
     ∙ ap Some c.in-Some-Some.field-0-is in
     λ stream kept. subst (AreRowsOf stream number) (sym c.as_ref.ensures)
     (kept.each number rows at)

@@ -1,6 +1,6 @@
 use Rattle.std.proofs.Common.{[], ◌∷◌, ◌++◌, ◌∙◌, None, ap}
 use Rattle.std.proofs.lemmas.List.{replicate-append-replicate}
-use Rattle.pdb_known_modules.proofs.places.empty_places.Goals as goal
+use Rattle.pdb_known_modules.proofs.slots.empty_slots.Goals as goal
 
 pub loop-preserved : goal.loop-preserved
 loop-preserved g c =

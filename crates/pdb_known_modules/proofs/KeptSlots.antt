@@ -1,4 +1,4 @@
--- Places in which something may be cached.
+-- Slots in which something may be cached.
 use Rattle.std.proofs.Common.{◌≡◌, ◌≢◌, ℕ, ◌<◌, List, [], replicate, length, None, Some, sym, ap}
 use Rattle.std.proofs.Common.{◌∙◌, inl, inr, arith}
 use Rattle.std.specs.Prelude.{Option, slice_get, slice_set}
@@ -8,7 +8,7 @@ use Rattle.std.proofs.lemmas.List.{length-set, length-replicate, get_or-set_same
 use Rattle.std.proofs.lemmas.List.{get_or-set_other, get_or-replicate}
 use Rattle.std.proofs.lemmas.Option.{slice_get_past, slice_get-get_or}
 
--- what is cached in a place has a property that its number may decide
+-- what is cached in a slot has a property that its number may decide
 abbrev pub Have : {X : Type 0} → (ℕ → X → Type 0) → List (Option X) → Type 0
 Have P places = (k : ℕ) (x : _) → slice_get places k ≡ Some (Some x) → P k x
 

@@ -1,6 +1,6 @@
 use Rattle.std.proofs.Common.{◌≡◌, None}
 use Rattle.std.specs.Prelude.{replicate}
-use Rattle.pdb_known_modules.proofs.kept.empty_places.Given as goal
+use Rattle.pdb_known_modules.proofs.slots.empty_slots.Given as goal
 
 abbrev pub invariant-loop : goal.invariant-loop
-invariant-loop g l = l.places.items ≡ replicate l.counter None
+invariant-loop g l = l.slots.items ≡ replicate l.counter None
