@@ -1,6 +1,5 @@
 //! Fields of CodeView records: indices, names, and values one after another.
 
-ghost use Rattle.std.specs.Prelude.{◌≡◌};
 ghost use Rattle.pdb_container.specs.Buffer.{rest, ParsesFront};
 ghost use Rattle.pdb_container.specs.RawString.{raw_bytes};
 ghost use Rattle.pdb_indices.specs.RecordFields.{GivesFront, type_index_at, id_index_at};
