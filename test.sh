@@ -1,7 +1,7 @@
 #!/usr/bin/env bash
 # Runs all tests: `rt ci` (every proof, must-fail edit, test and program), says how long it took,
-# then runs the scripts below. What each of them checks stands at its head, and in docs/RELEASING.md.
-# It fails where one fails; the last line counts all.
+# then runs the scripts below. What each of them checks stands at its head, and in
+# docs/RELEASING.md. It fails where one fails; the last line counts all.
 set -u
 cd "$(dirname "$0")"
 log=$(mktemp)

@@ -45,7 +45,7 @@ TEXT = r"(?:[ -\[\]-~]|\\r|\\x[0-9A-Fa-f]{2})*"
 LINE = re.compile(
     rf"case \S+ \S+|(?:sizes|by-file) \S+ \S+|status [0-9]+|bytes {NUMBER} {BYTES}"
     rf"|prefixes {NUMBER} {NUMBER}|numbers {NUMBER} {NUMBER} {NUMBER}"
-    rf"|[<>!](?:-|[0-9]*)(?: {TEXT})?"
+    rf"|[<>!](?:-|[1-9][0-9]*)?(?: {TEXT})?"
 )
 # The text of a database.
 DATABASE = re.compile(f"length [0-9]+\n(?:{NUMBER} {BYTES}\n)*")

@@ -8,15 +8,16 @@ input of several lines is handed over twice, each time to a run of its own: at o
 file, whose lines are answered in the order of their addresses; and by line, where each read gives
 one line, which is answered after those before it.
 
-FILE is a file of cases, in crates/recorded_cases/data or elsewhere; their databases lie in that
-folder. NAME is that of a case in one of the files below; without a word all of these are run.
+FILE is a file of cases, in crates/recorded_cases/data or elsewhere; the databases lie in that
+folder of data. NAME is that of a case in one of the files below; without a word all of these are run.
 PROGRAM is the built program; if left out, the proved one, as each compiler of `rt ci` built it. A
 run that differs is printed by the name of its case, what differs in the file, and how the input was
 handed over, with the first line that differs. The last line is `N passed, M failed`, in cases of a
 program.
 
-With --unproved `rt try` compiles the program without proof, and runs it on each file of a few
-cases, input at once. It compares the output and prints the status; its last line counts the runs.
+With --unproved `rt try` compiles the program without proof, and runs it on each file of the few
+cases that words name, input at once. It compares the output, which may have 1 MiB, and prints the
+status; its last line counts the runs.
 """
 import argparse
 import concurrent.futures
@@ -83,10 +84,11 @@ def lines_of(text):
 def paces_of(report):
     """How its input is handed over."""
     lines = lines_of(report.given)
-    if max(map(len, lines), default=0) > LONGEST:
+    if len(lines) < 2:
+        return [("at once", run_at_once)]
+    if max(map(len, lines)) > LONGEST:
         raise Malformed(f"a line of input is longer than {LONGEST} bytes")
-    paces = [("at once", run_at_once), ("by line", run_by_line)]
-    return paces if len(lines) > 1 else paces[:1]
+    return [("at once", run_at_once), ("by line", run_by_line)]
 
 
 def differences(report, words, run):
@@ -94,7 +96,7 @@ def differences(report, words, run):
     with tempfile.TemporaryFile() as output, tempfile.TemporaryFile() as errors:
         try:
             status = run(words, report.given, {"stdout": output, "stderr": errors})
-        except (subprocess.TimeoutExpired, TimeoutError):
+        except (subprocess.TimeoutExpired, TimeoutError, socket.timeout):
             yield f"no end after {SECONDS} seconds"
             return
         yield from first_difference("output", output, report.output)
@@ -119,8 +121,8 @@ def shown(line):
 
 
 def run_case(program, report):
-    """Runs a case on each of its files, and tells what differs."""
-    told = []
+    """Runs a case on each of its files, and returns what differs."""
+    wrong = []
     try:
         for change, content in report.files():
             with tempfile.NamedTemporaryFile(suffix=".pdb") as file:
@@ -129,15 +131,18 @@ def run_case(program, report):
                 words = [program, *report.arguments(file.name)]
                 for pace, run in paces_of(report):
                     label = f"{os.path.basename(program)}, {report.name}, {change}, {pace}"
-                    told += (f"{label}: {it}\n" for it in differences(report, words, run))
+                    wrong += (f"{label}: {it}\n" for it in differences(report, words, run))
     except Malformed as why:
         raise Malformed(f"{report.name}: {why}") from why
-    return "".join(told)
+    return "".join(wrong)
 
 
 def chosen(words):
     """The cases of the files that words name, or of that name; all of FILES without a word."""
-    cases = {it.name: it for file in FILES for it in reports_of(f"{DATA}/{file}")}
+    reports = [it for file in FILES for it in reports_of(f"{DATA}/{file}")]
+    cases = {it.name: it for it in reports}
+    if len(cases) < len(reports):
+        stop("two cases have one name")
     for word in words or FILES:
         paths = [it for it in (f"{DATA}/{word}", word) if os.path.isfile(it)]
         if word in cases:
@@ -154,8 +159,8 @@ def run_unproved(cases):
         os.mkdir(f"{folder}/cases")
         data = []
         for report in cases:
-            for change, content in report.files():
-                name = f"{report.name} {change}".replace(" ", "-")
+            for number, (change, content) in enumerate(report.files(), 1):
+                name = f"{report.name} {number} {change}".replace(" ", "-")
                 arguments = "\n".join(report.arguments(f"{name}.pdb"))
                 write(f"{folder}/cases/{name}", report.given)
                 write(f"{folder}/cases/{name}.args", arguments.encode())
@@ -175,30 +180,36 @@ def write(path, content):
 def built(program):
     """The program of that name; without one, those that the compilers of `rt ci` built."""
     program = os.path.abspath(program or BUILT)
-    if not os.path.isfile(program):
+    if not os.access(program, os.X_OK):
         stop(f"{program} isn't there: rt ci builds it, or rt run in crates/pdb_symbolizer")
     other = f"{BUILT}.by-rattle"
-    return [program, other] if program == BUILT and os.path.isfile(other) else [program]
+    if program != BUILT or not os.access(other, os.X_OK):
+        return [program]
+    return [it for it in (program, other) if os.path.getmtime(it) >= os.path.getmtime(program)]
 
 
 def run_built(programs, cases):
     """Runs programs on cases, as many at a time as there are processors; gives the status."""
     runs = list(itertools.product(programs, cases))
     failed = 0
+    print("running", *(os.path.basename(it) for it in programs))
     with concurrent.futures.ThreadPoolExecutor(os.cpu_count()) as lanes:
-        for told in lanes.map(run_case, *zip(*runs)):
-            print(told, end="")
-            failed += bool(told)
+        for wrong in lanes.map(run_case, *zip(*runs)):
+            print(wrong, end="")
+            failed += bool(wrong)
     print(f"{len(runs) - failed} passed, {failed} failed")
     return 1 if failed else 0
 
 
 def main():
     parser = argparse.ArgumentParser(usage=__doc__.split("\n\n")[1].strip())
-    parser.add_argument("--built")
-    parser.add_argument("--unproved", action="store_true")
+    kinds = parser.add_mutually_exclusive_group()
+    kinds.add_argument("--built")
+    kinds.add_argument("--unproved", action="store_true")
     parser.add_argument("words", nargs="*")
     given = parser.parse_args()
+    if given.unproved and not given.words:
+        stop("--unproved wants the names of cases, or files of few cases")
     cases = list(chosen(given.words))
     return run_unproved(cases) if given.unproved else run_built(built(given.built), cases)
 

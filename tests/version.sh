@@ -1,6 +1,6 @@
 #!/usr/bin/env bash
-# Checks that CHANGELOG.md's newest heading, and the version that each program prints, are the version
-# in VERSION, and that no other document names it.
+# Checks that CHANGELOG.md's newest heading, and the version that each program prints, are the
+# version in VERSION, and that no other document names it.
 set -eu
 cd "$(dirname "$0")/.."
 version=$(cat VERSION)

@@ -348,7 +348,7 @@ def main(words):
                 print("".join(f"{line}\n" for line in wrong), end="")
     for name, number in sorted(where.items()):
         print(f"{number:6} refused, of {name}")
-    print(f"{where.total()} requests refused")
+    print(f"{sum(where.values())} requests refused")
     print(f"{len(cases) - failed} passed, {failed} failed")
     return 1 if failed else 0
 

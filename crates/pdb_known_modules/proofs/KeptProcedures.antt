@@ -22,7 +22,7 @@ use Rattle.pdb_known_modules.specs.SubsectionRows.{AreRowsOf, IsNumberAt}
 use Rattle.pdb_known_modules.proofs.KeptRows.{at_number}
 use Rattle.pdb_known_modules.proofs.KeptSlots.{have_now, nothing_in, nothing_in_none}
 
--- what is cached in a place
+-- what is cached in a slot
 abbrev Kept : Type 0
 Kept = Box KeptProcedure
 

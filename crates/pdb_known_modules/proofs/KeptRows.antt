@@ -16,7 +16,7 @@ use Rattle.pdb_known_modules.specs.SubsectionRows.{AreRowsAt, AreRowsOf, AreRows
 use Rattle.pdb_known_modules.specs.SubsectionRows.{AreLentAt, IsNumberAt}
 use Rattle.pdb_known_modules.proofs.KeptSlots.{have_now, nothing_in, nothing_in_none}
 
--- what is cached in a place
+-- what is cached in a slot
 abbrev Kept : Type 0
 Kept = Box (List LineRow)
 

@@ -59,10 +59,10 @@ nothing_at {X} count k x e =
       | inr le ↦ (let past = slice_get_past places k (omega (arith, many)) in cc)
     ]
 
--- empty places have nothing
+-- empty slots have nothing
 pub nothing_in : {X : Type 0} (P : ℕ → X → Type 0) (count : ℕ) → Have P (replicate count None)
 nothing_in P count k x e = absurd (nothing_at count k x e)
 
--- and so have no places
+-- and so have no slots
 pub nothing_in_none : {X : Type 0} (P : ℕ → X → Type 0) → Have P []
 nothing_in_none P k x e = cc
