@@ -11,7 +11,7 @@ mod module_infos;
 mod tables;
 
 pub use file_read::read_file;
-pub use held_database::{HeldDatabase, read_after_tables, read_database};
+pub use held_database::{HeldDatabase, read_database};
 pub use load_fault::{LoadFault, plain_name};
 pub use loading::{FileDatabase, LoadedFile, load_file};
 pub use module_infos::{KeptModules, collect_modules};
