@@ -9,11 +9,11 @@ file, whose lines are answered in the order of their addresses; and by line, whe
 one line, which is answered after those before it.
 
 FILE is a file of cases, in crates/recorded_cases/data or elsewhere; the databases lie in that
-folder of data. NAME is that of a case in one of the files below; without a word all of these are run.
-PROGRAM is the built program; if left out, the proved one, as each compiler of `rt ci` built it. A
-run that differs is printed by the name of its case, what differs in the file, and how the input was
-handed over, with the first line that differs. The last line is `N passed, M failed`, in cases of a
-program.
+folder of data. NAME is that of a case in one of the files below; without a word all of these are
+run. PROGRAM is the built program; if left out, the proved one, as each compiler of `rt ci` built
+it. A run that differs is printed by the name of its case, what differs in the file, and how the
+input was handed over, with the first line that differs. The last line is `N passed, M failed`, in
+cases of a program.
 
 With --unproved `rt try` compiles the program without proof, and runs it on each file of the few
 cases that words name, input at once. It compares the output, which may have 1 MiB, and prints the
