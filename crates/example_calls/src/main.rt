@@ -9,8 +9,7 @@
 #![tactic(auto)]
 
 use anyhow::{Context as _, Result, bail};
-use bytes::Bytes;
-use pdb_addr2line::pdb::{BoundedBytes, PDB, TypeIndex};
+use pdb_addr2line::pdb::{BoundedBytes, PDB, SharedBytes, TypeIndex};
 use pdb_addr2line::{
     Context, ContextPdbData, Frame, FrameRow, Function, ModuleProvider, TypeFormatter,
     TypeFormatterFlags,
@@ -140,7 +139,7 @@ fn tell_function(rt: &impl Print, function: &Function) -> Result<()> {
 
 /// Prints what formatters say of types.
 fn tell_types(rt: &(impl Files + Print + AllocGlobal), file: &str) -> Result<()> {
-    let bytes = Bytes::from_vec(fs::read(rt, file)?)?;
+    let bytes = SharedBytes::new(fs::read(rt, file)?)?;
     let pdb = PDB::open(rt.alloc(), BoundedBytes::new(bytes))?;
     let held: Held = ContextPdbData::try_from_pdb(rt.alloc(), pdb)?;
     tell_held(rt, &held)

@@ -1,1 +1,3 @@
+pub mod FunctionSteps
 pub mod Refusals
+pub mod StartSteps

@@ -5,10 +5,10 @@ use Rattle.pdb_loading.specs.ModuleInfos.{KeptInfo}
 use Rattle.pdb_symbols_modules.specs.Machine.{machine_of}
 use Rattle.pdb_symbols_modules.specs.Modules.{modules_of}
 use Rattle.pdb_module_items.specs.Reading.{Reading, pointer_bytes}
-use Rattle.pdb_context.specs.Printing.{Formatting}
+use Rattle.pdb_addr2line.specs.Printing.{Formatting}
 use Rattle.pdb_resolving.specs.Fault.{Fault}
 use Rattle.pdb_resolving.specs.Resolving.{none_failed}
-use Rattle.pdb_context.specs.Context.{Context, context_over}
+use Rattle.pdb_addr2line.specs.Context.{Context, context_over}
 
 -- what types and ids are read from: what is held gives the modules, by the entries in stream 3
 abbrev pub reading_of : Held → Reading (List KeptInfo)

@@ -1,11 +1,12 @@
 //! What is held of a program database, and the formatters of types and contexts that are made of
-//! it.
+//! it. Of a context, what was read of a module or a procedure, the names of functions and where
+//! functions begin are cached; what was asked before shows in no answer.
 //!
 //! A database is read once ([`ContextPdbData`]); contexts and formatters are made of what is held
 //! then:
 //!
 //! ```text
-//! let pdb = PDB::open(alloc, BoundedBytes::new(bytes))?;
+//! let pdb = PDB::open(alloc, BoundedBytes::new(SharedBytes::new(bytes)?))?;
 //! let held = ContextPdbData::try_from_pdb(alloc, pdb)?;
 //! if held.address_map().is_ordered() {
 //!     let mut context = held.make_context(alloc)?;
@@ -38,15 +39,20 @@
 //! | read the database itself | [`pdb`] |
 #![tactic(auto)]
 
+mod context;
+mod file_runs;
+mod function_starts;
+mod functions;
 pub mod pdb;
 mod pdb_data;
 
-pub use pdb_context::{
-    Context, FileAnswer, Frame, FrameRow, Function, FunctionFrames, FunctionIter,
-    ModuleSectionContribution, SharedFrame, SharedFunctionFrames, TextWriter, TypeFormatter,
-    maybe_owned,
-};
+pub use context::Context;
+pub use functions::FunctionIter;
+pub use pdb_answers::{ModuleSectionContribution, TextWriter, TypeFormatter, maybe_owned};
 pub use pdb_data::ContextPdbData;
+pub use pdb_functions::{
+    FileAnswer, Frame, FrameRow, Function, FunctionFrames, SharedFrame, SharedFunctionFrames,
+};
 pub use pdb_loading::{KeptModules, Tables, read_tables};
 pub use pdb_resolving::{Error, ModuleProvider, Result};
 pub use pdb_text_pieces::{Flags, TypeFormatterFlags};

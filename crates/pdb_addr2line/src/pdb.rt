@@ -65,6 +65,7 @@ pub use pdb_container_types::Rva;
 pub use pdb_container_types::RvaRangeIter;
 pub use pdb_container_types::SectionCharacteristics;
 pub use pdb_container_types::SectionOffset;
+pub use pdb_container_types::SharedBytes;
 pub use pdb_container_types::Source;
 pub use pdb_container_types::SourceSlice;
 pub use pdb_container_types::StaticMemberType;

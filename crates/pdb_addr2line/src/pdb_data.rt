@@ -11,10 +11,11 @@ ghost use Rattle.pdb_addr2line.specs.Refused.{CanFail, Loads};
 ghost use Rattle.pdb_symbols_modules.specs.Shared.{shared};
 ghost use Rattle.pdb_symbols_modules.specs.Streams.{streams};
 
+use crate::context::Context;
 use pdb_addresses::AddressMap;
+use pdb_answers::TypeFormatter;
+use pdb_answers::maybe_owned::MaybeOwned;
 use pdb_container::{Result, Source};
-use pdb_context::maybe_owned::MaybeOwned;
-use pdb_context::{Context, TypeFormatter};
 use pdb_loading::{HeldDatabase, KeptModules, collect_modules, read_database};
 use pdb_resolving::{Error, ModuleProvider};
 use pdb_symbols_modules::{Module, ModuleInfo, PDB};

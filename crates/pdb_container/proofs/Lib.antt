@@ -12,6 +12,7 @@ pub mod Outside
 pub mod PageSize
 pub mod PagedNumbers
 pub mod Paging
+pub mod SharedParts
 pub mod Slices
 pub mod Starts
 pub mod Tails

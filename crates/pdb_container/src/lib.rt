@@ -17,6 +17,7 @@ mod numbers;
 mod page_list;
 mod paged_numbers;
 mod raw_string;
+mod shared_bytes;
 mod source;
 mod string_table;
 
@@ -30,5 +31,6 @@ pub use msf::{BigMSF, Msf, Stream, open_msf};
 pub use numbers::{half_at, nul_in, padding_behind, word_at};
 pub use page_list::PageList;
 pub use raw_string::RawString;
+pub use shared_bytes::SharedBytes;
 pub use source::{ReadView, Source, SourceSlice};
 pub use string_table::{StringRef, StringTable};

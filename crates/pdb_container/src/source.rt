@@ -8,7 +8,7 @@ ghost use Rattle.pdb_container.specs.Places.{slice_places, places_of, bytes_at};
 ghost use Rattle.pdb_container.specs.declared.error.Error.TheVariants.{OutOfMemory};
 
 use crate::error::Error;
-use bytes::Bytes;
+use crate::shared_bytes::SharedBytes;
 use std::alloc::{AllocError, Global};
 use std::io;
 use std::io::ErrorKind;
@@ -26,7 +26,7 @@ pub struct SourceSlice {
 /// A view of a source: the bytes that it returned, which may be shared with others.
 #[derive(Debug, Drop)]
 pub struct ReadView {
-    bytes: Bytes,
+    bytes: SharedBytes,
 }
 
 impl Model for ReadView {
@@ -43,12 +43,12 @@ impl ReadView {
     pub fn new(bytes: Vec<u8>) -> Result<ReadView, AllocError>
         ensures { IfOk result (λ v. v ≡ bytes.items) }
     {
-        let bytes = Bytes::from_vec(bytes)?;
+        let bytes = SharedBytes::new(bytes)?;
         Ok(ReadView { bytes })
     }
 
     /// A view of bytes that others may have too: none is copied.
-    pub fn shared(bytes: Bytes) -> ReadView
+    pub fn shared(bytes: SharedBytes) -> ReadView
         ensures { result ≡ bytes }
     {
         ReadView { bytes }
@@ -132,7 +132,7 @@ impl Source for Vec<u8> {
 }
 
 /// Bytes that are shared: a view of one slice shares them, and any other has a copy.
-impl Source for Bytes {
+impl Source for SharedBytes {
     ghost bytes = { λ b. b };
 
     ghost failures = { λ _. 0 };
@@ -149,7 +149,7 @@ impl Source for Bytes {
     }
 
     fn size_hint(&self) -> u64 {
-        self.len() as u64
+        self.as_slice().len() as u64
     }
 }
 
@@ -167,7 +167,7 @@ fn only_slice(slices: &[SourceSlice]) -> Option<SourceSlice>
 
 /// The bytes of a slice of shared bytes, which are shared.
 #[tactic(auto, using(crate::proofs::Bytes::bytes_at_none, crate::proofs::Bytes::bytes_at_range, crate::proofs::Bytes::ok_fits, crate::proofs::Bytes::not_ok_ends))]
-fn share_slice(file: &Bytes, slice: SourceSlice) -> io::Result<ReadView>
+fn share_slice(file: &SharedBytes, slice: SourceSlice) -> io::Result<ReadView>
     ensures ok { IfOk result (λ v. bytes_at file.now (slice_places slice) ≡ Ok v) }
     ensures err { IfErr result
         (λ e. (error_of e ≡ OutOfMemory)
@@ -177,10 +177,10 @@ fn share_slice(file: &Bytes, slice: SourceSlice) -> io::Result<ReadView>
         return Err(ErrorKind::UnexpectedEof.into());
     }
     if slice.size == 0 {
-        return Ok(ReadView::shared(Bytes::new()));
+        return Ok(ReadView::shared(file.part(0, 0)?));
     }
     let start = slice.offset as usize;
-    let part = file.slice(start..start + slice.size)?;
+    let part = file.part(start, slice.size)?;
     Ok(ReadView::shared(part))
 }
 

@@ -9,8 +9,8 @@ pub use pdb_addresses::{
 };
 pub use pdb_container::{
     BigMSF, BoundedBytes, Error, FallibleIterator, FromBuffer, ModuleFault, Msf, PageList,
-    ParseBuffer, RawString, ReadView, Result, Source, SourceSlice, Stream, StringRef, StringTable,
-    laws as container_laws, open_msf,
+    ParseBuffer, RawString, ReadView, Result, SharedBytes, Source, SourceSlice, Stream, StringRef,
+    StringTable, laws as container_laws, open_msf,
 };
 pub use pdb_indices::{
     FileIndex, IdIndex, ItemIndex, Local, SymbolIndex, TypeIndex, Variant, laws as index_laws,

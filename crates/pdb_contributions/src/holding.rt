@@ -1,7 +1,8 @@
 //! What modules hold of sections: contributions that count, merged, in order, and apart.
 
-ghost use Rattle.std.specs.Prelude.{◌≡◌, List, ◌∷◌, MatchResult};
+ghost use Rattle.std.specs.Prelude.{◌≡◌, ◌≢◌, List, ◌∷◌, IfErr, MatchResult};
 ghost use Rattle.pdb_resolving.specs.Fault.{Answers, Fails};
+ghost use Rattle.pdb_resolving.specs.declared.error.Error.TheVariants as errors;
 ghost use Rattle.pdb_contributions.specs.MergedContributions.{all_before, merged_from, merged_by};
 ghost use Rattle.pdb_contributions.specs.MergedContributions.{held_of, apart};
 
@@ -97,7 +98,8 @@ fn merge_entries(
 
 /// Refuses the first contribution that begins before the end of the one before it in its section.
 fn check_apart(contributions: &[ModuleSectionContribution]) -> Result<()>
-    ensures { Answers (λ u. u) result (apart contributions.now) }
+    ensures apart { Answers (λ u. u) result (apart contributions.now) }
+    ensures memory { IfErr result (λ e. e ≢ errors.OutOfMemory) }
 {
     let mut before: Option<ModuleSectionContribution> = None;
     for next in contributions {

@@ -2,10 +2,9 @@
 
 use crate::open_error::{OpenError, reason};
 use bumpalo::Bump;
-use bytes::Bytes;
 use pdb_addr2line::ContextPdbData;
 use pdb_addr2line::pdb::PDB;
-use pdb_container::BoundedBytes;
+use pdb_container::{BoundedBytes, SharedBytes};
 use pdb_image::{Image, PdbIdentity};
 use pdb_loading::read_file;
 use std::alloc::{AllocError, Global};
@@ -85,7 +84,7 @@ fn load<'a>(
     bytes: Vec<u8>,
     identity: Option<PdbIdentity>,
 ) -> Result<&'a Held, OpenError> {
-    let file = Bytes::from_vec(bytes)?;
+    let file = SharedBytes::new(bytes)?;
     let mut pdb = PDB::open(alloc, BoundedBytes::new(file))?;
     if let Some(wanted) = identity {
         check_build(alloc, &mut pdb, wanted)?;

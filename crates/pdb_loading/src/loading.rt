@@ -11,8 +11,7 @@ ghost use Rattle.pdb_symbols_modules.specs.Streams.{streams};
 use crate::held_database::{HeldDatabase, read_after_tables};
 use crate::load_fault::LoadFault;
 use crate::tables::{Tables, read_tables};
-use bytes::Bytes;
-use pdb_container::BoundedBytes;
+use pdb_container::{BoundedBytes, SharedBytes};
 use pdb_symbols_modules::{DebugInformation, PDB};
 use std::alloc::Global;
 use std::marker::Model;
@@ -112,7 +111,7 @@ fn load(alloc: Global, mut pdb: FileDatabase) -> Result<LoadedFile, LoadFault>
 /// the stream of symbol records, types and ids with their headers; the address tables;
 /// `AddressTableDecreases` where the sources of an OMAP decrease; the module list; the symbol
 /// records to their end; the section contributions. `OutOfMemory`.
-pub fn load_file(alloc: Global, file: Bytes) -> Result<LoadedFile, LoadFault>
+pub fn load_file(alloc: Global, file: SharedBytes) -> Result<LoadedFile, LoadFault>
     ensures ok { IfOk result (λ f. f ≡ file) }
     ensures loaded { OnOk result (load_fault (streams file) ≡ None) }
     ensures refused { IfErr result (λ e. Refuses e (load_fault (streams file))) }

@@ -9,10 +9,9 @@ ghost use Rattle.pdb_loading.specs.Loading.{load_fault};
 ghost use Rattle.pdb_report.specs.Answer.{AnswersAs, answered_in, address_map as address_map_of};
 ghost use Rattle.pdb_symbols_modules.specs.Streams.{streams};
 
-use bytes::Bytes;
 use pdb_addr2line::{Context, ContextPdbData, KeptModules};
 use pdb_addresses::AddressMap;
-use pdb_container::BoundedBytes;
+use pdb_container::{BoundedBytes, SharedBytes};
 use pdb_loading::{FileDatabase, LoadFault, LoadedFile, load_file};
 use std::alloc::Global;
 use std::marker::Model;
@@ -58,7 +57,7 @@ impl Symbolizer {
     /// Loads the program database of a file's bytes: everything that keeps the file from being
     /// answered is found here, and everything that answers need is read. A module's own stream
     /// keeps no file from being loaded. No stream is copied that lies in the file in one piece, and
-    /// copies take no more than 64 MB and seven times the file's bytes.
+    /// copies take no more than 1 MB and seven times the file's bytes.
     ///
     /// # Errors
     /// The first fault, in the order in which a file is read: the container; stream 3 and its
@@ -70,7 +69,7 @@ impl Symbolizer {
         ensures loaded { OnOk result (load_fault (streams bytes.items) ≡ None) }
         ensures refused { IfErr result (λ e. Refuses e (load_fault (streams bytes.items))) }
     {
-        let Ok(file) = Bytes::from_vec(bytes) else {
+        let Ok(file) = SharedBytes::new(bytes) else {
             return Err(LoadFault::OutOfMemory);
         };
         match load_file(alloc, file) {

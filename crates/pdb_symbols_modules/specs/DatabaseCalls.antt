@@ -5,7 +5,7 @@ use Rattle.pdb_container.specs.StringTable.{names_of}
 use Rattle.pdb_items.specs.Items.{Table, table_of}
 use Rattle.pdb_addresses.specs.declared.sections.ImageSectionHeader.{ImageSectionHeader}
 use Rattle.pdb_addresses.specs.Addresses.{Map}
-use Rattle.pdb_modules.specs.ModuleStream.{ModuleStream}
+use Rattle.pdb_symbols_modules.specs.ModuleStream.{ModuleStream}
 use Rattle.pdb_symbols_modules.specs.AddressTables.{sections_by, address_map_by}
 use Rattle.pdb_symbols_modules.specs.Dbi.{Dbi, dbi_of}
 use Rattle.pdb_symbols_modules.specs.Information.{Information, information_of}

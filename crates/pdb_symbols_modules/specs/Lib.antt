@@ -9,4 +9,4 @@ pub mod DatabaseCalls
 pub mod OptionalHeader
 pub mod Shared
 pub mod Streams
-pub use Rattle.pdb_modules.specs.ModuleStream
+pub mod ModuleStream

@@ -3,7 +3,7 @@ use Rattle.std.specs.Prelude.{ℕ, ◌==◌, List, Option, None, Some, option_ma
 use Rattle.std.specs.Prelude.{slice_get, Result, Ok, Err, codes}
 use Rattle.pdb_container.specs.Fault.{Fault, StreamNotFound, ◌>>=◌}
 use Rattle.pdb_container.specs.Listing.{whole}
-use Rattle.pdb_modules.specs.ModuleStream.{ModuleStream}
+use Rattle.pdb_symbols_modules.specs.ModuleStream.{ModuleStream}
 use Rattle.pdb_symbols_modules.specs.Dbi.{Dbi, dbi_of}
 use Rattle.pdb_symbols_modules.specs.Information.{information_of, stream_names_of, number_of}
 use Rattle.pdb_symbols_modules.specs.Modules.{Module, modules_of}

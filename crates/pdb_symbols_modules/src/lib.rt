@@ -1,7 +1,7 @@
-//! An open program database: what it says of itself, its modules and their contributions, the
-//! sections and addresses of its image, and the tables and lists to which its streams lead. The
-//! layouts are those of LLVM's The PDB DBI Stream and of microsoft-pdb's dbi.h, as the pdb crate
-//! reads them.
+//! An open program database: what it says of itself, its modules with their streams and their
+//! contributions, the sections and addresses of its image, and the tables and lists to which its
+//! streams lead. The layouts are those of LLVM's The PDB DBI Stream and The Module Information
+//! Stream, and of microsoft-pdb's dbi.h, as the pdb crate reads them.
 #![tactic(auto)]
 
 mod contributions;
@@ -9,6 +9,7 @@ mod dbi;
 mod information;
 pub mod laws;
 mod machine;
+mod module_info;
 mod modules;
 mod name_block;
 mod optional_header;
@@ -19,16 +20,20 @@ pub use contributions::{DBISectionContribution, DBISectionContributionIter};
 pub use dbi::DebugInformation;
 pub use information::{PDBInformation, StreamName, StreamNames};
 pub use machine::MachineType;
+pub use module_info::ModuleInfo;
 pub use modules::{Module, ModuleIter};
 pub use optional_header::{
     OMAP_FROM_SOURCE, OMAP_TO_SOURCE, ORIGINAL_SECTION_HEADERS, SECTION_HEADERS,
 };
 pub use pdb::PDB;
-pub use pdb_modules::{
-    BinaryAnnotation, BinaryAnnotations, BinaryAnnotationsIter, CrossModuleExport,
-    CrossModuleExportIter, CrossModuleExports, CrossModuleImports, CrossModuleRef, FileChecksum,
-    FileInfo, FileIterator, InlineSiteSymbol, Inlinee, InlineeIterator, InlineeLineIterator,
-    LineInfo, LineInfoKind, LineIterator, LineProgram, ModuleInfo, ModuleRef, ProcedureSymbol,
+pub use pdb_inlinees::{Inlinee, InlineeIterator, InlineeLineIterator};
+pub use pdb_lines::{FileChecksum, FileInfo, FileIterator, LineIterator, LineProgram};
+pub use pdb_subsections::{
+    CrossModuleExport, CrossModuleExportIter, CrossModuleExports, CrossModuleImports,
+    CrossModuleRef, LineInfo, LineInfoKind, ModuleRef,
+};
+pub use pdb_symbols::{
+    BinaryAnnotation, BinaryAnnotations, BinaryAnnotationsIter, InlineSiteSymbol, ProcedureSymbol,
     PublicSymbol, SeparatedCodeSymbol, Symbol, SymbolData, SymbolIter, SymbolTable, ThunkSymbol,
 };
 pub use stream_index::StreamIndex;

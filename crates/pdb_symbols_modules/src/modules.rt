@@ -12,11 +12,11 @@ ghost use Rattle.pdb_container.specs.RawString.{raw_bytes};
 ghost use Rattle.pdb_symbols_modules.specs.Shared.{module_stream};
 ghost use Rattle.pdb_symbols_modules.specs.Modules.{module_at, modules_of};
 
+use crate::module_info::ModuleInfo;
 use crate::stream_index::StreamIndex;
 use pdb_container::{
     Error, FallibleIterator, ParseBuffer, RawString, Result, Stream, padding_behind,
 };
-use pdb_modules::ModuleInfo;
 use std::alloc::Global;
 use std::borrow::CowStr;
 use std::marker::Model;

@@ -19,6 +19,7 @@ ghost use Rattle.pdb_symbols_modules.specs.Streams.{streams, stream_if_named};
 
 use crate::dbi::DebugInformation;
 use crate::information::PDBInformation;
+use crate::module_info::ModuleInfo;
 use crate::modules::Module;
 use crate::optional_header::{
     OMAP_FROM_SOURCE, OMAP_TO_SOURCE, ORIGINAL_SECTION_HEADERS, SECTION_HEADERS,
@@ -30,7 +31,7 @@ use pdb_addresses::{
 use pdb_container::{BigMSF, Error, Msf, Result, Source, Stream, StringTable, open_msf};
 use pdb_indices::ItemIndex;
 use pdb_items::{IdInformation, ItemInformation, TypeInformation};
-use pdb_modules::{ModuleInfo, SymbolTable};
+use pdb_symbols::SymbolTable;
 use std::alloc::Global;
 use std::marker::Model;
 

@@ -1,9 +1,8 @@
 //! The public calls that take memory, each once where there is enough.
 
-use bytes::Bytes;
 use pdb_container::{
-    BoundedBytes, Error, Msf, PageList, ParseBuffer, RawString, Source, SourceSlice, Stream,
-    StringRef, StringTable, open_msf,
+    BoundedBytes, Error, Msf, PageList, ParseBuffer, RawString, SharedBytes, Source, SourceSlice,
+    Stream, StringRef, StringTable, open_msf,
 };
 use pdb_samples::{Container, PageOrder, SampleError};
 use std::alloc::Global;
@@ -99,12 +98,13 @@ fn has_pages(alloc: Global) -> Result<[bool; 2], Error> {
     Ok([joined, are_cut(&list)])
 }
 
-/// Whether 64 MB of a small file are copied and no more, and its bytes are shared after that.
+/// Whether 1 MB and seven times a small file are copied and no more, and its bytes are shared after
+/// that.
 fn is_bounded(alloc: Global) -> Result<bool, Fail> {
-    let bytes = Bytes::from_vec(vec![in alloc; 7u8; 0x1000]?)?;
+    let bytes = SharedBytes::new(vec![in alloc; 7u8; 0x1000]?)?;
     let mut file = BoundedBytes::new(bytes);
-    let slices = vec![in alloc; slice(0, 0x1000); 0x1000]?;
-    for _ in 0..4 {
+    let slices = vec![in alloc; slice(0, 0x1000); 0x83]?;
+    for _ in 0..2 {
         file.view(alloc, slices.as_slice())?;
     }
     let refused = match file.view(alloc, slices.as_slice()) {
@@ -115,12 +115,12 @@ fn is_bounded(alloc: Global) -> Result<bool, Fail> {
     Ok(refused && shared.as_slice().len() == 0x1000)
 }
 
-/// Whether 64 MB and 1,024 times a small file may be listed and no more, and what is refused counts
+/// Whether 1 MB and 1,024 times a small file may be listed and no more, and what is refused counts
 /// for nothing.
 fn is_listed(alloc: Global) -> Result<bool, Fail> {
-    let bytes = Bytes::from_vec(vec![in alloc; 7u8; 0x1000]?)?;
+    let bytes = SharedBytes::new(vec![in alloc; 7u8; 0x1000]?)?;
     let mut file = BoundedBytes::new(bytes);
-    let allowed = file.may_list(0x400_0000 + 1024 * 0x1000 - 1);
+    let allowed = file.may_list(0x10_0000 + 1024 * 0x1000 - 1);
     let refused = !file.may_list(2);
     Ok(allowed && refused && file.may_list(1) && !file.may_list(1))
 }

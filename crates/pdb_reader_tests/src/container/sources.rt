@@ -5,8 +5,7 @@ use crate::container::damage::{
 };
 use crate::container::files::{container, counted, file, get};
 use crate::failing::{Failing, Refusal};
-use bytes::Bytes;
-use pdb_container::{BigMSF, Error, Msf, ReadView, Source, SourceSlice, open_msf};
+use pdb_container::{BigMSF, Error, Msf, ReadView, SharedBytes, Source, SourceSlice, open_msf};
 use pdb_samples::{PageOrder, SampleError};
 use std::alloc::Global;
 use std::cell::Cell;
@@ -280,12 +279,12 @@ fn a_stream_views_its_own_pages_once_and_alone(rt: HostRuntime) -> Result<(), Fa
     Ok(())
 }
 
-fn opened_shared(alloc: Global, bytes: &[u8]) -> Result<BigMSF<'static, Bytes>, Error> {
-    open_msf(alloc, Bytes::copy_from_slice(alloc, bytes)?)
+fn opened_shared(alloc: Global, bytes: &[u8]) -> Result<BigMSF<'static, SharedBytes>, Error> {
+    open_msf(alloc, SharedBytes::new(Vec::from_slice(alloc, bytes)?)?)
 }
 
 /// A container over shared bytes.
-fn shared(alloc: Global, bytes: &[u8]) -> Result<BigMSF<'static, Bytes>, Error> {
+fn shared(alloc: Global, bytes: &[u8]) -> Result<BigMSF<'static, SharedBytes>, Error> {
     match opened_shared(alloc, bytes) {
         Err(Error::OutOfMemory) => opened_shared(alloc, bytes),
         answer => answer,
@@ -295,7 +294,7 @@ fn shared(alloc: Global, bytes: &[u8]) -> Result<BigMSF<'static, Bytes>, Error> 
 /// Whether stream 1 of a container over shared bytes has these bytes, or why it is refused.
 fn has_shared(
     alloc: Global,
-    container: &mut BigMSF<'static, Bytes>,
+    container: &mut BigMSF<'static, SharedBytes>,
     usual: &[u8],
 ) -> Result<bool, Error> {
     let stream = get(container, alloc, 1, None)?;

@@ -19,7 +19,7 @@ returns-in_err-check_apart c =
     }) _
     c.in_ok-entries.ensures (c.in_ok-held.ensures ∙ ap Ok (sym c.held.view_is)) refl
     c.sort_unstable.ensures.permutation c.sort_unstable.ensures.sorted
-    (rw c.as_slice.ensures.value at c.in_err-check_apart.ensures) in
+    (rw c.as_slice.ensures.value at c.in_err-check_apart.ensures.apart) in
     grind (arith, fails)
 
 pub returns : goal.returns
@@ -35,4 +35,4 @@ returns c =
     }) _
     c.in_ok-entries.ensures (c.in_ok-held.ensures ∙ ap Ok (sym c.held.view_is)) refl
     c.sort_unstable.ensures.permutation c.sort_unstable.ensures.sorted
-    (rw c.as_slice.ensures.value at c.in_ok-check_apart.ensures)
+    (rw c.as_slice.ensures.value at c.in_ok-check_apart.ensures.apart)

@@ -1,0 +1,77 @@
+//! The file of a place, and how far it goes on.
+
+ghost use Rattle.std.specs.Prelude.{◌≡◌, ◌≤◌, true, IfOk, Ok, option_and_then};
+ghost use Rattle.pdb_frames.specs.Files.{file_by, file_here, files_of, if_any};
+ghost use Rattle.pdb_addr2line.specs.Context.{lookups_after, scope_in, uncounted};
+ghost use Rattle.pdb_functions.specs.Databases.{IsOneRun, place_of as as_place};
+ghost use Rattle.pdb_functions.specs.FileAnswers.{file_seen};
+ghost use Rattle.pdb_resolving.specs.Fault.{Answers};
+
+use crate::context::Context;
+use pdb_addresses::PdbInternalSectionOffset;
+use pdb_functions::{CountedFile, FileAnswer, FileKey};
+use pdb_resolving::{ModuleProvider, Result};
+use std::alloc::Global;
+
+impl<'a, 's, P: ModuleProvider> Context<'a, 's, P> {
+    /// Returns the source file of the function at a place, and over how many bytes from there on
+    /// the file is the same. That is the lesser of `limit`, which is at least 1, and the distance
+    /// to the next bound. Bounds are the places at which the function may change
+    /// ([`Context::find_function_run`]) and, where there are frames, those at which a line row of
+    /// the function begins. What stands as failed doesn't change.
+    ///
+    /// # Errors
+    /// `OutOfMemory` alone.
+    pub fn find_file_run(
+        &mut self,
+        alloc: Global,
+        offset: PdbInternalSectionOffset,
+        limit: u32,
+    ) -> Result<(FileAnswer, u32)>
+        requires { 1 ≤ limit }
+        ensures same { uncounted self.new ≡ uncounted self.old }
+        ensures lookups { self.new.lookups ≡ lookups_after true result self.old.lookups }
+        ensures file { Answers (λ run. file_seen run.0) result
+            (Ok (file_here self.old.parts (scope_in P.provided self.old) offset)) }
+        ensures count { IfOk result (λ run. IsOneRun
+            (files_of self.old.parts (scope_in P.provided self.old)) (as_place offset) limit
+            run.1) }
+    {
+        let run = self.symbolizer.file_run(alloc, offset, limit);
+        self.counted(run)
+    }
+
+    /// Returns a key of the file at a place, if there is a function, and how far it goes on, as
+    /// [`Context::find_file_run`] counts it. No name is made.
+    ///
+    /// # Errors
+    /// `OutOfMemory` alone.
+    pub fn find_file_key_run(
+        &mut self,
+        alloc: Global,
+        offset: PdbInternalSectionOffset,
+        limit: u32,
+    ) -> Result<(Option<FileKey>, u32)>
+        requires { 1 ≤ limit }
+        ensures same { uncounted self.new ≡ uncounted self.old }
+        ensures lookups { self.new.lookups ≡ lookups_after true result self.old.lookups }
+        ensures file { Answers (λ run. option_and_then (file_by self.old.parts) run.0) result
+            (Ok (if_any (file_here self.old.parts (scope_in P.provided self.old) offset))) }
+        ensures count { IfOk result (λ run. IsOneRun
+            (files_of self.old.parts (scope_in P.provided self.old)) (as_place offset) limit
+            run.1) }
+    {
+        let run = self.symbolizer.file_key_run(alloc, offset, limit);
+        self.counted(run)
+    }
+
+    /// Returns the file that a key stands for. It isn't counted as a lookup.
+    ///
+    /// # Errors
+    /// `OutOfMemory` alone.
+    pub fn file_by_key(&self, alloc: Global, key: &FileKey) -> Result<Option<CountedFile>>
+        ensures { Answers (λ file. file) result (Ok (file_by self.now.parts key.now)) }
+    {
+        self.symbolizer.file_by_key(alloc, key)
+    }
+}

@@ -1,2 +1,0 @@
-pub mod FunctionSteps
-pub mod StartSteps
