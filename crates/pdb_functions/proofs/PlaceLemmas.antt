@@ -1,5 +1,5 @@
 -- Steps along the places of a section, and along the addresses of a range.
-use Rattle.std.proofs.Common.{◌≡◌, ℕ, ◌+◌, ◌-◌, ◌^◌, ◌<◌, ◌≤◌, min, inl, inr, Bool, true, false, cond, ◌||◌, ltb, leb, List, [], ◌∷◌, refl, sym, ap, ◌∙◌, subst, arith}
+use Rattle.std.proofs.Common.{◌≡◌, ℕ, ◌+◌, ◌-◌, ◌^◌, ◌<◌, ◌≤◌, min, inl, inr, Bool, true, false, cond, ◌||◌, ltb, leb, List, [], ◌∷◌, length, refl, sym, ap, ◌∙◌, subst, arith}
 use Rattle.std.specs.Prelude.{Option, None, Some, option_map, option_and_then, ◌==◌}
 use Rattle.std.specs.List.{list_any}
 use Rattle.std.proofs.Math.Bool.{or-true}
@@ -34,6 +34,13 @@ pub places_within : {A : Type 0} (db : Database A) (p : Place) (d n x y z : ℕ)
 places_within db p d n x y z h passes some more =
     let e : d ≡ 0 + d = omega arith in
     within_one (begins_along db (Some p)) 0 d n x y z h (subst (λ (j : ℕ). begins_along db (Some p) j ≡ true) e passes) some (omega arith)
+
+-- one more key at most for the run of a piece
+pub keys_within : {K A : Type 0} (db : Database A) (p : Place) (d n : ℕ) (key : Option K) (m : ℕ) (t u w : List (K × ℕ)) → IsWithin (begins_along db (Some p)) 0 d (length t) (length u) → begins_along db (Some p) d ≡ true → 1 ≤ n
+    → IsAdded u key m w → IsWithin (begins_along db (Some p)) 0 (d + n) (length t) (length w)
+keys_within db p d n key m t u w h passes some add =
+    let e : d ≡ 0 + d = omega arith in
+    within_one (begins_along db (Some p)) 0 d n (length t) (length u) (length w) h (subst (λ (j : ℕ). begins_along db (Some p) j ≡ true) e passes) some add.few
 
 pub place_begins : {A : Type 0} (db now : Database A) (p : Place) (d c n : ℕ) → now ≡ db → IsOneRun now (on p d) (c - d) n → d + n < c → begins_along db (Some p) (d + n) ≡ true
 place_begins {A} db now p d c n same run lt =

@@ -1,5 +1,5 @@
 -- A table in which the number of one answer was raised.
-use Rattle.std.proofs.Common.{◌≡◌, ℕ, ◌+◌, ◌^◌, ◌<◌, ◌≤◌, rules, Bool, true, false, cond, List, [], ◌∷◌, refl, sym, ap, ◌∙◌, subst, arith}
+use Rattle.std.proofs.Common.{◌≡◌, ℕ, ◌+◌, ◌^◌, ◌<◌, ◌≤◌, rules, Bool, true, false, cond, List, [], ◌∷◌, length, refl, sym, ap, ◌∙◌, subst, arith}
 use Rattle.std.specs.Prelude.{Option, Some, option_map, unwrap_or, sum}
 use Rattle.std.specs.declared.cmp.Ordering.{Ordering}
 use Rattle.std.specs.declared.cmp.Ordering.TheVariants.{Less, Equal, Greater}
@@ -60,6 +60,17 @@ module _ {A : Type 0} (cmp : A → A → Ordering) (total : IsTotalOrder cmp) (e
   put_sum test [] k w order = let zero_either = zeros (test k) in omega (arith, zero_either)
   put_sum test (e ∷ es) k w order = put_at test (cmp k e.0) k w e es (insert_entry cmp es k w) refl order.0 (put_sum test es k w order.1)
 
+  -- one more row at most
+  put_few_at : (o : Ordering) (k : A) (w : ℕ) (e : A × ℕ) (es more : List (A × ℕ)) → length more ≤ length es + 1
+      → length (match_ordering o ((k, w) ∷ e ∷ es) ((e.0, w) ∷ es) (e ∷ more)) ≤ length (e ∷ es) + 1
+  put_few_at Less k w e es more h = omega arith
+  put_few_at Equal k w e es more h = omega arith
+  put_few_at Greater k w e es more h = omega (arith, h)
+
+  put_few : (table : List (A × ℕ)) (k : A) (w : ℕ) → length (insert_entry cmp table k w) ≤ length table + 1
+  put_few [] k w = omega arith
+  put_few (e ∷ es) k w = put_few_at (cmp k e.0) k w e es (insert_entry cmp es k w) (put_few es k w)
+
   pub added : (table : List (A × ℕ)) (k : A) (n : ℕ) → IsStrictlySortedBy cmp (keys_of table) → IsAdded table (Some k) n (insert_entry cmp table k (count_in cmp table k + n))
   added table k n order = record {
     each = λ test.
@@ -70,6 +81,7 @@ module _ {A : Type 0} (cmp : A → A → Ordering) (total : IsTotalOrder cmp) (e
         let e = sum_by-insert_entry (λ (x : ℕ). x) total table k (count_in cmp table k + n) order in
         let i : unwrap_or (option_map (λ (x : ℕ). x) (lookup (is_same cmp k) table)) 0 ≡ count_in cmp table k = ap (λ (o : Option ℕ). unwrap_or o 0) (option_map_id (lookup (is_same cmp k) table)) in
         omega (arith, e, i);
+    few = put_few table k (count_in cmp table k + n);
   }
 
   -- ---- over a map's own words

@@ -1,6 +1,6 @@
 -- Tables of answers, or of keys that stand for answers, with their counts.
 use Rattle.std.specs.Prelude.{◌≡◌, ℕ, ◌+◌, ◌≤◌, Bool, is_some, List, [], ◌∷◌, Option, unwrap_or}
-use Rattle.std.specs.Prelude.{sum, if◌then◌else◌}
+use Rattle.std.specs.Prelude.{length, sum, if◌then◌else◌}
 use Rattle.std.specs.declared.cmp.Ordering.{Ordering}
 use Rattle.std.specs.List.{All}
 use Rattle.std.specs.List.Sorted.{IsStrictlySortedBy}
@@ -30,12 +30,14 @@ sum_where test (e ∷ table) = (if test e.0 then e.1 else 0) + sum_where test ta
 abbrev pub sum_found : {K A : Type 0} → (K → Option A) → (A → Bool) → List (K × ℕ) → ℕ
 sum_found found test table = sum_where (λ k. picked test (found k)) table
 
--- a count of n, if there is something that it is of, has come to a table
+-- a count of n, if there is something that it is of, has come to a table, which has at most one more
+-- row by it
 pub record IsAdded {A : Type 0} (old : List (A × ℕ)) (answer : Option A) (n : ℕ)
     (new : List (A × ℕ)) : Type 0 where
   pub each : (test : A → Bool)
       → sum_where test new ≡ sum_where test old + (if picked test answer then n else 0)
   pub all : sum_of new ≡ sum_of old + (if is_some answer then n else 0)
+  pub few : length new ≤ length old + 1
 
 -- n numbers from one on, each with its answer, have come to a table of keys
 pub record IsCounted {K A : Type 0} (found : K → Option A) (answer : ℕ → Option A) (from n : ℕ)

@@ -28,10 +28,14 @@ pub fn counts_add_up()
         → count_of_none m db a b + count_of_none m db b c ≡ count_of_none m db a c }
 {}
 
-/// What a table has for each function determines it: a report's lines and their order.
+/// What a table has for each function, or for each file, determines it: a report's lines and their
+/// order.
 pub fn tables_are_determined()
-    ensures { (t u : List (FunctionValue × ℕ)) → IsTable function_cmp t → IsTable function_cmp u
+    ensures functions { (t u : List (FunctionValue × ℕ)) → IsTable function_cmp t
+        → IsTable function_cmp u
         → ((f : FunctionValue) → count_in function_cmp t f ≡ count_in function_cmp u f) → t ≡ u }
+    ensures files { (t u : List (FileValue × ℕ)) → IsTable file_cmp t → IsTable file_cmp u
+        → ((f : FileValue) → count_in file_cmp t f ≡ count_in file_cmp u f) → t ≡ u }
 {}
 
 /// The counts of a report, with the count of nothing, add up to the number of the range's

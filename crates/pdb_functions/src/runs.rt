@@ -21,6 +21,9 @@ pub trait Runs {
 
     ghost lookups: { Self → ℕ };
 
+    /// How often an answer was made of a key.
+    ghost answered: { Self → ℕ };
+
     /// Returns a key of the answer at a place, and over how many places from it on there is no
     /// bound, `limit` at most.
     ///
@@ -40,7 +43,8 @@ pub trait Runs {
             (place_of place) limit r.1) }
         ensures same { keyed self.new ≡ keyed self.old }
         ensures lookups { OnOk result (lookups self.new
-            ≡ min (lookups self.old + 1) (2 ^ 64 - 1)) };
+            ≡ min (lookups self.old + 1) (2 ^ 64 - 1)) }
+        ensures answered { OnOk result (answered self.new ≡ answered self.old) };
 
     /// Returns the answer that a key stands for, if there is one.
     ///
@@ -53,5 +57,7 @@ pub trait Runs {
     ) -> Result<Option<Self::Found>, AllocError>
         ensures answer { IfOk result (λ answer. answer ≡ (keyed self.old).answer_of key.now) }
         ensures same { keyed self.new ≡ keyed self.old }
-        ensures lookups { OnOk result (lookups self.new ≡ lookups self.old) };
+        ensures lookups { OnOk result (lookups self.new ≡ lookups self.old) }
+        ensures answered { OnOk result (answered self.new
+            ≡ min (answered self.old + 1) (2 ^ 64 - 1)) };
 }

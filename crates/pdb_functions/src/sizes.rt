@@ -1,6 +1,7 @@
 //! Counts the answers of a range of addresses, run by run.
 
 ghost use Rattle.std.specs.Prelude.{◌≡◌, ℕ, ◌+◌, ◌-◌, ◌^◌, ◌<◌, ◌≤◌, true, Some, IfOk, OnOk};
+ghost use Rattle.std.specs.Prelude.{length};
 ghost use Rattle.pdb_addresses.specs.Addresses.{IsOrdered};
 ghost use Rattle.pdb_functions.specs.Counts.{count, count_of_none, pieces, answer_at, answer_along};
 ghost use Rattle.pdb_functions.specs.Counts.{begins, begins_along, is_section_bound};
@@ -26,7 +27,7 @@ pub struct Sizes<A: Answer> {
 }
 
 /// Counts the answers of the addresses from `start` on and before `end`. It asks at most once for
-/// each piece, and once for the answer of each key that it found.
+/// each piece, and once for the answer of each key that it found, of which there are no more.
 ///
 /// # Errors
 /// `AllocError` when memory runs out.
@@ -48,6 +49,8 @@ pub fn count_runs<R: Runs>(
     ensures all { IfOk result (λ sizes. sum_of sizes.counts + sizes.none ≡ end - start) }
     ensures lookups { OnOk result (R.lookups runs.new
         ≤ R.lookups runs.old + pieces map.now (R.keyed runs.old).places start end) }
+    ensures answered { OnOk result (R.answered runs.new
+        ≤ R.answered runs.old + pieces map.now (R.keyed runs.old).places start end) }
     ensures same { R.keyed runs.new ≡ R.keyed runs.old }
 {
     ranges_laid_end_to_end();
@@ -61,7 +64,7 @@ pub fn count_runs<R: Runs>(
     Ok(Sizes { counts, none })
 }
 
-/// Returns the counts of the answers that keys stand for.
+/// Returns the counts of the answers that keys stand for, each of which is asked for once.
 fn resolve<R: Runs>(
     alloc: Global,
     runs: &mut R,
@@ -71,6 +74,8 @@ fn resolve<R: Runs>(
     ensures resolved { IfOk result (λ counts. IsResolved
         (R.keyed runs.old).answer_of keys.now counts) }
     ensures lookups { OnOk result (R.lookups runs.new ≡ R.lookups runs.old) }
+    ensures answered { OnOk result (R.answered runs.new
+        ≤ R.answered runs.old + length keys.now) }
     ensures same { R.keyed runs.new ≡ R.keyed runs.old }
 {
     let mut counts = Counts::new(alloc);
@@ -96,6 +101,10 @@ fn count_range<R: Runs>(
     ensures lookups { OnOk result (IsWithin (begins map.now.internal
         (R.keyed runs.old).places range.start.0) range.start.0 (range.end.0 - range.start.0)
         (R.lookups runs.old) (R.lookups runs.new)) }
+    ensures keys { OnOk result (IsWithin (begins map.now.internal
+        (R.keyed runs.old).places range.start.0) range.start.0 (range.end.0 - range.start.0)
+        (length keys.old) (length keys.new)) }
+    ensures answered { OnOk result (R.answered runs.new ≡ R.answered runs.old) }
     ensures same { R.keyed runs.new ≡ R.keyed runs.old }
 {
     let end = range.end.0;
@@ -133,6 +142,9 @@ fn count_section<R: Runs>(
     ensures lookups { IfOk result (λ n. IsWithin (begins map.now.internal
         (R.keyed runs.old).places address.0) address.0 n (R.lookups runs.old)
         (R.lookups runs.new)) }
+    ensures keys { IfOk result (λ n. IsWithin (begins map.now.internal
+        (R.keyed runs.old).places address.0) address.0 n (length keys.old) (length keys.new)) }
+    ensures answered { OnOk result (R.answered runs.new ≡ R.answered runs.old) }
     ensures ends { IfOk result (λ n. n < limit
         → is_section_bound map.now.internal (address.0 + n) ≡ true) }
     ensures same { R.keyed runs.new ≡ R.keyed runs.old }
@@ -161,6 +173,9 @@ fn count_places<R: Runs>(
         (R.keyed runs.old).places (Some (place_of place))) 0 count keys.old keys.new) }
     ensures lookups { OnOk result (IsWithin (begins_along (R.keyed runs.old).places (Some
         (place_of place))) 0 count (R.lookups runs.old) (R.lookups runs.new)) }
+    ensures keys { OnOk result (IsWithin (begins_along (R.keyed runs.old).places (Some
+        (place_of place))) 0 count (length keys.old) (length keys.new)) }
+    ensures answered { OnOk result (R.answered runs.new ≡ R.answered runs.old) }
     ensures same { R.keyed runs.new ≡ R.keyed runs.old }
 {
     let mut done = 0;

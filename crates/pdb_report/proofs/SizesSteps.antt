@@ -56,3 +56,14 @@ module _ {A : Type 0} (is_report : Map → Database A → ℕ → ℕ → List �
         (omega (arith, none, few));
   }
   sizes_asked (Err e) asked none few = tt
+
+  -- an answer was made of a key once for each piece, at most
+  pub sizes_answered : {E : Type 0} (r : Result Tally E)
+      → IfOk r (λ tally. tally.answered ≤ pieces m found start end)
+      → IfOk r (λ tally. AreWithinPieces places s start end tally.answered)
+  sizes_answered (Ok tally) few = record {
+    map = m;
+    map_is = map_is;
+    few = subst (λ (d : Database A). tally.answered ≤ pieces m d start end) same few;
+  }
+  sizes_answered (Err e) few = tt

@@ -157,20 +157,23 @@ impl Counted for CountedFile {
     }
 }
 
-/// A context that is asked for runs of what is counted.
+/// A context that is asked for runs of what is counted, and how often an answer was made of a key.
 #[derive(Drop)]
 pub(crate) struct ContextRuns<'a, A: Counted> {
     context: FileContext<'a>,
+    answered: u64,
     counted: PhantomData<A>,
 }
 
 impl<'a, A: Counted> ContextRuns<'a, A> {
     /// Runs by a context.
     pub(crate) fn new(context: FileContext<'a>) -> ContextRuns<'a, A>
-        ensures { result.context ≡ context.entry }
+        ensures context { result.context ≡ context.entry }
+        ensures answered { result.answered ≡ 0 }
     {
         ContextRuns {
             context,
+            answered: 0,
             counted: PhantomData,
         }
     }
@@ -180,6 +183,13 @@ impl<'a, A: Counted> ContextRuns<'a, A> {
         ensures { result ≡ self.now.context.lookups }
     {
         self.context.lookups()
+    }
+
+    /// Returns how often an answer was made of a key.
+    pub(crate) fn answered(&self) -> u64
+        ensures { result ≡ self.now.answered }
+    {
+        self.answered
     }
 }
 
@@ -192,6 +202,8 @@ impl<'a, A: Counted> Runs for ContextRuns<'a, A> {
 
     ghost lookups = { λ runs. runs.context.lookups };
 
+    ghost answered = { λ runs. runs.answered };
+
     fn run_at(
         &mut self,
         alloc: Global,
@@ -202,6 +214,7 @@ impl<'a, A: Counted> Runs for ContextRuns<'a, A> {
     }
 
     fn answer_of(&mut self, alloc: Global, key: &A::Key) -> Result<Option<A>, AllocError> {
+        self.answered = self.answered.saturating_add(1);
         A::answer_of(alloc, &mut self.context, key)
     }
 }

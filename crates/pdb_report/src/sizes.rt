@@ -30,6 +30,8 @@ use std::io::Write;
 pub struct Tally {
     /// How many places were looked up.
     pub lookups: u64,
+    /// How often an answer was made of a key that lookups found: once for each key.
+    pub answered: u64,
 }
 
 /// Counts what the addresses from `start` on and before `end` have by a context, and writes the
@@ -52,6 +54,8 @@ fn write_report<A: Counted, W: Write>(
         × Writes W.contents writer.old writer.new text) }
     ensures lookups { IfOk result (λ tally. tally.lookups ≤ context.entry.lookups
         + pieces map.now (A.keyed context.entry).places start end) }
+    ensures answered { IfOk result (λ tally. tally.answered
+        ≤ pieces map.now (A.keyed context.entry).places start end) }
     ensures quiet { OnOk result (IsQuiet writer.old writer.new) }
     ensures kind { IfErr result IsOfWriting }
     ensures write_fails { IfErr result (λ fault. OnInputWrite fault
@@ -70,6 +74,7 @@ fn write_report<A: Counted, W: Write>(
     match write_all(writer, text.as_bytes()) {
         Ok(()) => Ok(Tally {
             lookups: runs.lookups(),
+            answered: runs.answered(),
         }),
         Err(kind) => Err(write_fault(kind)),
     }
@@ -92,6 +97,8 @@ fn report_of<A: Counted, W: Write>(
         × Writes W.contents writer.old writer.new text) }
     ensures lookups { IfOk result (λ tally. AreWithinPieces (A.places (streams symbolizer.now))
         (streams symbolizer.now) start end tally.lookups) }
+    ensures answered { IfOk result (λ tally. AreWithinPieces (A.places (streams symbolizer.now))
+        (streams symbolizer.now) start end tally.answered) }
     ensures quiet { OnOk result (IsQuiet writer.old writer.new) }
     ensures kind { IfErr result IsOfWriting }
     ensures write_fails { IfErr result (λ fault. OnInputWrite fault
@@ -135,6 +142,8 @@ fn report_in_order<A: Counted, W: Write>(
         × Writes W.contents writer.old writer.new text) }
     ensures lookups { IfOk result (λ tally. AreWithinPieces (A.places (streams symbolizer.now))
         (streams symbolizer.now) start end tally.lookups) }
+    ensures answered { IfOk result (λ tally. AreWithinPieces (A.places (streams symbolizer.now))
+        (streams symbolizer.now) start end tally.answered) }
     ensures quiet { OnOk result (IsQuiet writer.old writer.new) }
     ensures write_fails { IfErr result (λ fault. OnWrite fault
         (λ kind. CountsFailure writer.old writer.new kind)) }
@@ -178,6 +187,9 @@ fn run_report<A: Counted, W: Write>(
     ensures lookups { IfOk result (λ tally.
         AreWithinPieces (A.places (streams bytes.items)) (streams bytes.items) start end
         tally.lookups) }
+    ensures answered { IfOk result (λ tally.
+        AreWithinPieces (A.places (streams bytes.items)) (streams bytes.items) start end
+        tally.answered) }
     ensures quiet { OnOk result (IsQuiet writer.old writer.new) }
     ensures write_fails { IfErr result (λ fault. OnWrite fault
         (λ kind. CountsFailure writer.old writer.new kind)) }
@@ -220,11 +232,13 @@ pub fn run_sizes<W: Write>(
     ensures memory { IfErr result (λ fault. OnMemory fault
         ((load_fault (streams bytes.items) ≡ None) ⊎ (writer.new ≡ writer.old))) }
     // Where the run ends well, the report is out, the writer didn't fail, and there was at most one
-    // lookup for each piece.
+    // lookup for each piece, and one more question for each name that lookups found.
     ensures ok { OnOk result ((text : List ℕ) × IsSizesReport (streams bytes.items) start end text
         × Writes W.contents writer.old writer.new text) }
     ensures lookups { IfOk result (λ tally.
         IsWithinPieces (streams bytes.items) start end tally.lookups) }
+    ensures answered { IfOk result (λ tally.
+        IsWithinPieces (streams bytes.items) start end tally.answered) }
     ensures quiet { OnOk result (IsQuiet writer.old writer.new) }
     // A failed write is one of this call, with its kind.
     ensures write_fails { IfErr result (λ fault. OnWrite fault
@@ -267,11 +281,13 @@ pub fn run_sizes_by_file<W: Write>(
     ensures memory { IfErr result (λ fault. OnMemory fault
         ((load_fault (streams bytes.items) ≡ None) ⊎ (writer.new ≡ writer.old))) }
     // Where the run ends well, the report is out, the writer didn't fail, and there was at most one
-    // lookup for each piece by file.
+    // lookup for each piece by file, and one more question for each file that lookups found.
     ensures ok { OnOk result ((text : List ℕ) × IsSizesByFile (streams bytes.items) start end text
         × Writes W.contents writer.old writer.new text) }
     ensures lookups { IfOk result (λ tally.
         IsWithinFilePieces (streams bytes.items) start end tally.lookups) }
+    ensures answered { IfOk result (λ tally.
+        IsWithinFilePieces (streams bytes.items) start end tally.answered) }
     ensures quiet { OnOk result (IsQuiet writer.old writer.new) }
     // A failed write is one of this call, with its kind.
     ensures write_fails { IfErr result (λ fault. OnWrite fault

@@ -8,10 +8,12 @@ use pdb_addresses::PdbInternalSectionOffset;
 use pdb_functions::{Function, Runs};
 use std::alloc::{AllocError, Global};
 
-/// The function f at offsets 0x10 to 0x30 of section 1, and how many places were looked up.
+/// The function f at offsets 0x10 to 0x30 of section 1, how many places were looked up, and how
+/// often an answer was made of a key.
 #[derive(Drop)]
 pub(crate) struct OneFunction {
     pub(crate) lookups: u64,
+    pub(crate) answered: u64,
 }
 
 impl Runs for OneFunction {
@@ -24,6 +26,8 @@ impl Runs for OneFunction {
     ghost keyed = { λ _. keyed_function };
 
     ghost lookups = { λ s. s.lookups };
+
+    ghost answered = { λ s. s.answered };
 
     fn run_at(
         &mut self,
@@ -39,6 +43,7 @@ impl Runs for OneFunction {
 
     fn answer_of(&mut self, alloc: Global, key: &Function) -> Result<Option<Function>, AllocError> {
         let function = key.try_clone(alloc)?;
+        self.answered = self.answered.saturating_add(1);
         Ok(Some(function))
     }
 }

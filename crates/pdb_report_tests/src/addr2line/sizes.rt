@@ -49,7 +49,10 @@ fn sizes(
     start: u32,
     end: u32,
 ) -> Result<(String, u64), AllocError> {
-    let mut runs = OneFunction { lookups: 0 };
+    let mut runs = OneFunction {
+        lookups: 0,
+        answered: 0,
+    };
     if !map.is_ordered() || end < start {
         return Ok((String::new(alloc), 0));
     }

@@ -1,4 +1,4 @@
-use Rattle.std.proofs.Common.{◌≡◌, ◌-◌, ◌<◌, ◌≤◌, true}
+use Rattle.std.proofs.Common.{◌≡◌, ◌-◌, ◌<◌, ◌≤◌, length, true}
 use Rattle.std.specs.Prelude.{Some}
 use Rattle.pdb_functions.specs.Counts.{answer_along, begins_along}
 use Rattle.pdb_functions.specs.Databases.{place_of}
@@ -16,6 +16,8 @@ invariant-loop-done g l =
       bound : l.done ≤ l.count;
       counted : IsCounted answer_of (answer_along places (Some (place_of l.place))) 0 l.done l.fn.keys l.keys;
       within : IsWithin (begins_along places (Some (place_of l.place))) 0 l.done (lookups l.fn.runs) (lookups l.runs);
+      kept : IsWithin (begins_along places (Some (place_of l.place))) 0 l.done (length l.fn.keys) (length l.keys);
+      answered : g.R.Runs.answered l.runs ≡ g.R.Runs.answered l.fn.runs;
       next : l.done < l.count → begins_along places (Some (place_of l.place)) l.done ≡ true;
       same : keyed l.runs ≡ keyed l.fn.runs;
     }

@@ -1,4 +1,4 @@
-use Rattle.std.proofs.Common.{◌≡◌, ◌-◌, ◌<◌, ◌≤◌, true}
+use Rattle.std.proofs.Common.{◌≡◌, ◌-◌, ◌<◌, ◌≤◌, length, true}
 use Rattle.pdb_functions.specs.Counts.{answer_at, begins}
 use Rattle.pdb_functions.specs.Table.{IsCounted, IsWithin}
 use Rattle.pdb_functions.proofs.sizes.count_range.Given as goal
@@ -16,6 +16,8 @@ invariant-loop-address g l =
       high : l.address - start ≤ l.end - start;
       counted : IsCounted answer_of (answer_at l.map.internal places) start (l.address - start) l.fn.keys l.keys;
       within : IsWithin (begins l.map.internal places start) start (l.address - start) (lookups l.fn.runs) (lookups l.runs);
+      kept : IsWithin (begins l.map.internal places start) start (l.address - start) (length l.fn.keys) (length l.keys);
+      answered : g.R.Runs.answered l.runs ≡ g.R.Runs.answered l.fn.runs;
       next : l.address < l.end → begins l.map.internal places start l.address ≡ true;
       same : keyed l.runs ≡ keyed l.fn.runs;
     }

@@ -1,4 +1,4 @@
-use Rattle.std.proofs.Common.{◌-◌, ◌∙◌, arith}
+use Rattle.std.proofs.Common.{◌-◌, length, ◌∙◌, arith}
 use Rattle.pdb_addresses.specs.Ranges.{internal_ranges}
 use Rattle.pdb_functions.proofs.PlaceLemmas.{counted_same, within_same}
 use Rattle.pdb_functions.proofs.RangeLemmas.{so_far_more, so_far_most, so_far_end, each_counted, most_counted, none_counted}
@@ -23,9 +23,13 @@ loop-range-preserved g c =
     let e = c.in_ok-count_range.ensures in
     let counted = counted_same keyed now sections r.start.0 (r.end.0 - r.start.0) c.loop-range.keys c.count_range.new.keys i.same e.counted in
     let within = within_same keyed now sections r.start.0 r.start.0 (r.end.0 - r.start.0) (lookups c.loop-range.runs) (lookups c.count_range.new.runs) i.same e.lookups in
+    let kept = within_same keyed now sections r.start.0 r.start.0 (r.end.0 - r.start.0) (length c.loop-range.keys) (length c.count_range.new.keys) i.same e.keys in
     record {
       so_far = so_far_more keyed.answer_of sections keyed.places (internal_ranges c.args.map.now.to_internal c.args.start c.args.end) c.next.new.self c.loop-range.ranges r c.loop-range.keys c.count_range.new.keys
           (lookups c.args.runs.now) (lookups c.loop-range.runs) (lookups c.count_range.new.runs) c.in-Some.ensures.steps i.so_far counted within;
+      kept = so_far_more keyed.answer_of sections keyed.places (internal_ranges c.args.map.now.to_internal c.args.start c.args.end) c.next.new.self c.loop-range.ranges r c.loop-range.keys c.count_range.new.keys
+          0 (length c.loop-range.keys) (length c.count_range.new.keys) c.in-Some.ensures.steps i.kept counted kept;
+      answered = e.answered ∙ i.answered;
       same = c.count_range.ensures.same ∙ i.same;
     }
 
@@ -85,3 +89,14 @@ returns-clause-all g c =
     (lookups c.args.runs.now) (lookups c.loop-range.runs) whole resolved in
     let total = c.total.ensures.total in
     omega (arith, most, total)
+
+-- the keys are no more than the pieces, and each is asked for once
+pub returns-clause-answered : goal.returns-clause-answered
+returns-clause-answered g c =
+    let keyed = g.R.Runs.keyed c.args.runs.now in
+    let kept = so_far_end keyed.answer_of c.ranges_laid_end_to_end.ensures.one_by_one c.args.map.now keyed.places c.args.start c.args.end c.loop-range.ranges c.loop-range.keys
+    0 (length c.loop-range.keys) (omega arith) c.in_default.ensures.steps.0 c.loop-range.invariant.kept in
+    let most = kept.lookups_most in
+    let asked = c.in_ok-counts.ensures.answered in
+    let before = c.loop-range.invariant.answered in
+    omega (arith, most, asked, before)

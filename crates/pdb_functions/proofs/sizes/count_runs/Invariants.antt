@@ -10,6 +10,8 @@ invariant-loop-range g l =
     let lookups = g.R.Runs.lookups in
     record {
       so_far : IsSoFar (keyed l.fn.runs).answer_of l.map.internal (keyed l.fn.runs).places (internal_ranges l.map.to_internal l.start l.end) l.ranges l.keys (lookups l.fn.runs) (lookups l.runs);
+      kept : IsSoFar (keyed l.fn.runs).answer_of l.map.internal (keyed l.fn.runs).places (internal_ranges l.map.to_internal l.start l.end) l.ranges l.keys 0 (length l.keys);
+      answered : g.R.Runs.answered l.runs ≡ g.R.Runs.answered l.fn.runs;
       same : keyed l.runs ≡ keyed l.fn.runs;
     }
 

@@ -1,4 +1,4 @@
-use Rattle.std.proofs.Common.{sym, ◌∙◌, arith}
+use Rattle.std.proofs.Common.{length, sym, ◌∙◌, arith}
 use Rattle.pdb_addresses.specs.SectionRun.{bounds}
 use Rattle.pdb_addresses.specs.Sections.{place}
 use Rattle.pdb_functions.specs.Databases.{place_of}
@@ -50,6 +50,12 @@ returns-in_ok-count_places-in-Some-clause-lookups g c =
     let there = internal_back (place c.args.map.now.internal c.args.address.0) c.in-Some.place (sym c.in-Some.is ∙ c.section_run-place.ensures.place) in
     section_within c.args.map.now.internal (g.R.Runs.keyed c.args.runs.now).places (place_of c.in-Some.place) c.args.address.0 c.section_run-place.result.1
     (g.R.Runs.lookups c.args.runs.now) (g.R.Runs.lookups c.count_places.new.runs) there c.section_run-place.ensures.along c.in_ok-count_places-in-Some.ensures.lookups
+
+pub returns-in_ok-count_places-in-Some-clause-keys : goal.returns-in_ok-count_places-in-Some-clause-keys
+returns-in_ok-count_places-in-Some-clause-keys g c =
+    let there = internal_back (place c.args.map.now.internal c.args.address.0) c.in-Some.place (sym c.in-Some.is ∙ c.section_run-place.ensures.place) in
+    section_within c.args.map.now.internal (g.R.Runs.keyed c.args.runs.now).places (place_of c.in-Some.place) c.args.address.0 c.section_run-place.result.1
+    (length c.args.keys.now) (length c.count_places.new.keys) there c.section_run-place.ensures.along c.in_ok-count_places-in-Some.ensures.keys
 
 pub returns-in_ok-count_places-in-Some-clause-ends : goal.returns-in_ok-count_places-in-Some-clause-ends
 returns-in_ok-count_places-in-Some-clause-ends g c = λ lt. next_is_bound (bounds c.args.map.now.internal) c.args.address.0 c.args.limit c.section_run-place.result.1 c.section_run-place.ensures.count lt

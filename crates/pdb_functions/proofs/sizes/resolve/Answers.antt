@@ -1,4 +1,4 @@
-use Rattle.std.proofs.Common.{◌∙◌}
+use Rattle.std.proofs.Common.{length, ap, ◌∙◌, arith}
 use Rattle.pdb_functions.proofs.ResolveLemmas.{resolving_more, answer_as}
 use Rattle.pdb_functions.proofs.sizes.resolve.Goals as goal
 
@@ -10,5 +10,10 @@ loop-key-preserved g c =
       resolving = resolving_more keyed.answer_of c.args.keys.now c.next.new.self c.loop-key.key-iterator c.in-Some.key.now c.in-Some.count.now c.in_ok-answer.answer c.loop-key.counts c.add_answer.new.self
           c.in-Some.ensures.steps i.resolving (answer_as keyed (g.R.Runs.keyed c.loop-key.runs) c.in-Some.key.now c.in_ok-answer.answer i.same c.in_ok-answer.ensures.answer) c.in_ok-add_answer.ensures;
       lookups = c.in_ok-answer.ensures.lookups ∙ i.lookups;
+      answered =
+          let one = c.in_ok-answer.ensures.answered in
+          let left = ap length c.in-Some.ensures.steps in
+          let before = i.answered in
+          omega (arith, one, left, before);
       same = c.answer_of.ensures.same ∙ i.same;
     }

@@ -1,4 +1,4 @@
-use Rattle.std.proofs.Common.{◌≡◌}
+use Rattle.std.proofs.Common.{◌≡◌, ◌+◌, ◌≤◌, length}
 use Rattle.pdb_functions.proofs.ResolveLemmas.{IsResolving}
 use Rattle.pdb_functions.proofs.sizes.resolve.Given as goal
 
@@ -10,5 +10,6 @@ invariant-loop-key g l =
     record {
       resolving : IsResolving (keyed l.fn.runs).answer_of l.keys l.key-iterator l.counts;
       lookups : lookups l.runs ≡ lookups l.fn.runs;
+      answered : g.R.Runs.answered l.runs + length l.key-iterator ≤ g.R.Runs.answered l.fn.runs + length l.keys;
       same : keyed l.runs ≡ keyed l.fn.runs;
     }

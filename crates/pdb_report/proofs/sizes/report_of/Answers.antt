@@ -1,7 +1,7 @@
 use Rattle.std.proofs.Common.{◌≡◌}
 use Rattle.pdb_engine.specs.Watched.{Writes, WritesFront}
 use Rattle.pdb_symbols_modules.specs.Streams.{streams}
-use Rattle.pdb_report.proofs.SizesSteps.{sizes_out, sizes_part, sizes_asked}
+use Rattle.pdb_report.proofs.SizesSteps.{sizes_out, sizes_part, sizes_asked, sizes_answered}
 use Rattle.pdb_report.proofs.sizes.report_of.Goals as goal
 
 -- the context counts as the file does
@@ -25,6 +25,16 @@ returns-in-Ok-clause-lookups g c =
     c.address_map.ensures.map
     (g.met.A.Counted.of_file s c.in-Ok.context c.in-Ok.ensures.answers) c.write_report.result
     c.in-Ok.context.lookups c.in-Ok.ensures.unasked c.write_report.ensures.lookups
+
+pub returns-in-Ok-clause-answered : goal.returns-in-Ok-clause-answered
+returns-in-Ok-clause-answered g c =
+    let s = streams c.args.symbolizer.now in
+    let counted = g.A.Counted in
+    sizes_answered counted.is_report s c.address_map.result.now
+    (counted.keyed c.in-Ok.context).places (counted.places s) c.args.start c.args.end
+    c.address_map.ensures.map
+    (g.met.A.Counted.of_file s c.in-Ok.context c.in-Ok.ensures.answers) c.write_report.result
+    c.write_report.ensures.answered
 
 pub returns-in-Ok-clause-part : goal.returns-in-Ok-clause-part
 returns-in-Ok-clause-part g c =

@@ -32,6 +32,12 @@ returns-in-Ok-clause-lookups g c =
     AreWithinPieces (g.A.Counted.places (streams b)) (streams b) c.args.start c.args.end
     tally.lookups)) c.in-Ok.ensures.ok c.report_in_order.ensures.lookups
 
+pub returns-in-Ok-clause-answered : goal.returns-in-Ok-clause-answered
+returns-in-Ok-clause-answered g c =
+    subst (λ (b : List ℕ). IfOk c.report_in_order.result (λ tally.
+    AreWithinPieces (g.A.Counted.places (streams b)) (streams b) c.args.start c.args.end
+    tally.answered)) c.in-Ok.ensures.ok c.report_in_order.ensures.answered
+
 pub returns-in-Ok-clause-part : goal.returns-in-Ok-clause-part
 returns-in-Ok-clause-part g c =
     subst (λ (b : List ℕ). OnErr c.report_in_order.result
