@@ -1,7 +1,9 @@
 //! The order of loading: a file is opened, and read up to what answers go over, step by step. The
 //! first step that fails has the file's fault.
 
-ghost use Rattle.std.specs.Prelude.{◌≡◌, IfOk, OnOk, IfErr, None};
+ghost use Rattle.std.specs.Prelude.{◌≡◌, true, false, IfOk, OnOk, IfErr, None};
+ghost use Rattle.pdb_addresses.specs.Addresses.{IsOrdered, is_ordered};
+ghost use Rattle.pdb_loading.specs.declared.load_fault.LoadFault.TheVariants as faults;
 ghost use Rattle.pdb_loading.specs.LoadedFile.{AreInOrder, IsLoadedFrom};
 ghost use Rattle.pdb_loading.specs.LoadFaults.{FailsLoading, Refuses};
 ghost use Rattle.pdb_loading.specs.Loading.{loaded, load_fault};
@@ -11,6 +13,7 @@ ghost use Rattle.pdb_symbols_modules.specs.Streams.{streams};
 use crate::held_database::{HeldDatabase, read_after_tables};
 use crate::load_fault::LoadFault;
 use crate::tables::{Tables, read_tables};
+use pdb_addresses::AddressMap;
 use pdb_container::{BoundedBytes, SharedBytes};
 use pdb_symbols_modules::{DebugInformation, PDB};
 use std::alloc::Global;
@@ -58,6 +61,18 @@ impl LoadedFile {
     }
 }
 
+/// Checks that the sources of no OMAP decrease, and takes no memory for it.
+fn check_order(map: &AddressMap<'_>) -> Result<(), LoadFault>
+    ensures ok { OnOk result ((is_ordered map.now ≡ true) × IsOrdered map.now) }
+    ensures err { IfErr result
+        (λ e. (e ≡ faults.AddressTableDecreases) × (is_ordered map.now ≡ false)) }
+{
+    if !map.is_ordered() {
+        return Err(LoadFault::AddressTableDecreases);
+    }
+    Ok(())
+}
+
 /// Reads stream 3 and what comes after it. The first fault of these; `AddressTableDecreases`
 /// where the sources of an OMAP decrease; `OutOfMemory`.
 fn read_in_order(
@@ -71,10 +86,10 @@ fn read_in_order(
 {
     let debug_information = pdb.debug_information(alloc)?;
     let tables = read_tables(pdb, alloc, &debug_information)?;
-    if !tables.address_map.is_ordered() {
-        return Err(LoadFault::AddressTableDecreases);
+    match check_order(&tables.address_map) {
+        Ok(()) => Ok((debug_information, tables)),
+        Err(fault) => Err(fault),
     }
-    Ok((debug_information, tables))
 }
 
 /// Reads what contexts are made of, and checks that a context can be made.

@@ -3,8 +3,9 @@
 use crate::files::{F, run_over};
 use pdb_container::Error as Cause;
 use pdb_report::{Error, Symbolizer, Watched, read_file, run_sizes, run_sizes_by_file};
+use pdb_samples::PieceReader;
 use std::alloc::Global;
-use std::io::{self, Read};
+use std::io::{self, ErrorKind, Read};
 use std::test::Fail;
 
 /// Opens a file.
@@ -51,6 +52,29 @@ fn are_files_read(alloc: Global) -> Result<bool, Fail> {
     )
 }
 
+/// A reader of these bytes that fails once, after 20 of them.
+fn failing(bytes: &[u8], fault: ErrorKind) -> PieceReader<'_> {
+    let cut = bytes.len().min(20);
+    PieceReader {
+        bytes: &bytes[..cut],
+        rest: &bytes[cut..],
+        piece: usize::MAX,
+        fault: Some(fault),
+    }
+}
+
+/// Returns whether a file is read on after a signal interrupted a read, and not after another
+/// failure.
+fn is_read_on(alloc: Global) -> Result<bool, Fail> {
+    let file = F.made(alloc)?;
+    let whole = read_file(alloc, &mut failing(file.as_slice(), ErrorKind::Interrupted))?;
+    let refused = match read_file(alloc, &mut failing(file.as_slice(), ErrorKind::Other)) {
+        Ok(_) => false,
+        Err(cause) => cause.kind() == ErrorKind::Other,
+    };
+    Ok(refused && whole.as_slice() == file.as_slice())
+}
+
 /// Returns whether three bytes are read and written.
 fn are_copied(alloc: Global) -> Result<bool, Fail> {
     let mut buffer = [0u8; 4];
@@ -70,12 +94,13 @@ fn are_printed(alloc: Global) -> Result<bool, Fail> {
 }
 
 /// Returns for each call whether it answers as written.
-fn are_right(alloc: Global) -> Result<[bool; 6], Fail> {
+fn are_right(alloc: Global) -> Result<[bool; 7], Fail> {
     Ok([
         is_answered(alloc)?,
         is_counted(alloc)?,
         is_counted_by_file(alloc)?,
         are_files_read(alloc)?,
+        is_read_on(alloc)?,
         are_copied(alloc)?,
         are_printed(alloc)?,
     ])
@@ -84,7 +109,7 @@ fn are_right(alloc: Global) -> Result<[bool; 6], Fail> {
 // The only test of this file that fails if an allocation is refused: the others ask again.
 #[test]
 fn first_calls_in_ample_memory(rt: HostRuntime) -> Result<(), Fail> {
-    assert_eq!(rt; are_right(rt.alloc())?, [true; 6]);
+    assert_eq!(rt; are_right(rt.alloc())?, [true; 7]);
     Ok(())
 }
 

@@ -20,11 +20,12 @@ returns-in_err-tables-clause-err c =
     let failed = rw c.debug_information.ensures.same at c.in_err-tables.ensures.exact in
     rw (p.1, p.2) (tables_fail (streams c.args.pdb.now) c.in_err-tables.field-0.0 c.in_ok-debug_information.debug_information c.requires c.in_ok-debug_information.ensures.exact failed)
 
-pub returns-then-not-is_ordered-clause-err : goal.returns-then-not-is_ordered-clause-err
-returns-then-not-is_ordered-clause-err c =
+pub returns-in-Err-clause-err : goal.returns-in-Err-clause-err
+returns-in-Err-clause-err c =
     let read = rw c.debug_information.ensures.same at c.in_ok-tables.ensures.exact in
-    order_fails (streams c.args.pdb.now) c.in_ok-debug_information.debug_information c.in_ok-tables.tables c.requires c.in_ok-debug_information.ensures.exact read
-    (sym (c.if-not-is_ordered.ensures.value ∙ ap (λ (t : Tables). is_ordered t.map) c.tables.view_is))
+    let failed = order_fails (streams c.args.pdb.now) c.in_ok-debug_information.debug_information c.in_ok-tables.tables c.requires c.in_ok-debug_information.ensures.exact read
+    (ap (λ (t : Tables). is_ordered t.map) (sym c.tables.view_is) ∙ c.in-Err.ensures.err.1) in
+    rw c.in-Err.ensures.err.0 failed
 
 -- nothing else is promised of a fault
 pub returns-in_err-debug_information-clause-same : goal.returns-in_err-debug_information-clause-same
@@ -48,16 +49,16 @@ pub read_tables-requires : goal.read_tables-requires
 read_tables-requires c =
     subst (λ (file : List ℕ). debug_information (shared (streams file)) ≡ Ok c.in_ok-debug_information.debug_information) (sym c.debug_information.ensures.same) c.in_ok-debug_information.ensures.exact
 
-pub returns-clause-same : goal.returns-clause-same
-returns-clause-same c = c.read_tables.ensures.same ∙ c.debug_information.ensures.same
+pub returns-in-Ok-clause-same : goal.returns-in-Ok-clause-same
+returns-in-Ok-clause-same c = c.read_tables.ensures.same ∙ c.debug_information.ensures.same
 
-pub returns-clause-read : goal.returns-clause-read
-returns-clause-read c =
+pub returns-in-Ok-clause-read : goal.returns-in-Ok-clause-read
+returns-in-Ok-clause-read c =
     let read = rw c.debug_information.ensures.same at c.in_ok-tables.ensures.exact in
     let map_is = ap (λ (t : Tables). t.map) c.tables.view_is in
     record {
       dbi_is = c.in_ok-debug_information.ensures.exact;
       tables_are = read;
-      in_order = sym (c.if-not-is_ordered.ensures.value ∙ ap (λ (t : Tables). is_ordered t.map) c.tables.view_is);
-      ordered = rw map_is at (c.if-not-is_ordered.ensures.meaning.0 refl);
+      in_order = ap (λ (t : Tables). is_ordered t.map) (sym c.tables.view_is) ∙ c.in-Ok.ensures.ok.0;
+      ordered = rw map_is at c.in-Ok.ensures.ok.1;
     }
