@@ -1,15 +1,15 @@
 -- Requests: the lines that bytes end, one byte at a time, and answers to them, one at a time.
-use Rattle.std.proofs.Common.{arith, ◌-◌, length-append, ◌≡◌, ℕ, ◌+◌, ◌<◌, ◌≤◌, List, [], ◌∷◌, ◌++◌, sym, ap, subst, ◌∙◌, append_assoc, append-nil, length, take, drop, get_or, true, Bool, take-append-drop, slice_index_or, slice_set}
-use Rattle.std.specs.Prelude.{Option, Result, Ok, Err, OnErr, OnOk}
+use Rattle.std.proofs.Common.{arith, ◌-◌, length-append, ◌≡◌, ℕ, ◌+◌, ◌<◌, ◌≤◌, List, [], ◌∷◌, ◌++◌, sym, ap, subst, ◌∙◌, append_assoc, append-nil, length, take, drop, get_or, true, Bool, take-append-drop, slice_index_or, slice_set, zero, suc, inl, inr}
+use Rattle.std.specs.Prelude.{Option, Result, Ok, Err, OnErr, OnOk, IfOk, ◌⊎◌}
 use Rattle.std.specs.List.{flat_map, slice_range}
 use Rattle.std.specs.Io.KnownBytes.{Appends}
 use Rattle.std.proofs.KnownBytes.{Appends-trans}
 use Rattle.std.proofs.Math.Seq.{drop-append_seam, map-set_same}
 use Rattle.std.proofs.lemmas.Grind.{flat_map-append}
-use Rattle.std.proofs.lemmas.List.{map-append, take_more, take_all}
+use Rattle.std.proofs.lemmas.List.{map-append, take_more, take_all, length-set, get_or-set_same, set-get_or}
 use Rattle.pdb_engine.specs.declared.requests.Request.{Request}
 use Rattle.pdb_engine.specs.InputLines.{kept_lines, kept_rest, Begins}
-use Rattle.pdb_engine.specs.Requests.{lines_of, IsMade}
+use Rattle.pdb_engine.specs.Requests.{lines_of, IsMade, HasLast, HaveLast}
 use Rattle.pdb_engine.proofs.LineLemmas.{kept_lines-more}
 
 -- a request takes the place of one of the same line
@@ -39,6 +39,41 @@ made_later known text texts texts' line room (more, grown) is = record {
   ahead = room;
   is = λ h. ap (λ l. slice_range l (length texts) (length l)) (is h) ∙ between_added texts (text line);
 }
+
+-- A text was made for the line at i, or nothing changed.
+-- One of these follows from what is known of a call by the room that there was.
+last_or_same : {E L : Type 0} (result : Result Bool E) (texts texts' : List ℕ) (r r' : Request L) → ((length texts < 8388608) ⊎ (8388608 ≤ length texts))
+    → (length texts < 8388608 → IfOk result (λ is_made. (is_made ≡ true) × HasLast texts' r'))
+    → (8388608 ≤ length texts → (texts' ≡ texts) × (r' ≡ r)) → OnErr result ((texts' ≡ texts) × (r' ≡ r))
+    → HasLast texts' r' ⊎ ((texts' ≡ texts) × (r' ≡ r))
+last_or_same (Ok is_made) texts texts' r r' (inl h) room full refused = inl (room h).1
+last_or_same (Err e) texts texts' r r' (inl h) room full refused = inr refused
+last_or_same result texts texts' r r' (inr h) room full refused = inr (full h)
+
+has_room : (m n : ℕ) → (m < n) ⊎ (n ≤ m)
+has_room zero zero = inr (omega arith)
+has_room zero (suc n) = inl (omega arith)
+has_room (suc m) zero = inr (omega arith)
+has_room (suc m) (suc n) = next (has_room m n)
+  where
+    next : (m < n) ⊎ (n ≤ m) → (suc m < suc n) ⊎ (suc n ≤ suc m)
+    next (inl h) = inl (omega arith)
+    next (inr h) = inr (omega arith)
+
+have_last : {L : Type 0} (texts texts' : List ℕ) (requests : List (Request L)) (i : ℕ) (r r' : Request L) → i < length requests → r ≡ get_or requests i r
+    → (HasLast texts' r' ⊎ ((texts' ≡ texts) × (r' ≡ r))) → HaveLast texts requests → HaveLast texts' (slice_set requests i r')
+have_last texts texts' requests i r r' h is (inl last) before = inr (i, r', subst (λ (n : ℕ). i < n) (sym (length-set requests i r')) h, get_or-set_same requests i r' r' h, last)
+have_last texts texts' requests i r r' h is (inr (et, er)) before =
+    subst (λ (t : List ℕ). HaveLast t (slice_set requests i r')) (sym et)
+    (subst (λ (l : List (Request _)). HaveLast texts l) (sym (ap (slice_set requests i) (er ∙ is) ∙ set-get_or requests i r)) before)
+
+-- the last text after one more call
+pub last_more : {E L : Type 0} (result : Result Bool E) (texts texts' : List ℕ) (requests : List (Request L)) (i : ℕ) (r r' : Request L) → i < length requests → r ≡ get_or requests i r
+    → (length texts < 8388608 → IfOk result (λ is_made. (is_made ≡ true) × HasLast texts' r'))
+    → (8388608 ≤ length texts → (texts' ≡ texts) × (r' ≡ r)) → OnErr result ((texts' ≡ texts) × (r' ≡ r))
+    → HaveLast texts requests → HaveLast texts' (slice_set requests i r')
+last_more result texts texts' requests i r r' h is room full refused before =
+    have_last texts texts' requests i r r' h is (last_or_same result texts texts' r r' (has_room (length texts) 8388608) room full refused) before
 
 -- ---- what a writer holds after the answers to some lines
 

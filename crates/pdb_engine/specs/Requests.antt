@@ -1,6 +1,7 @@
 -- Lines that wait for their answers, of which some were made.
-use Rattle.std.specs.Prelude.{◌≡◌, ℕ, ◌<◌, ◌≤◌, Bool, true, List, map, length, IfSome}
-use Rattle.std.specs.List.{All, slice_range}
+use Rattle.std.specs.Prelude.{◌≡◌, ◌⊎◌, ℕ, ◌<◌, ◌≤◌, Bool, true, List, [], map, length}
+use Rattle.std.specs.Prelude.{Some, IfSome}
+use Rattle.std.specs.List.{All, Any, slice_range}
 use Rattle.pdb_engine.specs.declared.requests.Made.{Made}
 use Rattle.pdb_engine.specs.declared.requests.Request.{Request}
 
@@ -26,3 +27,11 @@ IsAnswered known kept text texts r = IfSome r.made (IsMade known text texts (kep
 abbrev pub AreAnswered : {L : Type 0} → (known : Bool) → (L → List ℕ) → (List ℕ → List ℕ)
     → List ℕ → List (Request L) → Type 0
 AreAnswered known kept text texts requests = All (IsAnswered known kept text texts) requests
+
+-- the text that was made for a line is the last of the texts
+abbrev pub HasLast : {L : Type 0} → List ℕ → Request L → Type 0
+HasLast texts r = (made : Made) × (r.made ≡ Some made) × (made.end ≡ length texts)
+
+-- there are no texts, or the last of them was made for one of the lines; nothing stands after it
+abbrev pub HaveLast : {L : Type 0} → List ℕ → List (Request L) → Type 0
+HaveLast texts requests = (texts ≡ []) ⊎ Any (HasLast texts) requests

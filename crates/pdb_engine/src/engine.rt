@@ -9,7 +9,7 @@ ghost use Rattle.pdb_engine.specs.Watched.{WritesFront, Takes};
 ghost use Rattle.pdb_engine.specs.InputLines.{kept_lines, kept_rest, report, report_of_ended};
 ghost use Rattle.pdb_engine.specs.Requests.{lines_of, AreAnswered, IsAnswered};
 ghost use Rattle.pdb_engine.specs.InputFaults.{OnRead, OnWrite, OnTooLong, IsOfWriting};
-ghost use Rattle.pdb_engine.specs.InputFaults.{IsOfRunning};
+ghost use Rattle.pdb_engine.specs.InputFaults.{IsOfRunning, EndsAtWrite, EndsWriting, EndsRunning};
 
 use crate::answers::Answers;
 use crate::fault::{InputFault, read_fault, write_fault};
@@ -65,6 +65,9 @@ pub fn run<A: Answers, R: Read, W: Write>(
         (λ kind. CountsFailure reader.old reader.new kind)) }
     ensures write_fails { IfErr result (λ fault. OnWrite fault
         (λ kind. CountsFailure writer.old writer.new kind)) }
+    // At the first call that fails a run ends with that call's fault.
+    ensures ends { IfErr result
+        (λ fault. EndsRunning fault reader.old reader.new writer.old writer.new) }
     // The lines that were read whole before a failed read are answered.
     ensures read_out { A.known ≡ true → IfErr result (λ fault. OnRead fault (λ _.
         (taken : List ℕ) × Takes R.remaining reader.old reader.new taken
@@ -127,10 +130,8 @@ fn pump<A: Answers, R: Read, W: Write>(
     ensures quiet { OnOk result (IsQuiet reader.old reader.new × IsQuiet writer.old writer.new) }
     ensures same { A.text answers.new ≡ A.text answers.old }
     ensures kind { IfErr result IsOfRunning }
-    ensures read_fails { IfErr result (λ fault. OnRead fault
-        (λ kind. CountsFailure reader.old reader.new kind)) }
-    ensures write_fails { IfErr result (λ fault. OnWrite fault
-        (λ kind. CountsFailure writer.old writer.new kind)) }
+    ensures ends { IfErr result
+        (λ fault. EndsRunning fault reader.old reader.new writer.old writer.new) }
     ensures read_out { A.known ≡ true → IfErr result (λ fault. OnRead fault (λ _.
         (taken : List ℕ) × Takes R.remaining reader.old reader.new taken
         × Writes W.contents writer.old writer.new
@@ -188,10 +189,8 @@ fn answer_read<A: Answers, R: Read, W: Write>(
     ensures quiet { OnOk result (IsQuiet reader.old reader.new × IsQuiet writer.old writer.new) }
     ensures same { A.text answers.new ≡ A.text answers.old }
     ensures kind { IfErr result IsOfRunning }
-    ensures read_fails { IfErr result (λ fault. OnRead fault
-        (λ kind. CountsFailure reader.old reader.new kind)) }
-    ensures write_fails { IfErr result (λ fault. OnWrite fault
-        (λ kind. CountsFailure writer.old writer.new kind)) }
+    ensures ends { IfErr result
+        (λ fault. EndsRunning fault reader.old reader.new writer.old writer.new) }
     // A read that failed is the only one: nothing was taken before it, and nothing written.
     ensures read_once { IfErr result (λ fault. OnRead fault (λ _.
         Takes R.remaining reader.old reader.new [] × (writer.new ≡ writer.old))) }
@@ -251,8 +250,7 @@ fn feed<A: Answers, W: Write>(
     ensures same { A.text answers.new ≡ A.text answers.old }
     ensures quiet { OnOk result (IsQuiet writer.old writer.new) }
     ensures kind { IfErr result IsOfWriting }
-    ensures fails { IfErr result (λ fault. OnWrite fault
-        (λ kind. CountsFailure writer.old writer.new kind)) }
+    ensures ends { IfErr result (λ fault. EndsWriting fault writer.old writer.new) }
     ensures part { A.known ≡ true → OnErr result
         (WritesFront W.contents writer.old writer.new (flat_map
         (A.text answers.old) (kept_lines A.Start.limit (A.Start.kept start.old) bytes.now))) }
@@ -284,8 +282,7 @@ fn write_answers<A: Answers, W: Write>(
     ensures same { A.text answers.new ≡ A.text answers.old }
     ensures quiet { OnOk result (IsQuiet writer.old writer.new) }
     ensures kind { IfErr result IsOfWriting }
-    ensures fails { IfErr result (λ fault. OnWrite fault
-        (λ kind. CountsFailure writer.old writer.new kind)) }
+    ensures ends { IfErr result (λ fault. EndsWriting fault writer.old writer.new) }
     ensures part { A.known ≡ true → OnErr result
         (WritesFront W.contents writer.old writer.new (flat_map
         (A.text answers.old) (lines_of A.Start.kept requests.now))) }
@@ -318,8 +315,7 @@ fn gather_answer<A: Answers, W: Write>(
     ensures same { A.text answers.new ≡ A.text answers.old }
     ensures quiet { OnOk result (IsQuiet writer.old writer.new) }
     ensures kind { IfErr result IsOfWriting }
-    ensures fails { IfErr result (λ fault. OnWrite fault
-        (λ kind. CountsFailure writer.old writer.new kind)) }
+    ensures ends { IfErr result (λ fault. EndsWriting fault writer.old writer.new) }
     ensures part { A.known ≡ true → OnErr result
         (WritesFront W.contents writer.old writer.new (pending.old.items
         ++ A.text answers.old (A.Start.kept request.now.line))) }
@@ -336,7 +332,7 @@ fn gather_answer<A: Answers, W: Write>(
 /// Writes the pending text after memory ran out, and returns that fault, or the write's own.
 fn write_last<W: Write>(alloc: Global, writer: &mut Watched<W>, pending: &mut Vec<u8>) -> InputFault
     ensures kind { IsOfWriting result }
-    ensures fails { OnWrite result (λ kind. CountsFailure writer.old writer.new kind) }
+    ensures ends { EndsWriting result writer.old writer.new }
     ensures part { (more : List ℕ)
         → WritesFront W.contents writer.old writer.new (pending.old.items ++ more) }
 {
@@ -359,8 +355,8 @@ fn write_pending<W: Write>(
     ensures none_pending { OnOk result (pending.new.items ≡ []) }
     ensures quiet { OnOk result (IsQuiet writer.old writer.new) }
     ensures kind { IfErr result IsOfWriting }
-    ensures fails { IfErr result (λ fault. OnWrite fault
-        (λ kind. CountsFailure writer.old writer.new kind)) }
+    // No call of it takes memory.
+    ensures ends { IfErr result (λ fault. EndsAtWrite fault writer.old writer.new) }
     ensures part { OnErr result (WritesFront W.contents writer.old writer.new pending.old.items) }
 {
     match write_all(writer, pending) {
@@ -387,8 +383,7 @@ fn answer_line<A: Answers, W: Write>(
     ensures same { A.text answers.new ≡ A.text answers.old }
     ensures quiet { OnOk result (IsQuiet writer.old writer.new) }
     ensures kind { IfErr result IsOfWriting }
-    ensures fails { IfErr result (λ fault. OnWrite fault
-        (λ kind. CountsFailure writer.old writer.new kind)) }
+    ensures ends { IfErr result (λ fault. EndsWriting fault writer.old writer.new) }
     ensures part { A.known ≡ true → OnErr result
         (WritesFront W.contents writer.old writer.new (A.text answers.old line.now)) }
 {

@@ -1,8 +1,9 @@
 //! The lines that a read ends. Their answers are made in the order of the lines' places.
 
-ghost use Rattle.std.specs.Prelude.{◌≡◌, ◌++◌, [], ◌∷◌, ℕ, Bool, true, List, OnOk, OnErr, IfOk};
+ghost use Rattle.std.specs.Prelude.{◌≡◌, ◌++◌, [], ◌∷◌, ℕ, ◌<◌, ◌≤◌, Bool, true, false, List};
+ghost use Rattle.std.specs.Prelude.{length, Ok, OnOk, OnErr, IfOk};
 ghost use Rattle.pdb_engine.specs.InputLines.{kept_lines, kept_rest};
-ghost use Rattle.pdb_engine.specs.Requests.{lines_of, AreAnswered, IsAnswered};
+ghost use Rattle.pdb_engine.specs.Requests.{lines_of, AreAnswered, IsAnswered, HasLast, HaveLast};
 
 use crate::answers::Answers;
 use crate::line_start::LineStart;
@@ -120,6 +121,15 @@ fn answer_request<A: Answers>(
     ensures answered { IsAnswered A.known A.Start.kept
         (A.text answers.old) texts.new.items request.new }
     ensures grown { (more : List ℕ) × (texts.new.items ≡ texts.old.items ++ more) }
+    // Where less than 8 MB of texts stand, one more is made and noted.
+    ensures room { length texts.old.items < 8388608 → IfOk result (λ is_made.
+        (is_made ≡ true) × HasLast texts.new.items request.new) }
+    // Past that none is made: nobody is asked.
+    ensures full { 8388608 ≤ length texts.old.items → (result ≡ Ok false)
+        × (answers.new ≡ answers.old) × (texts.new.items ≡ texts.old.items)
+        × (request.new ≡ request.old) }
+    ensures refused { OnErr result
+        ((texts.new.items ≡ texts.old.items) × (request.new ≡ request.old)) }
     ensures same { A.text answers.new ≡ A.text answers.old }
 {
     let start = texts.len();
@@ -147,6 +157,9 @@ fn answer_numbered<A: Answers>(
         ≡ lines_of A.Start.kept requests.old.items }
     ensures answered { AreAnswered A.known A.Start.kept
         (A.text answers.old) texts.new.items requests.new.items }
+    // No text is made but those that are noted, of which each begins in the first 8 MB.
+    ensures last { HaveLast texts.old.items requests.old.items
+        → HaveLast texts.new.items requests.new.items }
     ensures same { A.text answers.new ≡ A.text answers.old }
 {
     match requests.get_mut(index) {
@@ -169,6 +182,9 @@ fn answer_in_turn<A: Answers>(
         ≡ lines_of A.Start.kept requests.old.items }
     ensures answered { AreAnswered A.known A.Start.kept
         (A.text answers.old) texts.new.items requests.new.items }
+    // No text is made but those that are noted, of which each begins in the first 8 MB.
+    ensures last { HaveLast texts.old.items requests.old.items
+        → HaveLast texts.new.items requests.new.items }
     ensures same { A.text answers.new ≡ A.text answers.old }
 {
     for turn in turns {
@@ -196,6 +212,8 @@ pub fn answer_ahead<A: Answers>(
         ≡ lines_of A.Start.kept requests.old.items }
     ensures answered { AreAnswered A.known A.Start.kept
         (A.text answers.old) texts.new.items requests.new.items }
+    // No text is made but those that are noted, of which each begins in the first 8 MB.
+    ensures last { HaveLast texts.new.items requests.new.items }
     ensures same { A.text answers.new ≡ A.text answers.old }
 {
     clear_room(alloc, texts, AHEAD_SIZE);

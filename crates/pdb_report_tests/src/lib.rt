@@ -6,6 +6,8 @@
 #[cfg(test)]
 mod addr2line;
 #[cfg(test)]
+mod ahead;
+#[cfg(test)]
 mod calls;
 #[cfg(test)]
 mod definitions;
@@ -19,6 +21,8 @@ mod limits;
 mod sizes;
 #[cfg(test)]
 mod streams;
+#[cfg(test)]
+mod watched;
 #[cfg(test)]
 mod words;
 #[cfg(test)]

@@ -1,8 +1,8 @@
-use Rattle.std.proofs.Common.{◌≡◌, ℕ, List, [], ◌++◌, length, take, arith, rules, append-nil, ap, sym, refl, ◌∙◌}
+use Rattle.std.proofs.Common.{◌≡◌, ℕ, List, [], ◌++◌, length, take, arith, rules, append-nil, ap, sym, refl, ◌∙◌, inl}
 use Rattle.pdb_engine.specs.InputFaults.{read_fault_of}
 use Rattle.std.proofs.lemmas.List.{take-append-le, take_all}
 use Rattle.std.proofs.KnownBytes.{Appends-nil}
-use Rattle.pdb_engine.proofs.Faults.{no_read_length, no_write, read_failed}
+use Rattle.pdb_engine.proofs.Faults.{no_read_length, quiet_same, read_failed}
 use Rattle.pdb_engine.proofs.Pumped.{none_taken, read_all, read_part, read_past}
 use Rattle.pdb_engine.proofs.engine.answer_read.Goals as goal
 
@@ -10,11 +10,8 @@ use Rattle.pdb_engine.proofs.engine.answer_read.Goals as goal
 written_back : (xs ys : List ℕ) (n : ℕ) → n ≡ length xs → take n (xs ++ ys) ≡ xs
 written_back xs ys n h = take-append-le n xs ys (omega (arith, h)) ∙ take_all n xs (omega (arith, h))
 
-pub returns-in-Err-clause-read_fails : goal.returns-in-Err-clause-read_fails
-returns-in-Err-clause-read_fails g c = read_failed _ _ _ (c.read_fault.ensures.value ∙ ap read_fault_of c.kind.ensures) c.in-Err.ensures.watch
-
-pub returns-in-Err-clause-write_fails : goal.returns-in-Err-clause-write_fails
-returns-in-Err-clause-write_fails g c = no_write _ _ _ c.read_fault.ensures.value
+pub returns-in-Err-clause-ends : goal.returns-in-Err-clause-ends
+returns-in-Err-clause-ends g c = inl ((_, c.read_fault.ensures.value ∙ ap read_fault_of c.kind.ensures, c.in-Err.ensures.watch), quiet_same _)
 
 pub returns-in-Err-clause-read_once : goal.returns-in-Err-clause-read_once
 returns-in-Err-clause-read_once g c = read_failed _ _ _ c.read_fault.ensures.value (none_taken _ _ c.in-Err.ensures.bytes, refl)

@@ -1,5 +1,5 @@
 use Rattle.std.proofs.Common.{rules, ◌∙◌}
-use Rattle.pdb_engine.proofs.Faults.{read_later, write_later}
+use Rattle.pdb_engine.proofs.Faults.{running_later}
 use Rattle.pdb_engine.proofs.Pumped.{taken_all, taken_more, taken_too_long, taken_part, taken_before}
 use Rattle.pdb_engine.proofs.engine.pump.Goals as goal
 
@@ -24,8 +24,5 @@ returns-in-Err-clause-too_long g c = λ known. taken_too_long _ _ _ _ _ _ _ _ _ 
 pub returns-in-Err-clause-part : goal.returns-in-Err-clause-part
 returns-in-Err-clause-part g c = λ known. taken_part _ _ _ _ _ _ _ _ _ _ _ _ _ (c.reads.invariant.out known) c.reads.invariant.same (c.in-Err.ensures.part known)
 
-pub returns-in-Err-clause-write_fails : goal.returns-in-Err-clause-write_fails
-returns-in-Err-clause-write_fails g c = write_later _ _ _ _ c.reads.invariant.quiet_writer c.in-Err.ensures.write_fails
-
-pub returns-in-Err-clause-read_fails : goal.returns-in-Err-clause-read_fails
-returns-in-Err-clause-read_fails g c = read_later _ _ _ _ c.reads.invariant.quiet_reader c.in-Err.ensures.read_fails
+pub returns-in-Err-clause-ends : goal.returns-in-Err-clause-ends
+returns-in-Err-clause-ends g c = running_later _ _ _ _ _ _ _ c.reads.invariant.quiet_reader c.reads.invariant.quiet_writer c.in-Err.ensures.ends

@@ -1,7 +1,8 @@
-use Rattle.std.proofs.Common.{rules, arith, ◌∙◌, ◌≡◌, ◌≢◌, [], ◌∷◌, List, ℕ, sym, ap, subst, length, refl}
+use Rattle.std.proofs.Common.{rules, arith, ◌∙◌, ◌≡◌, ◌≢◌, [], ◌∷◌, List, ℕ, sym, ap, subst, length, refl, inl, inr}
 use Rattle.std.specs.Io.KnownBytes.{Appends}
 use Rattle.pdb_engine.specs.InputLines.{Begins}
 use Rattle.pdb_engine.proofs.Runs.{run_read_out, run_too_long, run_part, run_ended, run_last, run_last_part}
+use Rattle.pdb_engine.proofs.Faults.{ended_at_read, ended_at_write, run_ended_at_write, writing_later}
 use Rattle.pdb_engine.proofs.engine.run.Goals as goal
 
 empty_is : (xs : List ℕ) → length xs ≡ 0 → xs ≡ []
@@ -34,3 +35,15 @@ pub returns-in-Err-answer_line-clause-part : goal.returns-in-Err-answer_line-cla
 returns-in-Err-answer_line-clause-part g c = λ known.
     let some : g.A.Start.LineStart.kept c.pump.new.buffers.start ≢ [] = some_is _ _ c.bytes.ensures (search rules) in
     run_last_part _ g.met.A.Start.LineStart.holds_one _ (c.requires known) _ _ (g.R.Read.remaining c.pump.new.reader.inner) _ _ _ c.args.limit _ (g.A.Start.LineStart.kept c.pump.new.buffers.start) c.pump.ensures.same c.new-start.ensures some (c.in-Ok-pump.ensures.ok known) (subst (λ (l : List ℕ). (out : List ℕ) × Appends (g.W.Write.contents c.pump.new.writer.inner) (g.W.Write.contents c.answer_line.new.writer.inner) out × Begins out (g.A.Answers.text c.pump.new.answers l)) c.bytes-2.ensures (c.in-Err-answer_line.ensures.part known))
+
+pub returns-in-Err-clause-read_fails : goal.returns-in-Err-clause-read_fails
+returns-in-Err-clause-read_fails g c = ended_at_read _ _ _ _ _ c.in-Err.ensures.ends
+
+pub returns-in-Err-clause-write_fails : goal.returns-in-Err-clause-write_fails
+returns-in-Err-clause-write_fails g c = run_ended_at_write _ _ _ _ _ c.in-Err.ensures.ends
+
+pub returns-in-Err-answer_line-clause-write_fails : goal.returns-in-Err-answer_line-clause-write_fails
+returns-in-Err-answer_line-clause-write_fails g c = ended_at_write _ _ _ (writing_later _ _ _ _ c.in-Ok-pump.ensures.quiet.1 c.in-Err-answer_line.ensures.ends)
+
+pub returns-in-Err-answer_line-clause-ends : goal.returns-in-Err-answer_line-clause-ends
+returns-in-Err-answer_line-clause-ends g c = inr (inl (c.in-Ok-pump.ensures.quiet.0, writing_later _ _ _ _ c.in-Ok-pump.ensures.quiet.1 c.in-Err-answer_line.ensures.ends))

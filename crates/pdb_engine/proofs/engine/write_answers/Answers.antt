@@ -1,6 +1,7 @@
 use Rattle.std.proofs.Common.{rules, arith, ◌∙◌}
+use Rattle.std.proofs.lemmas.Result.{err_from_is_err_and}
 use Rattle.pdb_engine.proofs.LineLemmas.{on_err}
-use Rattle.pdb_engine.proofs.Faults.{quiet_end, write_end}
+use Rattle.pdb_engine.proofs.Faults.{quiet_end, write_end, writing_later}
 use Rattle.pdb_engine.proofs.RequestSteps.{out_last, out_more, part_more, part_last}
 use Rattle.pdb_engine.proofs.engine.write_answers.Goals as goal
 
@@ -24,5 +25,10 @@ returns-clause-ok g c = λ known. out_last _ c.write_pending.result _ _ _ _ _ c.
 pub returns-clause-quiet : goal.returns-clause-quiet
 returns-clause-quiet g c = quiet_end c.write_pending.result _ _ _ c.loop-request.invariant.quiet c.write_pending.ensures.quiet
 
-pub returns-clause-fails : goal.returns-clause-fails
-returns-clause-fails g c = write_end c.write_pending.result _ _ _ c.loop-request.invariant.quiet c.write_pending.ensures.fails
+pub returns-clause-ends : goal.returns-clause-ends
+returns-clause-ends g c = write_end c.write_pending.result _ _ _ c.loop-request.invariant.quiet c.write_pending.ensures.ends
+
+pub returns-in_err-gather_answer-clause-ends : goal.returns-in_err-gather_answer-clause-ends
+returns-in_err-gather_answer-clause-ends g c =
+    let p = err_from_is_err_and c.from_residual.result c.from_residual.ensures.1 in
+    rw (p.1, p.2) (writing_later _ _ _ _ c.loop-request.invariant.quiet c.in_err-gather_answer.ensures.ends)

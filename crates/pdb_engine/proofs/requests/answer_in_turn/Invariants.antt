@@ -1,5 +1,5 @@
 use Rattle.std.proofs.Common.{◌≡◌}
-use Rattle.pdb_engine.specs.Requests.{lines_of, AreAnswered}
+use Rattle.pdb_engine.specs.Requests.{lines_of, AreAnswered, HaveLast}
 use Rattle.pdb_engine.proofs.requests.answer_in_turn.Given as goal
 
 -- the lines stay, and what was made is right
@@ -10,5 +10,6 @@ invariant-loop-turn g l =
     record {
       lines : lines_of kept l.requests.items ≡ lines_of kept l.fn.requests.items;
       answered : AreAnswered g.A.Answers.known kept (text l.fn.answers) l.texts.items l.requests.items;
+      last : HaveLast l.fn.texts.items l.fn.requests.items → HaveLast l.texts.items l.requests.items;
       same : text l.answers ≡ text l.fn.answers;
     }

@@ -1,6 +1,10 @@
 use Rattle.std.proofs.Common.{rules}
-use Rattle.pdb_engine.proofs.RequestSteps.{lines_set}
+use Rattle.pdb_engine.proofs.RequestSteps.{lines_set, last_more}
 use Rattle.pdb_engine.proofs.requests.answer_numbered.Goals as goal
 
 pub returns-in-Some-clause-lines : goal.returns-in-Some-clause-lines
 returns-in-Some-clause-lines g c = lines_set _ _ _ _ c.in-Some.request.now (search rules)
+
+pub returns-in-Some-clause-last : goal.returns-in-Some-clause-last
+returns-in-Some-clause-last g c =
+    last_more c.answer_request.result _ _ _ _ c.in-Some.request.now c.answer_request.new.request (search rules) (search rules) c.answer_request.ensures.room (λ h. let f = c.answer_request.ensures.full h in (f.2, f.3)) c.answer_request.ensures.refused
