@@ -5,9 +5,11 @@
 mod arguments;
 mod database;
 mod files;
+mod image_file;
 mod lines;
 mod loaded;
 mod open_error;
+mod regular_file;
 
 use anyhow::{Result, bail};
 use arguments::{Arguments, command, read};
