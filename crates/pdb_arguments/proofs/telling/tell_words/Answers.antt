@@ -1,5 +1,5 @@
 -- What is reported in a line of its own.
-use Rattle.std.proofs.Common.{rules, sym, subst}
+use Rattle.std.proofs.Common.{sym, subst}
 use Rattle.pdb_arguments.specs.Telling.{Tells, errors_text}
 use Rattle.pdb_arguments.proofs.telling.tell_words.Goals as goal
 
