@@ -143,7 +143,7 @@ def copies_differ():
 
 
 def unwritten_texts():
-    """Each text that is asked for with a full disk as output, and what came where that isn't told."""
+    """Each text that is asked for on a full disk, and what came where that isn't told."""
     fault = "fault: Write(StorageFull)\n"
     error = "Error: standard output can't be written\n"
     for it, word, wanted in ((program, "--help", fault), (program, "--version", fault),

@@ -38,8 +38,8 @@ fn lies_further(image: &Image<'_>) -> bool {
     )
 }
 
-/// The end up to which an image is read next, by what was read of it; `None` where all that is asked
-/// of it is there, and where the file is no image.
+/// The end up to which an image is read next, by what was read of it; `None` where all that is
+/// asked of it is there, and where the file is no image.
 fn next_end(bytes: &[u8]) -> Option<u64> {
     let held = bytes.len() as u64;
     let doubled = held.saturating_mul(2);
