@@ -144,7 +144,8 @@ def copies_differ():
 
 def unwritten_texts():
     """Each text that is asked for on a full disk, and what came where that isn't told."""
-    fault = "fault: Write(StorageFull)\n"
+    # a full disk has no name of its own among those of `kind_text`
+    fault = "fault: Write(Other)\n"
     error = "Error: standard output can't be written\n"
     for it, word, wanted in ((program, "--help", fault), (program, "--version", fault),
                              (drop_in, "--help", error), (drop_in, "--version", error)):
