@@ -11,7 +11,8 @@
 # to end with status 0. Each transcript runs in a new folder, with both programs on the path and
 # their data in data/. What compiles or copies runs in a copy of the repository. What proves or
 # measures isn't run here. RELEASING's command that tries a thousand files runs with --slow alone.
-# Each block ```rust has to stand in crates/example_calls. With --write what came is put into the
+# Each block ```rust has to stand in crates/example_calls. Both programs have to end with status 1,
+# and say why, where help or the version can't be written. With --write what came is put into the
 # documents. The last line is `N passed, M failed`.
 set -eu
 top=$(cd "$(dirname "$0")/.." && pwd)
@@ -141,7 +142,25 @@ def copies_differ():
                 yield other
 
 
+def unwritten_texts():
+    """Each text that is asked for on a full disk, and what came where that isn't told."""
+    # a full disk has no name of its own among those of `kind_text`
+    fault = "fault: Write(Other)\n"
+    error = "Error: standard output can't be written\n"
+    for it, word, wanted in ((program, "--help", fault), (program, "--version", fault),
+                             (drop_in, "--help", error), (drop_in, "--version", error)):
+        with open("/dev/full", "wb") as full:
+            ran = subprocess.run([it, word], stdout=full, stderr=subprocess.PIPE)
+        came = ran.returncode, ran.stderr.decode(errors="replace")
+        yield f"{it} {word}", None if came == (1, wanted) else came
+
+
 total = wrong = 0
+for command, came in unwritten_texts():
+    total += 1
+    if came is not None:
+        wrong += 1
+        print(f"{command} > /dev/full: came {came}")
 for other in copies_differ():
     wrong += 1
     print(f"crates/{other} is another database than that of crates/pdb_symbolizer/data")

@@ -1,6 +1,7 @@
 -- What is reported where the arguments give no task.
 use Rattle.std.specs.Prelude.{◌≡◌, ◌⊎◌, ℕ, List, Option, None, Some, codes, string_bytes}
 use Rattle.std.specs.Io.KnownBytes.{Appends}
+use Rattle.std.specs.declared.io.ErrorKind.{ErrorKind}
 use Rattle.pdb_arguments.specs.declared.task.WordsFault.{WordsFault}
 use Rattle.pdb_arguments.specs.declared.task.WordsFault.TheVariants as faults
 
@@ -25,10 +26,22 @@ errors_text (faults.Words text) = Some (string_bytes text)
 errors_text (faults.Help text) = None
 errors_text faults.OutOfMemory = Some (codes "fault: OutOfMemory\n")
 
+-- help was asked for
+abbrev pub IsHelp : WordsFault → Type 0
+IsHelp faults.NotAnAddress = ⊥
+IsHelp (faults.Words text) = ⊥
+IsHelp (faults.Help text) = Unit {0}
+IsHelp faults.OutOfMemory = ⊥
+
+-- all of a text was written; where there is none, the writer is as it was
+abbrev pub Puts : {T : Type 0} → (T → Option (List ℕ)) → T → T → Option (List ℕ) → Type 0
+Puts contents old new None = new ≡ old
+Puts contents old new (Some text) = Appends (contents old) (contents new) text
+
 -- A text was reported: all of it was written, or a write failed. Where there is none, the writer is
 -- as it was.
-abbrev pub Tells : {T : Type 0} → (T → Option (List ℕ)) → (T → T → Type 0) → T → T
+abbrev pub Tells : {T : Type 0} → (T → Option (List ℕ)) → (T → T → ErrorKind → Type 0) → T → T
     → Option (List ℕ) → Type 0
 Tells contents has_failed old new None = new ≡ old
 Tells contents has_failed old new (Some text) =
-    Appends (contents old) (contents new) text ⊎ has_failed old new
+    Appends (contents old) (contents new) text ⊎ ((kind : ErrorKind) × has_failed old new kind)

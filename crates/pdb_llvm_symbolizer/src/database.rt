@@ -1,6 +1,8 @@
 //! Files that addresses are of: images with their databases, and databases alone.
 
+use crate::image_file::read_image;
 use crate::open_error::{OpenError, reason};
+use crate::regular_file::open_regular;
 use bumpalo::Bump;
 use pdb_addr2line::ContextPdbData;
 use pdb_addr2line::pdb::PDB;
@@ -8,8 +10,8 @@ use pdb_container::{BoundedBytes, SharedBytes};
 use pdb_image::{Image, PdbIdentity};
 use pdb_loading::read_file;
 use std::alloc::{AllocError, Global};
+use std::io;
 use std::rt::Files;
-use std::{fs, io};
 
 /// What contexts are made of, over a file's bytes.
 pub type Held = ContextPdbData<'static, 'static, BoundedBytes>;
@@ -95,7 +97,7 @@ fn load<'a>(
 
 /// The bytes of a database, as far as its pages reach, or the first 32 of another file.
 fn database_bytes(rt: &(impl Files + AllocGlobal), path: &str) -> io::Result<Vec<u8>> {
-    let mut reader = fs::open(rt, path)?;
+    let mut reader = open_regular(rt, path)?;
     read_file(rt.alloc(), &mut reader)
 }
 
@@ -138,7 +140,7 @@ fn open_image<'a>(
     file: &str,
     given: Option<&str>,
 ) -> Result<Database<'a>, OpenError> {
-    let image = fs::read(rt, file)?;
+    let image = read_image(rt, file)?;
     let record = image_record(rt.alloc(), image.as_slice())?;
     let bytes = bytes_of_image(rt, file, record.path.as_str(), given)?;
     let held = load(rt.alloc(), arena, bytes, Some(record.identity))?;

@@ -5,9 +5,11 @@
 mod arguments;
 mod database;
 mod files;
+mod image_file;
 mod lines;
 mod loaded;
 mod open_error;
+mod regular_file;
 
 use anyhow::{Result, bail};
 use arguments::{Arguments, command, read};
@@ -25,10 +27,7 @@ fn main(rt: HostRuntime) -> Result<ExitCode> {
     let words = given_words(&rt)?;
     let matches = match command(rt.alloc())?.try_get_matches_from(words.as_slice()) {
         Ok(matches) => matches,
-        Err(error) => {
-            error.print(&rt)?;
-            return Ok(ExitCode::from(if error.use_stderr() { 1 } else { 0 }));
-        }
+        Err(error) => return finish_words(&rt, &error),
     };
     let Some(arguments) = read(&matches) else {
         eprintln!(rt; "pdb_llvm_symbolizer: error: --adjust-vma: expected a non-negative integer")?;
@@ -50,6 +49,18 @@ fn given_words(rt: &(impl Env + AllocGlobal)) -> io::Result<Vec<String>> {
         words.push(word)?;
     }
     Ok(words)
+}
+
+/// Reports what is wrong with the arguments, with status 1, or writes help.
+fn finish_words(rt: &(impl Print + Eprint), error: &clap::Error) -> Result<ExitCode> {
+    let told = error.print(rt);
+    if error.use_stderr() {
+        return Ok(ExitCode::from(1));
+    }
+    match told {
+        Ok(()) => Ok(ExitCode::SUCCESS),
+        Err(_) => bail!("standard output can't be written"),
+    }
 }
 
 /// Why not all answers are written.

@@ -10,7 +10,7 @@ use thiserror::Error;
 /// Why an image or a database can't be loaded. It prints as it is reported.
 #[derive(Debug, Drop, Error)]
 pub enum OpenError {
-    /// The file can't be read: why, as the system says it.
+    /// The file can't be read: why.
     #[error("{0}")]
     File(&'static str),
     /// The database of an image, at that path, can't be read: why.
@@ -69,13 +69,16 @@ impl From<io::Error> for OpenError {
     }
 }
 
-/// Why a file can't be read, as the system says it; None where memory ran out.
+/// Why a file can't be read, as the system says it, or that it isn't a regular file; None where
+/// memory ran out.
 pub fn reason(error: &io::Error) -> Option<&'static str> {
     match error.kind() {
         ErrorKind::OutOfMemory => None,
         ErrorKind::NotFound => Some("No such file or directory"),
         ErrorKind::IsADirectory => Some("Is a directory"),
         ErrorKind::PermissionDenied => Some("Permission denied"),
+        // No call of the system fails with this kind: it is that of `open_regular`.
+        ErrorKind::Other => Some("Not a regular file"),
         _ => Some("Input/output error"),
     }
 }

@@ -30,7 +30,7 @@ fn main(rt: HostRuntime) -> ExitCode {
     let task = match read_words(rt.alloc(), words.as_slice()) {
         Ok(task) => task,
         Err(fault) => {
-            return ExitCode::from(tell_words(&fault, &mut rt.stdout(), &mut errors));
+            return ExitCode::from(finish_words(&fault, &mut rt.stdout(), &mut errors));
         }
     };
     let file = match &task {
@@ -48,6 +48,15 @@ fn main(rt: HostRuntime) -> ExitCode {
     let mut writer = Watched::new(rt.stdout());
     let outcome = run_task(rt.alloc(), &task, bytes, &mut reader, &mut writer);
     ExitCode::from(finish_run(outcome, &mut errors))
+}
+
+/// Reports why the arguments give no task, and returns the exit status; 1 where help can't be
+/// written, which is reported, too.
+fn finish_words<W: Write, E: Write>(fault: &WordsFault, output: &mut W, errors: &mut E) -> u8 {
+    match tell_words(fault, output, errors) {
+        Ok(status) => status,
+        Err(kind) => finish_run(Err(RunFault::Write(kind)), errors),
+    }
 }
 
 /// Writes the report that is asked for.
