@@ -12,7 +12,7 @@
 # there, what that has otherwise. The last line is `N passed, M failed`.
 set -eu
 exec python3 - "$(cd "$(dirname "$0")" && pwd)" "$@" <<'P'
-import os, resource, subprocess, sys
+import os, re, resource, subprocess, sys
 
 here, *words = sys.argv[1:]
 sys.path.insert(0, here)
@@ -23,16 +23,17 @@ SECONDS = 60
 MEMORY = 64 << 20
 LONG = 256 << 20
 # Requests and their answers: the first one has to be answered before the next one comes.
-FRAMES = b"""bytes::rotate(unsigned int, int)
+FRAMES = b"""bytes::rotate
 C:\\src\\checksum.h:6:0
-bytes::Checksum::add(unsigned char)
+bytes::Checksum::add
 C:\\src\\checksum.h:13:0
-archive::verify(archive::Entry const&)
+archive::verify(struct archive::Entry const &)
 C:\\src\\archive.cpp:9:0
 
 """
 ASKED = {b"x64.exe 0x1148\n": FRAMES, b"x64.exe 0x11c4\n": b"plain\n??:0:0\n\n"}
 NO_REQUEST = b"??\n??:0:0\n\n"
+TOO_LONG = rb"pdb_llvm_symbolizer: error: 'a{1,4352}': the line has more than 4351 bytes\n"
 
 
 def started(which, *words, **how):
@@ -76,7 +77,9 @@ def bounds_lines():
     """Whether a line of 256 MB is one that is no request, within 64 MB of memory."""
     limit = lambda: resource.setrlimit(resource.RLIMIT_AS, (MEMORY, MEMORY))
     ran = started(program, preexec_fn=limit)
-    return ran.communicate(b"a" * LONG) == (NO_REQUEST, b"") and ran.returncode == 0
+    output, errors = ran.communicate(b"a" * LONG)
+    is_told = output == NO_REQUEST and re.fullmatch(TOO_LONG, errors)
+    return is_told and ran.returncode == 0
 
 
 place, words = built.taken(words)
