@@ -112,6 +112,36 @@ class Report(Case):
         return came[0] == 1 and came[2] == b"fault: OutOfMemory\n" and wanted[1].startswith(came[1])
 
 
+# Arguments of pdb_symbolizer that ask for no report, with the status, and what stands in the output
+# where that is 0, else in the error output.
+WORDS = {
+    "": (2, b"error: 'pdb_symbolizer' requires a subcommand"),
+    "help": (0, b"Usage: pdb_symbolizer <COMMAND>"),
+    "help sizes": (0, b"Usage: pdb_symbolizer sizes "),
+    "frames --help": (0, b"Usage: pdb_symbolizer frames "),
+    "frames": (2, b"error: the following required arguments were not provided"),
+    "sizes F 10 zz": (2, b"fault: NotAnAddress\n"),
+    "sizes --by-file F 10 zz": (2, b"fault: NotAnAddress\n"),
+    "frame F": (2, b"error: unrecognized subcommand 'frame'"),
+    "frames F --hlep": (2, b"error: unexpected argument '--hlep'"),
+}
+
+
+class Words(Report):
+    """A run of pdb_symbolizer with such arguments."""
+
+    def __init__(self, words):
+        super().__init__(f"words {words}".strip(), words.split())
+        self.told = WORDS[words]
+
+    def differs(self, came):
+        """What differs where nothing was refused."""
+        status, *texts = came
+        told, other = reversed(texts) if status else texts
+        is_told = status == self.told[0] and self.told[1] in told and not other
+        return "" if is_told else shown(came)
+
+
 class DropIn(Case):
     """A run of pdb_llvm_symbolizer."""
 
@@ -150,21 +180,28 @@ def unshared(text):
 
 
 class Asked(Repeating):
-    """A run of `recorded_cases again`, with the recorded answers by their questions."""
+    """A run of `recorded_cases again`, with its questions and their recorded answers, if there are."""
 
     program = "recorded_cases"
 
     def __init__(self, name, words, answers):
         super().__init__(name, ["again", *words])
-        self.answers = {question: unshared(answer) for question, answer in answers.items()}
+        self.questions = list(answers)
+        self.answers = {it: unshared(answer) for it, answer in answers.items() if answer}
 
     def differs(self, came):
-        """A fault is reported as another one where its part failed before."""
-        for line in came[1].decode().splitlines():
-            question, _, answer = unshared(line).partition(" => ")
+        """Each question is asked twice, if an answer is recorded. A fault is reported as another one
+        where its part failed before."""
+        status, output, errors = came
+        lines = [it.partition(" => ") for it in output.decode(errors="replace").split("\n")[:-1]]
+        is_asked = [question for question, _, _ in lines] == 2 * self.questions
+        if self.answers and (status or errors or not is_asked):
+            return f"{shown(came)}, and not each of {len(self.questions)} questions twice"
+        for question, _, answer in lines:
+            answer = unshared(answer)
             recorded = self.answers.get(question, answer)
             if recorded != answer and not (recorded.startswith("fault") and answer.startswith("fault")):
-                return f"{line}, and not {recorded}"
+                return f"{question} => {answer}, and not {recorded}"
         return ""
 
 
@@ -174,8 +211,8 @@ def reports(folder):
         case = Report(row.name, row.arguments(file_of(row, folder)))
         case.given, case.wanted = row.given, (row.status, row.output, row.errors)
         yield case
-    for words in ("", "help", "help sizes", "frames --help", "frames", "sizes F 10 zz", "sizes --by-file F 10 zz", "frame F", "frames F --hlep"):
-        yield Report(f"words {words}".strip(), words.split())
+    for words in WORDS:
+        yield Words(words)
 
 
 def drop_ins():
@@ -227,8 +264,7 @@ def asked(folder):
             name = f"{kind} {database} {flags}"
             with open(f"{folder}/{name}", "w", encoding="ascii") as questions:
                 questions.writelines(f"{it}\n" for it in answers)
-            recorded = {question: answer for question, answer in answers.items() if answer}
-            yield Asked(name, [kind, path, flags, f"{folder}/{name}"], recorded)
+            yield Asked(name, [kind, path, flags, f"{folder}/{name}"], answers)
 
 
 # Runs
