@@ -18,10 +18,10 @@ nothing refused.
   finds no memory says so. The same context or formatter then answers it, and all other questions of
   its file, as if nothing was refused.
 
-CASE is the name of a case: of a row, or as "context DATABASE FLAGS". Without one all are swept. It
-prints how many requests of each function were refused. The last line is `N passed, M failed`, in
-cases. FILE is where the programs lie, if not where the proved ones do, with NAME in it for a
-program's name. A C compiler is needed (Debian: gcc).
+CASE is the name of a case: of a row, or as "context DATABASE FLAGS". Without one all are swept, and
+each program has to have requests. The script prints how many of each function were refused. The
+last line is `N passed, M failed`, in cases. FILE is where the programs lie, with NAME in it for a
+program's name; if left out, the proved ones are run. A C compiler is needed (Debian: gcc).
 """
 import bisect
 import collections
@@ -369,7 +369,7 @@ def library_in(folder):
 
 def main(words):
     place, words = built.taken(words)
-    exceptions, failed, where = exceptions_of(), 0, collections.Counter()
+    exceptions, passed, failed, where = exceptions_of(), 0, 0, collections.Counter()
     with tempfile.TemporaryDirectory(prefix="refused-requests-") as folder:
         library, programs = library_in(folder), {}
         for kind in (Report, DropIn, Read, Asked):
@@ -380,17 +380,22 @@ def main(words):
         if unknown:
             stop(f"no case has the name {', '.join(sorted(unknown))}")
         cases = [it for it in cases if not words or it.name in words]
+        unswept = set() if words else set(programs)
         with concurrent.futures.ProcessPoolExecutor() as lanes:
             lanes_of = [lanes.submit(sweep, programs[it.program], it, exceptions) for it in cases]
-            for it in lanes_of:
+            for case, it in zip(cases, lanes_of):
                 wrong, refused = it.result()
-                failed += bool(wrong)
+                passed, failed = passed + (not wrong), failed + bool(wrong)
                 where.update(refused)
+                unswept -= {case.program} if refused else set()
                 print("".join(f"{line}\n" for line in wrong), end="")
+        for name in sorted(unswept):
+            failed += 1
+            print(f"no request of {name} was refused")
     for name, number in sorted(where.items()):
         print(f"{number:6} refused, of {name}")
     print(f"{sum(where.values())} requests refused")
-    built.end(len(cases) - failed, failed)
+    built.end(passed, failed)
 
 
 if __name__ == "__main__":
