@@ -190,12 +190,14 @@ class Asked(Repeating):
         self.answers = {it: unshared(answer) for it, answer in answers.items() if answer}
 
     def differs(self, came):
-        """Each question is asked twice, if an answer is recorded. A fault is reported as another one
-        where its part failed before."""
+        """Each question is asked twice; of a file without a recorded answer an error may say why it
+        isn't loaded. A fault is reported as another one where its part failed before."""
         status, output, errors = came
+        if (status, output, bool(self.answers)) == (1, b"", False) and errors.startswith(b"Error: "):
+            return ""
         lines = [it.partition(" => ") for it in output.decode(errors="replace").split("\n")[:-1]]
         is_asked = [question for question, _, _ in lines] == 2 * self.questions
-        if self.answers and (status or errors or not is_asked):
+        if status or errors or not is_asked:
             return f"{shown(came)}, and not each of {len(self.questions)} questions twice"
         for question, _, answer in lines:
             answer = unshared(answer)
