@@ -3,11 +3,11 @@
 #
 #   tests/teeth.sh
 #
-# Each script that takes --built is run over /bin/true, over /bin/cat and over no program, on a few of
-# its cases where it takes names of cases: a script that fails on these fails on all. It has to end
-# with status 1 and with a line `N passed, M failed` in which M isn't 0; and docs/RELEASING.md has to
-# have a row of what it says. Then what test.sh counts (tests/count.sh) is tried on commands that
-# pass and fail in all ways. The last line is `N passed, M failed`.
+# Each script that takes --built is run over /bin/true, over /bin/cat and over no program, on a few
+# of its cases where it takes names of cases: a script that fails on these fails on all. It has to
+# end with status 1 and with a line `N passed, M failed` in which M isn't 0; and docs/RELEASING.md
+# has to have a row of what it says. Then what test.sh counts (tests/count.sh) is tried on commands
+# that pass and fail in all ways. The last line is `N passed, M failed`.
 set -u
 cd "$(dirname "$0")/.."
 good=0
