@@ -2,146 +2,194 @@
 # Compares pdb_llvm_symbolizer with what llvm-symbolizer 19 writes, as examples/llvm_expected.sh
 # stored it:
 #
-#   tests/llvm_symbolizer.sh [--write ORIGINAL] [PROGRAM]
+#   tests/llvm_symbolizer.sh [--built FILE] [--write ORIGINAL | CASE..]
 #
-# PROGRAM is the built pdb_llvm_symbolizer; if left out, the proved one. For each case NAME of
-# tests/llvm_symbolizer it runs PROGRAM in crates/pdb_llvm_symbolizer/data with the arguments in
-# NAME.args and the lines of NAME.input. What it writes, and its exit status, have to be
-# NAME.expected, but for the differences in NAME.differs. Then it asks for one address after the
-# other, by a long line, for files that aren't regular, and for huge ones. The last line is
-# 'N passed, M failed'. With --write it stores what ORIGINAL, llvm-symbolizer 19, writes.
-set -u
-top=$(cd "$(dirname "$0")/.." && pwd)
-cases=$top/tests/llvm_symbolizer
-data=$top/crates/pdb_llvm_symbolizer/data
-original=
-if [ "${1:-}" = --write ]; then
-    original=$2
-    shift 2
-fi
-program=${1:-$top/crates/pdb_llvm_symbolizer/out/pdb_llvm_symbolizer}
-program=$(realpath "$program")
-came=$(mktemp)
-trap 'rm -f "$came"' EXIT
+# FILE is where the program lies, with NAME in it for its name; if left out, the proved one is run.
+# CASE is the name of a case of tests/llvm_symbolizer, whose form tests/llvm_cases.py has; if left
+# out, all are run. Output, exit status and error output have to be those stored, but for the stored
+# differences. Then the program is asked for one address after the other, by a line of 256 MB, for
+# files that aren't regular, and for huge ones.
+# With --write the script stores what ORIGINAL, llvm-symbolizer 19, writes, and, if the program is
+# there, what that has otherwise. The last line is `N passed, M failed`.
+set -eu
+exec python3 - "$(cd "$(dirname "$0")" && pwd)" "$@" <<'P'
+import os, re, resource, shutil, struct, subprocess, sys, tempfile
 
-# Runs a program on a case: its output, and its status as the last line.
-run() {
-    local input=/dev/null words
-    [ -e "$cases/$2.input" ] && input=$cases/$2.input
-    mapfile -t words < "$cases/$2.args"
-    (cd "$data" && "$1" "${words[@]}" < "$input" 2> /dev/null)
-    echo "status $?"
+here, *words = sys.argv[1:]
+sys.path.insert(0, here)
+sys.dont_write_bytecode = True
+import built, llvm_cases
+
+SECONDS = 60
+MEMORY = 64 << 20
+LONG = 256 << 20
+# Requests and their answers: the first one has to be answered before the next one comes.
+FRAMES = b"""bytes::rotate
+C:\\src\\checksum.h:6:0
+bytes::Checksum::add
+C:\\src\\checksum.h:13:0
+archive::verify(struct archive::Entry const &)
+C:\\src\\archive.cpp:9:0
+
+"""
+ASKED = {b"x64.exe 0x1148\n": FRAMES, b"x64.exe 0x11c4\n": b"plain\n??:0:0\n\n"}
+# What is no regular file, and what is reported of it.
+NO_FILES = {
+    "missing": "No such file or directory",
+    "folder": "Is a directory",
+    "fifo": "Not a regular file",
+    "/dev/stdin": "Not a regular file",
+    "/dev/null": "Not a regular file",
+    "/dev/zero": "Not a regular file",
 }
+NO_REQUEST = b"??\n??:0:0\n\n"
+TOO_LONG = rb"pdb_llvm_symbolizer: error: 'a{1,4352}': the line has more than 4351 bytes\n"
 
-# Whether an answer comes before the input ends, and the one to the next line after that.
-answers_in_turn() {
-    local word first= second=
-    coproc ASKED { cd "$data" && exec "$program" --relative-address 2> /dev/null; }
-    echo 'x64.exe 0x1148' >&"${ASKED[1]}"
-    while read -r -t 20 word <&"${ASKED[0]}" && [ -n "$word" ]; do first=$first$word; done
-    echo 'x64.exe 0x1168' >&"${ASKED[1]}"
-    while read -r -t 20 word <&"${ASKED[0]}" && [ -n "$word" ]; do second=$second$word; done
-    kill "$ASKED_PID"
-    [ "${first%%:*}" = bytes ] && [ -n "$second" ]
-}
 
-# Whether a line of 256 MB is one that is no request, within 64 MB of memory.
-bounds_lines() {
-    local lines
-    lines=$(head -c 268435456 /dev/zero | tr '\0' a | (ulimit -v 65536 && "$program") 2> /dev/null)
-    [ "$lines" = $'??\n??:0:0' ]
-}
+def started(which, *words, **how):
+    """A run of a program in the folder of images, of no more than so many seconds."""
+    command = ["timeout", str(SECONDS), which, *words]
+    pipes = dict.fromkeys(("stdin", "stdout", "stderr"), subprocess.PIPE)
+    return subprocess.Popen(command, cwd=llvm_cases.DATA, **pipes, **how)
 
-# Writes x64.exe with the path $1 in place of its database's.
-image_of() {
-    python3 - "$data/x64.exe" "$1" <<'P'
-import struct, sys
 
-image = bytearray(open(sys.argv[1], "rb").read())
-record = image.index(b"RSDS")
-path = sys.argv[2].encode() + b"\0"
-entry = image.index(struct.pack("<I", record)) - 24
-assert struct.unpack_from("<I", image, entry + 12) == (2,)
-struct.pack_into("<I", image, entry + 16, 24 + len(path))
-image[record + 24 : record + 24 + len(path)] = path
-sys.stdout.buffer.write(image)
+def run(which, name):
+    """What a program writes on a case, and its status."""
+    ran = started(which, *llvm_cases.arguments(name))
+    output, errors = ran.communicate(llvm_cases.content(name, "input"))
+    return llvm_cases.told(ran.returncode, output, errors)
+
+
+def store(name, kind, text):
+    """Stores a case's file, or removes it if it would be empty."""
+    path = f"{llvm_cases.CASES}/{name}.{kind}"
+    with open(path, "wb") as file:
+        file.write(text)
+    if not text:
+        os.remove(path)
+
+
+def answers_in_turn():
+    """Whether an answer comes before the input ends, and the one to the next line after that."""
+    ran = started(program, "--relative-address")
+    for request, answer in ASKED.items():
+        try:
+            ran.stdin.write(request)
+            ran.stdin.flush()
+        except BrokenPipeError:
+            return False
+        if ran.stdout.read(len(answer)) != answer:
+            return False
+    return ran.communicate() == (b"", b"") and ran.returncode == 0
+
+
+def bounds_lines():
+    """Whether a line of 256 MB is one that is no request, within 64 MB of memory."""
+    limit = lambda: resource.setrlimit(resource.RLIMIT_AS, (MEMORY, MEMORY))
+    ran = started(program, preexec_fn=limit)
+    output, errors = ran.communicate(b"a" * LONG)
+    is_told = output == NO_REQUEST and re.fullmatch(TOO_LONG, errors)
+    return is_told and ran.returncode == 0
+
+
+def image_of(database):
+    """The bytes of x64.exe with another path in place of its database's."""
+    with open(f"{llvm_cases.DATA}/x64.exe", "rb") as file:
+        image = bytearray(file.read())
+    record = image.index(b"RSDS")
+    path = database.encode() + b"\0"
+    entry = image.index(struct.pack("<I", record)) - 24
+    assert struct.unpack_from("<I", image, entry + 12) == (2,)
+    struct.pack_into("<I", image, entry + 16, 24 + len(path))
+    image[record + 24 : record + 24 + len(path)] = path
+    return bytes(image)
+
+
+def copied_data(room):
+    """Copies the image and its database into a folder."""
+    for name in ("x64.exe", "x64.pdb"):
+        shutil.copy(f"{llvm_cases.DATA}/{name}", room)
+
+
+def refuses(room, words, reported):
+    """Whether a request by arguments alone is answered by a report of why, and at once."""
+    ran = subprocess.run(
+        ["timeout", "20", program, *words, "0x1148"], cwd=room, input=b"", capture_output=True
+    )
+    errors = f"pdb_llvm_symbolizer: error: {reported}\n".encode()
+    return (ran.returncode, ran.stdout, ran.stderr) == (1, b"", errors)
+
+
+def opens_regular_files():
+    """Whether a folder, a FIFO, a pipe and devices are answered as a missing file, at once, as what
+    is asked for and as its database. No request is taken for one: the last line is answered."""
+    with tempfile.TemporaryDirectory() as room:
+        copied_data(room)
+        os.mkfifo(f"{room}/fifo")
+        os.mkdir(f"{room}/folder")
+        requests = reported = ""
+        for place, why in NO_FILES.items():
+            if not refuses(room, [f"--obj={place}"], f"'{place}': {why}"):
+                return False
+            told = f"'x64.exe': '{place}': {why}"
+            if not refuses(room, ["--obj=x64.exe", f"--pdb={place}"], told):
+                return False
+            image = f"{os.path.basename(place)}.exe"
+            with open(f"{room}/{image}", "wb") as file:
+                file.write(image_of(place))
+            requests += f"{place} 0x1148\n{image} 0x1148\n"
+            reported += f"pdb_llvm_symbolizer: error: '{place}': {why}\n"
+            reported += f"pdb_llvm_symbolizer: error: '{image}': '{place}': {why}\n"
+        ran = subprocess.run(
+            ["timeout", "20", program, "--relative-address"],
+            cwd=room, input=f"{requests}x64.exe 0x1148\n".encode(), capture_output=True,
+        )
+        answers = NO_REQUEST * 2 * len(NO_FILES) + FRAMES
+        return ran.returncode == 0 and (ran.stdout, ran.stderr) == (answers, reported.encode())
+
+
+def reads_as_far_as_headers():
+    """Whether images and databases are read as far as their headers say: files of 100 GB are
+    answered, and one that is no image refused, within 64 MB of memory."""
+    limit = lambda: resource.setrlimit(resource.RLIMIT_AS, (MEMORY, MEMORY))
+    with tempfile.TemporaryDirectory() as room:
+        copied_data(room)
+        with open(f"{room}/no.exe", "wb") as file:
+            file.write(b"MZ")
+        for name in ("x64.exe", "x64.pdb", "no.exe"):
+            os.truncate(f"{room}/{name}", 100 << 30)
+        requests = b"no.exe 0x1148\nx64.exe 0x1148\nx64.pdb 0x1148\n"
+        ran = subprocess.run(
+            ["timeout", "60", program, "--relative-address"],
+            cwd=room, input=requests, capture_output=True, preexec_fn=limit,
+        )
+    errors = b"pdb_llvm_symbolizer: error: 'no.exe': the file has no PE signature\n"
+    is_told = (ran.returncode, ran.stderr) == (0, errors)
+    return is_told and ran.stdout == NO_REQUEST + FRAMES + FRAMES
+
+
+place, words = built.taken(words)
+is_writing = words[:1] == ["--write"]
+names = llvm_cases.names()
+if is_writing:
+    for name in names:
+        store(name, "expected", run(words[1], name))
+elif words:
+    names = words
+program = built.program(place, "pdb_llvm_symbolizer")
+failed = 0
+for name in names:
+    differs = llvm_cases.differences(name, run(program, name))
+    if is_writing:
+        store(name, "differs", differs)
+    if differs != llvm_cases.content(name, "differs"):
+        failed += 1
+        print(f"{name}: otherwise than llvm-symbolizer, and not as {name}.differs says:")
+        print(differs.decode(errors="replace"))
+TESTS = (answers_in_turn, bounds_lines, opens_regular_files, reads_as_far_as_headers)
+for test in TESTS:
+    if not test():
+        failed += 1
+        print(f"{test.__name__}: failed")
+built.end(len(names) + len(TESTS) - failed, failed)
 P
-}
-
-# Whether a folder, a FIFO, a pipe and devices are answered as a missing file, at once, as what is
-# asked for and as its database. No request is taken for one: the last line is answered.
-opens_regular_files() (
-    local room place reason reported= answers=
-    room=$(mktemp -d) && trap 'rm -rf "$room"' EXIT && cd "$room" && mkfifo fifo && mkdir folder
-    cp "$data"/x64.* .
-    while read -r place reason; do
-        : | timeout 20 "$program" "--obj=$place" 0x1148 > out 2> errors
-        [ $? -eq 1 ] && [ ! -s out ] || return 1
-        [ "$(cat errors)" = "pdb_llvm_symbolizer: error: '$place': $reason" ] || return 1
-        : | timeout 20 "$program" --obj=x64.exe "--pdb=$place" 0x1148 > out 2> errors
-        [ $? -eq 1 ] && [ ! -s out ] || return 1
-        [ "$(cat errors)" = "pdb_llvm_symbolizer: error: 'x64.exe': '$place': $reason" ] || return 1
-        image_of "$place" > "${place##*/}.exe"
-        printf '%s 0x1148\n' "$place" "${place##*/}.exe" >> requests
-        reported+="pdb_llvm_symbolizer: error: '$place': $reason"$'\n'
-        reported+="pdb_llvm_symbolizer: error: '${place##*/}.exe': '$place': $reason"$'\n'
-        answers+=$'??\n??:0:0\n\n??\n??:0:0\n\n'
-    done <<'P'
-missing No such file or directory
-folder Is a directory
-fifo Not a regular file
-/dev/stdin Not a regular file
-/dev/null Not a regular file
-/dev/zero Not a regular file
-P
-    echo 'x64.exe 0x1148' >> requests
-    cat requests | timeout 20 "$program" --relative-address > out 2> errors || return 1
-    [ "$(cat errors)" = "${reported%$'\n'}" ] || return 1
-    [ "$(head -n 38 out)" = "$answers"$'bytes::rotate\nC:\\src\\checksum.h:6:0' ]
-)
-
-# Whether images and databases are read as far as their headers say: files of 100 GB are answered,
-# and one that is no image refused, within 64 MB of memory.
-reads_as_far_as_headers() (
-    local room frame=$'bytes::rotate\nC:\\src\\checksum.h:6:0'
-    room=$(mktemp -d) && trap 'rm -rf "$room"' EXIT && cd "$room" && cp "$data"/x64.* .
-    printf MZ > no.exe && truncate -s 100G x64.exe x64.pdb no.exe || return 1
-    printf '%s 0x1148\n' no.exe x64.exe x64.pdb | (ulimit -v 65536 \
-        && timeout 60 "$program" --relative-address > out 2> errors) || return 1
-    [ "$(cat errors)" = "pdb_llvm_symbolizer: error: 'no.exe': the file has no PE signature" ] \
-        || return 1
-    [ "$(sed -n '1,5p;11,12p' out)" = $'??\n??:0:0\n\n'"$frame"$'\n'"$frame" ]
-)
-
-passed=0
-failed=0
-for args in "$cases"/*.args; do
-    name=$(basename "$args" .args)
-    [ -n "$original" ] && run "$original" "$name" > "$cases/$name.expected"
-    [ -x "$program" ] || continue
-    run "$program" "$name" > "$came"
-    differs=$(diff "$cases/$name.expected" "$came")
-    if [ -n "$original" ]; then
-        rm -f "$cases/$name.differs"
-        [ -n "$differs" ] && echo "$differs" > "$cases/$name.differs"
-    fi
-    if [ "$differs" = "$(cat "$cases/$name.differs" 2> /dev/null)" ]; then
-        passed=$((passed + 1))
-    else
-        failed=$((failed + 1))
-        echo "$name: otherwise than llvm-symbolizer, and not as $name.differs says:"
-        echo "$differs"
-    fi
-done
-if [ -x "$program" ]; then
-    for test in answers_in_turn bounds_lines opens_regular_files reads_as_far_as_headers; do
-        if $test; then
-            passed=$((passed + 1))
-        else
-            failed=$((failed + 1))
-            echo "$test: failed"
-        fi
-    done
-fi
-echo "$passed passed, $failed failed"
-[ "$failed" -eq 0 ]

@@ -18,9 +18,10 @@ nothing refused.
   finds no memory says so. The same context or formatter then answers it, and all other questions of
   its file, as if nothing was refused.
 
-CASE is the name of a case: of a row, or as "context DATABASE FLAGS". Without one all are swept. It
-prints how many requests of each function were refused. The last line is `N passed, M failed`, in
-cases. FILE is where a program lies, with NAME for its name. A C compiler is needed (Debian: gcc).
+CASE is the name of a case: of a row, or as "context DATABASE FLAGS". Without one all are swept, and
+each program has to have requests. The script prints how many of each function were refused. The
+last line is `N passed, M failed`, in cases. FILE is where the programs lie, with NAME in it for a
+program's name; if left out, the proved ones are run. A C compiler is needed (Debian: gcc).
 """
 import bisect
 import collections
@@ -35,7 +36,10 @@ import tempfile
 HERE = os.path.dirname(os.path.realpath(__file__))
 sys.path.insert(0, os.path.dirname(HERE))
 sys.dont_write_bytecode = True
-from recorded import DATA, ROOT, Malformed, database_of, reports_of, stop  # noqa: E402
+import built  # noqa: E402
+import llvm_cases  # noqa: E402
+from built import ROOT, stop  # noqa: E402
+from recorded import DATA, Malformed, database_of, reports_of  # noqa: E402
 
 READS = f"{ROOT}/crates/recorded_reads/data"
 SECONDS = 60
@@ -108,10 +112,46 @@ class Report(Case):
         return came[0] == 1 and came[2] == b"fault: OutOfMemory\n" and wanted[1].startswith(came[1])
 
 
+# Arguments of pdb_symbolizer that ask for no report, with the status, and what stands in the output
+# where that is 0, else in the error output.
+WORDS = {
+    "": (2, b"error: 'pdb_symbolizer' requires a subcommand"),
+    "help": (0, b"Usage: pdb_symbolizer <COMMAND>"),
+    "help sizes": (0, b"Usage: pdb_symbolizer sizes "),
+    "frames --help": (0, b"Usage: pdb_symbolizer frames "),
+    "frames": (2, b"error: the following required arguments were not provided"),
+    "sizes F 10 zz": (2, b"fault: NotAnAddress\n"),
+    "sizes --by-file F 10 zz": (2, b"fault: NotAnAddress\n"),
+    "frame F": (2, b"error: unrecognized subcommand 'frame'"),
+    "frames F --hlep": (2, b"error: unexpected argument '--hlep'"),
+}
+
+
+class Words(Report):
+    """A run of pdb_symbolizer with such arguments."""
+
+    def __init__(self, words):
+        super().__init__(f"words {words}".strip(), words.split())
+        self.told = WORDS[words]
+
+    def differs(self, came):
+        """What differs where nothing was refused."""
+        status, *texts = came
+        told, other = reversed(texts) if status else texts
+        is_told = status == self.told[0] and self.told[1] in told and not other
+        return "" if is_told else shown(came)
+
+
 class DropIn(Case):
     """A run of pdb_llvm_symbolizer."""
 
-    program, folder = "pdb_llvm_symbolizer", f"{ROOT}/crates/pdb_llvm_symbolizer/data"
+    program, folder = "pdb_llvm_symbolizer", llvm_cases.DATA
+
+    def differs(self, came):
+        """What is neither llvm-symbolizer's nor a stored difference where nothing was refused."""
+        name = self.name.removeprefix("llvm ")
+        differences = llvm_cases.differences(name, llvm_cases.told(*came))
+        return "" if differences == llvm_cases.content(name, "differs") else shown(came)
 
     def is_right(self, wanted, came):
         """Whether a run in which a request was refused is as it has to be."""
@@ -140,21 +180,30 @@ def unshared(text):
 
 
 class Asked(Repeating):
-    """A run of `recorded_cases again`, with the recorded answers by their questions."""
+    """A run of `recorded_cases again`, with its questions and their recorded answers, if there are."""
 
     program = "recorded_cases"
 
     def __init__(self, name, words, answers):
         super().__init__(name, ["again", *words])
-        self.answers = {question: unshared(answer) for question, answer in answers.items()}
+        self.questions = list(answers)
+        self.answers = {it: unshared(answer) for it, answer in answers.items() if answer}
 
     def differs(self, came):
-        """A fault is reported as another one where its part failed before."""
-        for line in came[1].decode().splitlines():
-            question, _, answer = unshared(line).partition(" => ")
+        """Each question is asked twice; of a file without a recorded answer an error may say why it
+        isn't loaded. A fault is reported as another one where its part failed before."""
+        status, output, errors = came
+        if (status, output, bool(self.answers)) == (1, b"", False) and errors.startswith(b"Error: "):
+            return ""
+        lines = [it.partition(" => ") for it in output.decode(errors="replace").split("\n")[:-1]]
+        is_asked = [question for question, _, _ in lines] == 2 * self.questions
+        if status or errors or not is_asked:
+            return f"{shown(came)}, and not each of {len(self.questions)} questions twice"
+        for question, _, answer in lines:
+            answer = unshared(answer)
             recorded = self.answers.get(question, answer)
             if recorded != answer and not (recorded.startswith("fault") and answer.startswith("fault")):
-                return f"{line}, and not {recorded}"
+                return f"{question} => {answer}, and not {recorded}"
         return ""
 
 
@@ -164,22 +213,16 @@ def reports(folder):
         case = Report(row.name, row.arguments(file_of(row, folder)))
         case.given, case.wanted = row.given, (row.status, row.output, row.errors)
         yield case
-    for words in ("", "help", "help sizes", "frames --help", "frames", "sizes F 10 zz", "sizes --by-file F 10 zz", "frame F", "frames F --hlep"):
-        yield Report(f"words {words}".strip(), words.split())
+    for words in WORDS:
+        yield Words(words)
 
 
 def drop_ins():
     """pdb_llvm_symbolizer on the cases that are compared with llvm-symbolizer."""
-    cases = f"{ROOT}/tests/llvm_symbolizer"
-    for file in sorted(os.listdir(cases)):
-        name, kind = os.path.splitext(file)
-        if kind == ".args":
-            with open(f"{cases}/{file}", encoding="utf-8") as words:
-                case = DropIn(f"llvm {name}", words.read().splitlines())
-            if os.path.exists(f"{cases}/{name}.input"):
-                with open(f"{cases}/{name}.input", "rb") as given:
-                    case.given = given.read()
-            yield case
+    for name in llvm_cases.names():
+        case = DropIn(f"llvm {name}", llvm_cases.arguments(name))
+        case.given = llvm_cases.content(name, "input")
+        yield case
 
 
 def reads(folder):
@@ -223,8 +266,7 @@ def asked(folder):
             name = f"{kind} {database} {flags}"
             with open(f"{folder}/{name}", "w", encoding="ascii") as questions:
                 questions.writelines(f"{it}\n" for it in answers)
-            recorded = {question: answer for question, answer in answers.items() if answer}
-            yield Asked(name, [kind, path, flags, f"{folder}/{name}"], recorded)
+            yield Asked(name, [kind, path, flags, f"{folder}/{name}"], answers)
 
 
 # Runs
@@ -247,7 +289,7 @@ class Program:
 
     def run(self, case, number=None):
         """Runs a case with the request with that number refused, or with none. It gives what came,
-        how many requests there were, and who asked."""
+        how many requests there were, -1 if none was looked for, and who asked."""
         read, write = os.pipe()
         environment = {**self.environment, "REFUSE_REPORT": str(write)}
         if number:
@@ -268,7 +310,8 @@ class Program:
             lines = dict(line.split(" ", 1) for line in told.read().splitlines())
         places = lines.get("refused", "0").split()[1:]
         callers = [self.function_at(int(place, 16)) for place in places]
-        return (ran.returncode, ran.stdout, ran.stderr), int(lines.get("requests", "-1")), callers
+        spans, count = map(int, lines.get("requests", "0 -1").split())
+        return (ran.returncode, ran.stdout, ran.stderr), count if spans else -1, callers
 
 
 def sweep(program, case, exceptions):
@@ -327,34 +370,38 @@ def library_in(folder):
 
 
 def main(words):
-    built = f"{ROOT}/crates/NAME/out/NAME"
-    if words[:1] == ["--built"]:
-        built, words = words[1], words[2:]
-    exceptions, failed, where = exceptions_of(), 0, collections.Counter()
+    place, words = built.taken(words)
+    exceptions, passed, failed, where = exceptions_of(), 0, 0, collections.Counter()
     with tempfile.TemporaryDirectory(prefix="refused-requests-") as folder:
         library, programs = library_in(folder), {}
         for kind in (Report, DropIn, Read, Asked):
-            file = built.replace("NAME", kind.program)
-            if not os.path.isfile(file):
-                stop(f"{file} isn't there: rt ci builds it")
+            file = built.program(place, kind.program)
             programs[kind.program] = Program(file, library, kind in (Read, Asked))
-        cases = [it for it in [*reports(folder), *drop_ins(), *reads(folder), *asked(folder)] if not words or it.name in words]
+        cases = [*reports(folder), *drop_ins(), *reads(folder), *asked(folder)]
+        unknown = set(words) - {it.name for it in cases}
+        if unknown:
+            stop(f"no case has the name {', '.join(sorted(unknown))}")
+        cases = [it for it in cases if not words or it.name in words]
+        unswept = set() if words else set(programs)
         with concurrent.futures.ProcessPoolExecutor() as lanes:
             lanes_of = [lanes.submit(sweep, programs[it.program], it, exceptions) for it in cases]
-            for it in lanes_of:
+            for case, it in zip(cases, lanes_of):
                 wrong, refused = it.result()
-                failed += bool(wrong)
+                passed, failed = passed + (not wrong), failed + bool(wrong)
                 where.update(refused)
+                unswept -= {case.program} if refused else set()
                 print("".join(f"{line}\n" for line in wrong), end="")
+        for name in sorted(unswept):
+            failed += 1
+            print(f"no request of {name} was refused")
     for name, number in sorted(where.items()):
         print(f"{number:6} refused, of {name}")
     print(f"{sum(where.values())} requests refused")
-    print(f"{len(cases) - failed} passed, {failed} failed")
-    return 1 if failed else 0
+    built.end(passed, failed)
 
 
 if __name__ == "__main__":
     try:
-        sys.exit(main(sys.argv[1:]))
+        main(sys.argv[1:])
     except Malformed as malformed:
         stop(malformed)
