@@ -265,7 +265,9 @@ def asked(folder):
         for kind in (kind, *["symbolizer"] * (kind == "context" and flags == "23")):
             name = f"{kind} {database} {flags}"
             with open(f"{folder}/{name}", "w", encoding="ascii") as questions:
-                questions.writelines(f"{it}\n" for it in answers)
+                # All functions come first: a call for them that is refused leaves no part as failed, or a fault differs.
+                in_order = sorted(answers, key=lambda it: it.split()[0] != "functions")
+                questions.writelines(f"{it}\n" for it in in_order)
             yield Asked(name, [kind, path, flags, f"{folder}/{name}"], answers)
 
 
