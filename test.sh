@@ -4,33 +4,7 @@
 # docs/RELEASING.md. It fails where one fails; the last line counts all.
 set -u
 cd "$(dirname "$0")"
-log=$(mktemp)
-trap 'rm -f "$log"' EXIT
-
-passed=0
-failed=0
-status=0
-
-# Runs a command, and counts what its last line says; one that fails and says nothing of it is one
-# failure.
-count() {
-    local ended=0 said
-    "$@" 2>&1 | tee "$log"
-    ended=${PIPESTATUS[0]}
-    said=$(tail -n 1 "$log")
-    if [[ $said =~ ^([0-9]+)\ passed,\ ([0-9]+)\ failed ]]; then
-        passed=$((passed + BASH_REMATCH[1]))
-        failed=$((failed + BASH_REMATCH[2]))
-    elif [[ $ended -eq 0 ]]; then
-        ended=1
-    fi
-    if [[ $ended -ne 0 ]]; then
-        status=1
-        if [[ ! $said =~ \ [1-9][0-9]*\ failed ]]; then
-            failed=$((failed + 1))
-        fi
-    fi
-}
+. tests/count.sh
 
 # A second job of one check loads once more what that stands on: a quarter more processor time. On
 # few processors all of them are busy without it. So there `rt ci` runs as many checks as there are
@@ -50,6 +24,6 @@ count tests/manual.sh
 count tests/llvm_symbolizer.sh
 count python3 tests/stack.py
 count python3 tests/costly_files.py
-tests/version.sh || { failed=$((failed + 1)); status=1; }
-echo "$passed passed, $failed failed"
-exit "$status"
+count tests/version.sh
+count tests/teeth.sh
+total

@@ -5,12 +5,12 @@
 
 PROGRAM is the built pdb_symbolizer. Each case is a function below: it makes a file of about so many
 bytes, and addresses to ask. Times are processor seconds, memory the most that the process held."""
-import os
-import resource
 import struct
-import subprocess
 import sys
 import tempfile
+
+sys.dont_write_bytecode = True
+import meter  # noqa: E402
 
 MAGIC = b"Microsoft C/C++ MSF 7.00\r\n\x1aDS\0\0\0"
 PAGE = 0x1000
@@ -444,22 +444,12 @@ def asked(case, file, addresses):
     return ["frames", file], addresses
 
 
-def measured(program, arguments, addresses, limit):
-    """Status, processor seconds and megabytes of one run."""
+def measured(program, arguments, addresses, limit, **how):
+    """How a run ended, its processor seconds and its megabytes."""
     lines = "".join(f"{it:x}\n" for it in addresses).encode()
-    before = lambda: resource.setrlimit(resource.RLIMIT_CPU, (limit, limit))
-    how = {"stdin": subprocess.PIPE, "stdout": subprocess.DEVNULL, "stderr": subprocess.PIPE}
-    ran = subprocess.Popen([program, *arguments], preexec_fn=before, **how)
-    try:
-        ran.stdin.write(lines)
-        ran.stdin.close()
-    except BrokenPipeError:
-        pass  # (it ended before it read all)
-    said = ran.stderr.read().decode().strip()
-    _, status, used = os.wait4(ran.pid, 0)
-    code = os.waitstatus_to_exitcode(status)
-    ended = said or ("" if code == 0 else f"status {code}")
-    return ended, used.ru_utime + used.ru_stime, used.ru_maxrss / 1024
+    words = [program, *arguments]
+    seconds, memory, status, said = meter.measured(words, limit=limit, input=lines, **how)
+    return said or ("" if status == 0 else f"status {status}"), seconds, memory
 
 
 def main():

@@ -8,6 +8,9 @@ import re
 import subprocess
 import sys
 
+sys.dont_write_bytecode = True
+import meter  # noqa: E402
+
 count = sys.argv[1] == "--count"
 out, program, original, *names = sys.argv[1 + count :]
 programs = [program, original] if original else [program]
@@ -30,27 +33,13 @@ def addresses_of(name):
         yield words, file
 
 
-# Starts a program and prints its processor seconds, its greatest memory in KB and its status. It is
-# a process of its own, and a small one: what a process holds as it becomes another program counts
-# as that program's memory.
-METER = """
-import os, sys
-started = os.posix_spawn(sys.argv[1], sys.argv[1:], os.environ)
-_, status, used = os.wait4(started, 0)
-print(used.ru_utime + used.ru_stime, used.ru_maxrss, status, file=sys.stderr)
-"""
-
-
 def once(which, pdb, asked):
     """The processor seconds (user and system) and the greatest memory in MB of a run."""
-    words = [sys.executable, "-I", "-S", "-c", METER, which, "frames", pdb]
     with open(asked, "rb") as given:
-        outputs = {"stdout": subprocess.DEVNULL, "stderr": subprocess.PIPE}
-        ran = subprocess.run(words, stdin=given, text=True, **outputs)
-    seconds, memory, status = ran.stderr.split()[-3:]
-    if int(status):
+        seconds, memory, status, _ = meter.measured([which, "frames", pdb], stdin=given)
+    if status:
         sys.exit(f"{which} frames {pdb} < {asked}: status {status}")
-    return float(seconds), int(memory) / 1024
+    return seconds, memory
 
 
 def written(which, pdb, asked):

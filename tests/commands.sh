@@ -2,29 +2,34 @@
 # Runs the commands of README.md, docs/GUIDE.md and docs/RELEASING.md as they stand, and compares
 # what they print:
 #
-#   tests/commands.sh [--write] [--slow] [PROGRAM]
+#   tests/commands.sh [--built FILE] [--write] [--quick | --slow] [DOCUMENT..]
 #
-# PROGRAM is the built pdb_symbolizer; if left out, the proved one. pdb_llvm_symbolizer is always
-# the proved one.
+# FILE is where pdb_symbolizer and pdb_llvm_symbolizer lie, with NAME in it for a program's name; if
+# left out, the proved ones are run. DOCUMENT is one of these three documents; if left out, all are.
 # A block of a document that begins with `    $ ` is a transcript. Each such line is a command, and
-# the lines below it are what it prints, on standard error too. A command with nothing below it has
-# to end with status 0. Each transcript runs in a new folder, with both programs on the path and
-# their data in data/. What compiles or copies runs in a copy of the repository. What proves or
-# measures isn't run here. RELEASING's command that tries a thousand files runs with --slow alone.
-# Each block ```rust has to stand in crates/example_calls. With --write what came is put into the
-# documents. The last line is `N passed, M failed`.
+# the lines below it are what it prints, on standard error too. Each has to end with status 0; what
+# one with nothing below it prints isn't compared. Each transcript runs in a new folder, with both
+# programs on the path and their data in data/. What compiles or copies runs in a copy of the
+# repository; with --quick it is left out. What proves or measures isn't run here. RELEASING's
+# command that tries a thousand files runs with --slow alone. Each block ```rust has to stand in
+# crates/example_calls. With --write what came is put into the documents. The last line is
+# `N passed, M failed`, in commands.
 set -eu
-top=$(cd "$(dirname "$0")/.." && pwd)
-exec python3 - "$top" "$@" <<'P'
+exec python3 - "$(cd "$(dirname "$0")" && pwd)" "$@" <<'P'
 import os, re, shutil, subprocess, sys, tempfile
 
-top, *words = sys.argv[1:]
+here, *words = sys.argv[1:]
+sys.path.insert(0, here)
+sys.dont_write_bytecode = True
+import built
+
+DOCUMENTS = ["README.md", "docs/GUIDE.md", "docs/RELEASING.md"]
+PROGRAMS = ["pdb_symbolizer", "pdb_llvm_symbolizer"]
+top = built.ROOT
+place, words = built.taken(words)
 flags = [it for it in words if it.startswith("--")]
-programs = [it for it in words if not it.startswith("--")]
-program = os.path.abspath((programs or [f"{top}/crates/pdb_symbolizer/out/pdb_symbolizer"])[0])
-if not os.access(program, os.X_OK):
-    sys.exit(f"no program at {program}: build it by rt run in crates/pdb_symbolizer, or name one")
-drop_in = f"{top}/crates/pdb_llvm_symbolizer/out/pdb_llvm_symbolizer"
+documents = [it for it in words if not it.startswith("--")] or DOCUMENTS
+programs = {name: built.program(place, name) for name in PROGRAMS}
 LONG = re.compile(r"rt (run|ci|check|test|must-fail|plant)\b|bench/")
 SLOW = re.compile(r"rt try\b|examples/|tests/|\./|install ")
 
@@ -49,10 +54,11 @@ def transcripts(lines):
 
 
 def copied(to):
-    """A copy of the repository, with the program where it lies once it was built."""
+    """A copy of the repository, with the programs where they lie once they were built."""
     shutil.copytree(top, to, ignore=shutil.ignore_patterns(".git", "out"))
-    os.mkdir(f"{to}/crates/pdb_symbolizer/out")
-    shutil.copy(program, f"{to}/crates/pdb_symbolizer/out/pdb_symbolizer")
+    for name, program in programs.items():
+        os.mkdir(f"{to}/crates/{name}/out")
+        shutil.copy(program, f"{to}/crates/{name}/out/{name}")
     return to
 
 
@@ -67,17 +73,19 @@ def run_transcript(lines, room, name):
     if any(LONG.match(it) for it, _ in commands):
         return None, "it takes too long"
     slow = any(SLOW.match(it) for it, _ in commands)
+    if slow and "--quick" in flags:
+        return None, "with --quick"
     if slow and name == "docs/RELEASING.md" and "--slow" not in flags:
         return None, "without --slow"
     os.makedirs(f"{room}/bin")
-    os.symlink(program, f"{room}/bin/pdb_symbolizer")
-    os.symlink(drop_in, f"{room}/bin/pdb_llvm_symbolizer")
+    for program, file in programs.items():
+        os.symlink(file, f"{room}/bin/{program}")
     if slow:
         folder = copied(f"{room}/copy")
     else:
         folder = f"{room}/work"
-        for name in ("pdb_symbolizer", "pdb_llvm_symbolizer"):
-            shutil.copytree(f"{top}/crates/{name}/data", f"{folder}/data", dirs_exist_ok=True)
+        for program in programs:
+            shutil.copytree(f"{top}/crates/{program}/data", f"{folder}/data", dirs_exist_ok=True)
     came = []
     for command, wanted in commands:
         if command.startswith("cd "):
@@ -87,7 +95,7 @@ def run_transcript(lines, room, name):
         path = f"{room}/bin:{os.environ['PATH']}"
         how = {"stdin": subprocess.DEVNULL, "stdout": subprocess.PIPE, "stderr": subprocess.STDOUT}
         how["env"] = {**os.environ, "PATH": path, "HOME": room}
-        ran = subprocess.run(["bash", "-c", command], cwd=folder, **how)
+        ran = subprocess.run(["bash", "-o", "pipefail", "-c", command], cwd=folder, **how)
         text = ran.stdout.decode(errors="replace")
         came.append((command, wanted, text.rstrip("\n").splitlines(), ran.returncode))
     return came, None
@@ -106,10 +114,10 @@ def check(name):
             continue
         fresh = []
         for command, wanted, got, status in came:
-            count += 1
+            count += not command.startswith("cd ")
             fresh.append(f"    $ {command}")
             silent = not wanted and "--write" not in flags or command.startswith("cd ")
-            if got != wanted and not silent or not wanted and status:
+            if got != wanted and not silent or status:
                 bad += 1
                 print(f"{name}:{start + 1}: $ {command}\n  wanted {wanted}")
                 print(f"  came {got}, status {status}")
@@ -145,14 +153,12 @@ total = wrong = 0
 for other in copies_differ():
     wrong += 1
     print(f"crates/{other} is another database than that of crates/pdb_symbolizer/data")
-for name in ("README.md", "docs/GUIDE.md", "docs/RELEASING.md"):
-    if os.path.exists(f"{top}/{name}"):
-        count, bad = check(name)
-        for piece in unknown_code(name):
-            bad += 1
-            print(f"{name}: not in crates/example_calls:\n{piece}")
-        total, wrong = total + count, wrong + bad
+for name in documents:
+    count, bad = check(name)
+    for piece in unknown_code(name):
+        bad += 1
+        print(f"{name}: not in crates/example_calls:\n{piece}")
+    total, wrong = total + count, wrong + bad
 print(f"{total} commands, {wrong} otherwise than they stand")
-print(f"{max(total - wrong, 0)} passed, {wrong} failed")
-sys.exit(1 if wrong else 0)
+built.end(max(total - wrong, 0), wrong)
 P

@@ -1,18 +1,20 @@
 #!/usr/bin/env python3
 """Checks what files that are built to cost much take, by README's limits:
 
-    tests/costly_files.py [PROGRAM]
+    tests/costly_files.py [--built FILE]
 
-PROGRAM is the built pdb_symbolizer; if left out, the proved one. bench/costs.py makes the files and
-measures. Modules whose streams list the same pages have to stay within what loading and caching may
-take, and rows whose files have one long path within 30 processor seconds. The last line counts."""
-import os
+FILE is where pdb_symbolizer lies, with NAME in it for its name; if left out, the proved one is run.
+bench/costs.py makes the files and measures. Modules whose streams list the same pages have to stay
+within what loading and caching may take, and rows whose files have one long path within 30
+processor seconds. The whole report has to come, and no error output. The last line is `N passed, M
+failed`."""
 import sys
 import tempfile
 
-TOP = os.path.dirname(os.path.dirname(os.path.realpath(__file__)))
-sys.path.insert(0, f"{TOP}/bench")
 sys.dont_write_bytecode = True
+from built import ROOT, end, program, taken  # noqa: E402
+
+sys.path.insert(0, f"{ROOT}/bench")
 import costs  # noqa: E402
 
 SECONDS = 30
@@ -20,29 +22,47 @@ ALWAYS = 128  # MB: 64 to load, and 64 for what is cached
 TIMES = 12  # of the file's bytes: 8 to load, and 4 for what is cached
 
 
-def is_within(program, case, size):
-    """Whether a case's file of about so many bytes is answered within the limits."""
-    with tempfile.NamedTemporaryFile(suffix=".pdb") as file:
+def modules_answered(size, addresses):
+    """The report on a file of modules: each address is in a function without lines."""
+    return "".join(f"0x{it:08x}\n  f at ??:?? @??\n" for it in addresses)
+
+
+def paths_answered(size, addresses):
+    """The report on a file of paths: all rows, of 16 bytes each, are of one path."""
+    path = "a" * (size // 2)
+    return f"{16 * len(addresses)} {path}\nno file 0\nnone 0\nunreadable 0\n"
+
+
+CASES = [
+    (costs.streams_in_one_piece, 2_000_000, modules_answered),
+    (costs.paths_of_rows, 10_000_000, paths_answered),
+]
+
+
+def is_within(which, case, size, answered):
+    """Whether a case's file of about so many bytes is answered, and within the limits."""
+    with tempfile.NamedTemporaryFile(suffix=".pdb") as file, tempfile.TemporaryFile() as output:
         data, addresses = case(size)
         file.write(data)
         file.flush()
-        arguments, addresses = costs.asked(case, file.name, addresses)
-        ended, seconds, memory = costs.measured(program, arguments, addresses, SECONDS)
+        words, given = costs.asked(case, file.name, addresses)
+        ended, seconds, memory = costs.measured(which, words, given, SECONDS, output=output)
+        output.seek(0)
+        is_answered = output.read() == answered(size, addresses).encode()
     most = ALWAYS + TIMES * len(data) / 1e6
-    if ended or memory > most:
-        print(f"{case.__doc__}: {ended}, {seconds:.1f} s, {memory:.0f} MB of {most:.0f} MB")
+    if ended or memory > most or not is_answered:
+        wrong = ended or ("" if is_answered else "another report")
+        print(f"{case.__doc__}: {wrong}, {seconds:.1f} s, {memory:.0f} MB of {most:.0f} MB")
         return False
     return True
 
 
 def main():
-    words = sys.argv[1:]
-    program = words[0] if words else f"{TOP}/crates/pdb_symbolizer/out/pdb_symbolizer"
-    cases = [(costs.streams_in_one_piece, 2_000_000), (costs.paths_of_rows, 10_000_000)]
-    passed = sum(is_within(program, case, size) for case, size in cases)
-    print(f"{passed} passed, {len(cases) - passed} failed")
-    return 0 if passed == len(cases) else 1
+    place, _ = taken(sys.argv[1:])
+    which = program(place, "pdb_symbolizer")
+    passed = sum(is_within(which, *it) for it in CASES)
+    end(passed, len(CASES) - passed)
 
 
 if __name__ == "__main__":
-    sys.exit(main())
+    main()

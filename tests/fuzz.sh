@@ -1,25 +1,33 @@
 #!/usr/bin/env bash
 # Makes random and damaged files, and checks that each is answered or refused:
 #
-#   tests/fuzz.sh [--keep FOLDER] [PROGRAM [COUNT [SEED]]]
+#   tests/fuzz.sh [--built FILE] [--keep FOLDER] [COUNT [SEED]]
 #
-# PROGRAM is the built pdb_symbolizer, by default the proved one in crates/pdb_symbolizer/out; COUNT is 1000, SEED 1. A file is
-# random bytes, with or without the magic of a container, or one of crates/pdb_symbolizer/data that was cut, overwritten in
-# some places, or damaged in what one stream says. For each, `frames` is asked of some addresses and `sizes` of a range. Either
-# the status is 0, each address has an answer of the report's form, and the counts add up; or it is 1, nothing was written, and a
-# fault is reported by its name. No run may take longer than 20 seconds. What goes otherwise is printed, and kept with --keep.
+# FILE is where pdb_symbolizer lies, with NAME in it for its name; if left out, the proved one is
+# run. COUNT is 1000, SEED 1. A file is random bytes, with or without the magic of a container, or
+# one of crates/pdb_symbolizer/data that was cut, overwritten in some places, or damaged in what one
+# stream says. For each, `frames` is asked of some addresses and `sizes` of a range. Either the
+# status is 0, each address has an answer of the report's form, and the counts add up; or it is 1,
+# nothing was written, and a fault is reported by its name. Random bytes have to be refused, and
+# the files of data as they are, which are tried first, answered with functions. No run may take
+# longer than 20 seconds. What goes otherwise is printed, and kept with --keep. The last line is
+# `N passed, M failed`.
 set -eu
-top=$(cd "$(dirname "$0")/.." && pwd)
-exec python3 - "$top" "$@" <<'P'
+exec python3 - "$(cd "$(dirname "$0")" && pwd)" "$@" <<'P'
 import collections, os, random, re, shutil, struct, subprocess, sys, tempfile
 
-top, *words = sys.argv[1:]
+here, *words = sys.argv[1:]
+sys.path.insert(0, here)
+sys.dont_write_bytecode = True
+import built
+
+place, words = built.taken(words)
+program = built.program(place, "pdb_symbolizer")
 keep = None
 if words and words[0] == "--keep":
     keep, words = words[1], words[2:]
-program = os.path.abspath(words[0] if words else f"{top}/crates/pdb_symbolizer/out/pdb_symbolizer")
-count = int(words[1]) if len(words) > 1 else 1000
-seed = int(words[2]) if len(words) > 2 else 1
+count = int(words[0]) if words else 1000
+seed = int(words[1]) if len(words) > 1 else 1
 MAGIC = b"Microsoft C/C++ MSF 7.00\r\n\x1aDS\0\0\0"
 FAULT = re.compile(rb"fault: [A-Za-z]+(\(.*\))?\n")
 ROW = r"@(0x[0-9a-f]{8}\+(\d+|\?\?)|\?\?)"
@@ -29,8 +37,9 @@ SIZES = re.compile(r"(?s)(0x[0-9a-f]{8} \d+ .*\n)?none (\d+)\n")
 SPAN = (0x1000, 0x1200)
 ADDRESSES = [*range(0x1000, 0x1200, 3), 0, 0xFFFFFFFF]
 rnd = random.Random(seed)
-folder = f"{top}/crates/pdb_symbolizer/data"
-whole = [open(f"{folder}/{it}", "rb").read() for it in sorted(os.listdir(folder)) if it.endswith(".pdb")]
+folder = f"{built.ROOT}/crates/pdb_symbolizer/data"
+names = [it for it in sorted(os.listdir(folder)) if it.endswith(".pdb")]
+whole = [open(f"{folder}/{it}", "rb").read() for it in names]
 
 
 def streams_of(data):
@@ -56,7 +65,8 @@ def random_file():
     body = bytes(rnd.randrange(256) for _ in range(rnd.choice([0, 31, 32, 100, 5000])))
     if rnd.random() < 0.7:
         page = rnd.choice([0, 0x100, 0x200, 0x1000, 0x800000, rnd.randrange(1 << 32)])
-        numbers = [page, 1, rnd.randrange(9), rnd.choice([0, 4, 64, 1 << 20, (1 << 32) - 1]), 0, rnd.randrange(9)]
+        size = rnd.choice([0, 4, 64, 1 << 20, (1 << 32) - 1])
+        numbers = [page, 1, rnd.randrange(9), size, 0, rnd.randrange(9)]
         body = MAGIC + struct.pack("<6I", *numbers) + body
     return body + bytes(rnd.choice([0, 4096, 20000]))
 
@@ -126,26 +136,45 @@ def refusal_wrong(status, out, error):
 
 kinds = [random_file, cut_file, overwritten_file, stream_damaged, stream_damaged]
 asked = "".join(f"{it:x}\n" for it in ADDRESSES).encode()
+
+
+def files():
+    """Each file, with what it is."""
+    for data in whole:
+        yield "whole_file", data
+    for number in range(count):
+        kind = kinds[number % len(kinds)]
+        yield kind.__name__, kind()
+
+
+def wrong_with(kind, frames, sizes):
+    """What is wrong with the answers about a file of that kind."""
+    wrong = frames_wrong(*frames) or sizes_wrong(*sizes)
+    if not wrong and (frames[0], frames[2]) != (sizes[0], sizes[2]):
+        wrong = "frames and sizes end otherwise"
+    if not wrong and kind == "whole_file" and b" at " not in frames[1]:
+        wrong = "no function is found"
+    if not wrong and kind == "random_file" and frames[0] == 0:
+        wrong = "random bytes are answered"
+    return wrong
+
+
 ended = collections.Counter()
 bad = 0
 with tempfile.TemporaryDirectory() as room:
-    for number in range(count):
-        kind = kinds[number % len(kinds)]
-        open(f"{room}/it.pdb", "wb").write(kind())
+    for number, (kind, data) in enumerate(files()):
+        open(f"{room}/it.pdb", "wb").write(data)
         frames = run(["frames", f"{room}/it.pdb"], asked)
         sizes = run(["sizes", f"{room}/it.pdb", *(f"{it:x}" for it in SPAN)], b"")
-        ended[kind.__name__, "answered" if frames[0] == 0 else "refused"] += 1
-        wrong = frames_wrong(*frames) or sizes_wrong(*sizes)
-        if not wrong and (frames[0], frames[2]) != (sizes[0], sizes[2]):
-            wrong = "frames and sizes end otherwise"
+        ended[kind, "answered" if frames[0] == 0 else "refused"] += 1
+        wrong = wrong_with(kind, frames, sizes)
         if wrong:
             bad += 1
-            print(f"file {number} of seed {seed} ({kind.__name__}): {wrong}")
+            print(f"file {number} of seed {seed} ({kind}): {wrong}")
             if keep:
                 os.makedirs(keep, exist_ok=True)
                 shutil.copy(f"{room}/it.pdb", f"{keep}/{seed}_{number}.pdb")
 for (kind, how), times in sorted(ended.items()):
     print(f"{kind}: {times} {how}")
-print(f"{count} files, {bad} neither answered nor refused")
-sys.exit(1 if bad else 0)
+built.end(sum(ended.values()) - bad, bad)
 P

@@ -1,26 +1,33 @@
 #!/usr/bin/env bash
 # Checks that docs/pdb_symbolizer.1 is the manual page of the program's own help:
 #
-#   tests/manual.sh [--write] [PROGRAM]
+#   tests/manual.sh [--built FILE] [--write]
 #
-# PROGRAM is the built pdb_symbolizer; if left out, the proved one. With --write the page is made
-# anew. The last line is `N passed, M failed`.
+# FILE is where pdb_symbolizer lies, with NAME in it for its name; if left out, the proved one is
+# run. Each help text has to begin with what the program or command does and with its usage, and to
+# come with status 0 and no error output. With --write the page is made anew. The last line is
+# `N passed, M failed`.
 set -eu
-top=$(cd "$(dirname "$0")/.." && pwd)
-exec python3 - "$top" "$@" <<'P'
+exec python3 - "$(cd "$(dirname "$0")" && pwd)" "$@" <<'P'
 import os, re, subprocess, sys
 
-top, *given = sys.argv[1:]
-named = [it for it in given if not it.startswith("--")]
-program = (named or [f"{top}/crates/pdb_symbolizer/out/pdb_symbolizer"])[0]
-if not os.access(program, os.X_OK):
-    sys.exit(f"no program at {program}: build it by rt run in crates/pdb_symbolizer, or name one")
-page = f"{top}/docs/pdb_symbolizer.1"
+here, *words = sys.argv[1:]
+sys.path.insert(0, here)
+sys.dont_write_bytecode = True
+import built
+
+place, words = built.taken(words)
+program = built.program(place, "pdb_symbolizer")
+page = f"{built.ROOT}/docs/pdb_symbolizer.1"
 
 
 def help_of(*words):
-    ran = subprocess.run([program, "help", *words], capture_output=True, text=True, check=True)
-    return ran.stdout.rstrip("\n").split("\n")
+    """The lines of a help text."""
+    ran = subprocess.run([program, "help", *words], capture_output=True, text=True)
+    lines = ran.stdout.rstrip("\n").split("\n")
+    if (ran.returncode, ran.stderr) != (0, "") or lines[1:2] != [""] or "Usage: " not in lines[2]:
+        built.stop(f"{ran.args}: status {ran.returncode}, error output {ran.stderr!r}, no help text")
+    return lines
 
 
 def roff(text):
@@ -53,7 +60,7 @@ def command(name):
 
 def whole():
     about, _, usage, *rest = help_of()
-    version = open(f"{top}/VERSION").read().strip()
+    version = open(f"{built.ROOT}/VERSION").read().strip()
     at = rest.index("Examples:")
     last = next(it for it, line in enumerate(rest) if line.startswith("The exit status is "))
     names = [it.split()[0] for it in rest if re.match(r"  [a-z]+ {2,}[A-Z]", it)]
@@ -72,11 +79,10 @@ def whole():
 
 
 text = whole()
-if "--write" in given:
+if "--write" in words:
     open(page, "w").write(text)
 was = open(page).read() if os.path.exists(page) else ""
 if was != text:
     print("docs/pdb_symbolizer.1 isn't what the help texts make: tests/manual.sh --write")
-print("1 passed, 0 failed" if was == text else "0 passed, 1 failed")
-sys.exit(was != text)
+built.end(int(was == text), int(was != text))
 P

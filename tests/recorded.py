@@ -34,9 +34,9 @@ place on. Bytes that no line names are zero.
 import functools
 import os
 import re
-import sys
 
-ROOT = os.path.dirname(os.path.dirname(os.path.realpath(__file__)))
+from built import ROOT
+
 DATA = f"{ROOT}/crates/recorded_cases/data"
 NUMBER = "[0-9A-Fa-f]+"
 BYTES = "(?:[0-9A-Fa-f]{2})+"
@@ -55,12 +55,6 @@ ONCE = ("case", "sizes", "by-file", "status")
 
 class Malformed(Exception):
     """What isn't of the form above, and where."""
-
-
-def stop(why):
-    """Ends where nothing can be tested."""
-    print(f"{why}\n0 passed, 1 failed")
-    sys.exit(1)
 
 
 def bytes_of(text):

@@ -1,7 +1,7 @@
 #!/usr/bin/env python3
 """Runs pdb_symbolizer on the recorded reports; recorded.py beside this says how one is written.
 
-    tests/recorded_reports.py [--built PROGRAM | --unproved] [FILE or NAME ..]
+    tests/recorded_reports.py [--built BUILT | --unproved] [FILE or NAME ..]
 
 Output, error output and exit status have to be exactly as recorded, for each file of a case. An
 input of several lines is handed over twice, each time to a run of its own: at once, as a regular
@@ -10,8 +10,8 @@ one line, which is answered after those before it.
 
 FILE is a file of cases, in crates/recorded_cases/data or elsewhere; the databases lie in that
 folder of data. NAME is that of a case in one of the files below; without a word all of these are
-run. PROGRAM is the built program; if left out, the proved one, as each compiler of `rt ci` built
-it. A run that differs is printed by the name of its case, what differs in the file, and how the
+run. BUILT is where the program lies, with NAME in it for its name; if left out, the proved one is
+run, as each compiler of `rt ci` built it. A run that differs is printed by the name of its case, what differs in the file, and how the
 input was handed over, with the first line that differs. The last line is `N passed, M failed`, in
 cases of a program.
 
@@ -19,7 +19,6 @@ With --unproved `rt try` compiles the program without proof, and runs it on each
 cases that words name, input at once. It compares the output, which may have 1 MiB, and prints the
 status; its last line counts the runs.
 """
-import argparse
 import concurrent.futures
 import itertools
 import os
@@ -30,7 +29,8 @@ import sys
 import tempfile
 
 sys.dont_write_bytecode = True
-from recorded import DATA, ROOT, Malformed, reports_of, stop  # noqa: E402
+from built import PROVED, ROOT, end, program, stop, taken  # noqa: E402
+from recorded import DATA, Malformed, reports_of  # noqa: E402
 
 FILES = [
     "rows.txt",
@@ -45,7 +45,6 @@ FILES = [
     "real.txt",
     "by_file.txt",
 ]
-BUILT = f"{ROOT}/crates/pdb_symbolizer/out/pdb_symbolizer"
 SECONDS = 120
 # The most bytes that the program asks a read for: a longer line wouldn't come by one.
 LONGEST = 65_536
@@ -177,19 +176,17 @@ def write(path, content):
         file.write(content)
 
 
-def built(program):
-    """The program of that name; without one, those that the compilers of `rt ci` built."""
-    program = os.path.abspath(program or BUILT)
-    if not os.access(program, os.X_OK):
-        stop(f"{program} isn't there: rt ci builds it, or rt run in crates/pdb_symbolizer")
-    other = f"{BUILT}.by-rattle"
-    if program != BUILT or not os.access(other, os.X_OK):
-        return [program]
-    return [it for it in (program, other) if os.path.getmtime(it) >= os.path.getmtime(program)]
+def programs_of(place):
+    """The built program; without a place, as each compiler of `rt ci` built it."""
+    first = program(place, "pdb_symbolizer")
+    other = f"{first}.by-rattle"
+    if place != PROVED or not os.access(other, os.X_OK):
+        return [first]
+    return [it for it in (first, other) if os.path.getmtime(it) >= os.path.getmtime(first)]
 
 
 def run_built(programs, cases):
-    """Runs programs on cases, as many at a time as there are processors; gives the status."""
+    """Runs programs on cases, as many at a time as there are processors; says what came of it."""
     runs = list(itertools.product(programs, cases))
     failed = 0
     print("running", *(os.path.basename(it) for it in programs))
@@ -197,25 +194,20 @@ def run_built(programs, cases):
         for wrong in lanes.map(run_case, *zip(*runs)):
             print(wrong, end="")
             failed += bool(wrong)
-    print(f"{len(runs) - failed} passed, {failed} failed")
-    return 1 if failed else 0
+    end(len(runs) - failed, failed)
 
 
 def main():
-    parser = argparse.ArgumentParser(usage=__doc__.split("\n\n")[1].strip())
-    kinds = parser.add_mutually_exclusive_group()
-    kinds.add_argument("--built")
-    kinds.add_argument("--unproved", action="store_true")
-    parser.add_argument("words", nargs="*")
-    given = parser.parse_args()
-    if given.unproved and not given.words:
+    place, words = taken(sys.argv[1:])
+    if words[:1] != ["--unproved"]:
+        run_built(programs_of(place), list(chosen(words)))
+    if not words[1:]:
         stop("--unproved wants the names of cases, or files of few cases")
-    cases = list(chosen(given.words))
-    return run_unproved(cases) if given.unproved else run_built(built(given.built), cases)
+    sys.exit(run_unproved(list(chosen(words[1:]))))
 
 
 if __name__ == "__main__":
     try:
-        sys.exit(main())
+        main()
     except Malformed as malformed:
         stop(malformed)

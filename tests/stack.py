@@ -1,21 +1,23 @@
 #!/usr/bin/env python3
 """Shows that a stack of 4 MB is enough for the deepest nests of types and scopes.
 
-    tests/stack.py [PROGRAM] [--least]
+    tests/stack.py [--built FILE] [--least]
 
-PROGRAM is the built pdb_symbolizer; if left out, the proved one. A file of a nest has 1,023 scopes
-in one another, and the innermost function has an argument that leads through as many levels of
-types as a path of 1,024 indices holds. With a stack of 4,096 KB the answer has to be that with
-64 MB. --least prints how many KB each nest needs. The last line is 'N passed, M failed'."""
+FILE is where pdb_symbolizer lies, with NAME in it for its name; if left out, the proved one is run.
+A file of a nest has 1,023 scopes in one another, and the innermost function has an argument that
+leads through as many levels of types as a path of 1,024 indices holds. With a stack of 4,096 KB the
+whole report has to come, with the text of all levels, and no error output. --least prints how many
+KB each nest needs. The last line is `N passed, M failed`."""
 import os
 import resource
 import subprocess
 import sys
 import tempfile
 
-TOP = os.path.dirname(os.path.dirname(os.path.abspath(__file__)))
-sys.path.insert(0, os.path.join(TOP, "bench"))
 sys.dont_write_bytecode = True
+from built import ROOT, end, program, taken  # noqa: E402
+
+sys.path.insert(0, os.path.join(ROOT, "bench"))
 from costs import CHECKSUMS, INLINEES, code, container, database, nested_sites, table, u16, u32
 
 ENOUGH, PLENTY = 4096, 65536  # KB
@@ -23,6 +25,7 @@ INT = 0x74
 VOID = 3
 FIRST = 0x1003  # the index of a nest's first type
 PATH = 1024  # how many indices a path holds
+OTHERS = 3  # of them those of the function, of its list of arguments, and of the innermost type
 
 
 def arguments(*indices):
@@ -49,29 +52,38 @@ def array(element):
     return u16(0x1503) + u32(element, 0x23) + u16(4) + b"\0"
 
 
-# Each nest by one of its levels: the types of a level whose first index is the first argument, and
-# which leads to the next level, the second argument.
+# Each nest by one of its levels: how many indices it takes on a path, its text with {} for that of
+# the next level, and its types. `at` is the index of the first of these, and `on` that of the next
+# level. The result of a procedure has no text.
 NESTS = {
-    "lists": lambda at, on: [arguments(on)],
-    "second arguments": lambda at, on: [arguments(INT, on)],
-    "arrays of lists": lambda at, on: [array(at + 1), arguments(on)],
-    "arrays of lists, second": lambda at, on: [array(at + 1), arguments(INT, on)],
-    "procedures": lambda at, on: [array(at + 1), procedure(VOID, at + 2), arguments(on)],
-    "results": lambda at, on: [array(at + 1), procedure(on, at + 2), arguments()],
-    "methods": lambda at, on: [array(at + 1), method(0, at + 2), arguments(INT, on)],
-    "objects": lambda at, on: [array(at + 1), method(on, at + 2), arguments()],
-    "pointers": lambda at, on: [pointer(on)],
-    "pointers to lists": lambda at, on: [pointer(at + 1), arguments(INT, on)],
-    "arrays of pointers": lambda at, on: [array(at + 1), pointer(on)],
-    "pointers to procedures": lambda at, on: [
-        pointer(at + 1),
-        procedure(VOID, at + 2),
-        arguments(INT, on),
-    ],
-    "constants": lambda at, on: [constant(on)],
-    "arrays of constants": lambda at, on: [array(at + 1), constant(on)],
-    "constant lists": lambda at, on: [constant(at + 1), arguments(INT, on)],
-    "constant pointers": lambda at, on: [constant(at + 1), pointer(on)],
+    "lists": (1, "{}", lambda at, on: [arguments(on)]),
+    "second arguments": (1, "int, {}", lambda at, on: [arguments(INT, on)]),
+    "arrays of lists": (1, "{}[]", lambda at, on: [array(at + 1), arguments(on)]),
+    "arrays of lists, second": (1, "int, {}[]", lambda at, on: [array(at + 1), arguments(INT, on)]),
+    "procedures": (
+        2,
+        "()({}[0]",
+        lambda at, on: [array(at + 1), procedure(VOID, at + 2), arguments(on)],
+    ),
+    "results": (1, "()([0]", lambda at, on: [array(at + 1), procedure(on, at + 2), arguments()]),
+    "methods": (
+        2,
+        "()(int, {})[0]",
+        lambda at, on: [array(at + 1), method(0, at + 2), arguments(INT, on)],
+    ),
+    "objects": (2, "()({})[0]", lambda at, on: [array(at + 1), method(on, at + 2), arguments()]),
+    "pointers": (1, "{}*", lambda at, on: [pointer(on)]),
+    "pointers to lists": (2, "int, {}*", lambda at, on: [pointer(at + 1), arguments(INT, on)]),
+    "arrays of pointers": (1, "{}*[0]", lambda at, on: [array(at + 1), pointer(on)]),
+    "pointers to procedures": (
+        3,
+        "void (*)(int, {})",
+        lambda at, on: [pointer(at + 1), procedure(VOID, at + 2), arguments(INT, on)],
+    ),
+    "constants": (1, "const {}", lambda at, on: [constant(on)]),
+    "arrays of constants": (1, "const {}[1]", lambda at, on: [array(at + 1), constant(on)]),
+    "constant lists": (2, "const int, {}", lambda at, on: [constant(at + 1), arguments(INT, on)]),
+    "constant pointers": (2, "{}* const", lambda at, on: [constant(at + 1), pointer(on)]),
 }
 
 
@@ -91,64 +103,57 @@ def nest(level, depth):
     return container(streams)
 
 
-def answer(program, file, stack):
-    """The exit status and the report with a stack of so many KB."""
+def report(text, depth):
+    """The report on a nest of so many levels: the function in its scopes, and the one around it."""
+    shown = "int"
+    for _ in range(depth):
+        shown = text.replace("{}", shown)
+    scopes = "::g()" * (PATH - 2)
+    return f"0x00001014\n  g({shown}){scopes} at ??:3 @0x00001010+8\n  f at ??:?? @??\n".encode()
+
+
+def answer(which, file, stack):
+    """The exit status, the report and the error output with a stack of so many KB."""
 
     def limit():
         _, most = resource.getrlimit(resource.RLIMIT_STACK)
         size = stack * 1024 if most == resource.RLIM_INFINITY else min(stack * 1024, most)
         resource.setrlimit(resource.RLIMIT_STACK, (size, size))
 
-    ran = subprocess.run(
-        [program, "frames", file], input=b"1014\n", stdout=subprocess.PIPE, preexec_fn=limit
-    )
-    return ran.returncode, ran.stdout
+    words = [which, "frames", file]
+    ran = subprocess.run(words, input=b"1014\n", capture_output=True, preexec_fn=limit)
+    return ran.returncode, ran.stdout, ran.stderr
 
 
-def deepest(program, file, level):
-    """Writes the deepest nest that still has a text, and returns its answer."""
-    low, high = 1, PATH + 1
-    while high - low > 1:
-        depth = (low + high) // 2
-        write(file, nest(level, depth))
-        _, report = answer(program, file, PLENTY)
-        low, high = (depth, high) if b"::g()" in report else (low, depth)
-    write(file, nest(level, low))
-    return low, answer(program, file, PLENTY)
-
-
-def write(file, data):
-    with open(file, "wb") as it:
-        it.write(data)
-
-
-def least(program, file, wanted):
+def least(which, file, wanted):
     """The least stack, in steps of 16 KB, with which the answer is as wanted."""
     low, high = 16, PLENTY
     while high - low > 16:
         middle = (low + high) // 2
-        low, high = (low, middle) if answer(program, file, middle) == wanted else (middle, high)
+        low, high = (low, middle) if answer(which, file, middle) == wanted else (middle, high)
     return high
 
 
 def main():
-    words = [it for it in sys.argv[1:] if it != "--least"]
-    program = os.path.join(TOP, "crates/pdb_symbolizer/out/pdb_symbolizer")
-    program = os.path.realpath(words[0] if words else program)
-    passed = failed = 0
-    with tempfile.TemporaryDirectory() as folder:
-        file = os.path.join(folder, "nest.pdb")
-        for name, level in NESTS.items():
-            depth, wanted = deepest(program, file, level)
-            good = wanted[0] == 0 and answer(program, file, ENOUGH) == wanted
-            passed, failed = passed + good, failed + (not good)
-            if "--least" in sys.argv:
-                print(f"{name}, {depth} deep: {least(program, file, wanted)} KB", flush=True)
+    place, words = taken(sys.argv[1:])
+    which = program(place, "pdb_symbolizer")
+    passed = 0
+    with tempfile.NamedTemporaryFile(suffix=".pdb") as file:
+        for name, (indices, text, level) in NESTS.items():
+            depth = (PATH - OTHERS) // indices
+            file.seek(0)
+            file.truncate()
+            file.write(nest(level, depth))
+            file.flush()
+            wanted = 0, report(text, depth), b""
+            good = answer(which, file.name, ENOUGH) == wanted
+            passed += good
+            if "--least" in words:
+                print(f"{name}, {depth} deep: {least(which, file.name, wanted)} KB", flush=True)
             elif not good:
-                print(f"{name}, {depth} deep: {ENOUGH} KB of stack aren't enough", flush=True)
-    print(f"{passed} passed, {failed} failed")
-    return 1 if failed else 0
+                print(f"{name}, {depth} deep: no answer with {ENOUGH} KB of stack", flush=True)
+    end(passed, len(NESTS) - passed)
 
 
 if __name__ == "__main__":
-    sys.exit(main())
+    main()

@@ -1,24 +1,39 @@
 #!/usr/bin/env bash
-# Checks that CHANGELOG.md's newest heading, and the version that each program prints, are the
-# version in VERSION, and that no other document names it.
-set -eu
+# Checks that all that names the version has that of VERSION:
+#
+#   tests/version.sh [--built FILE]
+#
+# These are CHANGELOG.md's newest heading, the sources of the two programs, and what the programs
+# print when asked by --version; and no other document names it. The programs are the proved ones,
+# or those of FILE, with NAME in it for a program's name. The last line is `N passed, M failed`.
+set -u
 cd "$(dirname "$0")/.."
+built=crates/NAME/out/NAME
+[ "${1:-}" = --built ] && built=$2
 version=$(cat VERSION)
-newest=$(grep -m1 '^## ' CHANGELOG.md)
-case $newest in
-    "## $version" | "## $version (not released)" | "## $version ("[0-9]*")") ;;
-    *)
-        echo "CHANGELOG.md begins with '$newest', and VERSION says $version"
-        exit 1
-        ;;
-esac
-for file in crates/pdb_arguments/src/command.rt crates/pdb_llvm_symbolizer/src/arguments.rt; do
-    if ! grep -qF "const VERSION: &str = \"$version\";" "$file"; then
-        echo "$file has another version than VERSION, $version"
-        exit 1
+exactly='(^|[^0-9.])'${version//./\\.}'($|[^0-9.]|\.($|[^0-9]))'
+passed=0
+failed=0
+
+# Counts whether what was found is what has to be.
+same() { # WHAT FOUND WANTED
+    if [ "$2" = "$3" ]; then
+        passed=$((passed + 1))
+    else
+        failed=$((failed + 1))
+        echo "$1: '${2:0:99}' and not '$3'"
     fi
+}
+
+newest=$(grep -m1 '^## ' CHANGELOG.md | sed -E 's/ \((not released|[0-9][^)]*)\)$//')
+same "CHANGELOG.md's newest heading" "$newest" "## $version"
+for file in crates/pdb_arguments/src/command.rt crates/pdb_llvm_symbolizer/src/arguments.rt; do
+    same "$file" "$(grep 'const VERSION: &str' "$file")" "const VERSION: &str = \"$version\";"
 done
-if grep -nF "$version" README.md CONTRIBUTING.md docs/*.md | grep -vE '[0-9.]'"${version//./\\.}"'|'"${version//./\\.}"'[.0-9]'; then
-    echo "these name the version, which VERSION has"
-    exit 1
-fi
+for name in pdb_symbolizer pdb_llvm_symbolizer; do
+    said=$("${built//NAME/$name}" --version 2>&1; echo "status $?")
+    same "$name --version" "$said" "$name $version"$'\nstatus 0'
+done
+same "documents that name it" "$(grep -nE "$exactly" README.md CONTRIBUTING.md docs/*.md)" ""
+echo "$passed passed, $failed failed"
+[ "$failed" -eq 0 ]

@@ -5,7 +5,8 @@
  * alone to standard error and one of "-" alone are counted, and those two writes aren't made.
  *
  * The descriptor REFUSE_REPORT gets, of the request that was refused, how many bytes were asked for and the return
- * addresses in the program, innermost first, as offsets in its file; and at the end how many requests there were.
+ * addresses in the program, innermost first, as offsets in its file; and at the end in how many spans requests were
+ * counted, 1 without REFUSE_MARKED, and how many there were.
  */
 #define _GNU_SOURCE
 #include <dlfcn.h>
@@ -20,7 +21,7 @@ enum { LEVELS = 12 };
 static void *(*real_malloc)(size_t);
 static void *(*real_realloc)(void *, size_t);
 static ssize_t (*real_write)(int, const void *, size_t);
-static long count, refused = -1;
+static long count, spans, refused = -1;
 static int report = -1, is_marked, is_counting = 1;
 static uintptr_t base;
 
@@ -40,10 +41,11 @@ __attribute__((constructor)) static void begin(void) {
   if (to) report = atoi(to);
   is_marked = getenv("REFUSE_MARKED") != NULL;
   is_counting = !is_marked;
+  spans = is_counting;
   count = 0;
 }
 
-__attribute__((destructor)) static void end(void) { dprintf(report, "requests %ld\n", count); }
+__attribute__((destructor)) static void end(void) { dprintf(report, "requests %ld %ld\n", spans, count); }
 
 /* Tells of the refused request. The frames are followed by their base pointers, upward only. */
 static void tell(size_t size, void *frame) {
@@ -81,6 +83,7 @@ ssize_t write(int file, const void *bytes, size_t length) {
   if (!real_write) begin();
   if (is_marked && file == STDERR_FILENO && (first == '+' || first == '-')) {
     is_counting = first == '+';
+    spans += is_counting;
     return 1;
   }
   return real_write(file, bytes, length);

@@ -20,7 +20,8 @@ nothing refused.
 
 CASE is the name of a case: of a row, or as "context DATABASE FLAGS". Without one all are swept. It
 prints how many requests of each function were refused. The last line is `N passed, M failed`, in
-cases. FILE is where a program lies, with NAME for its name. A C compiler is needed (Debian: gcc).
+cases. FILE is where the programs lie, if not where the proved ones do, with NAME in it for a
+program's name. A C compiler is needed (Debian: gcc).
 """
 import bisect
 import collections
@@ -35,7 +36,10 @@ import tempfile
 HERE = os.path.dirname(os.path.realpath(__file__))
 sys.path.insert(0, os.path.dirname(HERE))
 sys.dont_write_bytecode = True
-from recorded import DATA, ROOT, Malformed, database_of, reports_of, stop  # noqa: E402
+import built  # noqa: E402
+import llvm_cases  # noqa: E402
+from built import ROOT, stop  # noqa: E402
+from recorded import DATA, Malformed, database_of, reports_of  # noqa: E402
 
 READS = f"{ROOT}/crates/recorded_reads/data"
 SECONDS = 60
@@ -111,7 +115,13 @@ class Report(Case):
 class DropIn(Case):
     """A run of pdb_llvm_symbolizer."""
 
-    program, folder = "pdb_llvm_symbolizer", f"{ROOT}/crates/pdb_llvm_symbolizer/data"
+    program, folder = "pdb_llvm_symbolizer", llvm_cases.DATA
+
+    def differs(self, came):
+        """What is neither llvm-symbolizer's nor a stored difference where nothing was refused."""
+        name = self.name.removeprefix("llvm ")
+        differences = llvm_cases.differences(name, llvm_cases.told(*came))
+        return "" if differences == llvm_cases.content(name, "differs") else shown(came)
 
     def is_right(self, wanted, came):
         """Whether a run in which a request was refused is as it has to be."""
@@ -170,16 +180,10 @@ def reports(folder):
 
 def drop_ins():
     """pdb_llvm_symbolizer on the cases that are compared with llvm-symbolizer."""
-    cases = f"{ROOT}/tests/llvm_symbolizer"
-    for file in sorted(os.listdir(cases)):
-        name, kind = os.path.splitext(file)
-        if kind == ".args":
-            with open(f"{cases}/{file}", encoding="utf-8") as words:
-                case = DropIn(f"llvm {name}", words.read().splitlines())
-            if os.path.exists(f"{cases}/{name}.input"):
-                with open(f"{cases}/{name}.input", "rb") as given:
-                    case.given = given.read()
-            yield case
+    for name in llvm_cases.names():
+        case = DropIn(f"llvm {name}", llvm_cases.arguments(name))
+        case.given = llvm_cases.content(name, "input")
+        yield case
 
 
 def reads(folder):
@@ -247,7 +251,7 @@ class Program:
 
     def run(self, case, number=None):
         """Runs a case with the request with that number refused, or with none. It gives what came,
-        how many requests there were, and who asked."""
+        how many requests there were, -1 if none was looked for, and who asked."""
         read, write = os.pipe()
         environment = {**self.environment, "REFUSE_REPORT": str(write)}
         if number:
@@ -268,7 +272,8 @@ class Program:
             lines = dict(line.split(" ", 1) for line in told.read().splitlines())
         places = lines.get("refused", "0").split()[1:]
         callers = [self.function_at(int(place, 16)) for place in places]
-        return (ran.returncode, ran.stdout, ran.stderr), int(lines.get("requests", "-1")), callers
+        spans, count = map(int, lines.get("requests", "0 -1").split())
+        return (ran.returncode, ran.stdout, ran.stderr), count if spans else -1, callers
 
 
 def sweep(program, case, exceptions):
@@ -327,18 +332,18 @@ def library_in(folder):
 
 
 def main(words):
-    built = f"{ROOT}/crates/NAME/out/NAME"
-    if words[:1] == ["--built"]:
-        built, words = words[1], words[2:]
+    place, words = built.taken(words)
     exceptions, failed, where = exceptions_of(), 0, collections.Counter()
     with tempfile.TemporaryDirectory(prefix="refused-requests-") as folder:
         library, programs = library_in(folder), {}
         for kind in (Report, DropIn, Read, Asked):
-            file = built.replace("NAME", kind.program)
-            if not os.path.isfile(file):
-                stop(f"{file} isn't there: rt ci builds it")
+            file = built.program(place, kind.program)
             programs[kind.program] = Program(file, library, kind in (Read, Asked))
-        cases = [it for it in [*reports(folder), *drop_ins(), *reads(folder), *asked(folder)] if not words or it.name in words]
+        cases = [*reports(folder), *drop_ins(), *reads(folder), *asked(folder)]
+        unknown = set(words) - {it.name for it in cases}
+        if unknown:
+            stop(f"no case has the name {', '.join(sorted(unknown))}")
+        cases = [it for it in cases if not words or it.name in words]
         with concurrent.futures.ProcessPoolExecutor() as lanes:
             lanes_of = [lanes.submit(sweep, programs[it.program], it, exceptions) for it in cases]
             for it in lanes_of:
@@ -349,12 +354,11 @@ def main(words):
     for name, number in sorted(where.items()):
         print(f"{number:6} refused, of {name}")
     print(f"{sum(where.values())} requests refused")
-    print(f"{len(cases) - failed} passed, {failed} failed")
-    return 1 if failed else 0
+    built.end(len(cases) - failed, failed)
 
 
 if __name__ == "__main__":
     try:
-        sys.exit(main(sys.argv[1:]))
+        main(sys.argv[1:])
     except Malformed as malformed:
         stop(malformed)

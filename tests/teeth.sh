@@ -1,0 +1,86 @@
+#!/usr/bin/env bash
+# Shows that no test script passes over a program that does nothing:
+#
+#   tests/teeth.sh
+#
+# Each script is run over /bin/true, over /bin/cat and over no program, on a few of its cases where
+# it takes names of cases: a script that fails on these fails on all. It has to end with status 1
+# and with a line `N passed, M failed` in which M isn't 0; and docs/RELEASING.md has to have a row of
+# what it says. Then it is tried what test.sh counts of commands that fail in other ways. The last
+# line is `N passed, M failed`.
+set -u
+cd "$(dirname "$0")/.."
+good=0
+bad=0
+
+# Counts whether something is so.
+expect() { # WHAT CONDITION..
+    local what=$1
+    shift
+    if "$@"; then
+        good=$((good + 1))
+    else
+        bad=$((bad + 1))
+        echo "$what"
+    fi
+}
+
+# Whether a text has the form of an extended regular expression.
+is_like() { # TEXT FORM
+    [[ $1 =~ ^$2$ ]]
+}
+
+# Runs a script over each program that does nothing.
+over_nothing() { # SCRIPT WORD..
+    local program said ended row="| \`$1\` |"
+    for program in /bin/true /bin/cat /nonexistent; do
+        said=$(timeout 60 "tests/$1" --built "$program" "${@:2}" 2> /dev/null < /dev/null)
+        ended=$?
+        said=${said##*$'\n'}
+        row+=" $said |"
+        expect "tests/$* over $program ends with status $ended and '$said'" \
+            is_like "$ended $said" '1 [0-9]+ passed, [1-9][0-9]* failed'
+    done
+    expect "docs/RELEASING.md has no row $row" grep -qF "$row" docs/RELEASING.md
+}
+
+# Two commands that do as bash is told: one, and one by the name of that whose line may have more.
+plain() { bash -c "$1"; }
+rt() { plain "$1"; }
+
+# Tries what is counted of a command.
+counted() { # NAME DOES PASSED FAILED
+    local said wanted="$3 passed, $4 failed, status $(($3 == 0 || $4 > 0))"
+    said=$(. tests/count.sh && count "$1" "$2" > /dev/null; total; echo "status $?")
+    said=${said//$'\n'/, }
+    expect "of $1 '$2' is counted: $said, and not $wanted" [ "$said" = "$wanted" ]
+}
+
+over_nothing recorded_reports.py row_before-first-function_F row_one-line_F
+over_nothing refused_requests/sweep.py row_one-line_F 'llvm llvm' \
+    'read sections plain.pdb 2608:0b' 'formatter signatures.hex 23'
+over_nothing commands.sh --quick README.md
+over_nothing manual.sh
+over_nothing llvm_symbolizer.sh llvm
+over_nothing stack.py
+over_nothing costly_files.py
+over_nothing version.sh
+over_nothing fuzz.sh 20
+
+counted plain 'echo 5 passed, 0 failed' 5 0
+counted plain 'echo 5 passed, 2 failed; exit 1' 5 2
+counted plain 'echo 5 passed, 2 failed' 5 2
+counted plain 'echo 5 passed, 0 failed; exit 1' 5 1
+counted plain 'echo 0 passed, 0 failed' 0 1
+counted plain 'echo 2 failed' 0 1
+counted plain 'echo crate x: 3 failed' 0 1
+counted plain 'echo crate x: 5 passed, 0 failed' 0 1
+counted plain 'echo 5 passed, 0 failed; echo done' 0 1
+counted plain 'echo "5 passed, 0 failed (x)"' 0 1
+counted plain true 0 1
+counted plain false 0 1
+counted rt 'echo "5 passed, 0 failed (x)"' 5 0
+counted rt 'echo "5 passed, 2 failed (x)"; exit 1' 5 2
+counted rt 'echo "5 passed, 0 failed (x)"; exit 1' 5 1
+echo "$good passed, $bad failed"
+[ "$bad" -eq 0 ]
