@@ -398,9 +398,9 @@ def thunks_moved(size):
 
 
 def unasked_module(size):
-    """a module that nobody asks for, whose list has one page 20,000 times"""
+    """a module that nobody asks for, whose list has one page 400 times"""
     modules = [(procedures(16), b""), (u32(4) + bytes(PAGE - 4), b"")]
-    return container(database(modules), again={MODULE_STREAMS + 1: (0, 1, 20000)}), [0x1100]
+    return container(database(modules), again={MODULE_STREAMS + 1: (0, 1, 400)}), [0x1100]
 
 
 def long_tail(size):
@@ -422,7 +422,7 @@ CASES = [
     (names_of_imports, (1, 10)),
     (long_answers, (1,)),
     (long_tail, (1,)),
-    (unasked_module, (0.1,)),
+    (unasked_module, (0.06,)),
     (calls_of_same_pages, (0.12, 1)),
     (thunks_of_same_pages, (0.14, 0.5)),
     (procedures_of_same_pages, (0.12, 0.25)),
