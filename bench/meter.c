@@ -1,8 +1,8 @@
 /* Runs a program and measures it: meter PROGRAM WORD..
  *
- * The last line on standard error has its processor seconds, the most memory that it held in KB, and
- * its exit status, negative if a signal ended it. What a process holds as it becomes another program
- * counts as that program's memory. So this is a process of its own, of less than 2 MB.
+ * The last line on standard error has its processor seconds, the most memory that it held in KB,
+ * and its exit status, negative if a signal ended it. What a process holds as it becomes another
+ * program counts as that program's memory. So this is a process of its own, of less than 2 MB.
  */
 #include <stdio.h>
 #include <sys/resource.h>

@@ -16,7 +16,7 @@ def meter():
     """The built meter, which is there until this process ends."""
     compiler = shutil.which("cc")
     if not compiler:
-        sys.exit("a C compiler is needed, which compiles bench/meter.c: install the Debian package gcc")
+        sys.exit("a C compiler is needed, for bench/meter.c: install the Debian package gcc")
     folder = tempfile.TemporaryDirectory(prefix="meter-")
     atexit.register(folder.cleanup)
     flags = "-O1 -Wall -Wextra -Werror".split()

@@ -3,8 +3,8 @@
 passed=0
 failed=0
 
-# Runs a command and counts what its last line says, which has to be exactly `N passed, M failed`; of
-# `rt ci` also with something in parentheses after it. There is a failure if the line has another
+# Runs a command and counts what its last line says, which has to be exactly `N passed, M failed`;
+# of `rt ci` also with something in parentheses after it. There is a failure if the line has another
 # form, if N is 0, if M isn't, and if the command's status isn't 0.
 count() {
     local log ended said after=

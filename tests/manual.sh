@@ -26,7 +26,7 @@ def help_of(*words):
     ran = subprocess.run([program, "help", *words], capture_output=True, text=True)
     lines = ran.stdout.rstrip("\n").split("\n")
     if (ran.returncode, ran.stderr) != (0, "") or lines[1:2] != [""] or "Usage: " not in lines[2]:
-        built.stop(f"{ran.args}: status {ran.returncode}, error output {ran.stderr!r}, no help text")
+        built.stop(f"{ran.args}: status {ran.returncode}, {ran.stderr!r}, no help text")
     return lines
 
 

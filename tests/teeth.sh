@@ -3,15 +3,16 @@
 #
 #   tests/teeth.sh
 #
-# Each script is run over /bin/true, over /bin/cat and over no program, on a few of its cases where
-# it takes names of cases: a script that fails on these fails on all. It has to end with status 1
-# and with a line `N passed, M failed` in which M isn't 0; and docs/RELEASING.md has to have a row of
-# what it says. Then it is tried what test.sh counts of commands that fail in other ways. The last
-# line is `N passed, M failed`.
+# Each script that takes --built is run over /bin/true, over /bin/cat and over no program, on a few
+# of its cases where it takes names of cases: a script that fails on these fails on all. It has to
+# end with status 1 and with a line `N passed, M failed` in which M isn't 0; and docs/RELEASING.md
+# has to have a row of what it says. Then what test.sh counts (tests/count.sh) is tried on commands
+# that pass and fail in all ways. The last line is `N passed, M failed`.
 set -u
 cd "$(dirname "$0")/.."
 good=0
 bad=0
+tried=" built.py teeth.sh "
 
 # Counts whether something is so.
 expect() { # WHAT CONDITION..
@@ -33,6 +34,7 @@ is_like() { # TEXT FORM
 # Runs a script over each program that does nothing.
 over_nothing() { # SCRIPT WORD..
     local program said ended row="| \`$1\` |"
+    tried+="$1 "
     for program in /bin/true /bin/cat /nonexistent; do
         said=$(timeout 60 "tests/$1" --built "$program" "${@:2}" 2> /dev/null < /dev/null)
         ended=$?
@@ -66,6 +68,9 @@ over_nothing stack.py
 over_nothing costly_files.py
 over_nothing version.sh
 over_nothing fuzz.sh 20
+for script in $(cd tests && grep -l -- --built *.sh *.py */*.py); do
+    expect "tests/$script isn't tried here" is_like "$tried" ".* $script .*"
+done
 
 counted plain 'echo 5 passed, 0 failed' 5 0
 counted plain 'echo 5 passed, 2 failed; exit 1' 5 2

@@ -18,10 +18,10 @@ nothing refused.
   finds no memory says so. The same context or formatter then answers it, and all other questions of
   its file, as if nothing was refused.
 
-CASE is the name of a case: of a row, or as "context DATABASE FLAGS". Without one all are swept. It
-prints how many requests of each function were refused. The last line is `N passed, M failed`, in
-cases. FILE is where the programs lie, if not where the proved ones do, with NAME in it for a
-program's name. A C compiler is needed (Debian: gcc).
+CASE is the name of a case: of a row, or as "context DATABASE FLAGS". Without one all are swept, and
+each program has to have requests. The script prints how many of each function were refused. The
+last line is `N passed, M failed`, in cases. FILE is where the programs lie, with NAME in it for a
+program's name; if left out, the proved ones are run. A C compiler is needed (Debian: gcc).
 """
 import bisect
 import collections
@@ -112,6 +112,36 @@ class Report(Case):
         return came[0] == 1 and came[2] == b"fault: OutOfMemory\n" and wanted[1].startswith(came[1])
 
 
+# Arguments of pdb_symbolizer that ask for no report, with the status, and what stands in the output
+# where that is 0, else in the error output.
+WORDS = {
+    "": (2, b"error: 'pdb_symbolizer' requires a subcommand"),
+    "help": (0, b"Usage: pdb_symbolizer <COMMAND>"),
+    "help sizes": (0, b"Usage: pdb_symbolizer sizes "),
+    "frames --help": (0, b"Usage: pdb_symbolizer frames "),
+    "frames": (2, b"error: the following required arguments were not provided"),
+    "sizes F 10 zz": (2, b"fault: NotAnAddress\n"),
+    "sizes --by-file F 10 zz": (2, b"fault: NotAnAddress\n"),
+    "frame F": (2, b"error: unrecognized subcommand 'frame'"),
+    "frames F --hlep": (2, b"error: unexpected argument '--hlep'"),
+}
+
+
+class Words(Report):
+    """A run of pdb_symbolizer with such arguments."""
+
+    def __init__(self, words):
+        super().__init__(f"words {words}".strip(), words.split())
+        self.told = WORDS[words]
+
+    def differs(self, came):
+        """What differs where nothing was refused."""
+        status, *texts = came
+        told, other = reversed(texts) if status else texts
+        is_told = status == self.told[0] and self.told[1] in told and not other
+        return "" if is_told else shown(came)
+
+
 class DropIn(Case):
     """A run of pdb_llvm_symbolizer."""
 
@@ -150,21 +180,30 @@ def unshared(text):
 
 
 class Asked(Repeating):
-    """A run of `recorded_cases again`, with the recorded answers by their questions."""
+    """A run of `recorded_cases again`, with its questions and their recorded answers, if there are."""
 
     program = "recorded_cases"
 
     def __init__(self, name, words, answers):
         super().__init__(name, ["again", *words])
-        self.answers = {question: unshared(answer) for question, answer in answers.items()}
+        self.questions = list(answers)
+        self.answers = {it: unshared(answer) for it, answer in answers.items() if answer}
 
     def differs(self, came):
-        """A fault is reported as another one where its part failed before."""
-        for line in came[1].decode().splitlines():
-            question, _, answer = unshared(line).partition(" => ")
+        """Each question is asked twice; of a file without a recorded answer an error may say why it
+        isn't loaded. A fault is reported as another one where its part failed before."""
+        status, output, errors = came
+        if (status, output, bool(self.answers)) == (1, b"", False) and errors.startswith(b"Error: "):
+            return ""
+        lines = [it.partition(" => ") for it in output.decode(errors="replace").split("\n")[:-1]]
+        is_asked = [question for question, _, _ in lines] == 2 * self.questions
+        if status or errors or not is_asked:
+            return f"{shown(came)}, and not each of {len(self.questions)} questions twice"
+        for question, _, answer in lines:
+            answer = unshared(answer)
             recorded = self.answers.get(question, answer)
             if recorded != answer and not (recorded.startswith("fault") and answer.startswith("fault")):
-                return f"{line}, and not {recorded}"
+                return f"{question} => {answer}, and not {recorded}"
         return ""
 
 
@@ -174,8 +213,8 @@ def reports(folder):
         case = Report(row.name, row.arguments(file_of(row, folder)))
         case.given, case.wanted = row.given, (row.status, row.output, row.errors)
         yield case
-    for words in ("", "help", "help sizes", "frames --help", "frames", "sizes F 10 zz", "sizes --by-file F 10 zz", "frame F", "frames F --hlep"):
-        yield Report(f"words {words}".strip(), words.split())
+    for words in WORDS:
+        yield Words(words)
 
 
 def drop_ins():
@@ -227,8 +266,7 @@ def asked(folder):
             name = f"{kind} {database} {flags}"
             with open(f"{folder}/{name}", "w", encoding="ascii") as questions:
                 questions.writelines(f"{it}\n" for it in answers)
-            recorded = {question: answer for question, answer in answers.items() if answer}
-            yield Asked(name, [kind, path, flags, f"{folder}/{name}"], recorded)
+            yield Asked(name, [kind, path, flags, f"{folder}/{name}"], answers)
 
 
 # Runs
@@ -333,7 +371,7 @@ def library_in(folder):
 
 def main(words):
     place, words = built.taken(words)
-    exceptions, failed, where = exceptions_of(), 0, collections.Counter()
+    exceptions, passed, failed, where = exceptions_of(), 0, 0, collections.Counter()
     with tempfile.TemporaryDirectory(prefix="refused-requests-") as folder:
         library, programs = library_in(folder), {}
         for kind in (Report, DropIn, Read, Asked):
@@ -344,17 +382,22 @@ def main(words):
         if unknown:
             stop(f"no case has the name {', '.join(sorted(unknown))}")
         cases = [it for it in cases if not words or it.name in words]
+        unswept = set() if words else set(programs)
         with concurrent.futures.ProcessPoolExecutor() as lanes:
             lanes_of = [lanes.submit(sweep, programs[it.program], it, exceptions) for it in cases]
-            for it in lanes_of:
+            for case, it in zip(cases, lanes_of):
                 wrong, refused = it.result()
-                failed += bool(wrong)
+                passed, failed = passed + (not wrong), failed + bool(wrong)
                 where.update(refused)
+                unswept -= {case.program} if refused else set()
                 print("".join(f"{line}\n" for line in wrong), end="")
+        for name in sorted(unswept):
+            failed += 1
+            print(f"no request of {name} was refused")
     for name, number in sorted(where.items()):
         print(f"{number:6} refused, of {name}")
     print(f"{sum(where.values())} requests refused")
-    built.end(len(cases) - failed, failed)
+    built.end(passed, failed)
 
 
 if __name__ == "__main__":
