@@ -95,9 +95,11 @@ def contribution(offset, size, module):
     return u16(1, 0) + u32(offset, size, CODE) + u16(module, 0) + u32(0, 0)
 
 
-def database(modules, names=b"\0", contributions=None, records=b"", name=b"g", entries=None, maps=()):
-    """The streams of a database; a module is its symbols and its C13 data. With maps, two OMAPs, the
-    last streams are these."""
+def database(
+    modules, names=b"\0", contributions=None, records=b"", name=b"g", entries=None, maps=()
+):
+    """The streams of a database; a module is its symbols and its C13 data. Maps, two OMAPs or none,
+    are the last streams."""
     types, ids = function_id(name)
     contributions = contributions or [contribution(0, 0x7FFEFFFF, 0)]
     entries = entries or [
@@ -185,7 +187,7 @@ def whole_pages(symbols):
 
 
 def times_listed(part):
-    """How many times a part of so many bytes of a file may be listed, beside the rest of its stream."""
+    """How many times a part of a file, of so many bytes, may be listed with the rest of a stream."""
     return ALWAYS // part + TIMES
 
 
@@ -372,9 +374,8 @@ def imports_of_same_pages(size):
     part = max(size // PAGE - 16 - count * 94 // PAGE, 1) * PAGE
     times = times_listed(part)
     site = lambda end: record(0x114D, u32(0, end, 0x80000000) + code(16 * count, 0))
-    first = u32(4) + procedure(0x100, 16 * count, 0)
-    symbols = u32(4) + procedure(0x100, 16 * count, len(first + site(0))) + site(len(first + site(0)))
-    symbols += END
+    end = len(u32(4) + procedure(0x100, 16 * count, 0) + site(0))
+    symbols = u32(4) + procedure(0x100, 16 * count, end) + site(end) + END
     lines = CHECKSUMS + subsection(0xF6, u32(0) + u32(0x80000000, 0, 3))
     some = (-len(symbols + lines) - 8) % PAGE
     data = u32(0xF7, some + part * times) + u32(1, 0) * (some // 8) + bytes(some % 8)

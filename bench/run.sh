@@ -8,9 +8,9 @@
 # crates/pdb_symbolizer/out. ORIGINAL, if given, is the ported crate to compare with. It is a
 # program that is called as `ORIGINAL frames FILE < ADDRESSES` and writes the same report, with or
 # without the rows of frames (` @START+LENGTH`). Or it is the folder of a Cargo package that has
-# one, which is built in OUT: bench/original is that of the crates as published. It reads pages as it
-# needs them, and with WHOLE=1 in the environment the file first. Without ORIGINAL its columns are
-# left out.
+# one, which is built in OUT: bench/original is that of the crates as published. It reads pages as
+# it needs them, and with WHOLE=1 in the environment the file first. Without ORIGINAL its columns
+# are left out.
 #
 # Times are processor seconds, the least of five runs in turn, and ratios are given from three such
 # rounds: a shared machine varies by a third. With --count instructions and cache misses are counted

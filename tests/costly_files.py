@@ -22,7 +22,7 @@ SECONDS = 30
 
 
 def to_load_and_cache(size):
-    """The megabytes to load a file of so many, and for what is cached, where bytes are estimates."""
+    """The megabytes to load a file of so many, and for what is cached, which is estimated."""
     return 128 + 12 * size
 
 
