@@ -17,6 +17,8 @@ PAGE = 0x1000
 NO_STREAM = 0xFFFF
 CODE = 0x60000020
 MODULE_STREAMS = 8  # the first stream of a module
+ALWAYS = 1 << 20  # how many bytes may be copied of any file,
+TIMES = 7  # and how many times its own bytes beside that
 
 
 def u16(*numbers):
@@ -35,9 +37,10 @@ def pages(size):
     return -(-size // PAGE)
 
 
-def container(streams, aliases={}, backwards=True):
+def container(streams, aliases={}, backwards=True, again={}):
     """An MSF container. A stream of `aliases` has another's pages, all but the first backwards; or
-    all in order, so that they are one piece."""
+    all in order, so that they are one piece. Of one of `again` the pages from one up to another are
+    listed so many times in a row."""
     count, numbers = 3, {}
     for at, data in enumerate(streams):
         if at not in aliases:
@@ -47,7 +50,11 @@ def container(streams, aliases={}, backwards=True):
         first, *others = numbers[other]
         numbers[at] = [first, *(reversed(others) if backwards else others)]
     sizes = [len(streams[aliases.get(at, at)]) for at in range(len(streams))]
-    listed = [n for at in range(len(streams)) for n in numbers[at]]
+    lists = dict(numbers)
+    for at, (first, end, times) in again.items():
+        lists[at] = numbers[at][:first] + numbers[at][first:end] * times + numbers[at][end:]
+        sizes[at] += (times - 1) * (end - first) * PAGE
+    listed = [n for at in range(len(streams)) for n in lists[at]]
     directory = u32(len(streams), *sizes, *listed)
     directory_pages = list(range(count, count + pages(len(directory))))
     count += len(directory_pages)
@@ -88,8 +95,11 @@ def contribution(offset, size, module):
     return u16(1, 0) + u32(offset, size, CODE) + u16(module, 0) + u32(0, 0)
 
 
-def database(modules, names=b"\0", contributions=None, records=b"", name=b"g", entries=None):
-    """The streams of a database; a module is its symbols and its C13 data."""
+def database(
+    modules, names=b"\0", contributions=None, records=b"", name=b"g", entries=None, maps=()
+):
+    """The streams of a database; a module is its symbols and its C13 data. Maps, two OMAPs or none,
+    are the last streams."""
     types, ids = function_id(name)
     contributions = contributions or [contribution(0, 0x7FFEFFFF, 0)]
     entries = entries or [
@@ -97,7 +107,11 @@ def database(modules, names=b"\0", contributions=None, records=b"", name=b"g", e
         for at, (symbols, lines) in enumerate(modules)
     ]
     section = b".text\0\0\0" + u32(0x7FFF0000, 0x1000, 0x7FFF0000, 0x400, 0, 0, 0, CODE)
-    optional = u16(*[6 if at == 5 else NO_STREAM for at in range(11)])
+    places = {5: 6}
+    if maps:
+        after = MODULE_STREAMS + len(modules)
+        places |= {3: after, 4: after + 1, 10: 6}
+    optional = u16(*[places.get(at, NO_STREAM) for at in range(11)])
     listed = b"".join(entries)
     covered = u32(0xEFFE0000 + 19970605) + b"".join(contributions)
     head = u32(0xFFFFFFFF, 19990903, 1) + u16(NO_STREAM, 0, NO_STREAM, 0, 5, 0)
@@ -106,7 +120,7 @@ def database(modules, names=b"\0", contributions=None, records=b"", name=b"g", e
     strings = u32(0xEFFEEFFE, 1, len(names)) + names
     streams = [b"", information, table(types), head + listed + covered + optional, table(ids)]
     streams += [records, section, strings]
-    return streams + [symbols + lines + u32(0) for symbols, lines in modules]
+    return streams + [symbols + lines + u32(0) for symbols, lines in modules] + list(maps)
 
 
 def record(kind, data):
@@ -165,6 +179,33 @@ def row_lines(count):
     rows = b"".join(u32(number, 0x80000005) for number in range(count))
     block = u32(0, count, 12 + len(rows)) + rows
     return CHECKSUMS + subsection(0xF2, u32(0) + u16(1, 0) + u32(0x10) + block)
+
+
+def whole_pages(symbols):
+    """Symbols, and one that is passed over up to the end of a page."""
+    return symbols + record(0x0402, bytes((-len(symbols) - 4) % PAGE))
+
+
+def times_listed(part):
+    """How many times a part of a file, of so many bytes, may be listed with the rest of a stream."""
+    return ALWAYS // part + TIMES
+
+
+def same_pages(front, part, times, lines=b"", count=1, **how):
+    """A database whose modules, that many, all name one stream. Of its symbols the middle part is
+    listed so many times; its front and that part are whole pages."""
+    more = (times - 1) * len(part)
+    symbols = front + part + END
+    entries = [module_entry(MODULE_STREAMS, len(symbols) + more, len(lines))] * count
+    streams = database([(symbols, lines)], entries=entries, **how)
+    where = len(front) // PAGE, len(front + part) // PAGE, times
+    return container(streams, again={MODULE_STREAMS: where})
+
+
+def long_site(size, end):
+    """An inline site of so many bytes, most of them rows, of which the last one is long."""
+    rows = code(1, 0) + b"\x0b\x02" * ((size - 40) // 2) + code(0x100000, 1)
+    return record(0x114D, (u32(0, end, 0x1000) + rows).ljust(size - 4, b"\0"))
 
 
 def spread(count, number, step=16, first=0x1100):
@@ -293,6 +334,76 @@ def long_answers(size):
     return container(streams), [0x1014, 0x1013]
 
 
+def calls_of_same_pages(size):
+    """nested calls of 32,000 rows each, whose pages are listed over and over, 1 address"""
+    part = max(size // 0x10000 - 1, 1) * 0x10000
+    times = times_listed(part)
+    end = PAGE + part * times
+    front = whole_pages(u32(4) + procedure(0x10, 0x200000, end))
+    sites = long_site(0x10000, end) * (part // 0x10000)
+    return same_pages(front, sites, times, CHECKSUMS + INLINEES), [0x1014]
+
+
+def thunks_of_same_pages(size, count=100, **how):
+    """thunks that each hold all inline sites of such pages"""
+    thunk = lambda at, end: record(0x1102, u32(0, end, 0, 0x100 + 16 * at) + u16(1, 16) + b"\0t\0")
+    thunks = lambda end: u32(4) + b"".join(thunk(at, end) for at in range(count))
+    first = len(whole_pages(thunks(0)))
+    part = max((size - first) // PAGE - 16, 1) * PAGE
+    times = times_listed(part)
+    end = first + part * times
+    sites = long_site(PAGE, end) * (part // PAGE)
+    lines = CHECKSUMS + INLINEES
+    return same_pages(whole_pages(thunks(end)), sites, times, lines, **how), spread(count, count)
+
+
+def procedures_of_same_pages(size):
+    """modules that all name one stream of such pages, of procedures: sizes"""
+    count = max(size // 1000, 1)
+    part = max(size // PAGE - 16 - count * 94 // PAGE, 1) * PAGE
+    each = procedure(0x100, 16, 0, b"p" * 17) + END
+    covered = [contribution(0x100 + 16 * at, 16, at) for at in range(count)]
+    times = times_listed(part)
+    front, how = whole_pages(u32(4)), {"count": count, "contributions": covered}
+    return same_pages(front, each * (part // len(each)), times, **how), spread(count, count)
+
+
+def imports_of_same_pages(size):
+    """modules that all name one stream of such pages, of imports"""
+    count = max(size // 2500, 1)
+    part = max(size // PAGE - 16 - count * 94 // PAGE, 1) * PAGE
+    times = times_listed(part)
+    site = lambda end: record(0x114D, u32(0, end, 0x80000000) + code(16 * count, 0))
+    end = len(u32(4) + procedure(0x100, 16 * count, 0) + site(0))
+    symbols = u32(4) + procedure(0x100, 16 * count, end) + site(end) + END
+    lines = CHECKSUMS + subsection(0xF6, u32(0) + u32(0x80000000, 0, 3))
+    some = (-len(symbols + lines) - 8) % PAGE
+    data = u32(0xF7, some + part * times) + u32(1, 0) * (some // 8) + bytes(some % 8)
+    front = symbols + lines + data
+    size_of_lines = len(front) - len(symbols) + part * times
+    entries = [module_entry(MODULE_STREAMS, len(symbols), size_of_lines)] * count
+    covered = [contribution(0x100 + 16 * at, 16, at) for at in range(count)]
+    how = {"names": b"\0a.obj\0", "contributions": covered, "entries": entries}
+    streams = database([(front, u32(1, 0) * (part // 8))], **how)
+    where = len(front) // PAGE, (len(front) + part) // PAGE, times
+    return container(streams, again={MODULE_STREAMS: where}), spread(count, count)
+
+
+def thunks_moved(size):
+    """some such thunks, all mapped as many times as they are: sizes by file"""
+    count = max(size // 12500, 1)
+    moved = lambda at: u32(0x1000 + 0x100000 * at, 0x1100)
+    end = lambda at: u32(0x1000 + 0x100000 * at + 16 * count, 0)
+    to = b"".join(moved(at) + end(at) for at in range(count))
+    return thunks_of_same_pages(size, count, maps=(to, u32(0x1000, 0x1000)))
+
+
+def unasked_module(size):
+    """a module that nobody asks for, whose list has one page 400 times"""
+    modules = [(procedures(16), b""), (u32(4) + bytes(PAGE - 4), b"")]
+    return container(database(modules), again={MODULE_STREAMS + 1: (0, 1, 400)}), [0x1100]
+
+
 def long_tail(size):
     """a small database with a tail of 2,000 MB"""
     return container(database([(procedures(16), b"")])), [0x1100]
@@ -312,7 +423,16 @@ CASES = [
     (names_of_imports, (1, 10)),
     (long_answers, (1,)),
     (long_tail, (1,)),
+    (unasked_module, (0.06,)),
+    (calls_of_same_pages, (0.12, 1)),
+    (thunks_of_same_pages, (0.14, 0.5)),
+    (procedures_of_same_pages, (0.12, 0.25)),
+    (imports_of_same_pages, (0.12, 0.25)),
+    (thunks_moved, (0.1, 0.2)),
 ]
+
+# what is asked for the sizes of functions or of files, of all addresses
+SIZES = {procedures_of_same_pages: [], thunks_moved: ["--by-file"]}
 
 
 def asked(case, file, addresses):
@@ -320,6 +440,8 @@ def asked(case, file, addresses):
     if case is paths_of_rows:
         whole = f"{addresses[0]:x}", f"{addresses[-1] + 16:x}"
         return ["sizes", "--by-file", file, *whole], []
+    if case in SIZES:
+        return ["sizes", *SIZES[case], file, "0", "ffffffff"], []
     return ["frames", file], addresses
 
 
@@ -342,7 +464,7 @@ def main():
             continue
         for size in sizes:
             with tempfile.NamedTemporaryFile(suffix=".pdb") as file:
-                data, addresses = case(size * 1_000_000)
+                data, addresses = case(int(size * 1_000_000))
                 file.write(data)
                 file.flush()
                 if case is long_tail:

@@ -7,8 +7,10 @@
 # what is there is used again. PROGRAM is the built pdb_symbolizer, by default the proved one in
 # crates/pdb_symbolizer/out. ORIGINAL, if given, is the ported crate to compare with. It is a
 # program that is called as `ORIGINAL frames FILE < ADDRESSES` and writes the same report, with or
-# without the rows of frames (` @START+LENGTH`). Or it is the folder of a Cargo workspace that has
-# one, which is built by `cargo build --release`. Without it its columns are left out.
+# without the rows of frames (` @START+LENGTH`). Or it is the folder of a Cargo package that has
+# one, which is built in OUT: bench/original is that of the crates as published. It reads pages as
+# it needs them, and with WHOLE=1 in the environment the file first. Without ORIGINAL its columns
+# are left out.
 #
 # Times are processor seconds, the least of five runs in turn, and ratios are given from three such
 # rounds: a shared machine varies by a third. With --count instructions and cache misses are counted
@@ -29,8 +31,8 @@ original=${3:-}
 mkdir -p "$out"
 out=$(cd "$out" && pwd)
 if [ -d "$original" ]; then
-    (cd "$original" && cargo build --release >&2)
-    original=$(find "$original/target/release" -maxdepth 1 -type f -perm -u+x | head -1)
+    cargo build -q --release --manifest-path "$original/Cargo.toml" --target-dir "$out/original"
+    original=$(find "$out/original/release" -maxdepth 1 -type f -perm -u+x | head -1)
 fi
 
 make_database() { # NAME MODULES FUNCTIONS

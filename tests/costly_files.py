@@ -5,9 +5,10 @@
 
 FILE is where pdb_symbolizer lies, with NAME in it for its name; if left out, the proved one is run.
 bench/costs.py makes the files and measures. Modules whose streams list the same pages have to stay
-within what loading and caching may take, and rows whose files have one long path within 30
-processor seconds. The whole report has to come, and no error output. The last line is `N passed, M
-failed`."""
+within what loading and caching may take, calls whose pages are listed over and over within what
+rows may, and rows whose files have one long path within 30 processor seconds. The whole report has
+to come, and no error output. A file whose pages are listed more often has to be refused. The last
+line is `N passed, M failed`."""
 import sys
 import tempfile
 
@@ -18,8 +19,16 @@ sys.path.insert(0, f"{ROOT}/bench")
 import costs  # noqa: E402
 
 SECONDS = 30
-ALWAYS = 128  # MB: 64 to load, and 64 for what is cached
-TIMES = 12  # of the file's bytes: 8 to load, and 4 for what is cached
+
+
+def to_load_and_cache(size):
+    """The megabytes to load a file of so many, and for what is cached, which is estimated."""
+    return 128 + 12 * size
+
+
+def for_rows(size):
+    """Those to load it, and 35 times as many for the rows of one address."""
+    return 36 * (1 + 8 * size)
 
 
 def modules_answered(size, addresses):
@@ -33,13 +42,33 @@ def paths_answered(size, addresses):
     return f"{16 * len(addresses)} {path}\nno file 0\nnone 0\nunreadable 0\n"
 
 
+def calls_answered(size, addresses):
+    """The report on a file of calls: each has rows of two bytes, one of them over the address."""
+    calls = costs.times_listed(0x10000)
+    return "0x00001014\n" + "  g() at ??:3 @0x00001014+2\n" * calls + "  f at ??:?? @??\n"
+
+
 CASES = [
-    (costs.streams_in_one_piece, 2_000_000, modules_answered),
-    (costs.paths_of_rows, 10_000_000, paths_answered),
+    (costs.streams_in_one_piece, 2_000_000, modules_answered, to_load_and_cache),
+    (costs.paths_of_rows, 10_000_000, paths_answered, to_load_and_cache),
+    (costs.calls_of_same_pages, 120_000, calls_answered, for_rows),
 ]
 
 
-def is_within(which, case, size, answered):
+def is_refused(which):
+    """Whether a file is refused whose pages are listed more often than may be copied."""
+    with tempfile.NamedTemporaryFile(suffix=".pdb") as file:
+        data, addresses = costs.unasked_module(60_000)
+        file.write(data)
+        file.flush()
+        words, given = costs.asked(costs.unasked_module, file.name, addresses)
+        ended, _, _ = costs.measured(which, words, given, SECONDS)
+    if ended != "fault: OutOfMemory":
+        print(f"{costs.unasked_module.__doc__}: {ended or 'answered'}")
+    return ended == "fault: OutOfMemory"
+
+
+def is_within(which, case, size, answered, limit):
     """Whether a case's file of about so many bytes is answered, and within the limits."""
     with tempfile.NamedTemporaryFile(suffix=".pdb") as file, tempfile.TemporaryFile() as output:
         data, addresses = case(size)
@@ -49,7 +78,7 @@ def is_within(which, case, size, answered):
         ended, seconds, memory = costs.measured(which, words, given, SECONDS, output=output)
         output.seek(0)
         is_answered = output.read() == answered(size, addresses).encode()
-    most = ALWAYS + TIMES * len(data) / 1e6
+    most = limit(len(data) / 1e6)
     if ended or memory > most or not is_answered:
         wrong = ended or ("" if is_answered else "another report")
         print(f"{case.__doc__}: {wrong}, {seconds:.1f} s, {memory:.0f} MB of {most:.0f} MB")
@@ -60,8 +89,8 @@ def is_within(which, case, size, answered):
 def main():
     place, _ = taken(sys.argv[1:])
     which = program(place, "pdb_symbolizer")
-    passed = sum(is_within(which, *it) for it in CASES)
-    end(passed, len(CASES) - passed)
+    passed = sum(is_within(which, *it) for it in CASES) + is_refused(which)
+    end(passed, len(CASES) + 1 - passed)
 
 
 if __name__ == "__main__":
