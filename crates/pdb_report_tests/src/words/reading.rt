@@ -104,6 +104,18 @@ const ROWS: &[(&str, Wanted)] = &[
     ("frames F", Wanted::Frames("F")),
     ("sizes --by-file F 10 20", Wanted::SizesByFile("F", 16, 32)),
     ("sizes F 10 20 --by-file", Wanted::SizesByFile("F", 16, 32)),
+    (
+        "sizes --by-file -- F 10 20",
+        Wanted::SizesByFile("F", 16, 32),
+    ),
+    (
+        "sizes --by-file -- --by-file 10 20",
+        Wanted::SizesByFile("--by-file", 16, 32),
+    ),
+    (
+        "sizes F 10 20 --by-file --",
+        Wanted::SizesByFile("F", 16, 32),
+    ),
     ("sizes F 20 10", Wanted::Sizes("F", 32, 16)),
     ("sizes F 10 zz", Wanted::NotAnAddress),
     ("sizes F 123456789 20", Wanted::NotAnAddress),
@@ -113,6 +125,13 @@ const ROWS: &[(&str, Wanted)] = &[
         Wanted::Words(&["  <FILE>", "Usage: pdb_symbolizer frames <FILE>"]),
     ),
     ("frames F 10", Wanted::Words(&["'10'"])),
+    ("frames A B C D E F G H I J", Wanted::Words(&["'B'"])),
+    ("sizes --by-file F 10 20 30", Wanted::Words(&["'30'"])),
+    ("sizes F 10 20 30 40 50 60", Wanted::Words(&["'30'"])),
+    (
+        "sizes --by-file F 10 20 --by-file",
+        Wanted::Words(&["'--by-file'"]),
+    ),
     ("lines F", Wanted::Words(&["'lines'"])),
     ("--help", Wanted::Help(HELP)),
     ("-h", Wanted::Help(HELP)),
@@ -121,6 +140,7 @@ const ROWS: &[(&str, Wanted)] = &[
     ("-V", Wanted::Help(VERSION)),
     ("help sizes", Wanted::Help(SIZES_HELP)),
     ("frames --help", Wanted::Help(FRAMES_HELP)),
+    ("sizes --by-file F 10 20 --help", Wanted::Help(SIZES_HELP)),
 ];
 
 /// Reads the arguments of a line.
