@@ -65,7 +65,7 @@ module _ {A : Type 0} (cmp : A → A → Ordering) (total : IsTotalOrder cmp) (e
   -- ---- each range has a table
 
   with_answer : (t : List (A × ℕ)) (answer : Option A) → IsTable cmp t → (u : List (A × ℕ)) × IsTable cmp u × IsAdded t answer 1 u
-  with_answer t None table = (t, table, record { each = λ test. omega arith; all = omega arith })
+  with_answer t None table = (t, table, record { each = λ test. omega arith; all = omega arith; few = omega arith })
   with_answer t (Some k) table =
       let u : List (A × ℕ) = insert_entry cmp t k (count_in cmp t k + 1) in
       (u, table_raised cmp total exact t u k (count_in cmp t k + 1) table (omega arith) refl (put_in_order k (count_in cmp t k + 1) t table.order), added cmp total exact t k 1 table.order)
