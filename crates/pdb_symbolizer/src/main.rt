@@ -3,6 +3,15 @@
 //! `pdb_symbolizer sizes FILE START END`.
 #![tactic(auto)]
 
+ghost use Rattle.std.specs.Prelude.{◌≡◌, ℕ, ◌<◌, ◌≤◌, ◌⊎◌, List, None, IfErr, OnErr, OnOk};
+ghost use Rattle.pdb_engine.specs.Watched.{CountsFailure, IsQuiet, Writes, WritesFront, inner_of};
+ghost use Rattle.pdb_loading.specs.LoadFaults.{IsFileFault};
+ghost use Rattle.pdb_loading.specs.Loading.{load_fault};
+ghost use Rattle.pdb_report_texts.specs.RunFaults.{IsOfSizes, OnCounted, OnLoad, OnReversed};
+ghost use Rattle.pdb_report_texts.specs.RunFaults.{OnWrite, UnlessLoad};
+ghost use Rattle.pdb_symbolizer.specs.Tasks.{IsInOrder, IsReversed, OnRangeReport, OnReport};
+ghost use Rattle.pdb_symbols_modules.specs.Streams.{streams};
+
 pub use pdb_arguments::{Task, TextOutput, WordsFault, read_words, tell_words};
 pub use pdb_report::{
     AtEnd, Error, LoadFault, RunFault, Symbolizer, Tally, Watched, finish_run, parse_address,
@@ -69,7 +78,23 @@ fn run_task<R: Read, W: Write>(
     bytes: Vec<u8>,
     reader: &mut Watched<R>,
     writer: &mut Watched<W>,
-) -> Result<(), RunFault> {
+) -> Result<(), RunFault>
+    // As those of `run_frames`, `run_sizes` and `run_sizes_by_file`, by the task's values.
+    ensures load { IfErr result (λ fault. OnLoad fault (λ cause.
+        IsFileFault cause (load_fault (streams bytes.items)) × (writer.new ≡ writer.old))) }
+    ensures loaded { UnlessLoad result (load_fault (streams bytes.items) ≡ None) }
+    ensures reversed { IfErr result (λ fault. OnReversed fault
+        (IsReversed task.now × (writer.new ≡ writer.old))) }
+    ensures order { OnCounted result (IsInOrder task.now) }
+    ensures ok { OnOk result (OnReport task.now (streams bytes.items)
+        (R.remaining (inner_of reader.old)) (Writes W.contents writer.old writer.new)) }
+    ensures quiet { OnOk result (IsQuiet writer.old writer.new) }
+    ensures write_fails { IfErr result (λ fault. OnWrite fault
+        (λ kind. CountsFailure writer.old writer.new kind)) }
+    ensures part { OnErr result ((writer.new ≡ writer.old) ⊎ OnReport task.now
+        (streams bytes.items) (R.remaining (inner_of reader.old))
+        (WritesFront W.contents writer.old writer.new)) }
+{
     match task {
         Task::Frames { .. } => {
             run_frames_ending(alloc, bytes, reader, writer, AtEnd::LeaveToProcess)
@@ -113,7 +138,22 @@ fn count_sizes<W: Write>(
     end: u32,
     by_file: bool,
     writer: &mut Watched<W>,
-) -> Result<(), RunFault> {
+) -> Result<(), RunFault>
+    ensures load { IfErr result (λ fault. OnLoad fault (λ cause.
+        IsFileFault cause (load_fault (streams bytes.items)) × (writer.new ≡ writer.old))) }
+    ensures loaded { UnlessLoad result (load_fault (streams bytes.items) ≡ None) }
+    ensures reversed { IfErr result (λ fault. OnReversed fault
+        ((end < start) × (writer.new ≡ writer.old))) }
+    ensures order { OnCounted result (start ≤ end) }
+    ensures kind { IfErr result IsOfSizes }
+    ensures ok { OnOk result (OnRangeReport by_file (streams bytes.items) start end
+        (Writes W.contents writer.old writer.new)) }
+    ensures quiet { OnOk result (IsQuiet writer.old writer.new) }
+    ensures write_fails { IfErr result (λ fault. OnWrite fault
+        (λ kind. CountsFailure writer.old writer.new kind)) }
+    ensures part { OnErr result ((writer.new ≡ writer.old) ⊎ OnRangeReport by_file
+        (streams bytes.items) start end (WritesFront W.contents writer.old writer.new)) }
+{
     let outcome = if by_file {
         run_sizes_by_file(alloc, bytes, start, end, writer)
     } else {
