@@ -7,7 +7,7 @@ use Rattle.pdb_engine.specs.declared.fault.InputFault.{InputFault}
 use Rattle.pdb_engine.specs.declared.fault.InputFault.TheVariants.{Read, Write, InputTooLong, OutOfMemory}
 use Rattle.pdb_engine.specs.declared.watched.Watched.{Watched}
 use Rattle.pdb_engine.specs.InputFaults.{OnRead, OnWrite, OnTooLong, IsOfWriting, IsOfRunning, read_fault_of, write_fault_of}
-use Rattle.pdb_engine.specs.InputFaults.{EndsAtRead, EndsAtWrite, EndsWriting, EndsRunning}
+use Rattle.pdb_engine.specs.InputFaults.{EndsAtWrite, EndsWriting, EndsRunning}
 use Rattle.pdb_engine.specs.Watched.{CountsFailure, IsQuiet}
 
 -- a fault of writing is a fault of running
