@@ -262,13 +262,14 @@ def asked(folder):
             for word, other in (("frames_at", "shared_at"), ("function", "emitted"), ("id", "emitted_id")):
                 if question.split()[0] == word:
                     answers[question.replace(word, other, 1)] = answer
+        # All functions come first: a call for them that is refused leaves no part as failed, or a
+        # fault differs.
+        in_order = sorted(answers.items(), key=lambda it: it[0].split()[0] != "functions")
         for kind in (kind, *["symbolizer"] * (kind == "context" and flags == "23")):
             name = f"{kind} {database} {flags}"
             with open(f"{folder}/{name}", "w", encoding="ascii") as questions:
-                # All functions come first: a call for them that is refused leaves no part as failed, or a fault differs.
-                in_order = sorted(answers, key=lambda it: it.split()[0] != "functions")
-                questions.writelines(f"{it}\n" for it in in_order)
-            yield Asked(name, [kind, path, flags, f"{folder}/{name}"], answers)
+                questions.writelines(f"{question}\n" for question, _ in in_order)
+            yield Asked(name, [kind, path, flags, f"{folder}/{name}"], dict(in_order))
 
 
 # Runs
