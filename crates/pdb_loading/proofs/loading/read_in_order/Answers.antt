@@ -1,4 +1,4 @@
-use Rattle.std.proofs.Common.{◌≡◌, ◌∙◌, ℕ, List, Ok, refl, sym, ap, subst}
+use Rattle.std.proofs.Common.{◌≡◌, ◌∙◌, ℕ, List, Ok, sym, ap, subst}
 use Rattle.std.proofs.lemmas.Result.{err_from_is_err_and}
 use Rattle.pdb_addresses.specs.Addresses.{is_ordered}
 use Rattle.pdb_loading.specs.Loading.{Tables}
@@ -20,8 +20,8 @@ returns-in_err-tables-clause-err c =
     let failed = rw c.debug_information.ensures.same at c.in_err-tables.ensures.exact in
     rw (p.1, p.2) (tables_fail (streams c.args.pdb.now) c.in_err-tables.field-0.0 c.in_ok-debug_information.debug_information c.requires c.in_ok-debug_information.ensures.exact failed)
 
-pub returns-in-Err-clause-err : goal.returns-in-Err-clause-err
-returns-in-Err-clause-err c =
+pub returns-clause-err : goal.returns-clause-err
+returns-clause-err c =
     let read = rw c.debug_information.ensures.same at c.in_ok-tables.ensures.exact in
     let failed = order_fails (streams c.args.pdb.now) c.in_ok-debug_information.debug_information c.in_ok-tables.tables c.requires c.in_ok-debug_information.ensures.exact read
     (ap (λ (t : Tables). is_ordered t.map) (sym c.tables.view_is) ∙ c.in-Err.ensures.err.1) in
