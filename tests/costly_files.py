@@ -6,7 +6,7 @@
 FILE is where pdb_symbolizer lies, with NAME in it for its name; if left out, the proved one is run.
 bench/costs.py makes the files and measures. Modules whose streams list the same pages have to stay
 within what loading and caching may take, calls whose pages are listed over and over within what
-rows may, and rows whose files have one long path within 30 processor seconds. The whole report has
+rows may, and rows whose files have one long path within 60 processor seconds. The whole report has
 to come, and no error output. A file whose pages are listed more often has to be refused. The last
 line is `N passed, M failed`."""
 import sys
@@ -18,7 +18,7 @@ from built import ROOT, end, program, taken  # noqa: E402
 sys.path.insert(0, f"{ROOT}/bench")
 import costs  # noqa: E402
 
-SECONDS = 30
+SECONDS = 60
 
 
 def to_load_and_cache(size):
