@@ -30,8 +30,8 @@ sum_where test (e ∷ table) = (if test e.0 then e.1 else 0) + sum_where test ta
 abbrev pub sum_found : {K A : Type 0} → (K → Option A) → (A → Bool) → List (K × ℕ) → ℕ
 sum_found found test table = sum_where (λ k. picked test (found k)) table
 
--- a count of n, if there is something that it is of, has come to a table, which has at most one more
--- row by it
+-- a count of n, if it is a count of something, has come to a table, which has at most one more row
+-- by it
 pub record IsAdded {A : Type 0} (old : List (A × ℕ)) (answer : Option A) (n : ℕ)
     (new : List (A × ℕ)) : Type 0 where
   pub each : (test : A → Bool)

@@ -3,7 +3,8 @@
 ghost use Rattle.std.specs.Prelude.{◌≡◌, ◌<◌, ◌^◌, length, IfOk, Ok};
 ghost use Rattle.pdb_container.specs.Fault.{Gives, Parses};
 ghost use Rattle.pdb_symbols_modules.specs.ModuleStream.{signed as signed_bytes, symbol_list_bytes};
-ghost use Rattle.pdb_symbols_modules.specs.ModuleStream.{iteration_in, line_data_in, line_program_in};
+ghost use Rattle.pdb_symbols_modules.specs.ModuleStream.{iteration_in, line_data_in};
+ghost use Rattle.pdb_symbols_modules.specs.ModuleStream.{line_program_in};
 ghost use Rattle.pdb_symbols_modules.specs.ModuleStream.{subsection_in, inlinees_in, imports_in};
 ghost use Rattle.pdb_symbols_modules.specs.ModuleStream.{exports_in};
 ghost use Rattle.pdb_subsections.specs.Subsections.{bytes_seen};
