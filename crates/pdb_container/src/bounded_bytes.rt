@@ -1,10 +1,10 @@
 //! Bytes of which only so many are copied.
 
-ghost use Rattle.std.specs.Prelude.{◌≡◌};
+ghost use Rattle.std.specs.Prelude.{◌≡◌, IfOk};
 
 use crate::shared_bytes::SharedBytes;
 use crate::source::{ReadView, Source, SourceSlice, size_within};
-use std::alloc::Global;
+use std::alloc::{AllocError, Global};
 use std::io;
 use std::io::ErrorKind;
 use std::marker::Model;
@@ -19,6 +19,13 @@ const TIMES: u64 = 7;
 /// How many times their own length may be listed beside that. It is large, so that a caller who
 /// asks for the same streams again and again isn't refused.
 const TIMES_LISTED: u64 = 1024;
+
+/// How many more bytes may be copied and listed of bytes that are shared.
+#[derive(Clone, Copy, Debug)]
+pub struct CopyLimits {
+    copied: u64,
+    listed: u64,
+}
 
 /// Bytes that are shared, as a file's. A view of one slice shares them, and any other has a copy.
 /// No more is copied in all than 1 MB and seven times the bytes themselves, and no more is listed
@@ -57,6 +64,29 @@ impl BoundedBytes {
             left,
             listed_left,
         }
+    }
+
+    /// How many more bytes may be copied and listed.
+    pub fn limits(&self) -> CopyLimits {
+        CopyLimits {
+            copied: self.left,
+            listed: self.listed_left,
+        }
+    }
+
+    /// The same bytes, of which so many more may be copied and listed.
+    ///
+    /// # Errors
+    /// `AllocError` when memory runs out.
+    pub fn share(&self, limits: CopyLimits) -> Result<BoundedBytes, AllocError>
+        ensures { IfOk result (λ b. b ≡ self.now) }
+    {
+        let bytes = self.bytes.share()?;
+        Ok(BoundedBytes {
+            bytes,
+            left: limits.copied,
+            listed_left: limits.listed,
+        })
     }
 }
 

@@ -21,7 +21,7 @@ mod shared_bytes;
 mod source;
 mod string_table;
 
-pub use bounded_bytes::BoundedBytes;
+pub use bounded_bytes::{BoundedBytes, CopyLimits};
 pub use buffer::{FromBuffer, ParseBuffer};
 pub use entry_list::parse_entries;
 pub use error::{Error, ModuleFault, Result, kind_name};

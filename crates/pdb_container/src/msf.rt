@@ -1,7 +1,7 @@
 //! MSF streams: the header, and the pages in which each stream lies.
 
 ghost use Rattle.std.specs.Prelude.{◌≡◌, ◌+◌, ◌-◌, ◌*◌, ◌%◌, ◌<◌, ◌≤◌, ◌^◌, ◌⊎◌, length, vec_len};
-ghost use Rattle.std.specs.Prelude.{take, drop, Some, Ok, IfOk, IfErr, IsOk};
+ghost use Rattle.std.specs.Prelude.{take, drop, None, Some, Ok, IfOk, IfErr, IsOk};
 ghost use Rattle.std.specs.Int.{div_ceil};
 ghost use Rattle.pdb_container.specs.Container.{words, pages_in, header_in, front_in};
 ghost use Rattle.pdb_container.specs.Container.{behind_header as behind, layout_of, directory_of};
@@ -483,6 +483,51 @@ impl<'s, S: Source> BigMSF<'s, S> {
         ensures { (length (S.bytes self.now) ≤ result) ⊎ (result ≡ 2 ^ 64 - 1) }
     {
         self.source.size_hint()
+    }
+
+    /// The source of the container's bytes.
+    pub fn source(&self) -> &S
+        ensures { result.now ≡ self.now }
+    {
+        &self.source
+    }
+
+    /// An MSF stream by its number, of a container that stays as it is: another source of the same
+    /// bytes views the stream's pages.
+    ///
+    /// # Errors
+    /// As [`Msf::get`].
+    #[tactic(auto, unfolding(crate::specs::Container::stream))]
+    pub fn get_from<T: Source>(
+        &self,
+        source: &mut T,
+        alloc: Global,
+        stream_number: u32,
+    ) -> Result<Stream<'s>>
+        requires { T.bytes source.old ≡ S.bytes self.now }
+        ensures { AnswersFrom T.bytes T.failures source.old source.new (λ s. s) result
+            (stream (T.bytes source.old) stream_number None) }
+    {
+        match self.view_from(source, alloc, stream_number) {
+            Ok(view) => Ok(Stream {
+                view,
+                of: PhantomData,
+            }),
+            Err(fault) => Err(fault),
+        }
+    }
+
+    #[tactic(auto, unfolding(crate::specs::Container::stream))]
+    fn view_from<T: Source>(&self, source: &mut T, alloc: Global, number: u32) -> Result<ReadView>
+        requires { T.bytes source.old ≡ S.bytes self.now }
+        ensures answer { AnswersFrom T.bytes T.failures source.old source.new (λ v. v) result
+            (stream (T.bytes source.old) number None) }
+        ensures few { IfOk result (λ v. length v < 2 ^ 32) }
+    {
+        match &self.directory {
+            Some(kept) => read_stream(source, alloc, &self.header, kept, number, None),
+            None => read_anew(source, alloc, &self.header, &mut None, number, None),
+        }
     }
 
     #[tactic(auto, unfolding(crate::specs::Container::stream))]

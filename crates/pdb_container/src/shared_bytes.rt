@@ -53,6 +53,21 @@ impl SharedBytes {
         &rest[..self.len.min(rest.len())]
     }
 
+    /// Another owner of these bytes: none is copied.
+    ///
+    /// # Errors
+    /// `AllocError` when memory runs out.
+    pub fn share(&self) -> Result<SharedBytes, AllocError>
+        ensures { IfOk result (λ b. b ≡ self.now) }
+    {
+        let whole = self.whole.clone()?;
+        Ok(SharedBytes {
+            whole,
+            start: self.start,
+            len: self.len,
+        })
+    }
+
     /// Another owner of `len` of these bytes, from `start` on: none is copied.
     ///
     /// # Errors

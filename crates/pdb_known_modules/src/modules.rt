@@ -382,6 +382,7 @@ pub fn get_basic_module_info<'a, P: ModuleProvider>(
     match provider.get_module_info(module_index, module) {
         Ok(Some(module_info)) => { data_if_read(alloc, module_info, module.c13_lines_size()) }
         Ok(None) => Ok(None),
+        Err(Error::OutOfMemory) => Err(AllocError),
         Err(_) => Ok(None),
     }
 }

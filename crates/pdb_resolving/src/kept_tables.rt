@@ -132,7 +132,7 @@ fn module_info<'p, P: ModuleProvider>(
 ///
 /// # Errors
 /// The provider's fault.
-#[tactic(auto, using(crate::proofs::Lifting::parsed_fails))]
+#[tactic(auto, using(crate::proofs::Lifting::given_fails))]
 fn info_of<'p, P: ModuleProvider>(
     provider: &'p P,
     module: &Module<'_>,

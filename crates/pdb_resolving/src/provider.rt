@@ -93,14 +93,14 @@ pub trait ModuleProvider {
     /// `None` where it has none.
     ///
     /// # Errors
-    /// The fault of the module's stream; never `TypeNotFound`, `UnimplementedTypeKind`, `IoError`
-    /// or `OutOfMemory`. A fault that was stored is `Kept`.
+    /// The fault of the module's stream; never `TypeNotFound`, `UnimplementedTypeKind` or `IoError`.
+    /// A fault that was stored is `Kept`. `OutOfMemory`, where the stream is read at the call.
     fn get_module_info(
         &self,
         module_index: usize,
         module: &Module<'_>,
     ) -> std::result::Result<Option<&Self::Info>, Error>
-        ensures { Parses (option_map (λ info. Self.Info.held info.now)) result
+        ensures { Gives (option_map (λ info. Self.Info.held info.now)) ⊥ result
             (provided self.now module_index «module».now) };
 
     /// An upper bound of the size of the modules' database, in bytes; `u64::MAX` where none is

@@ -75,6 +75,36 @@ impl<'s, S: Source + Drop> PDB<'s, S> {
         self.container.size_hint()
     }
 
+    /// The source of the database's bytes.
+    pub fn source(&self) -> &S
+        ensures { result.now ≡ self.now }
+    {
+        self.container.source()
+    }
+
+    /// The bytes of an MSF stream, which another source of the same bytes views; `None` for the
+    /// number that names none. The database stays as it is.
+    ///
+    /// # Errors
+    /// As [`PDB::raw_stream`].
+    #[tactic(auto, unfolding(crate::specs::Streams::if_named))]
+    pub fn raw_stream_from<T: Source>(
+        &self,
+        source: &mut T,
+        alloc: Global,
+        index: StreamIndex,
+    ) -> Result<Option<Stream<'s>>>
+        requires { T.bytes source.old ≡ S.bytes self.now }
+        ensures { AnswersFrom T.bytes T.failures source.old source.new (λ s. s) result
+            (stream_if_named (streams (T.bytes source.old)) index.0) }
+    {
+        if index.is_none() {
+            return Ok(None);
+        }
+        let stream = self.stream_from(source, alloc, u32::from(index.0))?;
+        Ok(Some(stream))
+    }
+
     /// The information stream (1): what the database says of itself.
     ///
     /// # Errors
@@ -269,6 +299,21 @@ impl<'s, S: Source + Drop> PDB<'s, S> {
             ((streams (S.bytes self.old)).at number) }
     {
         self.container.get(alloc, number, None)
+    }
+
+    /// The bytes of a stream, which another source of the same bytes views.
+    #[tactic(auto, unfolding(crate::specs::Streams::streams))]
+    fn stream_from<T: Source>(
+        &self,
+        source: &mut T,
+        alloc: Global,
+        number: u32,
+    ) -> Result<Stream<'s>>
+        requires { T.bytes source.old ≡ S.bytes self.now }
+        ensures { AnswersFrom T.bytes T.failures source.old source.new (λ s. s) result
+            ((streams (T.bytes source.old)).at number) }
+    {
+        self.container.get_from(source, alloc, number)
     }
 
     /// The stream at a place of the optional header, where one is named.
