@@ -398,10 +398,22 @@ def thunks_moved(size):
     return thunks_of_same_pages(size, count, maps=(to, u32(0x1000, 0x1000)))
 
 
+def listed_often(addresses):
+    """A file whose second module, from 0x11000 on, has one page 400 times in its list."""
+    modules = [(procedures(16), b""), (u32(4) + bytes(PAGE - 4), b"")]
+    covered = [contribution(0, 0x1000, 0), contribution(0x10000, 0x1000, 1)]
+    streams = database(modules, contributions=covered)
+    return container(streams, again={MODULE_STREAMS + 1: (0, 1, 400)}), addresses
+
+
 def unasked_module(size):
     """a module that nobody asks for, whose list has one page 400 times"""
-    modules = [(procedures(16), b""), (u32(4) + bytes(PAGE - 4), b"")]
-    return container(database(modules), again={MODULE_STREAMS + 1: (0, 1, 400)}), [0x1100]
+    return listed_often([0x1100])
+
+
+def asked_module(size):
+    """the same, where it is asked for after another module"""
+    return listed_often([0x1100, 0x11000])
 
 
 def long_tail(size):
@@ -424,6 +436,7 @@ CASES = [
     (long_answers, (1,)),
     (long_tail, (1,)),
     (unasked_module, (0.06,)),
+    (asked_module, (0.06,)),
     (calls_of_same_pages, (0.12, 1)),
     (thunks_of_same_pages, (0.14, 0.5)),
     (procedures_of_same_pages, (0.12, 0.25)),

@@ -7,8 +7,8 @@ FILE is where pdb_symbolizer lies, with NAME in it for its name; if left out, th
 bench/costs.py makes the files and measures. Modules whose streams list the same pages have to stay
 within what loading and caching may take, calls whose pages are listed over and over within what
 rows may, and rows whose files have one long path within 60 processor seconds. The whole report has
-to come, and no error output. A file whose pages are listed more often has to be refused. The last
-line is `N passed, M failed`."""
+to come, and no error output. Of a file in which one module lists its pages more often, that module
+has to be refused, and all others answered. The last line is `N passed, M failed`."""
 import sys
 import tempfile
 
@@ -52,20 +52,25 @@ CASES = [
     (costs.streams_in_one_piece, 2_000_000, modules_answered, to_load_and_cache),
     (costs.paths_of_rows, 10_000_000, paths_answered, to_load_and_cache),
     (costs.calls_of_same_pages, 120_000, calls_answered, for_rows),
+    (costs.unasked_module, 60_000, modules_answered, to_load_and_cache),
 ]
 
 
 def is_refused(which):
-    """Whether a file is refused whose pages are listed more often than may be copied."""
-    with tempfile.NamedTemporaryFile(suffix=".pdb") as file:
-        data, addresses = costs.unasked_module(60_000)
+    """Whether a module is refused whose pages are listed more often than may be copied, and the one
+    before it is answered."""
+    with tempfile.NamedTemporaryFile(suffix=".pdb") as file, tempfile.TemporaryFile() as output:
+        data, addresses = costs.asked_module(60_000)
         file.write(data)
         file.flush()
-        words, given = costs.asked(costs.unasked_module, file.name, addresses)
-        ended, _, _ = costs.measured(which, words, given, SECONDS)
-    if ended != "fault: OutOfMemory":
-        print(f"{costs.unasked_module.__doc__}: {ended or 'answered'}")
-    return ended == "fault: OutOfMemory"
+        words, given = costs.asked(costs.asked_module, file.name, addresses)
+        ended, _, _ = costs.measured(which, words, given, SECONDS, output=output)
+        output.seek(0)
+        first = output.read() == modules_answered(0, addresses[:1]).encode()
+    if ended != "fault: OutOfMemory" or not first:
+        print(f"{costs.asked_module.__doc__}: {ended or 'answered'}")
+        return False
+    return True
 
 
 def is_within(which, case, size, answered, limit):

@@ -141,7 +141,7 @@ fn tell_function(rt: &impl Print, function: &Function) -> Result<()> {
 fn tell_types(rt: &(impl Files + Print + AllocGlobal), file: &str) -> Result<()> {
     let bytes = SharedBytes::new(fs::read(rt, file)?)?;
     let pdb = PDB::open(rt.alloc(), BoundedBytes::new(bytes))?;
-    let held: Held = ContextPdbData::try_from_pdb(rt.alloc(), pdb)?;
+    let held: Held = ContextPdbData::try_from_file(rt.alloc(), pdb)?;
     tell_held(rt, &held)
 }
 

@@ -2,12 +2,12 @@
 //! it. Of a context, what was read of a module or a procedure, the names of functions and where
 //! functions begin are cached; what was asked before shows in no answer.
 //!
-//! A database is read once ([`ContextPdbData`]); contexts and formatters are made of what is held
-//! then:
+//! A database is read once, and modules of a file when they are first asked for
+//! ([`ContextPdbData`]); contexts and formatters are made of what is held then:
 //!
 //! ```text
 //! let pdb = PDB::open(alloc, BoundedBytes::new(SharedBytes::new(bytes)?))?;
-//! let held = ContextPdbData::try_from_pdb(alloc, pdb)?;
+//! let held = ContextPdbData::try_from_file(alloc, pdb)?;
 //! if held.address_map().is_ordered() {
 //!     let mut context = held.make_context(alloc)?;
 //!     let function = context.find_function(alloc, 0x1148)?;
@@ -21,7 +21,8 @@
 //!
 //! | to | call |
 //! |---|---|
-//! | read what is asked of a database | [`ContextPdbData::try_from_pdb`], `try_from_pdb_ref` |
+//! | hold a file's database | [`ContextPdbData::try_from_file`] |
+//! | read a database over a source of another kind | `try_from_pdb`, `try_from_pdb_ref` |
 //! | read what a context made of parts needs | [`read_tables`], [`Context::new_from_parts`] |
 //! | make a context | `make_context` |
 //! | make one with flags in place of the default ones | `make_context_with_formatter_flags` |

@@ -15,8 +15,8 @@ use crate::context::Context;
 use pdb_addresses::AddressMap;
 use pdb_answers::TypeFormatter;
 use pdb_answers::maybe_owned::MaybeOwned;
-use pdb_container::{Result, Source};
-use pdb_loading::{HeldDatabase, KeptModules, collect_modules, read_database};
+use pdb_container::{BoundedBytes, Result, Source};
+use pdb_loading::{HeldDatabase, KeptModules, collect_modules, hold_database, read_database};
 use pdb_resolving::{Error, ModuleProvider};
 use pdb_symbols_modules::{Module, ModuleInfo, PDB};
 use pdb_text_pieces::TypeFormatterFlags;
@@ -25,7 +25,8 @@ use std::marker::{Model, PhantomData};
 
 /// What formatters and contexts are made of: everything of a program database that they go over,
 /// read once and owned. `'p` is how long the database itself may be borrowed elsewhere; nothing is
-/// read of it any more.
+/// read of it any more. Of a file ([`ContextPdbData::try_from_file`]) the modules' own streams are
+/// read when they are first asked for.
 pub struct ContextPdbData<'p, 's, S: Source> {
     held: HeldDatabase<'s>,
     of: PhantomData<&'p S>,
@@ -90,6 +91,28 @@ impl<'p, 's, S: Source + Drop> ContextPdbData<'p, 's, S> {
             (HasRisen (S.failures pdb.old) (S.failures pdb.new)) d) }
     {
         match read_database(pdb, alloc) {
+            Ok(held) => Ok(ContextPdbData::from_held(held)),
+            Err(error) => Err(Error::from(error)),
+        }
+    }
+}
+
+impl<'p, 's> ContextPdbData<'p, 's, BoundedBytes> {
+    /// Reads what formatters and contexts need of a file's database that is open, and holds the
+    /// file: the modules' own streams are read when they are first asked for.
+    ///
+    /// # Errors
+    /// As [`ContextPdbData::try_from_pdb`]; none of a source.
+    #[tactic(auto, using(crate::proofs::Refusals::refused))]
+    pub fn try_from_file(
+        alloc: Global,
+        pdb: PDB<'s, BoundedBytes>,
+    ) -> std::result::Result<ContextPdbData<'p, 's, BoundedBytes>, Error>
+        ensures loads { Loads read_in (HasRisen 0 0) result
+            (database_read (shared (streams pdb.entry))) }
+        ensures own { IfOk result (λ d. IsOwn (streams pdb.entry) (HasRisen 0 0) d) }
+    {
+        match hold_database(alloc, pdb) {
             Ok(held) => Ok(ContextPdbData::from_held(held)),
             Err(error) => Err(Error::from(error)),
         }

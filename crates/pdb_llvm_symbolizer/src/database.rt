@@ -91,7 +91,7 @@ fn load<'a>(
     if let Some(wanted) = identity {
         check_build(alloc, &mut pdb, wanted)?;
     }
-    let held = ContextPdbData::try_from_pdb(alloc, pdb)?;
+    let held = ContextPdbData::try_from_file(alloc, pdb)?;
     Ok(arena.try_alloc(held)?)
 }
 

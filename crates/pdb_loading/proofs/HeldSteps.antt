@@ -86,6 +86,17 @@ own_held s d u h a b c e same read whole_list ab bc ce infos names = record {
   count_is = length_all_zip (KeepsInfo (HasRisen b c)) h.infos (kept_infos s (modules_of d.modules).items) infos ∙ length_kept s (modules_of d.modules).items ∙ ap (λ (x : Dbi). length (modules_of x.modules).items) (sym same);
 }
 
+kept_alike : (failed : Type 0) (infos : List KeptInfo) → KeepsInfos failed infos infos
+kept_alike failed [] = tt
+kept_alike failed (info ∷ infos) = (inl refl, kept_alike failed infos)
+
+-- names that were stored, and modules that are what the file has
+pub own_listed : (s : Streams) (d : Dbi) (h : Held) → h.debug_information ≡ d → debug_information (shared s) ≡ Ok d → listed d ≡ Ok tt
+    → h.infos ≡ kept_infos s (modules_of d.modules).items → KeepsNames (HasRisen 0 0) h.names (names_in s) → IsOwn s (HasRisen 0 0) h
+own_listed s d h same read whole_list infos names =
+    own_held s d tt h 0 0 0 0 same read whole_list (omega arith) (omega arith) (omega arith)
+    (subst (λ (there : List KeptInfo). KeepsInfos (HasRisen 0 0) h.infos there) infos (kept_alike (HasRisen 0 0) h.infos)) names
+
 -- ---- a list that was read before
 
 -- its modules are those of the list

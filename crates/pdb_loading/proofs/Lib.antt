@@ -1,4 +1,5 @@
 pub mod Consumed
+pub mod FileSteps
 pub mod HeldSteps
 pub mod KeptSteps
 pub mod Lifting

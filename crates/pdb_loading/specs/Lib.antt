@@ -1,5 +1,7 @@
+pub mod FileModules
 pub mod FileRead
 pub mod Held
+pub mod KeptModules
 pub mod LoadFaultText
 pub mod LoadFaults
 pub mod LoadedFile

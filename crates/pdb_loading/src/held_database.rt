@@ -2,7 +2,7 @@
 //! files and modules, and the modules' own streams.
 
 ghost use Rattle.std.specs.Prelude.{◌≡◌, IfOk, Ok};
-ghost use Rattle.pdb_container.specs.Fault.{HasRisen};
+ghost use Rattle.pdb_container.specs.Fault.{Gives, HasRisen};
 ghost use Rattle.pdb_container.specs.SourceAnswers.{AnswersFrom};
 ghost use Rattle.pdb_loading.specs.Held.{IsOwn, parts_checked, read_in};
 ghost use Rattle.pdb_loading.specs.Loading.{database_read, read_after};
@@ -11,10 +11,10 @@ ghost use Rattle.pdb_symbols_modules.specs.DatabaseCalls.{debug_information as r
 ghost use Rattle.pdb_symbols_modules.specs.Shared.{shared};
 ghost use Rattle.pdb_symbols_modules.specs.Streams.{streams};
 
-use crate::module_infos::{KeptModules, read_module_infos};
+use crate::module_infos::{KeptModules, list_modules, read_module_infos};
 use crate::tables::{Tables, read_names, read_tables};
 use pdb_choice::ContextParts;
-use pdb_container::{Result, Source, StringTable};
+use pdb_container::{BoundedBytes, Result, Source, StringTable};
 use pdb_resolving::Error;
 use pdb_symbols_modules::{DebugInformation, PDB};
 use std::alloc::Global;
@@ -114,6 +114,51 @@ pub fn read_database<'s, S: Source + Drop>(
     let debug_information = pdb.debug_information(alloc)?;
     let tables = read_tables(pdb, alloc, &debug_information)?;
     read_after_tables(pdb, alloc, debug_information, tables)
+}
+
+/// Reads what comes after stream 3 and its tables of a file, and holds the file: the names table
+/// and the module list. The modules' own streams are read when they are asked for.
+///
+/// # Errors
+/// `UnexpectedEof` of the module list; `OutOfMemory`. The names table is missing where it can't be
+/// read.
+#[tactic(auto, using(crate::proofs::HeldSteps::list_ends, crate::proofs::HeldSteps::own_listed))]
+pub fn hold_after_tables<'s>(
+    alloc: Global,
+    mut pdb: PDB<'s, BoundedBytes>,
+    debug_information: DebugInformation<'s>,
+    tables: Tables<'s>,
+) -> Result<HeldDatabase<'s>>
+    requires { read_dbi (shared (streams pdb)) ≡ Ok debug_information }
+    ensures loads { Gives read_in (HasRisen 0 0) result
+        (read_after debug_information.entry tables.entry) }
+    ensures own { IfOk result (λ d. IsOwn (streams pdb.entry) (HasRisen 0 0) d) }
+{
+    let names = read_names(&mut pdb, alloc)?;
+    let size = pdb.size_hint();
+    let modules = list_modules(alloc, pdb, &debug_information)?;
+    Ok(HeldDatabase {
+        debug_information,
+        tables,
+        names,
+        modules: KeptModules::on_demand(modules, size),
+    })
+}
+
+/// Reads a file's database that is open, as [`read_database`], and holds the file: the modules' own
+/// streams are read when they are asked for.
+///
+/// # Errors
+/// As [`read_database`].
+#[tactic(auto, unfolding(crate::specs::Loading::database_read))]
+pub fn hold_database<'s>(alloc: Global, mut pdb: PDB<'s, BoundedBytes>) -> Result<HeldDatabase<'s>>
+    ensures loads { Gives read_in (HasRisen 0 0) result
+        (database_read (shared (streams pdb.entry))) }
+    ensures own { IfOk result (λ d. IsOwn (streams pdb.entry) (HasRisen 0 0) d) }
+{
+    let debug_information = pdb.debug_information(alloc)?;
+    let tables = read_tables(&mut pdb, alloc, &debug_information)?;
+    hold_after_tables(alloc, pdb, debug_information, tables)
 }
 
 impl<'s> HeldDatabase<'s> {

@@ -3,16 +3,19 @@
 //! [`load_file`] reads in it.
 #![tactic(auto)]
 
+mod file_modules;
 mod file_read;
+mod file_reader;
 mod held_database;
 mod load_fault;
 mod loading;
 mod module_infos;
 mod tables;
 
+pub use file_modules::FileModules;
 pub use file_read::read_file;
-pub use held_database::{HeldDatabase, read_database};
+pub use held_database::{HeldDatabase, hold_database, read_database};
 pub use load_fault::{LoadFault, plain_name};
-pub use loading::{FileDatabase, LoadedFile, load_file};
+pub use loading::{LoadedFile, load_file};
 pub use module_infos::{KeptModules, collect_modules};
 pub use tables::{Tables, read_tables};

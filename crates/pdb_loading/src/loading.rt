@@ -10,7 +10,7 @@ ghost use Rattle.pdb_loading.specs.Loading.{loaded, load_fault};
 ghost use Rattle.pdb_symbols_modules.specs.Shared.{shared};
 ghost use Rattle.pdb_symbols_modules.specs.Streams.{streams};
 
-use crate::held_database::{HeldDatabase, read_after_tables};
+use crate::held_database::{HeldDatabase, hold_after_tables};
 use crate::load_fault::LoadFault;
 use crate::tables::{Tables, read_tables};
 use pdb_addresses::AddressMap;
@@ -20,13 +20,13 @@ use std::alloc::Global;
 use std::marker::Model;
 
 /// An open program database over a file's bytes.
-pub type FileDatabase = PDB<'static, BoundedBytes>;
+type FileDatabase = PDB<'static, BoundedBytes>;
 
-/// A file that was loaded: its open database, and what is held of that. Its value in contracts is
+/// A file that was loaded: its bytes, and what is held of its database. Its value in contracts is
 /// the file's bytes.
 pub struct LoadedFile {
-    /// The open database.
-    pub pdb: FileDatabase,
+    /// The file's bytes.
+    pub file: SharedBytes,
     /// What contexts are made of.
     pub held: HeldDatabase<'static>,
 }
@@ -37,27 +37,27 @@ impl Model for LoadedFile {
 
     ghost Value = { List ℕ };
 
-    ghost view = { λ f. f.pdb };
+    ghost view = { λ f. f.file };
 
-    ghost invariant = { λ f. IsLoadedFrom f.pdb f.held };
+    ghost invariant = { λ f. IsLoadedFrom f.file f.held };
 }
 
 impl Drop for LoadedFile {
     fn drop(self) {
-        let LoadedFile { pdb, held } = self;
-        drop(pdb);
+        let LoadedFile { file, held } = self;
+        drop(file);
         drop(held);
     }
 }
 
 impl LoadedFile {
-    /// The open database, and what is held of it.
-    pub fn into_parts(self) -> (FileDatabase, HeldDatabase<'static>)
-        ensures database { result.0 ≡ self }
+    /// The file's bytes, and what is held of its database.
+    pub fn into_parts(self) -> (SharedBytes, HeldDatabase<'static>)
+        ensures file { result.0 ≡ self }
         ensures held { IsLoadedFrom result.0 result.1 }
     {
-        let LoadedFile { pdb, held } = self;
-        (pdb, held)
+        let LoadedFile { file, held } = self;
+        (file, held)
     }
 }
 
@@ -93,33 +93,29 @@ fn read_in_order(
 }
 
 /// Reads what contexts are made of, and checks that a context can be made.
-fn read_held(alloc: Global, pdb: &mut FileDatabase) -> Result<HeldDatabase<'static>, LoadFault>
-    requires { (streams pdb.old).open_fault ≡ None }
-    ensures same { OnOk result (pdb.new ≡ pdb.old) }
-    ensures kept { IfOk result (λ held. IsLoadedFrom pdb.old held) }
-    ensures err { IfErr result (λ e. FailsLoading e (loaded (shared (streams pdb.old)))) }
+fn read_held(alloc: Global, mut pdb: FileDatabase) -> Result<HeldDatabase<'static>, LoadFault>
+    requires { (streams pdb).open_fault ≡ None }
+    ensures kept { IfOk result (λ held. IsLoadedFrom pdb.entry held) }
+    ensures err { IfErr result (λ e. FailsLoading e (loaded (shared (streams pdb.entry)))) }
 {
-    let (debug_information, tables) = read_in_order(alloc, pdb)?;
-    let held = read_after_tables(pdb, alloc, debug_information, tables)?;
+    let (debug_information, tables) = read_in_order(alloc, &mut pdb)?;
+    let held = hold_after_tables(alloc, pdb, debug_information, tables)?;
     held.check_parts(alloc)?;
     Ok(held)
 }
 
-/// Loads an open program database.
-fn load(alloc: Global, mut pdb: FileDatabase) -> Result<LoadedFile, LoadFault>
-    requires { (streams pdb).open_fault ≡ None }
-    ensures ok { IfOk result (λ f. f ≡ pdb.entry) }
-    ensures loaded { OnOk result (load_fault (streams pdb.entry) ≡ None) }
-    ensures err { IfErr result (λ e. FailsLoading e (loaded (shared (streams pdb.entry)))) }
+/// Opens the program database of a file's bytes, which are shared.
+fn open_file(alloc: Global, file: &SharedBytes) -> Result<FileDatabase, LoadFault>
+    ensures ok { IfOk result (λ p. (p ≡ file.now) × ((streams file.now).open_fault ≡ None)) }
+    ensures refused { IfErr result (λ e. Refuses e (load_fault (streams file.now))) }
 {
-    match read_held(alloc, &mut pdb) {
-        Ok(held) => Ok(LoadedFile { pdb, held }),
-        Err(fault) => Err(fault),
-    }
+    let bytes = BoundedBytes::new(file.share()?);
+    Ok(PDB::open(alloc, bytes)?)
 }
 
 /// Opens the program database of a file's bytes and loads it: everything that keeps the file from
-/// being answered is found here, and everything that answers need is read.
+/// being answered is found here, and what answers need is read, but for the modules' own streams:
+/// each is read when it is first asked for.
 ///
 /// # Errors
 /// The first fault, in the order in which a file is read: the container; stream 3 and its header;
@@ -131,6 +127,9 @@ pub fn load_file(alloc: Global, file: SharedBytes) -> Result<LoadedFile, LoadFau
     ensures loaded { OnOk result (load_fault (streams file) ≡ None) }
     ensures refused { IfErr result (λ e. Refuses e (load_fault (streams file))) }
 {
-    let pdb = PDB::open(alloc, BoundedBytes::new(file))?;
-    load(alloc, pdb)
+    let pdb = open_file(alloc, &file)?;
+    match read_held(alloc, pdb) {
+        Ok(held) => Ok(LoadedFile { file, held }),
+        Err(fault) => Err(fault),
+    }
 }

@@ -1,8 +1,8 @@
 //! The modules' own streams, each read once and stored with its fault.
 
-ghost use Rattle.std.specs.Prelude.{ℕ, ◌≡◌, ◌≤◌, IfOk, IsOkUnless, Ok, None};
+ghost use Rattle.std.specs.Prelude.{ℕ, ◌≡◌, ◌≤◌, IfOk, IsOkUnless, Ok, None, option_map};
 ghost use Rattle.pdb_loading.specs.Held.{kept_infos};
-ghost use Rattle.pdb_loading.specs.ModuleInfos.{kept_info, kept_as};
+ghost use Rattle.pdb_loading.specs.ModuleInfos.{answered_if_listed, kept_info, kept_as};
 ghost use Rattle.pdb_loading.specs.ModuleInfos.{KeepsFrom, KeepsInfo, KeepsInfos};
 ghost use Rattle.pdb_loading.specs.Loading.{listed};
 ghost use Rattle.pdb_loading.specs.Sharing.{in_parts_of, AreOfStreams, IsShared};
@@ -14,7 +14,8 @@ ghost use Rattle.pdb_symbols_modules.specs.DatabaseCalls.{module_info};
 ghost use Rattle.pdb_symbols_modules.specs.Shared.{shared};
 ghost use Rattle.pdb_symbols_modules.specs.Streams.{streams};
 
-use pdb_container::{Error, FallibleIterator, ModuleFault, Result, Source};
+use crate::file_modules::FileModules;
+use pdb_container::{BoundedBytes, Error, FallibleIterator, ModuleFault, Result, Source};
 use pdb_resolving::ModuleProvider;
 use pdb_symbols_modules::{DebugInformation, Module, ModuleInfo, ModuleIter, PDB};
 use std::alloc::Global;
@@ -24,21 +25,32 @@ use std::marker::Model;
 /// What is stored of a module: its own stream, where it has one, or why that can't be read.
 pub type KeptInfo<'s> = std::result::Result<Option<ModuleInfo<'s>>, ModuleFault>;
 
-/// The modules' own streams, in the order of the module list, each with its fault in its place.
+/// Modules in the order of the module list.
+#[derive(Drop)]
+enum Modules<'s> {
+    /// Each was read.
+    Read(Vec<KeptInfo<'s>>),
+    /// Each is read when it is first asked for.
+    OnDemand(FileModules<'s>),
+}
+
+/// The modules' own streams, in the order of the module list, each with its fault in its place. Of
+/// a file each is read when it is first asked for.
 #[derive(Drop)]
 pub struct KeptModules<'s> {
-    infos: Vec<KeptInfo<'s>>,
+    modules: Modules<'s>,
     /// An upper bound of the database's size, in bytes.
     database_size: u64,
 }
 
 impl<'s> Model for KeptModules<'s> {
     ghost use Rattle.std.specs.Prelude.{List};
+    ghost use Rattle.pdb_loading.specs.KeptModules.{infos_of};
     ghost use Rattle.pdb_loading.specs.ModuleInfos as stored;
 
     ghost Value = { List stored.KeptInfo };
 
-    ghost view = { λ m. m.infos.items };
+    ghost view = { λ m. infos_of m.modules };
 }
 
 impl<'s> KeptModules<'s> {
@@ -47,9 +59,32 @@ impl<'s> KeptModules<'s> {
         ensures { result ≡ infos.entry.items }
     {
         KeptModules {
-            infos,
+            modules: Modules::Read(infos),
             database_size,
         }
+    }
+
+    /// The modules of a file of at most so many bytes, each of which is read when it is asked for.
+    pub fn on_demand(modules: FileModules<'s>, database_size: u64) -> KeptModules<'s>
+        ensures { result ≡ modules.entry }
+    {
+        KeptModules {
+            modules: Modules::OnDemand(modules),
+            database_size,
+        }
+    }
+}
+
+/// What is answered of a module by what is stored of it; a fault as `Kept`.
+fn answer_of<'k, 's>(kept: Option<&'k KeptInfo<'s>>) -> Result<Option<&'k ModuleInfo<'s>>>
+    ensures { Gives (option_map (λ info. info.now)) ⊥ result
+        (answered_if_listed (option_map (λ k. k.now) kept)) }
+{
+    match kept {
+        None => Ok(None),
+        Some(Ok(None)) => Ok(None),
+        Some(Ok(Some(info))) => Ok(Some(info)),
+        Some(Err(fault)) => Err(Error::Kept(*fault)),
     }
 }
 
@@ -67,11 +102,9 @@ impl<'s> ModuleProvider for KeptModules<'s> {
         module_index: usize,
         _module: &Module<'_>,
     ) -> Result<Option<&ModuleInfo<'s>>> {
-        match self.infos.get(module_index) {
-            None => Ok(None),
-            Some(Ok(None)) => Ok(None),
-            Some(Ok(Some(info))) => Ok(Some(info)),
-            Some(Err(fault)) => Err(Error::Kept(*fault)),
+        match &self.modules {
+            Modules::Read(infos) => answer_of(infos.get(module_index)),
+            Modules::OnDemand(modules) => answer_of(modules.get(module_index)?),
         }
     }
 
@@ -98,7 +131,7 @@ pub fn collect_modules<'m>(alloc: Global, mut remaining: ModuleIter<'m>) -> Resu
 }
 
 /// The fault of a module's stream, as it is stored; any other error stays one.
-fn keep<'s>(error: Error) -> Result<KeptInfo<'s>>
+pub(crate) fn keep<'s>(error: Error) -> Result<KeptInfo<'s>>
     ensures { result ≡ kept_as (kept_of error) }
 {
     match ModuleFault::try_from(error) {
@@ -213,4 +246,23 @@ pub(crate) fn read_module_infos<'s, S: Source + Drop>(
 {
     let modules = collect_modules(alloc, debug_information.modules())?;
     read_infos(pdb, alloc, modules.as_slice())
+}
+
+/// The modules of a file, by the list in stream 3, which was read. None of their streams is.
+///
+/// # Errors
+/// `UnexpectedEof` where the list isn't whole; `OutOfMemory`.
+#[tactic(auto, using(crate::proofs::OpenFiles::open_where_read, crate::proofs::HeldSteps::list_there, crate::proofs::HeldSteps::list_missing))]
+pub(crate) fn list_modules<'s>(
+    alloc: Global,
+    pdb: PDB<'s, BoundedBytes>,
+    debug_information: &DebugInformation<'_>,
+) -> Result<FileModules<'s>>
+    requires { read_dbi (shared (streams pdb)) ≡ Ok debug_information.now }
+    ensures whole_list { Gives (λ _. tt) ⊥ result (listed debug_information.now) }
+    ensures kept { IfOk result (λ m. m
+        ≡ kept_infos (streams pdb.entry) (modules_of debug_information.now.modules).items) }
+{
+    let modules = collect_modules(alloc, debug_information.modules())?;
+    FileModules::new(alloc, pdb, modules.as_slice())
 }

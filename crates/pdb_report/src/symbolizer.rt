@@ -12,14 +12,14 @@ ghost use Rattle.pdb_symbols_modules.specs.Streams.{streams};
 use pdb_addr2line::{Context, ContextPdbData, KeptModules};
 use pdb_addresses::AddressMap;
 use pdb_container::{BoundedBytes, SharedBytes};
-use pdb_loading::{FileDatabase, LoadFault, LoadedFile, load_file};
+use pdb_loading::{LoadFault, LoadedFile, load_file};
 use std::alloc::Global;
 use std::marker::Model;
 
 /// A symbolizer: a program database that was loaded, with what contexts are made of. Its value in
 /// contracts is the file's bytes.
 pub struct Symbolizer {
-    pdb: FileDatabase,
+    file: SharedBytes,
     held: ContextPdbData<'static, 'static, BoundedBytes>,
 }
 
@@ -29,33 +29,33 @@ impl Model for Symbolizer {
 
     ghost Value = { List ℕ };
 
-    ghost view = { λ s. s.pdb };
+    ghost view = { λ s. s.file };
 
-    ghost invariant = { λ s. IsLoadedFrom s.pdb s.held };
+    ghost invariant = { λ s. IsLoadedFrom s.file s.held };
 }
 
 impl Drop for Symbolizer {
     fn drop(self) {
-        let Symbolizer { pdb, held } = self;
-        drop(pdb);
+        let Symbolizer { file, held } = self;
+        drop(file);
         drop(held);
     }
 }
 
 /// A symbolizer of a file that was loaded.
-fn of_loaded(file: LoadedFile) -> Symbolizer
-    ensures { result ≡ file }
+fn of_loaded(loaded: LoadedFile) -> Symbolizer
+    ensures { result ≡ loaded }
 {
-    let (pdb, held) = file.into_parts();
+    let (file, held) = loaded.into_parts();
     Symbolizer {
-        pdb,
+        file,
         held: ContextPdbData::from_held(held),
     }
 }
 
 impl Symbolizer {
     /// Loads the program database of a file's bytes: everything that keeps the file from being
-    /// answered is found here, and everything that answers need is read. A module's own stream
+    /// answered is found here. A module's own stream is read when it is first asked for, so it
     /// keeps no file from being loaded. No stream is copied that lies in the file in one piece, and
     /// copies take no more than 1 MB and seven times the file's bytes.
     ///

@@ -8,8 +8,8 @@ use Rattle.pdb_report.proofs.symbolizer.Symbolizer.address_map.Goals as goal
 pub returns-clause-map : goal.returns-clause-map
 returns-clause-map c =
     subst (λ (file : List ℕ). address_map (streams file) ≡ Some c.address_map.result.now) c.self.view_is
-    (map_kept c.self.inside.pdb c.self.inside.held c.self.invariant ∙ ap (λ (m : Map). Some m) (sym c.address_map.ensures))
+    (map_kept c.self.inside.file c.self.inside.held c.self.invariant ∙ ap (λ (m : Map). Some m) (sym c.address_map.ensures))
 
 pub returns-clause-ordered : goal.returns-clause-ordered
 returns-clause-ordered c =
-    subst (λ (m : Map). IsOrdered m) (sym c.address_map.ensures) (map_ordered c.self.inside.pdb c.self.inside.held c.self.invariant)
+    subst (λ (m : Map). IsOrdered m) (sym c.address_map.ensures) (map_ordered c.self.inside.file c.self.inside.held c.self.invariant)

@@ -1,0 +1,222 @@
+//! The modules of a file, each read when it is first asked for, and then stored.
+
+ghost use Rattle.std.specs.Prelude.{◌≡◌, ◌×◌, IfOk, IsOkUnless, None, Ok, option_map, slice_get};
+ghost use Rattle.std.specs.List.{All};
+ghost use Rattle.pdb_container.specs.Fault.{Gives};
+ghost use Rattle.pdb_loading.specs.FileModules.{entry_of, kept_by, kept_by_tag, kept_in};
+ghost use Rattle.pdb_loading.specs.FileModules.{tag_of, IsOfFile};
+ghost use Rattle.pdb_loading.specs.Held.{kept_infos};
+ghost use Rattle.pdb_loading.specs.Sharing.{in_parts_of};
+ghost use Rattle.pdb_symbols_modules.specs.Streams.{streams};
+
+use crate::file_reader::{FileReader, ModuleParts};
+use crate::module_infos::KeptInfo;
+use boxcar::slot::{OnceSlot, SlotRule};
+use boxcar::tag::{Names, Tag};
+use pdb_container::{BoundedBytes, Error, Result};
+use pdb_symbols_modules::{Module, PDB};
+use std::alloc::Global;
+use std::collections::BTreeMap;
+use std::marker::Model;
+
+/// What a slot of a module stores: what its file has of the module.
+pub struct OfFile;
+
+impl<'s> SlotRule<KeptInfo<'s>> for OfFile {
+    ghost holds = { λ tag kept. kept ≡ kept_by_tag tag };
+}
+
+/// A module of a file.
+#[derive(Drop)]
+struct ModuleOf<'f> {
+    parts: ModuleParts,
+    file: &'f BoundedBytes,
+}
+
+impl<'f> Names<ModuleOf<'f>> for OfFile {
+    ghost numbers = { λ m. tag_of m.parts m.file.now };
+}
+
+/// A module, and what is stored of it once it was asked for.
+#[derive(Drop)]
+pub struct ModuleSlot<'s> {
+    parts: ModuleParts,
+    /// The index of the first module that names the same stream.
+    first: usize,
+    kept: OnceSlot<KeptInfo<'s>, OfFile>,
+}
+
+/// The modules of a file, of which each is read when it is first asked for. Their value in
+/// contracts is what is stored of each once it was.
+#[derive(Drop)]
+pub struct FileModules<'s> {
+    reader: FileReader<'s>,
+    slots: Vec<ModuleSlot<'s>>,
+}
+
+impl<'s> Model for FileModules<'s> {
+    ghost use Rattle.std.specs.Prelude.{List};
+    ghost use Rattle.std.specs.List.{All};
+    ghost use Rattle.pdb_loading.specs.FileModules.{kept_in, IsOfFile};
+    ghost use Rattle.pdb_loading.specs.ModuleInfos as stored;
+
+    ghost Value = { List stored.KeptInfo };
+
+    ghost view = { λ m. kept_in m.reader m.slots.items };
+
+    ghost invariant = { λ m. All (IsOfFile m.reader) m.slots.items };
+}
+
+impl<'s> FileModules<'s> {
+    /// These modules of a file that is open. None is read.
+    ///
+    /// # Errors
+    /// `OutOfMemory`.
+    pub fn new(
+        alloc: Global,
+        pdb: PDB<'s, BoundedBytes>,
+        entries: &[Module<'_>],
+    ) -> Result<FileModules<'s>>
+        requires { (streams pdb).open_fault ≡ None }
+        ensures { Gives (λ m. m) ⊥ result (Ok (kept_infos (streams pdb.entry) entries.now)) }
+    {
+        let reader = FileReader::new(alloc, pdb);
+        let slots = empty_slots(alloc, reader.source(), entries)?;
+        Ok(FileModules { reader, slots })
+    }
+
+    /// What is stored of the module with that index; `None` past the list. It is read where it
+    /// isn't stored.
+    ///
+    /// # Errors
+    /// `OutOfMemory`.
+    pub fn get(&self, number: usize) -> Result<Option<&KeptInfo<'s>>>
+        ensures { Gives (option_map (λ k. k.now)) ⊥ result (Ok (slice_get self.now number)) }
+    {
+        kept_at(&self.reader, self.slots.as_slice(), number)
+    }
+}
+
+/// A slot for each module of a file, in which nothing is stored yet.
+fn empty_slots<'s>(
+    alloc: Global,
+    file: &BoundedBytes,
+    entries: &[Module<'_>],
+) -> Result<Vec<ModuleSlot<'s>>>
+    ensures slots { IfOk result (λ v. All (IsOfFile file.now) v.items
+        × (kept_in file.now v.items ≡ kept_infos (streams file.now) entries.now)) }
+    ensures memory { IsOkUnless result Error.OutOfMemory }
+{
+    let mut slots = Vec::new(alloc);
+    let mut firsts = BTreeMap::new(alloc);
+    for entry in entries {
+        let parts = ModuleParts::of(entry);
+        let first = first_with(&mut firsts, parts.stream, slots.len())?;
+        slots.push(slot_of(file, parts, first))?;
+    }
+    Ok(slots)
+}
+
+/// The first index that was given with a stream's number, which may be this one.
+fn first_with(firsts: &mut BTreeMap<u16, usize>, stream: u16, index: usize) -> Result<usize>
+    ensures memory { IsOkUnless result Error.OutOfMemory }
+{
+    if let Some(first) = firsts.get(&stream) {
+        return Ok(*first);
+    }
+    firsts.insert(stream, index)?;
+    Ok(index)
+}
+
+/// The slot of a module of a file, in which nothing is stored yet.
+fn slot_of<'s>(file: &BoundedBytes, parts: ModuleParts, first: usize) -> ModuleSlot<'s>
+    ensures of { IsOfFile file.now result }
+    ensures parts { result.parts ≡ parts }
+{
+    let tag = Tag::of::<ModuleOf<'_>, OfFile>(&ModuleOf { parts, file });
+    ModuleSlot {
+        parts,
+        first,
+        kept: OnceSlot::new(&tag),
+    }
+}
+
+/// What is stored of the module with that index among these slots; `None` past them. Modules that
+/// name one stream share its bytes.
+#[tactic(auto, using(crate::proofs::FileSteps::slot_there, crate::proofs::FileSteps::slot_past))]
+fn kept_at<'a, 's>(
+    reader: &FileReader<'s>,
+    slots: &'a [ModuleSlot<'s>],
+    number: usize,
+) -> Result<Option<&'a KeptInfo<'s>>>
+    requires { All (IsOfFile reader.now) slots.now }
+    ensures { Gives (option_map (λ k. k.now)) ⊥ result
+        (Ok (slice_get (kept_in reader.now slots.now) number)) }
+{
+    let Some(slot) = slots.get(number) else {
+        return Ok(None);
+    };
+    match slots.get(slot.first) {
+        Some(first) if slot.first != number && first.parts.stream == slot.parts.stream => {
+            Ok(Some(kept_as_first(reader, first, slot)?))
+        }
+        _ => Ok(Some(kept_alone(reader, slot)?)),
+    }
+}
+
+/// What is stored of a slot's module; it is read where it isn't stored. `OutOfMemory` alone.
+fn kept_alone<'a, 's>(reader: &FileReader<'s>, slot: &'a ModuleSlot<'s>) -> Result<&'a KeptInfo<'s>>
+    requires { IsOfFile reader.now slot.now }
+    ensures { Gives (λ k. k.now) ⊥ result (Ok (kept_by reader.now slot.now.parts)) }
+{
+    if let Some(kept) = slot.kept.get() {
+        return Ok(kept);
+    }
+    let read = reader.read(slot.parts)?;
+    match slot.kept.set(read) {
+        Ok(kept) => Ok(kept),
+        Err(_) => Err(Error::OutOfMemory),
+    }
+}
+
+/// What is stored of a slot's module, whose stream another slot's module names first: it shares the
+/// bytes of that one. `OutOfMemory` alone.
+#[tactic(auto, using(crate::proofs::FileSteps::same_stream))]
+fn kept_as_first<'a, 's>(
+    reader: &FileReader<'s>,
+    first: &ModuleSlot<'s>,
+    slot: &'a ModuleSlot<'s>,
+) -> Result<&'a KeptInfo<'s>>
+    requires of { IsOfFile reader.now slot.now }
+    requires first { IsOfFile reader.now first.now }
+    requires same { first.now.parts.stream ≡ slot.now.parts.stream }
+    ensures { Gives (λ k. k.now) ⊥ result (Ok (kept_by reader.now slot.now.parts)) }
+{
+    if let Some(kept) = slot.kept.get() {
+        return Ok(kept);
+    }
+    let read = kept_alone(reader, first)?;
+    match slot.kept.set(in_parts(read, slot.parts)?) {
+        Ok(kept) => Ok(kept),
+        Err(_) => Err(Error::OutOfMemory),
+    }
+}
+
+/// What is stored of a module, by what is stored of another one that names the same stream. Both
+/// share the stream's bytes. `OutOfMemory` alone.
+fn in_parts<'s>(kept: &KeptInfo<'s>, parts: ModuleParts) -> Result<KeptInfo<'s>>
+    ensures { Gives (λ k. k) ⊥ result (Ok (in_parts_of (entry_of parts) kept.now)) }
+{
+    match kept {
+        Ok(None) => Ok(Ok(None)),
+        Ok(Some(info)) => {
+            let info = info.with_sizes(
+                parts.symbols_size,
+                parts.c11_lines_size,
+                parts.c13_lines_size,
+            )?;
+            Ok(Ok(Some(info)))
+        }
+        Err(fault) => Ok(Err(*fault)),
+    }
+}

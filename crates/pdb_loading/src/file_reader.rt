@@ -1,0 +1,137 @@
+//! An open file whose modules' streams are read through a shared reference.
+
+ghost use Rattle.std.specs.Prelude.{◌≡◌, None, Ok};
+ghost use Rattle.pdb_container.specs.Fault.{Gives};
+ghost use Rattle.pdb_container.specs.SourceAnswers.{AnswersFrom};
+ghost use Rattle.pdb_loading.specs.FileModules.{entry_of, kept_by, parts_of as parts_in};
+ghost use Rattle.pdb_symbols_modules.specs.DatabaseCalls.{module_info};
+ghost use Rattle.pdb_symbols_modules.specs.Streams.{streams};
+
+use crate::module_infos::{KeptInfo, keep};
+use pdb_container::{BoundedBytes, CopyLimits, Result, Source};
+use pdb_symbols_modules::{Module, ModuleInfo, PDB, StreamIndex};
+use std::alloc::Global;
+use std::marker::Model;
+use std::sync::Mutex;
+
+/// What reading a module needs of the module's entry: where the module's own stream is, and the
+/// sizes of that stream's parts in bytes.
+#[derive(Clone, Copy, Debug)]
+pub struct ModuleParts {
+    pub(crate) stream: u16,
+    pub(crate) symbols_size: u32,
+    pub(crate) c11_lines_size: u32,
+    pub(crate) c13_lines_size: u32,
+}
+
+impl ModuleParts {
+    /// Those of a module.
+    pub fn of(entry: &Module<'_>) -> ModuleParts
+        ensures { result ≡ parts_in entry.now }
+    {
+        ModuleParts {
+            stream: entry.stream().0,
+            symbols_size: entry.symbols_size(),
+            c11_lines_size: entry.c11_lines_size(),
+            c13_lines_size: entry.c13_lines_size(),
+        }
+    }
+}
+
+/// An open file whose modules' streams are read through a shared reference. Its value in contracts
+/// is the file's bytes.
+#[derive(Drop)]
+pub struct FileReader<'s> {
+    alloc: Global,
+    pdb: PDB<'s, BoundedBytes>,
+    /// How many bytes might be copied and listed when the reader was made.
+    whole: CopyLimits,
+    /// How many more may be.
+    left: Mutex<CopyLimits>,
+}
+
+impl<'s> Model for FileReader<'s> {
+    ghost use Rattle.std.specs.Prelude.{◌≡◌, ℕ, List, None};
+    ghost use Rattle.pdb_symbols_modules.specs.Streams.{streams};
+
+    ghost Value = { List ℕ };
+
+    ghost view = { λ r. r.pdb };
+
+    ghost invariant = { λ r. (streams r.pdb).open_fault ≡ None };
+}
+
+impl<'s> FileReader<'s> {
+    /// A reader of a file that is open.
+    pub fn new(alloc: Global, pdb: PDB<'s, BoundedBytes>) -> FileReader<'s>
+        requires { (streams pdb).open_fault ≡ None }
+        ensures { result ≡ pdb.entry }
+    {
+        let whole = pdb.source().limits();
+        FileReader {
+            alloc,
+            pdb,
+            whole,
+            left: Mutex::new(whole),
+        }
+    }
+
+    /// The file's bytes.
+    pub fn source(&self) -> &BoundedBytes
+        ensures { result.now ≡ self.now }
+    {
+        self.pdb.source()
+    }
+
+    /// A module's own stream, or why it can't be read. `OutOfMemory` alone. Two threads may read at
+    /// once: what the second one copies isn't counted.
+    pub fn read(&self, parts: ModuleParts) -> Result<KeptInfo<'s>>
+        ensures { Gives (λ k. k) ⊥ result (Ok (kept_by self.now parts)) }
+    {
+        match self.left.try_lock() {
+            Some(mut left) => self.read_within(&mut left, parts),
+            None => {
+                let mut left = self.whole;
+                self.read_within(&mut left, parts)
+            }
+        }
+    }
+
+    /// A module's own stream, or why it can't be read, within these limits. `OutOfMemory` alone.
+    #[tactic(auto, using(crate::proofs::FileSteps::info_given, crate::proofs::FileSteps::info_read, crate::proofs::OpenFiles::module_fails))]
+    fn read_within(&self, left: &mut CopyLimits, parts: ModuleParts) -> Result<KeptInfo<'s>>
+        ensures { Gives (λ k. k) ⊥ result (Ok (kept_by self.now parts)) }
+    {
+        let mut source = self.pdb.source().share(*left)?;
+        let read = read_parts(&self.pdb, self.alloc, &mut source, parts);
+        *left = source.limits();
+        match read {
+            Ok(info) => Ok(Ok(info)),
+            Err(error) => keep(error),
+        }
+    }
+}
+
+/// The module information of a module, which another source of the database's bytes views.
+#[tactic(auto, using(pdb_container::proofs::Outside::outside_alone), unfolding(pdb_symbols_modules::specs::DatabaseCalls::module_info, pdb_symbols_modules::specs::Shared::info_in))]
+fn read_parts<'s, S: Source + Drop, T: Source>(
+    pdb: &PDB<'s, S>,
+    alloc: Global,
+    source: &mut T,
+    parts: ModuleParts,
+) -> Result<Option<ModuleInfo<'s>>>
+    requires { T.bytes source.old ≡ S.bytes pdb.now }
+    ensures { AnswersFrom T.bytes T.failures source.old source.new (λ m. m) result
+        (module_info (streams (T.bytes source.old)) (entry_of parts)) }
+{
+    match pdb.raw_stream_from(source, alloc, StreamIndex(parts.stream))? {
+        None => Ok(None),
+        Some(stream) => Ok(Some(ModuleInfo::new(
+            alloc,
+            stream,
+            parts.symbols_size,
+            parts.c11_lines_size,
+            parts.c13_lines_size,
+        )?)),
+    }
+}
