@@ -1,10 +1,10 @@
 -- Modules of a file that are read when they are asked for.
-use Rattle.std.proofs.Common.{◌≡◌, ℕ, ◌+◌, ◌<◌, ◌⊎◌, suc, List, [], ◌∷◌, ◌++◌, length, get_or, take, Result, Ok, Err, inl, inr, refl, sym, ap, subst, ◌∙◌, arith}
-use Rattle.std.specs.Prelude.{Option, None, Some, map, option_map, slice_get}
+use Rattle.std.proofs.Common.{◌≡◌, ℕ, ◌+◌, ◌<◌, ◌⊎◌, zero, suc, List, [], ◌∷◌, ◌++◌, length, get_or, take, Result, Ok, Err, inl, inr, refl, sym, ap, subst, ◌∙◌, arith}
+use Rattle.std.specs.Prelude.{Option, None, Some, option_map, slice_get}
 use Rattle.std.specs.List.{All}
 use Rattle.std.proofs.lemmas.List.{take_more, map-append}
 use Rattle.std.proofs.lemmas.List.Elements.{All-get_or}
-use Rattle.std.proofs.lemmas.Option.{get_or_from_slice_get, slice_get_within, slice_get_past}
+use Rattle.std.proofs.lemmas.Option.{get_or_from_slice_get, slice_get_within}
 use Rattle.pdb_container.specs.declared.error.Error.{Error}
 use Rattle.pdb_container.specs.declared.error.Error.TheVariants as errors
 use Rattle.pdb_container.specs.Fault.{Fault, fault_of, kept_of, IsOutside, HasRisen, Gives}
@@ -19,7 +19,7 @@ use Rattle.pdb_symbols_modules.specs.DatabaseCalls.{module_info}
 use Rattle.pdb_symbols_modules.specs.ModuleStream.{ModuleStream}
 use Rattle.pdb_symbols_modules.specs.Modules.{Module}
 use Rattle.pdb_symbols_modules.specs.Shared.{info_in}
-use Rattle.pdb_symbols_modules.specs.Streams.{Streams, streams}
+use Rattle.pdb_symbols_modules.specs.Streams.{streams}
 
 -- ---- one module that is read
 
@@ -65,16 +65,26 @@ slot_of_file file slots k slot all is = subst (IsOfFile file) (get_or_from_slice
 
 get_in : (file : List ℕ) (slots : List ModuleSlot) (k : ℕ) → slice_get (kept_in file slots) k ≡ option_map (λ (slot : ModuleSlot). kept_by file slot.parts) (slice_get slots k)
 get_in file [] k = refl
-get_in file (slot ∷ slots) 0 = refl
+get_in file (slot ∷ slots) zero = refl
 get_in file (slot ∷ slots) (suc k) = get_in file slots k
 
+abbrev gives_if : Option KeptInfo → Result (Option KeptInfo) Fault
+gives_if info = Ok info
+
+same_info : (k info : KeptInfo) → gives k ≡ gives info → k ≡ info
+same_info k info same = cc
+
 -- what is stored in a slot is there under the slot's index
-pub slot_there : (file : List ℕ) (slots : List ModuleSlot) (k : ℕ) (slot : ModuleSlot) → slice_get slots k ≡ Some slot → slice_get (kept_in file slots) k ≡ Some (kept_by file slot.parts)
-slot_there file slots k slot is = get_in file slots k ∙ ap (option_map (λ (s : ModuleSlot). kept_by file s.parts)) is
+pub slot_there : (file : List ℕ) (slots : List ModuleSlot) (k : ℕ) (slot : ModuleSlot) (info : KeptInfo) → slice_get slots k ≡ Some slot → gives (kept_by file slot.parts) ≡ gives info
+    → gives_if (slice_get (kept_in file slots) k) ≡ gives_if (Some info)
+slot_there file slots k slot info is same =
+    ap gives_if
+    (get_in file slots k ∙ ap (option_map (λ (s : ModuleSlot). kept_by file s.parts)) is
+    ∙ ap (λ (x : KeptInfo). Some x) (same_info (kept_by file slot.parts) info same))
 
 -- past the slots nothing is
-pub slot_past : (file : List ℕ) (slots : List ModuleSlot) (k : ℕ) → slice_get slots k ≡ None → slice_get (kept_in file slots) k ≡ None
-slot_past file slots k is = get_in file slots k ∙ ap (option_map (λ (s : ModuleSlot). kept_by file s.parts)) is
+pub slot_past : (file : List ℕ) (slots : List ModuleSlot) (k : ℕ) → slice_get slots k ≡ None → gives_if (slice_get (kept_in file slots) k) ≡ gives_if None
+slot_past file slots k is = ap gives_if (get_in file slots k ∙ ap (option_map (λ (s : ModuleSlot). kept_by file s.parts)) is)
 
 -- ---- a slot for each module
 

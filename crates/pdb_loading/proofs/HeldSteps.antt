@@ -46,6 +46,11 @@ pub list_missing : (d : Dbi) (e : Fault) → whole (modules_of d.modules) ≡ Er
 unfolding listed
 list_missing d e h = rw h refl
 
+-- what keeps the module list from being read is outside, or the list's fault
+pub list_refused : (d : Dbi) (e : Error) → (IsOutside e ⊥ ⊎ (whole (modules_of d.modules) ≡ Err (fault_of e))) → (IsOutside e ⊥ ⊎ (listed d ≡ Err (fault_of e)))
+list_refused d e (inl h) = inl h
+list_refused d e (inr h) = inr (list_missing d (fault_of e) h)
+
 -- what a file gives of a module, by its entry
 by_entry : (s : Streams) (k : ℕ) (found : Option Module) → module_of_number (s.at 3) k ≡ Ok found → answered_if_listed (option_map (λ m. kept_info (module_info s m)) found) ≡ given s k
 by_entry s k None h = sym (ap (λ r. answered (kept_info r)) (past_the_list s k h))

@@ -1,6 +1,6 @@
 //! The modules of a file, each read when it is first asked for, and then stored.
 
-ghost use Rattle.std.specs.Prelude.{◌≡◌, ◌×◌, IfOk, IsOkUnless, None, Ok, option_map, slice_get};
+ghost use Rattle.std.specs.Prelude.{◌≡◌, IfOk, IsOkUnless, None, Ok, option_map, slice_get};
 ghost use Rattle.std.specs.List.{All};
 ghost use Rattle.pdb_container.specs.Fault.{Gives};
 ghost use Rattle.pdb_loading.specs.FileModules.{entry_of, kept_by, kept_by_tag, kept_in};
@@ -143,7 +143,6 @@ fn slot_of<'s>(file: &BoundedBytes, parts: ModuleParts, first: usize) -> ModuleS
 
 /// What is stored of the module with that index among these slots; `None` past them. Modules that
 /// name one stream share its bytes.
-#[tactic(auto, using(crate::proofs::FileSteps::slot_there, crate::proofs::FileSteps::slot_past))]
 fn kept_at<'a, 's>(
     reader: &FileReader<'s>,
     slots: &'a [ModuleSlot<'s>],

@@ -1,6 +1,7 @@
 //! Loading a program database: the bytes of its file, and what is read of them once, in one order,
 //! before any question. `specs/Loading` says which order, and which fault is the first;
-//! [`load_file`] reads in it.
+//! [`load_file`] reads in it. The modules' own streams are read when they are first asked for
+//! ([`FileModules`]).
 #![tactic(auto)]
 
 mod file_modules;

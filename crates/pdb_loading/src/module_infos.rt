@@ -78,7 +78,7 @@ impl<'s> KeptModules<'s> {
 /// What is answered of a module by what is stored of it; a fault as `Kept`.
 fn answer_of<'k, 's>(kept: Option<&'k KeptInfo<'s>>) -> Result<Option<&'k ModuleInfo<'s>>>
     ensures { Gives (option_map (λ info. info.now)) ⊥ result
-        (answered_if_listed (option_map (λ k. k.now) kept)) }
+        (answered_if_listed (option_map (λ k. k.now) kept.entry)) }
 {
     match kept {
         None => Ok(None),
