@@ -1,4 +1,4 @@
--- Modules of a file that are read when they are asked for: where each is stored, and as what.
+-- Modules of a file that are read when they are asked for: what is stored of each.
 use Rattle.std.specs.Prelude.{◌≡◌, ℕ, List, [], ◌∷◌, map, None, Ok}
 use Rattle.pdb_loading.specs.declared.file_reader.ModuleParts.{ModuleParts}
 use Rattle.pdb_loading.specs.declared.file_modules.ModuleSlot.{ModuleSlot}
@@ -37,7 +37,7 @@ kept_by file p = kept_info (module_info (streams file) (entry_of p))
 abbrev pub tag_of : ModuleParts → List ℕ → List ℕ
 tag_of p file = p.stream ∷ p.symbols_size ∷ p.c11_lines_size ∷ p.c13_lines_size ∷ file
 
--- what is stored of the module that these numbers name
+-- what is stored of the module that these numbers tag; no stream where there are fewer than four
 abbrev pub kept_by_tag : List ℕ → KeptInfo
 kept_by_tag (stream ∷ symbols_size ∷ c11_lines_size ∷ c13_lines_size ∷ file) =
     kept_by file
@@ -49,7 +49,7 @@ kept_by_tag (stream ∷ symbols_size ∷ c11_lines_size ∷ c13_lines_size ∷ f
     }
 kept_by_tag other = Ok None
 
--- A slot is that of its module in the file.
+-- A slot's tag is its module's numbers, and then the file.
 abbrev pub IsOfFile : List ℕ → ModuleSlot → Type 0
 IsOfFile file slot = slot.kept.tag ≡ tag_of slot.parts file
 

@@ -26,14 +26,14 @@ impl<'s> SlotRule<KeptInfo<'s>> for OfFile {
     ghost holds = { λ tag kept. kept ≡ kept_by_tag tag };
 }
 
-/// A module of a file.
+/// A module and its file, by which the module's slot is tagged.
 #[derive(Drop)]
-struct ModuleOf<'f> {
+struct TaggedModule<'f> {
     parts: ModuleParts,
     file: &'f BoundedBytes,
 }
 
-impl<'f> Names<ModuleOf<'f>> for OfFile {
+impl<'f> Names<TaggedModule<'f>> for OfFile {
     ghost numbers = { λ m. tag_of m.parts m.file.now };
 }
 
@@ -133,7 +133,7 @@ fn slot_of<'s>(file: &BoundedBytes, parts: ModuleParts, first: usize) -> ModuleS
     ensures of { IsOfFile file.now result }
     ensures parts { result.parts ≡ parts }
 {
-    let tag = Tag::of::<ModuleOf<'_>, OfFile>(&ModuleOf { parts, file });
+    let tag = Tag::of::<TaggedModule<'_>, OfFile>(&TaggedModule { parts, file });
     ModuleSlot {
         parts,
         first,
@@ -174,7 +174,17 @@ fn kept_alone<'a, 's>(reader: &FileReader<'s>, slot: &'a ModuleSlot<'s>) -> Resu
     let read = reader.read(slot.parts)?;
     match slot.kept.set(read) {
         Ok(kept) => Ok(kept),
-        Err(_) => Err(Error::OutOfMemory),
+        Err(_) => stored_in(slot),
+    }
+}
+
+/// What another thread stored in a slot. `OutOfMemory` while it is at it.
+fn stored_in<'a, 's>(slot: &'a ModuleSlot<'s>) -> Result<&'a KeptInfo<'s>>
+    ensures { Gives (λ k. k.now) ⊥ result (Ok (kept_by_tag slot.now.kept.tag)) }
+{
+    match slot.kept.get() {
+        Some(kept) => Ok(kept),
+        None => Err(Error::OutOfMemory),
     }
 }
 
@@ -197,7 +207,7 @@ fn kept_as_first<'a, 's>(
     let read = kept_alone(reader, first)?;
     match slot.kept.set(in_parts(read, slot.parts)?) {
         Ok(kept) => Ok(kept),
-        Err(_) => Err(Error::OutOfMemory),
+        Err(_) => stored_in(slot),
     }
 }
 

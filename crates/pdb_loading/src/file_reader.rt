@@ -83,8 +83,9 @@ impl<'s> FileReader<'s> {
         self.pdb.source()
     }
 
-    /// A module's own stream, or why it can't be read. `OutOfMemory` alone. Two threads may read at
-    /// once: what the second one copies isn't counted.
+    /// A module's own stream, or why it can't be read. `OutOfMemory` alone, and then nothing is
+    /// counted. Where another thread reads at that time, the module is read within the limits as
+    /// they stood at first, and isn't counted.
     pub fn read(&self, parts: ModuleParts) -> Result<KeptInfo<'s>>
         ensures { Gives (λ k. k) ⊥ result (Ok (kept_by self.now parts)) }
     {
@@ -97,18 +98,19 @@ impl<'s> FileReader<'s> {
         }
     }
 
-    /// A module's own stream, or why it can't be read, within these limits. `OutOfMemory` alone.
+    /// A module's own stream, or why it can't be read, within these limits. `OutOfMemory` alone, and
+    /// then they stay as they are.
     #[tactic(auto, using(crate::proofs::FileSteps::info_given, crate::proofs::FileSteps::info_read, crate::proofs::OpenFiles::module_fails))]
     fn read_within(&self, left: &mut CopyLimits, parts: ModuleParts) -> Result<KeptInfo<'s>>
         ensures { Gives (λ k. k) ⊥ result (Ok (kept_by self.now parts)) }
     {
         let mut source = self.pdb.source().share(*left)?;
-        let read = read_parts(&self.pdb, self.alloc, &mut source, parts);
+        let kept = match read_parts(&self.pdb, self.alloc, &mut source, parts) {
+            Ok(info) => Ok(info),
+            Err(error) => keep(error)?,
+        };
         *left = source.limits();
-        match read {
-            Ok(info) => Ok(Ok(info)),
-            Err(error) => keep(error),
-        }
+        Ok(kept)
     }
 }
 

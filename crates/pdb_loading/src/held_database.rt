@@ -4,14 +4,17 @@
 ghost use Rattle.std.specs.Prelude.{◌≡◌, IfOk, Ok};
 ghost use Rattle.pdb_container.specs.Fault.{Gives, HasRisen};
 ghost use Rattle.pdb_container.specs.SourceAnswers.{AnswersFrom};
-ghost use Rattle.pdb_loading.specs.Held.{IsOwn, parts_checked, read_in};
-ghost use Rattle.pdb_loading.specs.Loading.{database_read, read_after};
+ghost use Rattle.pdb_loading.specs.Held.{IsOwn, kept_infos, names_in, parts_checked, read_in};
+ghost use Rattle.pdb_loading.specs.Loading.{database_read, listed, read_after};
+ghost use Rattle.pdb_loading.specs.ModuleInfos.{KeepsNames};
 ghost use Rattle.pdb_resolving.specs.Fault.{Answers};
 ghost use Rattle.pdb_symbols_modules.specs.DatabaseCalls.{debug_information as read_dbi};
+ghost use Rattle.pdb_symbols_modules.specs.Modules.{modules_of};
 ghost use Rattle.pdb_symbols_modules.specs.Shared.{shared};
 ghost use Rattle.pdb_symbols_modules.specs.Streams.{streams};
 
-use crate::module_infos::{KeptModules, list_modules, read_module_infos};
+use crate::file_modules::FileModules;
+use crate::module_infos::{KeptModules, collect_modules, read_module_infos};
 use crate::tables::{Tables, read_names, read_tables};
 use pdb_choice::ContextParts;
 use pdb_container::{BoundedBytes, Result, Source, StringTable};
@@ -116,8 +119,8 @@ pub fn read_database<'s, S: Source + Drop>(
     read_after_tables(pdb, alloc, debug_information, tables)
 }
 
-/// Reads what comes after stream 3 and its tables of a file, and holds the file: the names table
-/// and the module list. The modules' own streams are read when they are asked for.
+/// Reads what comes after stream 3 and its tables of a file, and holds the file: the module list
+/// and the names table. The modules' own streams are read when they are asked for.
 ///
 /// # Errors
 /// `UnexpectedEof` of the module list; `OutOfMemory`. The names table is missing where it can't be
@@ -125,7 +128,7 @@ pub fn read_database<'s, S: Source + Drop>(
 #[tactic(auto, using(crate::proofs::HeldSteps::list_ends, crate::proofs::HeldSteps::own_listed))]
 pub fn hold_after_tables<'s>(
     alloc: Global,
-    mut pdb: PDB<'s, BoundedBytes>,
+    pdb: PDB<'s, BoundedBytes>,
     debug_information: DebugInformation<'s>,
     tables: Tables<'s>,
 ) -> Result<HeldDatabase<'s>>
@@ -134,15 +137,38 @@ pub fn hold_after_tables<'s>(
         (read_after debug_information.entry tables.entry) }
     ensures own { IfOk result (λ d. IsOwn (streams pdb.entry) (HasRisen 0 0) d) }
 {
-    let names = read_names(&mut pdb, alloc)?;
-    let size = pdb.size_hint();
-    let modules = list_modules(alloc, pdb, &debug_information)?;
+    let (names, modules) = names_and_modules(alloc, pdb, &debug_information)?;
     Ok(HeldDatabase {
         debug_information,
         tables,
         names,
-        modules: KeptModules::on_demand(modules, size),
+        modules,
     })
+}
+
+/// The names table of a file and its modules, by the list in stream 3, which was read. None of the
+/// modules' streams is read.
+///
+/// # Errors
+/// As [`hold_after_tables`].
+#[tactic(auto, using(crate::proofs::OpenFiles::open_where_read, crate::proofs::HeldSteps::list_there))]
+fn names_and_modules<'s>(
+    alloc: Global,
+    mut pdb: PDB<'s, BoundedBytes>,
+    debug_information: &DebugInformation<'_>,
+) -> Result<(Option<StringTable<'s>>, KeptModules<'s>)>
+    requires { read_dbi (shared (streams pdb)) ≡ Ok debug_information.now }
+    ensures whole_list { Gives (λ _. tt) ⊥ result (listed debug_information.now) }
+    ensures names { IfOk result
+        (λ kept. KeepsNames (HasRisen 0 0) kept.0 (names_in (streams pdb.entry))) }
+    ensures modules { IfOk result (λ kept. kept.1
+        ≡ kept_infos (streams pdb.entry) (modules_of debug_information.now.modules).items) }
+{
+    let entries = collect_modules(alloc, debug_information.modules())?;
+    let names = read_names(&mut pdb, alloc)?;
+    let size = pdb.size_hint();
+    let modules = FileModules::new(alloc, pdb, entries.as_slice())?;
+    Ok((names, KeptModules::on_demand(modules, size)))
 }
 
 /// Reads a file's database that is open, as [`read_database`], and holds the file: the modules' own

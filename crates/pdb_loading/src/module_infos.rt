@@ -15,7 +15,7 @@ ghost use Rattle.pdb_symbols_modules.specs.Shared.{shared};
 ghost use Rattle.pdb_symbols_modules.specs.Streams.{streams};
 
 use crate::file_modules::FileModules;
-use pdb_container::{BoundedBytes, Error, FallibleIterator, ModuleFault, Result, Source};
+use pdb_container::{Error, FallibleIterator, ModuleFault, Result, Source};
 use pdb_resolving::ModuleProvider;
 use pdb_symbols_modules::{DebugInformation, Module, ModuleInfo, ModuleIter, PDB};
 use std::alloc::Global;
@@ -27,7 +27,7 @@ pub type KeptInfo<'s> = std::result::Result<Option<ModuleInfo<'s>>, ModuleFault>
 
 /// Modules in the order of the module list.
 #[derive(Drop)]
-enum Modules<'s> {
+enum ModuleStore<'s> {
     /// Each was read.
     Read(Vec<KeptInfo<'s>>),
     /// Each is read when it is first asked for.
@@ -38,7 +38,7 @@ enum Modules<'s> {
 /// a file each is read when it is first asked for.
 #[derive(Drop)]
 pub struct KeptModules<'s> {
-    modules: Modules<'s>,
+    modules: ModuleStore<'s>,
     /// An upper bound of the database's size, in bytes.
     database_size: u64,
 }
@@ -59,7 +59,7 @@ impl<'s> KeptModules<'s> {
         ensures { result ≡ infos.entry.items }
     {
         KeptModules {
-            modules: Modules::Read(infos),
+            modules: ModuleStore::Read(infos),
             database_size,
         }
     }
@@ -69,7 +69,7 @@ impl<'s> KeptModules<'s> {
         ensures { result ≡ modules.entry }
     {
         KeptModules {
-            modules: Modules::OnDemand(modules),
+            modules: ModuleStore::OnDemand(modules),
             database_size,
         }
     }
@@ -103,8 +103,8 @@ impl<'s> ModuleProvider for KeptModules<'s> {
         _module: &Module<'_>,
     ) -> Result<Option<&ModuleInfo<'s>>> {
         match &self.modules {
-            Modules::Read(infos) => answer_of(infos.get(module_index)),
-            Modules::OnDemand(modules) => answer_of(modules.get(module_index)?),
+            ModuleStore::Read(infos) => answer_of(infos.get(module_index)),
+            ModuleStore::OnDemand(modules) => answer_of(modules.get(module_index)?),
         }
     }
 
@@ -246,23 +246,4 @@ pub(crate) fn read_module_infos<'s, S: Source + Drop>(
 {
     let modules = collect_modules(alloc, debug_information.modules())?;
     read_infos(pdb, alloc, modules.as_slice())
-}
-
-/// The modules of a file, by the list in stream 3, which was read. None of their streams is.
-///
-/// # Errors
-/// `UnexpectedEof` where the list isn't whole; `OutOfMemory`.
-#[tactic(auto, using(crate::proofs::OpenFiles::open_where_read, crate::proofs::HeldSteps::list_there, crate::proofs::HeldSteps::list_missing))]
-pub(crate) fn list_modules<'s>(
-    alloc: Global,
-    pdb: PDB<'s, BoundedBytes>,
-    debug_information: &DebugInformation<'_>,
-) -> Result<FileModules<'s>>
-    requires { read_dbi (shared (streams pdb)) ≡ Ok debug_information.now }
-    ensures whole_list { Gives (λ _. tt) ⊥ result (listed debug_information.now) }
-    ensures kept { IfOk result (λ m. m
-        ≡ kept_infos (streams pdb.entry) (modules_of debug_information.now.modules).items) }
-{
-    let modules = collect_modules(alloc, debug_information.modules())?;
-    FileModules::new(alloc, pdb, modules.as_slice())
 }
