@@ -25,8 +25,8 @@ use std::marker::{Model, PhantomData};
 
 /// What formatters and contexts are made of: everything of a program database that they go over,
 /// read once and owned. `'p` is how long the database itself may be borrowed elsewhere; nothing is
-/// read of it any more. Of a file ([`ContextPdbData::try_from_file`]) the modules' own streams are
-/// read when they are first asked for.
+/// read of it any more, but of a file ([`ContextPdbData::try_from_file`]) the modules' own streams,
+/// when they are first asked for.
 pub struct ContextPdbData<'p, 's, S: Source> {
     held: HeldDatabase<'s>,
     of: PhantomData<&'p S>,

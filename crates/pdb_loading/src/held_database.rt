@@ -23,7 +23,8 @@ use pdb_symbols_modules::{DebugInformation, PDB};
 use std::alloc::Global;
 use std::marker::Model;
 
-/// What is held of a database: everything that contexts and formatters go over, read once.
+/// What is held of a database: everything that contexts and formatters go over, read once. A file's
+/// modules are read when they are first asked for.
 pub struct HeldDatabase<'s> {
     /// Stream 3 (DBI).
     pub debug_information: DebugInformation<'s>,
