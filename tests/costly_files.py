@@ -8,7 +8,7 @@ bench/costs.py makes the files and measures. Modules whose streams list the same
 within what loading and caching may take, calls whose pages are listed over and over within what
 rows may, and rows whose files have one long path within 60 processor seconds. The whole report has
 to come, and no error output. Of a file in which one module lists its pages more often, that module
-has to be refused, and all others answered. The last line is `N passed, M failed`."""
+has to be refused, and the one before it answered. The last line is `N passed, M failed`."""
 import sys
 import tempfile
 
