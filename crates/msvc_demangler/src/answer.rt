@@ -1,5 +1,9 @@
 //! The text of a decorated name.
 
+ghost use Rattle.std.specs.Prelude.{◌≤◌, ◌^◌, IfOk};
+ghost use Rattle.std.specs.Vec.{vec_len};
+ghost use Rattle.msvc_demangler.specs.Answer.{text_length};
+
 use crate::flags::DemangleFlags;
 use crate::parser::Parser;
 use crate::printer::{Piece, print_tree};
@@ -31,7 +35,9 @@ pub fn demangle(
     alloc: Global,
     name: &[u8],
     flags: DemangleFlags,
-) -> std::result::Result<Demangled, AllocError> {
+) -> std::result::Result<Demangled, AllocError>
+    ensures { IfOk result (λ d. text_length d ≤ 2 ^ 20) }
+{
     match text_of(alloc, name, flags) {
         Ok(text) => Ok(Demangled::Text(text)),
         Err(Stop::Undecorated) => Ok(Demangled::Undecorated),
@@ -40,10 +46,13 @@ pub fn demangle(
 }
 
 /// The text of a decorated name.
-fn text_of(alloc: Global, name: &[u8], flags: DemangleFlags) -> Result<Vec<u8>> {
+fn text_of(alloc: Global, name: &[u8], flags: DemangleFlags) -> Result<Vec<u8>>
+    ensures { IfOk result (λ text. vec_len text ≤ 2 ^ 20) }
+{
     let mut parser = Parser::new(alloc, name, MOST_PRINTED)?;
     let symbol = parser.read()?;
     let piece = Piece::Whole(symbol, flags);
-    let printed = print_tree(alloc, &parser.tree, piece, parser.budget)?;
+    let budget = parser.budget.min(MOST_PRINTED);
+    let printed = print_tree(alloc, &parser.tree, piece, budget)?;
     Ok(printed.text)
 }

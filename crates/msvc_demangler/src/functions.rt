@@ -1,60 +1,12 @@
 //! Functions: their types, and what the codes of symbols say of them.
 
+use crate::methods::method_of;
 use crate::parser::Parser;
 use crate::qualifiers::UNQUALIFIED;
 use crate::stop::{Result, Stop};
 use crate::tasks::{Front, Mode, Task};
 use crate::tree::{Adjustment, FunctionClass, Node, Parameters, Signature, Symbol, Type};
 use crate::words::{Access, convention_of};
-
-/// How a function adjusts `this`, by its code.
-#[derive(Clone, Copy, Debug, PartialEq, Eq)]
-pub(crate) enum Adjusted {
-    /// Not.
-    Never,
-    /// By an offset.
-    Statically,
-    /// By the offset of a `vtordisp` field, and an offset.
-    Virtually,
-    /// By that of a table too.
-    ByBase,
-}
-
-/// What a code says of a function in a class.
-#[derive(Clone, Copy, Debug, PartialEq, Eq)]
-pub(crate) struct MethodClass {
-    /// Who may call it.
-    pub(crate) access: Access,
-    /// Whether it is static.
-    pub(crate) is_static: bool,
-    /// Whether it is virtual.
-    pub(crate) is_virtual: bool,
-    /// Whether it is a thunk that adjusts `this` by an offset.
-    pub(crate) is_adjusted: bool,
-}
-
-/// Who may call the method of a letter.
-fn access_of(code: u8) -> Option<Access> {
-    match code {
-        b'A'..=b'H' => Some(Access::Private),
-        b'I'..=b'P' => Some(Access::Protected),
-        b'Q'..=b'X' => Some(Access::Public),
-        _ => None,
-    }
-}
-
-/// What a letter says of a method: for each access eight in pairs, of a plain method, a static one,
-/// a virtual one, and a thunk that adjusts `this`, which isn't virtual where it is private.
-pub(crate) fn method_of(code: u8) -> Option<MethodClass> {
-    let access = access_of(code)?;
-    let is_virtual = matches!(code, b'E' | b'F' | b'M'..=b'P' | b'U'..=b'X');
-    Some(MethodClass {
-        access,
-        is_static: matches!(code, b'C' | b'D' | b'K' | b'L' | b'S' | b'T'),
-        is_virtual,
-        is_adjusted: matches!(code, b'G' | b'H' | b'O' | b'P' | b'W' | b'X'),
-    })
-}
 
 /// Who may call the virtual method whose thunk has this digit.
 fn thunk_access_of(code: u8) -> Option<Access> {

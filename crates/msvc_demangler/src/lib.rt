@@ -3,10 +3,14 @@
 
 mod answer;
 mod arguments;
+mod bytes;
+mod characters;
 mod flags;
 mod functions;
 mod intrinsics;
+mod letters;
 mod literals;
+mod methods;
 mod names;
 mod numbers;
 mod operators;

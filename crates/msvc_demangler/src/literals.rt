@@ -1,6 +1,6 @@
 //! String literals.
 
-use crate::numbers::nibble;
+use crate::characters::{character_size, push_character, split_character};
 use crate::parser::Parser;
 use crate::stop::{Result, Stop};
 use crate::tree::{Node, Symbol};
@@ -8,131 +8,6 @@ use std::alloc::{AllocError, Global};
 
 /// How many bytes of a string a name has at most. Compilers write 32; some wrote more by mistake.
 const MOST_BYTES: usize = 128;
-
-/// The byte that a digit after `?` stands for.
-fn mark_of(digit: u8) -> u8 {
-    match digit {
-        b'0' => b',',
-        b'1' => b'/',
-        b'2' => b'\\',
-        b'3' => b':',
-        b'4' => b'.',
-        b'5' => b' ',
-        b'6' => b'\n',
-        b'7' => b'\t',
-        b'8' => b'\'',
-        _ => b'-',
-    }
-}
-
-/// The byte of a string that a text begins with, and what comes after it: `?$` before two
-/// hexadecimal digits, `?` before a digit for a mark, `?` before a letter for the letter with its
-/// highest bit set, or the byte itself.
-pub(crate) fn split_character(rest: &[u8]) -> Option<(u8, &[u8])> {
-    match rest {
-        [b'?', b'$', high, low, after @ ..] => {
-            let high = nibble(*high)?;
-            let low = nibble(*low)?;
-            Some((high * 16 + low, after))
-        }
-        [b'?', digit @ b'0'..=b'9', after @ ..] => Some((mark_of(*digit), after)),
-        [b'?', letter @ (b'a'..=b'z' | b'A'..=b'Z'), after @ ..] => Some((*letter + 128, after)),
-        [b'?', ..] | [] => None,
-        [byte, after @ ..] => Some((*byte, after)),
-    }
-}
-
-/// The digit of a value below 16.
-fn hexadecimal_digit(value: u8) -> u8 {
-    match value {
-        0..=9 => b'0' + value,
-        10..=15 => b'A' + (value - 10),
-        _ => b'0',
-    }
-}
-
-/// The letter after a backslash that stands for a character, if there is one.
-fn escape_of(character: u32) -> Option<u8> {
-    match character {
-        0 => Some(b'0'),
-        7 => Some(b'a'),
-        8 => Some(b'b'),
-        9 => Some(b't'),
-        10 => Some(b'n'),
-        11 => Some(b'v'),
-        12 => Some(b'f'),
-        13 => Some(b'r'),
-        34 => Some(b'"'),
-        39 => Some(b'\''),
-        92 => Some(b'\\'),
-        _ => None,
-    }
-}
-
-/// Appends the two digits of a byte.
-fn push_byte_digits(text: &mut Vec<u8>, byte: u8) -> std::result::Result<(), AllocError> {
-    text.push(hexadecimal_digit(byte / 16))?;
-    text.push(hexadecimal_digit(byte % 16))?;
-    Ok(())
-}
-
-/// Appends a character as it is written in a literal: itself, escaped, or by `\x` and its bytes,
-/// the highest that isn't 0 first.
-fn push_character(text: &mut Vec<u8>, character: u32) -> std::result::Result<(), AllocError> {
-    if let Some(letter) = escape_of(character) {
-        text.push(b'\\')?;
-        text.push(letter)?;
-        return Ok(());
-    }
-    let bytes = character.to_be_bytes();
-    if character > 31 && character < 127 {
-        text.push(bytes[3])?;
-        return Ok(());
-    }
-    text.extend_from_slice(b"\\x")?;
-    let mut has_begun = false;
-    for byte in bytes.as_slice() {
-        has_begun = has_begun || *byte != 0;
-        if has_begun {
-            push_byte_digits(text, *byte)?;
-        }
-    }
-    Ok(())
-}
-
-/// How many bytes at the end of a string are 0.
-fn trailing_nulls(bytes: &[u8]) -> usize {
-    bytes.iter().rev().take_while(|byte| **byte == 0).count()
-}
-
-/// How many bytes of a string are 0.
-fn nulls(bytes: &[u8]) -> usize {
-    bytes.iter().filter(|byte| **byte == 0).count()
-}
-
-/// How many bytes a character has, as these of the first bytes of a string and its size suggest.
-fn character_size(bytes: &[u8], size: u64) -> usize {
-    if size % 2 == 1 {
-        return 1;
-    }
-    let (zeros, for_four, for_two) = if size < 32 {
-        (trailing_nulls(bytes), 4, 2)
-    } else {
-        (nulls(bytes), bytes.len() / 3 * 2, bytes.len() / 3)
-    };
-    let for_four = if size < 32 {
-        for_four
-    } else {
-        bytes.len().saturating_mul(2) / 3
-    };
-    if zeros >= for_four && size % 4 == 0 {
-        4
-    } else if zeros >= for_two {
-        2
-    } else {
-        1
-    }
-}
 
 /// The number that bytes are, the lowest first.
 fn value_of(bytes: &[u8]) -> u32 {
@@ -229,6 +104,9 @@ impl<'n> Parser<'n> {
     /// Reads the bytes of a string of that many bytes whose characters may have 1, 2 or 4.
     fn read_narrow(&mut self, size: u64) -> Result<()> {
         let bytes = self.take_characters()?;
+        if bytes.len() > MOST_BYTES {
+            return Err(Stop::Undecorated);
+        }
         let is_cut = match u64::try_from(bytes.len()) {
             Ok(count) => size > count,
             Err(_) => false,

@@ -1,11 +1,11 @@
 //! Names: identifiers, templates, local scopes.
 
-use crate::numbers::begins_local_scope;
+use crate::numbers::{Number, begins_local_scope};
 use crate::operators::{last_operator_of, later_operator_of, operator_of};
 use crate::parser::Parser;
 use crate::stop::{Result, Stop};
 use crate::tasks::{Place, Task};
-use crate::tree::{Identifier, Node, Number};
+use crate::tree::{Identifier, Node};
 
 impl<'n> Parser<'n> {
     /// Reads what a task of names says.

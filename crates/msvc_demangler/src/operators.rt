@@ -1,7 +1,14 @@
 //! Names of operators and of functions that a compiler makes.
 
+ghost use Rattle.std.specs.Prelude.{◌≡◌, option_map};
+ghost use Rattle.msvc_demangler.specs.Operators.{last_operator_name, later_operator_name};
+ghost use Rattle.msvc_demangler.specs.Operators.{operator_name};
+
 /// The name that a letter or digit after `?` stands for. Empty for one that has another meaning.
-pub(crate) fn operator_of(code: u8) -> Option<&'static str> {
+#[tactic(auto, unfolding(crate::specs::Operators::operator_name))]
+pub(crate) fn operator_of(code: u8) -> Option<&'static str>
+    ensures { option_map (λ w. w.now) result ≡ operator_name code }
+{
     match code {
         b'2' => Some("operator new"),
         b'3' => Some("operator delete"),
@@ -42,7 +49,10 @@ pub(crate) fn operator_of(code: u8) -> Option<&'static str> {
 }
 
 /// The name that a letter or digit after `?_` stands for. Empty for one that has another meaning.
-pub(crate) fn later_operator_of(code: u8) -> Option<&'static str> {
+#[tactic(auto, unfolding(crate::specs::Operators::later_operator_name))]
+pub(crate) fn later_operator_of(code: u8) -> Option<&'static str>
+    ensures { option_map (λ w. w.now) result ≡ later_operator_name code }
+{
     match code {
         b'0' => Some("operator/="),
         b'1' => Some("operator%="),
@@ -66,13 +76,16 @@ pub(crate) fn later_operator_of(code: u8) -> Option<&'static str> {
         b'T' => Some("`local vftable ctor closure'"),
         b'U' => Some("operator new[]"),
         b'V' => Some("operator delete[]"),
-        b'7'..=b'9' | b'A'..=b'C' | b'P'..=b'S' | b'W'..=b'Z' => Some(""),
+        b'0'..=b'9' | b'A'..=b'Z' => Some(""),
         _ => None,
     }
 }
 
 /// The name that a letter or digit after `?__` stands for. Empty for one that has another meaning.
-pub(crate) fn last_operator_of(code: u8) -> Option<&'static str> {
+#[tactic(auto, unfolding(crate::specs::Operators::last_operator_name))]
+pub(crate) fn last_operator_of(code: u8) -> Option<&'static str>
+    ensures { option_map (λ w. w.now) result ≡ last_operator_name code }
+{
     match code {
         b'A' => Some("`managed vector ctor iterator'"),
         b'B' => Some("`managed vector dtor iterator'"),
@@ -83,7 +96,7 @@ pub(crate) fn last_operator_of(code: u8) -> Option<&'static str> {
         b'I' => Some("`managed vector vbase copy constructor iterator'"),
         b'L' => Some("operator co_await"),
         b'M' => Some("operator<=>"),
-        b'0'..=b'9' | b'E' | b'F' | b'J' | b'K' | b'N'..=b'Z' => Some(""),
+        b'0'..=b'9' | b'A'..=b'Z' => Some(""),
         _ => None,
     }
 }

@@ -1,11 +1,12 @@
 //! The reading of a name: what is still to be read, what has been, and what may be referred to.
 
-use crate::numbers::split_number;
+use crate::letters::{extended_qualifiers, qualifiers_of};
+use crate::numbers::{Number, split_number};
 use crate::printer::print_part;
-use crate::qualifiers::{Qualifiers, extended_qualifiers, qualifiers_of};
+use crate::qualifiers::Qualifiers;
 use crate::stop::{Result, Stop};
 use crate::tasks::{Place, Task};
-use crate::tree::{Identifier, Node, Number, Span, Tree};
+use crate::tree::{Identifier, Node, Span, Tree};
 use std::alloc::{AllocError, Global};
 
 /// How many names and how many parameters a name may refer to: a digit says which.
@@ -152,7 +153,10 @@ impl<'n> Parser<'n> {
     /// Makes a list of the last nodes that were handed on.
     pub(crate) fn pop_list(&mut self, count: usize) -> Result<Span> {
         let start = self.last_values(count)?;
-        let list = self.tree.add_list(&self.values[start..])?;
+        let Some(indices) = self.values.get(start..) else {
+            return Err(Stop::Undecorated);
+        };
+        let list = self.tree.add_list(indices)?;
         self.values.truncate(start);
         Ok(list)
     }
@@ -160,7 +164,10 @@ impl<'n> Parser<'n> {
     /// Makes a list of the last nodes that were handed on, the last of them first.
     pub(crate) fn pop_reversed(&mut self, count: usize) -> Result<Span> {
         let start = self.last_values(count)?;
-        let list = self.tree.add_reversed(&self.values[start..])?;
+        let Some(indices) = self.values.get(start..) else {
+            return Err(Stop::Undecorated);
+        };
+        let list = self.tree.add_reversed(indices)?;
         self.values.truncate(start);
         Ok(list)
     }

@@ -1,9 +1,10 @@
 //! The printing of symbols.
 
 use crate::flags::DemangleFlags;
+use crate::numbers::Number;
 use crate::printer::{Piece, Printer};
 use crate::stop::{Result, Stop};
-use crate::tree::{Adjustment, FunctionClass, Node, Number, Span, Symbol};
+use crate::tree::{Adjustment, FunctionClass, Node, Span, Symbol};
 use crate::words::Access;
 
 impl<'t> Printer<'t> {

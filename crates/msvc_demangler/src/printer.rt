@@ -1,9 +1,13 @@
 //! The printing of a tree.
 
+ghost use Rattle.std.specs.Prelude.{◌+◌, ◌≤◌, IfOk};
+ghost use Rattle.std.specs.Vec.{vec_len};
+
 use crate::flags::{DemangleFlags, EVERYTHING};
+use crate::numbers::Number;
 use crate::qualifiers::Qualifiers;
 use crate::stop::{Result, Stop};
-use crate::tree::{Node, Number, Span, Tree};
+use crate::tree::{Node, Span, Tree};
 use std::alloc::Global;
 
 /// What is to be printed next.
@@ -70,12 +74,9 @@ pub(crate) fn print_part(
 ///
 /// # Errors
 /// It has no text, or more than may be printed; memory ran out.
-pub(crate) fn print_tree(
-    alloc: Global,
-    tree: &Tree,
-    piece: Piece,
-    budget: usize,
-) -> Result<Printed> {
+pub(crate) fn print_tree(alloc: Global, tree: &Tree, piece: Piece, budget: usize) -> Result<Printed>
+    ensures { IfOk result (λ p. vec_len p.text + p.budget ≤ budget) }
+{
     let mut printer = Printer {
         alloc,
         tree,
@@ -91,14 +92,16 @@ pub(crate) fn print_tree(
 
 impl<'t> Printer<'t> {
     /// Prints all pieces, and says how much may be printed after that.
-    fn print(&mut self, budget: usize) -> Result<usize> {
+    fn print(&mut self, budget: usize) -> Result<usize>
+        ensures { IfOk result (λ left. vec_len self.new.text + left ≤ budget) }
+    {
         for step in 0..budget {
-            let Some(piece) = self.pieces.pop() else {
-                return Ok((budget - step).saturating_sub(self.text.len()));
-            };
-            if self.text.len() > budget - step {
+            let Some(left) = (budget - step).checked_sub(self.text.len()) else {
                 return Err(Stop::Undecorated);
-            }
+            };
+            let Some(piece) = self.pieces.pop() else {
+                return Ok(left);
+            };
             self.run(piece)?;
             self.take_over()?;
         }

@@ -1,7 +1,8 @@
 //! What is still to be read of a name.
 
+use crate::numbers::Number;
 use crate::qualifiers::Qualifiers;
-use crate::tree::{Adjustment, FunctionClass, Number};
+use crate::tree::{Adjustment, FunctionClass};
 use crate::words::{Access, Affinity};
 
 /// Where an identifier stands.

@@ -1,5 +1,6 @@
 //! The tree of a name: nodes that name one another by their indices.
 
+use crate::numbers::Number;
 use crate::qualifiers::Qualifiers;
 use crate::stop::{Result, Stop};
 use crate::words::{Access, Affinity};
@@ -12,15 +13,6 @@ pub(crate) struct Span {
     pub(crate) start: usize,
     /// How many there are.
     pub(crate) count: usize,
-}
-
-/// An encoded number.
-#[derive(Clone, Copy)]
-pub(crate) struct Number {
-    /// How far it is from 0.
-    pub(crate) magnitude: u64,
-    /// Whether it has a minus sign.
-    pub(crate) is_negative: bool,
 }
 
 /// A name between `::`.

@@ -1,10 +1,12 @@
 //! Types.
 
+use crate::letters::extended_qualifiers;
+use crate::numbers::Number;
 use crate::parser::Parser;
-use crate::qualifiers::{Qualifiers, UNQUALIFIED, extended_qualifiers};
+use crate::qualifiers::{Qualifiers, UNQUALIFIED};
 use crate::stop::{Result, Stop};
 use crate::tasks::{Mode, Place, Task};
-use crate::tree::{Node, Number, Type};
+use crate::tree::{Node, Type};
 use crate::words::{Affinity, basic_type_of, keyword_of, later_basic_type_of, pointer_of};
 
 /// Whether a pointer leads to a member, by what comes after its letter. None if neither.

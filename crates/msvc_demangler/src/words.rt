@@ -1,6 +1,10 @@
 //! Words that letters stand for: basic types, calling conventions, access.
 
-use crate::qualifiers::{Qualifiers, qualified};
+ghost use Rattle.std.specs.Prelude.{◌≡◌, option_map};
+ghost use Rattle.msvc_demangler.specs.Words.{basic_type, convention, keyword, later_basic_type};
+
+use crate::letters::qualified;
+use crate::qualifiers::Qualifiers;
 
 /// Who may name a member.
 #[derive(Clone, Copy, Debug, PartialEq, Eq)]
@@ -59,7 +63,10 @@ pub(crate) fn pointer_of(code: u8) -> Option<(Affinity, Qualifiers)> {
 }
 
 /// The calling convention that a letter stands for; empty for one that isn't known.
-pub(crate) fn convention_of(code: u8) -> &'static str {
+#[tactic(auto, unfolding(crate::specs::Words::convention))]
+pub(crate) fn convention_of(code: u8) -> &'static str
+    ensures { result.now ≡ convention code }
+{
     match code {
         b'A' | b'B' => "__cdecl",
         b'C' | b'D' => "__pascal",
@@ -76,7 +83,10 @@ pub(crate) fn convention_of(code: u8) -> &'static str {
 }
 
 /// The basic type that a letter stands for.
-pub(crate) fn basic_type_of(code: u8) -> Option<&'static str> {
+#[tactic(auto, unfolding(crate::specs::Words::basic_type))]
+pub(crate) fn basic_type_of(code: u8) -> Option<&'static str>
+    ensures { option_map (λ w. w.now) result ≡ basic_type code }
+{
     match code {
         b'C' => Some("signed char"),
         b'D' => Some("char"),
@@ -96,7 +106,10 @@ pub(crate) fn basic_type_of(code: u8) -> Option<&'static str> {
 }
 
 /// The basic type that a letter after `_` stands for.
-pub(crate) fn later_basic_type_of(code: u8) -> Option<&'static str> {
+#[tactic(auto, unfolding(crate::specs::Words::later_basic_type))]
+pub(crate) fn later_basic_type_of(code: u8) -> Option<&'static str>
+    ensures { option_map (λ w. w.now) result ≡ later_basic_type code }
+{
     match code {
         b'J' => Some("__int64"),
         b'K' => Some("unsigned __int64"),
@@ -110,7 +123,10 @@ pub(crate) fn later_basic_type_of(code: u8) -> Option<&'static str> {
 }
 
 /// The keyword that a letter before a class's name stands for.
-pub(crate) fn keyword_of(code: u8) -> Option<&'static str> {
+#[tactic(auto, unfolding(crate::specs::Words::keyword))]
+pub(crate) fn keyword_of(code: u8) -> Option<&'static str>
+    ensures { option_map (λ w. w.now) result ≡ keyword code }
+{
     match code {
         b'T' => Some("union"),
         b'U' => Some("struct"),
