@@ -1,0 +1,230 @@
+//! Functions: their types, and what the codes of symbols say of them.
+
+use crate::methods::method_of;
+use crate::parser::Parser;
+use crate::qualifiers::UNQUALIFIED;
+use crate::stop::{Result, Stop};
+use crate::tasks::{Front, Mode, Task};
+use crate::tree::{Adjustment, FunctionClass, Node, Parameters, Signature, Symbol, Type};
+use crate::words::{Access, convention_of};
+
+/// Who may call the virtual method whose thunk has this digit.
+fn thunk_access_of(code: u8) -> Option<Access> {
+    match code {
+        b'0' | b'1' => Some(Access::Private),
+        b'2' | b'3' => Some(Access::Protected),
+        b'4' | b'5' => Some(Access::Public),
+        _ => None,
+    }
+}
+
+/// A function outside of classes.
+fn global(is_extern_c: bool) -> FunctionClass {
+    FunctionClass {
+        access: None,
+        is_global: true,
+        is_static: false,
+        is_virtual: false,
+        is_extern_c,
+    }
+}
+
+/// The type of a function of which nothing is written but a calling convention.
+pub(crate) fn unwritten_signature(convention: &'static str) -> Type {
+    Type::Function(Signature {
+        convention,
+        returned: None,
+        parameters: Parameters::Unlisted,
+        reference: "",
+        is_noexcept: false,
+    })
+}
+
+impl<'n> Parser<'n> {
+    /// Reads what a task of functions says.
+    pub(crate) fn run_function(&mut self, task: Task) -> Result<()> {
+        match task {
+            Task::Signature(has_this) => self.start_signature(has_this),
+            Task::Parameters => self.start_parameters(),
+            Task::MoreParameters(count) => self.read_parameter(count),
+            Task::Remember(left) => {
+                let index = self.top()?;
+                if left.saturating_sub(self.rest.len()) > 1 {
+                    self.remember_parameter(index)?;
+                }
+                Ok(())
+            }
+            Task::SignatureEnd(front) => self.end_signature(front),
+            Task::FunctionEnd(class, adjustment) => {
+                let signature = self.pop()?;
+                let symbol = Symbol::Function(signature, class, adjustment);
+                self.give(Node::Symbol(symbol, None))
+            }
+            _ => self.start_function(),
+        }
+    }
+
+    /// Reads what the code of a function says of it, and its type.
+    fn start_function(&mut self) -> Result<()> {
+        let is_extern_c = self.take(b"$$J0");
+        let code = self.take_byte()?;
+        match code {
+            b'9' => {
+                let class = FunctionClass {
+                    access: None,
+                    is_global: false,
+                    is_static: false,
+                    is_virtual: false,
+                    is_extern_c: true,
+                };
+                self.give_type(unwritten_signature(""), UNQUALIFIED)?;
+                self.plan(Task::FunctionEnd(class, Adjustment::NotThunk))
+            }
+            b'Y' | b'Z' => {
+                self.plan(Task::Signature(false))?;
+                self.plan(Task::FunctionEnd(global(is_extern_c), Adjustment::NotThunk))
+            }
+            b'$' => self.start_thunk(is_extern_c),
+            _ => self.start_method(code, is_extern_c),
+        }
+    }
+
+    /// Reads the type of a method of this code.
+    fn start_method(&mut self, code: u8, is_extern_c: bool) -> Result<()> {
+        let Some(method) = method_of(code) else {
+            return Err(Stop::Undecorated);
+        };
+        let adjustment = if method.is_adjusted {
+            Adjustment::Static(self.take_signed()?)
+        } else {
+            Adjustment::NotThunk
+        };
+        let class = FunctionClass {
+            access: Some(method.access),
+            is_global: false,
+            is_static: method.is_static,
+            is_virtual: method.is_virtual,
+            is_extern_c,
+        };
+        self.plan(Task::Signature(!method.is_static))?;
+        self.plan(Task::FunctionEnd(class, adjustment))
+    }
+
+    /// Reads a thunk of a virtual method that adjusts `this` by a `vtordisp` field.
+    fn start_thunk(&mut self, is_extern_c: bool) -> Result<()> {
+        let is_by_base = self.take(b"R");
+        let Some(access) = thunk_access_of(self.take_byte()?) else {
+            return Err(Stop::Undecorated);
+        };
+        let adjustment = if is_by_base {
+            let pointer = self.take_signed()?;
+            let place = self.take_signed()?;
+            let field = self.take_signed()?;
+            let offset = self.take_signed()?;
+            Adjustment::VirtualBase(pointer, place, field, offset)
+        } else {
+            let field = self.take_signed()?;
+            let offset = self.take_signed()?;
+            Adjustment::Virtual(field, offset)
+        };
+        let class = FunctionClass {
+            access: Some(access),
+            is_global: false,
+            is_static: false,
+            is_virtual: true,
+            is_extern_c,
+        };
+        self.plan(Task::Signature(true))?;
+        self.plan(Task::FunctionEnd(class, adjustment))
+    }
+
+    /// Reads a function's type.
+    fn start_signature(&mut self, has_this: bool) -> Result<()> {
+        let mut qualifiers = UNQUALIFIED;
+        let mut reference = "";
+        if has_this {
+            qualifiers = self.take_extended();
+            reference = self.take_reference();
+            qualifiers = qualifiers.with(self.take_qualifiers()?);
+        }
+        let convention = convention_of(self.take_byte()?);
+        let returns = !self.take(b"@");
+        if returns {
+            self.plan(Task::Type(Mode::Returned))?;
+        }
+        self.plan(Task::Parameters)?;
+        self.plan(Task::SignatureEnd(Front {
+            qualifiers,
+            reference,
+            convention,
+            returns,
+        }))
+    }
+
+    /// Reads on which references a method is called.
+    fn take_reference(&mut self) -> &'static str {
+        if self.take(b"G") {
+            " &"
+        } else if self.take(b"H") {
+            " &&"
+        } else {
+            ""
+        }
+    }
+
+    /// Reads the parameters of a function.
+    fn start_parameters(&mut self) -> Result<()> {
+        if self.take(b"X") {
+            return self.give(Node::Parameters(Parameters::Void));
+        }
+        self.read_parameter(0)
+    }
+
+    /// Reads the next parameter, or the end of them.
+    fn read_parameter(&mut self, count: usize) -> Result<()> {
+        let rest = self.rest;
+        match rest {
+            [end @ (b'@' | b'Z'), after @ ..] => {
+                self.rest = after;
+                let list = self.pop_list(count)?;
+                self.give(Node::Parameters(Parameters::Listed(list, *end == b'Z')))
+            }
+            [digit @ b'0'..=b'9', after @ ..] => {
+                self.rest = after;
+                let index = self.remembered_parameter(*digit)?;
+                self.push(index)?;
+                self.plan(Task::MoreParameters(count.saturating_add(1)))
+            }
+            _ => {
+                self.plan(Task::Type(Mode::Bare))?;
+                self.plan(Task::Remember(rest.len()))?;
+                self.plan(Task::MoreParameters(count.saturating_add(1)))
+            }
+        }
+    }
+
+    /// Reads whether a function throws nothing, and makes its type.
+    fn end_signature(&mut self, front: Front) -> Result<()> {
+        let is_noexcept = self.take(b"_E");
+        if !is_noexcept && !self.take(b"Z") {
+            return Err(Stop::Undecorated);
+        }
+        let list = self.pop()?;
+        let Node::Parameters(parameters) = self.tree.node(list)? else {
+            return Err(Stop::Undecorated);
+        };
+        let returned = if front.returns {
+            Some(self.pop()?)
+        } else {
+            None
+        };
+        let signature = Signature {
+            convention: front.convention,
+            returned,
+            parameters,
+            reference: front.reference,
+            is_noexcept,
+        };
+        self.give_type(Type::Function(signature), front.qualifiers)
+    }
+}

@@ -1,0 +1,53 @@
+//! The letters of qualifiers.
+
+ghost use Rattle.std.specs.Prelude.{◌≡◌};
+ghost use Rattle.msvc_demangler.specs.Bytes.{after_optional as after_optional_of};
+ghost use Rattle.msvc_demangler.specs.Qualified.{letter_qualifiers, qualified as qualified_of};
+
+use crate::bytes::after_optional;
+use crate::qualifiers::Qualifiers;
+
+/// `const` and `volatile`, as these say.
+pub(crate) fn qualified(is_const: bool, is_volatile: bool) -> Qualifiers
+    ensures { result ≡ qualified_of is_const is_volatile }
+{
+    Qualifiers {
+        is_const,
+        is_volatile,
+        is_restrict: false,
+        is_unaligned: false,
+    }
+}
+
+/// The qualifiers that a letter stands for, of what is no member by `A` to `D`, and of a member by
+/// `Q` to `T`.
+#[tactic(auto, unfolding(crate::specs::Qualified::letter_qualifiers))]
+pub(crate) fn qualifiers_of(code: u8) -> Option<Qualifiers>
+    ensures { result ≡ letter_qualifiers code }
+{
+    match code {
+        b'A' | b'Q' => Some(qualified(false, false)),
+        b'B' | b'R' => Some(qualified(true, false)),
+        b'C' | b'S' => Some(qualified(false, true)),
+        b'D' | b'T' => Some(qualified(true, true)),
+        _ => None,
+    }
+}
+
+/// The qualifiers of a pointer before its pointee: `E` for one of 64 bits, which isn't printed, `I`
+/// for `__restrict` and `F` for `__unaligned`. And what comes after them.
+pub(crate) fn extended_qualifiers(rest: &[u8]) -> (Qualifiers, &[u8])
+    ensures { result.1.now
+        ≡ after_optional_of 70 (after_optional_of 73 (after_optional_of 69 rest.now)) }
+{
+    let restricted = after_optional(b'E', rest);
+    let unaligned = after_optional(b'I', restricted);
+    let after = after_optional(b'F', unaligned);
+    let qualifiers = Qualifiers {
+        is_const: false,
+        is_volatile: false,
+        is_restrict: unaligned.len() < restricted.len(),
+        is_unaligned: after.len() < unaligned.len(),
+    };
+    (qualifiers, after)
+}

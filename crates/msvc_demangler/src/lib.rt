@@ -1,0 +1,31 @@
+//! The text of a decorated name of Visual C++, as `llvm-undname` 19 prints it.
+#![tactic(auto)]
+
+mod answer;
+mod arguments;
+mod bytes;
+mod characters;
+mod flags;
+mod functions;
+mod intrinsics;
+mod letters;
+mod literals;
+mod methods;
+mod names;
+mod numbers;
+mod operators;
+mod parser;
+mod print_identifiers;
+mod print_symbols;
+mod print_types;
+mod printer;
+mod qualifiers;
+mod stop;
+mod symbols;
+mod tasks;
+mod tree;
+mod types;
+mod words;
+
+pub use answer::{Demangled, demangle};
+pub use flags::DemangleFlags;

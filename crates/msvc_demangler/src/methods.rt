@@ -1,0 +1,49 @@
+//! What the letters of functions in classes say of them.
+
+ghost use Rattle.std.specs.Prelude.{◌≡◌};
+ghost use Rattle.msvc_demangler.specs.Methods.{access, method_class};
+
+use crate::words::Access;
+
+/// What a code says of a function in a class.
+#[derive(Clone, Copy, Debug, PartialEq, Eq)]
+pub(crate) struct MethodClass {
+    /// Who may call it.
+    pub(crate) access: Access,
+    /// Whether it is static.
+    pub(crate) is_static: bool,
+    /// Whether it is virtual.
+    pub(crate) is_virtual: bool,
+    /// Whether it is a thunk that adjusts `this` by an offset.
+    pub(crate) is_adjusted: bool,
+}
+
+/// Who may call the methods of a group of eight letters.
+fn access_of(group: u8) -> Access
+    ensures { result ≡ access group }
+{
+    match group {
+        0 => Access::Private,
+        1 => Access::Protected,
+        _ => Access::Public,
+    }
+}
+
+/// What a letter says of a method: for each access eight in pairs, of a plain method, a static one,
+/// a virtual one, and a thunk that adjusts `this`, which isn't virtual where it is private.
+#[tactic(auto, unfolding(crate::specs::Methods::method_class))]
+pub(crate) fn method_of(code: u8) -> Option<MethodClass>
+    ensures { result ≡ method_class code }
+{
+    if code < b'A' || code > b'X' {
+        return None;
+    }
+    let group = (code - b'A') / 8;
+    let pair = (code - b'A') % 8 / 2;
+    Some(MethodClass {
+        access: access_of(group),
+        is_static: pair == 1,
+        is_virtual: pair == 2 || (pair == 3 && !(group == 0)),
+        is_adjusted: pair == 3,
+    })
+}

@@ -1,0 +1,352 @@
+//! The reading of a name: what is still to be read, what has been, and what may be referred to.
+
+use crate::letters::{extended_qualifiers, qualifiers_of};
+use crate::numbers::{Number, split_number};
+use crate::printer::print_part;
+use crate::qualifiers::Qualifiers;
+use crate::stop::{Result, Stop};
+use crate::tasks::{Place, Task};
+use crate::tree::{Identifier, Node, Span, Tree};
+use std::alloc::{AllocError, Global};
+
+/// How many names and how many parameters a name may refer to: a digit says which.
+const REMEMBERED: usize = 10;
+
+/// How many tasks there are at most for each byte of a name, and for its end. A byte that begins a
+/// type in a list has most: the list, the type, its qualifiers, the tag, its name, an identifier,
+/// and to remember it.
+const TASKS_PER_BYTE: usize = 32;
+
+/// The reading of a name.
+#[derive(Drop)]
+pub(crate) struct Parser<'n> {
+    /// The allocator.
+    pub(crate) alloc: Global,
+    /// How many bytes the name has.
+    length: usize,
+    /// What is left of it.
+    pub(crate) rest: &'n [u8],
+    /// What has been read.
+    pub(crate) tree: Tree,
+    /// What is to be read, the next at the end.
+    tasks: Vec<Task>,
+    /// What the task at hand puts before those, the next at the start.
+    planned: Vec<Task>,
+    /// The nodes that were read for tasks to come.
+    values: Vec<usize>,
+    /// The names that were remembered, of the enclosing templates too.
+    pub(crate) names: Vec<Span>,
+    /// Where those begin that may be referred to.
+    pub(crate) first_name: usize,
+    /// The parameters' types that were remembered, of the enclosing templates too.
+    pub(crate) parameters: Vec<usize>,
+    /// Where those begin that may be referred to.
+    pub(crate) first_parameter: usize,
+    /// How much may still be printed, in steps and bytes.
+    pub(crate) budget: usize,
+}
+
+impl<'n> Parser<'n> {
+    /// The reading of a name that has not begun.
+    ///
+    /// # Errors
+    /// Memory ran out.
+    pub(crate) fn new(
+        alloc: Global,
+        name: &'n [u8],
+        budget: usize,
+    ) -> std::result::Result<Parser<'n>, AllocError> {
+        Ok(Parser {
+            alloc,
+            length: name.len(),
+            rest: name,
+            tree: Tree::new(alloc, name)?,
+            tasks: Vec::new(alloc),
+            planned: Vec::new(alloc),
+            values: Vec::new(alloc),
+            names: Vec::new(alloc),
+            first_name: 0,
+            parameters: Vec::new(alloc),
+            first_parameter: 0,
+            budget,
+        })
+    }
+
+    /// Reads the whole name, and gives the index of its symbol.
+    ///
+    /// # Errors
+    /// The name isn't decorated; memory ran out.
+    pub(crate) fn read(&mut self) -> Result<usize> {
+        self.tasks.push(Task::Symbol)?;
+        let most = self.length.saturating_add(1).saturating_mul(TASKS_PER_BYTE);
+        for _ in 0..most {
+            let Some(task) = self.tasks.pop() else {
+                return self.pop();
+            };
+            self.run(task)?;
+            self.take_over()?;
+        }
+        Err(Stop::Undecorated)
+    }
+
+    /// Puts what was planned before the other tasks.
+    fn take_over(&mut self) -> Result<()> {
+        while let Some(task) = self.planned.pop() {
+            self.tasks.push(task)?;
+        }
+        Ok(())
+    }
+
+    /// Plans a task, after those that the task at hand has planned.
+    pub(crate) fn plan(&mut self, task: Task) -> Result<()> {
+        self.planned.push(task)?;
+        Ok(())
+    }
+
+    /// Plans the reading of a qualified name whose last identifier stands in a place.
+    pub(crate) fn plan_name(&mut self, place: Place) -> Result<()> {
+        self.plan(Task::Identifier(place))?;
+        self.plan(Task::Scopes(1))
+    }
+
+    /// Hands a node on to a task to come.
+    pub(crate) fn push(&mut self, index: usize) -> Result<()> {
+        self.values.push(index)?;
+        Ok(())
+    }
+
+    /// Adds a node, and hands it on.
+    pub(crate) fn give(&mut self, node: Node) -> Result<()> {
+        let index = self.tree.add(node)?;
+        self.push(index)
+    }
+
+    /// Adds an identifier without template arguments, and hands it on.
+    pub(crate) fn give_identifier(&mut self, identifier: Identifier) -> Result<()> {
+        self.give(Node::Identifier(identifier, None))
+    }
+
+    /// The node that was handed on last, which the task at hand takes.
+    pub(crate) fn pop(&mut self) -> Result<usize> {
+        match self.values.pop() {
+            Some(index) => Ok(index),
+            None => Err(Stop::Undecorated),
+        }
+    }
+
+    /// The node that was handed on last, which stays.
+    pub(crate) fn top(&self) -> Result<usize> {
+        match self.values.last() {
+            Some(index) => Ok(*index),
+            None => Err(Stop::Undecorated),
+        }
+    }
+
+    /// Where the last nodes begin that were handed on.
+    fn last_values(&self, count: usize) -> Result<usize> {
+        match self.values.len().checked_sub(count) {
+            Some(start) => Ok(start),
+            None => Err(Stop::Undecorated),
+        }
+    }
+
+    /// Makes a list of the last nodes that were handed on.
+    pub(crate) fn pop_list(&mut self, count: usize) -> Result<Span> {
+        let start = self.last_values(count)?;
+        let Some(indices) = self.values.get(start..) else {
+            return Err(Stop::Undecorated);
+        };
+        let list = self.tree.add_list(indices)?;
+        self.values.truncate(start);
+        Ok(list)
+    }
+
+    /// Makes a list of the last nodes that were handed on, the last of them first.
+    pub(crate) fn pop_reversed(&mut self, count: usize) -> Result<Span> {
+        let start = self.last_values(count)?;
+        let Some(indices) = self.values.get(start..) else {
+            return Err(Stop::Undecorated);
+        };
+        let list = self.tree.add_reversed(indices)?;
+        self.values.truncate(start);
+        Ok(list)
+    }
+
+    /// Goes past a prefix, if what is left begins with it, and says whether it does.
+    pub(crate) fn take(&mut self, prefix: &[u8]) -> bool {
+        let rest = self.rest;
+        match rest.strip_prefix(prefix) {
+            Some(after) => {
+                self.rest = after;
+                true
+            }
+            None => false,
+        }
+    }
+
+    /// Goes past a byte, and gives it.
+    pub(crate) fn take_byte(&mut self) -> Result<u8> {
+        let rest = self.rest;
+        match rest {
+            [byte, after @ ..] => {
+                self.rest = after;
+                Ok(*byte)
+            }
+            [] => Err(Stop::Undecorated),
+        }
+    }
+
+    /// Reads a number.
+    pub(crate) fn take_number(&mut self) -> Result<Number> {
+        let rest = self.rest;
+        match split_number(rest) {
+            Some((number, after)) => {
+                self.rest = after;
+                Ok(number)
+            }
+            None => Err(Stop::Undecorated),
+        }
+    }
+
+    /// Reads a number that has no minus sign.
+    pub(crate) fn take_unsigned(&mut self) -> Result<u64> {
+        let number = self.take_number()?;
+        if number.is_negative {
+            return Err(Stop::Undecorated);
+        }
+        Ok(number.magnitude)
+    }
+
+    /// Reads a number whose magnitude is below 2^63. It has a minus sign only if it isn't 0.
+    pub(crate) fn take_signed(&mut self) -> Result<Number> {
+        let number = self.take_number()?;
+        if number.magnitude > 0x7fff_ffff_ffff_ffff {
+            return Err(Stop::Undecorated);
+        }
+        Ok(Number {
+            magnitude: number.magnitude,
+            is_negative: number.is_negative && number.magnitude != 0,
+        })
+    }
+
+    /// Reads the letter of qualifiers.
+    pub(crate) fn take_qualifiers(&mut self) -> Result<Qualifiers> {
+        match qualifiers_of(self.take_byte()?) {
+            Some(qualifiers) => Ok(qualifiers),
+            None => Err(Stop::Undecorated),
+        }
+    }
+
+    /// Reads the qualifiers of a pointer before its pointee.
+    pub(crate) fn take_extended(&mut self) -> Qualifiers {
+        let rest = self.rest;
+        let (qualifiers, after) = extended_qualifiers(rest);
+        self.rest = after;
+        qualifiers
+    }
+
+    /// Goes past the first `@` that is left, and gives what stands before it.
+    pub(crate) fn take_until_at(&mut self) -> Result<Span> {
+        let rest = self.rest;
+        let start = self.length.saturating_sub(rest.len());
+        let Some(count) = rest.iter().position(|byte| *byte == b'@') else {
+            return Err(Stop::Undecorated);
+        };
+        self.rest = &rest[count + 1..];
+        Ok(Span { start, count })
+    }
+
+    /// Remembers a name, unless it is remembered, or as many are as can be.
+    pub(crate) fn remember_name(&mut self, name: Span) -> Result<()> {
+        let Some(known) = self.names.get(self.first_name..) else {
+            return Err(Stop::Undecorated);
+        };
+        if known.len() >= REMEMBERED {
+            return Ok(());
+        }
+        for other in known {
+            if self.tree.text(*other)? == self.tree.text(name)? {
+                return Ok(());
+            }
+        }
+        self.names.push(name)?;
+        Ok(())
+    }
+
+    /// The name that a digit stands for.
+    pub(crate) fn remembered_name(&self, digit: u8) -> Result<Span> {
+        let place = usize::from(digit.wrapping_sub(b'0')).saturating_add(self.first_name);
+        match self.names.get(place) {
+            Some(name) => Ok(*name),
+            None => Err(Stop::Undecorated),
+        }
+    }
+
+    /// Remembers a parameter, unless as many are as can be.
+    pub(crate) fn remember_parameter(&mut self, index: usize) -> Result<()> {
+        if self.parameters.len().saturating_sub(self.first_parameter) < REMEMBERED {
+            self.parameters.push(index)?;
+        }
+        Ok(())
+    }
+
+    /// The parameter that a digit stands for.
+    pub(crate) fn remembered_parameter(&self, digit: u8) -> Result<usize> {
+        let place = usize::from(digit.wrapping_sub(b'0')).saturating_add(self.first_parameter);
+        match self.parameters.get(place) {
+            Some(index) => Ok(*index),
+            None => Err(Stop::Undecorated),
+        }
+    }
+
+    /// Prints a node in full, and adds its text, with texts before and after it.
+    pub(crate) fn print(&mut self, before: &str, index: usize, after: &str) -> Result<Span> {
+        let printed = print_part(self.alloc, &self.tree, index, self.budget)?;
+        self.budget = printed.budget;
+        let start = self.tree.add_text(before.as_bytes())?.start;
+        self.tree.add_text(printed.text.as_slice())?;
+        let end = self.tree.add_text(after.as_bytes())?;
+        let count = end.start.saturating_add(end.count).saturating_sub(start);
+        Ok(Span { start, count })
+    }
+
+    /// Reads what a task says.
+    fn run(&mut self, task: Task) -> Result<()> {
+        match task {
+            Task::Identifier(_)
+            | Task::Scopes(_)
+            | Task::LocalScope(_)
+            | Task::TemplateEnd(..)
+            | Task::Structor
+            | Task::Forget => self.run_name(task),
+            Task::Arguments(_)
+            | Task::AutoArgument
+            | Task::MemberArgument(..)
+            | Task::ReferenceArgument => self.run_argument(task),
+            Task::Type(_)
+            | Task::Qualify(_)
+            | Task::Tagged(_)
+            | Task::Custom
+            | Task::Pointer(..)
+            | Task::MethodPointer(_)
+            | Task::MemberPointer(..)
+            | Task::Array(..) => self.run_type(task),
+            Task::Signature(_)
+            | Task::Parameters
+            | Task::MoreParameters(_)
+            | Task::Remember(_)
+            | Task::SignatureEnd(_)
+            | Task::Function
+            | Task::FunctionEnd(..) => self.run_function(task),
+            Task::TypeName
+            | Task::TypeDescriptor
+            | Task::Untyped
+            | Task::BaseClass
+            | Task::Table
+            | Task::TableFor(_)
+            | Task::Guard
+            | Task::VirtualCall => self.run_intrinsic(task),
+            _ => self.run_symbol(task),
+        }
+    }
+}

@@ -1,0 +1,336 @@
+//! The tree of a name: nodes that name one another by their indices.
+
+use crate::numbers::Number;
+use crate::qualifiers::Qualifiers;
+use crate::stop::{Result, Stop};
+use crate::words::{Access, Affinity};
+use std::alloc::{AllocError, Global};
+
+/// A run of bytes of the texts, or of indices of the lists.
+#[derive(Clone, Copy)]
+pub(crate) struct Span {
+    /// Where it begins.
+    pub(crate) start: usize,
+    /// How many there are.
+    pub(crate) count: usize,
+}
+
+/// A name between `::`.
+#[derive(Clone, Copy)]
+pub(crate) enum Identifier {
+    /// A name that the texts have.
+    Named(Span),
+    /// A name that is always the same, as that of an operator.
+    Fixed(&'static str),
+    /// A constructor or a destructor of a class, given by its identifier.
+    Structor(bool, Option<usize>),
+    /// An operator that converts to a type.
+    Conversion(Option<usize>),
+    /// An operator of literals with this suffix.
+    Literal(Span),
+    /// The initializer of a symbol.
+    Initializer(&'static str, usize),
+    /// The guard of a static variable, with the number of its scope.
+    Guard(&'static str, u64),
+    /// The descriptor of a base class.
+    BaseClass(u64, Number, u64, u64),
+    /// The thunk of a virtual call, with its offset in the table.
+    VirtualCall(u64),
+}
+
+/// The parameters of a function.
+#[derive(Clone, Copy)]
+pub(crate) enum Parameters {
+    /// There is no list of them.
+    Unlisted,
+    /// The list is `void`.
+    Void,
+    /// A list, and whether more follow.
+    Listed(Span, bool),
+}
+
+/// The type of a function.
+#[derive(Clone, Copy)]
+pub(crate) struct Signature {
+    /// The calling convention.
+    pub(crate) convention: &'static str,
+    /// The type that it returns; None for a constructor.
+    pub(crate) returned: Option<usize>,
+    /// The parameters.
+    pub(crate) parameters: Parameters,
+    /// `&` or `&&` where it is called on references of one kind.
+    pub(crate) reference: &'static str,
+    /// Whether it throws nothing.
+    pub(crate) is_noexcept: bool,
+}
+
+/// A type, its qualifiers aside.
+#[derive(Clone, Copy)]
+pub(crate) enum Type {
+    /// A basic type.
+    Basic(&'static str),
+    /// A class, struct, union or enum: the keyword and the name.
+    Tagged(&'static str, usize),
+    /// A pointer or reference to a type; for a member, the name of the class.
+    Pointer(Affinity, usize, Option<usize>),
+    /// An array: its dimensions and the type of its elements.
+    Array(Span, usize),
+    /// A function.
+    Function(Signature),
+    /// A name that stands for a type.
+    Custom(usize),
+}
+
+/// How a thunk adjusts `this`.
+#[derive(Clone, Copy)]
+pub(crate) enum Adjustment {
+    /// It is no thunk.
+    NotThunk,
+    /// A thunk that says nothing of it.
+    Unsaid,
+    /// By an offset.
+    Static(Number),
+    /// By the offset of a `vtordisp` field, and an offset.
+    Virtual(Number, Number),
+    /// By the offsets of a pointer to a table, in it, of a `vtordisp` field, and an offset.
+    VirtualBase(Number, Number, Number, Number),
+}
+
+/// What kind of function a symbol is.
+#[derive(Clone, Copy)]
+pub(crate) struct FunctionClass {
+    /// Who may call it; None outside classes.
+    pub(crate) access: Option<Access>,
+    /// Whether it stands outside of classes.
+    pub(crate) is_global: bool,
+    /// Whether it is a static method.
+    pub(crate) is_static: bool,
+    /// Whether it is virtual.
+    pub(crate) is_virtual: bool,
+    /// Whether it is `extern "C"`.
+    pub(crate) is_extern_c: bool,
+}
+
+/// What a symbol is.
+#[derive(Clone, Copy)]
+pub(crate) enum Symbol {
+    /// A name alone.
+    Plain,
+    /// A function: its type, its kind and its adjustment of `this`.
+    Function(usize, FunctionClass, Adjustment),
+    /// A variable: its type, and who may see it if it is a static member.
+    Variable(Option<usize>, Option<Access>),
+    /// A table of a class: its qualifiers, and the name of the base that it is for.
+    Table(Qualifiers, Option<usize>),
+    /// A string literal: what stands before its text, its text, and what stands after.
+    Text(&'static str, Span, &'static str),
+}
+
+/// A node of the tree.
+#[derive(Clone, Copy)]
+pub(crate) enum Node {
+    /// An identifier, and its template arguments.
+    Identifier(Identifier, Option<Span>),
+    /// A qualified name: its identifiers, the outermost first.
+    Name(Span),
+    /// A type, and its qualifiers.
+    Type(Type, Qualifiers),
+    /// The parameters of a function.
+    Parameters(Parameters),
+    /// A number.
+    Number(Number),
+    /// A template argument that names a symbol: what stands before it, the symbol, and offsets.
+    Reference(&'static str, Option<usize>, Span),
+    /// A symbol, and its name.
+    Symbol(Symbol, Option<usize>),
+}
+
+/// The tree of a name.
+#[derive(Drop)]
+pub(crate) struct Tree {
+    /// The nodes.
+    nodes: Vec<Node>,
+    /// Lists of nodes, one after another.
+    lists: Vec<usize>,
+    /// The name's bytes, and after them those of the texts that were made of its parts.
+    texts: Vec<u8>,
+}
+
+impl Tree {
+    /// A tree without nodes, over a name.
+    ///
+    /// # Errors
+    /// Memory ran out.
+    pub(crate) fn new(alloc: Global, name: &[u8]) -> std::result::Result<Tree, AllocError> {
+        let mut texts = Vec::new(alloc);
+        texts.extend_from_slice(name)?;
+        Ok(Tree {
+            nodes: Vec::new(alloc),
+            lists: Vec::new(alloc),
+            texts,
+        })
+    }
+
+    /// Adds a node, and gives its index.
+    ///
+    /// # Errors
+    /// Memory ran out.
+    pub(crate) fn add(&mut self, node: Node) -> Result<usize> {
+        let index = self.nodes.len();
+        self.nodes.push(node)?;
+        Ok(index)
+    }
+
+    /// The node of an index.
+    ///
+    /// # Errors
+    /// There is none.
+    pub(crate) fn node(&self, index: usize) -> Result<Node> {
+        match self.nodes.get(index) {
+            Some(node) => Ok(*node),
+            None => Err(Stop::Undecorated),
+        }
+    }
+
+    /// Puts a node in the place of the one of an index.
+    ///
+    /// # Errors
+    /// There is none.
+    pub(crate) fn set(&mut self, index: usize, node: Node) -> Result<()> {
+        if index >= self.nodes.len() {
+            return Err(Stop::Undecorated);
+        }
+        self.nodes[index] = node;
+        Ok(())
+    }
+
+    /// The type of an index, and its qualifiers.
+    ///
+    /// # Errors
+    /// There is none.
+    pub(crate) fn type_of(&self, index: usize) -> Result<(Type, Qualifiers)> {
+        match self.node(index)? {
+            Node::Type(form, qualifiers) => Ok((form, qualifiers)),
+            _ => Err(Stop::Undecorated),
+        }
+    }
+
+    /// The qualified name of an index.
+    ///
+    /// # Errors
+    /// There is none.
+    pub(crate) fn name_of(&self, index: usize) -> Result<Span> {
+        match self.node(index)? {
+            Node::Name(identifiers) => Ok(identifiers),
+            _ => Err(Stop::Undecorated),
+        }
+    }
+
+    /// The identifier of an index, and its template arguments.
+    ///
+    /// # Errors
+    /// There is none.
+    pub(crate) fn identifier_of(&self, index: usize) -> Result<(Identifier, Option<Span>)> {
+        match self.node(index)? {
+            Node::Identifier(identifier, arguments) => Ok((identifier, arguments)),
+            _ => Err(Stop::Undecorated),
+        }
+    }
+
+    /// The symbol of an index, and its name.
+    ///
+    /// # Errors
+    /// There is none.
+    pub(crate) fn symbol_of(&self, index: usize) -> Result<(Symbol, Option<usize>)> {
+        match self.node(index)? {
+            Node::Symbol(symbol, name) => Ok((symbol, name)),
+            _ => Err(Stop::Undecorated),
+        }
+    }
+
+    /// The index of the node at a place of a list, counted from 0.
+    ///
+    /// # Errors
+    /// The list has no such place.
+    pub(crate) fn item(&self, list: Span, place: usize) -> Result<usize> {
+        let Some(index) = list.start.checked_add(place) else {
+            return Err(Stop::Undecorated);
+        };
+        if place >= list.count {
+            return Err(Stop::Undecorated);
+        }
+        match self.lists.get(index) {
+            Some(node) => Ok(*node),
+            None => Err(Stop::Undecorated),
+        }
+    }
+
+    /// The index of the last node of a list but for `after`.
+    ///
+    /// # Errors
+    /// The list has no such place.
+    pub(crate) fn item_before(&self, list: Span, after: usize) -> Result<usize> {
+        let Some(place) = list.count.checked_sub(after) else {
+            return Err(Stop::Undecorated);
+        };
+        let Some(place) = place.checked_sub(1) else {
+            return Err(Stop::Undecorated);
+        };
+        self.item(list, place)
+    }
+
+    /// Adds a list.
+    ///
+    /// # Errors
+    /// Memory ran out.
+    pub(crate) fn add_list(&mut self, indices: &[usize]) -> Result<Span> {
+        let start = self.lists.len();
+        self.lists.extend_from_slice(indices)?;
+        Ok(Span {
+            start,
+            count: indices.len(),
+        })
+    }
+
+    /// Adds a list that has these nodes the other way round.
+    ///
+    /// # Errors
+    /// Memory ran out.
+    pub(crate) fn add_reversed(&mut self, indices: &[usize]) -> Result<Span> {
+        let start = self.lists.len();
+        for index in indices.iter().rev() {
+            self.lists.push(*index)?;
+        }
+        Ok(Span {
+            start,
+            count: indices.len(),
+        })
+    }
+
+    /// The bytes of a text.
+    ///
+    /// # Errors
+    /// There are none.
+    pub(crate) fn text(&self, span: Span) -> Result<&[u8]> {
+        let Some(end) = span.start.checked_add(span.count) else {
+            return Err(Stop::Undecorated);
+        };
+        match self.texts.get(span.start..end) {
+            Some(bytes) => Ok(bytes),
+            None => Err(Stop::Undecorated),
+        }
+    }
+
+    /// Adds a text.
+    ///
+    /// # Errors
+    /// Memory ran out.
+    pub(crate) fn add_text(&mut self, bytes: &[u8]) -> Result<Span> {
+        let start = self.texts.len();
+        self.texts.extend_from_slice(bytes)?;
+        Ok(Span {
+            start,
+            count: bytes.len(),
+        })
+    }
+}
