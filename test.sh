@@ -24,6 +24,7 @@ count tests/manual.sh
 count tests/llvm_symbolizer.sh
 count python3 tests/stack.py
 count python3 tests/costly_files.py
+count python3 tests/undecorated.py
 count tests/version.sh
 count tests/teeth.sh
 count python3 tests/edits_apply.py

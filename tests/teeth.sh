@@ -66,6 +66,7 @@ over_nothing manual.sh
 over_nothing llvm_symbolizer.sh llvm
 over_nothing stack.py
 over_nothing costly_files.py
+over_nothing undecorated.py
 over_nothing version.sh
 over_nothing fuzz.sh 20
 for script in $(cd tests && grep -l -- --built *.sh *.py */*.py); do
