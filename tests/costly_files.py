@@ -6,7 +6,8 @@
 FILE is where pdb_symbolizer lies, with NAME in it for its name; if left out, the proved one is run.
 bench/costs.py makes the files and measures. Modules whose streams list the same pages have to stay
 within what loading and caching may take, calls whose pages are listed over and over within what
-rows may, and rows whose files have one long path within 60 processor seconds. The whole report has
+rows may, and rows whose files have one long path within 60 processor seconds. A stream that many
+modules share is copied once. The whole report has
 to come, and no error output. Of a file in which one module lists its pages more often, that module
 has to be refused, and the one before it answered. The last line is `N passed, M failed`."""
 import sys
@@ -48,11 +49,20 @@ def calls_answered(size, addresses):
     return "0x00001014\n" + "  g() at ??:3 @0x00001014+2\n" * calls + "  f at ??:?? @??\n"
 
 
+def procedures_answered(size, addresses):
+    """The counts of a file of modules that share a stream: its procedure lies in the first one, and
+    of the others nothing is known but that they hold 16 bytes each."""
+    known = f"0x{addresses[0]:08x} 16 {'p' * 17}\n"
+    unknown = "".join(f"0x{it:08x} 16 ??\n" for it in addresses[1:])
+    return known + unknown + f"none {0xFFFFFFFF - 16 * len(addresses)}\n"
+
+
 CASES = [
     (costs.streams_in_one_piece, 2_000_000, modules_answered, to_load_and_cache),
     (costs.paths_of_rows, 10_000_000, paths_answered, to_load_and_cache),
     (costs.calls_of_same_pages, 120_000, calls_answered, for_rows),
     (costs.unasked_module, 60_000, modules_answered, to_load_and_cache),
+    (costs.procedures_of_same_pages, 120_000, procedures_answered, to_load_and_cache),
 ]
 
 
