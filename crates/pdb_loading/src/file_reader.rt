@@ -98,8 +98,8 @@ impl<'s> FileReader<'s> {
         }
     }
 
-    /// A module's own stream, or why it can't be read, within these limits. `OutOfMemory` alone, and
-    /// then they stay as they are.
+    /// A module's own stream, or why it can't be read, within these limits. `OutOfMemory` alone,
+    /// and then they stay as they are.
     #[tactic(auto, using(crate::proofs::FileSteps::info_given, crate::proofs::FileSteps::info_read, crate::proofs::OpenFiles::module_fails))]
     fn read_within(&self, left: &mut CopyLimits, parts: ModuleParts) -> Result<KeptInfo<'s>>
         ensures { Gives (λ k. k) ⊥ result (Ok (kept_by self.now parts)) }

@@ -108,7 +108,7 @@ fn read_exports<'p, P: ModuleProvider>(
 /// What the module with that index holds.
 ///
 /// # Errors
-/// `OutOfRangeModuleIndex`, the provider's fault, `ModuleInfoNotFound`.
+/// `OutOfRangeModuleIndex`, the provider's fault, `ModuleInfoNotFound`; `OutOfMemory`.
 #[tactic(auto, using(crate::proofs::ModuleSteps::module_past, crate::proofs::ModuleSteps::module_given, crate::proofs::ModuleSteps::module_missing, crate::proofs::ModuleSteps::module_fails))]
 fn module_info<'p, P: ModuleProvider>(
     provider: &'p P,
@@ -131,7 +131,7 @@ fn module_info<'p, P: ModuleProvider>(
 /// What the module with that index and entry holds, if it has a stream of its own.
 ///
 /// # Errors
-/// The provider's fault.
+/// The provider's fault; `OutOfMemory`.
 #[tactic(auto, using(crate::proofs::Lifting::given_fails))]
 fn info_of<'p, P: ModuleProvider>(
     provider: &'p P,

@@ -80,7 +80,8 @@ impl<'s> ModuleTables for ModuleInfo<'s> {
     }
 }
 
-/// Gives what the modules of a database hold: the same result for the same arguments.
+/// Gives what the modules of a database hold: the same result for the same arguments, unless memory
+/// is short.
 pub trait ModuleProvider {
     /// What a module's own stream holds.
     type Info: ModuleTables;
@@ -93,8 +94,9 @@ pub trait ModuleProvider {
     /// `None` where it has none.
     ///
     /// # Errors
-    /// The fault of the module's stream; never `TypeNotFound`, `UnimplementedTypeKind` or `IoError`.
-    /// A fault that was stored is `Kept`. `OutOfMemory`, where the stream is read at the call.
+    /// The fault of the module's stream; never `TypeNotFound`, `UnimplementedTypeKind` or
+    /// `IoError`. A fault that was stored is `Kept`. `OutOfMemory`, where the stream is read at the
+    /// call.
     fn get_module_info(
         &self,
         module_index: usize,
