@@ -1,15 +1,17 @@
 -- Requests: the lines that bytes end, one byte at a time, and answers to them, one at a time.
-use Rattle.std.proofs.Common.{arith, ◌-◌, length-append, ◌≡◌, ℕ, ◌+◌, ◌<◌, ◌≤◌, List, [], ◌∷◌, ◌++◌, sym, ap, subst, ◌∙◌, append_assoc, append-nil, length, take, drop, get_or, true, Bool, take-append-drop, slice_index_or, slice_set, zero, suc, inl, inr}
-use Rattle.std.specs.Prelude.{Option, Result, Ok, Err, OnErr, OnOk, IfOk, ◌⊎◌}
+use Rattle.std.proofs.Common.{arith, ◌-◌, length-append, ◌≡◌, ℕ, ◌+◌, ◌<◌, ◌≤◌, List, [], ◌∷◌, ◌++◌, sym, ap, subst, ◌∙◌, append_assoc, append-nil, length, length-drop, take, drop, get_or, true, Bool, take-append-drop, slice_index_or, slice_set, zero, suc, inl, inr}
+use Rattle.std.specs.Prelude.{Option, Result, Ok, Err, OnErr, OnOk, IfOk, IfSome, None, Some, ◌⊎◌}
 use Rattle.std.specs.List.{flat_map, slice_range}
 use Rattle.std.specs.Io.KnownBytes.{Appends}
 use Rattle.std.proofs.KnownBytes.{Appends-trans}
 use Rattle.std.proofs.Math.Seq.{drop-append_seam, map-set_same}
 use Rattle.std.proofs.lemmas.Grind.{flat_map-append}
-use Rattle.std.proofs.lemmas.List.{map-append, take_more, take_all, length-set, get_or-set_same, set-get_or}
+use Rattle.std.proofs.lemmas.List.Elements.{All-set, All-weaker}
+use Rattle.std.proofs.lemmas.List.{map-append, take-append-le, drop-append-le, take_more, take_all, length-set, get_or-set_same, set-get_or}
+use Rattle.pdb_engine.specs.declared.requests.Made.{Made}
 use Rattle.pdb_engine.specs.declared.requests.Request.{Request}
 use Rattle.pdb_engine.specs.InputLines.{kept_lines, kept_rest, Begins}
-use Rattle.pdb_engine.specs.Requests.{lines_of, IsMade, HasLast, HaveLast}
+use Rattle.pdb_engine.specs.Requests.{lines_of, IsMade, IsAnswered, AreAnswered, AreUnanswered, HasLast, HaveLast}
 use Rattle.pdb_engine.proofs.LineLemmas.{kept_lines-more}
 
 -- a request takes the place of one of the same line
@@ -31,7 +33,7 @@ between_added : (xs ys : List ℕ) → slice_range (xs ++ ys) (length xs) (lengt
 between_added xs ys = ap (λ l. take (length (xs ++ ys) - length xs) l) (drop-append_seam xs ys) ∙ take_all _ ys (omega (arith, length-append xs ys))
 
 -- a text that is appended to others is made
-pub made_later : (known : Bool) (text : List ℕ → List ℕ) (texts texts' line : List ℕ) → length texts < 8388608 → ((more : List ℕ) × (texts' ≡ texts ++ more)) → (known ≡ true → texts' ≡ texts ++ text line)
+pub made_later : (known : Type 0) (text : List ℕ → List ℕ) (texts texts' line : List ℕ) → length texts < 8388608 → ((more : List ℕ) × (texts' ≡ texts ++ more)) → (known → texts' ≡ texts ++ text line)
     → IsMade known text texts' line record { start = length texts; end = length texts' }
 made_later known text texts texts' line room (more, grown) is = record {
   order = omega (arith, ap length grown, length-append texts more);
@@ -39,6 +41,57 @@ made_later known text texts texts' line room (more, grown) is = record {
   ahead = room;
   is = λ h. ap (λ l. slice_range l (length texts) (length l)) (is h) ∙ between_added texts (text line);
 }
+
+-- what is known of a text holds where less is known
+made_weaker : (known known' : Type 0) (text : List ℕ → List ℕ) (texts line : List ℕ) (made : Made) → (known' → known) → IsMade known text texts line made → IsMade known' text texts line made
+made_weaker known known' text texts line made grows m = record { order = m.order; within = m.within; ahead = m.ahead; is = λ h. m.is (grows h) }
+
+-- ..of one that may have been made
+pub answered_weaker : {L : Type 0} (known known' : Type 0) (view : L → List ℕ) (text : List ℕ → List ℕ) (texts : List ℕ) (r : Request L) → (known' → known) → IsAnswered known view text texts r → IsAnswered known' view text texts r
+answered_weaker known known' view text texts r grows = some r.made
+  where
+    some : (made : Option Made) → IfSome made (IsMade known text texts (view r.line)) → IfSome made (IsMade known' text texts (view r.line))
+    some None h = tt
+    some (Some m) h = made_weaker known known' text texts (view r.line) m grows h
+
+-- One of them at a later state, at which the texts have another name.
+pub answered_now : {L : Type 0} (known known' : Type 0) (view : L → List ℕ) (text text' : List ℕ → List ℕ) (texts : List ℕ) (requests : List (Request L)) (i : ℕ) (r : Request L) → (known' → known) → text' ≡ text → i < length requests → r ≡ get_or requests i r
+    → AreAnswered known view text texts requests → IsAnswered known' view text' texts r
+answered_now known known' view text text' texts requests i r grows same h is all =
+    subst (λ (t : List ℕ → List ℕ). IsAnswered known' view t texts r) (sym same)
+    (answered_weaker known known' view text texts r grows (subst (λ (q : Request _). IsAnswered known view text texts q) (sym is) (all i r h)))
+
+-- where none was made, nothing is to be said of any
+pub none_made : {L : Type 0} (known : Type 0) (view : L → List ℕ) (text : List ℕ → List ℕ) (texts : List ℕ) (requests : List (Request L)) → AreUnanswered requests → AreAnswered known view text texts requests
+none_made known view text texts requests = All-weaker (λ r. r.made ≡ None) (IsAnswered known view text texts) (λ r e. subst (λ (made : Option Made). IfSome made (IsMade known text texts (view r.line))) (sym e) tt) requests
+
+-- what stands between two offsets stays there where more is appended
+between_kept : (xs ys : List ℕ) (from to : ℕ) → from ≤ to → to ≤ length xs → slice_range (xs ++ ys) from to ≡ slice_range xs from to
+between_kept xs ys from to order within =
+    ap (λ l. take (to - from) l) (drop-append-le from xs ys (omega arith)) ∙ take-append-le (to - from) (drop from xs) ys (omega (arith, length-drop from xs))
+
+-- a text stands among more of them
+made_among : (known : Type 0) (text : List ℕ → List ℕ) (texts texts' line : List ℕ) (made : Made) → ((more : List ℕ) × (texts' ≡ texts ++ more)) → IsMade known text texts line made → IsMade known text texts' line made
+made_among known text texts texts' line made (more, grown) m = record {
+  order = m.order;
+  within = omega (arith, m.within, ap length grown, length-append texts more);
+  ahead = m.ahead;
+  is = λ h. ap (λ l. slice_range l made.start made.end) grown ∙ between_kept texts more made.start made.end m.order m.within ∙ m.is h;
+}
+
+answered_among : {L : Type 0} (known : Type 0) (view : L → List ℕ) (text : List ℕ → List ℕ) (texts texts' : List ℕ) (r : Request L) → ((more : List ℕ) × (texts' ≡ texts ++ more)) → IsAnswered known view text texts r → IsAnswered known view text texts' r
+answered_among known view text texts texts' r grown = some r.made
+  where
+    some : (made : Option Made) → IfSome made (IsMade known text texts (view r.line)) → IfSome made (IsMade known text texts' (view r.line))
+    some None h = tt
+    some (Some m) h = made_among known text texts texts' (view r.line) m grown h
+
+-- one more of them was made, or was left, and the others stay
+pub answered_set : {L : Type 0} (known known' : Type 0) (view : L → List ℕ) (text : List ℕ → List ℕ) (texts texts' : List ℕ) (requests : List (Request L)) (i : ℕ) (r : Request L) → (known' → known) → ((more : List ℕ) × (texts' ≡ texts ++ more))
+    → AreAnswered known view text texts requests → IsAnswered known' view text texts' r → AreAnswered known' view text texts' (slice_set requests i r)
+answered_set known known' view text texts texts' requests i r grows grown all one =
+    All-set (IsAnswered known' view text texts') requests i r one
+    (All-weaker (IsAnswered known view text texts) (IsAnswered known' view text texts') (λ q h. answered_among known' view text texts texts' q grown (answered_weaker known known' view text texts q grows h)) requests all)
 
 -- A text was made for the line at i, or nothing changed.
 -- One of these follows from what is known of a call by the room that there was.

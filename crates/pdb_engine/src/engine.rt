@@ -1,6 +1,6 @@
 //! Reads lines, and writes the answer to each.
 
-ghost use Rattle.std.specs.Prelude.{◌≡◌, ℕ, List, OnOk, OnErr, IfOk, IfErr, IfSome, true, [], ◌∷◌};
+ghost use Rattle.std.specs.Prelude.{◌≡◌, ℕ, List, OnOk, OnErr, IfOk, IfErr, IfSome, [], ◌∷◌};
 ghost use Rattle.std.specs.Prelude.{◌++◌, length, ◌<◌, ◌≤◌, take};
 ghost use Rattle.std.specs.List.{flat_map};
 ghost use Rattle.std.specs.Io.KnownBytes.{IsAtEnd};
@@ -51,11 +51,13 @@ pub fn run<A: Answers, R: Read, W: Write>(
     limit: u64,
 ) -> Result<(), InputFault>
     // Every line is answered, and nothing else is written.
-    requires { A.known ≡ true → (line : List ℕ) → A.text answers.old (take A.Start.limit line)
+    requires { A.known answers.old → (line : List ℕ) → A.text answers.old (take A.Start.limit line)
         ≡ A.text answers.old line }
-    ensures ok { A.known ≡ true → OnOk result
+    ensures ok { A.known answers.new → OnOk result
         (IfSome (R.remaining (inner_of reader.old)) (λ input. (length input ≤ limit)
         × Writes W.contents writer.old writer.new (report (A.text answers.old) input))) }
+    // What is known at the end was known at the start.
+    ensures grows { A.known answers.new → A.known answers.old }
     // Running changes no answer.
     ensures same { A.text answers.new ≡ A.text answers.old }
     // No call failed unnoticed, and no fault is made up.
@@ -69,16 +71,16 @@ pub fn run<A: Answers, R: Read, W: Write>(
     ensures ends { IfErr result
         (λ fault. EndsRunning fault reader.old reader.new writer.old writer.new) }
     // The lines that were read whole before a failed read are answered.
-    ensures read_out { A.known ≡ true → IfErr result (λ fault. OnRead fault (λ _.
+    ensures read_out { A.known answers.new → IfErr result (λ fault. OnRead fault (λ _.
         (taken : List ℕ) × Takes R.remaining reader.old reader.new taken
         × Writes W.contents writer.old writer.new
         (report_of_ended (A.text answers.old) taken))) }
-    ensures too_long { A.known ≡ true → IfErr result (λ fault. OnTooLong fault
+    ensures too_long { A.known answers.new → IfErr result (λ fault. OnTooLong fault
         (IfSome (R.remaining (inner_of reader.old)) (λ input. (limit < length input)
         × Writes W.contents writer.old writer.new
         (report_of_ended (A.text answers.old) (take limit input))))) }
     // At each fault a prefix of the report is out.
-    ensures part { A.known ≡ true → OnErr result
+    ensures part { A.known answers.new → OnErr result
         (IfSome (R.remaining (inner_of reader.old)) (λ input.
         WritesFront W.contents writer.old writer.new (report (A.text answers.old) input))) }
 {
@@ -119,7 +121,7 @@ fn pump<A: Answers, R: Read, W: Write>(
     limit: u64,
 ) -> Result<(), InputFault>
     requires { 0 < length buffers.old.chunk.items }
-    ensures ok { A.known ≡ true → OnOk result
+    ensures ok { A.known answers.new → OnOk result
         ((taken : List ℕ) × Takes R.remaining reader.old reader.new taken
         × IsAtEnd (R.remaining (inner_of reader.new)) × (length taken ≤ limit)
         × Writes W.contents writer.old writer.new
@@ -128,22 +130,23 @@ fn pump<A: Answers, R: Read, W: Write>(
         × (A.Start.kept buffers.new.start ≡ kept_rest A.Start.limit
         (A.Start.kept buffers.old.start) taken)) }
     ensures quiet { OnOk result (IsQuiet reader.old reader.new × IsQuiet writer.old writer.new) }
+    ensures grows { A.known answers.new → A.known answers.old }
     ensures same { A.text answers.new ≡ A.text answers.old }
     ensures kind { IfErr result IsOfRunning }
     ensures ends { IfErr result
         (λ fault. EndsRunning fault reader.old reader.new writer.old writer.new) }
-    ensures read_out { A.known ≡ true → IfErr result (λ fault. OnRead fault (λ _.
+    ensures read_out { A.known answers.new → IfErr result (λ fault. OnRead fault (λ _.
         (taken : List ℕ) × Takes R.remaining reader.old reader.new taken
         × Writes W.contents writer.old writer.new
         (flat_map (A.text answers.old) (kept_lines A.Start.limit
         (A.Start.kept buffers.old.start) taken)))) }
-    ensures too_long { A.known ≡ true → IfErr result (λ fault. OnTooLong fault
+    ensures too_long { A.known answers.new → IfErr result (λ fault. OnTooLong fault
         ((taken : List ℕ) × Takes R.remaining reader.old reader.new taken
         × (limit < length taken)
         × Writes W.contents writer.old writer.new
         (flat_map (A.text answers.old) (kept_lines A.Start.limit (A.Start.kept buffers.old.start)
         (take limit taken))))) }
-    ensures part { A.known ≡ true → OnErr result
+    ensures part { A.known answers.new → OnErr result
         ((taken : List ℕ) × Takes R.remaining reader.old reader.new taken
         × WritesFront W.contents writer.old writer.new
         (flat_map (A.text answers.old) (kept_lines A.Start.limit
@@ -176,7 +179,7 @@ fn answer_read<A: Answers, R: Read, W: Write>(
     requires { 0 < length buffers.old.chunk.items }
     ensures room { length buffers.new.chunk.items ≡ length buffers.old.chunk.items }
     // The answers to the lines that end in what was read are out, and the rest of it is stored.
-    ensures ok { A.known ≡ true → IfOk result (λ count.
+    ensures ok { A.known answers.new → IfOk result (λ count.
         (taken : List ℕ) × Takes R.remaining reader.old reader.new taken
         × (length taken ≡ count) × (count ≤ left)
         × Writes W.contents writer.old writer.new
@@ -187,6 +190,7 @@ fn answer_read<A: Answers, R: Read, W: Write>(
     ensures bound { IfOk result (λ count. count ≤ left) }
     ensures end { IfOk result (λ count. count ≡ 0 → IsAtEnd (R.remaining (inner_of reader.new))) }
     ensures quiet { OnOk result (IsQuiet reader.old reader.new × IsQuiet writer.old writer.new) }
+    ensures grows { A.known answers.new → A.known answers.old }
     ensures same { A.text answers.new ≡ A.text answers.old }
     ensures kind { IfErr result IsOfRunning }
     ensures ends { IfErr result
@@ -194,13 +198,13 @@ fn answer_read<A: Answers, R: Read, W: Write>(
     // A read that failed is the only one: nothing was taken before it, and nothing written.
     ensures read_once { IfErr result (λ fault. OnRead fault (λ _.
         Takes R.remaining reader.old reader.new [] × (writer.new ≡ writer.old))) }
-    ensures too_long { A.known ≡ true → IfErr result (λ fault. OnTooLong fault
+    ensures too_long { A.known answers.new → IfErr result (λ fault. OnTooLong fault
         ((taken : List ℕ) × Takes R.remaining reader.old reader.new taken
         × (left < length taken)
         × Writes W.contents writer.old writer.new
         (flat_map (A.text answers.old) (kept_lines A.Start.limit (A.Start.kept buffers.old.start)
         (take left taken))))) }
-    ensures part { A.known ≡ true → OnErr result
+    ensures part { A.known answers.new → OnErr result
         ((taken : List ℕ) × Takes R.remaining reader.old reader.new taken
         × WritesFront W.contents writer.old writer.new
         (flat_map (A.text answers.old) (kept_lines A.Start.limit
@@ -242,22 +246,24 @@ fn feed<A: Answers, W: Write>(
     texts: &mut Vec<u8>,
     bytes: &[u8],
 ) -> Result<(), InputFault>
-    ensures ok { A.known ≡ true → OnOk result
+    ensures ok { A.known answers.new → OnOk result
         (Writes W.contents writer.old writer.new (flat_map (A.text answers.old)
         (kept_lines A.Start.limit (A.Start.kept start.old) bytes.now))) }
     ensures rest { OnOk result (A.Start.kept start.new ≡ kept_rest A.Start.limit
         (A.Start.kept start.old) bytes.now) }
+    ensures grows { A.known answers.new → A.known answers.old }
     ensures same { A.text answers.new ≡ A.text answers.old }
     ensures quiet { OnOk result (IsQuiet writer.old writer.new) }
     ensures kind { IfErr result IsOfWriting }
     ensures ends { IfErr result (λ fault. EndsWriting fault writer.old writer.new) }
-    ensures part { A.known ≡ true → OnErr result
+    ensures part { A.known answers.new → OnErr result
         (WritesFront W.contents writer.old writer.new (flat_map
         (A.text answers.old) (kept_lines A.Start.limit (A.Start.kept start.old) bytes.now))) }
 {
     let Ok(mut requests) = split(alloc, start, bytes) else {
         return Err(InputFault::OutOfMemory);
     };
+    answers.prepare(alloc, &requests);
     let Ok(()) = answer_ahead(alloc, answers, &mut requests, texts) else {
         return Err(InputFault::OutOfMemory);
     };
@@ -275,15 +281,17 @@ fn write_answers<A: Answers, W: Write>(
     requests: &[Request<A::Start>],
     texts: &[u8],
 ) -> Result<(), InputFault>
-    requires { AreAnswered A.known A.Start.kept (A.text answers.old) texts.now requests.now }
-    ensures ok { A.known ≡ true → OnOk result
+    requires { AreAnswered (A.known answers.old) A.Start.kept
+        (A.text answers.old) texts.now requests.now }
+    ensures ok { A.known answers.new → OnOk result
         (Writes W.contents writer.old writer.new (flat_map (A.text answers.old)
         (lines_of A.Start.kept requests.now))) }
+    ensures grows { A.known answers.new → A.known answers.old }
     ensures same { A.text answers.new ≡ A.text answers.old }
     ensures quiet { OnOk result (IsQuiet writer.old writer.new) }
     ensures kind { IfErr result IsOfWriting }
     ensures ends { IfErr result (λ fault. EndsWriting fault writer.old writer.new) }
-    ensures part { A.known ≡ true → OnErr result
+    ensures part { A.known answers.new → OnErr result
         (WritesFront W.contents writer.old writer.new (flat_map
         (A.text answers.old) (lines_of A.Start.kept requests.now))) }
 {
@@ -306,17 +314,19 @@ fn gather_answer<A: Answers, W: Write>(
     request: &Request<A::Start>,
     texts: &[u8],
 ) -> Result<(), InputFault>
-    requires { IsAnswered A.known A.Start.kept (A.text answers.old) texts.now request.now }
-    ensures ok { A.known ≡ true → OnOk result
+    requires { IsAnswered (A.known answers.old) A.Start.kept
+        (A.text answers.old) texts.now request.now }
+    ensures ok { A.known answers.new → OnOk result
         (WritesAllBut W.contents writer.old writer.new pending.new.items
         (pending.old.items ++ A.text answers.old (A.Start.kept request.now.line))) }
     // The pending text stays short.
     ensures short { OnOk result (length pending.new.items < 65536) }
+    ensures grows { A.known answers.new → A.known answers.old }
     ensures same { A.text answers.new ≡ A.text answers.old }
     ensures quiet { OnOk result (IsQuiet writer.old writer.new) }
     ensures kind { IfErr result IsOfWriting }
     ensures ends { IfErr result (λ fault. EndsWriting fault writer.old writer.new) }
-    ensures part { A.known ≡ true → OnErr result
+    ensures part { A.known answers.new → OnErr result
         (WritesFront W.contents writer.old writer.new (pending.old.items
         ++ A.text answers.old (A.Start.kept request.now.line))) }
 {
@@ -378,13 +388,14 @@ fn answer_line<A: Answers, W: Write>(
     writer: &mut Watched<W>,
     line: &[u8],
 ) -> Result<(), InputFault>
-    ensures ok { A.known ≡ true → OnOk result
+    ensures ok { A.known answers.new → OnOk result
         (Writes W.contents writer.old writer.new (A.text answers.old line.now)) }
+    ensures grows { A.known answers.new → A.known answers.old }
     ensures same { A.text answers.new ≡ A.text answers.old }
     ensures quiet { OnOk result (IsQuiet writer.old writer.new) }
     ensures kind { IfErr result IsOfWriting }
     ensures ends { IfErr result (λ fault. EndsWriting fault writer.old writer.new) }
-    ensures part { A.known ≡ true → OnErr result
+    ensures part { A.known answers.new → OnErr result
         (WritesFront W.contents writer.old writer.new (A.text answers.old line.now)) }
 {
     let mut text = Vec::new(alloc);

@@ -18,4 +18,5 @@ pub use engine::{run, write_all};
 pub use fault::{InputFault, write_fault};
 pub use line_start::{AddressStart, LineStart, LongStart};
 pub use output::ErrorOutput;
+pub use requests::Request;
 pub use watched::Watched;

@@ -1,9 +1,10 @@
 //! The lines that a read ends. Their answers are made in the order of the lines' places.
 
-ghost use Rattle.std.specs.Prelude.{◌≡◌, ◌++◌, [], ◌∷◌, ℕ, ◌<◌, ◌≤◌, Bool, true, false, List};
+ghost use Rattle.std.specs.Prelude.{◌≡◌, ◌++◌, [], ◌∷◌, ℕ, ◌<◌, ◌≤◌, true, false, List};
 ghost use Rattle.std.specs.Prelude.{length, Ok, OnOk, OnErr, IfOk};
 ghost use Rattle.pdb_engine.specs.InputLines.{kept_lines, kept_rest};
-ghost use Rattle.pdb_engine.specs.Requests.{lines_of, AreAnswered, IsAnswered, HasLast, HaveLast};
+ghost use Rattle.pdb_engine.specs.Requests.{lines_of, AreAnswered, IsAnswered, AreUnanswered};
+ghost use Rattle.pdb_engine.specs.Requests.{HasLast, HaveLast};
 
 use crate::answers::Answers;
 use crate::line_start::LineStart;
@@ -16,16 +17,18 @@ const AHEAD_SIZE: usize = 8_388_608;
 /// Where the answer to a line stands among texts that were made, as offsets in bytes: from `start`
 /// on, and before `end`.
 #[derive(Clone, Copy)]
-pub struct Made {
-    pub start: usize,
-    pub end: usize,
+struct Made {
+    start: usize,
+    end: usize,
 }
 
-/// A line, and where its answer stands, if that was made before its turn to be written.
+/// A line that is to be answered.
 #[derive(Drop)]
 pub struct Request<L: LineStart> {
+    /// The start of the line, which decides its answer.
     pub line: L,
-    pub made: Option<Made>,
+    /// Where its answer stands, if that was made before its turn to be written.
+    made: Option<Made>,
 }
 
 /// Removes all bytes. Their room is given back if there are at least `long` of them.
@@ -57,9 +60,8 @@ fn split_byte<L: LineStart>(
         ≡ lines_of L.kept requests.old.items ++ kept_lines L.limit (L.kept start.old) (byte ∷ [])) }
     ensures rest { OnOk result (L.kept start.new
         ≡ kept_rest L.limit (L.kept start.old) (byte ∷ [])) }
-    ensures unanswered { (known : Bool) (text : List ℕ → List ℕ) (texts : List ℕ)
-        → AreAnswered known L.kept text texts requests.old.items
-        → OnOk result (AreAnswered known L.kept text texts requests.new.items) }
+    ensures unanswered { AreUnanswered requests.old.items
+        → OnOk result (AreUnanswered requests.new.items) }
 {
     if byte != b'\n' {
         return start.push(byte);
@@ -83,8 +85,7 @@ pub fn split<L: LineStart>(
         ≡ kept_lines L.limit (L.kept start.old) bytes.now) }
     ensures rest { OnOk result (L.kept start.new
         ≡ kept_rest L.limit (L.kept start.old) bytes.now) }
-    ensures unanswered { (known : Bool) (text : List ℕ → List ℕ) (texts : List ℕ)
-        → IfOk result (λ requests. AreAnswered known L.kept text texts requests.items) }
+    ensures unanswered { IfOk result (λ requests. AreUnanswered requests.items) }
 {
     let mut requests = Vec::new(alloc);
     for byte in bytes {
@@ -109,16 +110,17 @@ fn turns<A: Answers>(
 
 /// Makes the answer to a line before its turn to be written, and appends it to other texts. If
 /// these are long, it makes none and returns `false`.
-#[tactic(auto, using(crate::proofs::RequestSteps::made_later))]
+#[tactic(auto, using(crate::proofs::RequestSteps::made_later, crate::proofs::RequestSteps::answered_weaker))]
 fn answer_request<A: Answers>(
     alloc: Global,
     answers: &mut A,
     request: &mut Request<A::Start>,
     texts: &mut Vec<u8>,
 ) -> Result<bool, AllocError>
-    requires { IsAnswered A.known A.Start.kept (A.text answers.old) texts.old.items request.old }
+    requires { IsAnswered (A.known answers.old) A.Start.kept
+        (A.text answers.old) texts.old.items request.old }
     ensures line { request.new.line ≡ request.old.line }
-    ensures answered { IsAnswered A.known A.Start.kept
+    ensures answered { IsAnswered (A.known answers.new) A.Start.kept
         (A.text answers.old) texts.new.items request.new }
     ensures grown { (more : List ℕ) × (texts.new.items ≡ texts.old.items ++ more) }
     // Where less than 8 MB of texts stand, one more is made and noted.
@@ -130,6 +132,7 @@ fn answer_request<A: Answers>(
         × (request.new ≡ request.old) }
     ensures refused { OnErr result
         ((texts.new.items ≡ texts.old.items) × (request.new ≡ request.old)) }
+    ensures grows { A.known answers.new → A.known answers.old }
     ensures same { A.text answers.new ≡ A.text answers.old }
 {
     let start = texts.len();
@@ -151,15 +154,16 @@ fn answer_numbered<A: Answers>(
     index: usize,
     texts: &mut Vec<u8>,
 ) -> Result<bool, AllocError>
-    requires { AreAnswered A.known A.Start.kept
+    requires { AreAnswered (A.known answers.old) A.Start.kept
         (A.text answers.old) texts.old.items requests.old.items }
     ensures lines { lines_of A.Start.kept requests.new.items
         ≡ lines_of A.Start.kept requests.old.items }
-    ensures answered { AreAnswered A.known A.Start.kept
+    ensures answered { AreAnswered (A.known answers.new) A.Start.kept
         (A.text answers.old) texts.new.items requests.new.items }
     // No text is made but those that are noted, of which each begins in the first 8 MB.
     ensures last { HaveLast texts.old.items requests.old.items
         → HaveLast texts.new.items requests.new.items }
+    ensures grows { A.known answers.new → A.known answers.old }
     ensures same { A.text answers.new ≡ A.text answers.old }
 {
     match requests.get_mut(index) {
@@ -176,15 +180,16 @@ fn answer_in_turn<A: Answers>(
     turns: &[Turn],
     texts: &mut Vec<u8>,
 ) -> Result<(), AllocError>
-    requires { AreAnswered A.known A.Start.kept
+    requires { AreAnswered (A.known answers.old) A.Start.kept
         (A.text answers.old) texts.old.items requests.old.items }
     ensures lines { lines_of A.Start.kept requests.new.items
         ≡ lines_of A.Start.kept requests.old.items }
-    ensures answered { AreAnswered A.known A.Start.kept
+    ensures answered { AreAnswered (A.known answers.new) A.Start.kept
         (A.text answers.old) texts.new.items requests.new.items }
     // No text is made but those that are noted, of which each begins in the first 8 MB.
     ensures last { HaveLast texts.old.items requests.old.items
         → HaveLast texts.new.items requests.new.items }
+    ensures grows { A.known answers.new → A.known answers.old }
     ensures same { A.text answers.new ≡ A.text answers.old }
 {
     for turn in turns {
@@ -200,20 +205,21 @@ fn answer_in_turn<A: Answers>(
 ///
 /// # Errors
 /// `AllocError` when memory runs out; some answers are made then.
+#[tactic(auto, using(crate::proofs::RequestSteps::none_made))]
 pub fn answer_ahead<A: Answers>(
     alloc: Global,
     answers: &mut A,
     requests: &mut Vec<Request<A::Start>>,
     texts: &mut Vec<u8>,
 ) -> Result<(), AllocError>
-    requires { (made : List ℕ) → AreAnswered A.known A.Start.kept
-        (A.text answers.old) made requests.old.items }
+    requires { AreUnanswered requests.old.items }
     ensures lines { lines_of A.Start.kept requests.new.items
         ≡ lines_of A.Start.kept requests.old.items }
-    ensures answered { AreAnswered A.known A.Start.kept
+    ensures answered { AreAnswered (A.known answers.new) A.Start.kept
         (A.text answers.old) texts.new.items requests.new.items }
     // No text is made but those that are noted, of which each begins in the first 8 MB.
     ensures last { HaveLast texts.new.items requests.new.items }
+    ensures grows { A.known answers.new → A.known answers.old }
     ensures same { A.text answers.new ≡ A.text answers.old }
 {
     clear_room(alloc, texts, AHEAD_SIZE);
@@ -236,13 +242,15 @@ pub fn append_answer<A: Answers>(
     texts: &[u8],
     output: &mut Vec<u8>,
 ) -> Result<(), AllocError>
-    requires { IsAnswered A.known A.Start.kept (A.text answers.old) texts.now request.now }
+    requires { IsAnswered (A.known answers.old) A.Start.kept
+        (A.text answers.old) texts.now request.now }
     ensures appended { OnOk result ((more : List ℕ)
         × (output.new.items ≡ output.old.items ++ more)) }
-    ensures text { A.known ≡ true → OnOk result
+    ensures text { A.known answers.new → OnOk result
         (output.new.items ≡ output.old.items ++ A.text answers.old
         (A.Start.kept request.now.line)) }
     ensures refused { OnErr result (output.new.items ≡ output.old.items) }
+    ensures grows { A.known answers.new → A.known answers.old }
     ensures same { A.text answers.new ≡ A.text answers.old }
 {
     match request.made {

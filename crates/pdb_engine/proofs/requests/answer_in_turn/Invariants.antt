@@ -9,7 +9,8 @@ invariant-loop-turn g l =
     let kept = g.A.Start.LineStart.kept in
     record {
       lines : lines_of kept l.requests.items ≡ lines_of kept l.fn.requests.items;
-      answered : AreAnswered g.A.Answers.known kept (text l.fn.answers) l.texts.items l.requests.items;
+      answered : AreAnswered (g.A.Answers.known l.answers) kept (text l.fn.answers) l.texts.items l.requests.items;
       last : HaveLast l.fn.texts.items l.fn.requests.items → HaveLast l.texts.items l.requests.items;
+      grows : g.A.Answers.known l.answers → g.A.Answers.known l.fn.answers;
       same : text l.answers ≡ text l.fn.answers;
     }
