@@ -1,6 +1,6 @@
 //! The lines of standard input, and the addresses among the arguments.
 
-ghost use Rattle.std.specs.Prelude.{false, []};
+ghost use Rattle.std.specs.Prelude.{[]};
 
 use crate::arguments::Arguments;
 use crate::files::AskedFiles;
@@ -25,7 +25,7 @@ impl<'a, S: Files + Eprint + AllocGlobal> Answers for RequestAnswers<'a, S> {
     type Start = LongStart;
 
     // A line may name a file that is opened for it.
-    ghost known = { false };
+    ghost known = { λ _. ⊥ };
 
     ghost text = { λ _ _. [] };
 

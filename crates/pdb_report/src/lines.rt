@@ -85,11 +85,10 @@ pub struct LineAnswers<'a, 's, P: ModuleProvider> {
 impl<'a, 's, P: ModuleProvider> Answers for LineAnswers<'a, 's, P> {
     type Start = AddressStart;
 
-    ghost use Rattle.std.specs.Prelude.{true};
     ghost use Rattle.pdb_report_texts.specs.AddressText.{line_text};
     ghost use Rattle.pdb_report.specs.Answer.{answer_of};
 
-    ghost known = { true };
+    ghost known = { λ _. Unit {0} };
 
     ghost text = { λ answers line. line_text (answer_of P.provided answers.context) line };
 

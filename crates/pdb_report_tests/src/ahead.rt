@@ -16,9 +16,9 @@ struct Numbered {
 impl Answers for Numbered {
     type Start = AddressStart;
 
-    ghost use Rattle.std.specs.Prelude.{false, []};
+    ghost use Rattle.std.specs.Prelude.{[]};
 
-    ghost known = { false };
+    ghost known = { λ _. ⊥ };
 
     ghost text = { λ _ _. [] };
 
