@@ -4,6 +4,7 @@ pub mod HeldSteps
 pub mod KeptSteps
 pub mod Lifting
 pub mod LoadingSteps
+pub mod OnDemand
 pub mod OpenFiles
 pub mod SharedStreams
 pub mod StreamsRead

@@ -1,3 +1,4 @@
+pub mod FileFaults
 pub mod FileModules
 pub mod FileRead
 pub mod Held

@@ -1,6 +1,6 @@
 //! The modules of a file, each read when it is first asked for, and then stored.
 
-ghost use Rattle.std.specs.Prelude.{◌≡◌, IfOk, IsOkUnless, None, Ok, option_map, slice_get};
+ghost use Rattle.std.specs.Prelude.{◌≡◌, length, IfOk, IsOkUnless, None, Ok, option_map, slice_get};
 ghost use Rattle.std.specs.List.{All};
 ghost use Rattle.pdb_container.specs.Fault.{Gives};
 ghost use Rattle.pdb_loading.specs.FileModules.{entry_of, kept_by, kept_by_tag, kept_in};
@@ -13,11 +13,13 @@ use crate::file_reader::{FileReader, ModuleParts};
 use crate::module_infos::KeptInfo;
 use boxcar::slot::{OnceSlot, SlotRule};
 use boxcar::tag::{Names, Tag};
-use pdb_container::{BoundedBytes, Error, Result};
+use pdb_container::{Error, Result};
+use pdb_file_views::FileSource;
 use pdb_symbols_modules::{Module, PDB};
 use std::alloc::Global;
 use std::collections::BTreeMap;
 use std::marker::Model;
+use std::ops::Range;
 
 /// What a slot of a module stores: what its file has of the module.
 pub struct OfFile;
@@ -30,7 +32,7 @@ impl<'s> SlotRule<KeptInfo<'s>> for OfFile {
 #[derive(Drop)]
 struct TaggedModule<'f> {
     parts: ModuleParts,
-    file: &'f BoundedBytes,
+    file: &'f FileSource,
 }
 
 impl<'f> Names<TaggedModule<'f>> for OfFile {
@@ -74,7 +76,7 @@ impl<'s> FileModules<'s> {
     /// `OutOfMemory`.
     pub fn new(
         alloc: Global,
-        pdb: PDB<'s, BoundedBytes>,
+        pdb: PDB<'s, FileSource>,
         entries: &[Module<'_>],
     ) -> Result<FileModules<'s>>
         requires { (streams pdb).open_fault ≡ None }
@@ -97,10 +99,26 @@ impl<'s> FileModules<'s> {
     }
 }
 
+impl<'s> FileModules<'s> {
+    /// How many modules there are.
+    pub fn len(&self) -> usize
+        ensures { result ≡ length self.now }
+    {
+        self.slots.len()
+    }
+
+    /// Asks for the modules with these indices, and answers nothing.
+    pub fn ask(&self, numbers: Range<usize>) {
+        for number in numbers {
+            let _ = self.get(number);
+        }
+    }
+}
+
 /// A slot for each module of a file, in which nothing is stored yet.
 fn empty_slots<'s>(
     alloc: Global,
-    file: &BoundedBytes,
+    file: &FileSource,
     entries: &[Module<'_>],
 ) -> Result<Vec<ModuleSlot<'s>>>
     ensures slots { IfOk result (λ v. All (IsOfFile file.now) v.items
@@ -129,7 +147,7 @@ fn first_with(firsts: &mut BTreeMap<u16, usize>, stream: u16, index: usize) -> R
 }
 
 /// The slot of a module of a file, in which nothing is stored yet.
-fn slot_of<'s>(file: &BoundedBytes, parts: ModuleParts, first: usize) -> ModuleSlot<'s>
+fn slot_of<'s>(file: &FileSource, parts: ModuleParts, first: usize) -> ModuleSlot<'s>
     ensures of { IsOfFile file.now result }
     ensures parts { result.parts ≡ parts }
 {

@@ -8,7 +8,8 @@ ghost use Rattle.pdb_symbols_modules.specs.DatabaseCalls.{module_info};
 ghost use Rattle.pdb_symbols_modules.specs.Streams.{streams};
 
 use crate::module_infos::{KeptInfo, keep};
-use pdb_container::{BoundedBytes, CopyLimits, Result, Source};
+use pdb_container::{Result, Source};
+use pdb_file_views::{FileLimits, FileSource};
 use pdb_symbols_modules::{Module, ModuleInfo, PDB, StreamIndex};
 use std::alloc::Global;
 use std::marker::Model;
@@ -43,11 +44,11 @@ impl ModuleParts {
 #[derive(Drop)]
 pub struct FileReader<'s> {
     alloc: Global,
-    pdb: PDB<'s, BoundedBytes>,
+    pdb: PDB<'s, FileSource>,
     /// How many bytes might be copied and listed when the reader was made.
-    whole: CopyLimits,
+    whole: FileLimits,
     /// How many more may be.
-    left: Mutex<CopyLimits>,
+    left: Mutex<FileLimits>,
 }
 
 impl<'s> Model for FileReader<'s> {
@@ -63,7 +64,7 @@ impl<'s> Model for FileReader<'s> {
 
 impl<'s> FileReader<'s> {
     /// A reader of a file that is open.
-    pub fn new(alloc: Global, pdb: PDB<'s, BoundedBytes>) -> FileReader<'s>
+    pub fn new(alloc: Global, pdb: PDB<'s, FileSource>) -> FileReader<'s>
         requires { (streams pdb).open_fault ≡ None }
         ensures { result ≡ pdb.entry }
     {
@@ -77,7 +78,7 @@ impl<'s> FileReader<'s> {
     }
 
     /// The file's bytes.
-    pub fn source(&self) -> &BoundedBytes
+    pub fn source(&self) -> &FileSource
         ensures { result.now ≡ self.now }
     {
         self.pdb.source()
@@ -101,7 +102,7 @@ impl<'s> FileReader<'s> {
     /// A module's own stream, or why it can't be read, within these limits. `OutOfMemory` alone,
     /// and then they stay as they are.
     #[tactic(auto, using(crate::proofs::FileSteps::info_given, crate::proofs::FileSteps::info_read, crate::proofs::OpenFiles::module_fails))]
-    fn read_within(&self, left: &mut CopyLimits, parts: ModuleParts) -> Result<KeptInfo<'s>>
+    fn read_within(&self, left: &mut FileLimits, parts: ModuleParts) -> Result<KeptInfo<'s>>
         ensures { Gives (λ k. k) ⊥ result (Ok (kept_by self.now parts)) }
     {
         let mut source = self.pdb.source().share(*left)?;

@@ -17,7 +17,8 @@ use crate::file_modules::FileModules;
 use crate::module_infos::{KeptModules, collect_modules, read_module_infos};
 use crate::tables::{Tables, read_names, read_tables};
 use pdb_choice::ContextParts;
-use pdb_container::{BoundedBytes, Result, Source, StringTable};
+use pdb_container::{Result, Source, StringTable};
+use pdb_file_views::FileSource;
 use pdb_resolving::Error;
 use pdb_symbols_modules::{DebugInformation, PDB};
 use std::alloc::Global;
@@ -129,7 +130,7 @@ pub fn read_database<'s, S: Source + Drop>(
 #[tactic(auto, using(crate::proofs::HeldSteps::list_ends, crate::proofs::HeldSteps::own_listed))]
 pub fn hold_after_tables<'s>(
     alloc: Global,
-    pdb: PDB<'s, BoundedBytes>,
+    pdb: PDB<'s, FileSource>,
     debug_information: DebugInformation<'s>,
     tables: Tables<'s>,
 ) -> Result<HeldDatabase<'s>>
@@ -155,7 +156,7 @@ pub fn hold_after_tables<'s>(
 #[tactic(auto, using(crate::proofs::OpenFiles::open_where_read, crate::proofs::HeldSteps::list_there))]
 fn names_and_modules<'s>(
     alloc: Global,
-    mut pdb: PDB<'s, BoundedBytes>,
+    mut pdb: PDB<'s, FileSource>,
     debug_information: &DebugInformation<'_>,
 ) -> Result<(Option<StringTable<'s>>, KeptModules<'s>)>
     requires { read_dbi (shared (streams pdb)) ≡ Ok debug_information.now }
@@ -178,7 +179,7 @@ fn names_and_modules<'s>(
 /// # Errors
 /// As [`read_database`].
 #[tactic(auto, unfolding(crate::specs::Loading::database_read))]
-pub fn hold_database<'s>(alloc: Global, mut pdb: PDB<'s, BoundedBytes>) -> Result<HeldDatabase<'s>>
+pub fn hold_database<'s>(alloc: Global, mut pdb: PDB<'s, FileSource>) -> Result<HeldDatabase<'s>>
     ensures loads { Gives read_in (HasRisen 0 0) result
         (database_read (shared (streams pdb.entry))) }
     ensures own { IfOk result (λ d. IsOwn (streams pdb.entry) (HasRisen 0 0) d) }

@@ -11,6 +11,7 @@ mod held_database;
 mod load_fault;
 mod loading;
 mod module_infos;
+mod on_demand;
 mod tables;
 
 pub use file_modules::FileModules;
@@ -19,4 +20,5 @@ pub use held_database::{HeldDatabase, hold_database, read_database};
 pub use load_fault::{LoadFault, plain_name};
 pub use loading::{LoadedFile, load_file};
 pub use module_infos::{KeptModules, collect_modules};
+pub use on_demand::{FileFault, LoadedViews, load_on_demand, modules_of_views};
 pub use tables::{Tables, read_tables};

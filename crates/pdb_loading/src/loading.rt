@@ -14,19 +14,19 @@ use crate::held_database::{HeldDatabase, hold_after_tables};
 use crate::load_fault::LoadFault;
 use crate::tables::{Tables, read_tables};
 use pdb_addresses::AddressMap;
-use pdb_container::{BoundedBytes, SharedBytes};
+use pdb_file_views::FileSource;
 use pdb_symbols_modules::{DebugInformation, PDB};
 use std::alloc::Global;
 use std::marker::Model;
 
 /// An open program database over a file's bytes.
-type FileDatabase = PDB<'static, BoundedBytes>;
+type FileDatabase = PDB<'static, FileSource>;
 
 /// A file that was loaded: its bytes, and what is held of its database. Its value in contracts is
 /// the file's bytes.
 pub struct LoadedFile {
     /// The file's bytes.
-    pub file: SharedBytes,
+    pub file: FileSource,
     /// What contexts are made of.
     pub held: HeldDatabase<'static>,
 }
@@ -52,7 +52,7 @@ impl Drop for LoadedFile {
 
 impl LoadedFile {
     /// The file's bytes, and what is held of its database.
-    pub fn into_parts(self) -> (SharedBytes, HeldDatabase<'static>)
+    pub fn into_parts(self) -> (FileSource, HeldDatabase<'static>)
         ensures file { result.0 ≡ self }
         ensures held { IsLoadedFrom result.0 result.1 }
     {
@@ -105,12 +105,12 @@ fn read_held(alloc: Global, mut pdb: FileDatabase) -> Result<HeldDatabase<'stati
 }
 
 /// Opens the program database of a file's bytes, which are shared.
-fn open_file(alloc: Global, file: &SharedBytes) -> Result<FileDatabase, LoadFault>
+fn open_file(alloc: Global, file: &FileSource) -> Result<FileDatabase, LoadFault>
     ensures ok { IfOk result (λ p. (p ≡ file.now) × ((streams file.now).open_fault ≡ None)) }
     ensures refused { IfErr result (λ e. Refuses e (load_fault (streams file.now))) }
 {
-    let bytes = BoundedBytes::new(file.share()?);
-    Ok(PDB::open(alloc, bytes)?)
+    let file = file.share(file.limits())?;
+    Ok(PDB::open(alloc, file)?)
 }
 
 /// Opens the program database of a file's bytes and loads it: everything that keeps the file from
@@ -122,7 +122,7 @@ fn open_file(alloc: Global, file: &SharedBytes) -> Result<FileDatabase, LoadFaul
 /// the stream of symbol records, types and ids with their headers; the address tables;
 /// `AddressTableDecreases` where the sources of an OMAP decrease; the module list; the symbol
 /// records to their end; the section contributions. `OutOfMemory`.
-pub fn load_file(alloc: Global, file: SharedBytes) -> Result<LoadedFile, LoadFault>
+pub fn load_file(alloc: Global, file: FileSource) -> Result<LoadedFile, LoadFault>
     ensures ok { IfOk result (λ f. f ≡ file) }
     ensures loaded { OnOk result (load_fault (streams file) ≡ None) }
     ensures refused { IfErr result (λ e. Refuses e (load_fault (streams file))) }

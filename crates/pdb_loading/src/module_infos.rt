@@ -1,6 +1,6 @@
 //! The modules' own streams, each read once and stored with its fault.
 
-ghost use Rattle.std.specs.Prelude.{ℕ, ◌≡◌, ◌≤◌, IfOk, IsOkUnless, Ok, None, option_map};
+ghost use Rattle.std.specs.Prelude.{ℕ, ◌≡◌, ◌≤◌, length, IfOk, IsOkUnless, Ok, None, option_map};
 ghost use Rattle.pdb_loading.specs.Held.{kept_infos};
 ghost use Rattle.pdb_loading.specs.ModuleInfos.{answered_if_listed, kept_info, kept_as};
 ghost use Rattle.pdb_loading.specs.ModuleInfos.{KeepsFrom, KeepsInfo, KeepsInfos};
@@ -21,6 +21,7 @@ use pdb_symbols_modules::{DebugInformation, Module, ModuleInfo, ModuleIter, PDB}
 use std::alloc::Global;
 use std::collections::BTreeMap;
 use std::marker::Model;
+use std::ops::Range;
 
 /// What is stored of a module: its own stream, where it has one, or why that can't be read.
 pub type KeptInfo<'s> = std::result::Result<Option<ModuleInfo<'s>>, ModuleFault>;
@@ -71,6 +72,26 @@ impl<'s> KeptModules<'s> {
         KeptModules {
             modules: ModuleStore::OnDemand(modules),
             database_size,
+        }
+    }
+}
+
+impl<'s> KeptModules<'s> {
+    /// Asks for the modules with these indices, and answers nothing: of a file that is read on
+    /// demand, what they lack is wanted then.
+    pub fn ask(&self, numbers: Range<usize>) {
+        if let ModuleStore::OnDemand(modules) = &self.modules {
+            modules.ask(numbers);
+        }
+    }
+
+    /// How many modules there are.
+    pub fn len(&self) -> usize
+        ensures { result ≡ length self.now }
+    {
+        match &self.modules {
+            ModuleStore::Read(infos) => infos.len(),
+            ModuleStore::OnDemand(modules) => modules.len(),
         }
     }
 }

@@ -11,7 +11,8 @@ ghost use Rattle.pdb_symbols_modules.specs.Streams.{streams};
 
 use pdb_addr2line::{Context, ContextPdbData, KeptModules};
 use pdb_addresses::AddressMap;
-use pdb_container::{BoundedBytes, SharedBytes};
+use pdb_container::SharedBytes;
+use pdb_file_views::FileSource;
 use pdb_loading::{LoadFault, LoadedFile, load_file};
 use std::alloc::Global;
 use std::marker::Model;
@@ -19,8 +20,8 @@ use std::marker::Model;
 /// A symbolizer: a program database that was loaded, with what contexts are made of. Its value in
 /// contracts is the file's bytes.
 pub struct Symbolizer {
-    file: SharedBytes,
-    held: ContextPdbData<'static, 'static, BoundedBytes>,
+    file: FileSource,
+    held: ContextPdbData<'static, 'static, FileSource>,
 }
 
 impl Model for Symbolizer {
@@ -72,7 +73,7 @@ impl Symbolizer {
         let Ok(file) = SharedBytes::new(bytes) else {
             return Err(LoadFault::OutOfMemory);
         };
-        match load_file(alloc, file) {
+        match load_file(alloc, FileSource::whole(file)) {
             Ok(loaded) => Ok(of_loaded(loaded)),
             Err(fault) => Err(fault),
         }

@@ -74,6 +74,7 @@ never_load runs.ReversedRange P h = tt
 never_load (runs.Read kind) P h = tt
 never_load (runs.Write kind) P h = tt
 never_load runs.InputTooLong P h = tt
+never_load (runs.File kind) P h = tt
 never_load runs.OutOfMemory P h = tt
 
 -- what holds in any case holds where memory was short
@@ -83,6 +84,7 @@ if_memory (runs.Load cause) P h = tt
 if_memory runs.ReversedRange P h = tt
 if_memory (runs.Read kind) P h = tt
 if_memory (runs.Write kind) P h = tt
+if_memory (runs.File kind) P h = tt
 if_memory runs.InputTooLong P h = tt
 
 -- what holds in any case holds at each end that is no fault of loading
@@ -90,6 +92,7 @@ pub unless_load : {A : Type 0} (r : Result A RunFault) (P : Type 0) → P → Un
 unless_load (Ok done) P h = h
 unless_load (Err (runs.Load cause)) P h = tt
 unless_load (Err runs.OutOfMemory) P h = tt
+unless_load (Err (runs.File kind)) P h = tt
 unless_load (Err runs.ReversedRange) P h = h
 unless_load (Err (runs.Read kind)) P h = h
 unless_load (Err (runs.Write kind)) P h = h

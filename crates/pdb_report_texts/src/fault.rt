@@ -4,7 +4,7 @@ ghost use Rattle.std.specs.Prelude.{◌≡◌};
 
 use pdb_container::kind_name;
 use pdb_engine::InputFault;
-use pdb_loading::LoadFault;
+use pdb_loading::{FileFault, LoadFault};
 use std::fmt;
 use std::io::ErrorKind;
 
@@ -20,6 +20,8 @@ pub enum RunFault {
     Read(ErrorKind),
     /// A write failed with that kind.
     Write(ErrorKind),
+    /// The file, which is read on demand, couldn't be read, with that kind.
+    File(ErrorKind),
     /// The input has more bytes than a run reads.
     InputTooLong,
     /// Out of memory.
@@ -35,6 +37,20 @@ impl From<LoadFault> for RunFault {
         match fault {
             LoadFault::OutOfMemory => RunFault::OutOfMemory,
             fault => RunFault::Load(fault),
+        }
+    }
+}
+
+impl From<FileFault> for RunFault {
+    ghost use Rattle.pdb_report_texts.specs.RunFaults.{run_fault_of_file};
+
+    ghost from_gives = { λ fault e. e ≡ run_fault_of_file fault };
+
+    fn from(fault: FileFault) -> RunFault {
+        match fault {
+            FileFault::Load(fault) => RunFault::from(fault),
+            FileFault::File(ErrorKind::OutOfMemory) => RunFault::OutOfMemory,
+            FileFault::File(kind) => RunFault::File(kind),
         }
     }
 }
@@ -66,6 +82,7 @@ impl fmt::Display for RunFault {
             RunFault::ReversedRange => f.write_str("ReversedRange"),
             RunFault::Read(kind) => write!(f, "Read({})", kind_name(*kind)),
             RunFault::Write(kind) => write!(f, "Write({})", kind_name(*kind)),
+            RunFault::File(kind) => write!(f, "File({})", kind_name(*kind)),
             RunFault::InputTooLong => f.write_str("InputTooLong"),
             RunFault::OutOfMemory => f.write_str("OutOfMemory"),
         }

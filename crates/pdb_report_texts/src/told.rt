@@ -257,6 +257,7 @@ fn run_told(fault: &RunFault) -> Told<'_>
         RunFault::ReversedRange => Told::plain("ReversedRange"),
         RunFault::Read(kind) => Told::text("Read(", kind_name(*kind)),
         RunFault::Write(kind) => Told::text("Write(", kind_name(*kind)),
+        RunFault::File(kind) => Told::text("File(", kind_name(*kind)),
         RunFault::InputTooLong => Told::plain("InputTooLong"),
         RunFault::OutOfMemory => Told::plain("OutOfMemory"),
     }

@@ -1,0 +1,4 @@
+pub mod BlockSteps
+pub mod SliceSteps
+pub mod SourceSteps
+pub mod WitnessSteps

@@ -1,0 +1,153 @@
+//! Loading a file that is read on demand: what is missing is read, and the file is loaded again by
+//! what is there then.
+
+ghost use Rattle.std.specs.Prelude.{◌≡◌, true, List, IfErr, IfOk, None, OnOk};
+ghost use Rattle.pdb_file_views.specs.Views.{agrees, source_bytes, Grows};
+ghost use Rattle.pdb_loading.specs.FileFaults.{OnLoadFault};
+ghost use Rattle.pdb_loading.specs.declared.load_fault.LoadFault.TheVariants as faults;
+ghost use Rattle.pdb_loading.specs.Held.{kept_infos};
+ghost use Rattle.pdb_loading.specs.LoadFaults.{Refuses};
+ghost use Rattle.pdb_loading.specs.Loading.{load_fault};
+ghost use Rattle.pdb_symbols_modules.specs.Modules.{modules_of};
+ghost use Rattle.pdb_symbols_modules.specs.Streams.{streams};
+
+use crate::file_modules::FileModules;
+use crate::held_database::HeldDatabase;
+use crate::load_fault::LoadFault;
+use crate::loading::{LoadedFile, load_file};
+use crate::module_infos::{KeptModules, collect_modules};
+use boxcar::tag::Tag;
+use pdb_container::Result as ReadResult;
+use pdb_file_views::{FileSource, FileViews, Wanted};
+use pdb_symbols_modules::{DebugInformation, PDB};
+use std::alloc::{AllocError, Global};
+use std::io::{self, ErrorKind};
+use std::os::unix::fs::FileExt;
+
+/// How often loading goes on after it read what was missing. A file whose streams can be found
+/// takes some ten.
+const ROUNDS: u32 = 32;
+
+/// Why a file that is read on demand isn't loaded.
+#[derive(Debug, Drop)]
+pub enum FileFault {
+    /// As of a file that is in memory.
+    Load(LoadFault),
+    /// The file couldn't be read.
+    File(ErrorKind),
+}
+
+impl From<AllocError> for FileFault {
+    ghost use Rattle.std.specs.Prelude.{◌≡◌};
+    ghost use Rattle.pdb_loading.specs.declared.load_fault.LoadFault.TheVariants as faults;
+    ghost use Rattle.pdb_loading.specs.declared.on_demand.FileFault.TheVariants.{Load};
+
+    ghost from_gives = { λ _ fault. fault ≡ Load faults.OutOfMemory };
+
+    fn from(_: AllocError) -> FileFault {
+        FileFault::Load(LoadFault::OutOfMemory)
+    }
+}
+
+/// How reading a file failed; out of memory has one name.
+fn read_fault(error: &io::Error) -> FileFault
+    ensures { OnLoadFault result (λ cause. cause ≡ faults.OutOfMemory) }
+{
+    match error.kind() {
+        ErrorKind::OutOfMemory => FileFault::Load(LoadFault::OutOfMemory),
+        kind => FileFault::File(kind),
+    }
+}
+
+/// Loads a file by what was read of it. What it lacks is noted as wanted, and is out of memory
+/// here.
+///
+/// # Errors
+/// As [`load_file`].
+#[tactic(auto, using(crate::proofs::OnDemand::bytes_agree))]
+fn load_views(
+    alloc: Global,
+    views: &FileViews,
+    contents: &Tag,
+    wanted: &Wanted,
+) -> Result<LoadedFile, LoadFault>
+    ensures ok { agrees views.now contents.now.numbers ≡ true
+        → IfOk result (λ f. f ≡ contents.now.numbers) }
+    ensures loaded { agrees views.now contents.now.numbers ≡ true
+        → OnOk result (load_fault (streams contents.now.numbers) ≡ None) }
+    ensures refused { agrees views.now contents.now.numbers ≡ true
+        → IfErr result (λ e. Refuses e (load_fault (streams contents.now.numbers))) }
+{
+    let Ok(file) = FileSource::of_views(alloc, views, contents, wanted) else {
+        return Err(LoadFault::OutOfMemory);
+    };
+    load_file(alloc, file)
+}
+
+/// A file that was loaded by what was read of it.
+#[derive(Drop)]
+pub struct LoadedViews {
+    /// The file.
+    pub loaded: LoadedFile,
+    /// What its modules lack once they are asked for.
+    pub wanted: Wanted,
+}
+
+/// Loads a file that is read on demand. `contents` names the bytes that the clauses speak of: they
+/// hold where these agree with all that was read.
+///
+/// # Errors
+/// As [`load_file`]; `File` where the file couldn't be read.
+pub fn load_on_demand<F: FileExt>(
+    alloc: Global,
+    file: &F,
+    views: &mut FileViews,
+    contents: &Tag,
+) -> Result<LoadedViews, FileFault>
+    ensures grows { Grows views.old views.new }
+    ensures ok { agrees views.new contents.now.numbers ≡ true
+        → IfOk result (λ f. f.loaded ≡ contents.now.numbers) }
+    ensures loaded { agrees views.new contents.now.numbers ≡ true
+        → OnOk result (load_fault (streams contents.now.numbers) ≡ None) }
+    ensures refused { agrees views.new contents.now.numbers ≡ true → IfErr result (λ e.
+        OnLoadFault e (λ cause. Refuses cause (load_fault (streams contents.now.numbers)))) }
+{
+    for _ in 0..ROUNDS {
+        let wanted = Wanted::new(alloc)?;
+        match load_views(alloc, views, contents, &wanted) {
+            Ok(loaded) => return Ok(LoadedViews { loaded, wanted }),
+            Err(LoadFault::OutOfMemory) => {}
+            Err(fault) => return Err(FileFault::Load(fault)),
+        }
+        match views.read_wanted(alloc, file, &wanted) {
+            Ok(true) => {}
+            Ok(false) => return Err(FileFault::Load(LoadFault::OutOfMemory)),
+            Err(error) => return Err(read_fault(&error)),
+        }
+    }
+    Err(FileFault::Load(LoadFault::OutOfMemory))
+}
+
+/// The modules of a file by what was read of it. What they lack is noted as wanted.
+///
+/// # Errors
+/// `OutOfMemory`, and those of a container where the file changed.
+#[tactic(auto, using(crate::proofs::OnDemand::bytes_agree))]
+pub fn modules_of_views(
+    alloc: Global,
+    views: &FileViews,
+    contents: &Tag,
+    wanted: &Wanted,
+    debug_information: &DebugInformation<'_>,
+) -> ReadResult<KeptModules<'static>>
+    ensures { agrees views.now contents.now.numbers ≡ true → IfOk result (λ m. m
+        ≡ kept_infos (streams contents.now.numbers)
+        (modules_of debug_information.now.modules).items) }
+{
+    let file = FileSource::of_views(alloc, views, contents, wanted)?;
+    let pdb = PDB::open(alloc, file)?;
+    let size = pdb.size_hint();
+    let entries = collect_modules(alloc, debug_information.modules())?;
+    let modules = FileModules::new(alloc, pdb, entries.as_slice())?;
+    Ok(KeptModules::on_demand(modules, size))
+}
