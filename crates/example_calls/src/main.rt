@@ -1,19 +1,21 @@
 //! Asks a program database by the library's calls: `example_calls FILE ADDRESS..`.
 //!
 //! For each ADDRESS, which is hexadecimal and image-relative, it prints the function there and its
-//! frames. Then it prints all functions, what formatters say of two types of the file, and the
-//! functions again, without their arguments. At last it prints how many addresses each has.
+//! frames. Then it prints all functions, each with its source file and line, what formatters say of
+//! two types of the file, and the functions again, without their arguments. At last it prints how
+//! many addresses each has.
 //!
 //! Its stored run asks `x64.pdb`, which examples/make.sh made. There type 0x1007 is the member
 //! function `TextReader::read`, and 0x1016 the class `Entry`.
 #![tactic(auto)]
 
 use anyhow::{Context as _, Result, bail};
-use pdb_addr2line::pdb::{BoundedBytes, PDB, SharedBytes, TypeIndex};
+use pdb_addr2line::pdb::{PDB, SharedBytes, TypeIndex};
 use pdb_addr2line::{
     Context, ContextPdbData, Frame, FrameRow, Function, ModuleProvider, TypeFormatter,
     TypeFormatterFlags,
 };
+use pdb_file_views::FileSource;
 use pdb_report::{Symbolizer, Watched, parse_address, run_sizes};
 use std::alloc::Global;
 use std::io::Write;
@@ -21,7 +23,7 @@ use std::rt::{Env, Files};
 use std::{env, fs};
 
 /// A database that is held for formatters.
-type Held = ContextPdbData<'static, 'static, BoundedBytes>;
+type Held = ContextPdbData<'static, 'static, FileSource>;
 
 fn main(rt: HostRuntime) -> Result<()> {
     let file = env::args(&rt)?
@@ -48,7 +50,8 @@ fn tell_addresses(rt: &(impl Env + Files + Print + AllocGlobal), file: &str) -> 
     match symbolizer.context(rt.alloc()) {
         Ok(mut context) => {
             tell_words(rt, &mut context)?;
-            tell_functions(rt, &mut context)
+            tell_functions(rt, &mut context)?;
+            tell_files(rt, &mut context)
         }
         Err(fault) => bail!("{file}: {fault}"),
     }
@@ -126,6 +129,26 @@ fn tell_functions<P: ModuleProvider>(
     Ok(())
 }
 
+/// Prints each function with the source file and line of its own frame at its start.
+fn tell_files<P: ModuleProvider>(
+    rt: &(impl Print + AllocGlobal),
+    context: &mut Context<'_, '_, P>,
+) -> Result<()> {
+    // The list borrows the context, so all starts are gathered before the context is asked again.
+    let mut starts = Vec::new(rt.alloc());
+    for function in context.functions(rt.alloc())? {
+        starts.push(function?.start_rva)?;
+    }
+    for start in starts.iter() {
+        if let Some(found) = context.find_frames(rt.alloc(), *start)? {
+            if let Some(frame) = found.frames.last() {
+                tell_frame(rt, frame)?;
+            }
+        }
+    }
+    Ok(())
+}
+
 /// Prints a function.
 fn tell_function(rt: &impl Print, function: &Function) -> Result<()> {
     let name = function.name.as_deref().unwrap_or("??");
@@ -140,7 +163,7 @@ fn tell_function(rt: &impl Print, function: &Function) -> Result<()> {
 /// Prints what formatters say of types.
 fn tell_types(rt: &(impl Files + Print + AllocGlobal), file: &str) -> Result<()> {
     let bytes = SharedBytes::new(fs::read(rt, file)?)?;
-    let pdb = PDB::open(rt.alloc(), BoundedBytes::new(bytes))?;
+    let pdb = PDB::open(rt.alloc(), FileSource::whole(bytes))?;
     let held: Held = ContextPdbData::try_from_file(rt.alloc(), pdb)?;
     tell_held(rt, &held)
 }

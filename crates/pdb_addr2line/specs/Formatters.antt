@@ -10,6 +10,15 @@ use Rattle.pdb_resolving.specs.Fault.{Fault}
 use Rattle.pdb_resolving.specs.Resolving.{none_failed}
 use Rattle.pdb_addr2line.specs.Context.{Context, context_over}
 
+-- what is held, with other modules in place of its own
+abbrev pub with_modules : Held → List KeptInfo → Held
+with_modules h infos = record {
+  debug_information = h.debug_information;
+  tables = h.tables;
+  names = h.names;
+  infos = infos;
+}
+
 -- what types and ids are read from: what is held gives the modules, by the entries in stream 3
 abbrev pub reading_of : Held → Reading (List KeptInfo)
 reading_of h = record {

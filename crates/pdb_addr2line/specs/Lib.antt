@@ -1,6 +1,7 @@
 pub mod Context
 pub mod Formatters
 pub mod FunctionList
+pub mod ModulesAt
 pub mod Refused
 pub mod Starts
 pub use Rattle.pdb_answers.specs.Choice

@@ -74,7 +74,7 @@ impl<'a, 's, P: ModuleProvider> Drop for Context<'a, 's, P> {
 }
 
 /// The place of an RVA, if it has one.
-fn place_at(parts: &ContextParts<'_, '_>, probe: u32) -> Option<PdbInternalSectionOffset>
+pub(crate) fn place_at(parts: &ContextParts<'_, '_>, probe: u32) -> Option<PdbInternalSectionOffset>
     ensures { result ≡ place_of parts.now probe }
 {
     Rva(probe).to_internal_offset(parts.address_map)
@@ -132,6 +132,23 @@ impl<'a, 's, P: ModuleProvider> Context<'a, 's, P> {
             string_table,
             debug_info,
         )?;
+        Context::with_parts(alloc, provider, parts, type_formatter)
+    }
+
+    /// A context over what gives the modules, parts that were made before ([`ContextParts::new`],
+    /// [`Context::into_parts`]), and a formatter of types. Nothing of the database is read.
+    ///
+    /// # Errors
+    /// `OutOfMemory` alone.
+    pub fn with_parts(
+        alloc: Global,
+        provider: &'a P,
+        parts: ContextParts<'a, 's>,
+        type_formatter: MaybeOwned<'a, TypeFormatter<'a, 's, P>>,
+    ) -> Result<Context<'a, 's, P>>
+        ensures { Answers (λ c. c) result
+            (context_over provider.now (value_of type_formatter.entry) (Ok parts.entry)) }
+    {
         let namer = Namer::new(alloc, type_formatter);
         let symbolizer = PlaceSymbolizer::new(alloc, provider, parts, namer)?;
         Ok(Context {
@@ -139,6 +156,27 @@ impl<'a, 's, P: ModuleProvider> Context<'a, 's, P> {
             starts: None,
             lookups: 0,
         })
+    }
+
+    /// What gives the modules.
+    pub fn provider(&self) -> &'a P
+        ensures { result.now ≡ self.now.provider }
+    {
+        self.symbolizer.provider()
+    }
+
+    /// What every question goes over, for another context over the same tables
+    /// ([`Context::with_parts`]). What was cached of modules, names and starts is let go.
+    pub fn into_parts(self) -> ContextParts<'a, 's>
+        ensures { result ≡ self.entry.parts }
+    {
+        let Context {
+            symbolizer,
+            starts,
+            lookups: _,
+        } = self;
+        drop(starts);
+        symbolizer.into_parts()
     }
 
     /// How many entries the public list has: public symbols and placeholders, one for each place.

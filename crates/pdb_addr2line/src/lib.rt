@@ -26,6 +26,8 @@
 //! | read what a context made of parts needs | [`read_tables`], [`Context::new_from_parts`] |
 //! | make a context | `make_context` |
 //! | make one with flags in place of the default ones | `make_context_with_formatter_flags` |
+//! | make one over other modules | [`Context::into_parts`], `make_context_over` |
+//! | ask whose module's stream a question needs | [`Context::module_at`], `modules_between` |
 //! | ask for the frames at an address | [`Context::find_frames`] |
 //! | ask for them without copies of names | [`Context::find_shared_frames`] |
 //! | ask for the function at an address | [`Context::find_function`] |
@@ -44,12 +46,15 @@ mod context;
 mod file_runs;
 mod function_starts;
 mod functions;
+mod modules;
 pub mod pdb;
 mod pdb_data;
 
 pub use context::Context;
 pub use functions::FunctionIter;
-pub use pdb_answers::{ModuleSectionContribution, TextWriter, TypeFormatter, maybe_owned};
+pub use pdb_answers::{
+    ContextParts, ModuleSectionContribution, TextWriter, TypeFormatter, maybe_owned,
+};
 pub use pdb_data::ContextPdbData;
 pub use pdb_functions::{
     FileAnswer, Frame, FrameRow, Function, FunctionFrames, SharedFrame, SharedFunctionFrames,

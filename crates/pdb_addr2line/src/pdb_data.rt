@@ -1,10 +1,10 @@
 //! What formatters and contexts are made of.
 
-ghost use Rattle.std.specs.Prelude.{◌≡◌, ◌≤◌, IfOk, IsOkUnless};
+ghost use Rattle.std.specs.Prelude.{◌≡◌, ◌≤◌, IfOk, IsOkUnless, Ok};
 ghost use Rattle.pdb_addresses.specs.Addresses.{IsOrdered};
 ghost use Rattle.pdb_container.specs.Fault.{HasRisen};
-ghost use Rattle.pdb_addr2line.specs.Formatters.{formatting_of, context_in};
-ghost use Rattle.pdb_loading.specs.Held.{read_in, IsOwn};
+ghost use Rattle.pdb_addr2line.specs.Formatters.{formatting_of, context_in, with_modules};
+ghost use Rattle.pdb_loading.specs.Held.{parts_held, read_in, IsOwn};
 ghost use Rattle.pdb_loading.specs.Loading.{database_read};
 ghost use Rattle.pdb_resolving.specs.Fault.{Answers};
 ghost use Rattle.pdb_addr2line.specs.Refused.{CanFail, Loads};
@@ -13,12 +13,13 @@ ghost use Rattle.pdb_symbols_modules.specs.Streams.{streams};
 
 use crate::context::Context;
 use pdb_addresses::AddressMap;
-use pdb_answers::TypeFormatter;
 use pdb_answers::maybe_owned::MaybeOwned;
-use pdb_container::{BoundedBytes, Result, Source};
+use pdb_answers::{ContextParts, TypeFormatter};
+use pdb_container::{Result, Source};
+use pdb_file_views::FileSource;
 use pdb_loading::{HeldDatabase, KeptModules, collect_modules, hold_database, read_database};
 use pdb_resolving::{Error, ModuleProvider};
-use pdb_symbols_modules::{Module, ModuleInfo, PDB};
+use pdb_symbols_modules::{DebugInformation, Module, ModuleInfo, PDB};
 use pdb_text_pieces::TypeFormatterFlags;
 use std::alloc::Global;
 use std::marker::{Model, PhantomData};
@@ -97,7 +98,7 @@ impl<'p, 's, S: Source + Drop> ContextPdbData<'p, 's, S> {
     }
 }
 
-impl<'p, 's> ContextPdbData<'p, 's, BoundedBytes> {
+impl<'p, 's> ContextPdbData<'p, 's, FileSource> {
     /// Reads what formatters and contexts need of a file's database that is open, and holds the
     /// file: the modules' own streams are read when they are first asked for.
     ///
@@ -106,8 +107,8 @@ impl<'p, 's> ContextPdbData<'p, 's, BoundedBytes> {
     #[tactic(auto, using(crate::proofs::Refusals::refused))]
     pub fn try_from_file(
         alloc: Global,
-        pdb: PDB<'s, BoundedBytes>,
-    ) -> std::result::Result<ContextPdbData<'p, 's, BoundedBytes>, Error>
+        pdb: PDB<'s, FileSource>,
+    ) -> std::result::Result<ContextPdbData<'p, 's, FileSource>, Error>
         ensures loads { Loads read_in (HasRisen 0 0) result
             (database_read (shared (streams pdb.entry))) }
         ensures own { IfOk result (λ d. IsOwn (streams pdb.entry) (HasRisen 0 0) d) }
@@ -138,6 +139,20 @@ impl<'p, 's, S: Source> ContextPdbData<'p, 's, S> {
         &self.held.tables.address_map
     }
 
+    /// Stream 3 (DBI).
+    pub fn debug_information(&self) -> &DebugInformation<'s>
+        ensures { result.now ≡ self.now.debug_information }
+    {
+        &self.held.debug_information
+    }
+
+    /// The modules' own streams.
+    pub fn modules(&self) -> &KeptModules<'s>
+        ensures { result.now ≡ self.now.infos }
+    {
+        &self.held.modules
+    }
+
     /// A formatter of types over what was read, with the default flags.
     ///
     /// # Errors
@@ -156,7 +171,6 @@ impl<'p, 's, S: Source> ContextPdbData<'p, 's, S> {
     ///
     /// # Errors
     /// `OutOfMemory` alone.
-    #[tactic(auto, using(pdb_loading::proofs::HeldSteps::same_modules, pdb_loading::proofs::HeldSteps::memory_alone))]
     pub fn make_type_formatter_with_flags(
         &self,
         alloc: Global,
@@ -165,11 +179,30 @@ impl<'p, 's, S: Source> ContextPdbData<'p, 's, S> {
         ensures parts { IfOk result (λ f. f ≡ formatting_of self.now flags.bits) }
         ensures memory { IsOkUnless result Error.OutOfMemory }
     {
-        let modules = collect_modules(alloc, self.held.debug_information.modules())?;
+        self.make_type_formatter_over(alloc, &self.held.modules, flags)
+    }
+
+    /// A formatter of types over what was read, but for the modules' own streams, which these give;
+    /// with these flags.
+    ///
+    /// # Errors
+    /// `OutOfMemory` alone.
+    #[tactic(auto, using(pdb_loading::proofs::HeldSteps::same_modules, pdb_loading::proofs::HeldSteps::memory_alone))]
+    pub fn make_type_formatter_over<'a>(
+        &'a self,
+        alloc: Global,
+        modules: &'a KeptModules<'s>,
+        flags: TypeFormatterFlags,
+    ) -> std::result::Result<TypeFormatter<'a, 's, KeptModules<'s>>, Error>
+        ensures parts { IfOk result (λ f. f
+            ≡ formatting_of (with_modules self.now modules.now) flags.bits) }
+        ensures memory { IsOkUnless result Error.OutOfMemory }
+    {
+        let entries = collect_modules(alloc, self.held.debug_information.modules())?;
         let formatter = TypeFormatter::new_from_parts(
             alloc,
-            &self.held.modules,
             modules,
+            entries,
             &self.held.debug_information,
             &self.held.tables.types,
             &self.held.tables.ids,
@@ -218,6 +251,46 @@ impl<'p, 's, S: Source> ContextPdbData<'p, 's, S> {
             &self.held.debug_information,
             MaybeOwned::Owned(formatter),
         )
+    }
+
+    /// A context over what was read, but for the modules' own streams, which `modules` gives. It
+    /// takes the parts of a context that was made before ([`Context::into_parts`]), and its
+    /// formatter has the default flags. Nothing of the tables is read again.
+    ///
+    /// # Errors
+    /// `OutOfMemory` alone.
+    pub fn make_context_over<'a>(
+        &'a self,
+        alloc: Global,
+        modules: &'a KeptModules<'s>,
+        parts: ContextParts<'a, 's>,
+    ) -> std::result::Result<Context<'a, 's, KeptModules<'s>>, Error>
+        requires { parts_held self.now ≡ Ok parts }
+        ensures { Answers (λ c. c) result (context_in (with_modules self.now modules.now) 23) }
+    {
+        let flags = TypeFormatterFlags::default();
+        self.make_context_over_with_formatter_flags(alloc, modules, parts, flags)
+    }
+
+    /// A context as [`ContextPdbData::make_context_over`] makes it, whose formatter has these
+    /// flags.
+    ///
+    /// # Errors
+    /// `OutOfMemory` alone.
+    #[tactic(auto, using(crate::proofs::HeldModules::over_held))]
+    pub fn make_context_over_with_formatter_flags<'a>(
+        &'a self,
+        alloc: Global,
+        modules: &'a KeptModules<'s>,
+        parts: ContextParts<'a, 's>,
+        flags: TypeFormatterFlags,
+    ) -> std::result::Result<Context<'a, 's, KeptModules<'s>>, Error>
+        requires { parts_held self.now ≡ Ok parts }
+        ensures { Answers (λ c. c) result
+            (context_in (with_modules self.now modules.now) flags.bits) }
+    {
+        let formatter = self.make_type_formatter_over(alloc, modules, flags)?;
+        Context::with_parts(alloc, modules, parts, MaybeOwned::Owned(formatter))
     }
 }
 

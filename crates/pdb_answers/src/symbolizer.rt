@@ -131,4 +131,24 @@ impl<'a, 's, P: ModuleProvider> PlaceSymbolizer<'a, 's, P> {
     {
         &self.namer
     }
+
+    /// What every answer goes over, for another symbolizer over the same tables. What was cached is
+    /// let go.
+    pub fn into_parts(self) -> ContextParts<'a, 's>
+        ensures { result ≡ self.entry.parts }
+    {
+        let PlaceSymbolizer {
+            provider: _,
+            parts,
+            namer,
+            cached,
+            failed,
+            known_failures,
+        } = self;
+        drop(namer);
+        drop(cached);
+        drop(failed);
+        drop(known_failures);
+        parts
+    }
 }

@@ -6,7 +6,8 @@ use crate::regular_file::open_regular;
 use bumpalo::Bump;
 use pdb_addr2line::ContextPdbData;
 use pdb_addr2line::pdb::PDB;
-use pdb_container::{BoundedBytes, SharedBytes};
+use pdb_container::SharedBytes;
+use pdb_file_views::FileSource;
 use pdb_image::{Image, PdbIdentity};
 use pdb_loading::read_file;
 use std::alloc::{AllocError, Global};
@@ -14,7 +15,7 @@ use std::io;
 use std::rt::Files;
 
 /// What contexts are made of, over a file's bytes.
-pub type Held = ContextPdbData<'static, 'static, BoundedBytes>;
+pub type Held = ContextPdbData<'static, 'static, FileSource>;
 
 /// A database that was read, with where its image wants to be loaded.
 #[derive(Clone, Copy)]
@@ -67,7 +68,7 @@ fn beside(alloc: Global, file: &str, path: &str) -> Result<String, AllocError> {
 /// Checks that a database has an identity.
 fn check_build<'s>(
     alloc: Global,
-    pdb: &mut PDB<'s, BoundedBytes>,
+    pdb: &mut PDB<'s, FileSource>,
     wanted: PdbIdentity,
 ) -> Result<(), OpenError> {
     let information = pdb.pdb_information(alloc)?;
@@ -87,7 +88,7 @@ fn load<'a>(
     identity: Option<PdbIdentity>,
 ) -> Result<&'a Held, OpenError> {
     let file = SharedBytes::new(bytes)?;
-    let mut pdb = PDB::open(alloc, BoundedBytes::new(file))?;
+    let mut pdb = PDB::open(alloc, FileSource::whole(file))?;
     if let Some(wanted) = identity {
         check_build(alloc, &mut pdb, wanted)?;
     }

@@ -7,12 +7,16 @@ use std::test::Fail;
 /// What has to come of arguments.
 #[derive(Clone, Copy)]
 enum Wanted {
-    /// The task `frames` over a file.
+    /// The task `frames` over a file, without `--demangle`.
     Frames(&'static str),
+    /// The task `frames` over a file, with `--demangle`.
+    FramesDemangled(&'static str),
     /// The task `sizes` over a range of a file, without `--by-file`.
     Sizes(&'static str, u32, u32),
     /// The task `sizes` over a range of a file, with `--by-file`.
     SizesByFile(&'static str, u32, u32),
+    /// The task `sizes` over a range of a file, with `--demangle`.
+    SizesDemangled(&'static str, u32, u32),
     /// The fault with that name.
     NotAnAddress,
     /// A text on wrong arguments that contains these texts.
@@ -30,7 +34,12 @@ impl Wanted {
     /// Returns whether it came.
     fn came(self, outcome: &Result<Task, WordsFault>) -> bool {
         match (self, outcome) {
-            (Wanted::Frames(wanted), Ok(Task::Frames { file })) => file.as_str() == wanted,
+            (Wanted::Frames(wanted), Ok(Task::Frames { file, demangle })) => {
+                file.as_str() == wanted && !*demangle
+            }
+            (Wanted::FramesDemangled(wanted), Ok(Task::Frames { file, demangle })) => {
+                file.as_str() == wanted && *demangle
+            }
             (
                 Wanted::Sizes(wanted, from, to),
                 Ok(
@@ -38,10 +47,11 @@ impl Wanted {
                         file,
                         start,
                         end,
-                        by_file,
+                        by_file: false,
+                        demangle: false,
                     },
                 ),
-            ) => { file.as_str() == wanted && *start == from && *end == to && !*by_file }
+            ) => { file.as_str() == wanted && *start == from && *end == to }
             (
                 Wanted::SizesByFile(wanted, from, to),
                 Ok(
@@ -49,10 +59,23 @@ impl Wanted {
                         file,
                         start,
                         end,
-                        by_file,
+                        by_file: true,
+                        demangle: false,
                     },
                 ),
-            ) => { file.as_str() == wanted && *start == from && *end == to && *by_file }
+            ) => { file.as_str() == wanted && *start == from && *end == to }
+            (
+                Wanted::SizesDemangled(wanted, from, to),
+                Ok(
+                    Task::Sizes {
+                        file,
+                        start,
+                        end,
+                        by_file: false,
+                        demangle: true,
+                    },
+                ),
+            ) => { file.as_str() == wanted && *start == from && *end == to }
             (Wanted::NotAnAddress, Err(WordsFault::NotAnAddress)) => true,
             (Wanted::Words(parts), Err(WordsFault::Words(text))) => has_all(text, parts),
             (Wanted::Help(parts), Err(WordsFault::Help(text))) => has_all(text, parts),
@@ -67,15 +90,17 @@ const SIZES_HELP: &[&str] = &[
     "<FILE>   The program database",
     "<START>  The range's first address, in hexadecimal",
     "<END>    The address after the range's last",
-    "--by-file  Counts for each source file",
+    "--by-file   Counts for each source file",
+    "--demangle  Writes decorated names",
     "pdb_symbolizer sizes program.pdb 1000 2000",
     "pdb_symbolizer sizes --by-file program.pdb 1000 2000",
 ];
 
 /// Texts that the help on `frames` contains.
 const FRAMES_HELP: &[&str] = &[
-    "Usage: pdb_symbolizer frames <FILE>",
+    "Usage: pdb_symbolizer frames [OPTIONS] <FILE>",
     "<FILE>  The program database",
+    "--demangle  Writes decorated names",
     "Standard input has one address a line",
     "echo 1018 | pdb_symbolizer frames program.pdb",
 ];
@@ -102,6 +127,11 @@ const ROWS: &[(&str, Wanted)] = &[
     ),
     ("sizes --help", Wanted::Help(SIZES_HELP)),
     ("frames F", Wanted::Frames("F")),
+    ("frames F --demangle", Wanted::FramesDemangled("F")),
+    (
+        "sizes --demangle F 10 20",
+        Wanted::SizesDemangled("F", 16, 32),
+    ),
     ("sizes --by-file F 10 20", Wanted::SizesByFile("F", 16, 32)),
     ("sizes F 10 20 --by-file", Wanted::SizesByFile("F", 16, 32)),
     (

@@ -1,4 +1,4 @@
-use Rattle.std.proofs.Common.{◌≤◌, ◌+◌, ◌-◌, ◌∙◌, length, length-drop, sym, get_or, drop, arith, refl, Option, Ok, Err}
+use Rattle.std.proofs.Common.{◌+◌, ◌-◌, ◌∙◌, length, length-drop, sym, get_or, drop, arith, refl, Option, Ok, Err}
 use Rattle.pdb_functions.specs.FunctionOrder.{Function}
 use Rattle.pdb_addr2line.specs.Context.{scope_in}
 use Rattle.pdb_addr2line.specs.FunctionList.{functions_at}
