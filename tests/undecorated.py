@@ -1,23 +1,26 @@
 #!/usr/bin/env python3
 """Checks the texts of decorated names of Visual C++ against those of llvm-undname 19.1.7.
 
-    tests/undecorated.py [--built FILE] [NAMES]
+    tests/undecorated.py [--built FILE | --unproved] [NAMES]
 
-FILE is where undecorated_names lies, with NAME in it for its name; if left out, the proved one is
-run. A line of NAMES has a name, its short text (without access, calling convention, `static`,
-`virtual` and the type that is returned) and its full text, with tabs between; `-` stands where the
-name has no text. If left out, it is crates/undecorated_names/data/names.tsv. A line passes if the
-program writes it for its name. The last line is `N passed, M failed`.
+FILE is where recorded_cases lies, with NAME in it for its name; if left out, the proved one is run,
+with --unproved one that `rt try` compiles. A line of NAMES has a name, its short text (without
+access, calling convention, `static`, `virtual` and the type that is returned) and its full text,
+with tabs between; `-` stands where the name has no text. If left out, it is
+crates/recorded_cases/data/names.tsv. A line passes if the program writes it for its name. The last
+line is `N passed, M failed`.
 """
 import os
 import subprocess
 import sys
+import tempfile
 
 sys.dont_write_bytecode = True
 import built
 
-NAMES = f"{built.ROOT}/crates/undecorated_names/data/names.tsv"
+NAMES = f"{built.ROOT}/crates/recorded_cases/data/names.tsv"
 SHOWN = 20
+SECONDS = 120
 
 
 def lines_of(data):
@@ -27,14 +30,17 @@ def lines_of(data):
 
 def main():
     place, words = built.taken(sys.argv[1:])
-    program = built.program(place, "undecorated_names")
+    program = built.program(place, "recorded_cases")
     file = words[0] if words else NAMES
     if len(words) > 1 or not os.path.isfile(file):
         built.stop(__doc__)
     with open(file, "rb") as names:
         wanted = lines_of(names.read())
-    asked = b"".join(line.split(b"\t")[0] + b"\n" for line in wanted)
-    ran = subprocess.run([program], input=asked, capture_output=True)
+    with tempfile.NamedTemporaryFile() as asked:
+        asked.write(b"".join(line.split(b"\t")[0] + b"\n" for line in wanted))
+        asked.flush()
+        words = [program, "undecorated", asked.name]
+        ran = subprocess.run(words, capture_output=True, timeout=SECONDS)
     if ran.returncode or ran.stderr:
         built.stop(f"{program} ended with status {ran.returncode} and {ran.stderr!r}")
     written = lines_of(ran.stdout)

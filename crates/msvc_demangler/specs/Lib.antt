@@ -1,5 +1,6 @@
 pub mod Answer
 pub mod Bytes
+pub mod CNames
 pub mod Characters
 pub mod Methods
 pub mod Numbers

@@ -23,8 +23,8 @@ value_after value (b ∷ bs) = value_after ((value * 16 % 2 ^ 64 + (b - 65)) % 2
 unfoldable pub hexadecimal_of : List ℕ → Option (ℕ × List ℕ)
 hexadecimal_of text =
     let count = prefix_len is_nibble text in
-    if slice_index text count == 64 then Some (value_after 0 (take count text), drop (count + 1) text)
-    else None
+    if slice_index text count == 64
+    then Some (value_after 0 (take count text), drop (count + 1) text) else None
 
 -- a number without a sign, and what comes after: a decimal digit stands for 1 to 10
 unfoldable pub magnitude_of : List ℕ → Option (ℕ × List ℕ)

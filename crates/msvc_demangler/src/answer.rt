@@ -11,9 +11,9 @@ use crate::stop::{Result, Stop};
 use std::alloc::{AllocError, Global};
 
 /// How much is printed for a name at most, in steps and bytes, the parts included that are printed
-/// to be referred to. Compilers cut names off at 4,096 bytes, and of such a name that nests a
-/// hundred templates, each printed within the next, less than half as much is printed. A name of a
-/// few hundred bytes that refers back to references could else have a text of any length.
+/// to be referred to. MSVC cuts decorated names off at 4,096 characters: in place of a longer one it
+/// writes `??@`, a digest and `@`. A name of a few hundred that refers back to references could else
+/// have a text of any length.
 const MOST_PRINTED: usize = 1 << 20;
 
 /// The text of a name, or that it has none.

@@ -15,8 +15,8 @@ pub struct DemangleFlags {
     pub no_variable_type: bool,
 }
 
-/// Nothing is left out.
-pub(crate) const EVERYTHING: DemangleFlags = DemangleFlags {
+/// A full text: nothing is left out.
+pub const FULL_TEXT: DemangleFlags = DemangleFlags {
     no_access_specifier: false,
     no_calling_convention: false,
     no_member_type: false,
@@ -30,5 +30,15 @@ pub(crate) const NO_CONVENTION: DemangleFlags = DemangleFlags {
     no_calling_convention: true,
     no_member_type: false,
     no_return_type: false,
+    no_variable_type: false,
+};
+
+/// A short text, as `llvm-symbolizer` prints it: access, the calling convention, `static`, `virtual`
+/// and the type that a function returns are left out.
+pub const SHORT_TEXT: DemangleFlags = DemangleFlags {
+    no_access_specifier: true,
+    no_calling_convention: true,
+    no_member_type: true,
+    no_return_type: true,
     no_variable_type: false,
 };

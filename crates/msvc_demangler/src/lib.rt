@@ -4,6 +4,7 @@
 mod answer;
 mod arguments;
 mod bytes;
+mod c_names;
 mod characters;
 mod flags;
 mod functions;
@@ -28,4 +29,5 @@ mod types;
 mod words;
 
 pub use answer::{Demangled, demangle};
-pub use flags::DemangleFlags;
+pub use c_names::c_name;
+pub use flags::{DemangleFlags, FULL_TEXT, SHORT_TEXT};

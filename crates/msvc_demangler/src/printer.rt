@@ -3,7 +3,7 @@
 ghost use Rattle.std.specs.Prelude.{◌+◌, ◌≤◌, IfOk};
 ghost use Rattle.std.specs.Vec.{vec_len};
 
-use crate::flags::{DemangleFlags, EVERYTHING};
+use crate::flags::{DemangleFlags, FULL_TEXT};
 use crate::numbers::Number;
 use crate::qualifiers::Qualifiers;
 use crate::stop::{Result, Stop};
@@ -67,7 +67,7 @@ pub(crate) fn print_part(
     index: usize,
     budget: usize,
 ) -> Result<Printed> {
-    print_tree(alloc, tree, Piece::Whole(index, EVERYTHING), budget)
+    print_tree(alloc, tree, Piece::Whole(index, FULL_TEXT), budget)
 }
 
 /// Prints a piece.

@@ -21,18 +21,19 @@ needed name = record (new_rule name) { required = true }
 abbrev pub flagged : List ℕ → Rule
 flagged name = record (new_rule name) { long = Some name; action = Some SetTrue }
 
--- `frames FILE`
+-- `frames FILE`, with the flag `--demangle`
 abbrev pub frames_app : App
-frames_app = with_rule (new_app (codes "frames")) (needed (codes "FILE"))
+frames_app = with_rule (with_rule (new_app (codes "frames")) (needed (codes "FILE")))
+    (flagged (codes "demangle"))
 
 -- `sizes FILE START END`
 abbrev pub range_app : App
 range_app = with_rule (with_rule (with_rule (new_app (codes "sizes")) (needed (codes "FILE")))
     (needed (codes "START"))) (needed (codes "END"))
 
--- `sizes FILE START END`, with the flag `--by-file`
+-- `sizes FILE START END`, with the flags `--by-file` and `--demangle`
 abbrev pub sizes_app : App
-sizes_app = with_rule range_app (flagged (codes "by-file"))
+sizes_app = with_rule (with_rule range_app (flagged (codes "by-file"))) (flagged (codes "demangle"))
 
 -- a subcommand is required, no argument is the program's name, and there is a version to ask for
 abbrev pub bare_app : App
@@ -65,16 +66,18 @@ abbrev pub flag_at : Text → List Row → Bool
 flag_at name rows =
     option_map_or (λ value. bytes_eq value (codes "true")) (first_of name rows) false
 
--- the task has the subcommand's name, its FILE, the addresses at START and END, and the flag
+-- the task has the subcommand's name, its FILE, the addresses at START and END, and the flags
 abbrev pub IsTask : Task → Option Entered → Type 0
 IsTask task None = ⊥
-IsTask (Frames file) (Some entered) = (entered.0 ≡ codes "frames")
+IsTask (Frames file demangle) (Some entered) = (entered.0 ≡ codes "frames")
     × (first_of (codes "FILE") entered.1 ≡ Some (string_bytes file))
-IsTask (Sizes file start end by_file) (Some entered) =
+    × (demangle ≡ flag_at (codes "demangle") entered.1)
+IsTask (Sizes file start end by_file demangle) (Some entered) =
     (entered.0 ≡ codes "sizes") × (first_of (codes "FILE") entered.1 ≡ Some (string_bytes file))
     × (address_at (codes "START") entered.1 ≡ Some start)
     × (address_at (codes "END") entered.1 ≡ Some end)
     × (by_file ≡ flag_at (codes "by-file") entered.1)
+    × (demangle ≡ flag_at (codes "demangle") entered.1)
 
 -- `sizes` was entered, and START or END is no address
 abbrev pub LacksAddress : Option Entered → Type 0

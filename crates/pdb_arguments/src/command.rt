@@ -33,8 +33,9 @@ for each function there, NAME at FILE:LINE @START+LENGTH, from the innermost inl
 the line's code starts at START and has LENGTH bytes (in decimal). ?? stands for what isn't known,
 unreadable for what is damaged, and not an address for any other line.
 
-Example:
-  echo 1018 | pdb_symbolizer frames program.pdb";
+Examples:
+  echo 1018 | pdb_symbolizer frames program.pdb
+  echo 1018 | pdb_symbolizer frames --demangle program.pdb";
 
 const SIZES_ABOUT: &str = "Counts the addresses of a range that each function or source file owns";
 
@@ -50,11 +51,15 @@ whose function has no known file, of those without a function, and of those with
 
 Examples, the addresses 1000 to 1fff:
   pdb_symbolizer sizes program.pdb 1000 2000
+  pdb_symbolizer sizes --demangle program.pdb 1000 2000
   pdb_symbolizer sizes --by-file program.pdb 1000 2000";
 
 const FILE_HELP: &str = "The program database: a .pdb file, in a big MSF container";
 
 const BY_FILE_HELP: &str = "Counts for each source file instead of each function";
+
+const DEMANGLE_HELP: &str =
+    "Writes decorated names of Visual C++, ?f@@YAXXZ, as people read them, f(void)";
 
 const START_HELP: &str = "The range's first address, in hexadecimal, such as 1000 or 0x1000";
 
@@ -118,13 +123,14 @@ fn described<'a>(alloc: Global, name: &'a str, about: &'a str, end: &'a str) -> 
     Command::new(alloc, name).about(about).after_help(end)
 }
 
-/// The command `frames FILE`.
+/// The command `frames FILE`, with the flag `--demangle`.
 fn frames_command<'a>(alloc: Global) -> Result<Command<'a>, AllocError>
     ensures app { IfOk result (λ c. app_of c ≡ frames_app) }
     ensures local { IfOk result (λ c. (fields_of c).has_globals ≡ false) }
 {
     let command = described(alloc, "frames", FRAMES_ABOUT, FRAMES_EXAMPLE);
-    with_needed(alloc, command, "FILE", FILE_HELP)
+    let with_file = with_needed(alloc, command, "FILE", FILE_HELP)?;
+    with_flag(alloc, with_file, "demangle", DEMANGLE_HELP)
 }
 
 /// Adds the arguments `START END`.
@@ -147,12 +153,13 @@ fn range_command<'a>(alloc: Global) -> Result<Command<'a>, AllocError>
     with_range(alloc, with_needed(alloc, command, "FILE", FILE_HELP)?)
 }
 
-/// The command `sizes FILE START END`, with the flag `--by-file`.
+/// The command `sizes FILE START END`, with the flags `--by-file` and `--demangle`.
 fn sizes_command<'a>(alloc: Global) -> Result<Command<'a>, AllocError>
     ensures app { IfOk result (λ c. app_of c ≡ sizes_app) }
     ensures local { IfOk result (λ c. (fields_of c).has_globals ≡ false) }
 {
-    with_flag(alloc, range_command(alloc)?, "by-file", BY_FILE_HELP)
+    let with_by_file = with_flag(alloc, range_command(alloc)?, "by-file", BY_FILE_HELP)?;
+    with_flag(alloc, with_by_file, "demangle", DEMANGLE_HELP)
 }
 
 /// The program's command, which requires a subcommand and has none yet. Its name appears in the

@@ -73,7 +73,8 @@ fn task_in(alloc: Global, name: &str, matches: &ArgMatches<'_>) -> Result<Task, 
     };
     let file = String::from_str(alloc, word)?;
     if is_word(name, "frames") {
-        return Ok(Task::Frames { file });
+        let demangle = is_set(matches, "demangle");
+        return Ok(Task::Frames { file, demangle });
     }
     if !is_word(name, "sizes") {
         return Err(WordsFault::Words(String::new(alloc)));
@@ -85,11 +86,13 @@ fn task_in(alloc: Global, name: &str, matches: &ArgMatches<'_>) -> Result<Task, 
         return Err(WordsFault::NotAnAddress);
     };
     let by_file = is_set(matches, "by-file");
+    let demangle = is_set(matches, "demangle");
     Ok(Task::Sizes {
         file,
         start,
         end,
         by_file,
+        demangle,
     })
 }
 

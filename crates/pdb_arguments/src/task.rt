@@ -10,6 +10,8 @@ pub enum Task {
     Frames {
         /// The program database's file.
         file: String,
+        /// Whether decorated names are undecorated.
+        demangle: bool,
     },
     /// Counts the addresses that each function or source file owns in a range.
     Sizes {
@@ -21,6 +23,8 @@ pub enum Task {
         end: u32,
         /// Whether files are counted in place of functions.
         by_file: bool,
+        /// Whether decorated names are undecorated.
+        demangle: bool,
     },
 }
 

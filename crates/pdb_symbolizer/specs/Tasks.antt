@@ -17,15 +17,15 @@ OnRangeReport false s start end P = (text : List ℕ) × IsSizesReport s start e
 -- This is said of the report that a task asks for: that on the lines of the input, where the input
 -- is known, or that on the range from START to END.
 abbrev pub OnReport : Task → Streams → Option (List ℕ) → (List ℕ → Type 0) → Type 0
-OnReport (Frames file) s input P = IfSome input (λ lines. P (report (line_text (answer s)) lines))
-OnReport (Sizes file start end by_file) s input P = OnRangeReport by_file s start end P
+OnReport (Frames file demangle) s input P = IfSome input (λ lines. P (report (line_text (answer s)) lines))
+OnReport (Sizes file start end by_file demangle) s input P = OnRangeReport by_file s start end P
 
 -- a task has a range, which is reversed
 abbrev pub IsReversed : Task → Type 0
-IsReversed (Frames file) = ⊥
-IsReversed (Sizes file start end by_file) = end < start
+IsReversed (Frames file demangle) = ⊥
+IsReversed (Sizes file start end by_file demangle) = end < start
 
 -- a task has no range, or one that isn't reversed
 abbrev pub IsInOrder : Task → Type 0
-IsInOrder (Frames file) = Unit {0}
-IsInOrder (Sizes file start end by_file) = start ≤ end
+IsInOrder (Frames file demangle) = Unit {0}
+IsInOrder (Sizes file start end by_file demangle) = start ≤ end

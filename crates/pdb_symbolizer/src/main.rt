@@ -1,6 +1,6 @@
 //! Answers addresses of a program by its program database: `pdb_symbolizer frames FILE`; and counts
 //! how many addresses of a range each function has, or with `--by-file` each source file:
-//! `pdb_symbolizer sizes FILE START END`.
+//! `pdb_symbolizer sizes FILE START END`. With `--demangle` names of functions are undecorated.
 #![tactic(auto)]
 
 ghost use Rattle.std.specs.Prelude.{◌≡◌, ℕ, ◌<◌, ◌≤◌, ◌⊎◌, List, None, IfErr, OnErr, OnOk};
@@ -22,6 +22,7 @@ use std::io::{self, ErrorKind, Read, Write};
 use std::process::ExitCode;
 use std::rt::Env;
 use std::{env, fs};
+use undecorated_lines::{ReportKind, UndecoratedWriter};
 
 /// The text that is reported if an argument isn't UTF-8.
 const NOT_UTF8: &str = "error: invalid UTF-8 was detected in one or more arguments\n\n\
@@ -42,11 +43,7 @@ fn main(rt: HostRuntime) -> ExitCode {
             return ExitCode::from(finish_words(&fault, &mut rt.stdout(), &mut errors));
         }
     };
-    let file = match &task {
-        Task::Frames { file } => file.as_str(),
-        Task::Sizes { file, .. } => file.as_str(),
-    };
-    let bytes = match bytes_of(&rt, file) {
+    let bytes = match bytes_of(&rt, file_of(&task)) {
         Ok(bytes) => bytes,
         Err(error) if error.kind() == ErrorKind::OutOfMemory => {
             return exit_with(&mut errors, "fault: OutOfMemory\n", 1);
@@ -54,9 +51,54 @@ fn main(rt: HostRuntime) -> ExitCode {
         Err(_) => return exit_with(&mut errors, "fault: ReadFile\n", 1),
     };
     let mut reader = Watched::new(rt.stdin());
-    let mut writer = Watched::new(rt.stdout());
-    let outcome = run_task(rt.alloc(), &task, bytes, &mut reader, &mut writer);
+    let outcome = write_report(rt.alloc(), &task, bytes, &mut reader, rt.stdout());
     ExitCode::from(finish_run(outcome, &mut errors))
+}
+
+/// The file that a task is about.
+fn file_of(task: &Task) -> &str {
+    match task {
+        Task::Frames { file, .. } => file.as_str(),
+        Task::Sizes { file, .. } => file.as_str(),
+    }
+}
+
+/// Which report a task asks for with undecorated names, if it does: by file it has no names of
+/// functions.
+fn undecorated_report(task: &Task) -> Option<ReportKind> {
+    match task {
+        Task::Frames { demangle: true, .. } => Some(ReportKind::Frames),
+        Task::Sizes {
+            by_file: false,
+            demangle: true,
+            ..
+        } => Some(ReportKind::Sizes),
+        _ => None,
+    }
+}
+
+/// Writes the report that is asked for to an output, through a writer that undecorates its names if
+/// that is asked for.
+///
+/// # Errors
+/// As `run_task`.
+fn write_report<R: Read, W: Write + Drop>(
+    alloc: Global,
+    task: &Task,
+    bytes: Vec<u8>,
+    reader: &mut Watched<R>,
+    output: W,
+) -> Result<(), RunFault> {
+    match undecorated_report(task) {
+        None => {
+            let mut writer = Watched::new(output);
+            run_task(alloc, task, bytes, reader, &mut writer)
+        }
+        Some(kind) => {
+            let mut writer = Watched::new(UndecoratedWriter::new(alloc, kind, output));
+            run_task(alloc, task, bytes, reader, &mut writer)
+        }
+    }
 }
 
 /// Reports why the arguments give no task, and returns the exit status; 1 where help can't be

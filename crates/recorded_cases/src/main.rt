@@ -1,6 +1,7 @@
 //! Goes through recorded cases of formatters and contexts: `recorded_cases FILE..`. Or asks about a
 //! database again, where a call finds no memory: `recorded_cases again KIND DATABASE FLAGS FILE`,
-//! as `again.rt` describes.
+//! as `again.rt` describes. Or writes the texts of decorated names: `recorded_cases undecorated
+//! FILE`, as `undecorated.rt` describes.
 //!
 //! The cases of a FILE have the form that `texts.rt` describes. Each case whose answer isn't as
 //! recorded is printed, and at last the number of cases.
@@ -9,6 +10,7 @@
 mod again;
 mod database;
 mod texts;
+mod undecorated;
 
 use anyhow::Result;
 use std::env;
@@ -37,6 +39,7 @@ fn main(rt: HostRuntime) -> Result<()> {
     let words = words_of(&rt)?;
     match words.first() {
         Some(word) if word.as_str() == "again" => again::run(&rt, &words),
+        Some(word) if word.as_str() == "undecorated" => undecorated::run(&rt, &words),
         _ => run_files(&rt, &words),
     }
 }

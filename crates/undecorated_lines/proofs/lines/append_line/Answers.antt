@@ -1,0 +1,8 @@
+use Rattle.undecorated_lines.proofs.LineSteps.{named_line}
+use Rattle.undecorated_lines.proofs.lines.append_line.Goals as goal
+
+pub returns : goal.returns
+returns c = named_line c.args.kind c.args.line.now c.name_start-start.result c.word_length.result
+    c.args.output.now.items _ _ _ _ c.name_start-start.ensures.is c.name_start-start.ensures.within
+    c.word_length.ensures.is c.in_ok-extend_from_slice.ensures.items c.in_ok-append_name.ensures
+    c.in_ok-extend_from_slice-2.ensures.items c.in_ok-push.ensures.items

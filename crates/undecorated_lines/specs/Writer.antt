@@ -1,0 +1,29 @@
+-- What a writer that undecorates names writes.
+use Rattle.std.specs.Prelude.{◌≡◌, ℕ, List, ◌++◌, Option}
+use Rattle.std.specs.Io.KnownBytes.{Appends}
+use Rattle.pdb_engine.specs.InputLines.{Begins}
+use Rattle.undecorated_lines.specs.Lines.{IsUnbroken, Undecorates}
+use Rattle.undecorated_lines.specs.declared.writer.UndecoratedWriter.{UndecoratedWriter}
+
+-- The lines that newlines end of what was pending and of the bytes were written with the texts of
+-- their names, and what comes after them is pending.
+pub record WritesEnded {W : Type 0} (contents : W → Option (List ℕ)) (old new : UndecoratedWriter W)
+    (bytes : List ℕ) : Type 0 where
+  pub same_kind : new.kind ≡ old.kind
+  pub pending : IsUnbroken new.pending.items
+  pub named : List ℕ
+  pub is_named : Undecorates old.kind (old.pending.items ++ bytes) new.pending.items named
+  pub out : Appends (contents old.writer) (contents new.writer) named
+
+-- A prefix of lines of what was pending and of the bytes was written with the texts of their names,
+-- and the bytes weren't taken.
+pub record WritesFrontOf {W : Type 0} (contents : W → Option (List ℕ))
+    (old new : UndecoratedWriter W) (bytes : List ℕ) : Type 0 where
+  pub same_kind : new.kind ≡ old.kind
+  pub same_pending : new.pending.items ≡ old.pending.items
+  pub rest : List ℕ
+  pub named : List ℕ
+  pub is_named : Undecorates old.kind (old.pending.items ++ bytes) rest named
+  pub front : List ℕ
+  pub out : Appends (contents old.writer) (contents new.writer) front
+  pub begins : Begins front named
