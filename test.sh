@@ -26,6 +26,7 @@ count python3 tests/stack.py
 count python3 tests/costly_files.py
 count python3 tests/undecorated.py
 count tests/version.sh
+count python3 tests/documents.py
 count tests/teeth.sh
 count python3 tests/edits_apply.py
 total

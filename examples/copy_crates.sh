@@ -1,15 +1,18 @@
 #!/usr/bin/env bash
-# Copies crates of this repository, and all that they stand on here, into another repository of the Rattle kit:
+# Copies crates of this repository, and all that they stand on here, into another repository of the
+# Rattle kit:
 #
 #   examples/copy_crates.sh TO CRATE..
 #
-# TO gets their folders in TO/crates, and their lines in TO/crates.txt, which is made if there is none. What is there already
-# stays. A crate can stand only on crates of its own repository and of the kit, so they are copied and not named from afar.
+# TO gets their folders in TO/crates, and their lines in TO/crates.txt, which is made if there is
+# none. Their licences go to TO/licences/haughpan. What is there already stays. A crate can stand only
+# on crates of its own repository and of the kit, so they are copied and not named from afar.
 set -eu
 top=$(cd "$(dirname "$0")/.." && pwd)
 to=${1:?usage: examples/copy_crates.sh TO CRATE..}
 shift
-mkdir -p "$to/crates"
+mkdir -p "$to/crates" "$to/licences/haughpan"
+cp "$top"/LICENSE-* "$to/licences/haughpan"
 touch "$to/crates.txt"
 
 # The crates to copy: the named ones, and what their lines name.

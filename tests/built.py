@@ -1,11 +1,14 @@
 """Built programs, which the scripts of this folder run, and how such a script ends.
 
 With `--built FILE` among its words a script runs the programs that FILE names, NAME in it standing
-for the name of one. Without it, it runs the proved ones: `rt ci` builds these, or `rt run` in the
-folder of a program.
+for the name of one. With `--unproved` it runs stand-ins, whose answers are those of programs that
+`rt try` compiles without proof (unproved.py). Otherwise it runs the proved ones: `rt ci` builds
+these, or `rt run` in the folder of a program.
 """
 import os
 import sys
+
+import unproved
 
 ROOT = os.path.dirname(os.path.dirname(os.path.realpath(__file__)))
 PROVED = f"{ROOT}/crates/NAME/out/NAME"
@@ -24,8 +27,13 @@ def stop(why):
     end(0, 1)
 
 
-def taken(words):
-    """Where the built programs lie, with NAME for a program's name, and the words but for that."""
+def taken(words, unproved_by=unproved.place):
+    """Where the programs lie, with NAME for a program's name, and the words but for that.
+    `unproved_by` makes those without proof; with None the script can't run any."""
+    if "--unproved" in words:
+        if unproved_by is None:
+            stop("it measures proved programs alone, or refuses their requests: build them")
+        return unproved_by(ROOT), [it for it in words if it != "--unproved"]
     if "--built" not in words:
         return PROVED, words
     at = words.index("--built")

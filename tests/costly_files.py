@@ -102,7 +102,7 @@ def is_within(which, case, size, answered, limit):
 
 
 def main():
-    place, _ = taken(sys.argv[1:])
+    place, _ = taken(sys.argv[1:], None)
     which = program(place, "pdb_symbolizer")
     passed = sum(is_within(which, *it) for it in CASES) + is_refused(which)
     end(passed, len(CASES) + 1 - passed)

@@ -11,9 +11,9 @@ one line, which is answered after those before it.
 FILE is a file of cases, in crates/recorded_cases/data or elsewhere; the databases lie in that
 folder of data. NAME is that of a case in one of the files below; without a word all of these are
 run. BUILT is where the program lies, with NAME in it for its name; if left out, the proved one is
-run, as each compiler of `rt ci` built it. A run that differs is printed by the name of its case, what differs in the file, and how the
-input was handed over, with the first line that differs. The last line is `N passed, M failed`, in
-cases of a program.
+run, as each compiler of `rt ci` built it. A run that differs is printed by the name of its case,
+what differs in the file, and how the input was handed over, with the first line that differs. The
+last line is `N passed, M failed`, in cases of a program.
 
 With --unproved `rt try` compiles the program without proof, and runs it on each file of the few
 cases that words name, input at once. It compares the output, which may have 1 MiB, and prints the
@@ -198,12 +198,13 @@ def run_built(programs, cases):
 
 
 def main():
-    place, words = taken(sys.argv[1:])
-    if words[:1] != ["--unproved"]:
-        run_built(programs_of(place), list(chosen(words)))
-    if not words[1:]:
-        stop("--unproved wants the names of cases, or files of few cases")
-    sys.exit(run_unproved(list(chosen(words[1:]))))
+    words = sys.argv[1:]
+    if words[:1] == ["--unproved"]:
+        if not words[1:]:
+            stop("--unproved wants the names of cases, or files of few cases")
+        sys.exit(run_unproved(list(chosen(words[1:]))))
+    place, words = taken(words)
+    run_built(programs_of(place), list(chosen(words)))
 
 
 if __name__ == "__main__":

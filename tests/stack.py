@@ -135,7 +135,7 @@ def least(which, file, wanted):
 
 
 def main():
-    place, words = taken(sys.argv[1:])
+    place, words = taken(sys.argv[1:], None)
     which = program(place, "pdb_symbolizer")
     passed = 0
     with tempfile.NamedTemporaryFile(suffix=".pdb") as file:

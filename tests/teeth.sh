@@ -6,7 +6,8 @@
 # Each script that takes --built is run over /bin/true, over /bin/cat and over no program, on a few
 # of its cases where it takes names of cases: a script that fails on these fails on all. It has to
 # end with status 1 and with a line `N passed, M failed` in which M isn't 0; and docs/RELEASING.md
-# has to have a row of what it says. Then what test.sh counts (tests/count.sh) is tried on commands
+# has to have a row of what it says. Then tests/documents.py is given a document with a stale row of
+# each kind, which it has to find. Then what test.sh counts (tests/count.sh) is tried on commands
 # that pass and fail in all ways. The last line is `N passed, M failed`.
 set -u
 cd "$(dirname "$0")/.."
@@ -46,6 +47,15 @@ over_nothing() { # SCRIPT WORD..
     expect "docs/RELEASING.md has no row $row" grep -qF "$row" docs/RELEASING.md
 }
 
+# Gives tests/documents.py a document with another text in place of one, which makes a row stale.
+stale() { # KIND DOCUMENT OLD NEW
+    local said ended
+    said=$(python3 tests/documents.py --with "${@:2}" 2>&1)
+    ended=$?
+    expect "tests/documents.py finds no stale $1 in $2, with '$4': '$said'" \
+        is_like "$ended ${said//$'\n'/ }" "1 .*$2:[0-9]+: $1: .* [1-9][0-9]* failed"
+}
+
 # Two commands that do as bash is told: one, and one by the name of that whose line may have more.
 plain() { bash -c "$1"; }
 rt() { plain "$1"; }
@@ -72,6 +82,26 @@ over_nothing fuzz.sh 20
 for script in $(cd tests && grep -l -- --built *.sh *.py */*.py); do
     expect "tests/$script isn't tried here" is_like "$tried" ".* $script .*"
 done
+
+stale link README.md docs/GUIDE.md docs/GUIDES.md
+stale anchor README.md GUIDE.md#as-a-library GUIDE.md#as-libraries
+stale map README.md '](CHANGELOG.md)' '](VERSION)'
+stale map docs/ARCHITECTURE.md '| `pdb_pieces` |' '| `pdb_slices` |'
+stale file CONTRIBUTING.md tests/commands.sh tests/command.sh
+stale word docs/GUIDE.md '`find_shared_frames`' '`find_joined_frames`'
+stale place docs/ARCHITECTURE.md '(`read_stream`)' '(`read_streams`)'
+stale place docs/ARCHITECTURE.md '`Procedures` (`over`)' '`Procedures` (`beneath`)'
+stale place docs/ARCHITECTURE.md loading.rt loadings.rt
+stale place docs/GLOSSARY.md pdb_items/specs/Items pdb_items/specs/Things
+stale clause docs/PROVED.md '`PageList::source_slices`' '`PageList::cut`'
+stale clause docs/PROVED.md '`loaded`, `refused`' '`loaded`, `turned_away`'
+stale clause docs/PROVED.md '`status`, `output`, `failed`' '`status`, `output`'
+stale clause docs/PROVED.md '`laws::calls_as_deep`' '`laws::calls_so_deep`'
+stale count docs/PROVED.md '789 whole' '788 whole'
+stale count docs/RELEASING.md '101 edits' '100 edits'
+stale date docs/DECISIONS.md 'cached nowhere. (28 Nov)' 'cached nowhere.'
+stale date docs/DECISIONS.md 'rattle-kit-' 'kit-'
+stale script docs/RELEASING.md '| `tests/stack.py`' '| `tests/stacks.py`'
 
 counted plain 'echo 5 passed, 0 failed' 5 0
 counted plain 'echo 5 passed, 2 failed; exit 1' 5 2

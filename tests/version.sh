@@ -1,15 +1,18 @@
 #!/usr/bin/env bash
 # Checks that all that names the version has that of VERSION:
 #
-#   tests/version.sh [--built FILE]
+#   tests/version.sh [--built FILE | --unproved]
 #
 # These are CHANGELOG.md's newest heading, the sources of the two programs, and what the programs
 # print when asked by --version; and no other document names it. The programs are the proved ones,
-# or those of FILE, with NAME in it for a program's name. The last line is `N passed, M failed`.
+# or those of FILE, with NAME in it for a program's name; with --unproved none is run. The last line
+# is `N passed, M failed`.
 set -u
 cd "$(dirname "$0")/.."
 built=crates/NAME/out/NAME
+programs="pdb_symbolizer pdb_llvm_symbolizer"
 [ "${1:-}" = --built ] && built=$2
+[ "${1:-}" = --unproved ] && programs=
 version=$(cat VERSION)
 exactly='(^|[^0-9.])'${version//./\\.}'($|[^0-9.]|\.($|[^0-9]))'
 passed=0
@@ -30,7 +33,7 @@ same "CHANGELOG.md's newest heading" "$newest" "## $version"
 for file in crates/pdb_arguments/src/command.rt crates/pdb_llvm_symbolizer/src/arguments.rt; do
     same "$file" "$(grep 'const VERSION: &str' "$file")" "const VERSION: &str = \"$version\";"
 done
-for name in pdb_symbolizer pdb_llvm_symbolizer; do
+for name in $programs; do
     said=$("${built//NAME/$name}" --version 2>&1; echo "status $?")
     same "$name --version" "$said" "$name $version"$'\nstatus 0'
 done
