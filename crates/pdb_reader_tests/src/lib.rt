@@ -7,5 +7,3 @@ mod container;
 mod database;
 #[cfg(test)]
 mod failing;
-#[cfg(test)]
-mod file_views;
