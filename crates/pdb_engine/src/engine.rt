@@ -60,6 +60,7 @@ pub fn run<A: Answers, R: Read, W: Write>(
     ensures grows { A.known answers.new → A.known answers.old }
     // Running changes no answer.
     ensures same { A.text answers.new ≡ A.text answers.old }
+    ensures subject { A.subject answers.new ≡ A.subject answers.old }
     // No call failed unnoticed, and no fault is made up.
     ensures quiet { OnOk result (IsQuiet reader.old reader.new × IsQuiet writer.old writer.new) }
     ensures kind { IfErr result IsOfRunning }
@@ -132,6 +133,7 @@ fn pump<A: Answers, R: Read, W: Write>(
     ensures quiet { OnOk result (IsQuiet reader.old reader.new × IsQuiet writer.old writer.new) }
     ensures grows { A.known answers.new → A.known answers.old }
     ensures same { A.text answers.new ≡ A.text answers.old }
+    ensures subject { A.subject answers.new ≡ A.subject answers.old }
     ensures kind { IfErr result IsOfRunning }
     ensures ends { IfErr result
         (λ fault. EndsRunning fault reader.old reader.new writer.old writer.new) }
@@ -192,6 +194,7 @@ fn answer_read<A: Answers, R: Read, W: Write>(
     ensures quiet { OnOk result (IsQuiet reader.old reader.new × IsQuiet writer.old writer.new) }
     ensures grows { A.known answers.new → A.known answers.old }
     ensures same { A.text answers.new ≡ A.text answers.old }
+    ensures subject { A.subject answers.new ≡ A.subject answers.old }
     ensures kind { IfErr result IsOfRunning }
     ensures ends { IfErr result
         (λ fault. EndsRunning fault reader.old reader.new writer.old writer.new) }
@@ -253,6 +256,7 @@ fn feed<A: Answers, W: Write>(
         (A.Start.kept start.old) bytes.now) }
     ensures grows { A.known answers.new → A.known answers.old }
     ensures same { A.text answers.new ≡ A.text answers.old }
+    ensures subject { A.subject answers.new ≡ A.subject answers.old }
     ensures quiet { OnOk result (IsQuiet writer.old writer.new) }
     ensures kind { IfErr result IsOfWriting }
     ensures ends { IfErr result (λ fault. EndsWriting fault writer.old writer.new) }
@@ -288,6 +292,7 @@ fn write_answers<A: Answers, W: Write>(
         (lines_of A.Start.kept requests.now))) }
     ensures grows { A.known answers.new → A.known answers.old }
     ensures same { A.text answers.new ≡ A.text answers.old }
+    ensures subject { A.subject answers.new ≡ A.subject answers.old }
     ensures quiet { OnOk result (IsQuiet writer.old writer.new) }
     ensures kind { IfErr result IsOfWriting }
     ensures ends { IfErr result (λ fault. EndsWriting fault writer.old writer.new) }
@@ -323,6 +328,7 @@ fn gather_answer<A: Answers, W: Write>(
     ensures short { OnOk result (length pending.new.items < 65536) }
     ensures grows { A.known answers.new → A.known answers.old }
     ensures same { A.text answers.new ≡ A.text answers.old }
+    ensures subject { A.subject answers.new ≡ A.subject answers.old }
     ensures quiet { OnOk result (IsQuiet writer.old writer.new) }
     ensures kind { IfErr result IsOfWriting }
     ensures ends { IfErr result (λ fault. EndsWriting fault writer.old writer.new) }
@@ -392,6 +398,7 @@ fn answer_line<A: Answers, W: Write>(
         (Writes W.contents writer.old writer.new (A.text answers.old line.now)) }
     ensures grows { A.known answers.new → A.known answers.old }
     ensures same { A.text answers.new ≡ A.text answers.old }
+    ensures subject { A.subject answers.new ≡ A.subject answers.old }
     ensures quiet { OnOk result (IsQuiet writer.old writer.new) }
     ensures kind { IfErr result IsOfWriting }
     ensures ends { IfErr result (λ fault. EndsWriting fault writer.old writer.new) }

@@ -134,6 +134,7 @@ fn answer_request<A: Answers>(
         ((texts.new.items ≡ texts.old.items) × (request.new ≡ request.old)) }
     ensures grows { A.known answers.new → A.known answers.old }
     ensures same { A.text answers.new ≡ A.text answers.old }
+    ensures subject { A.subject answers.new ≡ A.subject answers.old }
 {
     let start = texts.len();
     if start >= AHEAD_SIZE {
@@ -165,6 +166,7 @@ fn answer_numbered<A: Answers>(
         → HaveLast texts.new.items requests.new.items }
     ensures grows { A.known answers.new → A.known answers.old }
     ensures same { A.text answers.new ≡ A.text answers.old }
+    ensures subject { A.subject answers.new ≡ A.subject answers.old }
 {
     match requests.get_mut(index) {
         None => Ok(false),
@@ -191,6 +193,7 @@ fn answer_in_turn<A: Answers>(
         → HaveLast texts.new.items requests.new.items }
     ensures grows { A.known answers.new → A.known answers.old }
     ensures same { A.text answers.new ≡ A.text answers.old }
+    ensures subject { A.subject answers.new ≡ A.subject answers.old }
 {
     for turn in turns {
         if !answer_numbered(alloc, answers, requests, turn.index, texts)? {
@@ -221,6 +224,7 @@ pub fn answer_ahead<A: Answers>(
     ensures last { HaveLast texts.new.items requests.new.items }
     ensures grows { A.known answers.new → A.known answers.old }
     ensures same { A.text answers.new ≡ A.text answers.old }
+    ensures subject { A.subject answers.new ≡ A.subject answers.old }
 {
     clear_room(alloc, texts, AHEAD_SIZE);
     let mut turns = turns(alloc, answers, requests)?;
@@ -252,6 +256,7 @@ pub fn append_answer<A: Answers>(
     ensures refused { OnErr result (output.new.items ≡ output.old.items) }
     ensures grows { A.known answers.new → A.known answers.old }
     ensures same { A.text answers.new ≡ A.text answers.old }
+    ensures subject { A.subject answers.new ≡ A.subject answers.old }
 {
     match request.made {
         Some(made) => output.extend_from_slice(&texts[made.start..made.end]),

@@ -9,6 +9,7 @@ reads-preserved g c = record {
   room = c.answer_read.ensures.room ∙ c.reads.invariant.room;
   grows = λ known. c.reads.invariant.grows (c.answer_read.ensures.grows known);
   same = c.answer_read.ensures.same ∙ c.reads.invariant.same;
+  subject = c.answer_read.ensures.subject ∙ c.reads.invariant.subject;
   quiet_reader = search rules;
   quiet_writer = search rules;
 }

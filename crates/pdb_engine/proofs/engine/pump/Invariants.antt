@@ -19,6 +19,7 @@ invariant-reads g l =
       room : length l.buffers.chunk.items ≡ length l.fn.buffers.chunk.items;
       grows : g.A.Answers.known l.answers → g.A.Answers.known l.fn.answers;
       same : text l.answers ≡ text l.fn.answers;
+      subject : g.A.Answers.subject l.answers ≡ g.A.Answers.subject l.fn.answers;
       quiet_reader : IsQuiet l.fn.reader l.reader;
       quiet_writer : IsQuiet l.fn.writer l.writer;
     }

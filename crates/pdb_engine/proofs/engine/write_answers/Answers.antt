@@ -14,6 +14,7 @@ loop-request-preserved g c = record {
   out = λ known. out_more _ _ _ _ _ _ _ _ _ c.loop-request.request-index c.request-item.result c.loop-request-test.true (search rules) c.loop-request.invariant.same (c.loop-request.invariant.out (c.gather_answer.ensures.grows known)) (c.in_ok-gather_answer.ensures.ok known);
   grows = λ known. c.loop-request.invariant.grows (c.gather_answer.ensures.grows known);
   same = c.gather_answer.ensures.same ∙ c.loop-request.invariant.same;
+  subject = c.gather_answer.ensures.subject ∙ c.loop-request.invariant.subject;
   quiet = search rules;
 }
 

@@ -14,5 +14,6 @@ invariant-loop-request g l =
       out : g.A.Answers.known l.answers → (out : List ℕ) × Appends (contents (inner_of l.fn.writer)) (contents (inner_of l.writer)) out × (flat_map (text l.fn.answers) (lines_of g.A.Start.LineStart.kept (take l.request-index l.requests)) ≡ out ++ l.pending.items);
       grows : g.A.Answers.known l.answers → g.A.Answers.known l.fn.answers;
       same : text l.answers ≡ text l.fn.answers;
+      subject : g.A.Answers.subject l.answers ≡ g.A.Answers.subject l.fn.answers;
       quiet : IsQuiet l.fn.writer l.writer;
     }

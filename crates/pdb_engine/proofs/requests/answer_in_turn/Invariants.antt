@@ -13,4 +13,5 @@ invariant-loop-turn g l =
       last : HaveLast l.fn.texts.items l.fn.requests.items → HaveLast l.texts.items l.requests.items;
       grows : g.A.Answers.known l.answers → g.A.Answers.known l.fn.answers;
       same : text l.answers ≡ text l.fn.answers;
+      subject : g.A.Answers.subject l.answers ≡ g.A.Answers.subject l.fn.answers;
     }
