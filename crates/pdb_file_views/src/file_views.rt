@@ -14,18 +14,19 @@ use std::io::{self, ErrorKind};
 use std::marker::Model;
 use std::os::unix::fs::FileExt;
 
-/// Where the first of the slices begins; 0 where there is none.
+/// Where the first of the slices begins; `u64::MAX` where there is none, or where that has no byte.
+/// Bytes of two views begin at different places.
 pub(crate) fn first_of(slices: &[SourceSlice]) -> u64 {
     match slices.first() {
-        Some(slice) => slice.offset,
-        None => 0,
+        Some(slice) if slice.size > 0 => slice.offset,
+        _ => u64::MAX,
     }
 }
 
 /// A view of a file: the slices that were asked for, and their bytes, joined.
 #[derive(Drop)]
 pub struct FileView {
-    /// Where the first slice begins; 0 where there is none.
+    /// Where the first slice begins ([`first_of`]).
     pub(crate) first: u64,
     pub(crate) slices: Vec<SourceSlice>,
     pub(crate) bytes: SharedBytes,
@@ -133,8 +134,8 @@ impl FileViews {
         })
     }
 
-    /// Reads a view of the file. Returns whether it can be had: not where a block of it was read
-    /// before, is in two of the slices, or lies past the end.
+    /// Reads a view of the file. Returns whether it can be had: not where reading a block of it was
+    /// tried before, or where one is in two of the slices, or lies past the end.
     ///
     /// # Errors
     /// Those of the file; `UnexpectedEof` where the file became shorter; `OutOfMemory`.

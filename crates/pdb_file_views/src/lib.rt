@@ -7,12 +7,14 @@
 #![tactic(auto)]
 
 mod block_marks;
+mod file_reach;
 mod file_source;
 mod file_views;
 mod slices;
 mod view_source;
 mod wanted;
 
+pub use file_reach::reach;
 pub use file_source::{FileLimits, FileSource};
 pub use file_views::{FileView, FileViews};
 pub use view_source::ViewSource;

@@ -1,12 +1,13 @@
 //! Views that were asked for and aren't there.
 
+use crate::file_views::first_of;
 use pdb_container::SourceSlice;
 use std::alloc::{AllocError, Global};
 use std::mem::replace;
 use std::sync::{Arc, Mutex};
 
-/// Views of a file that were asked for and weren't read yet, in the order in which they were asked
-/// for. Its shares note in one list. No answer depends on it.
+/// Views of a file that were asked for and weren't read yet. Its shares note in one list. No answer
+/// depends on it.
 #[derive(Drop)]
 pub struct Wanted {
     views: Arc<Mutex<Vec<Vec<SourceSlice>>>>,
@@ -45,11 +46,14 @@ impl Wanted {
         let _ = views.push(noted);
     }
 
-    /// Takes what was noted: the list has none then.
+    /// Takes what was noted, each view once: the list has none then.
     pub fn take(&self, alloc: Global) -> Vec<Vec<SourceSlice>> {
-        match self.views.try_lock() {
+        let mut views = match self.views.try_lock() {
             Some(mut views) => replace(&mut *views, Vec::new(alloc)),
             None => Vec::new(alloc),
-        }
+        };
+        views.sort_unstable_by_key(|slices: &Vec<SourceSlice>| first_of(slices));
+        views.dedup();
+        views
     }
 }

@@ -1,0 +1,25 @@
+//! How far a file may be read.
+
+use pdb_container::{may_be_container, pages_end};
+use std::io::{self, ErrorKind};
+use std::os::unix::fs::FileExt;
+
+/// How many bytes of a file say where its pages end.
+const FRONT: usize = 44;
+
+/// How many bytes the header and its list of pages lie in.
+const HEADER_VIEW: u64 = 4096;
+
+/// How far a file of `size` bytes may be read: to the end of its pages; a file that is no container
+/// no further than a header. What lies behind is part of no stream.
+///
+/// # Errors
+/// Those of the file.
+pub fn reach<F: FileExt>(file: &F, size: u64) -> io::Result<u64> {
+    let mut front = [0u8; FRONT];
+    match file.read_exact_at(&mut front, 0) {
+        Ok(()) if may_be_container(&front) => Ok(size.min(pages_end(&front).max(HEADER_VIEW))),
+        Err(error) if error.kind() != ErrorKind::UnexpectedEof => Err(error),
+        _ => Ok(size.min(HEADER_VIEW)),
+    }
+}
