@@ -19,6 +19,7 @@ use pdb_container::{Result, Source};
 use pdb_file_views::FileSource;
 use pdb_loading::{HeldDatabase, KeptModules, collect_modules, hold_database, read_database};
 use pdb_resolving::{Error, ModuleProvider};
+use pdb_symbols::SymbolTable;
 use pdb_symbols_modules::{DebugInformation, Module, ModuleInfo, PDB};
 use pdb_text_pieces::TypeFormatterFlags;
 use std::alloc::Global;
@@ -144,6 +145,13 @@ impl<'p, 's, S: Source> ContextPdbData<'p, 's, S> {
         ensures { result.now ≡ self.now.debug_information }
     {
         &self.held.debug_information
+    }
+
+    /// The symbol records, public symbols among them.
+    pub fn symbol_records(&self) -> &SymbolTable<'s>
+        ensures { result.now ≡ self.now.tables.symbol_records }
+    {
+        &self.held.tables.symbol_records
     }
 
     /// The modules' own streams.
