@@ -1,5 +1,5 @@
 -- How long an answer is.
-use Rattle.std.specs.Prelude.{ℕ}
+use Rattle.std.specs.Prelude.{◌≡◌, ℕ, List, Option, Some}
 use Rattle.std.specs.Vec.{vec_len}
 use Rattle.msvc_demangler.specs.declared.answer.Demangled.{Demangled}
 use Rattle.msvc_demangler.specs.declared.answer.Demangled.TheVariants.{Text, Undecorated}
@@ -8,3 +8,8 @@ use Rattle.msvc_demangler.specs.declared.answer.Demangled.TheVariants.{Text, Und
 abbrev pub text_length : Demangled → ℕ
 text_length (Text text) = vec_len text
 text_length Undecorated = 0
+
+-- an answer that is a text is this one
+abbrev pub IsTextOf : Option (List ℕ) → Demangled → Type 0
+IsTextOf expected (Text text) = expected ≡ Some text.items
+IsTextOf expected Undecorated = Unit {0}

@@ -2,8 +2,12 @@ pub mod Answer
 pub mod Bytes
 pub mod CNames
 pub mod Characters
+pub mod Literals
 pub mod Methods
 pub mod Numbers
 pub mod Operators
+pub mod Pieces
 pub mod Qualified
+pub mod References
+pub mod Texts
 pub mod Words

@@ -1,9 +1,10 @@
 -- What the letter of a method says of it.
 use Rattle.std.specs.Prelude.{ℕ, ◌-◌, ◌/◌, ◌%◌, ◌==◌, ◌&&◌, ◌||◌, nat_le, not, if◌then◌else◌}
-use Rattle.std.specs.Prelude.{Option, None, Some}
+use Rattle.std.specs.Prelude.{Option, None, Some, codes}
 use Rattle.msvc_demangler.specs.declared.words.Access.{Access}
 use Rattle.msvc_demangler.specs.declared.words.Access.TheVariants.{Private, Protected, Public}
 use Rattle.msvc_demangler.specs.declared.methods.MethodClass.{MethodClass}
+use Rattle.msvc_demangler.specs.Words.{Text}
 
 -- who may call the methods of a group of eight letters
 abbrev pub access : ℕ → Access
@@ -23,3 +24,27 @@ method_in group pair = record {
 unfoldable pub method_class : ℕ → Option MethodClass
 method_class b =
     if nat_le 65 b && nat_le b 88 then Some (method_in ((b - 65) / 8) ((b - 65) % 8 / 2)) else None
+
+-- who may see a variable, by the digit of its storage: 0 to 2 are static members, 3 is global and 4
+-- local to a function
+unfoldable pub storage : ℕ → Option (Option Access)
+storage b =
+    if b == 48 then Some (Some Private)
+    else if b == 49 then Some (Some Protected)
+    else if b == 50 then Some (Some Public)
+    else if (b == 51) || (b == 52) then Some None
+    else None
+
+-- who may call the virtual method whose thunk has a digit, by pairs of digits
+unfoldable pub thunk_access : ℕ → Option Access
+thunk_access b =
+    if (b == 48) || (b == 49) then Some Private
+    else if (b == 50) || (b == 51) then Some Protected
+    else if (b == 52) || (b == 53) then Some Public
+    else None
+
+-- what is printed before a member
+abbrev pub access_text : Access → Text
+access_text Private = codes "private: "
+access_text Protected = codes "protected: "
+access_text Public = codes "public: "

@@ -1,5 +1,6 @@
 -- Words that letters stand for, of types and of functions.
-use Rattle.std.specs.Prelude.{ℕ, ◌==◌, ◌||◌, if◌then◌else◌, List, [], Option, None, Some, codes}
+use Rattle.std.specs.Prelude.{ℕ, ◌==◌, ◌&&◌, ◌||◌, if◌then◌else◌, List, [], Option, None, Some}
+use Rattle.std.specs.Prelude.{codes, drop, length, nat_lt, option_map, slice_index}
 
 -- what is printed, as bytes
 abbrev pub Text : Type 0
@@ -34,6 +35,21 @@ later_basic_type b =
     else if b == 85 then Some (codes "char32_t")
     else if b == 87 then Some (codes "wchar_t")
     else None
+
+-- a word, and what comes after it
+abbrev pub before : List ℕ → Option Text → Option (Text × List ℕ)
+before after word = option_map (λ w. (w, after)) word
+
+-- the basic type that a text begins with, and what comes after: $$T for std::nullptr_t, a letter
+-- after _, or a letter
+unfoldable pub basic_type_of : List ℕ → Option (Text × List ℕ)
+basic_type_of text =
+    if nat_lt (length text) 1 then None
+    else if (slice_index text 0 == 36) && ((slice_index text 1 == 36) && (slice_index text 2 == 84))
+    then Some (codes "std::nullptr_t", drop 3 text)
+    else if (slice_index text 0 == 95) && nat_lt 1 (length text)
+    then before (drop 2 text) (later_basic_type (slice_index text 1))
+    else before (drop 1 text) (basic_type (slice_index text 0))
 
 -- the keyword that a letter before a name stands for
 unfoldable pub keyword : ℕ → Option Text

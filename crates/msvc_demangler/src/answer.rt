@@ -1,8 +1,11 @@
 //! The text of a decorated name.
 
-ghost use Rattle.std.specs.Prelude.{◌≤◌, ◌^◌, IfOk};
+ghost use Rattle.std.specs.Prelude.{◌+◌, ◌*◌, ◌≤◌, ◌^◌, IfOk, length};
+ghost use Rattle.std.specs.Prelude.{◌≡◌, ℕ, IsTrue, List, option_and_then};
+ghost use Rattle.std.specs.List.{slice_get};
 ghost use Rattle.std.specs.Vec.{vec_len};
-ghost use Rattle.msvc_demangler.specs.Answer.{text_length};
+ghost use Rattle.msvc_demangler.specs.Answer.{IsTextOf, text_length};
+ghost use Rattle.msvc_demangler.specs.Literals.{is_literal, literal_in, literal_name};
 
 use crate::flags::DemangleFlags;
 use crate::parser::Parser;
@@ -10,11 +13,14 @@ use crate::printer::{Piece, print_tree};
 use crate::stop::{Result, Stop};
 use std::alloc::{AllocError, Global};
 
-/// How much is printed for a name at most, in steps and bytes, the parts included that are printed
-/// to be referred to. MSVC cuts decorated names off at 4,096 characters: in place of a longer one it
-/// writes `??@`, a digest and `@`. A name of a few hundred that refers back to references could else
-/// have a text of any length.
-const MOST_PRINTED: usize = 1 << 20;
+/// The work that is done for a name.
+#[derive(Clone, Copy)]
+struct Work {
+    /// How many tasks of reading.
+    tasks: usize,
+    /// How many pieces are printed, those included of parts that are printed to be referred to.
+    pieces: usize,
+}
 
 /// The text of a name, or that it has none.
 #[derive(Debug, Drop)]
@@ -26,8 +32,9 @@ pub enum Demangled {
 }
 
 /// The text of a decorated name of Visual C++, as `llvm-undname` 19 prints it, without what the
-/// flags leave out. What follows a decorated name doesn't count. Where more than 2^20 steps and
-/// bytes would have to be printed, the name counts as one that isn't decorated.
+/// flags leave out. What follows a decorated name doesn't count. Where more than 2^20 pieces and
+/// bytes would have to be printed, the name counts as one that isn't decorated, and so do names of
+/// Rust (`_R..`) and of the Itanium ABI (`_ZN..`).
 ///
 /// # Errors
 /// Memory ran out.
@@ -36,23 +43,58 @@ pub fn demangle(
     name: &[u8],
     flags: DemangleFlags,
 ) -> std::result::Result<Demangled, AllocError>
-    ensures { IfOk result (λ d. text_length d ≤ 2 ^ 20) }
+    ensures few { IfOk result (λ d. text_length d ≤ 2 ^ 20) }
+    ensures literal { IsTrue (is_literal name.now)
+        → IfOk result (λ d. IsTextOf (literal_name name.now) d) }
 {
-    match text_of(alloc, name, flags) {
+    let mut work = Work {
+        tasks: 0,
+        pieces: 0,
+    };
+    match text_of(alloc, name, flags, &mut work) {
         Ok(text) => Ok(Demangled::Text(text)),
         Err(Stop::Undecorated) => Ok(Demangled::Undecorated),
         Err(Stop::OutOfMemory) => Err(AllocError),
     }
 }
 
-/// The text of a decorated name.
-fn text_of(alloc: Global, name: &[u8], flags: DemangleFlags) -> Result<Vec<u8>>
-    ensures { IfOk result (λ text. vec_len text ≤ 2 ^ 20) }
+/// The text of a name that was read, and how many pieces were printed for it in all.
+fn print(
+    parser: &Parser<'_>,
+    symbol: usize,
+    flags: DemangleFlags,
+    pieces: &mut usize,
+) -> Result<Vec<u8>>
+    ensures few { IfOk result (λ text. vec_len text ≤ 2 ^ 20) }
+    ensures pieces { pieces.new ≤ 2 ^ 20 }
+    ensures literal { (text : List ℕ) → option_and_then
+        (literal_in parser.now.tree.texts.items) (slice_get parser.now.tree.nodes.items symbol)
+        ≡ Some text → IfOk result (λ printed. printed.items ≡ text) }
 {
-    let mut parser = Parser::new(alloc, name, MOST_PRINTED)?;
-    let symbol = parser.read()?;
+    let mut budget = parser.budget;
     let piece = Piece::Whole(symbol, flags);
-    let budget = parser.budget.min(MOST_PRINTED);
-    let printed = print_tree(alloc, &parser.tree, piece, budget)?;
-    Ok(printed.text)
+    let text = print_tree(parser.alloc, &parser.tree, piece, &mut budget);
+    *pieces = budget.pieces;
+    text
+}
+
+/// The text of a decorated name, and the work that is done for it, or for finding that it has none.
+fn text_of(alloc: Global, name: &[u8], flags: DemangleFlags, work: &mut Work) -> Result<Vec<u8>>
+    ensures few { IfOk result (λ text. vec_len text ≤ 2 ^ 20) }
+    ensures literal { IsTrue (is_literal name.now)
+        → IfOk result (λ text. literal_name name.now ≡ Some text.items) }
+    ensures tasks { work.new.tasks ≤ 32 * (length name.now + 1) }
+    ensures pieces { work.new.pieces ≤ 2 ^ 20 }
+{
+    *work = Work {
+        tasks: 0,
+        pieces: 0,
+    };
+    let mut parser = Parser::new(alloc, name)?;
+    let read = parser.read(&mut work.tasks);
+    work.pieces = parser.budget.pieces;
+    match read {
+        Ok(symbol) => print(&parser, symbol, flags, &mut work.pieces),
+        Err(stop) => Err(stop),
+    }
 }

@@ -33,8 +33,8 @@ pub(crate) const NO_CONVENTION: DemangleFlags = DemangleFlags {
     no_variable_type: false,
 };
 
-/// A short text, as `llvm-symbolizer` prints it: access, the calling convention, `static`, `virtual`
-/// and the type that a function returns are left out.
+/// A short text, as `llvm-symbolizer` prints it: access, the calling convention, `static`,
+/// `virtual` and the type that a function returns are left out.
 pub const SHORT_TEXT: DemangleFlags = DemangleFlags {
     no_access_specifier: true,
     no_calling_convention: true,

@@ -1,5 +1,11 @@
 //! Functions: their types, and what the codes of symbols say of them.
 
+ghost use Rattle.std.specs.Prelude.{◌≡◌, IsTrue, OnOk, slice_index};
+ghost use Rattle.msvc_demangler.specs.Bytes.{is_digit};
+ghost use Rattle.msvc_demangler.specs.Methods.{thunk_access};
+ghost use Rattle.msvc_demangler.specs.References.{referred, types_of};
+ghost use Rattle.msvc_demangler.specs.Texts.{last_value};
+
 use crate::methods::method_of;
 use crate::parser::Parser;
 use crate::qualifiers::UNQUALIFIED;
@@ -9,7 +15,10 @@ use crate::tree::{Adjustment, FunctionClass, Node, Parameters, Signature, Symbol
 use crate::words::{Access, convention_of};
 
 /// Who may call the virtual method whose thunk has this digit.
-fn thunk_access_of(code: u8) -> Option<Access> {
+#[tactic(auto, unfolding(crate::specs::Methods::thunk_access))]
+fn thunk_access_of(code: u8) -> Option<Access>
+    ensures { result ≡ thunk_access code }
+{
     match code {
         b'0' | b'1' => Some(Access::Private),
         b'2' | b'3' => Some(Access::Protected),
@@ -47,13 +56,7 @@ impl<'n> Parser<'n> {
             Task::Signature(has_this) => self.start_signature(has_this),
             Task::Parameters => self.start_parameters(),
             Task::MoreParameters(count) => self.read_parameter(count),
-            Task::Remember(left) => {
-                let index = self.top()?;
-                if left.saturating_sub(self.rest.len()) > 1 {
-                    self.remember_parameter(index)?;
-                }
-                Ok(())
-            }
+            Task::Remember(left) => self.remember_long(left),
             Task::SignatureEnd(front) => self.end_signature(front),
             Task::FunctionEnd(class, adjustment) => {
                 let signature = self.pop()?;
@@ -180,8 +183,11 @@ impl<'n> Parser<'n> {
         self.read_parameter(0)
     }
 
-    /// Reads the next parameter, or the end of them.
-    fn read_parameter(&mut self, count: usize) -> Result<()> {
+    /// Reads the next parameter, a digit for a type that is remembered, or the end of them.
+    fn read_parameter(&mut self, count: usize) -> Result<()>
+        ensures { let first = slice_index self.old.rest.now 0 in IsTrue (is_digit first)
+            → OnOk result (last_value self.new ≡ referred (types_of self.old) first) }
+    {
         let rest = self.rest;
         match rest {
             [end @ (b'@' | b'Z'), after @ ..] => {
@@ -191,8 +197,7 @@ impl<'n> Parser<'n> {
             }
             [digit @ b'0'..=b'9', after @ ..] => {
                 self.rest = after;
-                let index = self.remembered_parameter(*digit)?;
-                self.push(index)?;
+                self.refer_to_parameter(*digit)?;
                 self.plan(Task::MoreParameters(count.saturating_add(1)))
             }
             _ => {

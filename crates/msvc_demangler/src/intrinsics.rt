@@ -1,5 +1,8 @@
 //! Symbols that a compiler makes: tables, type information, guards, thunks.
 
+ghost use Rattle.std.specs.Prelude.{◌≡◌, OnOk, drop, option_map, slice_index};
+ghost use Rattle.msvc_demangler.specs.Literals.{HandsOn, literal_of};
+
 use crate::functions::unwritten_signature;
 use crate::parser::Parser;
 use crate::qualifiers::{Qualifiers, UNQUALIFIED};
@@ -27,7 +30,11 @@ impl<'n> Parser<'n> {
     }
 
     /// Reads a symbol after its `?`.
-    pub(crate) fn start_intrinsic(&mut self) -> Result<()> {
+    pub(crate) fn start_intrinsic(&mut self) -> Result<()>
+        ensures { slice_index self.old.rest.now 0 ≡ 63 → slice_index self.old.rest.now 1 ≡ 95
+            → slice_index self.old.rest.now 2 ≡ 67 → OnOk result (HandsOn
+            (option_map (λ l. l.0) (literal_of (drop 3 self.old.rest.now))) self.old self.new) }
+    {
         let rest = self.rest;
         match rest {
             [b'?', b'_', b'_', code @ (b'E' | b'F' | b'J'), after @ ..] => {
@@ -105,7 +112,10 @@ impl<'n> Parser<'n> {
     }
 
     /// Reads a table, a guard, a thunk or a string literal.
-    fn start_table(&mut self, code: u8) -> Result<()> {
+    fn start_table(&mut self, code: u8) -> Result<()>
+        ensures { code ≡ 67 → OnOk result (HandsOn
+            (option_map (λ l. l.0) (literal_of self.old.rest.now)) self.old self.new) }
+    {
         match code {
             b'7' => self.start_scopes(Identifier::Fixed("`vftable'"), Task::Table),
             b'8' => self.start_scopes(Identifier::Fixed("`vbtable'"), Task::Table),

@@ -1,10 +1,10 @@
 //! The letters of qualifiers.
 
 ghost use Rattle.std.specs.Prelude.{◌≡◌};
-ghost use Rattle.msvc_demangler.specs.Bytes.{after_optional as after_optional_of};
-ghost use Rattle.msvc_demangler.specs.Qualified.{letter_qualifiers, qualified as qualified_of};
+ghost use Rattle.msvc_demangler.specs.Qualified.{extended, letter_qualifiers};
+ghost use Rattle.msvc_demangler.specs.Qualified.{qualified as qualified_of};
 
-use crate::bytes::after_optional;
+use crate::bytes::{after_optional, byte_at};
 use crate::qualifiers::Qualifiers;
 
 /// `const` and `volatile`, as these say.
@@ -37,17 +37,15 @@ pub(crate) fn qualifiers_of(code: u8) -> Option<Qualifiers>
 /// The qualifiers of a pointer before its pointee: `E` for one of 64 bits, which isn't printed, `I`
 /// for `__restrict` and `F` for `__unaligned`. And what comes after them.
 pub(crate) fn extended_qualifiers(rest: &[u8]) -> (Qualifiers, &[u8])
-    ensures { result.1.now
-        ≡ after_optional_of 70 (after_optional_of 73 (after_optional_of 69 rest.now)) }
+    ensures { (result.0, result.1.now) ≡ extended rest.now }
 {
-    let restricted = after_optional(b'E', rest);
-    let unaligned = after_optional(b'I', restricted);
-    let after = after_optional(b'F', unaligned);
+    let wide = after_optional(b'E', rest);
+    let restricted = after_optional(b'I', wide);
     let qualifiers = Qualifiers {
         is_const: false,
         is_volatile: false,
-        is_restrict: unaligned.len() < restricted.len(),
-        is_unaligned: after.len() < unaligned.len(),
+        is_restrict: byte_at(wide, 0) == b'I',
+        is_unaligned: byte_at(restricted, 0) == b'F',
     };
-    (qualifiers, after)
+    (qualifiers, after_optional(b'F', restricted))
 }

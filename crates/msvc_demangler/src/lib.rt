@@ -3,12 +3,14 @@
 
 mod answer;
 mod arguments;
+mod budget;
 mod bytes;
 mod c_names;
 mod characters;
 mod flags;
 mod functions;
 mod intrinsics;
+pub mod laws;
 mod letters;
 mod literals;
 mod methods;
@@ -21,6 +23,7 @@ mod print_symbols;
 mod print_types;
 mod printer;
 mod qualifiers;
+mod references;
 mod stop;
 mod symbols;
 mod tasks;

@@ -1,5 +1,10 @@
 //! Names: identifiers, templates, local scopes.
 
+ghost use Rattle.std.specs.Prelude.{◌≡◌, IsTrue, OnOk, option_and_then, slice_index};
+ghost use Rattle.msvc_demangler.specs.Bytes.{is_digit};
+ghost use Rattle.msvc_demangler.specs.References.{name_in, names_of, referred, with_next};
+ghost use Rattle.msvc_demangler.specs.Texts.{handed};
+
 use crate::numbers::{Number, begins_local_scope};
 use crate::operators::{last_operator_of, later_operator_of, operator_of};
 use crate::parser::Parser;
@@ -25,14 +30,17 @@ impl<'n> Parser<'n> {
         }
     }
 
-    /// Reads an identifier.
-    fn start_identifier(&mut self, place: Place) -> Result<()> {
+    /// Reads an identifier: a digit for one that is remembered, or what its first bytes say.
+    fn start_identifier(&mut self, place: Place) -> Result<()>
+        ensures { let first = slice_index self.old.rest.now 0 in IsTrue (is_digit first)
+            → OnOk result (option_and_then (name_in self.new.tree.texts.items) (handed self.new)
+            ≡ referred (names_of self.old) first) }
+    {
         let rest = self.rest;
         match (rest, place) {
             ([digit @ b'0'..=b'9', after @ ..], _) => {
                 self.rest = after;
-                let name = self.remembered_name(*digit)?;
-                self.give_identifier(Identifier::Named(name))
+                self.refer_to_name(*digit)
             }
             ([b'?', b'$', after @ ..], _) => {
                 self.rest = after;
@@ -55,7 +63,9 @@ impl<'n> Parser<'n> {
     }
 
     /// Reads a plain name, and remembers it.
-    fn read_simple(&mut self) -> Result<()> {
+    fn read_simple(&mut self) -> Result<()>
+        ensures { OnOk result (names_of self.new ≡ with_next self.old) }
+    {
         let name = self.take_until_at()?;
         if name.count == 0 {
             return Err(Stop::Undecorated);
@@ -65,7 +75,9 @@ impl<'n> Parser<'n> {
     }
 
     /// Reads an anonymous namespace, of which the key is remembered.
-    fn read_anonymous(&mut self) -> Result<()> {
+    fn read_anonymous(&mut self) -> Result<()>
+        ensures { OnOk result (names_of self.new ≡ with_next self.old) }
+    {
         let key = self.take_until_at()?;
         self.remember_name(key)?;
         self.give_identifier(Identifier::Fixed("`anonymous namespace'"))
@@ -112,8 +124,7 @@ impl<'n> Parser<'n> {
     fn start_template(&mut self, place: Place) -> Result<()> {
         let first_name = self.first_name;
         let first_parameter = self.first_parameter;
-        self.first_name = self.names.len();
-        self.first_parameter = self.parameters.len();
+        self.enter_template();
         self.plan(Task::Identifier(Place::Symbol))?;
         self.plan(Task::Arguments(0))?;
         self.plan(Task::TemplateEnd(first_name, first_parameter, place != Place::Symbol))
@@ -126,10 +137,7 @@ impl<'n> Parser<'n> {
         first_parameter: usize,
         is_remembered: bool,
     ) -> Result<()> {
-        self.names.truncate(self.first_name);
-        self.parameters.truncate(self.first_parameter);
-        self.first_name = first_name;
-        self.first_parameter = first_parameter;
+        self.leave_template(first_name, first_parameter);
         if !is_remembered {
             return Ok(());
         }

@@ -1,5 +1,14 @@
 //! The reading of a name: what is still to be read, what has been, and what may be referred to.
 
+ghost use Rattle.std.specs.Prelude.{◌≡◌, ◌+◌, ◌*◌, ◌≤◌, [], IfOk, IsSome, IsTrue, OnOk};
+ghost use Rattle.std.specs.Prelude.{drop, length, option_and_then};
+ghost use Rattle.std.specs.List.{prefix_len, slice_get};
+ghost use Rattle.std.specs.Result.{result_ok};
+ghost use Rattle.msvc_demangler.specs.References.{is_plain, names_of, next_part};
+ghost use Rattle.msvc_demangler.specs.Literals.{HandsOn, is_literal, literal_in, literal_name};
+ghost use Rattle.msvc_demangler.specs.Texts.{SameTasks, handed, last_value};
+
+use crate::budget::Budget;
 use crate::letters::{extended_qualifiers, qualifiers_of};
 use crate::numbers::{Number, split_number};
 use crate::printer::print_part;
@@ -9,13 +18,18 @@ use crate::tasks::{Place, Task};
 use crate::tree::{Identifier, Node, Span, Tree};
 use std::alloc::{AllocError, Global};
 
-/// How many names and how many parameters a name may refer to: a digit says which.
-const REMEMBERED: usize = 10;
-
 /// How many tasks there are at most for each byte of a name, and for its end. A byte that begins a
 /// type in a list has most: the list, the type, its qualifiers, the tag, its name, an identifier,
 /// and to remember it.
 const TASKS_PER_BYTE: usize = 32;
+
+/// How many bytes stand before the first `@`.
+fn count_plain(text: &[u8]) -> usize
+    ensures is { result ≡ prefix_len is_plain text.now }
+    ensures within { result ≤ length text.now }
+{
+    text.iter().take_while(|byte| !(**byte == b'@')).count()
+}
 
 /// The reading of a name.
 #[derive(Drop)]
@@ -42,8 +56,8 @@ pub(crate) struct Parser<'n> {
     pub(crate) parameters: Vec<usize>,
     /// Where those begin that may be referred to.
     pub(crate) first_parameter: usize,
-    /// How much may still be printed, in steps and bytes.
-    pub(crate) budget: usize,
+    /// What was printed of parts that are referred to, and how much more may be printed.
+    pub(crate) budget: Budget,
 }
 
 impl<'n> Parser<'n> {
@@ -51,11 +65,11 @@ impl<'n> Parser<'n> {
     ///
     /// # Errors
     /// Memory ran out.
-    pub(crate) fn new(
-        alloc: Global,
-        name: &'n [u8],
-        budget: usize,
-    ) -> std::result::Result<Parser<'n>, AllocError> {
+    pub(crate) fn new(alloc: Global, name: &'n [u8]) -> std::result::Result<Parser<'n>, AllocError>
+        ensures length { IfOk result (λ p. p.length ≡ length name.entry.now) }
+        ensures rest { IfOk result (λ p. p.rest.now ≡ name.entry.now) }
+        ensures tasks { IfOk result (λ p. (p.tasks.items ≡ []) × (p.planned.items ≡ [])) }
+    {
         Ok(Parser {
             alloc,
             length: name.len(),
@@ -68,21 +82,30 @@ impl<'n> Parser<'n> {
             first_name: 0,
             parameters: Vec::new(alloc),
             first_parameter: 0,
-            budget,
+            budget: Budget::new(),
         })
     }
 
-    /// Reads the whole name, and gives the index of its symbol.
+    /// Reads the whole name, counts the tasks, and gives the index of its symbol.
     ///
     /// # Errors
     /// The name isn't decorated; memory ran out.
-    pub(crate) fn read(&mut self) -> Result<usize> {
+    pub(crate) fn read(&mut self, tasks: &mut usize) -> Result<usize>
+        ensures few { tasks.new ≤ 32 * (self.old.length + 1) }
+        ensures literal { IsTrue (is_literal self.old.rest.now) → self.old.tasks.items ≡ []
+            → self.old.planned.items ≡ [] → IfOk result (λ index.
+            (option_and_then (literal_in self.new.tree.texts.items)
+            (slice_get self.new.tree.nodes.items index) ≡ literal_name self.old.rest.now)
+            × IsSome (literal_name self.old.rest.now)) }
+    {
+        *tasks = 0;
         self.tasks.push(Task::Symbol)?;
         let most = self.length.saturating_add(1).saturating_mul(TASKS_PER_BYTE);
-        for _ in 0..most {
+        for number in 0..most {
             let Some(task) = self.tasks.pop() else {
                 return self.pop();
             };
+            *tasks = number + 1;
             self.run(task)?;
             self.take_over()?;
         }
@@ -90,7 +113,11 @@ impl<'n> Parser<'n> {
     }
 
     /// Puts what was planned before the other tasks.
-    fn take_over(&mut self) -> Result<()> {
+    fn take_over(&mut self) -> Result<()>
+        ensures tasks { self.old.planned.items ≡ [] → SameTasks self.old self.new }
+        ensures handed { handed self.new ≡ handed self.old }
+        ensures texts { self.new.tree.texts.items ≡ self.old.tree.texts.items }
+    {
         while let Some(task) = self.planned.pop() {
             self.tasks.push(task)?;
         }
@@ -98,7 +125,9 @@ impl<'n> Parser<'n> {
     }
 
     /// Plans a task, after those that the task at hand has planned.
-    pub(crate) fn plan(&mut self, task: Task) -> Result<()> {
+    pub(crate) fn plan(&mut self, task: Task) -> Result<()>
+        ensures { self.new.values.items ≡ self.old.values.items }
+    {
         self.planned.push(task)?;
         Ok(())
     }
@@ -110,24 +139,45 @@ impl<'n> Parser<'n> {
     }
 
     /// Hands a node on to a task to come.
-    pub(crate) fn push(&mut self, index: usize) -> Result<()> {
+    #[tactic(auto, using(crate::proofs::Remembered::get_last))]
+    pub(crate) fn push(&mut self, index: usize) -> Result<()>
+        ensures last { OnOk result (last_value self.new ≡ Some index) }
+        ensures tasks { SameTasks self.old self.new }
+        ensures names { names_of self.new ≡ names_of self.old }
+        ensures rest { self.new.rest.now ≡ self.old.rest.now }
+        ensures tree { self.new.tree ≡ self.old.tree }
+    {
         self.values.push(index)?;
         Ok(())
     }
 
     /// Adds a node, and hands it on.
-    pub(crate) fn give(&mut self, node: Node) -> Result<()> {
+    #[tactic(auto, using(crate::proofs::Remembered::get_last))]
+    pub(crate) fn give(&mut self, node: Node) -> Result<()>
+        ensures handed { OnOk result (handed self.new ≡ Some node) }
+        ensures tasks { SameTasks self.old self.new }
+        ensures names { names_of self.new ≡ names_of self.old }
+        ensures rest { self.new.rest.now ≡ self.old.rest.now }
+        ensures texts { self.new.tree.texts.items ≡ self.old.tree.texts.items }
+    {
         let index = self.tree.add(node)?;
         self.push(index)
     }
 
     /// Adds an identifier without template arguments, and hands it on.
-    pub(crate) fn give_identifier(&mut self, identifier: Identifier) -> Result<()> {
+    pub(crate) fn give_identifier(&mut self, identifier: Identifier) -> Result<()>
+        ensures handed { OnOk result (handed self.new ≡ Some (Node.Identifier identifier None)) }
+        ensures names { names_of self.new ≡ names_of self.old }
+        ensures texts { self.new.tree.texts.items ≡ self.old.tree.texts.items }
+    {
         self.give(Node::Identifier(identifier, None))
     }
 
     /// The node that was handed on last, which the task at hand takes.
-    pub(crate) fn pop(&mut self) -> Result<usize> {
+    pub(crate) fn pop(&mut self) -> Result<usize>
+        ensures last { result_ok result ≡ last_value self.old }
+        ensures tree { self.new.tree ≡ self.old.tree }
+    {
         match self.values.pop() {
             Some(index) => Ok(index),
             None => Err(Stop::Undecorated),
@@ -135,7 +185,9 @@ impl<'n> Parser<'n> {
     }
 
     /// The node that was handed on last, which stays.
-    pub(crate) fn top(&self) -> Result<usize> {
+    pub(crate) fn top(&self) -> Result<usize>
+        ensures { result_ok result ≡ last_value self.now }
+    {
         match self.values.last() {
             Some(index) => Ok(*index),
             None => Err(Stop::Undecorated),
@@ -246,72 +298,41 @@ impl<'n> Parser<'n> {
     }
 
     /// Goes past the first `@` that is left, and gives what stands before it.
-    pub(crate) fn take_until_at(&mut self) -> Result<Span> {
+    pub(crate) fn take_until_at(&mut self) -> Result<Span>
+        ensures part { IfOk result (λ part. part ≡ next_part self.old) }
+        ensures rest { IfOk result (λ part.
+            self.new.rest.now ≡ drop (part.count + 1) self.old.rest.now) }
+        ensures names { names_of self.new ≡ names_of self.old }
+        ensures texts { self.new.tree.texts.items ≡ self.old.tree.texts.items }
+    {
         let rest = self.rest;
         let start = self.length.saturating_sub(rest.len());
-        let Some(count) = rest.iter().position(|byte| *byte == b'@') else {
+        let count = count_plain(rest);
+        if count == rest.len() {
             return Err(Stop::Undecorated);
-        };
+        }
         self.rest = &rest[count + 1..];
         Ok(Span { start, count })
     }
 
-    /// Remembers a name, unless it is remembered, or as many are as can be.
-    pub(crate) fn remember_name(&mut self, name: Span) -> Result<()> {
-        let Some(known) = self.names.get(self.first_name..) else {
-            return Err(Stop::Undecorated);
-        };
-        if known.len() >= REMEMBERED {
-            return Ok(());
-        }
-        for other in known {
-            if self.tree.text(*other)? == self.tree.text(name)? {
-                return Ok(());
-            }
-        }
-        self.names.push(name)?;
-        Ok(())
-    }
-
-    /// The name that a digit stands for.
-    pub(crate) fn remembered_name(&self, digit: u8) -> Result<Span> {
-        let place = usize::from(digit.wrapping_sub(b'0')).saturating_add(self.first_name);
-        match self.names.get(place) {
-            Some(name) => Ok(*name),
-            None => Err(Stop::Undecorated),
-        }
-    }
-
-    /// Remembers a parameter, unless as many are as can be.
-    pub(crate) fn remember_parameter(&mut self, index: usize) -> Result<()> {
-        if self.parameters.len().saturating_sub(self.first_parameter) < REMEMBERED {
-            self.parameters.push(index)?;
-        }
-        Ok(())
-    }
-
-    /// The parameter that a digit stands for.
-    pub(crate) fn remembered_parameter(&self, digit: u8) -> Result<usize> {
-        let place = usize::from(digit.wrapping_sub(b'0')).saturating_add(self.first_parameter);
-        match self.parameters.get(place) {
-            Some(index) => Ok(*index),
-            None => Err(Stop::Undecorated),
-        }
-    }
-
     /// Prints a node in full, and adds its text, with texts before and after it.
     pub(crate) fn print(&mut self, before: &str, index: usize, after: &str) -> Result<Span> {
-        let printed = print_part(self.alloc, &self.tree, index, self.budget)?;
-        self.budget = printed.budget;
+        let mut budget = self.budget;
+        let printed = print_part(self.alloc, &self.tree, index, &mut budget);
+        self.budget = budget;
+        let text = printed?;
         let start = self.tree.add_text(before.as_bytes())?.start;
-        self.tree.add_text(printed.text.as_slice())?;
+        self.tree.add_text(text.as_slice())?;
         let end = self.tree.add_text(after.as_bytes())?;
         let count = end.start.saturating_add(end.count).saturating_sub(start);
         Ok(Span { start, count })
     }
 
     /// Reads what a task says.
-    fn run(&mut self, task: Task) -> Result<()> {
+    fn run(&mut self, task: Task) -> Result<()>
+        ensures { IsTrue (is_literal self.old.rest.now) → task ≡ Task.Symbol
+            → OnOk result (HandsOn (literal_name self.old.rest.now) self.old self.new) }
+    {
         match task {
             Task::Identifier(_)
             | Task::Scopes(_)

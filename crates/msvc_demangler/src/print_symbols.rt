@@ -1,5 +1,10 @@
 //! The printing of symbols.
 
+ghost use Rattle.std.specs.Prelude.{◌≡◌, ℕ, [], ◌++◌, List, OnOk};
+ghost use Rattle.msvc_demangler.specs.Literals.{literal_in};
+ghost use Rattle.msvc_demangler.specs.Pieces.{Prints};
+ghost use Rattle.msvc_demangler.specs.Texts.{text_at};
+
 use crate::flags::DemangleFlags;
 use crate::numbers::Number;
 use crate::printer::{Piece, Printer};
@@ -14,7 +19,11 @@ impl<'t> Printer<'t> {
         symbol: Symbol,
         name: Option<usize>,
         flags: DemangleFlags,
-    ) -> Result<()> {
+    ) -> Result<()>
+        ensures { (text : List ℕ) → self.old.planned.items ≡ []
+            → literal_in self.old.tree.now.texts.items (Node.Symbol symbol name) ≡ Some text
+            → OnOk result (Prints text self.old self.new) }
+    {
         match symbol {
             Symbol::Plain => self.say_whole(name, flags),
             Symbol::Function(signature, class, adjustment) => {
@@ -39,12 +48,20 @@ impl<'t> Printer<'t> {
                 self.say_whole(target, flags)?;
                 self.say("'}")
             }
-            Symbol::Text(before, text, after) => {
-                self.say(before)?;
-                self.plan(Piece::Text(text))?;
-                self.say(after)
-            }
+            Symbol::Text(before, text, after) => self.print_literal(before, text, after),
         }
+    }
+
+    /// Plans a string literal.
+    #[tactic(auto, using(crate::proofs::Printing::three_in_order))]
+    fn print_literal(&mut self, before: &'static str, text: Span, after: &'static str) -> Result<()>
+        ensures { self.old.planned.items ≡ [] → OnOk result (Prints
+            ((before.entry.now ++ text_at self.old.tree.now.texts.items text) ++ after.entry.now)
+            self.old self.new) }
+    {
+        self.say(before)?;
+        self.plan(Piece::Text(text))?;
+        self.say(after)
     }
 
     /// Plans who may name a member.

@@ -1,8 +1,14 @@
 //! The printing of a tree.
 
-ghost use Rattle.std.specs.Prelude.{◌+◌, ◌≤◌, IfOk};
+ghost use Rattle.std.specs.Prelude.{◌≡◌, ◌+◌, ◌≤◌, IfOk, OnOk};
+ghost use Rattle.std.specs.Prelude.{ℕ, [], ◌∷◌, ◌++◌, List, option_and_then};
+ghost use Rattle.std.specs.List.{slice_get};
 ghost use Rattle.std.specs.Vec.{vec_len};
+ghost use Rattle.msvc_demangler.specs.Literals.{literal_in};
+ghost use Rattle.msvc_demangler.specs.Pieces.{Prints, SamePrinted, before, in_order, last_first};
+ghost use Rattle.msvc_demangler.specs.Pieces.{piece_text, whole_text};
 
+use crate::budget::Budget;
 use crate::flags::{DemangleFlags, FULL_TEXT};
 use crate::numbers::Number;
 use crate::qualifiers::Qualifiers;
@@ -33,15 +39,6 @@ pub(crate) enum Piece {
     Number(Number),
 }
 
-/// A text that was printed, and how much may still be, in steps and bytes.
-#[derive(Drop)]
-pub(crate) struct Printed {
-    /// The text.
-    pub(crate) text: Vec<u8>,
-    /// How much may still be printed.
-    pub(crate) budget: usize,
-}
-
 /// The printing of a tree.
 #[derive(Drop)]
 pub(crate) struct Printer<'t> {
@@ -57,7 +54,7 @@ pub(crate) struct Printer<'t> {
     text: Vec<u8>,
 }
 
-/// Prints a node in full.
+/// Prints a node in full, and counts what is printed.
 ///
 /// # Errors
 /// It has no text, or more than may be printed; memory ran out.
@@ -65,17 +62,25 @@ pub(crate) fn print_part(
     alloc: Global,
     tree: &Tree,
     index: usize,
-    budget: usize,
-) -> Result<Printed> {
+    budget: &mut Budget,
+) -> Result<Vec<u8>> {
     print_tree(alloc, tree, Piece::Whole(index, FULL_TEXT), budget)
 }
 
-/// Prints a piece.
+/// Prints a piece, and counts what is printed.
 ///
 /// # Errors
 /// It has no text, or more than may be printed; memory ran out.
-pub(crate) fn print_tree(alloc: Global, tree: &Tree, piece: Piece, budget: usize) -> Result<Printed>
-    ensures { IfOk result (λ p. vec_len p.text + p.budget ≤ budget) }
+#[tactic(auto, using(crate::proofs::Printing::one_piece))]
+pub(crate) fn print_tree(
+    alloc: Global,
+    tree: &Tree,
+    piece: Piece,
+    budget: &mut Budget,
+) -> Result<Vec<u8>>
+    ensures counted { IfOk result (λ text. budget.new.bytes ≡ budget.old.bytes + vec_len text) }
+    ensures text { (text : List ℕ) → piece_text tree.now piece ≡ Some text
+        → IfOk result (λ printed. printed.items ≡ text) }
 {
     let mut printer = Printer {
         alloc,
@@ -85,23 +90,33 @@ pub(crate) fn print_tree(alloc: Global, tree: &Tree, piece: Piece, budget: usize
         text: Vec::new(alloc),
     };
     printer.pieces.push(piece)?;
-    let budget = printer.print(budget)?;
+    let mut pieces = 0;
+    if let Err(stop) = printer.print(budget.left, &mut pieces) {
+        *budget = budget.after(pieces, 0);
+        return Err(stop);
+    }
+    *budget = budget.after(pieces, printer.text.len());
     let Printer { text, .. } = printer;
-    Ok(Printed { text, budget })
+    Ok(text)
 }
 
 impl<'t> Printer<'t> {
-    /// Prints all pieces, and says how much may be printed after that.
-    fn print(&mut self, budget: usize) -> Result<usize>
-        ensures { IfOk result (λ left. vec_len self.new.text + left ≤ budget) }
+    /// Prints all pieces, and counts them: with the bytes of the text, no more than so many.
+    fn print(&mut self, most: usize, pieces: &mut usize) -> Result<()>
+        ensures few { pieces.new ≤ most }
+        ensures in_all { OnOk result (pieces.new + vec_len self.new.text ≤ most) }
+        ensures text { (text : List ℕ) → self.old.planned.items ≡ []
+            → whole_text self.old ≡ Some text → OnOk result (self.new.text.items ≡ text) }
     {
-        for step in 0..budget {
-            let Some(left) = (budget - step).checked_sub(self.text.len()) else {
+        *pieces = 0;
+        for step in 0..most {
+            if self.text.len() > most - step {
                 return Err(Stop::Undecorated);
-            };
+            }
             let Some(piece) = self.pieces.pop() else {
-                return Ok(left);
+                return Ok(());
             };
+            *pieces = step + 1;
             self.run(piece)?;
             self.take_over()?;
         }
@@ -109,7 +124,14 @@ impl<'t> Printer<'t> {
     }
 
     /// Puts what was planned before the other pieces.
-    fn take_over(&mut self) -> Result<()> {
+    #[tactic(auto, using(crate::proofs::Printing::moving))]
+    fn take_over(&mut self) -> Result<()>
+        ensures text { self.new.text.items ≡ self.old.text.items }
+        ensures planned { OnOk result (self.new.planned.items ≡ []) }
+        ensures pieces { OnOk result (last_first self.new.tree.now self.new.pieces.items
+            ≡ before (last_first self.old.tree.now self.old.pieces.items)
+            (in_order self.old.tree.now self.old.planned.items)) }
+    {
         while let Some(piece) = self.planned.pop() {
             self.pieces.push(piece)?;
         }
@@ -117,13 +139,21 @@ impl<'t> Printer<'t> {
     }
 
     /// Plans a piece, after those that the piece at hand has planned.
-    pub(crate) fn plan(&mut self, piece: Piece) -> Result<()> {
+    pub(crate) fn plan(&mut self, piece: Piece) -> Result<()>
+        ensures planned { OnOk result
+            (self.new.planned.items ≡ self.old.planned.items ++ piece ∷ []) }
+        ensures printed { SamePrinted self.old self.new }
+    {
         self.planned.push(piece)?;
         Ok(())
     }
 
     /// Plans these bytes.
-    pub(crate) fn say(&mut self, word: &'static str) -> Result<()> {
+    pub(crate) fn say(&mut self, word: &'static str) -> Result<()>
+        ensures planned { OnOk result
+            (self.new.planned.items ≡ self.old.planned.items ++ Piece.Word word.entry ∷ []) }
+        ensures printed { SamePrinted self.old self.new }
+    {
         self.plan(Piece::Word(word))
     }
 
@@ -174,7 +204,12 @@ impl<'t> Printer<'t> {
     }
 
     /// Prints a piece, or plans its parts.
-    fn run(&mut self, piece: Piece) -> Result<()> {
+    #[tactic(auto, using(crate::proofs::Printing::none_planned))]
+    fn run(&mut self, piece: Piece) -> Result<()>
+        ensures { (text : List ℕ) → self.old.planned.items ≡ []
+            → piece_text self.old.tree.now piece ≡ Some text
+            → OnOk result (Prints text self.old self.new) }
+    {
         match piece {
             Piece::Word(word) => self.push_bytes(word.as_bytes()),
             Piece::Text(span) => {
@@ -202,7 +237,12 @@ impl<'t> Printer<'t> {
     }
 
     /// Appends bytes.
-    fn push_bytes(&mut self, bytes: &[u8]) -> Result<()> {
+    fn push_bytes(&mut self, bytes: &[u8]) -> Result<()>
+        ensures text { OnOk result (self.new.text.items ≡ self.old.text.items ++ bytes.now) }
+        ensures same { (self.new.planned.items ≡ self.old.planned.items)
+            × (self.new.pieces.items ≡ self.old.pieces.items)
+            × (self.new.tree.now ≡ self.old.tree.now) }
+    {
         self.text.extend_from_slice(bytes)?;
         Ok(())
     }
@@ -242,7 +282,12 @@ impl<'t> Printer<'t> {
     }
 
     /// Plans the parts of a node.
-    fn run_node(&mut self, index: usize, flags: DemangleFlags) -> Result<()> {
+    fn run_node(&mut self, index: usize, flags: DemangleFlags) -> Result<()>
+        ensures { (text : List ℕ) → self.old.planned.items ≡ []
+            → option_and_then (literal_in self.old.tree.now.texts.items)
+            (slice_get self.old.tree.now.nodes.items index) ≡ Some text
+            → OnOk result (Prints text self.old self.new) }
+    {
         match self.tree.node(index)? {
             Node::Identifier(identifier, arguments) => {
                 self.print_identifier(identifier, arguments, flags)

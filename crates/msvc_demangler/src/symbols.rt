@@ -1,5 +1,8 @@
 //! Symbols: variables, functions, and those that stand for parts of others.
 
+ghost use Rattle.std.specs.Prelude.{◌≡◌, IsTrue, OnOk};
+ghost use Rattle.msvc_demangler.specs.Literals.{HandsOn, is_literal, literal_name};
+
 use crate::parser::Parser;
 use crate::qualifiers::Qualifiers;
 use crate::stop::{Result, Stop};
@@ -9,7 +12,10 @@ use crate::words::{Access, storage_of};
 
 impl<'n> Parser<'n> {
     /// Reads what a task of symbols says.
-    pub(crate) fn run_symbol(&mut self, task: Task) -> Result<()> {
+    pub(crate) fn run_symbol(&mut self, task: Task) -> Result<()>
+        ensures { IsTrue (is_literal self.old.rest.now) → task ≡ Task.Symbol
+            → OnOk result (HandsOn (literal_name self.old.rest.now) self.old self.new) }
+    {
         match task {
             Task::Encoding => self.start_encoding(),
             Task::Variable(access) => self.read_variable(access),
@@ -25,7 +31,11 @@ impl<'n> Parser<'n> {
     }
 
     /// Reads a symbol.
-    fn start_symbol(&mut self) -> Result<()> {
+    #[tactic(auto, unfolding(crate::specs::Literals::literal_name))]
+    fn start_symbol(&mut self) -> Result<()>
+        ensures { IsTrue (is_literal self.old.rest.now)
+            → OnOk result (HandsOn (literal_name self.old.rest.now) self.old self.new) }
+    {
         let rest = self.rest;
         match rest {
             [b'.', after @ ..] => {

@@ -1,5 +1,10 @@
 //! The tree of a name: nodes that name one another by their indices.
 
+ghost use Rattle.std.specs.Prelude.{◌≡◌, IfOk};
+ghost use Rattle.std.specs.List.{slice_get};
+ghost use Rattle.std.specs.Result.{result_ok};
+ghost use Rattle.msvc_demangler.specs.Texts.{text_at};
+
 use crate::numbers::Number;
 use crate::qualifiers::Qualifiers;
 use crate::stop::{Result, Stop};
@@ -175,7 +180,11 @@ impl Tree {
     ///
     /// # Errors
     /// Memory ran out.
-    pub(crate) fn add(&mut self, node: Node) -> Result<usize> {
+    #[tactic(auto, using(crate::proofs::Remembered::get_last))]
+    pub(crate) fn add(&mut self, node: Node) -> Result<usize>
+        ensures node { IfOk result (λ index. slice_get self.new.nodes.items index ≡ Some node) }
+        ensures texts { self.new.texts.items ≡ self.old.texts.items }
+    {
         let index = self.nodes.len();
         self.nodes.push(node)?;
         Ok(index)
@@ -185,7 +194,9 @@ impl Tree {
     ///
     /// # Errors
     /// There is none.
-    pub(crate) fn node(&self, index: usize) -> Result<Node> {
+    pub(crate) fn node(&self, index: usize) -> Result<Node>
+        ensures { result_ok result ≡ slice_get self.now.nodes.items index }
+    {
         match self.nodes.get(index) {
             Some(node) => Ok(*node),
             None => Err(Stop::Undecorated),
@@ -311,7 +322,9 @@ impl Tree {
     ///
     /// # Errors
     /// There are none.
-    pub(crate) fn text(&self, span: Span) -> Result<&[u8]> {
+    pub(crate) fn text(&self, span: Span) -> Result<&[u8]>
+        ensures { IfOk result (λ text. text.now ≡ text_at self.now.texts.items span) }
+    {
         let Some(end) = span.start.checked_add(span.count) else {
             return Err(Stop::Undecorated);
         };
@@ -325,7 +338,9 @@ impl Tree {
     ///
     /// # Errors
     /// Memory ran out.
-    pub(crate) fn add_text(&mut self, bytes: &[u8]) -> Result<Span> {
+    pub(crate) fn add_text(&mut self, bytes: &[u8]) -> Result<Span>
+        ensures { IfOk result (λ span. text_at self.new.texts.items span ≡ bytes.now) }
+    {
         let start = self.texts.len();
         self.texts.extend_from_slice(bytes)?;
         Ok(Span {

@@ -1,5 +1,8 @@
 //! Types.
 
+ghost use Rattle.std.specs.Prelude.{◌≡◌, option_map};
+ghost use Rattle.msvc_demangler.specs.Words.{basic_type_of as split_basic_type_of};
+
 use crate::letters::extended_qualifiers;
 use crate::numbers::Number;
 use crate::parser::Parser;
@@ -24,7 +27,10 @@ fn leads_to_member(rest: &[u8]) -> Option<bool> {
 }
 
 /// The basic type that a text begins with, and what comes after.
-fn split_basic_type(rest: &[u8]) -> Option<(&'static str, &[u8])> {
+#[tactic(auto, unfolding(crate::specs::Words::basic_type_of))]
+fn split_basic_type(rest: &[u8]) -> Option<(&'static str, &[u8])>
+    ensures { option_map (λ r. (r.0.now, r.1.now)) result ≡ split_basic_type_of rest.now }
+{
     match rest {
         [b'$', b'$', b'T', after @ ..] => Some(("std::nullptr_t", after)),
         [b'_', code, after @ ..] => Some((later_basic_type_of(*code)?, after)),

@@ -1,6 +1,8 @@
 //! Words that letters stand for: basic types, calling conventions, access.
 
 ghost use Rattle.std.specs.Prelude.{◌≡◌, option_map};
+ghost use Rattle.msvc_demangler.specs.Methods.{access_text, storage};
+ghost use Rattle.msvc_demangler.specs.Qualified.{affinity_text, pointer};
 ghost use Rattle.msvc_demangler.specs.Words.{basic_type, convention, keyword, later_basic_type};
 
 use crate::letters::qualified;
@@ -19,7 +21,9 @@ pub(crate) enum Access {
 
 impl Access {
     /// What is printed before a member.
-    pub(crate) fn text(self) -> &'static str {
+    pub(crate) fn text(self) -> &'static str
+        ensures { result.now ≡ access_text self }
+    {
         match self {
             Access::Private => "private: ",
             Access::Protected => "protected: ",
@@ -41,7 +45,9 @@ pub(crate) enum Affinity {
 
 impl Affinity {
     /// The sign of it.
-    pub(crate) fn text(self) -> &'static str {
+    pub(crate) fn text(self) -> &'static str
+        ensures { result.now ≡ affinity_text self }
+    {
         match self {
             Affinity::Pointer => "*",
             Affinity::Reference => "&",
@@ -51,7 +57,10 @@ impl Affinity {
 }
 
 /// The pointer or reference that a letter stands for, with its own qualifiers.
-pub(crate) fn pointer_of(code: u8) -> Option<(Affinity, Qualifiers)> {
+#[tactic(auto, unfolding(crate::specs::Qualified::pointer))]
+pub(crate) fn pointer_of(code: u8) -> Option<(Affinity, Qualifiers)>
+    ensures { result ≡ pointer code }
+{
     match code {
         b'A' => Some((Affinity::Reference, qualified(false, false))),
         b'P' => Some((Affinity::Pointer, qualified(false, false))),
@@ -138,7 +147,10 @@ pub(crate) fn keyword_of(code: u8) -> Option<&'static str>
 
 /// The access of a variable of this storage class: `0` to `2` are static members, `3` is global,
 /// `4` local to a function.
-pub(crate) fn storage_of(code: u8) -> Option<Option<Access>> {
+#[tactic(auto, unfolding(crate::specs::Methods::storage))]
+pub(crate) fn storage_of(code: u8) -> Option<Option<Access>>
+    ensures { result ≡ storage code }
+{
     match code {
         b'0' => Some(Some(Access::Private)),
         b'1' => Some(Some(Access::Protected)),

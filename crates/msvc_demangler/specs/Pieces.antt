@@ -1,0 +1,48 @@
+-- What pieces print: words, texts, and symbols that are string literals.
+use Rattle.std.specs.Prelude.{◌≡◌, List, [], ◌∷◌, ◌++◌, Option, None, Some, option_and_then}
+use Rattle.std.specs.Prelude.{option_map}
+use Rattle.std.specs.List.{fold, slice_get}
+use Rattle.msvc_demangler.specs.declared.printer.Piece.{Piece}
+use Rattle.msvc_demangler.specs.declared.printer.Piece.TheVariants.{Text as Printed, Whole, Word}
+use Rattle.msvc_demangler.specs.declared.printer.Printer.{Printer}
+use Rattle.msvc_demangler.specs.declared.tree.Tree.{Tree}
+use Rattle.msvc_demangler.specs.Literals.{literal_in}
+use Rattle.msvc_demangler.specs.Texts.{text_at}
+use Rattle.msvc_demangler.specs.Words.{Text}
+
+-- what a piece prints; none for one of another kind
+abbrev pub piece_text : Tree → Piece → Option Text
+piece_text tree (Word word) = Some word.now
+piece_text tree (Printed span) = Some (text_at tree.texts.items span)
+piece_text tree (Whole index flags) =
+    option_and_then (literal_in tree.texts.items) (slice_get tree.nodes.items index)
+piece_text tree _ = None
+
+-- a text, and before it another
+abbrev pub before : Option Text → Option Text → Option Text
+before after front = option_and_then (λ f. option_map (λ a. f ++ a) after) front
+
+-- what pieces print of which the last is the first
+unfoldable pub last_first : Tree → List Piece → Option Text
+last_first tree pieces = fold (λ after piece. before after (piece_text tree piece)) (Some []) pieces
+
+-- what pieces print in their order
+unfoldable pub in_order : Tree → List Piece → Option Text
+in_order tree [] = Some []
+in_order tree (piece ∷ pieces) = before (in_order tree pieces) (piece_text tree piece)
+
+-- what is printed in all: the text so far, and what the pieces print
+abbrev pub whole_text : Printer → Option Text
+whole_text p = option_map (λ rest. p.text.items ++ rest) (last_first p.tree.now p.pieces.items)
+
+-- what is printed stays, and what is to be printed after the piece at hand
+abbrev pub SamePrinted : Printer → Printer → Type 0
+SamePrinted p q = (q.text.items ≡ p.text.items) × (q.pieces.items ≡ p.pieces.items)
+    × (q.tree.now ≡ p.tree.now)
+
+-- a piece's text is printed or planned
+abbrev pub Prints : Text → Printer → Printer → Type 0
+Prints text p q =
+    (option_map (λ rest. q.text.items ++ rest) (in_order q.tree.now q.planned.items)
+    ≡ Some (p.text.items ++ text))
+    × (q.pieces.items ≡ p.pieces.items) × (q.tree.now ≡ p.tree.now)
