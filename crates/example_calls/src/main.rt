@@ -1,24 +1,29 @@
 //! Asks a program database by the library's calls: `example_calls FILE ADDRESS..`.
 //!
 //! For each ADDRESS, which is hexadecimal and image-relative, it prints the function there and its
-//! frames. Then it prints all functions, each with its source file and line, what formatters say of
-//! two types of the file, and the functions again, without their arguments. At last it prints how
-//! many addresses each has.
+//! frames. Then it prints all functions, each with its source file and line; the frames again, by a
+//! file that is read on demand; what formatters say of two types of the file; and the functions
+//! again, without their arguments. At last it prints how many addresses each has.
 //!
 //! Its stored run asks `x64.pdb`, which examples/make.sh made. There type 0x1007 is the member
 //! function `TextReader::read`, and 0x1016 the class `Entry`.
 #![tactic(auto)]
 
 use anyhow::{Context as _, Result, bail};
+use bumpalo::Bump;
 use pdb_addr2line::pdb::{PDB, SharedBytes, TypeIndex};
 use pdb_addr2line::{
     Context, ContextPdbData, Frame, FrameRow, Function, ModuleProvider, TypeFormatter,
     TypeFormatterFlags,
 };
 use pdb_file_views::FileSource;
-use pdb_report::{Symbolizer, Watched, parse_address, run_sizes};
+use pdb_report::{
+    FileOnDemand, FileSymbolizer, RunFault, Symbolizer, Watched, parse_address, run_sizes,
+};
 use std::alloc::Global;
+use std::fs::OpenFile;
 use std::io::Write;
+use std::os::unix::fs::FileExt;
 use std::rt::{Env, Files};
 use std::{env, fs};
 
@@ -30,6 +35,7 @@ fn main(rt: HostRuntime) -> Result<()> {
         .nth(1)
         .context("usage: example_calls FILE ADDRESS..")?;
     tell_addresses(&rt, file.as_str())?;
+    tell_on_demand(&rt, file.as_str())?;
     tell_types(&rt, file.as_str())?;
     let bytes = fs::read(&rt, file.as_str())?;
     write_sizes(rt.alloc(), bytes, &mut Watched::new(rt.stdout()))
@@ -156,6 +162,39 @@ fn tell_function(rt: &impl Print, function: &Function) -> Result<()> {
     match function.end_rva {
         Some(end) => println!(rt; "{start:#x} to {end:#x}: {name}")?,
         None => println!(rt; "{start:#x}: {name}")?,
+    }
+    Ok(())
+}
+
+/// Prints the frames at each address of the program's arguments, by a file of which just what that
+/// takes is read.
+fn tell_on_demand<S: Env + Files + Print + AllocGlobal>(rt: &S, path: &str) -> Result<()>
+where
+    S::File: FileExt,
+{
+    let file = fs::open(rt, path)?;
+    let size = file.metadata()?.len();
+    let arena = Bump::new(rt.alloc());
+    let source = FileOnDemand::new(rt.alloc(), &arena, &file, size)?;
+    match FileSymbolizer::open(rt.alloc(), source) {
+        Ok(mut symbolizer) => tell_demanded(rt, &mut symbolizer),
+        Err(refused) => bail!("{path}: {}", RunFault::from(refused.fault)),
+    }
+}
+
+/// Prints the frames at each address of the program's arguments, by a file that is read on demand.
+fn tell_demanded<F: FileExt>(
+    rt: &(impl Env + Print + AllocGlobal),
+    symbolizer: &mut FileSymbolizer<'_, F>,
+) -> Result<()> {
+    for word in env::args(rt)?.skip(2) {
+        let address = parse_address(word.as_bytes()).context("an address is needed")?;
+        println!(rt; "on demand, at {address:#x}")?;
+        if let Some(found) = symbolizer.find_frames(rt.alloc(), address)? {
+            for frame in found.frames.iter() {
+                tell_frame(rt, frame)?;
+            }
+        }
     }
     Ok(())
 }

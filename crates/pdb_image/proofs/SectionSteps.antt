@@ -8,6 +8,7 @@ use Rattle.std.proofs.lemmas.List.{drop_more, drop_all, take_all}
 use Rattle.std.proofs.lemmas.Option.{slice_get-map, slice_get-get_or}
 use Rattle.pdb_addresses.specs.Sections.{header_in, section_header_at}
 use Rattle.pdb_image.specs.CodeView.{place_in, place_of}
+use Rattle.pdb_image.specs.Tables.{whole_place_in, whole_place_of}
 
 -- what is found from a section on
 abbrev pub place_from : ℕ → List (List ℕ) → ℕ → Option ℕ
@@ -40,6 +41,43 @@ pub place_missing : (sections : List (List ℕ)) (i address : ℕ) (total : Opti
     → length sections ≤ i → place_from address sections i ≡ total → None ≡ total
 place_missing sections i address total past so_far =
     sym (ap (λ xs. place_of address (map header_in xs)) (drop_all i sections past)) ∙ so_far
+
+-- ---- the same of bytes that all lie in a section's data
+
+-- what is found from a section on
+abbrev pub whole_from : ℕ → ℕ → List (List ℕ) → ℕ → Option ℕ
+whole_from address size sections i = whole_place_of address size (map header_in (drop i sections))
+
+whole_here : (sections : List (List ℕ)) (i address size : ℕ) (d : List ℕ) → i < length sections
+    → whole_from address size sections i
+    ≡ option_or (whole_place_in address size (header_in (get_or sections i d)))
+    (whole_from address size sections (i + 1))
+whole_here sections i address size d lt = ap (λ xs. whole_place_of address size (map header_in xs))
+    (drop_more sections i d lt)
+
+-- a section that doesn't hold them is passed over
+pub whole_more : (sections : List (List ℕ)) (i address size : ℕ) (d : List ℕ) (total : Option ℕ)
+    → i < length sections → whole_place_in address size (header_in (get_or sections i d)) ≡ None
+    → whole_from address size sections i ≡ total → whole_from address size sections (i + 1) ≡ total
+whole_more sections i address size d total lt none so_far =
+    let passed = ap (λ o. option_or o (whole_from address size sections (i + 1))) none in
+    sym (whole_here sections i address size d lt ∙ passed) ∙ so_far
+
+-- a section that holds them is the first one
+pub whole_found : (sections : List (List ℕ)) (i address size place : ℕ) (d : List ℕ)
+    (total : Option ℕ) → i < length sections
+    → whole_place_in address size (header_in (get_or sections i d)) ≡ Some place
+    → whole_from address size sections i ≡ total → Some place ≡ total
+whole_found sections i address size place d total lt some so_far =
+    let found = ap (λ o. option_or o (whole_from address size sections (i + 1))) some in
+    sym (whole_here sections i address size d lt ∙ found) ∙ so_far
+
+-- no section is left: none holds them
+pub whole_missing : (sections : List (List ℕ)) (i address size : ℕ) (total : Option ℕ)
+    → length sections ≤ i → whole_from address size sections i ≡ total → None ≡ total
+whole_missing sections i address size total past so_far =
+    sym (ap (λ xs. whole_place_of address size (map header_in xs)) (drop_all i sections past))
+    ∙ so_far
 
 -- ---- headers by their numbers
 

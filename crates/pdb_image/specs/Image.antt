@@ -1,7 +1,7 @@
 -- What a PE image says of itself by its headers: the DOS header, the COFF header, the optional
 -- header, section headers.
 -- The layout is that of Microsoft's PE Format.
-use Rattle.std.specs.Prelude.{ℕ, ◌+◌, ◌*◌, ◌/◌, ◌^◌, Bool, List, length, take, drop, map, codes}
+use Rattle.std.specs.Prelude.{ℕ, ◌+◌, ◌*◌, ◌/◌, ◌^◌, List, length, take, drop, map, codes}
 use Rattle.std.specs.Prelude.{nat_lt, nat_le, nat_eq, ◌==◌, if◌then◌else◌, Option, None, Some}
 use Rattle.std.specs.Prelude.{Result, Ok, Err, ok_or}
 use Rattle.std.specs.List.{starts_with}
@@ -35,19 +35,29 @@ debug_entry_of count_place bytes =
       Ok (if word_at entry 0 == 0 then None
           else Some (record { address = word_at entry 0; size = word_at entry 4 })))
 
--- PE32: the image base in four bytes at 28, the count of data directories at 92
+-- PE32: the image base in four bytes at 28, the image's size in four bytes at 56, the count of data
+-- directories at 92
 unfoldable pub pe32_of : List ℕ → Result OptionalHeader ImageError
 pe32_of bytes = do
   whole ← refuse (nat_lt (length bytes) 96) faults.OptionalHeaderTooShort
   debug ← debug_entry_of 92 bytes
-  Ok record { image_base = word_at bytes 28; debug = debug }
+  Ok record {
+    image_base = word_at bytes 28;
+    size_of_image = word_at bytes 56;
+    debug = debug;
+  }
 
--- PE32+: the image base in eight bytes at 24, the count of data directories at 108
+-- PE32+: the image base in eight bytes at 24, the image's size in four bytes at 56, the count of
+-- data directories at 108
 unfoldable pub pe32_plus_of : List ℕ → Result OptionalHeader ImageError
 pe32_plus_of bytes = do
   whole ← refuse (nat_lt (length bytes) 112) faults.OptionalHeaderTooShort
   debug ← debug_entry_of 108 bytes
-  Ok record { image_base = word_at bytes 28 * 2 ^ 32 + word_at bytes 24; debug = debug }
+  Ok record {
+    image_base = word_at bytes 28 * 2 ^ 32 + word_at bytes 24;
+    size_of_image = word_at bytes 56;
+    debug = debug;
+  }
 
 -- the optional header, by its magic number
 unfoldable pub optional_of : List ℕ → Result OptionalHeader ImageError
@@ -59,12 +69,15 @@ optional_of bytes =
 
 -- ---- the image
 
--- an image: its bytes, its machine's number, where it wants to be loaded, its sections, and its
--- debug directory
+-- an image: its bytes, its machine's number, its time stamp, where it wants to be loaded, how much
+-- memory it takes, the bytes of its optional header, its sections, and its debug directory
 pub record Image : Type 0 where
   pub file : List ℕ
   pub machine : ℕ
+  pub time_stamp : ℕ
   pub image_base : ℕ
+  pub size_of_image : ℕ
+  pub optional_header : List ℕ
   pub sections : List ImageSectionHeader
   pub debug : Option DataDirectory
 
@@ -85,7 +98,10 @@ image_of file = do
   Ok record {
     file = file;
     machine = half_at coff 4;
+    time_stamp = word_at coff 8;
     image_base = optional.image_base;
+    size_of_image = optional.size_of_image;
+    optional_header = bytes;
     sections = map header_in (entries 40 table);
     debug = optional.debug;
   }

@@ -1,2 +1,3 @@
 pub mod CodeView
 pub mod Image
+pub mod Tables

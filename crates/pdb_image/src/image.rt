@@ -1,24 +1,32 @@
 //! Images: what their headers say.
 
-ghost use Rattle.std.specs.Prelude.{◌≡◌, Some, length, slice_get};
+ghost use Rattle.std.specs.Prelude.{◌≡◌, Some, IfSome, length, option_map, slice_get};
 ghost use Rattle.pdb_addresses.specs.Sections.{header_in};
 ghost use Rattle.pdb_image.specs.Image.{image_of};
 ghost use Rattle.pdb_image.specs.CodeView.{Returns, code_view_of, directory_of};
+ghost use Rattle.pdb_image.specs.Tables.{bytes_at, exception_directory_of};
 
 use crate::code_view::{CodeView, file_place, parse_record_in};
 use crate::error::ImageError;
 use crate::file_part::part;
-use crate::optional_header::{DataDirectory, parse_optional};
+use crate::optional_header::{DataDirectory, parse_exceptions, parse_optional};
+use crate::section_data::whole_place;
 use pdb_addresses::ImageSectionHeader;
 use pdb_container::{ParseBuffer, half_at, word_at};
 use std::marker::Model;
+
+/// The machine's number of x64 (`IMAGE_FILE_MACHINE_AMD64`).
+const X64: u16 = 0x8664;
 
 /// A PE image, PE32 or PE32+, over the bytes of its file, of which it copies nothing.
 #[derive(Debug, Drop)]
 pub struct Image<'a> {
     file: &'a [u8],
     machine: u16,
+    time_stamp: u32,
     image_base: u64,
+    size_of_image: u32,
+    optional_header: &'a [u8],
     sections: &'a [[u8; 40]],
     debug: Option<DataDirectory>,
 }
@@ -33,7 +41,10 @@ impl<'a> Model for Image<'a> {
     ghost view = { λ i. record {
       file = i.file.now;
       machine = i.machine;
+      time_stamp = i.time_stamp;
       image_base = i.image_base;
+      size_of_image = i.size_of_image;
+      optional_header = i.optional_header.now;
       sections = map header_in i.sections.now;
       debug = i.debug;
     } };
@@ -59,15 +70,18 @@ impl<'a> Image<'a> {
             return Err(ImageError::NoPeSignature);
         }
         let size = usize::from(half_at(coff, 20));
-        let optional = part(file, place + 24, size).ok_or(ImageError::HeadersPastEnd)?;
-        let optional = parse_optional(optional)?;
+        let optional_header = part(file, place + 24, size).ok_or(ImageError::HeadersPastEnd)?;
+        let optional = parse_optional(optional_header)?;
         let count = usize::from(half_at(coff, 6));
         let table = part(file, place + 24 + size, 40 * count).ok_or(ImageError::SectionsPastEnd)?;
         let (sections, _) = table.as_chunks::<40>();
         Ok(Image {
             file,
             machine: half_at(coff, 4),
+            time_stamp: word_at(coff, 8),
             image_base: optional.image_base,
+            size_of_image: optional.size_of_image,
+            optional_header,
             sections,
             debug: optional.debug,
         })
@@ -78,6 +92,21 @@ impl<'a> Image<'a> {
         ensures { result ≡ self.now.machine }
     {
         self.machine
+    }
+
+    /// The time stamp: when the image was linked, in seconds since the start of 1970, or a hash in
+    /// its place. With the image's size it names the image in a symbol server.
+    pub fn time_stamp(&self) -> u32
+        ensures { result ≡ self.now.time_stamp }
+    {
+        self.time_stamp
+    }
+
+    /// The size of the image: how many bytes of memory it takes once it is loaded.
+    pub fn size_of_image(&self) -> u32
+        ensures { result ≡ self.now.size_of_image }
+    {
+        self.size_of_image
     }
 
     /// The image base: the address at which the image wants to be loaded.
@@ -123,6 +152,32 @@ impl<'a> Image<'a> {
             None => Ok(None),
             Some(directory) => parse_record_in(self.file, self.directory(directory)?),
         }
+    }
+
+    /// The exception directory (`.pdata`), which lists what functions need to be unwound. `None`
+    /// of an image that isn't x64 and PE32+, or has no such directory.
+    ///
+    /// # Errors
+    /// `OptionalHeaderTooShort` where the optional header counts the directory and has no room for
+    /// its address and size.
+    pub fn exception_directory(&self) -> Result<Option<DataDirectory>, ImageError>
+        ensures { result ≡ exception_directory_of self.now }
+    {
+        if self.machine == X64 {
+            parse_exceptions(self.optional_header)
+        } else {
+            Ok(None)
+        }
+    }
+
+    /// `size` bytes at an address of the image, once it is loaded: those of the first section whose
+    /// data in the file hold them all. `None` where no section does, or the file ends before.
+    #[tactic(auto, unfolding(crate::specs::Tables::bytes_at))]
+    pub fn bytes_at(&self, address: u64, size: usize) -> Option<&'a [u8]>
+        ensures bytes { option_map (λ bytes. bytes.now) result ≡ bytes_at self.now address size }
+        ensures size { IfSome result (λ bytes. length bytes.now ≡ size) }
+    {
+        part(self.file, whole_place(self.sections, address, size)?, size)
     }
 
     /// The bytes of the debug directory, which are all in the file.

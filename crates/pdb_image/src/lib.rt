@@ -9,8 +9,10 @@ mod file_part;
 mod identity;
 mod image;
 mod optional_header;
+mod section_data;
 
 pub use code_view::CodeView;
 pub use error::ImageError;
 pub use identity::PdbIdentity;
 pub use image::Image;
+pub use optional_header::DataDirectory;

@@ -2,6 +2,7 @@
 
 ghost use Rattle.std.specs.Prelude.{◌≡◌, ◌+◌, ◌≤◌, length};
 ghost use Rattle.pdb_image.specs.Image.{optional_of, pe32_of, pe32_plus_of, debug_entry_of};
+ghost use Rattle.pdb_image.specs.Tables.{exception_entry_of, exceptions_of};
 
 use crate::error::ImageError;
 use crate::file_part::part;
@@ -16,13 +17,16 @@ const PE32_PLUS: u16 = 0x20b;
 /// The number of the debug directory among the data directories, counted from 0.
 const DEBUG: u32 = 6;
 
+/// The number of the exception directory among the data directories, counted from 0.
+const EXCEPTIONS: u32 = 3;
+
 /// A data directory: where a table lies once the image is loaded.
-#[derive(Clone, Copy, Debug)]
-pub(crate) struct DataDirectory {
+#[derive(Clone, Copy, Debug, PartialEq, Eq)]
+pub struct DataDirectory {
     /// The table's address, in bytes from the image's start.
-    pub(crate) address: u32,
+    pub address: u32,
     /// The table's size, in bytes.
-    pub(crate) size: u32,
+    pub size: u32,
 }
 
 /// What is read of an optional header.
@@ -30,6 +34,8 @@ pub(crate) struct DataDirectory {
 pub(crate) struct OptionalHeader {
     /// The address at which the image wants to be loaded.
     pub(crate) image_base: u64,
+    /// How many bytes of memory the image takes.
+    pub(crate) size_of_image: u32,
     /// The debug directory, if there is one.
     pub(crate) debug: Option<DataDirectory>,
 }
@@ -59,6 +65,7 @@ fn parse_pe32(bytes: &[u8]) -> Result<OptionalHeader, ImageError>
     }
     Ok(OptionalHeader {
         image_base: u64::from(word_at(bytes, 28)),
+        size_of_image: word_at(bytes, 56),
         debug: parse_debug_entry(bytes, 92)?,
     })
 }
@@ -74,6 +81,7 @@ fn parse_pe32_plus(bytes: &[u8]) -> Result<OptionalHeader, ImageError>
     let high = u64::from(word_at(bytes, 28));
     Ok(OptionalHeader {
         image_base: high * 0x1_0000_0000 + u64::from(word_at(bytes, 24)),
+        size_of_image: word_at(bytes, 56),
         debug: parse_debug_entry(bytes, 108)?,
     })
 }
@@ -97,6 +105,35 @@ fn parse_debug_entry(bytes: &[u8], count_place: usize) -> Result<Option<DataDire
     }
     Ok(Some(DataDirectory {
         address,
+        size: word_at(entry, 4),
+    }))
+}
+
+/// The exception directory of an optional header, if it is PE32+.
+#[tactic(auto, unfolding(crate::specs::Tables::exceptions_of))]
+pub(crate) fn parse_exceptions(bytes: &[u8]) -> Result<Option<DataDirectory>, ImageError>
+    ensures { result ≡ exceptions_of bytes.now }
+{
+    let magic = part(bytes, 0, 2).ok_or(ImageError::OptionalHeaderTooShort)?;
+    if half_at(magic, 0) != PE32_PLUS {
+        return Ok(None);
+    }
+    parse_exception_entry(bytes)
+}
+
+/// The exception directory of a PE32+ optional header, by the data directories, which lie after
+/// their count. There is none where they are fewer than four.
+#[tactic(auto, unfolding(crate::specs::Tables::exception_entry_of))]
+fn parse_exception_entry(bytes: &[u8]) -> Result<Option<DataDirectory>, ImageError>
+    ensures { result ≡ exception_entry_of bytes.now }
+{
+    let count = part(bytes, 108, 4).ok_or(ImageError::OptionalHeaderTooShort)?;
+    if word_at(count, 0) <= EXCEPTIONS {
+        return Ok(None);
+    }
+    let entry = part(bytes, 136, 8).ok_or(ImageError::OptionalHeaderTooShort)?;
+    Ok(Some(DataDirectory {
+        address: word_at(entry, 0),
         size: word_at(entry, 4),
     }))
 }

@@ -1,3 +1,5 @@
+pub mod FileFaults
+pub mod FileSteps
 pub mod IsolationLaw
 pub mod NeededStreams
 pub mod OtherFiles

@@ -1,7 +1,8 @@
 -- A report on a range by a context is that of the file.
 use Rattle.std.proofs.Common.{◌≡◌, ℕ, ◌+◌, ◌≤◌, ◌⊎◌, List, Some, Result, Ok, Err, inl, inr, subst}
 use Rattle.std.proofs.Common.{arith}
-use Rattle.std.specs.Prelude.{OnOk, OnErr, IfOk}
+use Rattle.std.proofs.Common.{Global, String}
+use Rattle.std.specs.Prelude.{OnOk, OnErr, IfOk, string_bytes}
 use Rattle.pdb_addresses.specs.Addresses.{Map}
 use Rattle.pdb_functions.specs.Counts.{pieces}
 use Rattle.pdb_functions.specs.Databases.{Database}
@@ -67,3 +68,31 @@ module _ {A : Type 0} (is_report : Map → Database A → ℕ → ℕ → List �
     few = subst (λ (d : Database A). tally.answered ≤ pieces m d start end) same few;
   }
   sizes_answered (Err e) few = tt
+
+  -- the text that was counted, and what counting took
+  pub text_counted : {E : Type 0} (r : Result (String Global × Tally) E)
+      → IfOk r (λ k. is_report m found start end (string_bytes k.0))
+      → IfOk r (λ k. IsReportOn is_report places s start end (string_bytes k.0))
+  text_counted (Ok k) h = report_of_file (string_bytes k.0) h
+  text_counted (Err e) h = tt
+
+  pub lookups_counted : {E : Type 0} (r : Result (String Global × Tally) E) (asked : ℕ) → asked ≡ 0
+      → IfOk r (λ k. k.1.lookups ≤ asked + pieces m found start end)
+      → IfOk r (λ k. AreWithinPieces places s start end k.1.lookups)
+  lookups_counted (Ok k) asked none few = record {
+    map = m;
+    map_is = map_is;
+    few = subst (λ (d : Database A). k.1.lookups ≤ pieces m d start end) same
+        (omega (arith, none, few));
+  }
+  lookups_counted (Err e) asked none few = tt
+
+  pub answers_counted : {E : Type 0} (r : Result (String Global × Tally) E)
+      → IfOk r (λ k. k.1.answered ≤ pieces m found start end)
+      → IfOk r (λ k. AreWithinPieces places s start end k.1.answered)
+  answers_counted (Ok k) few = record {
+    map = m;
+    map_is = map_is;
+    few = subst (λ (d : Database A). k.1.answered ≤ pieces m d start end) same few;
+  }
+  answers_counted (Err e) few = tt

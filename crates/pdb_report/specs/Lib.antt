@@ -1,4 +1,6 @@
 pub mod Answer
+pub mod FileAnswers
+pub mod FileFrames
 pub mod Isolation
 pub mod SameReports
 pub mod SizesByFile

@@ -20,6 +20,8 @@
 //! | write them in a process that ends after that | [`run_frames_ending`] |
 //! | write how many addresses of a range each function has | [`run_sizes`] |
 //! | write how many of them each source file has | [`run_sizes_by_file`] |
+//! | ask a file that is read on demand for frames | [`FileSymbolizer::open`], [`find_frames`] |
+//! | write reports by it | [`run_file_frames`], [`run_file_sizes`], [`run_file_sizes_by_file`] |
 //! | read an address, as a line of input has it | [`parse_address`] |
 //! | read a file's pages, or the first 32 bytes of what is no container | [`read_file`] |
 //! | have the failures of a reader or a writer counted | [`Watched`] |
@@ -27,9 +29,15 @@
 //! | see what is proved of whole files | [`laws`] |
 //!
 //! What a context answers besides, and the formatter of types, is in `pdb_addr2line`.
+//!
+//! [`find_frames`]: FileSymbolizer::find_frames
 #![tactic(auto)]
 
 mod counted;
+mod file_frames;
+mod file_report;
+mod file_sizes;
+mod file_symbolizer;
 mod finish;
 pub mod laws;
 mod lines;
@@ -37,6 +45,10 @@ mod report;
 mod sizes;
 mod symbolizer;
 
+pub use file_frames::FileFramesFault;
+pub use file_report::{FileRun, run_file_frames};
+pub use file_sizes::{FileSizes, run_file_sizes, run_file_sizes_by_file};
+pub use file_symbolizer::{FileOnDemand, FileSymbolizer, NotLoaded};
 pub use finish::finish_run;
 pub use pdb_addr2line::{Context, Error};
 pub use pdb_engine::{ErrorOutput, Watched, parse_address};

@@ -1,6 +1,6 @@
 //! What is written for a line of the input, by a context.
 
-ghost use Rattle.std.specs.Prelude.{◌≡◌, ◌++◌, OnErr, OnOk, Some, string_bytes};
+ghost use Rattle.std.specs.Prelude.{◌≡◌, ◌++◌, [], OnErr, OnOk, Some, string_bytes};
 ghost use Rattle.pdb_addr2line.specs.Context.{lasting};
 ghost use Rattle.pdb_report.specs.Answer.{answer_of};
 ghost use Rattle.pdb_report_texts.specs.AddressText.{line_text as text_of_line, text_at};
@@ -41,7 +41,7 @@ fn append_address_lines<P: ModuleProvider>(
 
 /// Appends what is written for a line of the input.
 #[tactic(auto, unfolding(pdb_report_texts::specs::AddressText::line_text))]
-fn append_line<P: ModuleProvider>(
+pub(crate) fn append_line<P: ModuleProvider>(
     alloc: Global,
     context: &mut Context<'_, '_, P>,
     line: &[u8],
@@ -61,7 +61,11 @@ fn append_line<P: ModuleProvider>(
 }
 
 /// Appends a text. A long one is moved and takes its room along, so that it is in memory once.
-fn append_text(alloc: Global, room: &mut String, output: &mut Vec<u8>) -> Result<(), AllocError>
+pub(crate) fn append_text(
+    alloc: Global,
+    room: &mut String,
+    output: &mut Vec<u8>,
+) -> Result<(), AllocError>
     ensures text { OnOk result (output.new.items ≡ output.old.items ++ string_bytes room.old) }
     ensures refused { OnErr result (output.new.items ≡ output.old.items) }
 {
@@ -91,6 +95,8 @@ impl<'a, 's, P: ModuleProvider> Answers for LineAnswers<'a, 's, P> {
     ghost known = { λ _. Unit {0} };
 
     ghost text = { λ answers line. line_text (answer_of P.provided answers.context) line };
+
+    ghost subject = { λ _. [] };
 
     fn place(&self, line: &[u8]) -> u32 {
         parse_address(line).unwrap_or(0)

@@ -38,7 +38,7 @@ pub enum AtEnd {
 }
 
 /// Gives back what a value holds, or leaves it to the process.
-fn let_go<T: Drop>(value: T, at_end: AtEnd) {
+pub(crate) fn let_go<T: Drop>(value: T, at_end: AtEnd) {
     match at_end {
         AtEnd::GiveBack => drop(value),
         AtEnd::LeaveToProcess => forget(value),

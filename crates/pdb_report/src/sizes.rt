@@ -1,7 +1,7 @@
 //! Reports on a range of addresses: how many of them each function has, or each source file.
 
 ghost use Rattle.std.specs.Prelude.{◌≡◌, ℕ, ◌+◌, ◌<◌, ◌≤◌, ◌⊎◌, List, None, OnErr, OnOk, IfErr};
-ghost use Rattle.std.specs.Prelude.{IfOk};
+ghost use Rattle.std.specs.Prelude.{IfOk, string_bytes};
 ghost use Rattle.pdb_addresses.specs.Addresses.{IsOrdered};
 ghost use Rattle.pdb_engine.specs.InputFaults.{IsOfWriting, OnWrite as OnInputWrite};
 ghost use Rattle.pdb_engine.specs.Watched.{CountsFailure, IsQuiet, Writes, WritesFront};
@@ -22,7 +22,7 @@ use pdb_addresses::AddressMap;
 use pdb_engine::{InputFault, Watched, write_all, write_fault};
 use pdb_functions::{CountedFile, count_runs};
 use pdb_report_texts::RunFault;
-use std::alloc::Global;
+use std::alloc::{AllocError, Global};
 use std::io::Write;
 
 /// What a report of sizes took.
@@ -32,6 +32,36 @@ pub struct Tally {
     pub lookups: u64,
     /// How often an answer was made of a key that lookups found: once for each key.
     pub answered: u64,
+}
+
+/// The text of the report on a range by a context, and what counting took.
+///
+/// # Errors
+/// `AllocError` when memory runs out.
+pub(crate) fn count_text<A: Counted>(
+    alloc: Global,
+    map: &AddressMap<'_>,
+    context: FileContext<'_>,
+    start: u32,
+    end: u32,
+) -> Result<(String, Tally), AllocError>
+    requires ordered { IsOrdered map.now }
+    requires order { start ≤ end }
+    ensures text { IfOk result (λ counted.
+        A.is_report map.now (A.keyed context.entry).places start end (string_bytes counted.0)) }
+    ensures lookups { IfOk result (λ counted. counted.1.lookups ≤ context.entry.lookups
+        + pieces map.now (A.keyed context.entry).places start end) }
+    ensures answered { IfOk result (λ counted. counted.1.answered
+        ≤ pieces map.now (A.keyed context.entry).places start end) }
+{
+    let mut runs = ContextRuns::<A>::new(context);
+    let sizes = count_runs(alloc, map, &mut runs, start, end)?;
+    let text = A::report_text(alloc, &sizes)?;
+    let tally = Tally {
+        lookups: runs.lookups(),
+        answered: runs.answered(),
+    };
+    Ok((text, tally))
 }
 
 /// Counts what the addresses from `start` on and before `end` have by a context, and writes the
@@ -64,18 +94,11 @@ fn write_report<A: Counted, W: Write>(
         × A.is_report map.now (A.keyed context.entry).places start end text
         × WritesFront W.contents writer.old writer.new text)) }
 {
-    let mut runs = ContextRuns::<A>::new(context);
-    let Ok(sizes) = count_runs(alloc, map, &mut runs, start, end) else {
-        return Err(InputFault::OutOfMemory);
-    };
-    let Ok(text) = A::report_text(alloc, &sizes) else {
+    let Ok((text, tally)) = count_text::<A>(alloc, map, context, start, end) else {
         return Err(InputFault::OutOfMemory);
     };
     match write_all(writer, text.as_bytes()) {
-        Ok(()) => Ok(Tally {
-            lookups: runs.lookups(),
-            answered: runs.answered(),
-        }),
+        Ok(()) => Ok(tally),
         Err(kind) => Err(write_fault(kind)),
     }
 }

@@ -12,15 +12,23 @@ ghost use Rattle.pdb_report_texts.specs.RunFaults.{OnWrite, UnlessLoad};
 ghost use Rattle.pdb_symbolizer.specs.Tasks.{IsInOrder, IsReversed, OnRangeReport, OnReport};
 ghost use Rattle.pdb_symbols_modules.specs.Streams.{streams};
 
+mod on_demand;
+
+use crate::on_demand::{run_task_on_demand, size_of};
+use bumpalo::Bump;
 pub use pdb_arguments::{Task, TextOutput, WordsFault, read_words, tell_words};
+use pdb_file_views::reach;
 pub use pdb_report::{
     AtEnd, Error, LoadFault, RunFault, Symbolizer, Tally, Watched, finish_run, parse_address,
     read_file, run_frames, run_frames_ending, run_sizes, run_sizes_by_file,
 };
+use pdb_report::{FileOnDemand, FileRun};
 use std::alloc::Global;
 use std::io::{self, ErrorKind, Read, Write};
+use std::mem::forget;
+use std::os::unix::fs::FileExt;
 use std::process::ExitCode;
-use std::rt::Env;
+use std::rt::{Env, Files};
 use std::{env, fs};
 use undecorated_lines::{ReportKind, UndecoratedWriter};
 
@@ -43,16 +51,14 @@ fn main(rt: HostRuntime) -> ExitCode {
             return ExitCode::from(finish_words(&fault, &mut rt.stdout(), &mut errors));
         }
     };
-    let bytes = match bytes_of(&rt, file_of(&task)) {
-        Ok(bytes) => bytes,
-        Err(error) if error.kind() == ErrorKind::OutOfMemory => {
-            return exit_with(&mut errors, "fault: OutOfMemory\n", 1);
-        }
-        Err(_) => return exit_with(&mut errors, "fault: ReadFile\n", 1),
-    };
     let mut reader = Watched::new(rt.stdin());
-    let outcome = write_report(rt.alloc(), &task, bytes, &mut reader, rt.stdout());
-    ExitCode::from(finish_run(outcome, &mut errors))
+    match write_report(&rt, &task, &mut reader, rt.stdout()) {
+        Ok(outcome) => ExitCode::from(finish_run(outcome, &mut errors)),
+        Err(error) if error.kind() == ErrorKind::OutOfMemory => {
+            exit_with(&mut errors, "fault: OutOfMemory\n", 1)
+        }
+        Err(_) => exit_with(&mut errors, "fault: ReadFile\n", 1),
+    }
 }
 
 /// The file that a task is about.
@@ -81,24 +87,57 @@ fn undecorated_report(task: &Task) -> Option<ReportKind> {
 /// that is asked for.
 ///
 /// # Errors
-/// As `run_task`.
-fn write_report<R: Read, W: Write + Drop>(
-    alloc: Global,
+/// As `report_by_file`.
+fn write_report<S: Files + AllocGlobal, R: Read, W: Write + Drop>(
+    rt: &S,
     task: &Task,
-    bytes: Vec<u8>,
     reader: &mut Watched<R>,
     output: W,
-) -> Result<(), RunFault> {
+) -> io::Result<Result<(), RunFault>>
+where
+    S::File: FileExt,
+{
     match undecorated_report(task) {
         None => {
             let mut writer = Watched::new(output);
-            run_task(alloc, task, bytes, reader, &mut writer)
+            report_by_file(rt, task, reader, &mut writer)
         }
         Some(kind) => {
-            let mut writer = Watched::new(UndecoratedWriter::new(alloc, kind, output));
-            run_task(alloc, task, bytes, reader, &mut writer)
+            let mut writer = Watched::new(UndecoratedWriter::new(rt.alloc(), kind, output));
+            report_by_file(rt, task, reader, &mut writer)
         }
     }
+}
+
+/// Writes the report that is asked for by the task's file: a regular one is read on demand, any
+/// other from its beginning on. The process is left to give its memory back.
+///
+/// # Errors
+/// Why the file can't be opened, or read from its beginning on.
+fn report_by_file<S: Files + AllocGlobal, R: Read, W: Write>(
+    rt: &S,
+    task: &Task,
+    reader: &mut Watched<R>,
+    writer: &mut Watched<W>,
+) -> io::Result<Result<(), RunFault>>
+where
+    S::File: FileExt,
+{
+    let mut file = fs::open(rt, file_of(task))?;
+    let Some(size) = size_of(&file) else {
+        let bytes = read_file(rt.alloc(), &mut file)?;
+        return Ok(run_task(rt.alloc(), task, bytes, reader, writer));
+    };
+    let size = match reach(&file, size) {
+        Ok(size) => size,
+        Err(error) => return Ok(Err(RunFault::File(error.kind()))),
+    };
+    let arena = Bump::new(rt.alloc());
+    let source = FileOnDemand::new(rt.alloc(), &arena, &file, size)?;
+    let FileRun { outcome, source } = run_task_on_demand(rt.alloc(), task, source, reader, writer);
+    forget(source);
+    forget(arena);
+    Ok(outcome)
 }
 
 /// Reports why the arguments give no task, and returns the exit status; 1 where help can't be
@@ -148,12 +187,6 @@ fn run_task<R: Read, W: Write>(
             ..
         } => count_sizes(alloc, bytes, *start, *end, *by_file, writer),
     }
-}
-
-/// The bytes of a file as far as its pages reach, or its first 32 where it is no container.
-fn bytes_of(rt: &(impl fs::Files + AllocGlobal), file: &str) -> io::Result<Vec<u8>> {
-    let mut reader = fs::open(rt, file)?;
-    read_file(rt.alloc(), &mut reader)
 }
 
 /// The arguments after the program's name.

@@ -1,0 +1,11 @@
+use Rattle.std.proofs.Common.{◌≡◌}
+use Rattle.pdb_file_views.specs.Views.{Grows}
+use Rattle.pdb_report.proofs.file_report.FileLinesAnswers.answer.Given as goal
+
+-- so far only the file was read
+abbrev pub invariant-loop : goal.invariant-loop
+invariant-loop g l = record {
+  contents : l.self.symbolizer.contents ≡ l.fn.self.symbolizer.contents;
+  grows : Grows l.fn.self.symbolizer.views l.self.symbolizer.views;
+  output : l.output.items ≡ l.fn.output.items;
+}

@@ -1,0 +1,32 @@
+use Rattle.std.proofs.Common.{◌≡◌, ◌^◌, ◌≤◌, List, ℕ, length, true, subst}
+use Rattle.std.specs.Prelude.{IfSome, OnOk}
+use Rattle.pdb_engine.specs.InputLines.{report}
+use Rattle.pdb_engine.specs.Watched.{inner_of, Writes}
+use Rattle.pdb_file_views.specs.Views.{agrees}
+use Rattle.pdb_report.specs.Answer.{answer}
+use Rattle.pdb_report.proofs.FileFaults.{nothing_out}
+use Rattle.pdb_report.proofs.IsolationLaw.{exchanged_out, isolated}
+use Rattle.pdb_report_texts.specs.AddressText.{line_text}
+use Rattle.pdb_symbols_modules.specs.Streams.{streams}
+use Rattle.pdb_report.proofs.file_report.run_file_frames.Goals as goal
+
+pub returns-in-Ok-clause-isolated : goal.returns-in-Ok-clause-isolated
+returns-in-Ok-clause-isolated g c = isolated c.args.source.contents.numbers
+
+pub returns-in-Err-clause-isolated : goal.returns-in-Err-clause-isolated
+returns-in-Err-clause-isolated g c = isolated c.args.source.contents.numbers
+
+-- the file's answers may be exchanged for those of a file that is alike
+pub returns-in-Ok-clause-exchanged : goal.returns-in-Ok-clause-exchanged
+returns-in-Ok-clause-exchanged g c = λ known.
+    let contents = c.args.source.contents.numbers in
+    let ok = subst (λ (b : List ℕ). agrees c.answer_file.result.source.views b ≡ true
+    → OnOk c.answer_file.result.outcome (IfSome (g.R.Read.remaining (inner_of c.args.reader.now)) (λ input. (length input ≤ 2 ^ 30) × Writes g.W.Write.contents c.args.writer.now c.answer_file.new.writer (report (line_text (answer (streams b))) input))))
+    c.in-Ok.ensures.contents c.answer_file.ensures.ok in
+    exchanged_out contents c.answer_file.result.outcome (g.R.Read.remaining (inner_of c.args.reader.now)) (λ input. length input ≤ 2 ^ 30)
+    (λ answers input. Writes g.W.Write.contents c.args.writer.now c.answer_file.new.writer (report (line_text answers) input)) (ok known)
+
+-- a file that isn't loaded leaves nothing out
+pub returns-in-Err-clause-part : goal.returns-in-Err-clause-part
+returns-in-Err-clause-part g c = λ known.
+    nothing_out g.W.Write.contents c.args.writer.now (g.R.Read.remaining (inner_of c.args.reader.now)) (λ input. report (line_text (answer (streams c.args.source.contents.numbers))) input)

@@ -1,0 +1,10 @@
+use Rattle.std.proofs.Common.{◌≡◌}
+use Rattle.pdb_file_views.specs.Views.{Grows}
+use Rattle.pdb_report.proofs.file_symbolizer.FileSymbolizer.find_frames.Given as goal
+
+-- so far only the file was read
+abbrev pub invariant-loop : goal.invariant-loop
+invariant-loop g l = record {
+  contents : l.self.contents ≡ l.fn.self.contents;
+  grows : Grows l.fn.self.views l.self.views;
+}

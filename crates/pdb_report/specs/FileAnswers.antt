@@ -1,0 +1,49 @@
+-- A file that is read on demand, and a context over what was read of it.
+use Rattle.std.specs.Prelude.{◌≡◌, true, List, ℕ, Option, IfSome, Ok}
+use Rattle.pdb_addresses.specs.Addresses.{IsOrdered}
+use Rattle.pdb_addr2line.specs.Context.{Context}
+use Rattle.pdb_file_views.specs.Views.{Views, agrees}
+use Rattle.pdb_loading.specs.Held.{Held, parts_held}
+use Rattle.pdb_loading.specs.LoadedFile.{IsLoadedFrom}
+use Rattle.pdb_loading.specs.ModuleInfos.{KeptInfo}
+use Rattle.pdb_report.specs.Answer.{AnswersAs, answered_in}
+use Rattle.pdb_report_texts.specs.declared.fault.RunFault.{RunFault}
+use Rattle.pdb_report_texts.specs.declared.fault.RunFault.TheVariants.{Load, ReversedRange, Read}
+use Rattle.pdb_report_texts.specs.declared.fault.RunFault.TheVariants.{Write, InputTooLong}
+use Rattle.pdb_report_texts.specs.declared.fault.RunFault.TheVariants.{File, OutOfMemory}
+use Rattle.pdb_symbols_modules.specs.Streams.{streams}
+
+-- what was read of a file, the bytes that it is taken to have, what is held of it, and the context
+-- that is asked
+pub record FileAnswers : Type 0 where
+  pub views : Views
+  pub contents : List ℕ
+  pub held : Held
+  pub context : Option (Context (List KeptInfo))
+
+-- the bytes agree with everything that was read
+abbrev pub IsKnown : FileAnswers → Type 0
+IsKnown f = agrees f.views f.contents ≡ true
+
+-- Where the bytes agree with what was read, what is held and what is answered are those of a file
+-- that has them.
+pub record IsOfContents (f : FileAnswers) : Type 0 where
+  pub ordered : IsOrdered f.held.tables.map
+  pub parts : IfSome f.context (λ c. parts_held f.held ≡ Ok c.parts)
+  pub held_is : IsKnown f → IsLoadedFrom f.contents f.held
+  pub answers : IsKnown f
+      → IfSome f.context (λ c. AnswersAs answered_in (streams f.contents) c)
+
+-- the context was asked nothing yet
+abbrev pub IsUnasked : FileAnswers → Type 0
+IsUnasked f = IfSome f.context (λ c. c.lookups ≡ 0)
+
+-- where memory ran out, or the file couldn't be read, this is said
+abbrev pub IfRefused : RunFault → Type 0 → Type 0
+IfRefused OutOfMemory P = P
+IfRefused (File kind) P = P
+IfRefused (Load fault) P = Unit {0}
+IfRefused ReversedRange P = Unit {0}
+IfRefused (Read kind) P = Unit {0}
+IfRefused (Write kind) P = Unit {0}
+IfRefused InputTooLong P = Unit {0}

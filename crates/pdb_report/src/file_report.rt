@@ -1,0 +1,337 @@
+//! The report on an input, by a file that is read on demand.
+
+ghost use Rattle.std.specs.Prelude.{◌≡◌, ◌^◌, ◌<◌, ◌≤◌, ◌⊎◌, List, ℕ, length, take, true, None};
+ghost use Rattle.std.specs.Prelude.{IfErr, IfSome, OnErr, OnOk};
+ghost use Rattle.pdb_engine.specs.InputLines.{report, report_of_ended};
+ghost use Rattle.pdb_engine.specs.Watched.{inner_of, CountsFailure, IsQuiet, Writes, WritesFront};
+ghost use Rattle.pdb_engine.specs.Watched.{Takes};
+ghost use Rattle.pdb_file_views.specs.Views.{agrees, Grows};
+ghost use Rattle.pdb_loading.specs.LoadFaults.{IsFileFault};
+ghost use Rattle.pdb_loading.specs.Loading.{load_fault};
+ghost use Rattle.pdb_report.specs.Answer.{answer};
+ghost use Rattle.pdb_report.specs.FileAnswers.{IfRefused, IsKnown};
+ghost use Rattle.pdb_report_texts.specs.AddressText.{line_text};
+ghost use Rattle.pdb_report.specs.Isolation.{AreAlikeFor, IsIsolated, exchanged};
+ghost use Rattle.pdb_report_texts.specs.RunFaults.{OnLoad, OnRead, OnWrite, OnTooLong};
+ghost use Rattle.pdb_report_texts.specs.RunFaults.{IsOfFileFrames, OnMemoryOrFile, UnlessLoad};
+ghost use Rattle.pdb_symbols_modules.specs.Streams.{streams};
+
+use crate::file_symbolizer::{FileOnDemand, FileSymbolizer, NotLoaded, TRIES};
+use crate::lines::append_text;
+use crate::report::{AtEnd, let_go};
+use pdb_engine::{
+    AddressStart, Answers, InputFault, LineStart, Request, Watched, parse_address, run,
+};
+use pdb_report_texts::RunFault;
+use std::alloc::{AllocError, Global};
+use std::io::{ErrorKind, Read, Write};
+use std::os::unix::fs::FileExt;
+
+/// The most bytes of input that a run reads.
+const INPUT_LIMIT: u64 = 1 << 30;
+
+/// A file that is asked for the answers to lines, room for a text, whether nothing was missing when
+/// it was last to be read, and how reading it failed, if it did.
+#[derive(Drop)]
+pub(crate) struct FileLines<'a, F> {
+    pub symbolizer: FileSymbolizer<'a, F>,
+    pub room: String,
+    pub is_ready: bool,
+    pub failed: Option<ErrorKind>,
+}
+
+impl<'a, F: FileExt> FileLines<'a, F> {
+    /// Reads what was asked for and is missing, unless reading the file failed before; returns
+    /// whether there is more now.
+    fn go_on(&mut self, alloc: Global) -> bool
+        ensures contents { self.new.symbolizer.contents ≡ self.old.symbolizer.contents }
+        ensures grows { Grows self.old.symbolizer.views self.new.symbolizer.views }
+    {
+        if self.failed.is_some() {
+            return false;
+        }
+        match self.symbolizer.go_on(alloc) {
+            Ok(more) => {
+                self.is_ready = !more;
+                more
+            }
+            Err(kind) => {
+                self.failed = Some(kind);
+                false
+            }
+        }
+    }
+}
+
+/// The numbers of the modules that hold the addresses of requests; some may be repeated.
+fn modules_of<F>(
+    alloc: Global,
+    symbolizer: &FileSymbolizer<'_, F>,
+    requests: &[Request<AddressStart>],
+) -> Result<Vec<usize>, AllocError> {
+    let mut numbers = Vec::new(alloc);
+    for request in requests {
+        let Some(address) = parse_address(request.line.bytes()) else {
+            continue;
+        };
+        if let Some(number) = symbolizer.module_at(address) {
+            numbers.push(number)?;
+        }
+    }
+    Ok(numbers)
+}
+
+impl<'a, F: FileExt> Answers for FileLines<'a, F> {
+    type Start = AddressStart;
+
+    ghost use Rattle.pdb_report_texts.specs.AddressText.{line_text};
+    ghost use Rattle.pdb_report.specs.Answer.{answer};
+    ghost use Rattle.pdb_report.specs.FileAnswers.{IsKnown};
+    ghost use Rattle.pdb_symbols_modules.specs.Streams.{streams};
+
+    ghost known = { λ lines. IsKnown lines.symbolizer };
+
+    ghost text = { λ lines line. line_text (answer (streams lines.symbolizer.contents)) line };
+
+    ghost subject = { λ lines. lines.symbolizer.contents };
+
+    fn place(&self, line: &[u8]) -> u32 {
+        parse_address(line).unwrap_or(0)
+    }
+
+    fn prepare(&mut self, alloc: Global, requests: &[Request<AddressStart>]) {
+        if self.is_ready || !self.symbolizer.reads_exactly() {
+            return;
+        }
+        if let Ok(numbers) = modules_of(alloc, &self.symbolizer, requests) {
+            self.symbolizer.ask(numbers);
+            self.go_on(alloc);
+        }
+    }
+
+    fn answer(
+        &mut self,
+        alloc: Global,
+        line: &[u8],
+        output: &mut Vec<u8>,
+    ) -> Result<(), AllocError> {
+        for _ in 0..TRIES {
+            self.room.clear();
+            match self.symbolizer.append_line(alloc, line, &mut self.room) {
+                Ok(()) => return append_text(alloc, &mut self.room, output),
+                Err(_) => {}
+            }
+            if !self.go_on(alloc) {
+                return Err(AllocError);
+            }
+        }
+        Err(AllocError)
+    }
+}
+
+/// Answers the lines of the reader by a file that was loaded and is read on demand.
+///
+/// # Errors
+/// `Read` and `Write` where that end failed in this call; `File` where the file couldn't be read;
+/// `InputTooLong` past 2^30 bytes of input; `OutOfMemory`.
+#[tactic(auto, using(pdb_report_texts::proofs::ShortLines::line_short, pdb_report_texts::proofs::InputFaultSteps::on_read, pdb_report_texts::proofs::InputFaultSteps::on_write, pdb_report_texts::proofs::InputFaultSteps::on_too_long, crate::proofs::FileFaults::of_file_frames))]
+fn answer_file_lines<F: FileExt, R: Read, W: Write>(
+    alloc: Global,
+    lines: &mut FileLines<'_, F>,
+    reader: &mut Watched<R>,
+    writer: &mut Watched<W>,
+) -> Result<(), RunFault>
+    ensures contents { lines.new.symbolizer.contents ≡ lines.old.symbolizer.contents }
+    ensures grows { IsKnown lines.new.symbolizer → IsKnown lines.old.symbolizer }
+    ensures load { IfErr result (λ fault. OnLoad fault (λ _. ⊥)) }
+    ensures kind { IfErr result IsOfFileFrames }
+    ensures ok { IsKnown lines.new.symbolizer → OnOk result
+        (IfSome (R.remaining (inner_of reader.old)) (λ input. (length input ≤ 2 ^ 30)
+        × Writes W.contents writer.old writer.new
+        (report (line_text (answer (streams lines.old.symbolizer.contents))) input))) }
+    ensures quiet { OnOk result (IsQuiet reader.old reader.new × IsQuiet writer.old writer.new) }
+    ensures read_fails { IfErr result
+        (λ fault. OnRead fault (λ kind. CountsFailure reader.old reader.new kind)) }
+    ensures write_fails { IfErr result
+        (λ fault. OnWrite fault (λ kind. CountsFailure writer.old writer.new kind)) }
+    ensures read_out { IsKnown lines.new.symbolizer → IfErr result
+        (λ fault. OnRead fault
+        (λ _. (taken : List ℕ) × Takes R.remaining reader.old reader.new taken
+        × Writes W.contents writer.old writer.new (report_of_ended
+        (line_text (answer (streams lines.old.symbolizer.contents))) taken))) }
+    ensures too_long { IsKnown lines.new.symbolizer → IfErr result
+        (λ fault. OnTooLong fault
+        (IfSome (R.remaining (inner_of reader.old)) (λ input. (2 ^ 30 < length input)
+        × Writes W.contents writer.old writer.new (report_of_ended
+        (line_text (answer (streams lines.old.symbolizer.contents))) (take (2 ^ 30) input))))) }
+    ensures part { IsKnown lines.new.symbolizer → OnErr result
+        (IfSome (R.remaining (inner_of reader.old))
+        (λ input. WritesFront W.contents writer.old writer.new
+        (report (line_text (answer (streams lines.old.symbolizer.contents))) input))) }
+{
+    match run(alloc, lines, reader, writer, INPUT_LIMIT) {
+        Ok(()) => Ok(()),
+        Err(InputFault::OutOfMemory) => Err(memory_fault(lines.failed)),
+        Err(fault) => Err(RunFault::from(fault)),
+    }
+}
+
+/// Why a run ends that was refused for lack of memory or of the file, of which reading failed with
+/// that kind, if it did.
+pub(crate) fn memory_fault(failed: Option<ErrorKind>) -> RunFault
+    ensures { OnMemoryOrFile result }
+{
+    match failed {
+        Some(kind) if kind != ErrorKind::OutOfMemory => RunFault::File(kind),
+        _ => RunFault::OutOfMemory,
+    }
+}
+
+/// How a run ended, over a file that is read on demand, and the file.
+#[derive(Drop)]
+pub struct FileRun<'a, F> {
+    /// How it ended.
+    pub outcome: Result<(), RunFault>,
+    /// The file, with what was read of it.
+    pub source: FileOnDemand<'a, F>,
+}
+
+/// Answers the lines of the reader by a file that was loaded and is read on demand, and lets go of
+/// all but the file.
+///
+/// # Errors
+/// As [`answer_file_lines`].
+fn answer_file<'a, F: FileExt, R: Read, W: Write>(
+    alloc: Global,
+    symbolizer: FileSymbolizer<'a, F>,
+    reader: &mut Watched<R>,
+    writer: &mut Watched<W>,
+    at_end: AtEnd,
+) -> FileRun<'a, F>
+    ensures contents { result.source.contents.numbers ≡ symbolizer.entry.contents }
+    ensures grows { agrees result.source.views symbolizer.entry.contents ≡ true
+        → IsKnown symbolizer.entry }
+    ensures load { IfErr result.outcome (λ fault. OnLoad fault (λ _. ⊥)) }
+    ensures kind { IfErr result.outcome IsOfFileFrames }
+    ensures ok { agrees result.source.views symbolizer.entry.contents ≡ true
+        → OnOk result.outcome
+        (IfSome (R.remaining (inner_of reader.old)) (λ input. (length input ≤ 2 ^ 30)
+        × Writes W.contents writer.old writer.new
+        (report (line_text (answer (streams symbolizer.entry.contents))) input))) }
+    ensures quiet { OnOk result.outcome
+        (IsQuiet reader.old reader.new × IsQuiet writer.old writer.new) }
+    ensures read_fails { IfErr result.outcome
+        (λ fault. OnRead fault (λ kind. CountsFailure reader.old reader.new kind)) }
+    ensures write_fails { IfErr result.outcome
+        (λ fault. OnWrite fault (λ kind. CountsFailure writer.old writer.new kind)) }
+    ensures read_out { agrees result.source.views symbolizer.entry.contents ≡ true
+        → IfErr result.outcome (λ fault. OnRead fault
+        (λ _. (taken : List ℕ) × Takes R.remaining reader.old reader.new taken
+        × Writes W.contents writer.old writer.new (report_of_ended
+        (line_text (answer (streams symbolizer.entry.contents))) taken))) }
+    ensures too_long { agrees result.source.views symbolizer.entry.contents ≡ true
+        → IfErr result.outcome (λ fault. OnTooLong fault
+        (IfSome (R.remaining (inner_of reader.old)) (λ input. (2 ^ 30 < length input)
+        × Writes W.contents writer.old writer.new (report_of_ended
+        (line_text (answer (streams symbolizer.entry.contents))) (take (2 ^ 30) input))))) }
+    ensures part { agrees result.source.views symbolizer.entry.contents ≡ true
+        → OnErr result.outcome (IfSome (R.remaining (inner_of reader.old))
+        (λ input. WritesFront W.contents writer.old writer.new
+        (report (line_text (answer (streams symbolizer.entry.contents))) input))) }
+{
+    let mut lines = FileLines {
+        symbolizer,
+        room: String::new(alloc),
+        is_ready: false,
+        failed: None,
+    };
+    let outcome = answer_file_lines(alloc, &mut lines, reader, writer);
+    let FileLines {
+        symbolizer,
+        room,
+        ..
+    } = lines;
+    drop(room);
+    let (source, context) = symbolizer.into_parts();
+    let_go(context, at_end);
+    FileRun { outcome, source }
+}
+
+/// Writes the report on the lines of the reader by a file that is read on demand: for each line the
+/// answer for its address, and nothing else. What is said of the file's bytes holds of those that
+/// `source` takes the file to have, where they agree with everything that was read.
+///
+/// # Errors
+/// As [`run_frames`](crate::run_frames); `File` where the file couldn't be read, and then a prefix
+/// of the report is out.
+pub fn run_file_frames<'a, F: FileExt, R: Read, W: Write>(
+    alloc: Global,
+    source: FileOnDemand<'a, F>,
+    reader: &mut Watched<R>,
+    writer: &mut Watched<W>,
+    at_end: AtEnd,
+) -> FileRun<'a, F>
+    ensures contents { result.source.contents.numbers ≡ source.entry.contents.numbers }
+    // The loading fault is returned where the file has one, with both ends untouched; every other
+    // end but out of memory and a file that couldn't be read says that there is none.
+    ensures load { IfErr result.outcome (λ fault. OnLoad fault (λ cause.
+        ((reader.new ≡ reader.old) × (writer.new ≡ writer.old))
+        × (agrees result.source.views source.entry.contents.numbers ≡ true
+        → IsFileFault cause (load_fault (streams source.entry.contents.numbers))))) }
+    ensures loaded { agrees result.source.views source.entry.contents.numbers ≡ true
+        → UnlessLoad result.outcome
+        (load_fault (streams source.entry.contents.numbers) ≡ None) }
+    ensures kind { IfErr result.outcome IsOfFileFrames }
+    // Out of memory, and a file that couldn't be read, are returned with both ends untouched, or
+    // where there is no loading fault.
+    ensures memory { agrees result.source.views source.entry.contents.numbers ≡ true
+        → IfErr result.outcome (λ fault. IfRefused fault
+        ((load_fault (streams source.entry.contents.numbers) ≡ None)
+        ⊎ ((reader.new ≡ reader.old) × (writer.new ≡ writer.old)))) }
+    // Where the run ends well, the report on the whole input is out, and neither end failed.
+    ensures ok { agrees result.source.views source.entry.contents.numbers ≡ true
+        → OnOk result.outcome
+        (IfSome (R.remaining (inner_of reader.old)) (λ input. (length input ≤ 2 ^ 30)
+        × Writes W.contents writer.old writer.new
+        (report (line_text (answer (streams source.entry.contents.numbers))) input))) }
+    ensures quiet { OnOk result.outcome
+        (IsQuiet reader.old reader.new × IsQuiet writer.old writer.new) }
+    // A failed read or write is one of this call, with its kind.
+    ensures read_fails { IfErr result.outcome
+        (λ fault. OnRead fault (λ kind. CountsFailure reader.old reader.new kind)) }
+    ensures write_fails { IfErr result.outcome
+        (λ fault. OnWrite fault (λ kind. CountsFailure writer.old writer.new kind)) }
+    // The complete lines before a failed read, and those of a too long input, are answered.
+    ensures read_out { agrees result.source.views source.entry.contents.numbers ≡ true
+        → IfErr result.outcome (λ fault. OnRead fault
+        (λ _. (taken : List ℕ) × Takes R.remaining reader.old reader.new taken
+        × Writes W.contents writer.old writer.new (report_of_ended
+        (line_text (answer (streams source.entry.contents.numbers))) taken))) }
+    ensures too_long { agrees result.source.views source.entry.contents.numbers ≡ true
+        → IfErr result.outcome (λ fault. OnTooLong fault
+        (IfSome (R.remaining (inner_of reader.old)) (λ input. (2 ^ 30 < length input)
+        × Writes W.contents writer.old writer.new (report_of_ended
+        (line_text (answer (streams source.entry.contents.numbers))) (take (2 ^ 30) input))))) }
+    // At every fault what is out is a prefix of the report.
+    ensures part { agrees result.source.views source.entry.contents.numbers ≡ true
+        → OnErr result.outcome (IfSome (R.remaining (inner_of reader.old))
+        (λ input. WritesFront W.contents writer.old writer.new
+        (report (line_text (answer (streams source.entry.contents.numbers))) input))) }
+    // The file's answers are those of every other file that is alike for the module that holds the
+    // address. At `Ok` what is out is also the report in which the lines of one module's addresses
+    // are such a file's.
+    ensures isolated { IsIsolated source.entry.contents.numbers }
+    ensures exchanged { agrees result.source.views source.entry.contents.numbers ≡ true
+        → OnOk result.outcome (IfSome (R.remaining (inner_of reader.old)) (λ input.
+        (other : List ℕ) (m : ℕ) → AreAlikeFor m source.entry.contents.numbers other
+        → Writes W.contents writer.old writer.new (report (line_text
+        (exchanged m (streams source.entry.contents.numbers) (streams other))) input))) }
+{
+    match FileSymbolizer::open(alloc, source) {
+        Ok(symbolizer) => answer_file(alloc, symbolizer, reader, writer, at_end),
+        Err(NotLoaded { fault, source }) => FileRun {
+            outcome: Err(RunFault::from(fault)),
+            source,
+        },
+    }
+}
