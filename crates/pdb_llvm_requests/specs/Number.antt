@@ -51,3 +51,13 @@ value_in radix digits =
 -- the number that a word stands for, if it does
 unfoldable pub number_of : List ℕ → Option ℕ
 number_of word = let w = written word in value_in w.0 w.1
+
+-- a word without 0x or 0X before it
+abbrev pub without_0x : List ℕ → List ℕ
+without_0x word =
+    if nat_le 2 (length word) && ((slice_index word 0 == 48)
+    && ((slice_index word 1 == 120) || (slice_index word 1 == 88))) then drop 2 word else word
+
+-- the number that a word of hexadecimal digits stands for, after 0x or not
+unfoldable pub hexadecimal_of : List ℕ → Option ℕ
+hexadecimal_of word = value_in 16 (without_0x word)

@@ -1,7 +1,7 @@
 -- The blanks and the words of a line, as llvm-symbolizer tells them apart.
 use Rattle.std.specs.Prelude.{ℕ, ◌-◌, ◌==◌, ◌||◌, ◌&&◌, nat_le, not, Bool, List, length, take, drop}
 use Rattle.std.specs.Prelude.{position, unwrap_or}
-use Rattle.std.specs.List.{suffix_len}
+use Rattle.std.specs.List.{list_all, suffix_len}
 
 -- a blank: a space, or a byte from tab (9) to carriage return (13)
 abbrev pub is_blank : ℕ → Bool
@@ -22,3 +22,11 @@ trimmed text = let from = after_blanks text in take (length from - suffix_len is
 -- how many bytes come before the end of the first word
 unfoldable pub word_end : List ℕ → ℕ
 word_end text = unwrap_or (position ends_word text) (length text)
+
+-- 0 to 9, a to f, A to F
+abbrev pub is_hexadecimal : ℕ → Bool
+is_hexadecimal b =
+    (nat_le 48 b && nat_le b 57) || ((nat_le 97 b && nat_le b 102) || (nat_le 65 b && nat_le b 70))
+
+abbrev pub are_hexadecimal : List ℕ → Bool
+are_hexadecimal text = list_all is_hexadecimal text

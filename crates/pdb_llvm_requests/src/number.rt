@@ -1,7 +1,8 @@
 //! The number that a word stands for, in the radix that its prefix says.
 
 ghost use Rattle.std.specs.Prelude.{◌≡◌, ◌+◌, ◌*◌, ◌^◌, ◌<◌, option_and_then};
-ghost use Rattle.pdb_llvm_requests.specs.Number.{below, digit_of, number_of, value_in, written};
+ghost use Rattle.pdb_llvm_requests.specs.Number.{below, digit_of, hexadecimal_of, number_of};
+ghost use Rattle.pdb_llvm_requests.specs.Number.{value_in, without_0x, written};
 
 /// The value of a digit: of 0 to 9, and of a letter in either case from 10 on.
 fn digit(byte: u8) -> Option<u64>
@@ -74,4 +75,23 @@ pub fn parse_number(word: &[u8]) -> Option<u64>
 {
     let (radix, digits) = radix_and_digits(word);
     parse_digits(radix, digits)
+}
+
+/// A word without `0x` or `0X` before it.
+fn after_0x(word: &[u8]) -> &[u8]
+    ensures { result.now ≡ without_0x word.now }
+{
+    match word {
+        [b'0', b'x' | b'X', digits @ ..] => digits,
+        _ => word,
+    }
+}
+
+/// The number that a word of hexadecimal digits stands for, after `0x` or `0X` or not. None if the
+/// word has no digits, or other bytes, or if the number is 2^64 or more.
+#[tactic(auto, unfolding(crate::specs::Number::hexadecimal_of))]
+pub(crate) fn parse_hexadecimal(word: &[u8]) -> Option<u64>
+    ensures { result ≡ hexadecimal_of word.now }
+{
+    parse_digits(16, after_0x(word))
 }

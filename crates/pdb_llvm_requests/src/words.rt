@@ -1,14 +1,38 @@
 //! The blanks and the words of a line.
 
-ghost use Rattle.std.specs.Prelude.{◌≡◌, ◌≤◌, length, not, position};
+ghost use Rattle.std.specs.Prelude.{◌≡◌, ◌==◌, ◌≤◌, length, not, position};
 ghost use Rattle.pdb_llvm_requests.specs.Words.{ends_word as ends_word_of, is_blank as is_blank_of};
-ghost use Rattle.pdb_llvm_requests.specs.Words.{after_blanks, trimmed, word_end as word_end_of};
+ghost use Rattle.pdb_llvm_requests.specs.Words.{after_blanks};
+ghost use Rattle.pdb_llvm_requests.specs.Words.{are_hexadecimal as are_hexadecimal_of};
+ghost use Rattle.pdb_llvm_requests.specs.Words.{is_hexadecimal as is_hexadecimal_of};
+ghost use Rattle.pdb_llvm_requests.specs.Words.{trimmed, word_end as word_end_of};
 
 /// Whether a byte is a blank: a space, or one from tab to carriage return.
 fn is_blank(byte: u8) -> bool
     ensures { result ≡ is_blank_of byte }
 {
     matches!(byte, b' ' | b'\t'..=b'\r')
+}
+
+/// Where the first byte of this value stands.
+pub(crate) fn first_of(byte: u8, text: &[u8]) -> Option<usize>
+    ensures { result ≡ position (λ b. b == byte) text.now }
+{
+    text.iter().position(|other| *other == byte)
+}
+
+/// Whether a byte is a hexadecimal digit, in either case.
+fn is_hexadecimal(byte: u8) -> bool
+    ensures { result ≡ is_hexadecimal_of byte }
+{
+    matches!(byte, b'0'..=b'9' | b'a'..=b'f' | b'A'..=b'F')
+}
+
+/// Whether bytes are hexadecimal digits.
+pub(crate) fn are_hexadecimal(text: &[u8]) -> bool
+    ensures { result ≡ are_hexadecimal_of text.now }
+{
+    text.iter().all(|byte| is_hexadecimal(*byte))
 }
 
 /// Whether a byte ends a word: a space, a newline or a carriage return, and no other blank.

@@ -1,42 +1,48 @@
 //! The files of a run, each loaded once, and the answers to lines by them.
 
 use crate::arguments::Arguments;
-use crate::loaded::{Asked, FileContexts, load};
+use crate::loaded::{AskedAddress, FileAnswers, load};
 use crate::open_error::OpenError;
 use bumpalo::Bump;
-use pdb_llvm_requests::{LineRequest, RequestFault, read_request};
-use pdb_llvm_texts::{ReportedFrame, append_error, append_frames};
+use pdb_llvm_requests::{LineRequest, RequestFault, RequestedFile, read_request};
+use pdb_llvm_texts::{ReportedFrame, Style, append_error, append_frames};
 use pdb_loading::LoadFault;
 use std::alloc::{AllocError, Global};
 use std::collections::BTreeMap;
+use std::os::unix::fs::FileExt;
 use std::rt::Files;
 
 /// A file that was asked for: its name as text, and what answers its addresses, or why it isn't
 /// loaded.
 #[derive(Drop)]
-struct AskedFile<'a> {
+struct AskedFile<'a, F: Drop> {
     text: String,
-    loaded: Result<FileContexts<'a>, String>,
+    loaded: Result<FileAnswers<'a, F>, String>,
 }
 
 /// The files that were asked for, each loaded once, and how their addresses are answered.
 #[derive(Drop)]
-pub struct AskedFiles<'a> {
-    arguments: &'a Arguments<'a>,
+pub struct AskedFiles<'a, F: Drop> {
+    arguments: &'a Arguments,
     arena: &'a Bump,
-    files: Vec<AskedFile<'a>>,
+    files: Vec<AskedFile<'a, F>>,
     /// The number of each file, by its name in requests.
     numbers: BTreeMap<Vec<u8>, usize>,
 }
 
-/// Reports an error on standard error. Where that fails, the answers go on.
-fn tell(rt: &impl Eprint, subject: &str, reason: &str) {
-    let _ = eprintln!(rt; "pdb_llvm_symbolizer: error: '{subject}': {reason}");
+/// Reports an error of a file on standard error, but where answers are JSON and have it. Where that
+/// fails, the answers go on.
+fn tell(rt: &impl Eprint, arguments: &Arguments, subject: &str, reason: &str) {
+    if arguments.texts.style != Style::Json {
+        let program = arguments.program.as_str();
+        let _ = eprintln!(rt; "{program}: error: '{subject}': {reason}");
+    }
 }
 
 /// Reports why a line is no request. Of an empty line and a symbol's name nothing is said.
 fn tell_fault(
     rt: &(impl Eprint + AllocGlobal),
+    arguments: &Arguments,
     line: &[u8],
     fault: RequestFault,
 ) -> Result<(), AllocError> {
@@ -44,18 +50,19 @@ fn tell_fault(
         return Ok(());
     }
     let line = String::from_utf8_lossy(rt.alloc(), line)?;
-    let _ = eprintln!(rt; "pdb_llvm_symbolizer: error: '{line}': {fault}");
+    let program = arguments.program.as_str();
+    let _ = eprintln!(rt; "{program}: error: '{line}': {fault}");
     Ok(())
 }
 
 /// What answers a file's addresses, or why it can't be loaded, as a text. Where memory runs out,
 /// nothing is known of the file.
-fn load_or_reason<'a>(
-    rt: &(impl Files + AllocGlobal),
+fn load_or_reason<'a, F: FileExt + Drop>(
+    rt: &(impl Files<File = F> + AllocGlobal),
     arena: &'a Bump,
-    arguments: &Arguments<'_>,
+    arguments: &Arguments,
     file: &str,
-) -> Result<Result<FileContexts<'a>, String>, AllocError> {
+) -> Result<Result<FileAnswers<'a, F>, String>, AllocError> {
     match load(rt, arena, arguments, file) {
         Ok(loaded) => Ok(Ok(loaded)),
         Err(OpenError::Load(LoadFault::OutOfMemory)) => Err(AllocError),
@@ -66,32 +73,49 @@ fn load_or_reason<'a>(
     }
 }
 
-/// The name of the file that a request is about.
-fn file_of<'n>(request: &LineRequest<'n>, arguments: &'n Arguments<'_>) -> &'n [u8] {
-    match (request.file, arguments.object) {
-        (Some(name), _) => name,
-        (None, Some(name)) => name.as_bytes(),
-        (None, None) => b"",
-    }
+/// Where a request is answered.
+enum AnsweredBy<'n> {
+    /// By the file of this name.
+    File(&'n [u8]),
+    /// By the object that has this build ID, which no PDB has.
+    BuildId(String),
 }
 
-impl<'a> AskedFile<'a> {
+/// What a request is answered by.
+fn answered_by<'n>(
+    alloc: Global,
+    request: &LineRequest<'n>,
+    arguments: &'n Arguments,
+) -> Result<AnsweredBy<'n>, AllocError> {
+    let hash = match (request.file, &arguments.object, &arguments.build_id) {
+        (RequestedFile::Named(name), _, _) => return Ok(AnsweredBy::File(name)),
+        (RequestedFile::BuildId(hash), _, _) => String::from_utf8_lossy(alloc, hash)?,
+        (RequestedFile::Given, Some(name), _) => {
+            return Ok(AnsweredBy::File(name.as_str().as_bytes()));
+        }
+        (RequestedFile::Given, None, Some(hash)) => String::from_str(alloc, hash.as_str())?,
+        (RequestedFile::Given, None, None) => return Ok(AnsweredBy::File(b"")),
+    };
+    Ok(AnsweredBy::BuildId(hash.as_str().to_ascii_uppercase(alloc)?))
+}
+
+impl<'a, F: FileExt + Drop> AskedFile<'a, F> {
     /// Loads a file.
     fn load(
-        rt: &(impl Files + AllocGlobal),
+        rt: &(impl Files<File = F> + AllocGlobal),
         arena: &'a Bump,
-        arguments: &Arguments<'_>,
+        arguments: &Arguments,
         name: &[u8],
-    ) -> Result<AskedFile<'a>, AllocError> {
+    ) -> Result<AskedFile<'a, F>, AllocError> {
         let text = String::from_utf8_lossy(rt.alloc(), name)?;
         let loaded = load_or_reason(rt, arena, arguments, text.as_str())?;
         Ok(AskedFile { text, loaded })
     }
 
     /// Reports why it can't be loaded, if it can't.
-    fn tell(&self, rt: &impl Eprint) {
+    fn tell(&self, rt: &impl Eprint, arguments: &Arguments) {
         if let Err(reason) = &self.loaded {
-            tell(rt, self.text.as_str(), reason.as_str());
+            tell(rt, arguments, self.text.as_str(), reason.as_str());
         }
     }
 
@@ -99,7 +123,7 @@ impl<'a> AskedFile<'a> {
     fn answer(
         &mut self,
         alloc: Global,
-        arguments: &Arguments<'_>,
+        arguments: &Arguments,
         request: LineRequest<'_>,
         output: &mut Vec<u8>,
     ) -> Result<(), AllocError> {
@@ -111,7 +135,7 @@ impl<'a> AskedFile<'a> {
         let file = self.text.as_str();
         match &mut self.loaded {
             Ok(loaded) => {
-                let asked = Asked {
+                let asked = AskedAddress {
                     command,
                     file,
                     address,
@@ -123,9 +147,9 @@ impl<'a> AskedFile<'a> {
     }
 }
 
-impl<'a> AskedFiles<'a> {
+impl<'a, F: FileExt + Drop> AskedFiles<'a, F> {
     /// No files, which are asked as the arguments say.
-    pub fn new(alloc: Global, arguments: &'a Arguments<'a>, arena: &'a Bump) -> AskedFiles<'a> {
+    pub fn new(alloc: Global, arguments: &'a Arguments, arena: &'a Bump) -> AskedFiles<'a, F> {
         AskedFiles {
             arguments,
             arena,
@@ -138,7 +162,7 @@ impl<'a> AskedFiles<'a> {
     /// returns its number.
     fn ask(
         &mut self,
-        rt: &(impl Files + Eprint + AllocGlobal),
+        rt: &(impl Files<File = F> + Eprint + AllocGlobal),
         name: &[u8],
     ) -> Result<usize, AllocError> {
         if let Some(number) = self.numbers.get(name) {
@@ -147,36 +171,79 @@ impl<'a> AskedFiles<'a> {
         let number = self.files.len();
         let key = Vec::from_slice(rt.alloc(), name)?;
         let file = AskedFile::load(rt, self.arena, self.arguments, name)?;
-        file.tell(rt);
+        file.tell(rt, self.arguments);
         self.files.push(file)?;
         self.numbers.insert(key, number)?;
         Ok(number)
     }
 
-    /// Loads the file of `--obj`, if it is given. Returns whether that is loaded.
+    /// Loads the file of `--obj`, if it is given. Returns whether that is loaded. Where it isn't,
+    /// the error is appended in JSON.
+    ///
+    /// # Errors
+    /// Where memory ran out.
     pub fn ask_object(
         &mut self,
-        rt: &(impl Files + Eprint + AllocGlobal),
+        rt: &(impl Files<File = F> + Eprint + AllocGlobal),
+        output: &mut Vec<u8>,
     ) -> Result<bool, AllocError> {
-        match self.arguments.object {
-            None => Ok(true),
-            Some(object) => {
-                let number = self.ask(rt, object.as_bytes())?;
-                let file = self.files.get(number);
-                Ok(file.is_some_and(|file| file.loaded.is_ok()))
-            }
+        let arguments = self.arguments;
+        let Some(object) = &arguments.object else {
+            return Ok(true);
+        };
+        let number = self.ask(rt, object.as_str().as_bytes())?;
+        let Some(
+            AskedFile {
+                loaded: Err(reason),
+                text,
+            },
+        ) = self.files.get(number)
+        else {
+            return Ok(true);
+        };
+        if arguments.texts.style == Style::Json {
+            let mut texts = arguments.texts;
+            texts.in_array = false;
+            append_error(rt.alloc(), output, texts, text.as_str(), 0, reason.as_str())?;
         }
+        Ok(false)
+    }
+
+    /// Appends the answer to a request for an object that is named by its build ID.
+    fn answer_build_id(
+        &self,
+        rt: &(impl Eprint + AllocGlobal),
+        hash: &str,
+        address: u64,
+        output: &mut Vec<u8>,
+    ) -> Result<(), AllocError> {
+        let reason = "could not find build ID";
+        tell(rt, self.arguments, hash, reason);
+        append_error(
+            rt.alloc(),
+            output,
+            self.arguments.texts,
+            hash,
+            address,
+            reason,
+        )
     }
 
     /// Appends the answer to a request.
     fn answer_request(
         &mut self,
-        rt: &(impl Files + Eprint + AllocGlobal),
+        rt: &(impl Files<File = F> + Eprint + AllocGlobal),
         request: LineRequest<'_>,
         output: &mut Vec<u8>,
     ) -> Result<(), AllocError> {
         let arguments = self.arguments;
-        let number = self.ask(rt, file_of(&request, arguments))?;
+        let name = match answered_by(rt.alloc(), &request, arguments)? {
+            AnsweredBy::File(name) => name,
+            AnsweredBy::BuildId(hash) => {
+                return self.answer_build_id(rt, hash.as_str(), request.address, output);
+            }
+        };
+        let number = self.ask(rt, name)?;
         match self.files.get_mut(number) {
             None => Ok(()),
             Some(file) => file.answer(rt.alloc(), arguments, request, output),
@@ -189,16 +256,19 @@ impl<'a> AskedFiles<'a> {
     /// Where memory ran out.
     pub fn answer(
         &mut self,
-        rt: &(impl Files + Eprint + AllocGlobal),
+        rt: &(impl Files<File = F> + Eprint + AllocGlobal),
         line: &[u8],
         output: &mut Vec<u8>,
     ) -> Result<(), AllocError> {
         let arguments = self.arguments;
-        match read_request(line, arguments.object.is_some()) {
+        match read_request(line, arguments.form) {
             Ok(request) => self.answer_request(rt, request, output),
             Err(fault) => {
-                tell_fault(rt, line, fault)?;
-                let file = arguments.object.unwrap_or("");
+                tell_fault(rt, arguments, line, fault)?;
+                let file = match &arguments.object {
+                    Some(object) => object.as_str(),
+                    None => "",
+                };
                 let unknown = [ReportedFrame::unknown()];
                 append_frames(rt.alloc(), output, arguments.texts, file, None, &unknown)
             }

@@ -67,7 +67,7 @@ fn next_end(bytes: &[u8]) -> Option<u64> {
 /// # Errors
 /// As [`open_regular`]; as the file's.
 pub fn read_image(rt: &(impl Files + AllocGlobal), path: &str) -> io::Result<Vec<u8>> {
-    let mut file = open_regular(rt, path)?;
+    let (mut file, _) = open_regular(rt, path)?;
     let mut bytes = Vec::new(rt.alloc());
     let mut end = FRONT;
     for _ in 0..STEPS {

@@ -8,26 +8,33 @@ use pdb_engine::{Answers, InputFault, LongStart, Watched, write_all, write_fault
 use pdb_llvm_texts::Style;
 use std::alloc::{AllocError, Global};
 use std::io::Write;
+use std::os::unix::fs::FileExt;
 use std::rt::Files;
 
 /// What answers the requests of a run: its files, and room for a text.
 #[derive(Drop)]
-pub struct RequestAnswers<'a, S: Files + Eprint + AllocGlobal> {
+pub struct RequestAnswers<'a, S: Files<File = F> + Eprint + AllocGlobal, F: Drop> {
     /// What opens files and writes errors.
     pub system: &'a S,
     /// The files that were asked for.
-    pub files: AskedFiles<'a>,
+    pub files: AskedFiles<'a, F>,
     /// Room in which each text is made.
     pub room: Vec<u8>,
 }
 
-impl<'a, S: Files + Eprint + AllocGlobal> Answers for RequestAnswers<'a, S> {
+impl<'a, S, F> Answers for RequestAnswers<'a, S, F>
+where
+    S: Files<File = F> + Eprint + AllocGlobal,
+    F: FileExt + Drop,
+{
     type Start = LongStart;
 
     // A line may name a file that is opened for it.
     ghost known = { λ _. ⊥ };
 
     ghost text = { λ _ _. [] };
+
+    ghost subject = { λ _. [] };
 
     fn place(&self, _line: &[u8]) -> u32 {
         0
@@ -47,7 +54,7 @@ impl<'a, S: Files + Eprint + AllocGlobal> Answers for RequestAnswers<'a, S> {
 
 /// Appends what stands before, between or after the elements of an array.
 fn append_mark(
-    arguments: &Arguments<'_>,
+    arguments: &Arguments,
     output: &mut Vec<u8>,
     mark: &str,
     indent: &str,
@@ -62,11 +69,15 @@ fn append_mark(
     Ok(())
 }
 
-impl<'a, S: Files + Eprint + AllocGlobal> RequestAnswers<'a, S> {
+impl<'a, S, F> RequestAnswers<'a, S, F>
+where
+    S: Files<File = F> + Eprint + AllocGlobal,
+    F: FileExt + Drop,
+{
     /// Makes the answer to an address among the arguments, with what stands before it in an array.
     fn make_answer(
         &mut self,
-        arguments: &Arguments<'_>,
+        arguments: &Arguments,
         mark: &str,
         address: &str,
     ) -> Result<(), AllocError> {
@@ -77,7 +88,7 @@ impl<'a, S: Files + Eprint + AllocGlobal> RequestAnswers<'a, S> {
     }
 
     /// Makes the end of an array.
-    fn make_end(&mut self, arguments: &Arguments<'_>) -> Result<(), AllocError> {
+    fn make_end(&mut self, arguments: &Arguments) -> Result<(), AllocError> {
         self.room.clear();
         append_mark(arguments, &mut self.room, "", "\n")?;
         append_mark(arguments, &mut self.room, "]\n", "")
@@ -85,7 +96,7 @@ impl<'a, S: Files + Eprint + AllocGlobal> RequestAnswers<'a, S> {
 }
 
 /// Writes a text that was made.
-fn write_made<W: Write>(
+pub fn write_made<W: Write>(
     made: Result<(), AllocError>,
     text: &[u8],
     writer: &mut Watched<W>,
@@ -104,14 +115,14 @@ fn write_made<W: Write>(
 ///
 /// # Errors
 /// `OutOfMemory`, or that the writer failed.
-pub fn write_answers<S: Files + Eprint + AllocGlobal, W: Write>(
-    answers: &mut RequestAnswers<'_, S>,
-    arguments: &Arguments<'_>,
+pub fn write_answers<S: Files<File = F> + Eprint + AllocGlobal, F: FileExt + Drop, W: Write>(
+    answers: &mut RequestAnswers<'_, S, F>,
+    arguments: &Arguments,
     writer: &mut Watched<W>,
 ) -> Result<(), InputFault> {
     let mut mark = "[";
-    for address in arguments.addresses {
-        let made = answers.make_answer(arguments, mark, address);
+    for address in &arguments.addresses {
+        let made = answers.make_answer(arguments, mark, address.as_str());
         write_made(made, &answers.room, writer)?;
         mark = ",";
     }

@@ -1,9 +1,15 @@
 //! A file that is loaded, and the answers for its addresses.
 
-use crate::arguments::{Arguments, FunctionName};
+use crate::arguments::Arguments;
+use crate::choices::FunctionName;
 use crate::database::{Database, open};
+use crate::first_row::{FirstRow, with_first_row};
+use crate::names::FunctionNames;
+use crate::on_demand::{Held, HeldFile};
 use crate::open_error::OpenError;
+use crate::ordered_map::OrderedMap;
 use bumpalo::Bump;
+use pdb_addr2line::maybe_owned::MaybeOwned;
 use pdb_addr2line::{
     Context, Error, Function, KeptModules, SharedFunctionFrames, TypeFormatterFlags,
 };
@@ -13,24 +19,29 @@ use pdb_llvm_texts::{
 };
 use pdb_loading::LoadFault;
 use std::alloc::{AllocError, Global};
+use std::os::unix::fs::FileExt;
 use std::rt::Files;
 
-/// A context over what is held of a file.
-type FileContext<'a> = Context<'a, 'static, KeptModules<'static>>;
+/// A context over what is held of a file. It names functions without arguments.
+pub type FileContext<'a> = Context<'a, 'static, KeptModules<'static>>;
 
-/// What answers the addresses of a file: two contexts over it.
+/// How often an address is asked for again after what it lacked was read. A file of which all was
+/// read lacks nothing.
+const TRIES: u32 = 8;
+
+/// What answers the addresses of a file.
 #[derive(Drop)]
-pub struct FileContexts<'a> {
+pub struct FileAnswers<'a, F: Drop> {
     image_base: u64,
-    /// Finds frames. It names functions without arguments.
-    frames: FileContext<'a>,
-    /// Names the function at an address.
-    names: FileContext<'a>,
+    file: HeldFile<'a, F>,
+    /// `None` once memory ran out while one was made.
+    context: Option<FileContext<'a>>,
+    names: FunctionNames<'a>,
 }
 
 /// An address of a file, as it is asked for.
 #[derive(Clone, Copy)]
-pub struct Asked<'n> {
+pub struct AskedAddress<'n> {
     /// What is asked about it.
     pub command: Command,
     /// The file's name.
@@ -39,72 +50,98 @@ pub struct Asked<'n> {
     pub address: u64,
 }
 
-/// The flags of names without arguments.
-fn short_flags() -> TypeFormatterFlags {
-    TypeFormatterFlags::default() | TypeFormatterFlags::NO_ARGUMENTS
+/// What is known of an address: its frames, the name of its function, and the function's first row
+/// where that lies behind it.
+#[derive(Drop)]
+struct KnownAddress<'a> {
+    found: Option<SharedFunctionFrames<'a>>,
+    name: Option<Vec<u8>>,
+    first: Option<FirstRow<'a>>,
 }
 
-/// The flags of names with arguments, spelled as undecorated names are.
-fn linkage_flags() -> TypeFormatterFlags {
-    TypeFormatterFlags::NO_FUNCTION_RETURN
-        | TypeFormatterFlags::NO_MEMBER_FUNCTION_STATIC
-        | TypeFormatterFlags::SPACE_AFTER_COMMA
-        | TypeFormatterFlags::SPACE_BEFORE_POINTER
-}
-
-/// The flags of the names that are asked for.
-fn flags_of(function: FunctionName) -> TypeFormatterFlags {
-    match function {
-        FunctionName::Linkage => linkage_flags(),
-        FunctionName::Short | FunctionName::None => short_flags(),
+impl<'a> KnownAddress<'a> {
+    /// Appends the answer for the address, by its RVA.
+    fn append(
+        &self,
+        alloc: Global,
+        arguments: &Arguments,
+        (asked, rva): (AskedAddress<'_>, u32),
+        output: &mut Vec<u8>,
+    ) -> Result<(), AllocError> {
+        let name: Option<&[u8]> = match &self.name {
+            Some(name) => Some(name),
+            None => None,
+        };
+        let options = arguments.frames;
+        let mut frames = report_frames(alloc, &self.found, name, rva, options)?;
+        if let Some(first) = &self.first {
+            first.report(&mut frames, options);
+        }
+        let address = Some(asked.address);
+        append_frames(alloc, output, arguments.texts, asked.file, address, &frames)
     }
 }
 
 /// What answers the addresses of a database.
-fn over<'a>(
+fn over<'a, F: FileExt + Drop>(
     alloc: Global,
-    database: Database<'a>,
-    function: FunctionName,
-) -> Result<FileContexts<'a>, OpenError> {
-    let Database { image_base, held } = database;
-    if !held.address_map().is_ordered() {
-        return Err(OpenError::Load(LoadFault::AddressTableDecreases));
-    }
-    let frames = held.make_context_with_formatter_flags(alloc, short_flags())?;
-    let names = held.make_context_with_formatter_flags(alloc, flags_of(function))?;
-    Ok(FileContexts {
+    database: Database<'a, F>,
+) -> Result<FileAnswers<'a, F>, OpenError> {
+    let Database { image_base, file } = database;
+    let held = file.held();
+    let (context, names) = context_and_names(alloc, held)?;
+    Ok(FileAnswers {
         image_base,
-        frames,
+        file,
+        context: Some(context),
         names,
     })
+}
+
+/// A context over what is held of a file, and what names its functions.
+fn context_and_names<'a>(
+    alloc: Global,
+    held: &'a Held,
+) -> Result<(FileContext<'a>, FunctionNames<'a>), OpenError> {
+    let Some(map) = OrderedMap::of(held.address_map()) else {
+        return Err(OpenError::Load(LoadFault::AddressTableDecreases));
+    };
+    let context = held.make_context_with_formatter_flags(alloc, flags())?;
+    Ok((context, FunctionNames::new(held, map)))
+}
+
+/// The flags of the names of functions: they have no arguments.
+fn flags() -> TypeFormatterFlags {
+    TypeFormatterFlags::default() | TypeFormatterFlags::NO_ARGUMENTS
+}
+
+/// A context over other modules, of the parts of a context that is let go.
+fn over_modules<'a>(
+    alloc: Global,
+    held: &'a Held,
+    modules: &'a KeptModules<'static>,
+    context: FileContext<'a>,
+) -> Result<FileContext<'a>, Error> {
+    let formatter = held.make_type_formatter_over(alloc, modules, flags())?;
+    let parts = context.into_parts();
+    Context::with_parts(alloc, modules, parts, MaybeOwned::Owned(formatter))
 }
 
 /// Loads a file into an arena, which holds its memory.
 ///
 /// # Errors
 /// Why it can't be loaded.
-pub fn load<'a>(
-    rt: &(impl Files + AllocGlobal),
+pub fn load<'a, F: FileExt + Drop>(
+    rt: &(impl Files<File = F> + AllocGlobal),
     arena: &'a Bump,
-    arguments: &Arguments<'_>,
+    arguments: &Arguments,
     file: &str,
-) -> Result<FileContexts<'a>, OpenError> {
-    let database = open(rt, arena, file, arguments.database)?;
-    over(rt.alloc(), database, arguments.function)
+) -> Result<FileAnswers<'a, F>, OpenError> {
+    let database = open(rt, arena, file, arguments)?;
+    over(rt.alloc(), database)
 }
 
-/// The name of a function, if it has one; empty where there is no function.
-fn name_of(function: &Option<Function>) -> Option<&[u8]> {
-    match function {
-        None => Some(b""),
-        Some(function) => match &function.name {
-            None => None,
-            Some(name) => Some(name.as_bytes()),
-        },
-    }
-}
-
-/// The frame of an address where there is no function.
+/// The frame of an address without a function.
 fn no_function<'f>() -> ReportedFrame<'f> {
     ReportedFrame {
         function: Some(b""),
@@ -113,66 +150,135 @@ fn no_function<'f>() -> ReportedFrame<'f> {
     }
 }
 
-impl<'a> FileContexts<'a> {
-    /// The frames at an address; none where the lines or inlined calls there can't be read.
-    fn frames_at(
+/// The frames at an address; none where the lines or inlined calls there can't be read.
+pub fn frames_at<'a>(
+    context: &mut FileContext<'a>,
+    alloc: Global,
+    rva: u32,
+) -> Result<Option<SharedFunctionFrames<'a>>, AllocError> {
+    match context.find_shared_frames(alloc, rva) {
+        Ok(found) => Ok(found),
+        Err(Error::OutOfMemory) => Err(AllocError),
+        Err(_) => Ok(None),
+    }
+}
+
+impl<'a, F: FileExt + Drop> FileAnswers<'a, F> {
+    /// The name of the function at an address, by the names that are asked for.
+    fn name_of(
         &mut self,
         alloc: Global,
+        arguments: &Arguments,
+        function: &Option<Function>,
         rva: u32,
-    ) -> Result<Option<SharedFunctionFrames<'a>>, AllocError> {
-        match self.frames.find_shared_frames(alloc, rva) {
-            Ok(found) => Ok(found),
-            Err(Error::OutOfMemory) => Err(AllocError),
-            Err(_) => Ok(None),
-        }
+    ) -> Result<Option<Vec<u8>>, AllocError> {
+        let demangle = arguments.demangle;
+        let name = match arguments.function {
+            FunctionName::None => return Ok(None),
+            FunctionName::Short => self.names.short_name(alloc, function, demangle)?,
+            FunctionName::Linkage => self.names.linkage_name(alloc, function, demangle, rva)?,
+        };
+        Ok(Some(name))
     }
 
-    /// The function at an address, by the name that is asked for.
-    fn function_at(
+    /// Appends the answer for an address that has an RVA, by what was read.
+    fn append_at(
         &mut self,
         alloc: Global,
-        name: FunctionName,
-        rva: u32,
-    ) -> Result<Option<Function>, AllocError> {
-        if name == FunctionName::None {
-            return Ok(None);
-        }
-        match self.names.find_function(alloc, rva) {
-            Ok(function) => Ok(function),
-            Err(_) => Err(AllocError),
-        }
-    }
-
-    /// Appends the answer for an address that has an RVA. The function is named as at its start, so
-    /// that padding after it has its name.
-    fn answer_at(
-        &mut self,
-        alloc: Global,
-        arguments: &Arguments<'_>,
-        asked: Asked<'_>,
+        arguments: &Arguments,
+        asked: AskedAddress<'_>,
         rva: u32,
         output: &mut Vec<u8>,
     ) -> Result<(), AllocError> {
-        let found = self.frames_at(alloc, rva)?;
-        let start = match &found {
-            Some(found) => found.start_rva,
-            None => rva,
+        let Some(mut context) = self.context.take() else {
+            return Err(AllocError);
         };
-        let function = self.function_at(alloc, arguments.function, start)?;
-        let frames = report_frames(alloc, &found, name_of(&function), rva, arguments.frames)?;
-        let address = Some(asked.address);
-        append_frames(alloc, output, arguments.texts, asked.file, address, &frames)
+        let appended = self.append_by(alloc, &mut context, arguments, (asked, rva), output);
+        self.context = Some(context);
+        appended
+    }
+
+    /// Appends the answer for an address that has an RVA, by a context.
+    fn append_by(
+        &mut self,
+        alloc: Global,
+        context: &mut FileContext<'a>,
+        arguments: &Arguments,
+        (asked, rva): (AskedAddress<'_>, u32),
+        output: &mut Vec<u8>,
+    ) -> Result<(), AllocError> {
+        let known = self.known_at(alloc, context, arguments, rva)?;
+        known.append(alloc, arguments, (asked, rva), output)
+    }
+
+    /// What a context knows of an address.
+    fn known_at(
+        &mut self,
+        alloc: Global,
+        context: &mut FileContext<'a>,
+        arguments: &Arguments,
+        rva: u32,
+    ) -> Result<KnownAddress<'a>, AllocError> {
+        let found = frames_at(context, alloc, rva)?;
+        let function = self.names.function_at(alloc, context, rva)?;
+        let first = with_first_row(alloc, context, &function, &found, rva)?;
+        let name = self.name_of(alloc, arguments, &function, rva)?;
+        Ok(KnownAddress { found, name, first })
+    }
+
+    /// Reads what was asked for and is missing, and makes a context over it. Returns whether
+    /// anything was missing. What keeps the file from being read is taken for want of memory.
+    fn go_on(&mut self, alloc: Global) -> Result<bool, AllocError> {
+        let Some(context) = &self.context else {
+            return Err(AllocError);
+        };
+        let Ok(more) = self.file.read_more(alloc, context.provider()) else {
+            return Err(AllocError);
+        };
+        let Some(modules) = more else {
+            return Ok(false);
+        };
+        let Some(context) = self.context.take() else {
+            return Err(AllocError);
+        };
+        let Ok(context) = over_modules(alloc, self.file.held(), modules, context) else {
+            return Err(AllocError);
+        };
+        self.context = Some(context);
+        Ok(true)
+    }
+
+    /// Appends the answer for an address that has an RVA. What it lacks is read first.
+    fn answer_at(
+        &mut self,
+        alloc: Global,
+        arguments: &Arguments,
+        asked: AskedAddress<'_>,
+        rva: u32,
+        output: &mut Vec<u8>,
+    ) -> Result<(), AllocError> {
+        let before = output.len();
+        for _ in 0..TRIES {
+            match self.append_at(alloc, arguments, asked, rva, output) {
+                Ok(()) => return Ok(()),
+                Err(_) => output.truncate(before),
+            }
+            if !self.go_on(alloc)? {
+                return Err(AllocError);
+            }
+        }
+        Err(AllocError)
     }
 
     /// Appends the answer for an address.
     fn answer_code(
         &mut self,
         alloc: Global,
-        arguments: &Arguments<'_>,
-        asked: Asked<'_>,
+        arguments: &Arguments,
+        asked: AskedAddress<'_>,
         output: &mut Vec<u8>,
     ) -> Result<(), AllocError> {
-        let Asked { file, address, .. } = asked;
+        let AskedAddress { file, address, .. } = asked;
         match rva_of(
             address,
             self.image_base,
@@ -191,11 +297,11 @@ impl<'a> FileContexts<'a> {
     pub fn answer(
         &mut self,
         alloc: Global,
-        arguments: &Arguments<'_>,
-        asked: Asked<'_>,
+        arguments: &Arguments,
+        asked: AskedAddress<'_>,
         output: &mut Vec<u8>,
     ) -> Result<(), AllocError> {
-        let Asked { file, address, .. } = asked;
+        let AskedAddress { file, address, .. } = asked;
         match asked.command {
             Command::Code => self.answer_code(alloc, arguments, asked, output),
             Command::Data => append_no_data(alloc, output, arguments.texts, file, address),

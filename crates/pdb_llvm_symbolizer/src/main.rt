@@ -3,36 +3,63 @@
 #![tactic(auto)]
 
 mod arguments;
+mod choices;
+mod command_words;
 mod database;
 mod files;
+mod first_row;
+mod folders;
+mod given_words;
+mod help;
 mod image_file;
 mod lines;
 mod loaded;
+mod names;
+mod on_demand;
 mod open_error;
+mod ordered_map;
+mod publics;
 mod regular_file;
+mod stores;
+mod undecorated;
 
 use anyhow::{Result, bail};
-use arguments::{Arguments, command, read};
+use arguments::{Arguments, read_arguments};
 use bumpalo::Bump;
+use choices::{Choices, read_choices};
 use files::AskedFiles;
-use lines::{RequestAnswers, write_answers};
+use given_words::{GivenWords, given_words};
+use help::{HELP, VERSION};
+use lines::{RequestAnswers, write_answers, write_made};
 use pdb_engine::{InputFault, Watched, run};
-use std::env;
-use std::io::{self, Read, Write};
+use std::io::{Read, Write};
 use std::mem::forget;
+use std::os::unix::fs::FileExt;
 use std::process::ExitCode;
-use std::rt::{Env, Files};
+use std::rt::Files;
+use stores::push_environment_stores;
 
 fn main(rt: HostRuntime) -> Result<ExitCode> {
-    let words = given_words(&rt)?;
-    let matches = match command(rt.alloc())?.try_get_matches_from(words.as_slice()) {
-        Ok(matches) => matches,
-        Err(error) => return finish_words(&rt, &error),
+    let GivenWords { program, words } = given_words(&rt)?;
+    let choices = read_choices(rt.alloc(), &words)?;
+    if !choices.errors.is_empty() {
+        return refuse(&rt, &choices);
+    }
+    if choices.help {
+        return finish(print!(rt; "{HELP}").is_ok());
+    }
+    if choices.version {
+        return finish(println!(rt; "pdb_llvm_symbolizer {VERSION}").is_ok());
+    }
+    tell_hints(&rt, &choices);
+    let mut arguments = match read_arguments(rt.alloc(), program, choices)? {
+        Ok(arguments) => arguments,
+        Err(error) => {
+            eprintln!(rt; "{error}")?;
+            return Ok(ExitCode::from(1));
+        }
     };
-    let Some(arguments) = read(&matches) else {
-        eprintln!(rt; "pdb_llvm_symbolizer: error: --adjust-vma: expected a non-negative integer")?;
-        return Ok(ExitCode::from(1));
-    };
+    push_environment_stores(&rt, &mut arguments.stores)?;
     let mut reader = Watched::new(rt.stdin());
     let mut writer = Watched::new(rt.stdout());
     match answer(&rt, &arguments, &mut reader, &mut writer) {
@@ -42,24 +69,30 @@ fn main(rt: HostRuntime) -> Result<ExitCode> {
     }
 }
 
-/// The program's name and its arguments.
-fn given_words(rt: &(impl Env + AllocGlobal)) -> io::Result<Vec<String>> {
-    let mut words = Vec::new(rt.alloc());
-    for word in env::args(rt)? {
-        words.push(word)?;
+/// Reports what is wrong with the words, with status 1.
+fn refuse(rt: &impl Eprint, choices: &Choices) -> Result<ExitCode> {
+    for error in &choices.errors {
+        eprintln!(rt; "error: {error}")?;
     }
-    Ok(words)
+    Ok(ExitCode::from(1))
 }
 
-/// Reports what is wrong with the arguments, with status 1, or writes help.
-fn finish_words(rt: &(impl Print + Eprint), error: &clap::Error) -> Result<ExitCode> {
-    let told = error.print(rt);
-    if error.use_stderr() {
-        return Ok(ExitCode::from(1));
+/// The status after a text that was written or not.
+fn finish(is_written: bool) -> Result<ExitCode> {
+    if is_written {
+        Ok(ExitCode::SUCCESS)
+    } else {
+        bail!("standard output can't be written")
     }
-    match told {
-        Ok(()) => Ok(ExitCode::SUCCESS),
-        Err(_) => bail!("standard output can't be written"),
+}
+
+/// Warns of folders that aren't those of symbols for Apple's systems.
+fn tell_hints(rt: &impl Eprint, choices: &Choices) {
+    for hint in &choices.dsym_hints {
+        if !hint.as_str().ends_with(".dSYM") {
+            let why = "must have the '.dSYM' extension";
+            let _ = eprintln!(rt; "Warning: invalid dSYM hint: \"{hint}\" ({why}).");
+        }
     }
 }
 
@@ -75,9 +108,9 @@ fn reason(fault: &InputFault) -> &'static str {
 
 /// Answers the addresses among the arguments, or those of the reader's lines. Returns whether the
 /// file of `--obj` is loaded, if it is given. What the files hold is left to the process.
-fn answer<S: Files + Eprint + AllocGlobal, R: Read, W: Write>(
+fn answer<S: Files<File = F> + Eprint + AllocGlobal, F: FileExt + Drop, R: Read, W: Write>(
     rt: &S,
-    arguments: &Arguments<'_>,
+    arguments: &Arguments,
     reader: &mut Watched<R>,
     writer: &mut Watched<W>,
 ) -> Result<bool, InputFault> {
@@ -94,17 +127,16 @@ fn answer<S: Files + Eprint + AllocGlobal, R: Read, W: Write>(
     outcome
 }
 
-/// Loads the file of `--obj`, and answers the addresses.
-fn answer_by<S: Files + Eprint + AllocGlobal, R: Read, W: Write>(
-    answers: &mut RequestAnswers<'_, S>,
-    arguments: &Arguments<'_>,
+/// Loads the file of `--obj`, and answers the addresses. Where standard input can't be read, as
+/// where it is closed, it has ended.
+fn answer_by<S: Files<File = F> + Eprint + AllocGlobal, F: FileExt + Drop, R: Read, W: Write>(
+    answers: &mut RequestAnswers<'_, S, F>,
+    arguments: &Arguments,
     reader: &mut Watched<R>,
     writer: &mut Watched<W>,
 ) -> Result<bool, InputFault> {
-    match answers.files.ask_object(answers.system) {
-        Ok(true) => {}
-        Ok(false) => return Ok(false),
-        Err(_) => return Err(InputFault::OutOfMemory),
+    if !load_object(answers, writer)? {
+        return Ok(false);
     }
     let outcome = if arguments.addresses.is_empty() {
         run(answers.system.alloc(), answers, reader, writer, u64::MAX)
@@ -112,7 +144,25 @@ fn answer_by<S: Files + Eprint + AllocGlobal, R: Read, W: Write>(
         write_answers(answers, arguments, writer)
     };
     match outcome {
-        Ok(()) => Ok(true),
+        Ok(()) | Err(InputFault::Read(_)) => Ok(true),
         Err(fault) => Err(fault),
+    }
+}
+
+/// Loads the file of `--obj`, if it is given. Returns whether that is loaded; where it isn't, the
+/// error is written in JSON.
+fn load_object<S: Files<File = F> + Eprint + AllocGlobal, F: FileExt + Drop, W: Write>(
+    answers: &mut RequestAnswers<'_, S, F>,
+    writer: &mut Watched<W>,
+) -> Result<bool, InputFault> {
+    let system = answers.system;
+    let mut text = Vec::new(system.alloc());
+    match answers.files.ask_object(system, &mut text) {
+        Ok(true) => Ok(true),
+        Ok(false) => {
+            write_made(Ok(()), &text, writer)?;
+            Ok(false)
+        }
+        Err(_) => Err(InputFault::OutOfMemory),
     }
 }

@@ -27,14 +27,16 @@ fn check_regular(metadata: &Metadata) -> io::Result<()>
 /// Opens a regular file for reading, and nothing else: a FIFO is waited for until something writes
 /// to it, what a pipe or a terminal gives is missing where it should go, and a device may have no
 /// end. The type is that of what stands at the path, and once more that of what was opened. So a
-/// file that takes the path's place in between isn't read; if it is a FIFO, it is waited for.
+/// file that takes the path's place in between isn't read; if it is a FIFO, it is waited for. Its
+/// size in bytes is returned, too.
 ///
 /// # Errors
 /// As the system's, `IsADirectory` for a directory, and `Other` for another file that isn't
 /// regular.
-pub fn open_regular<R: Files>(rt: &R, path: &str) -> io::Result<R::File> {
+pub fn open_regular<R: Files>(rt: &R, path: &str) -> io::Result<(R::File, u64)> {
     check_regular(&fs::metadata(rt, path)?)?;
     let file = fs::open(rt, path)?;
-    check_regular(&file.metadata()?)?;
-    Ok(file)
+    let metadata = file.metadata()?;
+    check_regular(&metadata)?;
+    Ok((file, metadata.len()))
 }

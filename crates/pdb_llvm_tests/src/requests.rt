@@ -1,10 +1,27 @@
 //! The requests of lines. The expected values are what `llvm-symbolizer` 19 answered for these
 //! lines: `ModuleName` and `Address` of its JSON, or the error that it wrote.
 
-use pdb_llvm_requests::{Command, RequestFault, parse_number, read_request, rva_of};
+use pdb_llvm_requests::{
+    Command, LineForm, RequestFault, RequestedFile, parse_number, read_request, rva_of,
+};
+
+/// Lines that name their files.
+const WITH_FILES: LineForm = LineForm {
+    file_given: false,
+    hexadecimal: false,
+};
+
+/// Lines beside a file that the arguments name.
+const BESIDE: LineForm = LineForm {
+    file_given: true,
+    hexadecimal: false,
+};
 
 /// Lines that ask for code, each with its file and its address.
-const CODE: [(&[u8], &[u8], u64); 16] = [
+const CODE: [(&[u8], &[u8], u64); 19] = [
+    (b"CODE FILE:t.exe 0x10", b"t.exe", 0x10),
+    (b"FILE: \"t x.exe\" 0x10", b"t x.exe", 0x10),
+    (b"t.exe 0x10\0 0x20", b"t.exe", 0x10),
     (b"t.exe 0x140001000", b"t.exe", 0x1_4000_1000),
     (b"CODE   t.exe   0x10", b"t.exe", 0x10),
     (b"CODE \"t x.exe\" 0x1f", b"t x.exe", 0x1f),
@@ -25,7 +42,13 @@ const CODE: [(&[u8], &[u8], u64); 16] = [
 
 /// Lines that are no requests, each with its fault. `llvm-symbolizer` writes no error for empty
 /// lines and for names of symbols.
-const REFUSED: [(&[u8], RequestFault); 14] = [
+const REFUSED: [(&[u8], RequestFault); 20] = [
+    (b"FILE:BUILDID:x 0x1", RequestFault::RepeatedPrefix),
+    (b"FILE:", RequestFault::EmptyFilePrefix),
+    (b"BUILDID: ", RequestFault::EmptyHashPrefix),
+    (b"FILE:\"x 0x1", RequestFault::UnclosedQuotes),
+    (b"BUILDID:zz 0x1", RequestFault::NotAHash),
+    (b"\0t.exe 0x10", RequestFault::EmptyLine),
     (b"", RequestFault::EmptyLine),
     (b"\r", RequestFault::EmptyLine),
     (b"\"t x.exe 0x10", RequestFault::NoFile),
@@ -42,13 +65,18 @@ const REFUSED: [(&[u8], RequestFault); 14] = [
     (b"t.exe -1", RequestFault::SymbolName),
 ];
 
+/// Whether a file is the one of this name.
+fn is_named(file: RequestedFile<'_>, name: &[u8]) -> bool {
+    matches!(file, RequestedFile::Named(found) if found == name)
+}
+
 #[test]
 fn requests_of_code(rt: HostRuntime) {
     for (line, file, address) in CODE {
-        let request = read_request(line, false);
+        let request = read_request(line, WITH_FILES);
         assert!(rt;
             request.is_ok_and(|found| found.command == Command::Code
-                && found.file == Some(file)
+                && is_named(found.file, file)
                 && found.address == address)
         );
     }
@@ -57,29 +85,31 @@ fn requests_of_code(rt: HostRuntime) {
 #[test]
 fn refused_lines(rt: HostRuntime) {
     for (line, fault) in REFUSED {
-        assert!(rt; read_request(line, false).is_err_and(|found| found == fault));
+        assert!(rt; read_request(line, WITH_FILES).is_err_and(|found| found == fault));
     }
 }
 
 #[test]
 fn other_commands(rt: HostRuntime) {
-    let data = read_request(b"DATA t.exe 0x140001000", false);
+    let data = read_request(b"DATA t.exe 0x140001000", WITH_FILES);
     assert!(rt; data.is_ok_and(|found| found.command == Command::Data));
-    let frame = read_request(b"FRAME t.exe 0x140001000", false);
+    let frame = read_request(b"FRAME t.exe 0x140001000", WITH_FILES);
     assert!(rt; frame.is_ok_and(|found| found.command == Command::Frame));
 }
 
 #[test]
 fn lines_beside_a_file(rt: HostRuntime) {
-    let found = read_request(b"DATA  0x10", true);
-    assert!(rt; found.is_ok_and(|found| found.file.is_none() && found.address == 0x10));
+    let found = read_request(b"DATA  0x10", BESIDE);
+    assert!(rt;
+        found.is_ok_and(|found| matches!(found.file, RequestedFile::Given) && found.address == 0x10)
+    );
     let faults: [(&[u8], RequestFault); 3] = [
         (b" ", RequestFault::NoAddress),
         (b"5x", RequestFault::NotANumber),
         (b"t.exe 0x10", RequestFault::SymbolName),
     ];
     for (line, fault) in faults {
-        assert!(rt; read_request(line, true).is_err_and(|found| found == fault));
+        assert!(rt; read_request(line, BESIDE).is_err_and(|found| found == fault));
     }
 }
 
@@ -88,10 +118,12 @@ fn lines_beside_a_file(rt: HostRuntime) {
 fn long_lines(rt: HostRuntime) {
     let mut line = [b' '; 4_352];
     line[..4].copy_from_slice(b"0x10");
-    let found = read_request(&line[..4_351], true);
+    let found = read_request(&line[..4_351], BESIDE);
     assert!(rt; found.is_ok_and(|found| found.address == 0x10));
-    assert!(rt; read_request(&line, true).is_err_and(|found| found == RequestFault::LongLine));
-    assert!(rt; read_request(&line, false).is_err_and(|found| found == RequestFault::LongLine));
+    assert!(rt; read_request(&line, BESIDE).is_err_and(|found| found == RequestFault::LongLine));
+    assert!(rt;
+        read_request(&line, WITH_FILES).is_err_and(|found| found == RequestFault::LongLine)
+    );
 }
 
 /// These addresses find a function at RVA 0x1000 of an image whose base is 0x140000000.

@@ -3,8 +3,8 @@
 
 use pdb_functions::{FrameRow, SharedFrame, SharedFunctionFrames};
 use pdb_llvm_texts::{
-    ReportOptions, ReportedFrame, Style, TextOptions, append_error, append_frames, append_no_data,
-    append_no_locals, report_frames,
+    Asked, ReportOptions, ReportedFrame, Style, TextOptions, append_error, append_frames,
+    append_no_data, append_no_locals, report_frames,
 };
 use std::alloc::Global;
 use std::borrow::CowStr;
@@ -34,6 +34,7 @@ fn plainly(style: Style) -> TextOptions {
         functions: true,
         addresses: false,
         pretty: false,
+        verbose: false,
         in_array: false,
     }
 }
@@ -129,7 +130,7 @@ fn found(alloc: Global, length: u32) -> Option<SharedFunctionFrames<'static>> {
 #[test]
 fn lines_of_their_own_rows(rt: HostRuntime) {
     let options = ReportOptions {
-        inlines: true,
+        asked: Asked::All,
         base_names: true,
     };
     for (length, line) in [(0x10, 7), (4, 0)] {

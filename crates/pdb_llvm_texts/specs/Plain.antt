@@ -1,5 +1,6 @@
 -- The text of an answer in the styles LLVM and GNU.
-use Rattle.std.specs.Prelude.{ℕ, Bool, true, false, ◌&&◌, if◌then◌else◌, List, [], ◌∷◌, ◌++◌}
+use Rattle.std.specs.Prelude.{ℕ, Bool, true, false, ◌==◌, ◌&&◌, if◌then◌else◌, List, [], ◌∷◌}
+use Rattle.std.specs.Prelude.{◌++◌, length}
 use Rattle.std.specs.Prelude.{Option, None, Some, codes}
 use Rattle.std.specs.List.{flat_map}
 use Rattle.std.specs.Fmt.{decimal, digits}
@@ -23,11 +24,16 @@ header_text o (Some a) =
 abbrev pub caller_text : Bool → Bool → List ℕ
 caller_text pretty is_caller = if pretty && is_caller then codes " (inlined by) " else []
 
+-- a name, or ?? where there is none, since readers take an empty line for the end of an answer
+abbrev pub name_or_unknown : Option (List ℕ) → List ℕ
+name_or_unknown None = codes "??"
+name_or_unknown (Some name) = if length name == 0 then codes "??" else name
+
 -- the name of a frame's function, if names are asked for
 abbrev pub name_text : TextOptions → Bool → ReportedFrame → List ℕ
 name_text o is_caller f =
     if o.functions
-    then caller_text o.pretty is_caller ++ text_or f.function
+    then caller_text o.pretty is_caller ++ name_or_unknown f.function
     ++ (if o.pretty then codes " at " else codes "\n")
     else []
 
@@ -37,11 +43,20 @@ column_text styles.Llvm = codes ":0\n"
 column_text styles.Gnu = codes "\n"
 column_text styles.Json = codes "\n"
 
+-- a frame's file and line
+abbrev pub place_text : Style → ReportedFrame → List ℕ
+place_text style f = text_or f.file ++ codes ":" ++ decimal f.line ++ column_text style
+
+-- ..on a line each, with the column, which isn't known
+unfoldable pub verbose_text : ReportedFrame → List ℕ
+verbose_text f =
+    codes "  Filename: " ++ text_or f.file ++ codes "\n  Line: " ++ decimal f.line
+    ++ codes "\n  Column: 0\n"
+
 -- the text of a frame
 abbrev pub frame_text : TextOptions → Bool → ReportedFrame → List ℕ
 frame_text o is_caller f =
-    name_text o is_caller f
-    ++ text_or f.file ++ codes ":" ++ decimal f.line ++ column_text o.style
+    name_text o is_caller f ++ (if o.verbose then verbose_text f else place_text o.style f)
 
 -- the frames one after the other, of which each after the first called the one before it
 abbrev pub frames_text : TextOptions → List ReportedFrame → List ℕ

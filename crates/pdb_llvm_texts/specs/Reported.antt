@@ -5,6 +5,8 @@ use Rattle.std.specs.Prelude.{Option, None, Some, option_map, unwrap_or}
 use Rattle.pdb_functions.specs.Frames.{Frame, FunctionFrames}
 use Rattle.pdb_functions.specs.declared.frames.FrameRow.{FrameRow}
 use Rattle.pdb_llvm_texts.specs.ReportedFrames.{ReportedFrame}
+use Rattle.pdb_llvm_texts.specs.declared.reported.Asked.{Asked}
+use Rattle.pdb_llvm_texts.specs.declared.reported.Asked.TheVariants as asked
 use Rattle.pdb_llvm_texts.specs.declared.reported.ReportOptions.{ReportOptions}
 
 -- a slash or a backslash
@@ -62,12 +64,25 @@ named name f = record { function = name; file = f.file; line = f.line }
 abbrev pub function_alone : Option (List ℕ) → ReportedFrame
 function_alone name = record { function = name; file = None; line = 0 }
 
--- the frames of a function at an address: the calls, if they are asked for, and the function
+-- the inlined calls, unless the function alone is asked for
+abbrev pub calls_asked : Asked → List ReportedFrame → List ReportedFrame
+calls_asked asked.All calls = calls
+calls_asked asked.Innermost calls = calls
+calls_asked asked.Outermost calls = []
+
+-- of frames, innermost first, those that are asked for
+abbrev pub kept_asked : Asked → List ReportedFrame → List ReportedFrame
+kept_asked asked.All frames = frames
+kept_asked asked.Innermost frames = take 1 frames
+kept_asked asked.Outermost frames = frames
+
+-- the frames of a function at an address: the inlined calls, and the function under its name
 abbrev pub reported_frames : ReportOptions → Option (List ℕ) → ℕ → FunctionFrames
     → List ReportedFrame
 reported_frames o name a f =
-    (if o.inlines then map (reported o.base_names f.start_rva a) (calls_of f.frames) else [])
-    ++ map (λ own. named name (reported o.base_names f.start_rva a own)) (own_of f.frames)
+    kept_asked o.asked
+    (calls_asked o.asked (map (reported o.base_names f.start_rva a) (calls_of f.frames))
+    ++ map (λ own. named name (reported o.base_names f.start_rva a own)) (own_of f.frames))
 
 -- the frames that are reported for an address
 abbrev pub reported_found : ReportOptions → Option (List ℕ) → ℕ → Option FunctionFrames

@@ -12,5 +12,5 @@ mod reported;
 mod texts;
 
 pub use options::{Style, TextOptions};
-pub use reported::{ReportOptions, ReportedFrame, report_frames};
+pub use reported::{Asked, ReportOptions, ReportedFrame, report_frame, report_frames};
 pub use texts::{append_error, append_frames, append_no_data, append_no_locals};

@@ -22,6 +22,8 @@ pub struct TextOptions {
     pub addresses: bool,
     /// Whether each frame has one line; in JSON, whether each member has one.
     pub pretty: bool,
+    /// Whether file, line and column have a line each. In JSON that changes nothing.
+    pub verbose: bool,
     /// In JSON, whether the answers are elements of an array, which the caller opens, parts by
     /// commas and closes. Otherwise a newline ends each.
     pub in_array: bool,

@@ -6,6 +6,7 @@ ghost use Rattle.std.specs.Fmt.{decimal};
 ghost use Rattle.std.specs.List.{flat_map};
 ghost use Rattle.pdb_llvm_texts.specs.Plain.{address_text, caller_text, column_text, footer_text};
 ghost use Rattle.pdb_llvm_texts.specs.Plain.{frame_text, frames_text, header_text, name_text};
+ghost use Rattle.pdb_llvm_texts.specs.Plain.{name_or_unknown as name_or, place_text, verbose_text};
 ghost use Rattle.pdb_functions.specs.Texts.{text_or};
 
 use crate::options::{Style, TextOptions};
@@ -92,6 +93,16 @@ fn bytes_or_unknown(text: Option<&[u8]>) -> &[u8]
     }
 }
 
+/// A name, or two question marks where it is missing or empty.
+fn name_or_unknown(name: Option<&[u8]>) -> &[u8]
+    ensures { result.now ≡ name_or (option_map (λ s. s.now) name.entry) }
+{
+    match name {
+        Some(name) if !name.is_empty() => name,
+        _ => b"??",
+    }
+}
+
 /// Appends the name of a frame's function, if names are asked for.
 fn append_name(
     output: &mut Vec<u8>,
@@ -106,7 +117,7 @@ fn append_name(
         return Ok(());
     }
     append(output, caller_mark(options.pretty, is_caller))?;
-    output.extend_from_slice(bytes_or_unknown(frame.function))?;
+    output.extend_from_slice(name_or_unknown(frame.function))?;
     append(output, after_name(options.pretty))
 }
 
@@ -120,6 +131,31 @@ fn column(style: Style) -> &'static str
     }
 }
 
+/// Appends a frame's file and line.
+fn append_place(
+    output: &mut Vec<u8>,
+    style: Style,
+    frame: &ReportedFrame<'_>,
+) -> Result<(), AllocError>
+    ensures { OnOk result (output.new.items ≡ output.old.items ++ place_text style frame.now) }
+{
+    output.extend_from_slice(bytes_or_unknown(frame.file))?;
+    append(output, ":")?;
+    append_number(output, frame.line)?;
+    append(output, column(style))
+}
+
+/// Appends a frame's file, line and column, on a line each.
+fn append_verbose(output: &mut Vec<u8>, frame: &ReportedFrame<'_>) -> Result<(), AllocError>
+    ensures { OnOk result (output.new.items ≡ output.old.items ++ verbose_text frame.now) }
+{
+    append(output, "  Filename: ")?;
+    output.extend_from_slice(bytes_or_unknown(frame.file))?;
+    append(output, "\n  Line: ")?;
+    append_number(output, frame.line)?;
+    append(output, "\n  Column: 0\n")
+}
+
 /// Appends a frame.
 fn append_frame(
     output: &mut Vec<u8>,
@@ -131,10 +167,11 @@ fn append_frame(
         ≡ output.old.items ++ frame_text options is_caller frame.now) }
 {
     append_name(output, options, is_caller, frame)?;
-    output.extend_from_slice(bytes_or_unknown(frame.file))?;
-    append(output, ":")?;
-    append_number(output, frame.line)?;
-    append(output, column(options.style))
+    if options.verbose {
+        append_verbose(output, frame)
+    } else {
+        append_place(output, options.style, frame)
+    }
 }
 
 /// Appends frames that called the one before them.

@@ -1,12 +1,13 @@
 //! Frames as they are reported.
 
 ghost use Rattle.std.specs.Prelude.{◌≡◌, ◌<◌, ◌+◌, ◌++◌, ◌∷◌, [], IfOk, OnOk, drop, length, map};
-ghost use Rattle.std.specs.Prelude.{if◌then◌else◌, option_map};
+ghost use Rattle.std.specs.Prelude.{option_map};
 ghost use Rattle.std.specs.Cow.{cow_str_bytes};
 ghost use Rattle.std.specs.Arc.{arc_str_bytes};
 ghost use Rattle.pdb_llvm_texts.specs.Reported.{base_name as base_name_of, is_own, name_from};
 ghost use Rattle.pdb_llvm_texts.specs.Reported.{is_separator as is_separator_byte};
-ghost use Rattle.pdb_llvm_texts.specs.Reported.{function_alone as alone, named, reported_found};
+ghost use Rattle.pdb_llvm_texts.specs.Reported.{calls_asked, function_alone as alone, kept_asked};
+ghost use Rattle.pdb_llvm_texts.specs.Reported.{named, reported_found};
 ghost use Rattle.pdb_llvm_texts.specs.Reported.{reported, reported as reported_as, reported_frames};
 
 use pdb_functions::{FrameRow, SharedFrame, SharedFunctionFrames};
@@ -55,11 +56,22 @@ impl<'f> ReportedFrame<'f> {
     }
 }
 
+/// Which frames are asked for.
+#[derive(Clone, Copy, Debug, PartialEq, Eq)]
+pub enum Asked {
+    /// Inlined calls and the function.
+    All,
+    /// The innermost of these.
+    Innermost,
+    /// The function.
+    Outermost,
+}
+
 /// Which frames are reported, and of their files what.
 #[derive(Clone, Copy, Debug, PartialEq, Eq)]
 pub struct ReportOptions {
-    /// Whether inlined calls are reported, or the function alone.
-    pub inlines: bool,
+    /// Which frames are reported.
+    pub asked: Asked,
     /// Whether a file is reported without its folders.
     pub base_names: bool,
 }
@@ -131,7 +143,7 @@ fn file_bytes<'f>(file: &'f Option<CowStr<'_>>) -> Option<&'f [u8]>
 
 /// A frame at an address in a function with this start, as it is reported. A row that isn't the
 /// function's own there is left out with its file.
-fn report_frame<'f>(
+pub fn report_frame<'f>(
     frame: &'f SharedFrame<'_>,
     start_rva: u32,
     address: u32,
@@ -179,7 +191,7 @@ fn push_calls<'f>(
     Ok(())
 }
 
-/// Appends inlined calls as they are reported, if they are asked for.
+/// Appends inlined calls as they are reported, unless the function alone is asked for.
 fn push_asked<'f>(
     reported: &mut Vec<ReportedFrame<'f>>,
     calls: &'f [SharedFrame<'_>],
@@ -188,13 +200,23 @@ fn push_asked<'f>(
     options: ReportOptions,
 ) -> Result<(), AllocError>
     ensures { OnOk result (reported.new.items ≡ reported.old.items
-        ++ (if options.inlines
-        then map (reported_as options.base_names start_rva address) calls.now else [])) }
+        ++ calls_asked options.asked
+        (map (reported_as options.base_names start_rva address) calls.now)) }
 {
-    if options.inlines {
-        push_calls(reported, calls, start_rva, address, options.base_names)
-    } else {
-        Ok(())
+    match options.asked {
+        Asked::Outermost => Ok(()),
+        Asked::All | Asked::Innermost => {
+            push_calls(reported, calls, start_rva, address, options.base_names)
+        }
+    }
+}
+
+/// Leaves the innermost frame alone, if that one is asked for.
+fn keep_asked(reported: &mut Vec<ReportedFrame<'_>>, asked: Asked)
+    ensures { reported.new.items ≡ kept_asked asked reported.old.items }
+{
+    if asked == Asked::Innermost {
+        reported.truncate(1);
     }
 }
 
@@ -228,6 +250,7 @@ fn report_function<'f>(
     push_asked(&mut reported, calls, found.start_rva, address, options)?;
     let own = report_frame(own, found.start_rva, address, options.base_names);
     reported.push(renamed(own, name))?;
+    keep_asked(&mut reported, options.asked);
     Ok(reported)
 }
 

@@ -1,0 +1,42 @@
+//! Address maps that can be asked for the places of addresses.
+
+ghost use Rattle.std.specs.Prelude.{◌≡◌, IfSome};
+ghost use Rattle.pdb_addresses.specs.Addresses.{IsOrdered};
+
+use pdb_addr2line::pdb::{AddressMap, PdbInternalSectionOffset, Rva};
+use std::marker::Model;
+
+/// An address map whose OMAPs are in the order of their sources, so that they can be halved.
+#[derive(Drop)]
+pub struct OrderedMap<'a> {
+    map: &'a AddressMap<'static>,
+}
+
+impl<'a> Model for OrderedMap<'a> {
+    ghost use Rattle.pdb_addresses.specs.Addresses.{IsOrdered, Map};
+
+    ghost Value = { Map };
+
+    ghost view = { λ m. m.map.now };
+
+    ghost invariant = { λ m. IsOrdered m.map.now };
+}
+
+impl<'a> OrderedMap<'a> {
+    /// An address map, if it is in order.
+    pub fn of(map: &'a AddressMap<'static>) -> Option<OrderedMap<'a>>
+        ensures map { IfSome result (λ m. m ≡ map.now) }
+        ensures ordered { IfSome result (λ _. IsOrdered map.now) }
+    {
+        if map.is_ordered() {
+            Some(OrderedMap { map })
+        } else {
+            None
+        }
+    }
+
+    /// The place of an RVA in the space in which the database was written, if it has one.
+    pub fn place(&self, rva: u32) -> Option<PdbInternalSectionOffset> {
+        Rva(rva).to_internal_offset(self.map)
+    }
+}
