@@ -22,6 +22,8 @@ count python3 tests/refused_requests/sweep.py
 count tests/commands.sh
 count tests/manual.sh
 count tests/llvm_symbolizer.sh
+count python3 tests/llvm_protocol.py
+count python3 tests/llvm_clients.py
 count python3 tests/stack.py
 count python3 tests/costly_files.py
 count python3 tests/undecorated.py

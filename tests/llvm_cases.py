@@ -13,7 +13,7 @@ from built import ROOT
 
 CASES = f"{ROOT}/tests/llvm_symbolizer"
 DATA = f"{ROOT}/crates/pdb_llvm_symbolizer/data"
-OWN_NAME = re.compile(rb"^(llvm-symbolizer-19|pdb_llvm_symbolizer): (?=error: )", re.M)
+OWN_NAME = re.compile(rb"^\S*(llvm-symbolizer-19|pdb_llvm_symbolizer): (?=error: )", re.M)
 
 
 def names():

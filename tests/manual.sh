@@ -1,11 +1,12 @@
 #!/usr/bin/env bash
-# Checks that docs/pdb_symbolizer.1 is the manual page of the program's own help:
+# Checks that docs/pdb_symbolizer.1 and docs/pdb_llvm_symbolizer.1 are the manual pages of the
+# programs' own help:
 #
 #   tests/manual.sh [--built FILE] [--write]
 #
-# FILE is where pdb_symbolizer lies, with NAME in it for its name; if left out, the proved one is
-# run. Each help text has to begin with what the program or command does and with its usage, and to
-# come with status 0 and no error output. With --write the page is made anew. The last line is
+# FILE is where the programs lie, with NAME in it for a program's name; if left out, the proved ones
+# are run. Each help text has to begin with what the program or command does and with its usage, and to
+# come with status 0 and no error output. With --write the pages are made anew. The last line is
 # `N passed, M failed`.
 set -eu
 exec python3 - "$(cd "$(dirname "$0")" && pwd)" "$@" <<'P'
@@ -18,12 +19,17 @@ import built
 
 place, words = built.taken(words)
 program = built.program(place, "pdb_symbolizer")
-page = f"{built.ROOT}/docs/pdb_symbolizer.1"
+drop_in = built.program(place, "pdb_llvm_symbolizer")
 
 
 def help_of(*words):
+    """The lines of a help text of pdb_symbolizer."""
+    return lines_of(program, "help", *words)
+
+
+def lines_of(*words):
     """The lines of a help text."""
-    ran = subprocess.run([program, "help", *words], capture_output=True, text=True)
+    ran = subprocess.run(words, capture_output=True, text=True)
     lines = ran.stdout.rstrip("\n").split("\n")
     if (ran.returncode, ran.stderr) != (0, "") or lines[1:2] != [""] or "Usage: " not in lines[2]:
         built.stop(f"{ran.args}: status {ran.returncode}, {ran.stderr!r}, no help text")
@@ -78,11 +84,36 @@ def whole():
     return "\n".join(lines) + "\n"
 
 
-text = whole()
-if "--write" in words:
-    open(page, "w").write(text)
-was = open(page).read() if os.path.exists(page) else ""
-if was != text:
-    print("docs/pdb_symbolizer.1 isn't what the help texts make: tests/manual.sh --write")
-built.end(int(was == text), int(was != text))
+def single():
+    """The page of a program without commands: sections by the lines of its help that end in a colon."""
+    about, _, usage, *rest = lines_of(drop_in, "--help")
+    version = open(f"{built.ROOT}/VERSION").read().strip()
+    made = [f'.TH PDB_LLVM_SYMBOLIZER 1 "" "pdb_llvm_symbolizer {version}"']
+    made += [".SH NAME", "pdb_llvm_symbolizer \\- answers addresses by PDBs, as llvm\\-symbolizer does"]
+    made += [".SH SYNOPSIS", f".B {roff(usage.removeprefix('Usage: '))}"]
+    made += [".SH DESCRIPTION", f"{roff(about)}."]
+    part = []
+    for line in [*rest, "Exit status:"]:
+        if re.fullmatch(r"[A-Z][a-z ]+:", line):
+            made += paragraphs(part) + [f".SH {line[:-1].upper()}"]
+            part = []
+        else:
+            part.append(line)
+    at = next(it for it, line in enumerate(made) if line.startswith("The exit status is "))
+    made = made[:at] + made[-1:] + made[at:-1]
+    lines = [it for at, it in enumerate(made) if it != ".PP" or made[at + 1 : at + 2] not in ([".PP"], [])]
+    return "\n".join(lines) + "\n"
+
+
+alike = 0
+pages = {"pdb_symbolizer.1": whole(), "pdb_llvm_symbolizer.1": single()}
+for name, text in pages.items():
+    page = f"{built.ROOT}/docs/{name}"
+    if "--write" in words:
+        open(page, "w").write(text)
+    was = open(page).read() if os.path.exists(page) else ""
+    alike += was == text
+    if was != text:
+        print(f"docs/{name} isn't what the help texts make: tests/manual.sh --write")
+built.end(alike, len(pages) - alike)
 P

@@ -51,6 +51,8 @@ print("not run without proof: it depends on an earlier run", file=sys.stderr)
 sys.exit(3)
 '''
 ERROR = re.compile(rb"(?m)^(?:fault: |error: |Error: |pdb_llvm_symbolizer: error: ).*\n?")
+# The file of a program that `rt try` compiled, where it stands for the program's name.
+COMPILED = re.compile(rb"(?m)^/\S*/program(?=: error: )")
 
 
 def place(root):
@@ -90,6 +92,7 @@ def answer(root, folder, name):
     form = rb"(?s)(?:^|\n)== (\w{24})\n(.*?)case=\1 run=(\w+)(?: status=(\d+))?[^\n]*"
     for key, text, _, status in re.findall(form, said):
         status = int(status or b"1")
+        text = COMPILED.sub(name.encode(), text)
         errors = text if status == 2 else b"".join(ERROR.findall(text))
         output = b"" if status == 2 else ERROR.sub(b"", text)
         with open(f"{folder}/answers/{key.decode()}", "wb") as file:

@@ -30,8 +30,8 @@ same() { # WHAT FOUND WANTED
 
 newest=$(grep -m1 '^## ' CHANGELOG.md | sed -E 's/ \((not released|[0-9][^)]*)\)$//')
 same "CHANGELOG.md's newest heading" "$newest" "## $version"
-for file in crates/pdb_arguments/src/command.rt crates/pdb_llvm_symbolizer/src/arguments.rt; do
-    same "$file" "$(grep 'const VERSION: &str' "$file")" "const VERSION: &str = \"$version\";"
+for file in crates/pdb_arguments/src/command.rt crates/pdb_llvm_symbolizer/src/help.rt; do
+    same "$file" "$(grep -o 'const VERSION: &str.*' "$file")" "const VERSION: &str = \"$version\";"
 done
 for name in $programs; do
     said=$("${built//NAME/$name}" --version 2>&1; echo "status $?")

@@ -1,5 +1,6 @@
 #!/usr/bin/env python3
-"""Refuses every request for memory of proved programs in turn; `rt ci` has to have built them.
+"""Refuses every request for memory of proved programs in turn, and fails every read of a file that
+is read on demand; `rt ci` has to have built them.
 
     tests/refused_requests/sweep.py [--built FILE] [CASE..]
 
@@ -8,7 +9,10 @@ nothing refused.
 
 - `pdb_symbolizer`, on the recorded rows of reports: such a run ends with status 1 and `fault:
   OutOfMemory` on standard error, and what is out is a prefix of the row's report. One that ends as
-  if nothing was refused passes only in a case that exceptions.txt names, with the reason.
+  if nothing was refused passes in a case that exceptions.txt names, with the reason; and where at
+  most one of 20 requests of its row goes so: what is read before it's asked for is read again, and
+  an arena asks for a smaller piece. A run whose Nth read at an offset fails, in the Nth of as many
+  as there are, ends with status 1 and `fault: File(Other)`, and what is out is a prefix, too.
 - `pdb_llvm_symbolizer`, on the cases of tests/llvm_symbolizer: such a run ends with status 1 and
   says so on standard error, and what is out is a prefix. For such runs as go on exceptions.txt has
   the reason too.
@@ -47,6 +51,8 @@ SECONDS = 60
 GREATEST = 100_000
 # The longest answer of a recorded read, in bytes: a text of it is made piece by piece.
 LONGEST = 1_000
+# At most one of so many requests of a run may be for what is read before it's asked for, or for a large piece of an arena.
+AHEAD = 20
 # Recorded texts of several calls or several files, which aren't asked here, and comments.
 LEFT_OUT = ("#", "each_again", "file_run_again", "forgotten", "prefixes")
 # Recorded texts of formatters; all others are of contexts.
@@ -90,9 +96,10 @@ def recorded_texts():
 
 
 class Case:
-    """A run of a program, with at least so many requests. Where `wanted` is none, it is what comes with nothing refused."""
+    """A run of a program, with at least so many requests; and with so many reads at offsets, where these are failed.
+    Where `wanted` is none, it is what comes with nothing refused."""
 
-    folder, given, wanted, least = ROOT, b"", None, 1
+    folder, given, wanted, least, least_reads = ROOT, b"", None, 1, None
 
     def __init__(self, name, words):
         self.name, self.words = name, words
@@ -103,9 +110,13 @@ class Case:
 
 
 class Report(Case):
-    """A run of pdb_symbolizer."""
+    """A run of pdb_symbolizer, which reads its file on demand."""
 
-    program = "pdb_symbolizer"
+    program, least_reads = "pdb_symbolizer", 1
+
+    def is_unread(self, wanted, came):
+        """Whether a run in which a read failed is as it has to be."""
+        return came[0] == 1 and came[2] == b"fault: File(Other)\n" and wanted[1].startswith(came[1])
 
     def is_right(self, wanted, came):
         """Whether a run in which a request was refused is as it has to be."""
@@ -128,7 +139,9 @@ WORDS = {
 
 
 class Words(Report):
-    """A run of pdb_symbolizer with such arguments."""
+    """A run of pdb_symbolizer with such arguments, which reads no file."""
+
+    least_reads = 0
 
     def __init__(self, words):
         super().__init__(f"words {words}".strip(), words.split())
@@ -212,6 +225,8 @@ def reports(folder):
     for row in rows():
         case = Report(row.name, row.arguments(file_of(row, folder)))
         case.given, case.wanted = row.given, (row.status, row.output, row.errors)
+        # A file that is too short for a header isn't read.
+        case.least_reads = int(row.status == 0)
         yield case
     for words in WORDS:
         yield Words(words)
@@ -290,13 +305,16 @@ class Program:
         after = bisect.bisect_left(self.functions, (place, ""))
         return self.functions[after - 1][1] if after else "?"
 
-    def run(self, case, number=None):
-        """Runs a case with the request with that number refused, or with none. It gives what came,
-        how many requests there were, -1 if none was looked for, and who asked."""
+    def run(self, case, number=None, read_number=None):
+        """Runs a case with the request with that number refused, or with none, and so with a read.
+        It gives what came, how many requests there were, -1 if none was looked for, who asked, and
+        how many reads there were."""
         read, write = os.pipe()
         environment = {**self.environment, "REFUSE_REPORT": str(write)}
         if number:
             environment["REFUSE"] = str(number)
+        if read_number:
+            environment["REFUSE_READ"] = str(read_number)
         try:
             ran = subprocess.run(
                 [self.file, *case.words],
@@ -314,25 +332,41 @@ class Program:
         places = lines.get("refused", "0").split()[1:]
         callers = [self.function_at(int(place, 16)) for place in places]
         spans, count = map(int, lines.get("requests", "0 -1").split())
-        return (ran.returncode, ran.stdout, ran.stderr), count if spans else -1, callers
+        reads = int(lines.get("reads", "0"))
+        return (ran.returncode, ran.stdout, ran.stderr), count if spans else -1, callers, reads
 
 
 def sweep(program, case, exceptions):
     """Refuses each request of a case in turn; gives what went wrong, and how often which function was refused."""
-    wanted, count, _ = program.run(case)
-    differs = case.differs(wanted) or ("no request is seen" if count < case.least else "")
+    wanted, count, _, reads = program.run(case)
+    is_seen = count >= case.least and reads >= (case.least_reads or 0)
+    differs = case.differs(wanted) or ("" if is_seen else "no request or no read is seen")
     if differs:
         return [f"{case.name}: with nothing refused: {differs}"], {}
-    wrong, refused = [], collections.Counter()
+    wrong, ahead, refused = [], [], collections.Counter()
     for number in range(1, count + 1):
-        came, _, callers = program.run(case, number)
+        came, _, callers, _ = program.run(case, number)
         if case.is_right(wanted, came):
             refused[asker(callers)] += 1
         elif case.name in exceptions and came in (wanted, without_tip(wanted)):
             refused[f"{asker(callers)}, as if it weren't"] += 1
         else:
-            wrong.append(f"{case.name}: request {number} of {count} refused, of {' < '.join(callers)}: {shown(came)}")
-    return wrong, refused
+            said = f"{case.name}: request {number} of {count} refused, of {' < '.join(callers)}: {shown(came)}"
+            (ahead if case.least_reads is not None and came == wanted else wrong).append(said)
+    if len(ahead) * AHEAD > count:
+        wrong += ahead
+    refused["requests, as if they weren't"] += len(ahead)
+    return wrong + failing_reads(program, case, wanted, reads), refused
+
+
+def failing_reads(program, case, wanted, reads):
+    """Fails each read at an offset of a case in turn; gives what went wrong."""
+    wrong = []
+    for number in range(1, 1 if case.least_reads is None else reads + 1):
+        came = program.run(case, read_number=number)[0]
+        if not case.is_unread(wanted, came):
+            wrong.append(f"{case.name}: read {number} of {reads} failed: {shown(came)}")
+    return wrong
 
 
 def without_tip(came):

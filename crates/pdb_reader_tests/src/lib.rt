@@ -7,3 +7,5 @@ mod container;
 mod database;
 #[cfg(test)]
 mod failing;
+#[cfg(test)]
+mod file_views;

@@ -22,6 +22,8 @@ impl Answers for Numbered {
 
     ghost text = { λ _ _. [] };
 
+    ghost subject = { λ _. [] };
+
     fn place(&self, line: &[u8]) -> u32 {
         match parse_address(line) {
             Some(address) => u32::MAX - address,

@@ -18,6 +18,8 @@ mod laws;
 #[cfg(test)]
 mod limits;
 #[cfg(test)]
+mod on_demand;
+#[cfg(test)]
 mod sizes;
 #[cfg(test)]
 mod streams;

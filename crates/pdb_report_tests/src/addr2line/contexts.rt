@@ -3,7 +3,7 @@
 use crate::addr2line::files::{Data, data_of};
 use pdb_addr2line::pdb::Error as Cause;
 use pdb_addr2line::{Context, Error, Function, KeptModules, ModuleProvider};
-use pdb_samples::{cross_imports, short_line_block};
+use pdb_samples::{cross_imports, imports_of_no_stream, short_line_block};
 use std::alloc::Global;
 use std::test::Fail;
 
@@ -17,7 +17,17 @@ enum Question {
     SharedFrames,
     /// The frames at 0x1014, whose lines can't be read, twice.
     FailedLines,
+    /// The modules at 0x103f, 0x1040 and 0x1080; and those from 0x103f to before 0x1081, and from
+    /// 0x1040 to before 0x1080.
+    Modules,
 }
+
+/// The frames at 0x1014 of [`cross_imports`].
+const FRAMES: &str = "SharedFunctionFrames { start_rva: 4112, end_rva: Some(4144), frames: [\
+    SharedFrame { function: Some(\"g()\"), file: Some(\"b.h\"), line: Some(3), \
+    row: Some(FrameRow { start_rva: 4112, length: Some(8) }) }, \
+    SharedFrame { function: Some(\"f\"), file: Some(\"a.c\"), line: Some(5), \
+    row: Some(FrameRow { start_rva: 4112, length: Some(8) }) }] }";
 
 /// Returns the text of a function's copy.
 fn told_function(alloc: Global, function: &Function) -> Result<String, Error> {
@@ -97,6 +107,19 @@ fn lines_faults<P: ModuleProvider>(
     Ok(format!(in alloc; "{first}, {second}")?)
 }
 
+/// Returns which modules hold addresses and ranges.
+fn modules_by<P: ModuleProvider>(
+    alloc: Global,
+    context: &Context<'_, '_, P>,
+) -> Result<String, Error> {
+    let first = context.module_at(0x103f);
+    let none = context.module_at(0x1040);
+    let second = context.module_at(0x1080);
+    let both = context.modules_between(alloc, 0x103f, 0x1081)?;
+    let neither = context.modules_between(alloc, 0x1040, 0x1080)?;
+    Ok(format!(in alloc; "{first:?} {none:?} {second:?} {both:?} {neither:?}")?)
+}
+
 /// Asks a context a question.
 fn asked<P: ModuleProvider>(
     alloc: Global,
@@ -107,6 +130,7 @@ fn asked<P: ModuleProvider>(
         Question::Functions => functions_by(alloc, &mut context),
         Question::SharedFrames => shared_frames_by(alloc, &mut context),
         Question::FailedLines => lines_faults(alloc, &mut context),
+        Question::Modules => modules_by(alloc, &context),
     }
 }
 
@@ -134,6 +158,35 @@ fn answer(alloc: Global, bytes: Vec<u8>, question: Question) -> Result<String, E
     asked_over(alloc, &data, question)
 }
 
+/// Makes a context over the tables of one file, by the parts of another context, and the modules of
+/// another file.
+#[tactic(auto, using(pdb_addr2line::proofs::HeldModules::parts_of_context))]
+fn context_over<'a>(
+    alloc: Global,
+    data: &'a Data,
+    modules: &'a KeptModules<'static>,
+) -> Result<Context<'a, 'static, KeptModules<'static>>, Error> {
+    if !data.address_map().is_ordered() {
+        return Err(Error::CircularTypeDefinition(0));
+    }
+    let context = data.make_context(alloc)?;
+    let parts = context.into_parts();
+    data.make_context_over(alloc, modules, parts)
+}
+
+/// Asks a context over the tables of one file and the modules of another a question.
+fn answer_over(
+    alloc: Global,
+    tables: Vec<u8>,
+    modules: Vec<u8>,
+    question: Question,
+) -> Result<String, Error> {
+    let data = data_of(alloc, tables)?;
+    let other = data_of(alloc, modules)?;
+    let context = context_over(alloc, &data, other.modules())?;
+    asked(alloc, context, question)
+}
+
 #[test]
 fn functions_and_then_one(rt: HostRuntime) -> Result<(), Fail> {
     let text = answer(rt.alloc(), cross_imports(rt.alloc())?, Question::Functions)?;
@@ -152,14 +205,7 @@ fn frames_with_shared_names(rt: HostRuntime) -> Result<(), Fail> {
         cross_imports(rt.alloc())?,
         Question::SharedFrames,
     )?;
-    assert_eq!(rt;
-        text.as_str(),
-        "SharedFunctionFrames { start_rva: 4112, end_rva: Some(4144), frames: [\
-        SharedFrame { function: Some(\"g()\"), file: Some(\"b.h\"), line: Some(3), \
-        row: Some(FrameRow { start_rva: 4112, length: Some(8) }) }, \
-        SharedFrame { function: Some(\"f\"), file: Some(\"a.c\"), line: Some(5), \
-        row: Some(FrameRow { start_rva: 4112, length: Some(8) }) }] }"
-    );
+    assert_eq!(rt; text.as_str(), FRAMES);
     Ok(())
 }
 
@@ -172,5 +218,25 @@ fn lines_that_failed_before(rt: HostRuntime) -> Result<(), Fail> {
         Question::FailedLines,
     )?;
     assert_eq!(rt; text.as_str(), "their own, as failed");
+    Ok(())
+}
+
+// The inlined call has a name where the third module has a stream, whatever was read before.
+#[test]
+fn frames_by_other_modules(rt: HostRuntime) -> Result<(), Fail> {
+    let text = answer_over(
+        rt.alloc(),
+        imports_of_no_stream(rt.alloc())?,
+        cross_imports(rt.alloc())?,
+        Question::SharedFrames,
+    )?;
+    assert_eq!(rt; text.as_str(), FRAMES);
+    Ok(())
+}
+
+#[test]
+fn modules_that_hold_addresses(rt: HostRuntime) -> Result<(), Fail> {
+    let text = answer(rt.alloc(), cross_imports(rt.alloc())?, Question::Modules)?;
+    assert_eq!(rt; text.as_str(), "Some(0) None Some(1) [0, 1] []");
     Ok(())
 }
