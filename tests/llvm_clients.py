@@ -24,7 +24,7 @@ import built
 
 DATA = f"{built.ROOT}/crates/pdb_llvm_symbolizer/data"
 BASE = 0x140000000
-# In functions, in inlined calls, in a C function without lines, in padding, and behind the code.
+# In functions, in inlined calls, in a C function without lines, in padding, and after the code.
 PLACES = [0x1000, 0x1018, 0x1055, 0x10A0, 0x1110, 0x1148, 0x1168, 0x1190, 0x11C4, 0x11E0]
 SECONDS = 60
 

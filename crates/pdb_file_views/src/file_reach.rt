@@ -11,7 +11,7 @@ const FRONT: usize = 44;
 const HEADER_VIEW: u64 = 4096;
 
 /// How far a file of `size` bytes may be read: to the end of its pages; a file that is no container
-/// no further than a header. What lies behind is part of no stream.
+/// no further than a header. What comes after is part of no stream.
 ///
 /// # Errors
 /// Those of the file.

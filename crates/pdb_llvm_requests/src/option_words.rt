@@ -77,7 +77,7 @@ pub enum OptionWord {
     Flag(Flag),
     /// An option whose value follows the first equals sign.
     Joined(Setting),
-    /// The option `-e` with its value, a file, right behind it.
+    /// The option `-e` with its value, a file, right after it.
     JoinedFile,
     /// An option whose value is the next word.
     Wanting(Setting),
@@ -229,7 +229,7 @@ fn read_joined(word: &[u8]) -> OptionWord
 
 /// What a word of the arguments is. Options are those of `llvm-symbolizer`, and beside them
 /// `--pdb` and `--symbol-store`. A name has two dashes and a letter one; a value follows an equals
-/// sign, or is the next word; letters may stand together behind one dash.
+/// sign, or is the next word; letters may stand together after one dash.
 #[tactic(auto, unfolding(crate::specs::OptionWords::option_of))]
 pub fn read_option(word: &str) -> OptionWord
     ensures { result ≡ option_of word.now }

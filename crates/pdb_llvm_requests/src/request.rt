@@ -185,7 +185,7 @@ fn empty_prefix(prefix: Prefix) -> RequestFault
     }
 }
 
-/// The file after a prefix and the blanks behind it, and what comes after it.
+/// The file after a prefix and the blanks after it, and what comes after it.
 #[tactic(auto, unfolding(crate::specs::Request::prefixed_file_of))]
 fn read_prefixed(
     prefix: Prefix,

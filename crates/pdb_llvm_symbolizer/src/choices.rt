@@ -159,7 +159,7 @@ impl Choices {
     }
 
     /// Reads a word, or the letters of one that are left. Returns the option that wants the next
-    /// word, if this is one, and whether there may be letters behind this one.
+    /// word, if this is one, and whether there may be letters after this one.
     fn read_part(
         &mut self,
         alloc: Global,
@@ -213,7 +213,7 @@ impl Choices {
     }
 }
 
-/// What stands behind the first equals sign of a word.
+/// What stands after the first equals sign of a word.
 fn after_equals(word: &str) -> &str {
     match word.split_once('=') {
         Some((_, value)) => value,
@@ -221,7 +221,7 @@ fn after_equals(word: &str) -> &str {
     }
 }
 
-/// What stands behind a dash and a letter.
+/// What stands after a dash and a letter.
 fn after_letter(word: &str) -> &str {
     let mut letters = word.chars();
     let _ = letters.next();

@@ -256,7 +256,7 @@ fn is_image(file: &impl FileExt) -> io::Result<bool> {
     }
 }
 
-/// The path of a file in a store, of a name with an identity behind a colon.
+/// The path of a file in a store, of a name with an identity after a colon.
 fn path_in_stores(
     rt: &(impl Files + AllocGlobal),
     stores: &[String],
@@ -272,7 +272,7 @@ fn path_in_stores(
 }
 
 /// Reads the database of a file into an arena: of an image, or the file itself. An
-/// architecture behind a colon is left out. A file that isn't there, with an identity behind a
+/// architecture after a colon is left out. A file that isn't there, with an identity after a
 /// colon, is looked for in the stores.
 ///
 /// # Errors

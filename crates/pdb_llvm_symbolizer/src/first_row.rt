@@ -1,4 +1,4 @@
-//! The first row of a function whose first row lies behind its start.
+//! The first row of a function whose first row lies after its start.
 
 use crate::loaded::{FileContext, frames_at};
 use pdb_addr2line::{Function, SharedFunctionFrames};
@@ -36,7 +36,7 @@ fn has_begun_at(
     Ok(has_begun(&found, start))
 }
 
-/// The first address behind one at which a row of the function has begun, where one has at the
+/// The first address after one at which a row of the function has begun, where one has at the
 /// last. Between them the addresses are halved.
 fn first_begun(
     alloc: Global,
@@ -62,7 +62,7 @@ fn first_begun(
     Ok(begun)
 }
 
-/// The frames at the first row of the function that covers an address, where that row lies behind
+/// The frames at the first row of the function that covers an address, where that row lies after
 /// the address.
 ///
 /// # Errors

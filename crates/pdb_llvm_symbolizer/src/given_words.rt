@@ -61,7 +61,7 @@ fn response_words(rt: &(impl Files + AllocGlobal), path: &str) -> io::Result<Opt
     Ok(Some(split_words(rt.alloc(), &text)?))
 }
 
-/// Puts words behind others, the last one first, so that the next one is at the end.
+/// Puts words after others, the last one first, so that the next one is at the end.
 fn push_reversed(waiting: &mut Vec<String>, words: Vec<String>) -> io::Result<()> {
     for word in words.into_iter().rev() {
         waiting.push(word)?;

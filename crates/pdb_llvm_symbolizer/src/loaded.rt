@@ -51,7 +51,7 @@ pub struct AskedAddress<'n> {
 }
 
 /// What is known of an address: its frames, the name of its function, and the function's first row
-/// where that lies behind it.
+/// where that lies after it.
 #[derive(Drop)]
 struct KnownAddress<'a> {
     found: Option<SharedFunctionFrames<'a>>,
@@ -227,7 +227,7 @@ impl<'a, F: FileExt + Drop> FileAnswers<'a, F> {
     }
 
     /// Reads what was asked for and is missing, and makes a context over it. Returns whether
-    /// anything was missing. What keeps the file from being read is taken for want of memory.
+    /// anything was missing. What keeps the file from being read is reported as out of memory.
     fn go_on(&mut self, alloc: Global) -> Result<bool, AllocError> {
         let Some(context) = &self.context else {
             return Err(AllocError);

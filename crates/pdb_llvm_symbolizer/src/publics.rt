@@ -78,7 +78,7 @@ impl<'a> Publics<'a> {
     }
 
     /// The place of an RVA as llvm-symbolizer counts it: the section before the first one that
-    /// begins behind it, and 0 where that is the first.
+    /// begins after it, and 0 where that is the first.
     fn place_of(&self, rva: u32) -> (u16, u32) {
         let mut place = (0, rva);
         for section in self.sections {

@@ -358,8 +358,8 @@ impl<'a, F> FileSymbolizer<'a, F> {
     /// The frames at an RVA by what was read.
     ///
     /// # Errors
-    /// As [`Context::find_frames`](crate::Context::find_frames); `OutOfMemory`, too, where something
-    /// has to be read first.
+    /// As [`Context::find_frames`](crate::Context::find_frames); `OutOfMemory`, too, where
+    /// something has to be read first.
     #[tactic(auto, using(crate::proofs::FileSteps::frames_found))]
     pub(crate) fn find_held_frames(
         &mut self,

@@ -17,7 +17,8 @@ OnRangeReport false s start end P = (text : List ℕ) × IsSizesReport s start e
 -- This is said of the report that a task asks for: that on the lines of the input, where the input
 -- is known, or that on the range from START to END.
 abbrev pub OnReport : Task → Streams → Option (List ℕ) → (List ℕ → Type 0) → Type 0
-OnReport (Frames file demangle) s input P = IfSome input (λ lines. P (report (line_text (answer s)) lines))
+OnReport (Frames file demangle) s input P =
+    IfSome input (λ lines. P (report (line_text (answer s)) lines))
 OnReport (Sizes file start end by_file demangle) s input P = OnRangeReport by_file s start end P
 
 -- a task has a range, which is reversed

@@ -148,7 +148,7 @@ read_none a address r before (x ∷ rules) rest e =
 says : UnwoundFunction → ℕ → List Rule
 says f o = changes_of (rule (rules_at f.codes (o - 1))) (rule (rules_at f.codes o)) registers
 
--- changes behind the address are not read
+-- changes after the address are not read
 read_none_behind : (f : UnwoundFunction) (a : ℕ) (r : Register) (before : Option Expression)
     (n k : ℕ) → a < f.begin + k
     → read_changes a r before (flat_map (change_of f) (range_with_len k n)) ≡ before

@@ -133,7 +133,7 @@ changes_same f n o e none =
     (no_change f o (omega arith) none)
     ∙ append-nil (changes_text f n)
 
--- behind the last step nothing changes
+-- after the last step nothing changes
 none_behind : (o : ℕ) (codes : List UnwindCode) → last_offset codes < o
     → list_any (λ c. eqb c.offset o) codes ≡ false
 none_behind o [] lt = refl

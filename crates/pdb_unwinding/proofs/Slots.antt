@@ -18,7 +18,7 @@ cut_operands p f (suc left) [] lt = refl
 cut_operands p f (suc left) (b ∷ []) lt = refl
 cut_operands p f (suc left) (b ∷ c ∷ bytes) lt = cut_operands p f left bytes (omega arith)
 
--- operands that are there: the codes go on behind them
+-- operands that are there: the codes go on after them
 pub skip_operands : (p : Bool) (f left : ℕ) (bytes : List ℕ) → 2 * left ≤ length bytes
     → codes_in p f left bytes ≡ codes_in p f 0 (drop (2 * left) bytes)
 unfolding codes_in
@@ -38,7 +38,7 @@ behind_behind xs ys (Err e) = refl
 pub behind_end : (xs : List UnwindCode) → behind xs (Ok []) ≡ Ok xs
 behind_end xs = ap Ok (append-nil xs)
 
--- the code that bytes begin with, and those behind it
+-- the code that bytes begin with, and those after it
 pub first_code : (p : Bool) (f k : ℕ) (bytes : List ℕ) → 1 ≤ k → 2 * k ≤ length bytes
     → slots_of (get_or bytes 1 0 % 16) (get_or bytes 1 0 / 16) ≡ Some k
     → codes_in p f 0 bytes
@@ -80,7 +80,7 @@ first_short p f [] some lt = absurd (omega arith)
 first_short p f (b ∷ []) some lt = refl
 first_short p f (b ∷ c ∷ bytes) some lt = absurd (omega arith)
 
--- the code is appended to others, and those behind it are still to come
+-- the code is appended to others, and those after it are still to come
 pub code_pushed : (p : Bool) (f k offset : ℕ) (bytes : List ℕ) (step : Option UnwindOperation)
     (old new : List UnwindCode) → 1 ≤ k → 2 * k ≤ length bytes
     → Some k ≡ slots_of (get_or bytes 1 0 % 16) (get_or bytes 1 0 / 16)

@@ -1,7 +1,8 @@
 -- The unwind codes of UNWIND_INFO, versions 1 and 2: what the steps of a prolog did.
 -- The layout is that of Microsoft's page x64 Exception Handling; version 2 also has epilog codes.
 use Rattle.std.specs.Prelude.{◌≡◌, ◌⊎◌, ℕ, zero, suc, ◌+◌, ◌-◌, ◌*◌, ◌/◌, ◌%◌, ◌&&◌, ◌||◌}
-use Rattle.std.specs.Prelude.{Bool, true, false, not, List, [], ◌∷◌, ◌++◌, length, take, slice_index, nat_le, ◌==◌}
+use Rattle.std.specs.Prelude.{Bool, true, false, not, List, [], ◌∷◌, ◌++◌, length, take}
+use Rattle.std.specs.Prelude.{slice_index, nat_le, ◌==◌}
 use Rattle.std.specs.Prelude.{if◌then◌else◌, Option, None, Some, Result, Ok, Err, ok_or}
 use Rattle.std.specs.List.{list_any}
 use Rattle.pdb_container.specs.Container.{half_at, word_at}
@@ -47,7 +48,7 @@ three_slots op info operand =
     if op == 1 then Some (operations.Allocate operand)
     else if op == 5 then Some (operations.Save info operand) else None
 
--- what a code of so many slots did, if it is a step: its operand lies in the bytes behind the first
+-- what a code of so many slots did, if it is a step: its operand lies in the bytes after the first
 -- slot
 abbrev pub operation_of : ℕ → ℕ → ℕ → List ℕ → Option UnwindOperation
 operation_of frame kind slots operands =
@@ -61,7 +62,7 @@ code_at offset None = []
 code_at offset (Some operation) = record { offset = offset; operation = operation } ∷ []
 
 -- The codes of a table, the last step first. The first slot of a code has its offset in the prolog,
--- and its operation's number and information, of four bits each; the slots behind that, of which so
+-- and its operation's number and information, of four bits each; the slots after that, of which so
 -- many are left of the code before, have its operands. Codes of a parent count as steps at offset
 -- 0.
 unfoldable pub codes_in : Bool → ℕ → ℕ → List ℕ → Result (List UnwindCode) UnwindFault
@@ -91,8 +92,8 @@ info_of_entry image address = do
   entry ← ok_or (bytes_at image address 12) (faults.NotInFile address)
   Ok (word_at entry 8)
 
--- The parent's unwind information: where the flag 4 of the first byte, behind three bits of the
--- version, says that there is one, its entry lies behind the slots, at the next even one.
+-- The parent's unwind information: where the flag 4 of the first byte, after three bits of the
+-- version, says that there is one, its entry lies after the slots, at the next even one.
 unfoldable pub parent_of : Image → List ℕ → ℕ → Result (Option ℕ) UnwindFault
 parent_of image header info =
     if slice_index header 0 / 32 % 2 == 1
@@ -111,7 +112,7 @@ header_of image info = do
       (faults.UnknownVersion (slice_index header 0 % 8))
   Ok header
 
--- the bytes of the slots, which lie behind these four
+-- the bytes of the slots, which lie after these four
 unfoldable pub slots_at : Image → List ℕ → ℕ → Result (List ℕ) UnwindFault
 slots_at image header info =
     ok_or (bytes_at image (info + 4) (2 * slice_index header 2)) (faults.NotInFile (info + 4))
@@ -138,13 +139,13 @@ table_at image of_parent info =
     if is_pointer info then table_to (info_of_entry image (info - 1))
     else table_of image of_parent info
 
--- the codes of a table, and behind them those of its parent, if it has one
+-- the codes of a table, and after them those of its parent, if it has one
 abbrev pub with_parent : List UnwindCode → Option ℕ
     → (ℕ → Result (List UnwindCode) UnwindFault) → Result (List UnwindCode) UnwindFault
 with_parent codes None of = Ok codes
 with_parent codes (Some parent) of = of parent >>= λ others. Ok (codes ++ others)
 
--- The codes of at most so many tables, each one behind that whose parent it is, and of which a
+-- The codes of at most so many tables, each one after that whose parent it is, and of which a
 -- pointer counts as one.
 unfoldable pub chain : Image → ℕ → Bool → ℕ → Result (List UnwindCode) UnwindFault
 chain image zero of_parent info = Err faults.TooManyParents
@@ -164,7 +165,7 @@ abbrev pub is_machine_frame : UnwindCode → Bool
 is_machine_frame code = is_machine_operation code.operation
 
 -- The unwind codes of the function whose unwind information lies at an address: its own, its
--- parent's behind them, and so on, at most 33 tables, in each one the last step first. A machine
+-- parent's after them, and so on, at most 33 tables, in each one the last step first. A machine
 -- frame is pushed before all else.
 unfoldable pub codes_of : Image → ℕ → Result (List UnwindCode) UnwindFault
 codes_of image info = do
@@ -172,12 +173,12 @@ codes_of image info = do
   first ← refuse (list_any is_machine_frame (take (length codes - 1) codes)) faults.LateMachineFrame
   Ok codes
 
--- codes that a reading gives, behind others
+-- codes that a reading gives, after others
 abbrev pub behind : List UnwindCode → Result (List UnwindCode) UnwindFault
     → Result (List UnwindCode) UnwindFault
 behind codes reading = reading >>= λ others. Ok (codes ++ others)
 
--- a table that a reading gives, its codes behind others
+-- a table that a reading gives, its codes after others
 abbrev pub table_behind : List UnwindCode → Result Table UnwindFault → Result Table UnwindFault
 table_behind codes reading =
     reading >>= λ table. Ok (record { codes = codes ++ table.codes; parent = table.parent })

@@ -1,7 +1,8 @@
 -- The rules by which a frame is left: how the caller's stack pointer (the canonical frame address),
 -- the return address and saved registers are found.
 use Rattle.std.specs.Prelude.{ℕ, ◌+◌, ◌<◌, ◌^◌, max, ◌-ℤ◌, ℤ, pos, negsuc, Bool, true, false, List}
-use Rattle.std.specs.Prelude.{[], ◌∷◌, map, nat_le, ◌==◌, if◌then◌else◌, Option, None, Some, slice_index_or}
+use Rattle.std.specs.Prelude.{[], ◌∷◌, map, nat_le, ◌==◌, if◌then◌else◌, Option, None, Some}
+use Rattle.std.specs.Prelude.{slice_index_or}
 use Rattle.std.specs.Prelude.{unwrap_or}
 use Rattle.std.specs.Option.{option_map}
 use Rattle.std.specs.List.{filter, list_any, range_with_len}
@@ -124,7 +125,7 @@ return_rule is_machine f =
     if is_machine then read_at (General f.register) (difference f.low f.offset)
     else read_at Cfa (negsuc 7)
 
--- A saved register. In a machine frame it is told by the frame's register, since the caller's stack
+-- A saved register. In a machine frame the frame's register finds it, since the caller's stack
 -- pointer lies anywhere.
 abbrev pub saved_rule : Bool → Frame → Saved → Expression
 saved_rule is_machine f (Below depth) =

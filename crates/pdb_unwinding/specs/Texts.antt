@@ -31,7 +31,7 @@ register_name Cfa = codes ".cfa"
 register_name ReturnAddress = codes ".ra"
 register_name (General n) = general_name n
 
--- a number that is added, or its amount that is subtracted, behind what it is added to; nothing
+-- a number that is added, or its amount that is subtracted, after what it is added to; nothing
 -- of 0
 abbrev pub added_text : ℤ → List ℕ
 added_text (pos n) = if n == 0 then [] else codes " " ++ decimal n ++ codes " +"

@@ -11,7 +11,7 @@ use pdb_container::word_at;
 pub struct FunctionEntry {
     /// The address at which the function begins.
     pub begin: u32,
-    /// The address behind its last byte.
+    /// The address after its last byte.
     pub end: u32,
     /// The address of its unwind information; if that is odd, it is less 1 the address of another
     /// entry, whose unwind information counts.

@@ -11,7 +11,7 @@ use crate::code::{UnwindCode, UnwindOperation};
 /// The number of the stack pointer among the general registers.
 const STACK_POINTER: u8 = 4;
 
-/// A frame: the register that it is told by, how far that lies above the frame's lowest address,
+/// A frame: the register that it is found by, how far that lies above the frame's lowest address,
 /// and how far this one lies below the slot of the return address, in bytes.
 #[derive(Clone, Copy, Debug, PartialEq, Eq)]
 pub(crate) struct Frame {

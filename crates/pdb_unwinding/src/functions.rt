@@ -42,7 +42,7 @@ impl UnwoundFunction {
     /// # Errors
     /// `EmptyRange` where it doesn't begin below its end; then the first fault in the order of the
     /// tables of its codes: in each one `NotInFile`, `UnknownVersion`, `UnknownCode` or `CutCode`,
-    /// and `NotInFile` of its parent's; `TooManyParents` behind the last table, and
+    /// and `NotInFile` of its parent's; `TooManyParents` after the last table, and
     /// `LateMachineFrame` where all can be read. `OutOfMemory` when memory runs out.
     #[tactic(auto, unfolding(crate::specs::Entries::function_at))]
     pub fn read(
@@ -70,7 +70,7 @@ impl UnwoundFunction {
         self.begin
     }
 
-    /// The address behind the function's last byte.
+    /// The address after the function's last byte.
     pub fn end(&self) -> u32
         ensures end { result ≡ self.now.end }
         ensures above { self.now.begin < result }
@@ -136,7 +136,7 @@ impl<'i, 'a> UnwoundFunctions<'i, 'a> {
         }
     }
 
-    /// Returns the next function; `None` behind the last one.
+    /// Returns the next function; `None` after the last one.
     ///
     /// # Errors
     /// `AllocError` when memory runs out; then nothing is passed over.

@@ -66,7 +66,7 @@ fn header_of<'a>(image: &Image<'a>, info: u32) -> Result<&'a [u8], UnwindFault>
     }
 }
 
-/// The bytes of the slots behind these four bytes of the unwind information at an address.
+/// The bytes of the slots after these four bytes of the unwind information at an address.
 #[tactic(auto, unfolding(crate::specs::Codes::slots_at))]
 fn slots_at<'a>(image: &Image<'a>, header: &[u8], info: u32) -> Result<&'a [u8], UnwindFault>
     requires { length header.now ≡ 4 }
@@ -167,7 +167,7 @@ fn has_late_machine_frame(codes: &[UnwindCode]) -> bool
 ///
 /// # Errors
 /// The first fault in the order of the tables: in each one `NotInFile`, `UnknownVersion`, then
-/// those of its codes, and `NotInFile` of its parent; `TooManyParents` behind the last table, and
+/// those of its codes, and `NotInFile` of its parent; `TooManyParents` after the last table, and
 /// `LateMachineFrame` where all can be read. `OutOfMemory` when memory runs out.
 #[tactic(auto, unfolding(crate::specs::Codes::codes_of))]
 pub(crate) fn read_codes(
