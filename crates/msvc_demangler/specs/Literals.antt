@@ -6,7 +6,7 @@ use Rattle.std.specs.Prelude.{codes, length, nat_le, nat_lt}
 use Rattle.std.specs.Prelude.{take, drop, not, position, slice_index, option_map, option_and_then}
 use Rattle.std.specs.List.{flat_map, remove}
 use Rattle.std.specs.Int.{from_le_bytes, w32}
-use Rattle.msvc_demangler.specs.declared.literals.Literal.{Literal}
+use Rattle.msvc_demangler.specs.declared.literals.Quotes.{Quotes}
 use Rattle.msvc_demangler.specs.declared.numbers.Number.{Number}
 use Rattle.msvc_demangler.specs.declared.tree.Node.{Node}
 use Rattle.msvc_demangler.specs.declared.tree.Node.TheVariants.{Symbol}
@@ -117,9 +117,9 @@ literal_of text =
     then None
     else option_and_then (string_of (slice_index text 2)) (sized_of (drop 3 text))
 
--- the text of a literal that was read: what stands before, the characters, and what stands after
-abbrev pub literal_text : Literal → Text
-literal_text l = (l.before.now ++ l.text.items) ++ l.after.now
+-- the text of a literal: what stands before, the characters, and what stands after
+abbrev pub quoted : Quotes → Text → Text
+quoted quotes text = (quotes.before.now ++ text) ++ quotes.after.now
 
 -- the text of a symbol that is a string literal
 abbrev pub literal_in : List ℕ → Node → Option Text

@@ -3,15 +3,15 @@
 use crate::parser::Parser;
 use crate::stop::{Result, Stop};
 use crate::tasks::{Mode, Place, Task};
-use crate::tree::{Node, Span};
+use crate::tree::{NO_NODE, NO_NODES, Node};
 
-/// What comes after a mark that separates packs of arguments.
-fn after_separator(rest: &[u8]) -> Option<&[u8]> {
-    match rest {
-        [b'$', b'S', after @ ..]
-        | [b'$', b'$', b'V' | b'Z', after @ ..]
-        | [b'$', b'$', b'$', b'V', after @ ..] => Some(after),
-        _ => None,
+/// How many offsets a pointer to a member has, by its letter.
+fn count_offsets(code: u8) -> usize {
+    match code {
+        b'H' => 1,
+        b'F' | b'I' => 2,
+        b'G' | b'J' => 3,
+        _ => 0,
     }
 }
 
@@ -21,44 +21,43 @@ impl<'n> Parser<'n> {
         match task {
             Task::Arguments(count) => self.read_argument(count),
             Task::AutoArgument => {
-                self.pop()?;
+                self.pop();
                 self.start_auto_argument()
             }
             Task::MemberArgument(code, has_symbol) => self.end_member_argument(code, has_symbol),
             _ => {
-                let symbol = self.pop()?;
-                self.give_reference("", Some(symbol), 0)
+                let symbol = self.pop();
+                self.give(Node::Reference("", Some(symbol), NO_NODES))
             }
         }
     }
 
     /// Reads the next template argument, or the end of them.
     fn read_argument(&mut self, count: usize) -> Result<()> {
-        let rest = self.rest;
-        if let [b'@', after @ ..] = rest {
-            self.rest = after;
+        if self.take(b"@") {
             return self.end_arguments(count);
         }
-        if let Some(after) = after_separator(rest) {
-            self.rest = after;
+        if self.take_separator() {
             return self.plan(Task::Arguments(count));
         }
+        let more = Task::Arguments(count.saturating_add(1));
         if self.take(b"$M") {
-            self.plan(Task::Type(Mode::Bare))?;
-            self.plan(Task::AutoArgument)?;
-        } else {
-            self.start_argument()?;
+            return self.plan_all(&[Task::Type(Mode::Bare), Task::AutoArgument, more]);
         }
-        self.plan(Task::Arguments(count.saturating_add(1)))
+        self.start_argument()?;
+        self.plan(more)
+    }
+
+    /// Goes past a mark that separates packs of arguments, and says whether there is one.
+    fn take_separator(&mut self) -> bool {
+        self.take(b"$S") || self.take(b"$$V") || self.take(b"$$Z") || self.take(b"$$$V")
     }
 
     /// Gives the identifier of a template its arguments.
     fn end_arguments(&mut self, count: usize) -> Result<()> {
         let arguments = self.pop_list(count)?;
-        let index = self.top()?;
-        let (identifier, _) = self.tree.identifier_of(index)?;
-        self.tree
-            .set(index, Node::Identifier(identifier, Some(arguments)))
+        let index = self.last();
+        self.tree.set_arguments(index, arguments)
     }
 
     /// Reads a template argument.
@@ -88,20 +87,18 @@ impl<'n> Parser<'n> {
     /// Reads an argument that is a type, or a reference to a symbol.
     fn start_type_argument(&mut self) -> Result<()> {
         if self.take(b"$$Y") {
-            return self.plan_name(Place::Type);
-        }
-        if self.take(b"$$B") {
-            return self.plan(Task::Type(Mode::Bare));
-        }
-        if self.take(b"$$C") {
-            return self.plan(Task::Type(Mode::Qualified));
+            return self.plan_all(&[Task::Identifier(Place::Type), Task::Scopes(1)]);
         }
         if self.rest.starts_with(b"$E?") {
             self.take(b"$E");
-            self.plan(Task::Symbol)?;
-            return self.plan(Task::ReferenceArgument);
+            return self.plan_all(&[Task::Symbol, Task::ReferenceArgument]);
         }
-        self.plan(Task::Type(Mode::Bare))
+        let is_qualified = !self.take(b"$$B") && self.take(b"$$C");
+        self.plan(Task::Type(if is_qualified {
+            Mode::Qualified
+        } else {
+            Mode::Bare
+        }))
     }
 
     /// Reads an argument that is a number, or a pointer to a symbol or to a member.
@@ -111,55 +108,31 @@ impl<'n> Parser<'n> {
             return self.give(Node::Number(number));
         }
         let has_symbol = code != b'F' && code != b'G' && self.rest.starts_with(b"?");
+        let end = Task::MemberArgument(code, has_symbol);
         if has_symbol {
-            self.plan(Task::Symbol)?;
+            return self.plan_all(&[Task::Symbol, end]);
         }
-        self.plan(Task::MemberArgument(code, has_symbol))
+        self.plan(end)
     }
 
     /// Reads the offsets of a pointer to a member.
     fn end_member_argument(&mut self, code: u8, has_symbol: bool) -> Result<()> {
-        let symbol = if has_symbol {
-            let symbol = self.pop()?;
-            self.remember_symbol(symbol)?;
-            Some(symbol)
-        } else {
-            None
-        };
-        let count = match code {
-            b'H' => 1,
-            b'F' | b'I' => 2,
-            b'G' | b'J' => 3,
-            _ => 0,
-        };
-        for _ in 0..count {
-            let offset = self.take_signed()?;
-            self.give(Node::Number(offset))?;
+        let mut symbol = None;
+        if has_symbol {
+            symbol = Some(self.take_named()?);
         }
+        let offsets = self.take_offsets(count_offsets(code))?;
         let is_pointer = code != b'F' && code != b'G';
-        self.give_reference(if is_pointer { "&" } else { "" }, symbol, count)
-    }
-
-    /// Remembers the last identifier of a symbol's name.
-    fn remember_symbol(&mut self, symbol: usize) -> Result<()> {
-        let (_, name) = self.tree.symbol_of(symbol)?;
-        let Some(name) = name else {
-            return Err(Stop::Undecorated);
-        };
-        let identifiers = self.tree.name_of(name)?;
-        let last = self.tree.item_before(identifiers, 0)?;
-        let text = self.print("", last, "")?;
-        self.remember_name(text)
-    }
-
-    /// Makes an argument of a symbol and of the last numbers that were read.
-    fn give_reference(
-        &mut self,
-        sign: &'static str,
-        symbol: Option<usize>,
-        count: usize,
-    ) -> Result<()> {
-        let offsets: Span = self.pop_list(count)?;
+        let sign = if is_pointer { "&" } else { "" };
         self.give(Node::Reference(sign, symbol, offsets))
+    }
+
+    /// Takes a symbol, and remembers the last identifier of its name.
+    fn take_named(&mut self) -> Result<usize> {
+        let symbol = self.pop();
+        let (_, name) = self.tree.symbol_of(symbol)?;
+        let last = self.tree.identifier_before(name.unwrap_or(NO_NODE), 0);
+        self.remember_text(last)?;
+        Ok(symbol)
     }
 }

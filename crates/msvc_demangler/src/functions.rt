@@ -59,7 +59,7 @@ impl<'n> Parser<'n> {
             Task::Remember(left) => self.remember_long(left),
             Task::SignatureEnd(front) => self.end_signature(front),
             Task::FunctionEnd(class, adjustment) => {
-                let signature = self.pop()?;
+                let signature = self.pop();
                 let symbol = Symbol::Function(signature, class, adjustment);
                 self.give(Node::Symbol(symbol, None))
             }
@@ -72,24 +72,27 @@ impl<'n> Parser<'n> {
         let is_extern_c = self.take(b"$$J0");
         let code = self.take_byte()?;
         match code {
-            b'9' => {
-                let class = FunctionClass {
-                    access: None,
-                    is_global: false,
-                    is_static: false,
-                    is_virtual: false,
-                    is_extern_c: true,
-                };
-                self.give_type(unwritten_signature(""), UNQUALIFIED)?;
-                self.plan(Task::FunctionEnd(class, Adjustment::NotThunk))
-            }
+            b'9' => self.start_unwritten(),
             b'Y' | b'Z' => {
-                self.plan(Task::Signature(false))?;
-                self.plan(Task::FunctionEnd(global(is_extern_c), Adjustment::NotThunk))
+                let class = global(is_extern_c);
+                self.plan_function(false, class, Adjustment::NotThunk)
             }
             b'$' => self.start_thunk(is_extern_c),
             _ => self.start_method(code, is_extern_c),
         }
+    }
+
+    /// Reads a C function, of whose type nothing is written.
+    fn start_unwritten(&mut self) -> Result<()> {
+        let class = FunctionClass {
+            access: None,
+            is_global: false,
+            is_static: false,
+            is_virtual: false,
+            is_extern_c: true,
+        };
+        self.give_type(unwritten_signature(""), UNQUALIFIED)?;
+        self.plan(Task::FunctionEnd(class, Adjustment::NotThunk))
     }
 
     /// Reads the type of a method of this code.
@@ -97,11 +100,10 @@ impl<'n> Parser<'n> {
         let Some(method) = method_of(code) else {
             return Err(Stop::Undecorated);
         };
-        let adjustment = if method.is_adjusted {
-            Adjustment::Static(self.take_signed()?)
-        } else {
-            Adjustment::NotThunk
-        };
+        let mut adjustment = Adjustment::NotThunk;
+        if method.is_adjusted {
+            adjustment = Adjustment::By("`adjustor{", self.take_offsets(1)?);
+        }
         let class = FunctionClass {
             access: Some(method.access),
             is_global: false,
@@ -109,8 +111,20 @@ impl<'n> Parser<'n> {
             is_virtual: method.is_virtual,
             is_extern_c,
         };
-        self.plan(Task::Signature(!method.is_static))?;
-        self.plan(Task::FunctionEnd(class, adjustment))
+        self.plan_function(!method.is_static, class, adjustment)
+    }
+
+    /// Plans the reading of a function's type, which may have a `this`, and the function.
+    fn plan_function(
+        &mut self,
+        has_this: bool,
+        class: FunctionClass,
+        adjustment: Adjustment,
+    ) -> Result<()> {
+        self.plan_all(&[
+            Task::Signature(has_this),
+            Task::FunctionEnd(class, adjustment),
+        ])
     }
 
     /// Reads a thunk of a virtual method that adjusts `this` by a `vtordisp` field.
@@ -119,17 +133,12 @@ impl<'n> Parser<'n> {
         let Some(access) = thunk_access_of(self.take_byte()?) else {
             return Err(Stop::Undecorated);
         };
-        let adjustment = if is_by_base {
-            let pointer = self.take_signed()?;
-            let place = self.take_signed()?;
-            let field = self.take_signed()?;
-            let offset = self.take_signed()?;
-            Adjustment::VirtualBase(pointer, place, field, offset)
+        let (word, count) = if is_by_base {
+            ("`vtordispex{", 4)
         } else {
-            let field = self.take_signed()?;
-            let offset = self.take_signed()?;
-            Adjustment::Virtual(field, offset)
+            ("`vtordisp{", 2)
         };
+        let adjustment = Adjustment::By(word, self.take_offsets(count)?);
         let class = FunctionClass {
             access: Some(access),
             is_global: false,
@@ -137,8 +146,7 @@ impl<'n> Parser<'n> {
             is_virtual: true,
             is_extern_c,
         };
-        self.plan(Task::Signature(true))?;
-        self.plan(Task::FunctionEnd(class, adjustment))
+        self.plan_function(true, class, adjustment)
     }
 
     /// Reads a function's type.
@@ -152,16 +160,16 @@ impl<'n> Parser<'n> {
         }
         let convention = convention_of(self.take_byte()?);
         let returns = !self.take(b"@");
-        if returns {
-            self.plan(Task::Type(Mode::Returned))?;
-        }
-        self.plan(Task::Parameters)?;
-        self.plan(Task::SignatureEnd(Front {
+        let end = Task::SignatureEnd(Front {
             qualifiers,
             reference,
             convention,
             returns,
-        }))
+        });
+        if returns {
+            return self.plan_all(&[Task::Type(Mode::Returned), Task::Parameters, end]);
+        }
+        self.plan_all(&[Task::Parameters, end])
     }
 
     /// Reads on which references a method is called.
@@ -201,9 +209,11 @@ impl<'n> Parser<'n> {
                 self.plan(Task::MoreParameters(count.saturating_add(1)))
             }
             _ => {
-                self.plan(Task::Type(Mode::Bare))?;
-                self.plan(Task::Remember(rest.len()))?;
-                self.plan(Task::MoreParameters(count.saturating_add(1)))
+                self.plan_all(&[
+                    Task::Type(Mode::Bare),
+                    Task::Remember(rest.len()),
+                    Task::MoreParameters(count.saturating_add(1)),
+                ])
             }
         }
     }
@@ -214,12 +224,10 @@ impl<'n> Parser<'n> {
         if !is_noexcept && !self.take(b"Z") {
             return Err(Stop::Undecorated);
         }
-        let list = self.pop()?;
-        let Node::Parameters(parameters) = self.tree.node(list)? else {
-            return Err(Stop::Undecorated);
-        };
+        let list = self.pop();
+        let parameters = self.tree.parameters_of(list)?;
         let returned = if front.returns {
-            Some(self.pop()?)
+            Some(self.pop())
         } else {
             None
         };

@@ -8,7 +8,7 @@ use crate::parser::Parser;
 use crate::qualifiers::{Qualifiers, UNQUALIFIED};
 use crate::stop::{Result, Stop};
 use crate::tasks::{Mode, Place, Task};
-use crate::tree::{Adjustment, FunctionClass, Identifier, Node, Symbol, Type};
+use crate::tree::{Adjustment, FunctionClass, Identifier, Node, Symbol};
 use crate::words::convention_of;
 
 impl<'n> Parser<'n> {
@@ -21,7 +21,7 @@ impl<'n> Parser<'n> {
             Task::BaseClass => self.end_untyped(false),
             Task::Table => self.read_table(),
             Task::TableFor(qualifiers) => {
-                let target = self.pop()?;
+                let target = self.pop();
                 self.give_table(qualifiers, Some(target))
             }
             Task::Guard => self.end_guard(),
@@ -37,22 +37,45 @@ impl<'n> Parser<'n> {
     {
         let rest = self.rest;
         match rest {
-            [b'?', b'_', b'_', code @ (b'E' | b'F' | b'J'), after @ ..] => {
+            [b'?', b'_', code, after @ ..] => self.start_made(*code, after),
+            _ => self.start_declared(),
+        }
+    }
+
+    /// Reads a symbol by the letter after its `?_`, and what comes after that: one that a compiler
+    /// makes, or else one whose name is an operator.
+    fn start_made(&mut self, code: u8, after: &'n [u8]) -> Result<()>
+        ensures { code ≡ 67 → OnOk result (HandsOn
+            (option_map (λ l. l.0) (literal_of after.entry.now)) self.old self.new) }
+    {
+        match code {
+            b'_' => self.start_initializer_or_guard(after),
+            b'R' => self.start_information(after),
+            b'7'..=b'9' | b'A'..=b'C' | b'P' | b'S' => {
+                self.rest = after;
+                self.start_table(code)
+            }
+            _ => self.start_declared(),
+        }
+    }
+
+    /// Reads a symbol by what comes after its `?__`.
+    fn start_initializer_or_guard(&mut self, text: &'n [u8]) -> Result<()> {
+        match text {
+            [code @ (b'E' | b'F' | b'J'), after @ ..] => {
                 self.rest = after;
                 self.start_dynamic(*code)
             }
-            [b'?', b'_', b'R', digit @ b'0'..=b'4', after @ ..] => {
+            _ => self.start_declared(),
+        }
+    }
+
+    /// Reads a symbol by what comes after its `?_R`.
+    fn start_information(&mut self, text: &'n [u8]) -> Result<()> {
+        match text {
+            [digit @ b'0'..=b'4', after @ ..] => {
                 self.rest = after;
                 self.start_type_information(*digit)
-            }
-            [
-                b'?',
-                b'_',
-                code @ (b'7'..=b'9' | b'A'..=b'C' | b'P' | b'S'),
-                after @ ..,
-            ] => {
-                self.rest = after;
-                self.start_table(*code)
             }
             _ => self.start_declared(),
         }
@@ -77,28 +100,23 @@ impl<'n> Parser<'n> {
     /// Reads the scopes of an identifier, and what a task says.
     fn start_scopes(&mut self, identifier: Identifier, task: Task) -> Result<()> {
         self.give_identifier(identifier)?;
-        self.plan(Task::Scopes(1))?;
-        self.plan(task)
+        self.plan_all(&[Task::Scopes(1), task])
     }
 
     /// Reads information about a type.
     fn start_type_information(&mut self, digit: u8) -> Result<()> {
         match digit {
-            b'0' => {
-                self.plan(Task::Type(Mode::Returned))?;
-                self.plan(Task::TypeDescriptor)
-            }
+            b'0' => { self.plan_all(&[Task::Type(Mode::Returned), Task::TypeDescriptor]) }
             b'1' => self.start_base_class(),
-            b'2' => self.start_scopes(Identifier::Fixed("`RTTI Base Class Array'"), Task::Untyped),
-            b'3' => self.start_scopes(
-                Identifier::Fixed("`RTTI Class Hierarchy Descriptor'"),
-                Task::Untyped,
-            ),
-            _ => self.start_scopes(
-                Identifier::Fixed("`RTTI Complete Object Locator'"),
-                Task::Table,
-            ),
+            b'2' => self.start_fixed("`RTTI Base Class Array'", Task::Untyped),
+            b'3' => self.start_fixed("`RTTI Class Hierarchy Descriptor'", Task::Untyped),
+            _ => self.start_fixed("`RTTI Complete Object Locator'", Task::Table),
         }
+    }
+
+    /// Reads the scopes of a name that is always the same, and what a task says.
+    fn start_fixed(&mut self, name: &'static str, task: Task) -> Result<()> {
+        self.start_scopes(Identifier::Fixed(name), task)
     }
 
     /// Reads the descriptor of a base class.
@@ -117,9 +135,9 @@ impl<'n> Parser<'n> {
             (option_map (λ l. l.0) (literal_of self.old.rest.now)) self.old self.new) }
     {
         match code {
-            b'7' => self.start_scopes(Identifier::Fixed("`vftable'"), Task::Table),
-            b'8' => self.start_scopes(Identifier::Fixed("`vbtable'"), Task::Table),
-            b'S' => self.start_scopes(Identifier::Fixed("`local vftable'"), Task::Table),
+            b'7' => self.start_fixed("`vftable'", Task::Table),
+            b'8' => self.start_fixed("`vbtable'", Task::Table),
+            b'S' => self.start_fixed("`local vftable'", Task::Table),
             b'9' => self.start_scopes(Identifier::VirtualCall(0), Task::VirtualCall),
             b'B' => self.start_scopes(Identifier::Guard("`local static guard'", 0), Task::Guard),
             b'C' => self.read_string_literal(),
@@ -129,17 +147,16 @@ impl<'n> Parser<'n> {
 
     /// Reads the end of information about a type.
     fn end_type_information(&mut self, end: &[u8], text: &'static str) -> Result<()> {
-        let index = self.pop()?;
+        let index = self.pop();
         if !self.take(end) || !self.rest.is_empty() {
             return Err(Stop::Undecorated);
         }
-        let name = self.name_alone(Identifier::Fixed(text))?;
-        self.give(Node::Symbol(Symbol::Variable(Some(index), None), Some(name)))
+        self.give_named(Symbol::Variable(Some(index), None), Identifier::Fixed(text))
     }
 
     /// Reads the end of a symbol without a type, an `8` that may have to stand there.
     fn end_untyped(&mut self, is_needed: bool) -> Result<()> {
-        let name = self.pop()?;
+        let name = self.pop();
         if !self.take(b"8") && is_needed {
             return Err(Stop::Undecorated);
         }
@@ -156,60 +173,50 @@ impl<'n> Parser<'n> {
         if self.take(b"@") {
             return self.give_table(qualifiers, None);
         }
-        self.plan_name(Place::Type)?;
-        self.plan(Task::TableFor(qualifiers))
+        self.plan_all(&[
+            Task::Identifier(Place::Type),
+            Task::Scopes(1),
+            Task::TableFor(qualifiers),
+        ])
     }
 
     /// Makes the symbol of a class's table.
     fn give_table(&mut self, qualifiers: Qualifiers, target: Option<usize>) -> Result<()> {
-        let name = self.pop()?;
+        let name = self.pop();
         self.give(Node::Symbol(Symbol::Table(qualifiers, target), Some(name)))
-    }
-
-    /// Gives the last identifier of a name another form, with the same template arguments.
-    fn set_last(&mut self, name: usize, identifier: Identifier) -> Result<()> {
-        let identifiers = self.tree.name_of(name)?;
-        let last = self.tree.item_before(identifiers, 0)?;
-        self.tree.set(last, Node::Identifier(identifier, None))
-    }
-
-    /// The text of the guard that a name ends with.
-    fn guard_of(&self, name: usize) -> Result<&'static str> {
-        let identifiers = self.tree.name_of(name)?;
-        let last = self.tree.item_before(identifiers, 0)?;
-        match self.tree.identifier_of(last)? {
-            (Identifier::Guard(text, _), _) => Ok(text),
-            _ => Err(Stop::Undecorated),
-        }
     }
 
     /// Reads the number of the scope of a guard.
     fn end_guard(&mut self) -> Result<()> {
-        let name = self.pop()?;
+        let name = self.pop();
         if !self.take(b"4IA") && !self.take(b"5") {
             return Err(Stop::Undecorated);
         }
         if !self.rest.is_empty() {
-            let text = self.guard_of(name)?;
             let scope = self.take_unsigned()?;
-            self.set_last(name, Identifier::Guard(text, scope))?;
+            self.tree.set_guard(name, scope)?;
         }
         self.give(Node::Symbol(Symbol::Plain, Some(name)))
     }
 
     /// Reads the offset and the calling convention of a virtual call's thunk.
     fn end_virtual_call(&mut self) -> Result<()> {
-        let name = self.pop()?;
+        let name = self.pop();
         if !self.take(b"$B") {
             return Err(Stop::Undecorated);
         }
         let offset = self.take_unsigned()?;
+        self.tree.set_last(name, Identifier::VirtualCall(offset));
         if !self.take(b"A") {
             return Err(Stop::Undecorated);
         }
-        self.set_last(name, Identifier::VirtualCall(offset))?;
         let convention = convention_of(self.take_byte()?);
-        let form: Type = unwritten_signature(convention);
+        self.give_thunk(name, convention)
+    }
+
+    /// Makes the symbol of a virtual call's thunk.
+    fn give_thunk(&mut self, name: usize, convention: &'static str) -> Result<()> {
+        let form = unwritten_signature(convention);
         let signature = self.tree.add(Node::Type(form, UNQUALIFIED))?;
         let class = FunctionClass {
             access: None,

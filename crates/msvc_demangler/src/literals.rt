@@ -1,15 +1,15 @@
 //! String literals.
 
-ghost use Rattle.std.specs.Prelude.{◌≡◌, ◌++◌, ◌==◌, ◌<◌, ◌≤◌, IfOk, IfSome, OnOk, length};
+ghost use Rattle.std.specs.Prelude.{◌≡◌, ◌++◌, ◌==◌, ◌<◌, ◌≤◌, [], IfOk, IfSome, OnOk, length};
 ghost use Rattle.std.specs.Prelude.{option_and_then, option_map, position};
 ghost use Rattle.std.specs.Int.{from_le_bytes, w32};
 ghost use Rattle.std.specs.List.{flat_map};
 ghost use Rattle.std.specs.Vec.{vec_len};
 ghost use Rattle.msvc_demangler.specs.Characters.{character_of, written};
 ghost use Rattle.msvc_demangler.specs.Literals.{after_at, but_end, characters_of, ended, joined};
-ghost use Rattle.msvc_demangler.specs.Literals.{literal_in, literal_of, literal_text, narrow_of};
-ghost use Rattle.msvc_demangler.specs.Literals.{narrow_text, prefix, sized_of, string_of, suffix};
-ghost use Rattle.msvc_demangler.specs.Literals.{wide_character_of, wide_of, wide_text};
+ghost use Rattle.msvc_demangler.specs.Literals.{literal_in, literal_of, narrow_of};
+ghost use Rattle.msvc_demangler.specs.Literals.{narrow_text, prefix, quoted, sized_of, string_of};
+ghost use Rattle.msvc_demangler.specs.Literals.{suffix, wide_character_of, wide_of, wide_text};
 ghost use Rattle.msvc_demangler.specs.Texts.{SameTasks, handed};
 
 use crate::bytes::byte_at;
@@ -23,14 +23,12 @@ use std::alloc::{AllocError, Global};
 /// How many bytes of a string a name has at most. Compilers write 32; some wrote more by mistake.
 const MOST_BYTES: usize = 128;
 
-/// The text of a string literal.
-#[derive(Drop)]
-pub(crate) struct Literal {
-    /// What stands before the characters.
+/// What stands about the characters of a string literal.
+#[derive(Clone, Copy)]
+pub(crate) struct Quotes {
+    /// Before them.
     pub(crate) before: &'static str,
-    /// The characters.
-    pub(crate) text: Vec<u8>,
-    /// What stands after them.
+    /// After them.
     pub(crate) after: &'static str,
 }
 
@@ -199,11 +197,12 @@ fn push_characters(text: &mut Vec<u8>, characters: &[u32]) -> Result<(), AllocEr
     Ok(())
 }
 
-/// The text of a string by its first bytes, at most 128, and its size in bytes.
+/// Appends the characters of a string by its first bytes, at most 128, and its size in bytes.
 #[tactic(auto, using(crate::proofs::Strings::character_size_some), unfolding(crate::specs::Literals::narrow_text))]
-fn narrow(alloc: Global, size: u64, bytes: &[u8]) -> Result<Literal, AllocError>
+fn narrow(text: &mut Vec<u8>, size: u64, bytes: &[u8]) -> Result<Quotes, AllocError>
     requires { length bytes.now ≤ 128 }
-    ensures { IfOk result (λ l. literal_text l ≡ narrow_text size bytes.now) }
+    ensures { text.old.items ≡ []
+        → IfOk result (λ q. quoted q text.new.items ≡ narrow_text size bytes.now) }
 {
     let is_cut = size > bytes.len() as u64;
     let width = character_size(bytes, size);
@@ -213,11 +212,9 @@ fn narrow(alloc: Global, size: u64, bytes: &[u8]) -> Result<Literal, AllocError>
     } else {
         count.saturating_sub(1)
     };
-    let mut text = Vec::new(alloc);
-    push_joined(&mut text, bytes, width, printed)?;
-    Ok(Literal {
+    push_joined(text, bytes, width, printed)?;
+    Ok(Quotes {
         before: prefix_of(width),
-        text,
         after: suffix_of(is_cut),
     })
 }
@@ -235,96 +232,111 @@ fn drop_end(characters: &mut Vec<u32>, size: u64)
     }
 }
 
-/// The text of a string of `wchar_t` by its first characters, and its size in bytes.
+/// Appends the characters of a string of `wchar_t` by the first, and its size in bytes.
 #[tactic(auto, unfolding(crate::specs::Literals::wide_text))]
-fn wide(alloc: Global, size: u64, mut characters: Vec<u32>) -> Result<Literal, AllocError>
-    ensures { IfOk result (λ l. literal_text l ≡ wide_text size characters.items) }
+fn wide(text: &mut Vec<u8>, size: u64, characters: &mut Vec<u32>) -> Result<Quotes, AllocError>
+    ensures { text.old.items ≡ []
+        → IfOk result (λ q. quoted q text.new.items ≡ wide_text size characters.old.items) }
 {
-    drop_end(&mut characters, size);
-    let mut text = Vec::new(alloc);
-    push_characters(&mut text, characters.as_slice())?;
-    Ok(Literal {
+    drop_end(characters, size);
+    push_characters(text, characters.as_slice())?;
+    Ok(Quotes {
         before: "L\"",
-        text,
         after: suffix_of(size > 64),
     })
 }
 
-/// A string whose characters may have 1, 2 or 4 bytes, and what comes after.
+/// Appends a string whose characters may have 1, 2 or 4 bytes, and gives what comes after.
 #[tactic(auto, unfolding(crate::specs::Literals::narrow_of))]
-fn split_narrow(
+fn split_narrow<'t>(
     alloc: Global,
+    output: &mut Vec<u8>,
     size: u64,
-    text: &[u8],
-) -> Result<Option<(Literal, &[u8])>, AllocError>
-    ensures { IfOk result (λ o. option_map (λ r. (literal_text r.0, r.1.now)) o
-        ≡ narrow_of size text.now) }
+    text: &'t [u8],
+) -> Result<Option<(Quotes, &'t [u8])>, AllocError>
+    ensures { output.old.items ≡ [] → IfOk result (λ o.
+        option_map (λ r. (quoted r.0 output.new.items, r.1.now)) o
+        ≡ narrow_of size text.entry.now) }
 {
     let Some((bytes, after)) = split_bytes(alloc, text)? else {
         return Ok(None);
     };
-    Ok(Some((narrow(alloc, size, bytes.as_slice())?, after)))
+    Ok(Some((narrow(output, size, bytes.as_slice())?, after)))
 }
 
-/// A string of `wchar_t`, and what comes after.
+/// Appends a string of `wchar_t`, and gives what comes after.
 #[tactic(auto, unfolding(crate::specs::Literals::wide_of))]
-fn split_wide(alloc: Global, size: u64, text: &[u8]) -> Result<Option<(Literal, &[u8])>, AllocError>
-    ensures { IfOk result (λ o. option_map (λ r. (literal_text r.0, r.1.now)) o
-        ≡ wide_of size text.now) }
+fn split_wide<'t>(
+    alloc: Global,
+    output: &mut Vec<u8>,
+    size: u64,
+    text: &'t [u8],
+) -> Result<Option<(Quotes, &'t [u8])>, AllocError>
+    ensures { output.old.items ≡ [] → IfOk result (λ o.
+        option_map (λ r. (quoted r.0 output.new.items, r.1.now)) o
+        ≡ wide_of size text.entry.now) }
 {
-    let Some((characters, after)) = split_wide_characters(alloc, text)? else {
+    let Some((mut characters, after)) = split_wide_characters(alloc, text)? else {
         return Ok(None);
     };
-    Ok(Some((wide(alloc, size, characters)?, after)))
+    Ok(Some((wide(output, size, &mut characters)?, after)))
 }
 
-/// A string of a kind and a size in bytes, and what comes after.
-fn split_string(
+/// Appends a string of a kind and a size in bytes, and gives what comes after.
+fn split_string<'t>(
     alloc: Global,
+    output: &mut Vec<u8>,
     kind: u8,
     size: u64,
-    text: &[u8],
-) -> Result<Option<(Literal, &[u8])>, AllocError>
-    ensures { IfOk result (λ o. option_map (λ r. (literal_text r.0, r.1.now)) o
-        ≡ string_of kind (size, text.now)) }
+    text: &'t [u8],
+) -> Result<Option<(Quotes, &'t [u8])>, AllocError>
+    ensures { output.old.items ≡ [] → IfOk result (λ o.
+        option_map (λ r. (quoted r.0 output.new.items, r.1.now)) o
+        ≡ string_of kind (size, text.entry.now)) }
 {
     if kind == b'0' && size >= 1 {
-        return split_narrow(alloc, size, text);
+        return split_narrow(alloc, output, size, text);
     }
     if kind == b'1' && size >= 2 {
-        return split_wide(alloc, size, text);
+        return split_wide(alloc, output, size, text);
     }
     Ok(None)
 }
 
-/// The string literal that stands after `??_C`, and what comes after it. None if there is none.
+/// Appends the characters of the string literal that stands after `??_C`, and gives what comes
+/// after it. None if there is none.
 ///
 /// # Errors
 /// Memory ran out.
 #[tactic(auto, unfolding(crate::specs::Literals::literal_of))]
-fn split_literal(alloc: Global, text: &[u8]) -> Result<Option<(Literal, &[u8])>, AllocError>
-    ensures { IfOk result (λ o. option_map (λ r. (literal_text r.0, r.1.now)) o
-        ≡ literal_of text.now) }
+fn split_literal<'t>(
+    alloc: Global,
+    output: &mut Vec<u8>,
+    text: &'t [u8],
+) -> Result<Option<(Quotes, &'t [u8])>, AllocError>
+    ensures { output.old.items ≡ [] → IfOk result (λ o.
+        option_map (λ r. (quoted r.0 output.new.items, r.1.now)) o
+        ≡ literal_of text.entry.now) }
 {
     let [b'@', b'_', kind, after @ ..] = text else {
         return Ok(None);
     };
     match split_size(after) {
-        Some((size, bytes)) => split_string(alloc, *kind, size, bytes),
+        Some((size, bytes)) => split_string(alloc, output, *kind, size, bytes),
         None => Ok(None),
     }
 }
 
 impl<'n> Parser<'n> {
     /// Hands on a string literal.
-    fn give_literal(&mut self, literal: &Literal) -> crate::stop::Result<()>
+    fn give_literal(&mut self, quotes: Quotes, text: &[u8]) -> crate::stop::Result<()>
         ensures text { OnOk result (option_and_then (literal_in self.new.tree.texts.items)
-            (handed self.new) ≡ Some (literal_text literal.now)) }
+            (handed self.new) ≡ Some (quoted quotes text.now)) }
         ensures rest { self.new.rest.now ≡ self.old.rest.now }
         ensures tasks { SameTasks self.old self.new }
     {
-        let text = self.tree.add_text(literal.text.as_slice())?;
-        self.give(Node::Symbol(Symbol::Text(literal.before, text, literal.after), None))
+        let text = self.tree.add_text(text)?;
+        self.give(Node::Symbol(Symbol::Text(quotes.before, text, quotes.after), None))
     }
 
     /// Reads a string literal after `??_C`: its kind, its size in bytes, its checksum, and its
@@ -337,10 +349,11 @@ impl<'n> Parser<'n> {
         ensures tasks { SameTasks self.old self.new }
     {
         let rest = self.rest;
-        match split_literal(self.alloc, rest)? {
-            Some((literal, after)) => {
+        let mut text = Vec::new(self.alloc);
+        match split_literal(self.alloc, &mut text, rest)? {
+            Some((quotes, after)) => {
                 self.rest = after;
-                self.give_literal(&literal)
+                self.give_literal(quotes, text.as_slice())
             }
             None => Err(Stop::Undecorated),
         }

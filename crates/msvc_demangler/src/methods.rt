@@ -6,7 +6,7 @@ ghost use Rattle.msvc_demangler.specs.Methods.{access, method_class};
 use crate::words::Access;
 
 /// What a code says of a function in a class.
-#[derive(Clone, Copy, Debug, PartialEq, Eq)]
+#[derive(Clone, Copy)]
 pub(crate) struct MethodClass {
     /// Who may call it.
     pub(crate) access: Access,

@@ -12,6 +12,24 @@ use crate::stop::{Result, Stop};
 use crate::tasks::{Place, Task};
 use crate::tree::{Identifier, Node};
 
+/// An identifier that is always the same, if there is one.
+fn fixed(name: Option<&'static str>) -> Option<Identifier> {
+    match name {
+        Some(name) => Some(Identifier::Fixed(name)),
+        None => None,
+    }
+}
+
+/// The operator, constructor or destructor that a letter or digit after `?` stands for.
+fn operator_or_structor(code: u8) -> Option<Identifier> {
+    match code {
+        b'0' => Some(Identifier::Structor(false, None)),
+        b'1' => Some(Identifier::Structor(true, None)),
+        b'B' => Some(Identifier::Conversion(None)),
+        _ => fixed(operator_of(code)),
+    }
+}
+
 impl<'n> Parser<'n> {
     /// Reads what a task of names says.
     pub(crate) fn run_name(&mut self, task: Task) -> Result<()> {
@@ -22,9 +40,12 @@ impl<'n> Parser<'n> {
             Task::TemplateEnd(name, parameter, is_remembered) => {
                 self.end_template(name, parameter, is_remembered)
             }
-            Task::Structor => self.settle_structor(),
+            Task::Structor => {
+                let name = self.last();
+                self.tree.settle_structor(name)
+            }
             _ => {
-                self.pop()?;
+                self.pop();
                 Ok(())
             }
         }
@@ -85,37 +106,40 @@ impl<'n> Parser<'n> {
 
     /// Reads the code of an operator, of a constructor or of a destructor.
     fn read_operator(&mut self) -> Result<()> {
-        if self.take(b"__") {
+        let is_later = self.take(b"_");
+        let code = self.take_byte()?;
+        if is_later && code == b'_' {
             return self.read_last_operator();
         }
-        let (name, code) = if self.take(b"_") {
-            let code = self.take_byte()?;
-            (later_operator_of(code), b'_')
+        self.give_operator(if is_later {
+            fixed(later_operator_of(code))
         } else {
-            let code = self.take_byte()?;
-            (operator_of(code), code)
-        };
-        match (code, name) {
-            (b'0', _) => self.give_identifier(Identifier::Structor(false, None)),
-            (b'1', _) => self.give_identifier(Identifier::Structor(true, None)),
-            (b'B', _) => self.give_identifier(Identifier::Conversion(None)),
-            (_, Some(name)) => self.give_identifier(Identifier::Fixed(name)),
-            (_, None) => Err(Stop::Undecorated),
-        }
+            operator_or_structor(code)
+        })
     }
 
     /// Reads the code of an operator after `?__`.
     fn read_last_operator(&mut self) -> Result<()> {
         let code = self.take_byte()?;
         if code == b'K' {
-            let suffix = self.take_until_at()?;
-            if suffix.count == 0 {
-                return Err(Stop::Undecorated);
-            }
-            return self.give_identifier(Identifier::Literal(suffix));
+            return self.read_suffix();
         }
-        match last_operator_of(code) {
-            Some(name) => self.give_identifier(Identifier::Fixed(name)),
+        self.give_operator(fixed(last_operator_of(code)))
+    }
+
+    /// Reads the suffix of an operator of literals.
+    fn read_suffix(&mut self) -> Result<()> {
+        let suffix = self.take_until_at()?;
+        if suffix.count == 0 {
+            return Err(Stop::Undecorated);
+        }
+        self.give_identifier(Identifier::Literal(suffix))
+    }
+
+    /// Hands on an operator, if there is one.
+    fn give_operator(&mut self, operator: Option<Identifier>) -> Result<()> {
+        match operator {
+            Some(identifier) => self.give_identifier(identifier),
             None => Err(Stop::Undecorated),
         }
     }
@@ -124,10 +148,13 @@ impl<'n> Parser<'n> {
     fn start_template(&mut self, place: Place) -> Result<()> {
         let first_name = self.first_name;
         let first_parameter = self.first_parameter;
+        let is_remembered = !matches!(place, Place::Symbol);
         self.enter_template();
-        self.plan(Task::Identifier(Place::Symbol))?;
-        self.plan(Task::Arguments(0))?;
-        self.plan(Task::TemplateEnd(first_name, first_parameter, place != Place::Symbol))
+        self.plan_all(&[
+            Task::Identifier(Place::Symbol),
+            Task::Arguments(0),
+            Task::TemplateEnd(first_name, first_parameter, is_remembered),
+        ])
     }
 
     /// Ends a template.
@@ -141,12 +168,11 @@ impl<'n> Parser<'n> {
         if !is_remembered {
             return Ok(());
         }
-        let index = self.top()?;
+        let index = self.last();
         if let (Identifier::Conversion(_), _) = self.tree.identifier_of(index)? {
             return Err(Stop::Undecorated);
         }
-        let name = self.print("", index, "")?;
-        self.remember_name(name)
+        self.remember_text(index)
     }
 
     /// Reads the next identifier of a qualified name, or its end.
@@ -158,37 +184,30 @@ impl<'n> Parser<'n> {
         if self.rest.is_empty() {
             return Err(Stop::Undecorated);
         }
-        self.plan(Task::Identifier(Place::Scope))?;
-        self.plan(Task::Scopes(count.saturating_add(1)))
+        self.plan_all(&[
+            Task::Identifier(Place::Scope),
+            Task::Scopes(count.saturating_add(1)),
+        ])
     }
 
     /// Reads the number of a local scope.
     fn start_local_scope(&mut self) -> Result<()> {
         let number = self.take_number()?;
         self.take(b"?");
-        self.plan(Task::Symbol)?;
-        self.plan(Task::LocalScope(number))
+        self.plan_all(&[Task::Symbol, Task::LocalScope(number)])
     }
 
     /// Makes an identifier of the symbol that a scope is local to.
     fn end_local_scope(&mut self, number: Number) -> Result<()> {
-        let symbol = self.pop()?;
+        let symbol = self.pop();
         let after = format!(in self.alloc; "'::`{}'", number.magnitude)?;
         let name = self.print("`", symbol, after.as_str())?;
         self.give_identifier(Identifier::Named(name))
     }
 
-    /// Gives a constructor or destructor the identifier before it, which names its class.
-    fn settle_structor(&mut self) -> Result<()> {
-        let name = self.top()?;
-        let identifiers = self.tree.name_of(name)?;
-        let last = self.tree.item_before(identifiers, 0)?;
-        let (identifier, arguments) = self.tree.identifier_of(last)?;
-        let Identifier::Structor(is_destructor, _) = identifier else {
-            return Ok(());
-        };
-        let class = self.tree.item_before(identifiers, 1)?;
-        let settled = Identifier::Structor(is_destructor, Some(class));
-        self.tree.set(last, Node::Identifier(settled, arguments))
+    /// Prints an identifier, and remembers its text as a name.
+    pub(crate) fn remember_text(&mut self, index: usize) -> Result<()> {
+        let name = self.print("", index, "")?;
+        self.remember_name(name)
     }
 }

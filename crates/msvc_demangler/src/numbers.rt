@@ -1,6 +1,6 @@
 //! Encoded numbers.
 
-ghost use Rattle.std.specs.Prelude.{◌≡◌, ◌<◌, ◌≤◌, IfSome, length, option_map};
+ghost use Rattle.std.specs.Prelude.{◌≡◌, ◌<◌, ◌≤◌, IfSome, false, length, option_map};
 ghost use Rattle.std.specs.List.{prefix_len};
 ghost use Rattle.msvc_demangler.specs.Numbers.{ends_scope as ends_scope_of, hexadecimal_of};
 ghost use Rattle.msvc_demangler.specs.Numbers.{is_nibble, magnitude_of, nibble_of, number_of};
@@ -16,6 +16,16 @@ pub(crate) struct Number {
     pub(crate) magnitude: u64,
     /// Whether it has a minus sign.
     pub(crate) is_negative: bool,
+}
+
+/// A number without a sign.
+pub(crate) fn unsigned(magnitude: u64) -> Number
+    ensures { result ≡ record { magnitude = magnitude; is_negative = false } }
+{
+    Number {
+        magnitude,
+        is_negative: false,
+    }
 }
 
 /// The value of a hexadecimal digit, `A` to `P` for 0 to 15.

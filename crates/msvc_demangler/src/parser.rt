@@ -15,7 +15,7 @@ use crate::printer::print_part;
 use crate::qualifiers::Qualifiers;
 use crate::stop::{Result, Stop};
 use crate::tasks::{Place, Task};
-use crate::tree::{Identifier, Node, Span, Tree};
+use crate::tree::{Identifier, NO_NODE, Node, Span, Tree};
 use std::alloc::{AllocError, Global};
 
 /// How many tasks there are at most for each byte of a name, and for its end. A byte that begins a
@@ -103,7 +103,7 @@ impl<'n> Parser<'n> {
         let most = self.length.saturating_add(1).saturating_mul(TASKS_PER_BYTE);
         for number in 0..most {
             let Some(task) = self.tasks.pop() else {
-                return self.pop();
+                return self.end();
             };
             *tasks = number + 1;
             self.run(task)?;
@@ -132,10 +132,10 @@ impl<'n> Parser<'n> {
         Ok(())
     }
 
-    /// Plans the reading of a qualified name whose last identifier stands in a place.
-    pub(crate) fn plan_name(&mut self, place: Place) -> Result<()> {
-        self.plan(Task::Identifier(place))?;
-        self.plan(Task::Scopes(1))
+    /// Plans tasks, after those that the task at hand has planned.
+    pub(crate) fn plan_all(&mut self, tasks: &[Task]) -> Result<()> {
+        self.planned.extend_from_slice(tasks)?;
+        Ok(())
     }
 
     /// Hands a node on to a task to come.
@@ -173,14 +173,31 @@ impl<'n> Parser<'n> {
         self.give(Node::Identifier(identifier, None))
     }
 
-    /// The node that was handed on last, which the task at hand takes.
-    pub(crate) fn pop(&mut self) -> Result<usize>
+    /// The node that was handed on last, which is what the name says.
+    fn end(&mut self) -> Result<usize>
         ensures last { result_ok result ≡ last_value self.old }
         ensures tree { self.new.tree ≡ self.old.tree }
     {
         match self.values.pop() {
             Some(index) => Ok(index),
             None => Err(Stop::Undecorated),
+        }
+    }
+
+    /// The node that was handed on last, which the task at hand takes. No node's index if there is
+    /// none.
+    pub(crate) fn pop(&mut self) -> usize {
+        match self.values.pop() {
+            Some(index) => index,
+            None => NO_NODE,
+        }
+    }
+
+    /// The node that was handed on last, which stays. No node's index if there is none.
+    pub(crate) fn last(&self) -> usize {
+        match self.values.last() {
+            Some(index) => *index,
+            None => NO_NODE,
         }
     }
 
@@ -194,32 +211,22 @@ impl<'n> Parser<'n> {
         }
     }
 
-    /// Where the last nodes begin that were handed on.
-    fn last_values(&self, count: usize) -> Result<usize> {
-        match self.values.len().checked_sub(count) {
-            Some(start) => Ok(start),
-            None => Err(Stop::Undecorated),
-        }
-    }
-
-    /// Makes a list of the last nodes that were handed on.
+    /// Takes the last nodes that were handed on, and makes a list of them.
     pub(crate) fn pop_list(&mut self, count: usize) -> Result<Span> {
-        let start = self.last_values(count)?;
-        let Some(indices) = self.values.get(start..) else {
-            return Err(Stop::Undecorated);
-        };
-        let list = self.tree.add_list(indices)?;
+        let start = self.values.len().saturating_sub(count);
+        let list = self
+            .tree
+            .add_list(self.values.as_slice().split_at(start).1)?;
         self.values.truncate(start);
         Ok(list)
     }
 
-    /// Makes a list of the last nodes that were handed on, the last of them first.
+    /// Takes the last nodes that were handed on, and makes a list of them, the last of them first.
     pub(crate) fn pop_reversed(&mut self, count: usize) -> Result<Span> {
-        let start = self.last_values(count)?;
-        let Some(indices) = self.values.get(start..) else {
-            return Err(Stop::Undecorated);
-        };
-        let list = self.tree.add_reversed(indices)?;
+        let start = self.values.len().saturating_sub(count);
+        let list = self
+            .tree
+            .add_reversed(self.values.as_slice().split_at(start).1)?;
         self.values.truncate(start);
         Ok(list)
     }
@@ -281,6 +288,15 @@ impl<'n> Parser<'n> {
         })
     }
 
+    /// Reads numbers whose magnitudes are below 2^63, and makes a list of them.
+    pub(crate) fn take_offsets(&mut self, count: usize) -> Result<Span> {
+        for _ in 0..count {
+            let offset = self.take_signed()?;
+            self.give(Node::Number(offset))?;
+        }
+        self.pop_list(count)
+    }
+
     /// Reads the letter of qualifiers.
     pub(crate) fn take_qualifiers(&mut self) -> Result<Qualifiers> {
         match qualifiers_of(self.take_byte()?) {
@@ -321,11 +337,8 @@ impl<'n> Parser<'n> {
         let printed = print_part(self.alloc, &self.tree, index, &mut budget);
         self.budget = budget;
         let text = printed?;
-        let start = self.tree.add_text(before.as_bytes())?.start;
-        self.tree.add_text(text.as_slice())?;
-        let end = self.tree.add_text(after.as_bytes())?;
-        let count = end.start.saturating_add(end.count).saturating_sub(start);
-        Ok(Span { start, count })
+        self.tree
+            .add_texts(&[before.as_bytes(), text.as_slice(), after.as_bytes()])
     }
 
     /// Reads what a task says.

@@ -2,18 +2,50 @@
 
 ghost use Rattle.std.specs.Prelude.{◌≡◌, ℕ, [], ◌++◌, List, OnOk};
 ghost use Rattle.msvc_demangler.specs.Literals.{literal_in};
+ghost use Rattle.msvc_demangler.specs.declared.tree.Node.{Node};
 ghost use Rattle.msvc_demangler.specs.Pieces.{Prints};
 ghost use Rattle.msvc_demangler.specs.Texts.{text_at};
 
 use crate::flags::DemangleFlags;
-use crate::numbers::Number;
 use crate::printer::{Piece, Printer};
+use crate::qualifiers::Qualifiers;
 use crate::stop::{Result, Stop};
-use crate::tree::{Adjustment, FunctionClass, Node, Span, Symbol};
-use crate::words::Access;
+use crate::tree::{Adjustment, FunctionClass, Span, Symbol};
+use crate::words::{Access, word_if};
+
+/// What is printed of who may name a member.
+fn access_word(access: Option<Access>, flags: DemangleFlags) -> &'static str {
+    match access {
+        Some(access) => word_if(!flags.no_access_specifier, access.text()),
+        None => "",
+    }
+}
+
+/// What is printed before the type that a function returns.
+fn class_words(
+    class: FunctionClass,
+    adjustment: Adjustment,
+    flags: DemangleFlags,
+) -> [&'static str; 5] {
+    let thunk = match adjustment {
+        Adjustment::NotThunk => "",
+        _ => "[thunk]: ",
+    };
+    let access = access_word(class.access, flags);
+    if flags.no_member_type {
+        return [thunk, access, "", "", ""];
+    }
+    [
+        thunk,
+        access,
+        word_if(class.is_static && !class.is_global, "static "),
+        word_if(class.is_virtual, "virtual "),
+        word_if(class.is_extern_c, "extern \"C\" "),
+    ]
+}
 
 impl<'t> Printer<'t> {
-    /// Plans the parts of a symbol.
+    /// Prints a symbol, or plans its parts.
     pub(crate) fn print_symbol(
         &mut self,
         symbol: Symbol,
@@ -24,31 +56,29 @@ impl<'t> Printer<'t> {
             → literal_in self.old.tree.now.texts.items (Node.Symbol symbol name) ≡ Some text
             → OnOk result (Prints text self.old self.new) }
     {
+        match (symbol, name) {
+            (Symbol::Text(before, text, after), _) => self.print_literal(before, text, after),
+            (_, Some(name)) => self.print_named(symbol, name, flags),
+            (_, None) => Err(Stop::Undecorated),
+        }
+    }
+
+    /// Prints a symbol that has a name, or plans its parts.
+    fn print_named(&mut self, symbol: Symbol, name: usize, flags: DemangleFlags) -> Result<()> {
         match symbol {
-            Symbol::Plain => self.say_whole(name, flags),
             Symbol::Function(signature, class, adjustment) => {
-                self.print_class(class, adjustment, flags)?;
-                self.plan(Piece::Before(signature, flags))?;
-                self.plan(Piece::Space)?;
-                self.say_whole(name, flags)?;
-                self.print_adjustment(adjustment)?;
+                self.write(&class_words(class, adjustment, flags))?;
+                self.plan_all(&[
+                    Piece::Before(signature, flags),
+                    Piece::Space,
+                    Piece::Whole(name, flags),
+                ])?;
+                self.plan_adjustment(adjustment, flags)?;
                 self.plan(Piece::After(signature, flags))
             }
-            Symbol::Variable(of_type, access) => {
-                self.print_variable(of_type, access, name, flags)
-            }
-            Symbol::Table(qualifiers, target) => {
-                self.say_qualifiers(qualifiers, false)?;
-                self.say_if(qualifiers.is_const || qualifiers.is_volatile, " ")?;
-                self.say_whole(name, flags)?;
-                if target.is_none() {
-                    return Ok(());
-                }
-                self.say("{for `")?;
-                self.say_whole(target, flags)?;
-                self.say("'}")
-            }
-            Symbol::Text(before, text, after) => self.print_literal(before, text, after),
+            Symbol::Variable(of_type, access) => self.print_variable(of_type, access, name, flags),
+            Symbol::Table(qualifiers, target) => self.print_table(qualifiers, target, name, flags),
+            _ => self.plan(Piece::Whole(name, flags)),
         }
     }
 
@@ -59,104 +89,60 @@ impl<'t> Printer<'t> {
             ((before.entry.now ++ text_at self.old.tree.now.texts.items text) ++ after.entry.now)
             self.old self.new) }
     {
-        self.say(before)?;
-        self.plan(Piece::Text(text))?;
-        self.say(after)
-    }
-
-    /// Plans who may name a member.
-    fn print_access(&mut self, access: Option<Access>, flags: DemangleFlags) -> Result<()> {
-        match access {
-            Some(access) => self.say_if(!flags.no_access_specifier, access.text()),
-            None => Ok(()),
-        }
-    }
-
-    /// Plans what a function is.
-    fn print_class(
-        &mut self,
-        class: FunctionClass,
-        adjustment: Adjustment,
-        flags: DemangleFlags,
-    ) -> Result<()> {
-        match adjustment {
-            Adjustment::NotThunk => {}
-            _ => self.say("[thunk]: ")?,
-        }
-        self.print_access(class.access, flags)?;
-        if flags.no_member_type {
-            return Ok(());
-        }
-        self.say_if(class.is_static && !class.is_global, "static ")?;
-        self.say_if(class.is_virtual, "virtual ")?;
-        self.say_if(class.is_extern_c, "extern \"C\" ")
-    }
-
-    /// Plans a number, and what stands after it.
-    fn say_offset(&mut self, number: Number, after: &'static str) -> Result<()> {
-        self.plan(Piece::Number(number))?;
-        self.say(after)
+        self.plan_all(&[Piece::Word(before), Piece::Text(text), Piece::Word(after)])
     }
 
     /// Plans how a thunk adjusts `this`.
-    fn print_adjustment(&mut self, adjustment: Adjustment) -> Result<()> {
+    fn plan_adjustment(&mut self, adjustment: Adjustment, flags: DemangleFlags) -> Result<()> {
         match adjustment {
-            Adjustment::NotThunk | Adjustment::Unsaid => Ok(()),
-            Adjustment::Static(offset) => {
-                self.say("`adjustor{")?;
-                self.say_offset(offset, "}'")
-            }
-            Adjustment::Virtual(field, offset) => {
-                self.say("`vtordisp{")?;
-                self.say_offset(field, ", ")?;
-                self.say_offset(offset, "}'")
-            }
-            Adjustment::VirtualBase(pointer, place, field, offset) => {
-                self.say("`vtordispex{")?;
-                self.say_offset(pointer, ", ")?;
-                self.say_offset(place, ", ")?;
-                self.say_offset(field, ", ")?;
-                self.say_offset(offset, "}'")
-            }
+            Adjustment::By(word, offsets) => self.plan_all(&[
+                Piece::Word(word),
+                Piece::List(offsets, 0, ", ", flags),
+                Piece::Word("}'"),
+            ]),
+            _ => Ok(()),
         }
     }
 
-    /// Plans the parts of a variable.
+    /// Prints a variable, or plans its parts.
     fn print_variable(
         &mut self,
         of_type: Option<usize>,
         access: Option<Access>,
-        name: Option<usize>,
+        name: usize,
         flags: DemangleFlags,
     ) -> Result<()> {
-        self.print_access(access, flags)?;
-        self.say_if(access.is_some() && !flags.no_member_type, "static ")?;
-        let printed = if flags.no_variable_type {
-            None
-        } else {
-            of_type
-        };
-        let Some(index) = printed else {
-            return self.say_whole(name, flags);
-        };
-        self.plan(Piece::Before(index, flags))?;
-        self.plan(Piece::Space)?;
-        self.say_whole(name, flags)?;
-        self.plan(Piece::After(index, flags))
+        let is_static = access.is_some() && !flags.no_member_type;
+        self.write(&[access_word(access, flags), word_if(is_static, "static ")])?;
+        match of_type {
+            Some(index) if !flags.no_variable_type => self.plan_all(&[
+                Piece::Before(index, flags),
+                Piece::Space,
+                Piece::Whole(name, flags),
+                Piece::After(index, flags),
+            ]),
+            _ => self.plan(Piece::Whole(name, flags)),
+        }
     }
 
-    /// Plans the dimensions of an array, of which 0 isn't written.
-    pub(crate) fn print_dimensions(&mut self, dimensions: Span) -> Result<()> {
-        for place in 0..dimensions.count {
-            self.say_if(place > 0, "][")?;
-            let index = self.tree.item(dimensions, place)?;
-            let Node::Number(size) = self.tree.node(index)? else {
-                return Err(Stop::Undecorated);
-            };
-            if size.magnitude != 0 {
-                self.plan(Piece::Number(size))?;
-            }
+    /// Prints a class's table, or plans its parts.
+    fn print_table(
+        &mut self,
+        qualifiers: Qualifiers,
+        target: Option<usize>,
+        name: usize,
+        flags: DemangleFlags,
+    ) -> Result<()> {
+        let is_qualified = qualifiers.is_const || qualifiers.is_volatile;
+        self.write(&[qualifiers.text(), word_if(is_qualified, " ")])?;
+        match target {
+            Some(target) => self.plan_all(&[
+                Piece::Whole(name, flags),
+                Piece::Word("{for `"),
+                Piece::Whole(target, flags),
+                Piece::Word("'}"),
+            ]),
+            None => self.plan(Piece::Whole(name, flags)),
         }
-        Ok(())
     }
 }

@@ -10,10 +10,10 @@ ghost use Rattle.msvc_demangler.specs.Pieces.{piece_text, whole_text};
 
 use crate::budget::Budget;
 use crate::flags::{DemangleFlags, FULL_TEXT};
-use crate::numbers::Number;
+use crate::numbers::{Number, unsigned};
 use crate::qualifiers::Qualifiers;
 use crate::stop::{Result, Stop};
-use crate::tree::{Node, Span, Tree};
+use crate::tree::{Node, Span, Tree, Type};
 use std::alloc::Global;
 
 /// What is to be printed next.
@@ -148,57 +148,30 @@ impl<'t> Printer<'t> {
         Ok(())
     }
 
-    /// Plans these bytes.
-    pub(crate) fn say(&mut self, word: &'static str) -> Result<()>
+    /// Plans pieces, after those that the piece at hand has planned.
+    pub(crate) fn plan_all(&mut self, pieces: &[Piece]) -> Result<()>
         ensures planned { OnOk result
-            (self.new.planned.items ≡ self.old.planned.items ++ Piece.Word word.entry ∷ []) }
+            (self.new.planned.items ≡ self.old.planned.items ++ pieces.now) }
         ensures printed { SamePrinted self.old self.new }
     {
-        self.plan(Piece::Word(word))
+        self.planned.extend_from_slice(pieces)?;
+        Ok(())
     }
 
-    /// Plans these bytes, if they are wanted.
-    pub(crate) fn say_if(&mut self, is_wanted: bool, word: &'static str) -> Result<()> {
-        if is_wanted {
-            return self.say(word);
+    /// Plans words, but for empty ones.
+    pub(crate) fn plan_words(&mut self, words: &[&'static str]) -> Result<()> {
+        for word in words {
+            if !word.is_empty() {
+                self.plan(Piece::Word(*word))?;
+            }
         }
         Ok(())
     }
 
-    /// Plans a number without a sign.
-    pub(crate) fn say_number(&mut self, magnitude: u64) -> Result<()> {
-        self.plan(Piece::Number(Number {
-            magnitude,
-            is_negative: false,
-        }))
-    }
-
-    /// Plans a list.
-    pub(crate) fn say_list(
-        &mut self,
-        list: Span,
-        between: &'static str,
-        flags: DemangleFlags,
-    ) -> Result<()> {
-        self.plan(Piece::List(list, 0, between, flags))
-    }
-
-    /// Plans qualifiers, with a space before the first where that is wanted.
-    pub(crate) fn say_qualifiers(&mut self, qualifiers: Qualifiers, is_spaced: bool) -> Result<()> {
-        let mut is_spaced = is_spaced;
-        if qualifiers.is_const {
-            self.say_if(is_spaced, " ")?;
-            self.say("const")?;
-            is_spaced = true;
-        }
-        if qualifiers.is_volatile {
-            self.say_if(is_spaced, " ")?;
-            self.say("volatile")?;
-            is_spaced = true;
-        }
-        if qualifiers.is_restrict {
-            self.say_if(is_spaced, " ")?;
-            self.say("__restrict")?;
+    /// Prints words: nothing is planned yet that stands before them.
+    pub(crate) fn write(&mut self, words: &[&str]) -> Result<()> {
+        for word in words {
+            self.push_bytes(word.as_bytes())?;
         }
         Ok(())
     }
@@ -220,24 +193,14 @@ impl<'t> Printer<'t> {
             Piece::Before(index, flags) => self.print_before(index, flags),
             Piece::After(index, flags) => self.print_after(index, flags),
             Piece::List(list, place, between, flags) => self.run_list(list, place, between, flags),
-            Piece::Space => {
-                if self.ends_in_word() {
-                    return self.push_bytes(b" ");
-                }
-                Ok(())
-            }
-            Piece::Ellipsis => {
-                if self.text.last() == Some(&b'(') {
-                    return self.push_bytes(b"...");
-                }
-                self.push_bytes(b", ...")
-            }
+            Piece::Space => self.push_bytes(self.space().as_bytes()),
+            Piece::Ellipsis => self.push_bytes(self.ellipsis().as_bytes()),
             Piece::Number(number) => self.push_number(number),
         }
     }
 
     /// Appends bytes.
-    fn push_bytes(&mut self, bytes: &[u8]) -> Result<()>
+    pub(crate) fn push_bytes(&mut self, bytes: &[u8]) -> Result<()>
         ensures text { OnOk result (self.new.text.items ≡ self.old.text.items ++ bytes.now) }
         ensures same { (self.new.planned.items ≡ self.old.planned.items)
             × (self.new.pieces.items ≡ self.old.pieces.items)
@@ -249,16 +212,34 @@ impl<'t> Printer<'t> {
 
     /// Appends a number.
     fn push_number(&mut self, number: Number) -> Result<()> {
-        let sign = if number.is_negative { "-" } else { "" };
-        let text = format!(in self.alloc; "{sign}{}", number.magnitude)?;
-        self.push_bytes(text.as_bytes())
+        if number.is_negative {
+            self.push_bytes(b"-")?;
+        }
+        let digits = format!(in self.alloc; "{}", number.magnitude)?;
+        self.push_bytes(digits.as_bytes())
     }
 
-    /// Whether the last byte is a letter, a digit or `>`.
-    fn ends_in_word(&self) -> bool {
+    /// Appends the size of a dimension of an array, of which 0 isn't written.
+    fn push_dimension(&mut self, size: u64) -> Result<()> {
+        if size == 0 {
+            return Ok(());
+        }
+        self.push_number(unsigned(size))
+    }
+
+    /// A space, if the last byte is a letter, a digit or `>`.
+    fn space(&self) -> &'static str {
         match self.text.last() {
-            Some(byte) => *byte == b'>' || byte.is_ascii_alphanumeric(),
-            None => false,
+            Some(b'>' | b'0'..=b'9' | b'A'..=b'Z' | b'a'..=b'z') => " ",
+            _ => "",
+        }
+    }
+
+    /// `...`, after a comma if there are parameters before it.
+    fn ellipsis(&self) -> &'static str {
+        match self.text.last() {
+            Some(b'(') => "...",
+            _ => ", ...",
         }
     }
 
@@ -274,11 +255,13 @@ impl<'t> Printer<'t> {
             return Ok(());
         }
         if place > 0 {
-            self.say(between)?;
+            self.push_bytes(between.as_bytes())?;
         }
-        let index = self.tree.item(list, place)?;
-        self.plan(Piece::Whole(index, flags))?;
-        self.plan(Piece::List(list, place + 1, between, flags))
+        let item = Piece::Whole(self.tree.item(list, place), flags);
+        if place + 1 == list.count {
+            return self.plan(item);
+        }
+        self.plan_all(&[item, Piece::List(list, place + 1, between, flags)])
     }
 
     /// Plans the parts of a node.
@@ -292,13 +275,14 @@ impl<'t> Printer<'t> {
             Node::Identifier(identifier, arguments) => {
                 self.print_identifier(identifier, arguments, flags)
             }
-            Node::Name(identifiers) => self.say_list(identifiers, "::", flags),
+            Node::Name(identifiers) => self.run_list(identifiers, 0, "::", flags),
+            Node::Type(Type::Basic(_) | Type::Tagged(..), _) => self.print_before(index, flags),
             Node::Type(..) => {
-                self.plan(Piece::Before(index, flags))?;
-                self.plan(Piece::After(index, flags))
+                self.plan_all(&[Piece::Before(index, flags), Piece::After(index, flags)])
             }
             Node::Parameters(_) => Err(Stop::Undecorated),
-            Node::Number(number) => self.plan(Piece::Number(number)),
+            Node::Number(number) => self.push_number(number),
+            Node::Dimension(size) => self.push_dimension(size),
             Node::Reference(sign, symbol, offsets) => {
                 self.print_reference(sign, symbol, offsets, flags)
             }

@@ -1,7 +1,7 @@
 //! Qualifiers of types.
 
 /// Qualifiers of a type.
-#[derive(Clone, Copy, Debug, PartialEq, Eq)]
+#[derive(Clone, Copy)]
 pub(crate) struct Qualifiers {
     /// `const`.
     pub(crate) is_const: bool,
@@ -29,6 +29,34 @@ impl Qualifiers {
             is_volatile: self.is_volatile || other.is_volatile,
             is_restrict: self.is_restrict || other.is_restrict,
             is_unaligned: self.is_unaligned || other.is_unaligned,
+        }
+    }
+
+    /// What is printed of them before other words; `__unaligned` isn't.
+    pub(crate) fn text(self) -> &'static str {
+        match (self.is_const, self.is_volatile, self.is_restrict) {
+            (false, false, false) => "",
+            (false, false, true) => "__restrict",
+            (false, true, false) => "volatile",
+            (false, true, true) => "volatile __restrict",
+            (true, false, false) => "const",
+            (true, false, true) => "const __restrict",
+            (true, true, false) => "const volatile",
+            (true, true, true) => "const volatile __restrict",
+        }
+    }
+
+    /// The same after a space, if there are any.
+    pub(crate) fn spaced_text(self) -> &'static str {
+        match (self.is_const, self.is_volatile, self.is_restrict) {
+            (false, false, false) => "",
+            (false, false, true) => " __restrict",
+            (false, true, false) => " volatile",
+            (false, true, true) => " volatile __restrict",
+            (true, false, false) => " const",
+            (true, false, true) => " const __restrict",
+            (true, true, false) => " const volatile",
+            (true, true, true) => " const volatile __restrict",
         }
     }
 }

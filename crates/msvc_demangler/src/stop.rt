@@ -6,7 +6,7 @@ use std::alloc::{AllocError, AllocFailed};
 pub(crate) type Result<T> = std::result::Result<T, Stop>;
 
 /// What ends the reading of a name.
-#[derive(Clone, Copy, Debug)]
+#[derive(Clone, Copy)]
 pub(crate) enum Stop {
     /// The name isn't decorated, or its text passes a limit.
     Undecorated,

@@ -4,7 +4,6 @@ ghost use Rattle.std.specs.Prelude.{◌≡◌, IsTrue, OnOk};
 ghost use Rattle.msvc_demangler.specs.Literals.{HandsOn, is_literal, literal_name};
 
 use crate::parser::Parser;
-use crate::qualifiers::Qualifiers;
 use crate::stop::{Result, Stop};
 use crate::tasks::{Mode, Place, Task};
 use crate::tree::{Identifier, Node, Span, Symbol, Type};
@@ -20,7 +19,7 @@ impl<'n> Parser<'n> {
             Task::Encoding => self.start_encoding(),
             Task::Variable(access) => self.read_variable(access),
             Task::VariableEnd(access) => {
-                let index = self.pop()?;
+                let index = self.pop();
                 let symbol = Symbol::Variable(Some(index), access);
                 self.give(Node::Symbol(symbol, None))
             }
@@ -40,8 +39,7 @@ impl<'n> Parser<'n> {
         match rest {
             [b'.', after @ ..] => {
                 self.rest = after;
-                self.plan(Task::Type(Mode::Returned))?;
-                self.plan(Task::TypeName)
+                self.plan_all(&[Task::Type(Mode::Returned), Task::TypeName])
             }
             [b'?', b'?', b'@', ..] => self.read_digest(),
             [b'?', after @ ..] => {
@@ -61,23 +59,24 @@ impl<'n> Parser<'n> {
             start: digest.start.saturating_sub(3),
             count: digest.count.saturating_add(4).saturating_add(located),
         };
-        let name = self.name_alone(Identifier::Named(text))?;
-        self.give(Node::Symbol(Symbol::Plain, Some(name)))
+        self.give_named(Symbol::Plain, Identifier::Named(text))
     }
 
-    /// Adds a qualified name that has one identifier.
-    pub(crate) fn name_alone(&mut self, identifier: Identifier) -> Result<usize> {
-        let index = self.tree.add(Node::Identifier(identifier, None))?;
-        let list = self.tree.add_list(&[index])?;
-        self.tree.add(Node::Name(list))
+    /// Hands on a symbol whose name has one identifier.
+    pub(crate) fn give_named(&mut self, symbol: Symbol, identifier: Identifier) -> Result<()> {
+        let name = self.tree.add_name(identifier)?;
+        self.give(Node::Symbol(symbol, Some(name)))
     }
 
     /// Reads the name of a variable or function, and what follows it.
     pub(crate) fn start_declared(&mut self) -> Result<()> {
-        self.plan_name(Place::Symbol)?;
-        self.plan(Task::Structor)?;
-        self.plan(Task::Encoding)?;
-        self.plan(Task::Declared)
+        self.plan_all(&[
+            Task::Identifier(Place::Symbol),
+            Task::Scopes(1),
+            Task::Structor,
+            Task::Encoding,
+            Task::Declared,
+        ])
     }
 
     /// Reads what follows the name of a symbol: a variable or a function.
@@ -86,8 +85,7 @@ impl<'n> Parser<'n> {
         if let [code, after @ ..] = rest {
             if let Some(access) = storage_of(*code) {
                 self.rest = after;
-                self.plan(Task::Type(Mode::Bare))?;
-                return self.plan(Task::Variable(access));
+                return self.plan_all(&[Task::Type(Mode::Bare), Task::Variable(access)]);
             }
         }
         self.plan(Task::Function)
@@ -95,85 +93,60 @@ impl<'n> Parser<'n> {
 
     /// Reads the qualifiers of a variable.
     fn read_variable(&mut self, access: Option<Access>) -> Result<()> {
-        let index = self.top()?;
-        let (form, qualifiers) = self.tree.type_of(index)?;
-        let Type::Pointer(_, pointee, class) = form else {
-            let qualifiers = self.take_qualifiers()?;
-            self.tree.set(index, Node::Type(form, qualifiers))?;
-            return self.plan(Task::VariableEnd(access));
-        };
-        let qualifiers = qualifiers.with(self.take_extended());
-        self.tree.set(index, Node::Type(form, qualifiers))?;
-        self.qualify_pointee(pointee)?;
-        if class.is_some() {
-            self.plan_name(Place::Type)?;
-            self.plan(Task::Forget)?;
+        let index = self.last();
+        let (form, _) = self.tree.type_of(index)?;
+        if let Type::Pointer(_, pointee, class) = form {
+            let qualifiers = self.take_extended();
+            self.tree.qualify(index, qualifiers)?;
+            return self.read_pointer(pointee, class.is_some(), Task::VariableEnd(access));
         }
+        let qualifiers = self.take_qualifiers()?;
+        self.tree.set_qualifiers(index, qualifiers)?;
         self.plan(Task::VariableEnd(access))
     }
 
-    /// Reads further qualifiers of what a variable points to.
-    fn qualify_pointee(&mut self, pointee: usize) -> Result<()> {
-        let more: Qualifiers = self.take_qualifiers()?;
-        let (form, qualifiers) = self.tree.type_of(pointee)?;
-        self.tree
-            .set(pointee, Node::Type(form, qualifiers.with(more)))
+    /// Reads further qualifiers of what a variable points to, and the class that has it.
+    fn read_pointer(&mut self, pointee: usize, is_member: bool, end: Task) -> Result<()> {
+        let qualifiers = self.take_qualifiers()?;
+        self.tree.qualify(pointee, qualifiers)?;
+        if is_member {
+            let name = Task::Identifier(Place::Type);
+            return self.plan_all(&[name, Task::Scopes(1), Task::Forget, end]);
+        }
+        self.plan(end)
     }
 
-    /// Gives a symbol its name, and an operator that converts the type that it converts to.
+    /// Gives a symbol its name.
     fn end_declared(&mut self) -> Result<()> {
-        let index = self.pop()?;
-        let name = self.pop()?;
-        let (symbol, _) = self.tree.symbol_of(index)?;
-        self.tree.set(index, Node::Symbol(symbol, Some(name)))?;
-        self.push(index)?;
-        let identifiers = self.tree.name_of(name)?;
-        let last = self.tree.item_before(identifiers, 0)?;
-        match self.tree.identifier_of(last)? {
-            (Identifier::Conversion(_), arguments) => {
-                let target = self.converted_to(symbol)?;
-                let settled = Identifier::Conversion(Some(target));
-                self.tree.set(last, Node::Identifier(settled, arguments))
-            }
-            _ => Ok(()),
-        }
-    }
-
-    /// The type that a function returns.
-    fn converted_to(&self, symbol: Symbol) -> Result<usize> {
-        let Symbol::Function(signature, _, _) = symbol else {
-            return Err(Stop::Undecorated);
-        };
-        match self.tree.type_of(signature)? {
-            (Type::Function(signature), _) => match signature.returned {
-                Some(returned) => Ok(returned),
-                None => Err(Stop::Undecorated),
-            },
-            _ => Err(Stop::Undecorated),
-        }
+        let index = self.pop();
+        let name = self.pop();
+        self.tree.declare(index, name)?;
+        self.push(index)
     }
 
     /// Reads what follows a variable or function whose initializer or destructor this is.
     fn end_dynamic(&mut self, text: &'static str, is_member: bool) -> Result<()> {
-        let index = self.pop()?;
-        let (symbol, name) = self.tree.symbol_of(index)?;
-        if let Symbol::Variable(..) = symbol {
-            if !self.take(b"@") || is_member && !self.take(b"@") {
-                return Err(Stop::Undecorated);
+        let index = self.pop();
+        match self.tree.symbol_of(index)? {
+            (Symbol::Variable(..), _) => {
+                if !self.take(b"@") || is_member && !self.take(b"@") {
+                    return Err(Stop::Undecorated);
+                }
+                self.start_initializer(Identifier::Initializer(text, index))
             }
-            let name = self.name_alone(Identifier::Initializer(text, index))?;
-            self.push(name)?;
-            self.plan(Task::Function)?;
-            return self.plan(Task::Declared);
+            (symbol, Some(name)) if !is_member => {
+                let name = self.tree.add_name(Identifier::Initializer(text, name))?;
+                self.tree.set(index, Node::Symbol(symbol, Some(name)));
+                self.push(index)
+            }
+            _ => Err(Stop::Undecorated),
         }
-        let Some(of_function) = name else {
-            return Err(Stop::Undecorated);
-        };
-        if is_member {
-            return Err(Stop::Undecorated);
-        }
-        let name = self.name_alone(Identifier::Initializer(text, of_function))?;
-        self.tree.set(index, Node::Symbol(symbol, Some(name)))?;
-        self.push(index)
+    }
+
+    /// Reads the function that an initializer or destructor of a variable is.
+    fn start_initializer(&mut self, identifier: Identifier) -> Result<()> {
+        let name = self.tree.add_name(identifier)?;
+        self.push(name)?;
+        self.plan_all(&[Task::Function, Task::Declared])
     }
 }

@@ -6,7 +6,7 @@ use crate::tree::{Adjustment, FunctionClass};
 use crate::words::{Access, Affinity};
 
 /// Where an identifier stands.
-#[derive(Clone, Copy, Debug, PartialEq, Eq)]
+#[derive(Clone, Copy)]
 pub(crate) enum Place {
     /// It names a symbol.
     Symbol,
@@ -17,7 +17,7 @@ pub(crate) enum Place {
 }
 
 /// Where the qualifiers of a type stand.
-#[derive(Clone, Copy, Debug, PartialEq, Eq)]
+#[derive(Clone, Copy)]
 pub(crate) enum Mode {
     /// Nowhere, or after it.
     Bare,

@@ -11,6 +11,12 @@ use crate::stop::{Result, Stop};
 use crate::words::{Access, Affinity};
 use std::alloc::{AllocError, Global};
 
+/// An index that no node has.
+pub(crate) const NO_NODE: usize = usize::MAX;
+
+/// A list of no nodes.
+pub(crate) const NO_NODES: Span = Span { start: 0, count: 0 };
+
 /// A run of bytes of the texts, or of indices of the lists.
 #[derive(Clone, Copy)]
 pub(crate) struct Span {
@@ -93,12 +99,8 @@ pub(crate) enum Adjustment {
     NotThunk,
     /// A thunk that says nothing of it.
     Unsaid,
-    /// By an offset.
-    Static(Number),
-    /// By the offset of a `vtordisp` field, and an offset.
-    Virtual(Number, Number),
-    /// By the offsets of a pointer to a table, in it, of a `vtordisp` field, and an offset.
-    VirtualBase(Number, Number, Number, Number),
+    /// By offsets, after these bytes.
+    By(&'static str, Span),
 }
 
 /// What kind of function a symbol is.
@@ -144,6 +146,8 @@ pub(crate) enum Node {
     Parameters(Parameters),
     /// A number.
     Number(Number),
+    /// The size of a dimension of an array, which isn't written if it is 0.
+    Dimension(u64),
     /// A template argument that names a symbol: what stands before it, the symbol, and offsets.
     Reference(&'static str, Option<usize>, Span),
     /// A symbol, and its name.
@@ -203,16 +207,11 @@ impl Tree {
         }
     }
 
-    /// Puts a node in the place of the one of an index.
-    ///
-    /// # Errors
-    /// There is none.
-    pub(crate) fn set(&mut self, index: usize, node: Node) -> Result<()> {
-        if index >= self.nodes.len() {
-            return Err(Stop::Undecorated);
+    /// Puts a node in the place of the one of an index, if there is one.
+    pub(crate) fn set(&mut self, index: usize, node: Node) {
+        if index < self.nodes.len() {
+            self.nodes[index] = node;
         }
-        self.nodes[index] = node;
-        Ok(())
     }
 
     /// The type of an index, and its qualifiers.
@@ -226,13 +225,25 @@ impl Tree {
         }
     }
 
-    /// The qualified name of an index.
+    /// The identifier of a qualified name that stands before so many at its end. No node's index if
+    /// there is none.
+    pub(crate) fn identifier_before(&self, name: usize, after: usize) -> usize {
+        match self.nodes.get(name) {
+            Some(Node::Name(list)) if after < list.count => self.item(
+                *list,
+                list.count - after - 1,
+            ),
+            _ => NO_NODE,
+        }
+    }
+
+    /// The parameters of an index.
     ///
     /// # Errors
-    /// There is none.
-    pub(crate) fn name_of(&self, index: usize) -> Result<Span> {
+    /// There are none.
+    pub(crate) fn parameters_of(&self, index: usize) -> Result<Parameters> {
         match self.node(index)? {
-            Node::Name(identifiers) => Ok(identifiers),
+            Node::Parameters(parameters) => Ok(parameters),
             _ => Err(Stop::Undecorated),
         }
     }
@@ -259,35 +270,127 @@ impl Tree {
         }
     }
 
-    /// The index of the node at a place of a list, counted from 0.
-    ///
-    /// # Errors
-    /// The list has no such place.
-    pub(crate) fn item(&self, list: Span, place: usize) -> Result<usize> {
-        let Some(index) = list.start.checked_add(place) else {
-            return Err(Stop::Undecorated);
-        };
+    /// The index of the node at a place of a list, counted from 0. No node's index if there is no
+    /// such place.
+    pub(crate) fn item(&self, list: Span, place: usize) -> usize {
         if place >= list.count {
-            return Err(Stop::Undecorated);
+            return NO_NODE;
         }
-        match self.lists.get(index) {
-            Some(node) => Ok(*node),
-            None => Err(Stop::Undecorated),
+        match self.lists.get(list.start.saturating_add(place)) {
+            Some(node) => *node,
+            None => NO_NODE,
         }
     }
 
-    /// The index of the last node of a list but for `after`.
+    /// Gives a type qualifiers in the place of its own.
     ///
     /// # Errors
-    /// The list has no such place.
-    pub(crate) fn item_before(&self, list: Span, after: usize) -> Result<usize> {
-        let Some(place) = list.count.checked_sub(after) else {
+    /// There is none.
+    pub(crate) fn set_qualifiers(&mut self, index: usize, qualifiers: Qualifiers) -> Result<()> {
+        let (form, _) = self.type_of(index)?;
+        self.set(index, Node::Type(form, qualifiers));
+        Ok(())
+    }
+
+    /// Gives a type qualifiers beside its own.
+    ///
+    /// # Errors
+    /// There is none.
+    pub(crate) fn qualify(&mut self, index: usize, more: Qualifiers) -> Result<()> {
+        let (form, qualifiers) = self.type_of(index)?;
+        self.set(index, Node::Type(form, qualifiers.with(more)));
+        Ok(())
+    }
+
+    /// Gives a constructor or destructor at the end of a name the identifier before it, which names
+    /// its class.
+    ///
+    /// # Errors
+    /// There is no name, or no identifier before.
+    pub(crate) fn settle_structor(&mut self, name: usize) -> Result<()> {
+        let last = self.identifier_before(name, 0);
+        let (identifier, arguments) = self.identifier_of(last)?;
+        let Identifier::Structor(is_destructor, _) = identifier else {
+            return Ok(());
+        };
+        let class = self.identifier_before(name, 1);
+        if class == NO_NODE {
+            return Err(Stop::Undecorated);
+        }
+        let settled = Identifier::Structor(is_destructor, Some(class));
+        self.set(last, Node::Identifier(settled, arguments));
+        Ok(())
+    }
+
+    /// Gives a symbol its name, and an operator that converts the type that it converts to.
+    ///
+    /// # Errors
+    /// There is no symbol, or no name; what converts is no function that returns a type.
+    pub(crate) fn declare(&mut self, index: usize, name: usize) -> Result<()> {
+        let (symbol, _) = self.symbol_of(index)?;
+        self.set(index, Node::Symbol(symbol, Some(name)));
+        let last = self.identifier_before(name, 0);
+        let (identifier, arguments) = self.identifier_of(last)?;
+        let Identifier::Conversion(_) = identifier else {
+            return Ok(());
+        };
+        let Some(target) = self.returned_by(symbol) else {
             return Err(Stop::Undecorated);
         };
-        let Some(place) = place.checked_sub(1) else {
+        let settled = Identifier::Conversion(Some(target));
+        self.set(last, Node::Identifier(settled, arguments));
+        Ok(())
+    }
+
+    /// The type that a function returns, if it is one.
+    fn returned_by(&self, symbol: Symbol) -> Option<usize> {
+        let Symbol::Function(signature, _, _) = symbol else {
+            return None;
+        };
+        match self.nodes.get(signature) {
+            Some(Node::Type(Type::Function(signature), _)) => signature.returned,
+            _ => None,
+        }
+    }
+
+    /// Gives an identifier template arguments.
+    ///
+    /// # Errors
+    /// There is none.
+    pub(crate) fn set_arguments(&mut self, index: usize, arguments: Span) -> Result<()> {
+        let (identifier, _) = self.identifier_of(index)?;
+        self.set(index, Node::Identifier(identifier, Some(arguments)));
+        Ok(())
+    }
+
+    /// Gives the guard at the end of a name the number of its scope.
+    ///
+    /// # Errors
+    /// There is no guard.
+    pub(crate) fn set_guard(&mut self, name: usize, scope: u64) -> Result<()> {
+        let last = self.identifier_before(name, 0);
+        let (identifier, _) = self.identifier_of(last)?;
+        let Identifier::Guard(text, _) = identifier else {
             return Err(Stop::Undecorated);
         };
-        self.item(list, place)
+        self.set(last, Node::Identifier(Identifier::Guard(text, scope), None));
+        Ok(())
+    }
+
+    /// Gives the last identifier of a name another form, without template arguments.
+    pub(crate) fn set_last(&mut self, name: usize, identifier: Identifier) {
+        let last = self.identifier_before(name, 0);
+        self.set(last, Node::Identifier(identifier, None));
+    }
+
+    /// Adds a qualified name that has one identifier.
+    ///
+    /// # Errors
+    /// Memory ran out.
+    pub(crate) fn add_name(&mut self, identifier: Identifier) -> Result<usize> {
+        let index = self.add(Node::Identifier(identifier, None))?;
+        let list = self.add_list(&[index])?;
+        self.add(Node::Name(list))
     }
 
     /// Adds a list.
@@ -346,6 +449,21 @@ impl Tree {
         Ok(Span {
             start,
             count: bytes.len(),
+        })
+    }
+
+    /// Adds texts, one after another.
+    ///
+    /// # Errors
+    /// Memory ran out.
+    pub(crate) fn add_texts(&mut self, parts: &[&[u8]]) -> Result<Span> {
+        let start = self.texts.len();
+        for part in parts {
+            self.texts.extend_from_slice(*part)?;
+        }
+        Ok(Span {
+            start,
+            count: self.texts.len().saturating_sub(start),
         })
     }
 }

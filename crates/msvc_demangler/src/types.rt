@@ -2,9 +2,9 @@
 
 ghost use Rattle.std.specs.Prelude.{◌≡◌, option_map};
 ghost use Rattle.msvc_demangler.specs.Words.{basic_type_of as split_basic_type_of};
+ghost use Rattle.msvc_demangler.specs.Words.{before as before_of};
 
 use crate::letters::extended_qualifiers;
-use crate::numbers::Number;
 use crate::parser::Parser;
 use crate::qualifiers::{Qualifiers, UNQUALIFIED};
 use crate::stop::{Result, Stop};
@@ -26,6 +26,17 @@ fn leads_to_member(rest: &[u8]) -> Option<bool> {
     }
 }
 
+/// A word, if there is one, and what comes after it.
+fn before<'t>(word: Option<&'static str>, after: &'t [u8]) -> Option<(&'static str, &'t [u8])>
+    ensures { option_map (λ r. (r.0.now, r.1.now)) result
+        ≡ before_of after.entry.now (option_map (λ w. w.now) word.entry) }
+{
+    match word {
+        Some(word) => Some((word, after)),
+        None => None,
+    }
+}
+
 /// The basic type that a text begins with, and what comes after.
 #[tactic(auto, unfolding(crate::specs::Words::basic_type_of))]
 fn split_basic_type(rest: &[u8]) -> Option<(&'static str, &[u8])>
@@ -33,8 +44,8 @@ fn split_basic_type(rest: &[u8]) -> Option<(&'static str, &[u8])>
 {
     match rest {
         [b'$', b'$', b'T', after @ ..] => Some(("std::nullptr_t", after)),
-        [b'_', code, after @ ..] => Some((later_basic_type_of(*code)?, after)),
-        [code, after @ ..] => Some((basic_type_of(*code)?, after)),
+        [b'_', code, after @ ..] => before(later_basic_type_of(*code), after),
+        [code, after @ ..] => before(basic_type_of(*code), after),
         [] => None,
     }
 }
@@ -44,30 +55,26 @@ impl<'n> Parser<'n> {
     pub(crate) fn run_type(&mut self, task: Task) -> Result<()> {
         match task {
             Task::Type(mode) => self.start_type(mode),
-            Task::Qualify(qualifiers) => self.qualify(qualifiers),
+            Task::Qualify(qualifiers) => {
+                let index = self.last();
+                self.tree.qualify(index, qualifiers)
+            }
             Task::Tagged(keyword) => {
-                let name = self.pop()?;
+                let name = self.pop();
                 self.give_type(Type::Tagged(keyword, name), UNQUALIFIED)
             }
             Task::Pointer(affinity, qualifiers) => {
-                let pointee = self.pop()?;
+                let pointee = self.pop();
                 self.give_type(Type::Pointer(affinity, pointee, None), qualifiers)
             }
             Task::MethodPointer(qualifiers) => self.end_member_pointer(qualifiers),
             Task::MemberPointer(qualifiers, of_member) => {
-                let member = self.top()?;
-                let (form, _) = self.tree.type_of(member)?;
-                self.tree.set(member, Node::Type(form, of_member))?;
+                let member = self.last();
+                self.tree.set_qualifiers(member, of_member)?;
                 self.end_member_pointer(qualifiers)
             }
             Task::Array(rank, qualifiers) => self.end_array(rank, qualifiers),
-            _ => {
-                let identifier = self.pop()?;
-                if !self.take(b"@") {
-                    return Err(Stop::Undecorated);
-                }
-                self.give_type(Type::Custom(identifier), UNQUALIFIED)
-            }
+            _ => self.end_custom(),
         }
     }
 
@@ -91,53 +98,44 @@ impl<'n> Parser<'n> {
         self.plan(Task::Qualify(qualifiers))
     }
 
-    /// Adds qualifiers to the type that was handed on last.
-    fn qualify(&mut self, more: Qualifiers) -> Result<()> {
-        let index = self.top()?;
-        let (form, qualifiers) = self.tree.type_of(index)?;
-        self.tree
-            .set(index, Node::Type(form, qualifiers.with(more)))
+    /// Makes a type that is named alone.
+    fn end_custom(&mut self) -> Result<()> {
+        let identifier = self.pop();
+        if !self.take(b"@") {
+            return Err(Stop::Undecorated);
+        }
+        self.give_type(Type::Custom(identifier), UNQUALIFIED)
     }
 
     /// Reads a type without qualifiers before it.
     fn start_bare_type(&mut self) -> Result<()> {
-        let rest = self.rest;
-        match rest {
-            [code @ b'T'..=b'W', after @ ..] => {
-                self.rest = after;
-                self.start_tagged(*code)
-            }
-            [code @ (b'A' | b'P'..=b'S'), after @ ..] => {
-                self.rest = after;
-                self.start_pointer(*code)
-            }
-            [b'$', b'$', b'Q', after @ ..] => {
-                self.rest = after;
-                self.start_plain_pointer(Affinity::RvalueReference, UNQUALIFIED)
-            }
-            [b'Y', after @ ..] => {
-                self.rest = after;
-                self.start_array()
-            }
-            [b'?', after @ ..] => {
-                self.rest = after;
-                self.plan(Task::Identifier(Place::Type))?;
-                self.plan(Task::Custom)
-            }
-            _ => self.start_function_or_basic(),
+        let text = self.rest;
+        let code = self.take_byte()?;
+        match code {
+            b'T'..=b'W' => self.start_tagged(code),
+            b'A' | b'P'..=b'S' => self.start_pointer(code),
+            b'Y' => self.start_array(),
+            b'?' => self.plan_all(&[Task::Identifier(Place::Type), Task::Custom]),
+            b'$' => self.start_marked_type(text),
+            _ => self.read_basic_type(text),
         }
     }
 
-    /// Reads a function's type, or a basic type.
-    fn start_function_or_basic(&mut self) -> Result<()> {
-        if self.take(b"$$A8@@") {
-            return self.plan(Task::Signature(true));
+    /// Reads a type after `$`, with which a text begins.
+    fn start_marked_type(&mut self, text: &'n [u8]) -> Result<()> {
+        if self.take(b"$Q") {
+            return self.start_plain_pointer(Affinity::RvalueReference, UNQUALIFIED);
         }
-        if self.take(b"$$A6") {
-            return self.plan(Task::Signature(false));
+        let has_this = self.take(b"$A8@@");
+        if has_this || self.take(b"$A6") {
+            return self.plan(Task::Signature(has_this));
         }
-        let rest = self.rest;
-        match split_basic_type(rest) {
+        self.read_basic_type(text)
+    }
+
+    /// Reads a basic type, with which a text begins.
+    fn read_basic_type(&mut self, text: &'n [u8]) -> Result<()> {
+        match split_basic_type(text) {
             Some((name, after)) => {
                 self.rest = after;
                 self.give_type(Type::Basic(name), UNQUALIFIED)
@@ -154,8 +152,11 @@ impl<'n> Parser<'n> {
         if code == b'W' && !self.take(b"4") {
             return Err(Stop::Undecorated);
         }
-        self.plan_name(Place::Type)?;
-        self.plan(Task::Tagged(keyword))
+        self.plan_all(&[
+            Task::Identifier(Place::Type),
+            Task::Scopes(1),
+            Task::Tagged(keyword),
+        ])
     }
 
     /// Reads a pointer or an lvalue reference.
@@ -163,7 +164,7 @@ impl<'n> Parser<'n> {
         let Some((affinity, qualifiers)) = pointer_of(code) else {
             return Err(Stop::Undecorated);
         };
-        if affinity == Affinity::Reference {
+        if let Affinity::Reference = affinity {
             return self.start_plain_pointer(affinity, qualifiers);
         }
         match leads_to_member(self.rest) {
@@ -175,33 +176,33 @@ impl<'n> Parser<'n> {
 
     /// Reads the pointee of what leads to no member.
     fn start_plain_pointer(&mut self, affinity: Affinity, qualifiers: Qualifiers) -> Result<()> {
-        if self.take(b"6") {
-            self.plan(Task::Signature(false))?;
-            return self.plan(Task::Pointer(affinity, qualifiers));
-        }
-        let qualifiers = qualifiers.with(self.take_extended());
-        self.plan(Task::Type(Mode::Qualified))?;
-        self.plan(Task::Pointer(affinity, qualifiers))
+        let (pointee, extended) = if self.take(b"6") {
+            (Task::Signature(false), UNQUALIFIED)
+        } else {
+            (Task::Type(Mode::Qualified), self.take_extended())
+        };
+        self.plan_all(&[pointee, Task::Pointer(affinity, qualifiers.with(extended))])
     }
 
     /// Reads the class and the pointee of a pointer to a member.
     fn start_member_pointer(&mut self, qualifiers: Qualifiers) -> Result<()> {
         let qualifiers = qualifiers.with(self.take_extended());
-        if self.take(b"8") {
-            self.plan_name(Place::Type)?;
-            self.plan(Task::Signature(true))?;
-            return self.plan(Task::MethodPointer(qualifiers));
-        }
-        let of_member = self.take_qualifiers()?;
-        self.plan_name(Place::Type)?;
-        self.plan(Task::Type(Mode::Bare))?;
-        self.plan(Task::MemberPointer(qualifiers, of_member))
+        let (member, end) = if self.take(b"8") {
+            (Task::Signature(true), Task::MethodPointer(qualifiers))
+        } else {
+            let of_member = self.take_qualifiers()?;
+            (
+                Task::Type(Mode::Bare),
+                Task::MemberPointer(qualifiers, of_member),
+            )
+        };
+        self.plan_all(&[Task::Identifier(Place::Type), Task::Scopes(1), member, end])
     }
 
     /// Makes a pointer to a member.
     fn end_member_pointer(&mut self, qualifiers: Qualifiers) -> Result<()> {
-        let member = self.pop()?;
-        let class = self.pop()?;
+        let member = self.pop();
+        let class = self.pop();
         let form = Type::Pointer(Affinity::Pointer, member, Some(class));
         self.give_type(form, qualifiers)
     }
@@ -215,23 +216,18 @@ impl<'n> Parser<'n> {
         let mut read = 0usize;
         for _ in 0..rank {
             let size = self.take_unsigned()?;
-            self.give(Node::Number(Number {
-                magnitude: size,
-                is_negative: false,
-            }))?;
+            self.give(Node::Dimension(size))?;
             read = read.saturating_add(1);
         }
-        let qualifiers = if self.take(b"$$C") {
-            self.take_array_qualifiers()?
-        } else {
-            UNQUALIFIED
-        };
-        self.plan(Task::Type(Mode::Bare))?;
-        self.plan(Task::Array(read, qualifiers))
+        let qualifiers = self.take_array_qualifiers()?;
+        self.plan_all(&[Task::Type(Mode::Bare), Task::Array(read, qualifiers)])
     }
 
     /// Reads the qualifiers of an array, which is no member.
     fn take_array_qualifiers(&mut self) -> Result<Qualifiers> {
+        if !self.take(b"$$C") {
+            return Ok(UNQUALIFIED);
+        }
         if let [b'Q'..=b'T', ..] = self.rest {
             return Err(Stop::Undecorated);
         }
@@ -240,7 +236,7 @@ impl<'n> Parser<'n> {
 
     /// Makes an array.
     fn end_array(&mut self, rank: usize, qualifiers: Qualifiers) -> Result<()> {
-        let element = self.pop()?;
+        let element = self.pop();
         let dimensions = self.pop_list(rank)?;
         self.give_type(Type::Array(dimensions, element), qualifiers)
     }

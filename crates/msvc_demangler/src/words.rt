@@ -9,7 +9,7 @@ use crate::letters::qualified;
 use crate::qualifiers::Qualifiers;
 
 /// Who may name a member.
-#[derive(Clone, Copy, Debug, PartialEq, Eq)]
+#[derive(Clone, Copy)]
 pub(crate) enum Access {
     /// The class alone.
     Private,
@@ -33,7 +33,7 @@ impl Access {
 }
 
 /// How a type leads to another.
-#[derive(Clone, Copy, Debug, PartialEq, Eq)]
+#[derive(Clone, Copy)]
 pub(crate) enum Affinity {
     /// A pointer.
     Pointer,
@@ -54,6 +54,11 @@ impl Affinity {
             Affinity::RvalueReference => "&&",
         }
     }
+}
+
+/// A word that is wanted, or an empty one.
+pub(crate) fn word_if(is_wanted: bool, word: &'static str) -> &'static str {
+    if is_wanted { word } else { "" }
 }
 
 /// The pointer or reference that a letter stands for, with its own qualifiers.
