@@ -50,11 +50,13 @@ abbrev pub IsEnd : Table → Option ℕ → Type 0
 IsEnd t (Some end) = end ≡ past_list t
 IsEnd t None = Unit {0}
 
--- what a finder stores of its table: places, with room for those of all blocks, and the end
-pub record IsKeptOfTable (t : Table) (places : List ℕ) (blocks : ℕ) (end : Option ℕ) : Type 0 where
+-- what a finder stores of its table: the places of its known blocks, with room for those of all
+-- blocks, and the end
+pub record IsKeptOfTable (t : Table) (places : List ℕ) (capacity blocks : ℕ) (end : Option ℕ) :
+    Type 0 where
   pub some : 1 ≤ blocks
-  pub room : length places ≡ length t.bytes / 32 + 1
-  pub within : blocks ≤ length places
+  pub room : length t.bytes / 32 + 1 ≤ capacity
+  pub each : length places ≡ blocks
   pub known : ArePlaces t places blocks
   pub right : IsEnd t end
 

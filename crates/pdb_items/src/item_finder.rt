@@ -20,6 +20,7 @@ use std::marker::{Model, PhantomData};
 
 /// A finder of items by their indices. It knows the places of blocks of eight indices, of the first
 /// at once and of each further one from an iterator that is shown to it as it goes over the table.
+/// Room for all of them is taken at once, but no byte of it is written before its block is known.
 #[derive(Drop)]
 pub struct ItemFinder<'t, I> {
     header: Header,
@@ -31,7 +32,7 @@ pub struct ItemFinder<'t, I> {
 }
 
 impl<'t, I> Model for ItemFinder<'t, I> {
-    ghost use Rattle.std.specs.Prelude.{is_some};
+    ghost use Rattle.std.specs.Prelude.{is_some, vec_capacity};
     ghost use Rattle.pdb_items.specs.Items.{table_in};
     ghost use Rattle.pdb_items.specs.IteratorAndFinder.{Finding};
     ghost use Rattle.pdb_items.specs.KeptPlaces.{IsKeptOfTable};
@@ -45,7 +46,7 @@ impl<'t, I> Model for ItemFinder<'t, I> {
     } };
 
     ghost invariant = { λ f. IsKeptOfTable (table_in f.header f.items.now) f.places.items
-        f.blocks f.end };
+        (vec_capacity f.places) f.blocks f.end };
 }
 
 impl<'t, I: ItemIndex> ItemFinder<'t, I> {
@@ -55,7 +56,8 @@ impl<'t, I: ItemIndex> ItemFinder<'t, I> {
         ensures fresh { IfOk result (λ f. f ≡ fresh_finding (table_in header items.now)) }
         ensures memory { IsOkUnless result Error.OutOfMemory }
     {
-        let places = vec![in alloc; 0usize; items.len() / 32 + 1]?;
+        let mut places = Vec::with_capacity(alloc, items.len() / 32 + 1)?;
+        places.push_reserved(0usize);
         Ok(ItemFinder {
             header,
             items,
@@ -179,7 +181,7 @@ impl<'t, I: ItemIndex> ItemFinder<'t, I> {
         requires { IsPlaceAt self.old.table (first_unknown self.old) place }
         ensures { self.new ≡ record self.old { blocks = self.old.blocks + 1 } }
     {
-        self.places[self.blocks] = place;
+        self.places.push_reserved(place);
         self.blocks += 1;
     }
 

@@ -1,5 +1,8 @@
 //! Tables of types (TPI, stream 2) and of ids (IPI, stream 4): their items in order, and by their
 //! indices. The layout is that of LLVM's The PDB TPI and IPI Streams.
+//!
+//! How an item is searched may change. Which item has an index, and how far a finder knows the
+//! table, may not.
 #![tactic(auto)]
 
 mod header;

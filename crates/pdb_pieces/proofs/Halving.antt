@@ -6,7 +6,7 @@ use Rattle.std.specs.List.{slice_get}
 use Rattle.std.specs.Option.{option_map}
 use Rattle.std.proofs.lemmas.Bool.{cases_lt, cases_order}
 use Rattle.std.proofs.Math.Nat.{pow-succ', mul-le-mul_left}
-use Rattle.std.proofs.lemmas.List.{map-id, length-map}
+use Rattle.std.proofs.lemmas.List.{length-map}
 use Rattle.std.proofs.lemmas.Option.{slice_get_within, slice_get_past, slice_get-get_or}
 use Rattle.std.proofs.lemmas.Option.{slice_get-map, slice_get_read}
 use Rattle.pdb_pieces.specs.declared.span.Mark.{Mark}
@@ -193,67 +193,41 @@ pieces_ascend low high (x ∷ rest) h = (
     starts_above fewer low [] l h = tt
     starts_above fewer low (n ∷ ns) l h = (omega (arith, h.0), h.1)
 
-pub starts_ascend : (low high : ℕ) (xs : List Span) (starts : List ℕ) → ArePieces low high xs
-    → starts ≡ starts_of xs → Ascend low (map (λ n. n) starts)
-starts_ascend low high xs starts h is =
-    subst (Ascend low) (sym is ∙ sym (map-id starts)) (pieces_ascend low high xs h)
-
 -- the pieces that begin at a place or before it, by how many starts do
-pub begun_by : (xs : List Span) (starts : List ℕ) (count p : ℕ) → starts ≡ starts_of xs
-    → IsSplit (map (λ n. n) starts) p count → HasBegun xs count p
-begun_by xs starts count p is at = record {
+pub begun_by : (xs : List Span) (count p : ℕ) → IsSplit (starts_of xs) p count
+    → HasBegun xs count p
+begun_by xs count p s = record {
   bound = simp length-map at s.bound;
   last = λ i x e f. s.before i x.start (omega arith)
       (slice_get-map (λ (y : Span). y.start) xs i ∙ ap (option_map (λ (y : Span). y.start)) f);
   behind = λ i x l f. s.after i x.start l (slice_get-map (λ (y : Span). y.start) xs i
       ∙ ap (option_map (λ (y : Span). y.start)) f);
 }
-  where
-    s : IsSplit (starts_of xs) p count
-    s = subst (λ ns. IsSplit ns p count) (map-id starts ∙ is) at
 
 -- no piece begins at the place or before it
 pub IsPast-none : (xs : List Span) (p : ℕ) → IsPast xs 0 p
 IsPast-none xs p = record { each = λ i s l f. absurd (omega arith) }
 
 -- the last one that begins so ends there
-pub IsPast-last : (low high : ℕ) (xs : List Span) (count p : ℕ) → ArePieces low high xs → 0 < count
-    → count ≤ length xs → (get_or xs (count - 1) no_span).end ≤ p → IsPast xs count p
-IsPast-last low high xs count p h some r le =
+pub IsPast-last : (low high : ℕ) (xs : List Span) (count p : ℕ) (s : Span) → ArePieces low high xs
+    → 0 < count → slice_get xs (count - 1) ≡ Some s → s.end ≤ p → IsPast xs count p
+IsPast-last low high xs count p s h some is le =
     let e : count - 1 + 1 ≡ count = omega arith in
-    subst (λ n. IsPast xs n p) e
-    (IsPast-more low high xs (count - 1) p (get_or xs (count - 1) no_span) h
-    (slice_get-get_or xs (count - 1) no_span (omega arith)) le)
+    subst (λ n. IsPast xs n p) e (IsPast-more low high xs (count - 1) p s h is le)
 
 pub IsBeyond-begun : (xs : List Span) (count p : ℕ) → HasBegun xs count p → IsBeyond xs count p
 IsBeyond-begun xs count p h = record { each = h.behind }
 
--- the last one that begins so is found at its number
-pub last_begun : (xs : List Span) (count p : ℕ) → HasBegun xs count p → 0 < count
-    → (get_or xs (count - 1) no_span).start ≤ p
-last_begun xs count p h some =
-    let b = h.bound in
-    h.last (count - 1) (get_or xs (count - 1) no_span) (omega arith)
-    (slice_get-get_or xs (count - 1) no_span (omega arith))
+-- the last one that begins so begins at the place or before it
+pub last_begun : (xs : List Span) (count p : ℕ) (s : Span) → HasBegun xs count p → 0 < count
+    → slice_get xs (count - 1) ≡ Some s → s.start ≤ p
+last_begun xs count p s h some is = h.last (count - 1) s (omega arith) is
 
 -- no piece holds the place
 pub found_none : (xs : List Span) (count p : ℕ) → IsPast xs count p → IsBeyond xs count p → (i : ℕ)
     → (None ≡ Some i) ↔ PieceHolds xs p i
 found_none xs count p a b i =
     (λ e. absurd cc, λ h. absurd (holds_nowhere xs count count p i a b (omega arith) h))
-
-pub holds_within : (xs : List Span) (p i : ℕ) → PieceHolds xs p i → i < length xs
-holds_within xs p i h = slice_get_within xs i h.piece h.is
-
--- what the number that a search gave reads
-pub value_found : (xs : List Span) (p i : ℕ) (s : Span) (o : Option ℕ) → s ≡ get_or xs i s
-    → i < length xs → o ≡ Some i → best xs p ≡ mark_at xs o
-    → Some s.mark.value ≡ option_map (λ (m : Mark). m.value) (best xs p)
-value_found xs p i s o e l f g =
-    let read : slice_get xs i ≡ Some s = slice_get-get_or xs i s l ∙ ap Some (sym e) in
-    let mark : best xs p ≡ Some s.mark = g ∙ ap (mark_at xs) f
-    ∙ ap (option_map (λ (x : Span). x.mark)) read in
-    sym (ap (option_map (λ (m : Mark). m.value)) mark)
 
 -- ---- a search among numbers in ascending order
 

@@ -5,6 +5,8 @@ ghost use Rattle.std.specs.Prelude.{◌≡◌, ℕ, ◌+◌, ◌^◌, ◌<◌, �
 ghost use Rattle.pdb_addresses.specs.SectionRun.{nearer as nearer_of, up_to_next};
 ghost use Rattle.pdb_pieces.specs.Halving.{Ascend, IsSplit};
 
+use crate::span::Span;
+
 /// What begins at a place or an offset, as a number.
 pub trait Begins {
     ghost beginning: { Self → ℕ };
@@ -29,6 +31,15 @@ impl Begins for u32 {
 
     fn begins_at(&self) -> u64 {
         u64::from(*self)
+    }
+}
+
+/// A span begins at its first place.
+impl Begins for Span {
+    ghost beginning = { λ s. s.start };
+
+    fn begins_at(&self) -> u64 {
+        self.start
     }
 }
 

@@ -1,38 +1,148 @@
 //! Finds the piece that holds a place, by binary search.
 
-ghost use Rattle.std.specs.Prelude.{◌≡◌, ℕ, ◌+◌, ◌^◌, ◌<◌, ◌≤◌, ◌↔◌, IfOk, Some, List, length};
+ghost use Rattle.std.specs.Prelude.{◌≡◌, ℕ, ◌+◌, ◌^◌, ◌<◌, ◌≤◌, ◌↔◌, IfOk, Some, length, slice_get};
 ghost use Rattle.std.specs.Option.{option_map};
-ghost use Rattle.pdb_pieces.specs.Spans.{best, place_number as number_of_place};
-ghost use Rattle.pdb_pieces.specs.Spans.{starts_of as starts_of_spans, ArePieces, PieceHolds};
-ghost use Rattle.pdb_pieces.specs.Spans.{mark_at};
+ghost use Rattle.pdb_pieces.specs.Halving.{IsSplit};
+ghost use Rattle.pdb_pieces.specs.ShortSpans.{stored_spans, whole_spans};
+ghost use Rattle.pdb_pieces.specs.Spans.{best, place_number as number_of_place, starts_of};
+ghost use Rattle.pdb_pieces.specs.Spans.{ArePieces, PieceHolds, mark_at};
+ghost use Rattle.pdb_pieces.specs.declared.span.Span.{Span};
 
 use crate::ascending::count_begun;
 use crate::cut::cut;
+use crate::short_spans::{ShortSpan, short_spans};
 use crate::span::{Span, place_number};
 use pdb_addresses::PdbInternalSectionOffset;
 use std::alloc::{AllocError, Global};
 use std::marker::Model;
 
-/// Pieces: spans in ascending order, none empty and no two over one place; and where each begins,
-/// close together, for the search.
+/// Spans as they are stored: as short ones where each is short.
+#[derive(Drop)]
+enum Stored {
+    /// Short spans.
+    Short(Vec<ShortSpan>),
+    /// Spans of which some aren't short.
+    Whole(Vec<Span>),
+}
+
+/// Pieces: spans in ascending order, none empty and no two over one place.
 #[derive(Drop)]
 pub struct Pieces {
-    spans: Vec<Span>,
-    starts: Vec<u64>,
+    stored: Stored,
 }
 
 impl Model for Pieces {
     ghost use Rattle.std.specs.Prelude.{List};
     ghost use Rattle.pdb_pieces.specs.declared.span.Span.{Span};
-    ghost use Rattle.std.specs.Prelude.{◌≡◌};
-    ghost use Rattle.pdb_pieces.specs.Spans.{ArePieces, starts_of};
+    ghost use Rattle.pdb_pieces.specs.ShortSpans.{stored_spans};
+    ghost use Rattle.pdb_pieces.specs.Spans.{ArePieces};
 
     ghost Value = { List Span };
 
-    ghost view = { λ p. p.spans.items };
+    ghost view = { λ p. stored_spans p.stored };
 
-    ghost invariant = { λ p. ArePieces 0 18446744073709551615 p.spans.items
-        × (p.starts.items ≡ starts_of p.spans.items) };
+    ghost invariant = { λ p. ArePieces 0 18446744073709551615 (stored_spans p.stored) };
+}
+
+/// Stores spans.
+fn store(alloc: Global, mut spans: Vec<Span>) -> Result<Stored, AllocError>
+    ensures { IfOk result (λ s. stored_spans s ≡ spans.items) }
+{
+    match short_spans(alloc, spans.as_slice())? {
+        Some(short) => Ok(Stored::Short(short)),
+        None => {
+            spans.shrink_to_fit();
+            Ok(Stored::Whole(spans))
+        }
+    }
+}
+
+/// The span that the short one with that number stands for, if it is there.
+#[tactic(auto, using(crate::proofs::ShortSpanSteps::numbered_alike))]
+fn short_numbered(spans: &[ShortSpan], number: usize) -> Option<Span>
+    ensures { result ≡ slice_get (whole_spans spans.now) number }
+{
+    let span = spans.get(number)?;
+    Some(span.whole())
+}
+
+/// The stored span with that number, if it is there.
+fn span_numbered(stored: &Stored, number: usize) -> Option<Span>
+    ensures { result ≡ slice_get (stored_spans stored.now) number }
+{
+    match stored {
+        Stored::Short(short) => short_numbered(short.as_slice(), number),
+        Stored::Whole(spans) => spans.as_slice().get(number).copied(),
+    }
+}
+
+/// The end of the stored span with that number; 0 where it isn't there.
+fn end_numbered(stored: &Stored, number: usize) -> u64
+    ensures { (s : Span) → slice_get (stored_spans stored.now) number ≡ Some s → s.end ≡ result }
+{
+    match span_numbered(stored, number) {
+        None => 0,
+        Some(span) => span.end,
+    }
+}
+
+/// How many of short pieces begin at a place or before it, and how many were looked at.
+#[tactic(auto, using(crate::proofs::ShortSpanSteps::short_ascend, crate::proofs::ShortSpanSteps::short_probes, crate::proofs::ShortSpanSteps::short_fewest))]
+fn count_short(spans: &[ShortSpan], place: u64) -> (usize, u32)
+    requires { ArePieces 0 u64.MAX (whole_spans spans.now) }
+    ensures begun { IsSplit (starts_of (whole_spans spans.now)) place result.0 }
+    ensures probes { (digits : ℕ) → length (whole_spans spans.now) < 2 ^ digits
+        → result.1 ≤ digits }
+    ensures fewest { length (whole_spans spans.now) + 1 < 2 ^ (result.1 + 1) }
+{
+    count_begun(spans, place)
+}
+
+/// How many of pieces begin at a place or before it, and how many were looked at.
+#[tactic(auto, using(crate::proofs::ShortSpanSteps::whole_ascend))]
+fn count_whole(spans: &[Span], place: u64) -> (usize, u32)
+    requires { ArePieces 0 u64.MAX spans.now }
+    ensures begun { IsSplit (starts_of spans.now) place result.0 }
+    ensures probes { (digits : ℕ) → length spans.now < 2 ^ digits → result.1 ≤ digits }
+    ensures fewest { length spans.now + 1 < 2 ^ (result.1 + 1) }
+{
+    count_begun(spans, place)
+}
+
+/// How many of stored pieces begin at a place or before it, and how many were looked at.
+fn count_stored(stored: &Stored, place: u64) -> (usize, u32)
+    requires { ArePieces 0 u64.MAX (stored_spans stored.now) }
+    ensures begun { IsSplit (starts_of (stored_spans stored.now)) place result.0 }
+    ensures probes { (digits : ℕ) → length (stored_spans stored.now) < 2 ^ digits
+        → result.1 ≤ digits }
+    ensures fewest { length (stored_spans stored.now) + 1 < 2 ^ (result.1 + 1) }
+{
+    match stored {
+        Stored::Short(short) => count_short(short.as_slice(), place),
+        Stored::Whole(spans) => count_whole(spans.as_slice(), place),
+    }
+}
+
+/// The number of the stored piece that holds the place, and how many were looked at.
+fn find_piece(stored: &Stored, place: u64) -> (Option<usize>, u32)
+    requires { ArePieces 0 u64.MAX (stored_spans stored.now) }
+    ensures one { (i : ℕ) → (result.0 ≡ Some i) ↔ PieceHolds (stored_spans stored.now) place i }
+    ensures best { best (stored_spans stored.now) place
+        ≡ mark_at (stored_spans stored.now) result.0 }
+    ensures probes { (digits : ℕ) → length (stored_spans stored.now) < 2 ^ digits
+        → result.1 ≤ digits }
+    ensures fewest { length (stored_spans stored.now) + 1 < 2 ^ (result.1 + 1) }
+{
+    let (count, probes) = count_stored(stored, place);
+    if count == 0 {
+        return (None, probes);
+    }
+    let end = end_numbered(stored, count - 1);
+    if place < end {
+        (Some(count - 1), probes)
+    } else {
+        (None, probes)
+    }
 }
 
 impl Pieces {
@@ -45,10 +155,8 @@ impl Pieces {
         ensures { IfOk result (λ pieces. (p : ℕ) → best pieces p ≡ best spans.now p) }
     {
         let pieces = cut(alloc, spans)?;
-        let mut spans = Vec::with_capacity(alloc, pieces.len())?;
-        spans.extend_from_slice(&pieces)?;
-        let starts = starts_of(alloc, &spans)?;
-        Ok(Pieces { spans, starts })
+        let stored = store(alloc, pieces)?;
+        Ok(Pieces { stored })
     }
 
     /// The number of the one piece that holds the place, if one does, and how many pieces were
@@ -60,49 +168,15 @@ impl Pieces {
         ensures probes { (digits : ℕ) → length self.now < 2 ^ digits → result.1 ≤ digits }
         ensures fewest { length self.now + 1 < 2 ^ (result.1 + 1) }
     {
-        find_piece(&self.spans, &self.starts, place_number(place))
+        find_piece(&self.stored, place_number(place))
     }
 
     /// What the piece that holds the place stands for.
     pub fn value_at(&self, place: PdbInternalSectionOffset) -> Option<usize>
         ensures { result ≡ option_map (λ m. m.value) (best self.now (number_of_place place)) }
     {
-        match self.at(place).0 {
-            None => None,
-            Some(i) => Some(self.spans[i].mark.value),
-        }
-    }
-}
-
-/// Where spans begin.
-fn starts_of(alloc: Global, spans: &[Span]) -> Result<Vec<u64>, AllocError>
-    ensures { IfOk result (λ v. v.items ≡ starts_of_spans spans.now) }
-{
-    let mut starts = Vec::with_capacity(alloc, spans.len())?;
-    for span in spans {
-        starts.push(span.start)?;
-    }
-    Ok(starts)
-}
-
-/// The number of the piece of a list that holds the place, by where the pieces begin, and how many
-/// were looked at.
-fn find_piece(pieces: &[Span], starts: &[u64], place: u64) -> (Option<usize>, u32)
-    requires pieces { ArePieces 0 u64.MAX pieces.now }
-    requires starts { starts.now ≡ starts_of_spans pieces.now }
-    ensures one { (i : ℕ) → (result.0 ≡ Some i) ↔ PieceHolds pieces.now place i }
-    ensures best { best pieces.now place ≡ mark_at pieces.now result.0 }
-    ensures probes { (digits : ℕ) → length pieces.now < 2 ^ digits → result.1 ≤ digits }
-    ensures fewest { length pieces.now + 1 < 2 ^ (result.1 + 1) }
-{
-    let (count, probes) = count_begun(starts, place);
-    if count == 0 {
-        return (None, probes);
-    }
-    let last = count - 1;
-    if place < pieces[last].end {
-        (Some(last), probes)
-    } else {
-        (None, probes)
+        let number = self.at(place).0?;
+        let piece = span_numbered(&self.stored, number)?;
+        Some(piece.mark.value)
     }
 }

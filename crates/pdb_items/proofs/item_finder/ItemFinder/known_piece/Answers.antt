@@ -8,7 +8,7 @@ pub returns : goal.returns
 returns g c =
     let low = rw (← c.self.view_is) at c.requires.low in
     let known = rw (← c.self.view_is) at c.requires.known in
-    let e = known_number _ _ _ _ c.args.index c.index-place.result.now c.self.invariant low known
+    let e = known_number _ _ _ _ _ c.args.index c.index-place.result.now c.self.invariant low known
     c.index-place.ensures in
     rw (← c.self.view_is) record {
       few = c.walk.ensures.few;
