@@ -1,5 +1,8 @@
 //! RVAs: the addresses of an image, and those of the space in which its database was written;
 //! section headers, as the PE format has them, and OMAPs, as the pdb crate reads them.
+//!
+//! How places are searched may change. Which place an address is (`specs/Addresses`, `specs/Omap`)
+//! may not, since each answer is stated by it.
 #![tactic(auto)]
 
 mod address_map;

@@ -1,5 +1,27 @@
 //! What a program database is made of: its container, the records of types and ids, and the
 //! addresses of its image.
+//!
+//! It has no code of its own. A name may be added; none may be taken away, since users name them.
+//!
+//! A type is found in the table that a database has of them, by its index, and read:
+//!
+//! ```rust
+//! let table = database.type_information(alloc)?;
+//! ```
+//!
+//! ```rust
+//! fn type_text(alloc: Global, table: &TypeInformation<'_>, index: TypeIndex) -> Result<String> {
+//!     let finder = table.finder(alloc)?;
+//!     found_type(alloc, &finder, index)
+//! }
+//! ```
+//!
+//! ```rust
+//! let item = finder.find(index)?;
+//! shown_read(alloc, item.parse(alloc))
+//! ```
+//!
+//! The program `recorded_reads` has all of it.
 #![tactic(auto)]
 
 pub use pdb_addresses::{

@@ -1,6 +1,9 @@
 //! Which function owns an address: a function as it is answered, and the order of functions; the
 //! frames at an address in a function; and how many addresses of a range each function owns. These
 //! are counted by runs, with at most one lookup for each piece. It also writes the reports on them.
+//!
+//! How runs are counted may change, by at most one lookup for each piece. Which function owns an
+//! address, and a report's bytes and order, may not.
 #![tactic(auto)]
 
 mod answer;

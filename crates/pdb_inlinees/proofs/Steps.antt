@@ -4,8 +4,8 @@ use Rattle.std.proofs.Common.{false, refl, sym, ap, ◌∙◌, arith}
 use Rattle.std.specs.Option.{option_or}
 use Rattle.pdb_container.specs.Fault.{Fault}
 use Rattle.pdb_container.specs.Listing.{Listing, ending, before}
-use Rattle.pdb_symbols.specs.declared.annotation.BinaryAnnotation.{BinaryAnnotation}
-use Rattle.pdb_symbols.specs.Annotations.{is_emitting}
+use Rattle.pdb_symbol_records.specs.declared.annotation.BinaryAnnotation.{BinaryAnnotation}
+use Rattle.pdb_symbol_records.specs.Annotations.{is_emitting}
 use Rattle.pdb_subsections.specs.declared.line_info.LineInfo.{LineInfo}
 use Rattle.pdb_inlinees.specs.declared.annotation_state.AnnotationState.{AnnotationState}
 use Rattle.pdb_inlinees.specs.Operands.{own_length}

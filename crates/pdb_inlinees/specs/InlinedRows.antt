@@ -11,8 +11,8 @@ use Rattle.pdb_addresses.specs.Numbers.{distance}
 use Rattle.pdb_addresses.specs.declared.internal_section_offset.PdbInternalSectionOffset.{
   PdbInternalSectionOffset,
 }
-use Rattle.pdb_symbols.specs.declared.annotation.BinaryAnnotation.{BinaryAnnotation}
-use Rattle.pdb_symbols.specs.Annotations.{annotations_of, is_emitting}
+use Rattle.pdb_symbol_records.specs.declared.annotation.BinaryAnnotation.{BinaryAnnotation}
+use Rattle.pdb_symbol_records.specs.Annotations.{annotations_of, is_emitting}
 use Rattle.pdb_subsections.specs.declared.line_info.LineInfo.{LineInfo}
 use Rattle.pdb_subsections.specs.declared.line_info.LineInfoKind.{LineInfoKind}
 use Rattle.pdb_subsections.specs.declared.line_info.LineInfoKind.TheVariants as made_of

@@ -4,8 +4,8 @@ use Rattle.std.specs.List.{sum_by}
 use Rattle.std.specs.Option.{option_or, is_some}
 use Rattle.std.specs.Int.{w32, cast_unsigned}
 use Rattle.pdb_indices.specs.declared.numbers.FileIndex.{FileIndex}
-use Rattle.pdb_symbols.specs.declared.annotation.BinaryAnnotation.{BinaryAnnotation}
-use Rattle.pdb_symbols.specs.declared.annotation.BinaryAnnotation.TheVariants as kinds
+use Rattle.pdb_symbol_records.specs.declared.annotation.BinaryAnnotation.{BinaryAnnotation}
+use Rattle.pdb_symbol_records.specs.declared.annotation.BinaryAnnotation.TheVariants as kinds
 use Rattle.pdb_subsections.specs.declared.line_info.LineInfoKind.{LineInfoKind}
 use Rattle.pdb_subsections.specs.declared.line_info.LineInfoKind.TheVariants as made_of
 

@@ -4,7 +4,7 @@ use Rattle.std.specs.Prelude.{ℕ, ◌+◌, ◌%◌, ◌^◌, List, [], ◌∷�
 use Rattle.std.specs.Prelude.{option_map}
 use Rattle.std.specs.Option.{option_or}
 use Rattle.pdb_container.specs.Listing.{Listing}
-use Rattle.pdb_symbols.specs.declared.annotation.BinaryAnnotation.{BinaryAnnotation}
+use Rattle.pdb_symbol_records.specs.declared.annotation.BinaryAnnotation.{BinaryAnnotation}
 use Rattle.pdb_subsections.specs.declared.line_info.LineInfo.{LineInfo}
 use Rattle.pdb_inlinees.specs.declared.annotation_state.AnnotationState.{AnnotationState}
 use Rattle.pdb_inlinees.specs.Operands.{code_offset, code_base, offset_change, changed_file}

@@ -5,13 +5,13 @@ ghost use Rattle.pdb_inlinees.specs.InlinedRows.{row_behind, length_by, place_be
 ghost use Rattle.pdb_inlinees.specs.InlinedRows.{last_line_behind, last_column_behind};
 ghost use Rattle.pdb_inlinees.specs.InlinedRows.{is_same_kind};
 ghost use Rattle.pdb_inlinees.specs.Operands.{own_length, range_kind, column_change};
-ghost use Rattle.pdb_symbols.specs.declared.annotation.BinaryAnnotation.TheVariants as kinds;
+ghost use Rattle.pdb_symbol_records.specs.declared.annotation.BinaryAnnotation.TheVariants as kinds;
 ghost use Rattle.pdb_inlinees.specs.RowsToCome.{state_behind, moved_on};
 
 use pdb_addresses::PdbInternalSectionOffset;
 use pdb_indices::FileIndex;
 use pdb_subsections::{LineInfo, LineInfoKind};
-use pdb_symbols::BinaryAnnotation;
+use pdb_symbol_records::BinaryAnnotation;
 
 /// The state before the annotations that are still to come.
 #[derive(Clone, Copy, Debug)]

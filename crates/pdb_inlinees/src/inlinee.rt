@@ -4,7 +4,7 @@ ghost use Rattle.std.specs.Prelude.{◌≡◌, ◌<◌, ◌≤◌, [], None, len
 ghost use Rattle.pdb_container.specs.Buffer.{rest, ParsesFront};
 ghost use Rattle.pdb_container.specs.Fault.{Parses};
 ghost use Rattle.pdb_container.specs.Listing.{ending, Advances};
-ghost use Rattle.pdb_symbols.specs.Annotations.{annotation_bytes};
+ghost use Rattle.pdb_symbol_records.specs.Annotations.{annotation_bytes};
 ghost use Rattle.pdb_inlinees.specs.Inlinee.{inlined_function};
 ghost use Rattle.pdb_inlinees.specs.Inlinees.{files_at, further_files_at, inlinee_at, inlinees_of};
 ghost use Rattle.pdb_inlinees.specs.InlinedRows.{inlined_rows};
@@ -15,7 +15,7 @@ use pdb_addresses::PdbInternalSectionOffset;
 use pdb_container::{Error, FallibleIterator, ParseBuffer, Result};
 use pdb_indices::{FileIndex, IdIndex};
 use pdb_subsections::LineInfoKind;
-use pdb_symbols::InlineSiteSymbol;
+use pdb_symbol_records::InlineSiteSymbol;
 use std::marker::{Model, PhantomData};
 
 /// An inlinee: a function that was inlined, by its id, with the file and line at which its text

@@ -3,8 +3,8 @@
 ghost use Rattle.std.specs.Prelude.{◌≡◌, ◌∷◌, [], List, None, Some, IfSome, IsSome, if◌then◌else◌};
 ghost use Rattle.pdb_container.specs.Listing.{ending, Advances};
 ghost use Rattle.pdb_addresses.specs.Numbers.{distance};
-ghost use Rattle.pdb_symbols.specs.Annotations.{is_emitting};
-ghost use Rattle.pdb_symbols.specs.declared.annotation.BinaryAnnotation.{
+ghost use Rattle.pdb_symbol_records.specs.Annotations.{is_emitting};
+ghost use Rattle.pdb_symbol_records.specs.declared.annotation.BinaryAnnotation.{
   BinaryAnnotation as Annotation,
 };
 ghost use Rattle.pdb_inlinees.specs.InlinedRows.{all_rows, place_behind, length_by};
@@ -14,7 +14,7 @@ ghost use Rattle.pdb_inlinees.specs.RowsToCome.{rows_ahead, to_come, row_in_fron
 use crate::annotation_state::AnnotationState;
 use pdb_container::{Error, FallibleIterator, Result};
 use pdb_subsections::{LineInfo, LineInfoKind};
-use pdb_symbols::{BinaryAnnotation, BinaryAnnotationsIter};
+use pdb_symbol_records::{BinaryAnnotation, BinaryAnnotationsIter};
 use std::marker::Model;
 use std::mem::replace;
 

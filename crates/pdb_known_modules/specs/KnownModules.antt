@@ -6,7 +6,7 @@ use Rattle.pdb_container.specs.Fault.{◌>>=◌}
 use Rattle.pdb_addresses.specs.declared.internal_section_offset.PdbInternalSectionOffset.{
   PdbInternalSectionOffset,
 }
-use Rattle.pdb_symbols.specs.Iteration.{symbols_left}
+use Rattle.pdb_symbol_records.specs.Iteration.{symbols_left}
 use Rattle.pdb_lines.specs.LinesSubsections.{Program}
 use Rattle.pdb_inlinees.specs.Inlinees.{InlinedFunction}
 use Rattle.pdb_symbols_modules.specs.ModuleStream.{ModuleStream, iteration_in, line_program_in}

@@ -3,6 +3,9 @@
 //! the data of its procedures. The crate also says where contributions and procedures begin and end
 //! in sections, and how far it is to the next such place. It knows no names and no addresses of an
 //! image.
+//!
+//! What is cached, and when it is forgotten, may change, since no answer shows it. What a module
+//! has at a place may not.
 #![tactic(auto)]
 
 mod bounds;

@@ -15,7 +15,7 @@ use pdb_addresses::PdbInternalSectionOffset;
 use pdb_indices::SymbolIndex;
 use pdb_module_data::{FunctionRows, InlineRanges, Inlinees, Procedure, SitesError};
 use pdb_resolving::{Error, ModuleTables, Result};
-use pdb_symbols::SymbolIter;
+use pdb_symbol_records::SymbolIter;
 use std::alloc::Global;
 
 /// About how many bytes of memory the data of a procedure take besides its sites.

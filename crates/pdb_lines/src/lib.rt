@@ -1,6 +1,9 @@
 //! Lines of a module's code (`DEBUG_S_LINES`), and the files that they are in
 //! (`DEBUG_S_FILECHKSMS`). The layouts are those of microsoft-pdb's cvinfo.h, as the pdb crate
 //! reads them.
+//!
+//! How marks are sorted and searched may change. Which rows there are, how long each is and in
+//! which file (`specs/LineRows`), may not.
 #![tactic(auto)]
 
 mod checksum;

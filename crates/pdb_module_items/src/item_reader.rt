@@ -25,7 +25,8 @@ use pdb_symbols_modules::{DebugInformation, MachineType, Module};
 use std::alloc::{AllocError, Global};
 use std::marker::Model;
 
-/// How many types a size may lead through, the one that is asked for among them.
+/// How many types a size may lead through, the one that is asked for among them: as many as a path
+/// of a type's text has (`MAX_LENGTH` of `pdb_text_pieces`).
 const MOST_STEPS: u32 = 1024;
 
 /// Reads types and ids by their indices, as the modules of a database have them.

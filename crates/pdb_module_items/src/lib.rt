@@ -1,4 +1,7 @@
 //! Types and ids by their indices as a module has them, and the sizes of types.
+//!
+//! What is cached of sizes may change. Sizes, and how many types one may lead through
+//! (`specs/Sizes`), may not.
 #![tactic(auto)]
 
 mod definitions;

@@ -1,4 +1,6 @@
 //! The names of functions by a formatter, and the caches of them.
+//!
+//! Which names are cached, and for how long, may change. A name may not.
 #![tactic(auto)]
 
 mod by_module;

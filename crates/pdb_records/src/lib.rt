@@ -1,5 +1,8 @@
 //! CodeView records of types and ids, by their leaves (`LF_*`). The layouts are those of
 //! microsoft-pdb's cvinfo.h and of LLVM's CodeView Type Records, as the pdb crate reads them.
+//!
+//! A record of another leaf may be added. What a record says (`specs/TypeRecords`,
+//! `specs/IdRecords`) may not change.
 #![tactic(auto)]
 
 mod id_data;

@@ -2,6 +2,9 @@
 //! a module's own stream, and modules' names, imports and exports, as they are read and cached. The
 //! crate also says which parts of a database could not be read when they were asked for, and what
 //! answers about types and functions fail with.
+//!
+//! How a module's imports and exports are searched may change. Where an index leads
+//! (`specs/Resolving`), and which parts fail once they failed, may not.
 #![tactic(auto)]
 
 mod error;

@@ -3,6 +3,9 @@
 //! to them (`DEBUG_S_CROSSSCOPEEXPORTS`). Kinds and layouts are those of microsoft-pdb's cvinfo.h
 //! (DEBUG_S_SUBSECTION_TYPE), as the pdb crate reads them; LLVM's The Module Information Stream
 //! places them.
+//!
+//! Another kind may be added. What a subsection that is there says (`specs/Subsections`,
+//! `specs/Imports`, `specs/Exports`) may not change.
 #![tactic(auto)]
 
 mod exports;

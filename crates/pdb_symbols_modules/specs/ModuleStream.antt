@@ -12,7 +12,7 @@ use Rattle.pdb_inlinees.specs.Inlinees.{InlinedFunction, inlinees_of}
 use Rattle.pdb_lines.specs.LinesSubsections.{Program, program_of}
 use Rattle.pdb_subsections.specs.Subsections.{inlinees_kind, imports_kind, exports_kind}
 use Rattle.pdb_subsections.specs.Subsections.{subsections_of, first_of}
-use Rattle.pdb_symbols.specs.Iteration.{SymbolIteration, iteration_at}
+use Rattle.pdb_symbol_records.specs.Iteration.{SymbolIteration, iteration_at}
 
 -- the stream's bytes, and the sizes of its parts: symbols, line data in an older form, line data
 pub record ModuleStream : Type 0 where

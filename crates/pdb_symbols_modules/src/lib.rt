@@ -2,6 +2,35 @@
 //! contributions, the sections and addresses of its image, and the tables and lists to which its
 //! streams lead. The layouts are those of LLVM's The PDB DBI Stream and The Module Information
 //! Stream, and of microsoft-pdb's dbi.h, as the pdb crate reads them.
+//!
+//! How streams are found and held may change. What a stream says, and the names of calls, which are
+//! those of the pdb crate where it has them, may not.
+//!
+//! A database is opened over a file's bytes, its modules are gone over, and of each what it holds:
+//!
+//! ```rust
+//! let mut database = PDB::open(rt.alloc(), bytes)?;
+//! ```
+//!
+//! ```rust
+//! let debug_information = database.debug_information(rt.alloc())?;
+//! ```
+//!
+//! ```rust
+//! while let Some(module) = modules.next()? {
+//!     list_module(rt, database, &module, names)?;
+//! }
+//! ```
+//!
+//! ```rust
+//! println!(rt; "{}", module.raw_module_name())?;
+//! match database.module_info(rt.alloc(), module)? {
+//!     None => Ok(()),
+//!     Some(info) => list_procedures(rt, &info, names),
+//! }
+//! ```
+//!
+//! The program `list_lines` has all of it.
 #![tactic(auto)]
 
 mod contributions;
@@ -32,7 +61,7 @@ pub use pdb_subsections::{
     CrossModuleExport, CrossModuleExportIter, CrossModuleExports, CrossModuleImports,
     CrossModuleRef, LineInfo, LineInfoKind, ModuleRef,
 };
-pub use pdb_symbols::{
+pub use pdb_symbol_records::{
     BinaryAnnotation, BinaryAnnotations, BinaryAnnotationsIter, InlineSiteSymbol, ProcedureSymbol,
     PublicSymbol, SeparatedCodeSymbol, Symbol, SymbolData, SymbolIter, SymbolTable, ThunkSymbol,
 };

@@ -17,7 +17,7 @@ use pdb_subsections::{
     CROSS_MODULE_EXPORTS, CROSS_MODULE_IMPORTS, CrossModuleExports, CrossModuleImports,
     INLINEE_LINES, find_subsection,
 };
-use pdb_symbols::SymbolIter;
+use pdb_symbol_records::SymbolIter;
 use std::alloc::Global;
 use std::marker::Model;
 use std::sync::Arc;

@@ -31,7 +31,7 @@ use pdb_addresses::{
 use pdb_container::{BigMSF, Error, Msf, Result, Source, Stream, StringTable, open_msf};
 use pdb_indices::ItemIndex;
 use pdb_items::{IdInformation, ItemInformation, TypeInformation};
-use pdb_symbols::SymbolTable;
+use pdb_symbol_records::SymbolTable;
 use std::alloc::Global;
 use std::marker::Model;
 

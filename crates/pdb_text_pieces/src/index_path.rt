@@ -8,7 +8,9 @@ ghost use Rattle.pdb_text_pieces.specs.PathPlaces.{ArePlaced, is_placed};
 use std::alloc::{AllocError, Global};
 use std::marker::Model;
 
-/// How many indices a path may have.
+/// How many indices a path may have. So many levels fit in a stack of 4 MB: of sixteen kinds of
+/// nests (`tests/stack.py`) the one that needs most takes 3.9 MB. docs/COSTS.md has the stack, and
+/// the time that so many levels can take.
 const MAX_LENGTH: usize = 1024;
 
 /// How many indices a path has at most that gets no table.

@@ -1,5 +1,8 @@
 //! Pieces of the texts of types: names, pointers, brackets, what stands between arguments, the
 //! flags that say what is printed and how, and the path of indices to a type.
+//!
+//! How a piece is appended may change. Its text may not, nor the numbers of flags, which are those
+//! of the ported crate.
 #![tactic(auto)]
 
 mod arguments;

@@ -6,7 +6,7 @@ use Rattle.pdb_resolving.specs.declared.error.Error.TheVariants as errors
 use Rattle.pdb_resolving.specs.declared.stop.Stop.TheVariants as stops
 use Rattle.pdb_resolving.specs.declared.table.Table.{Table}
 use Rattle.pdb_resolving.specs.Cause.{Cause, Ends}
-use Rattle.pdb_function_text.specs.Printing.{Formatting, with_failed}
+use Rattle.pdb_type_printing.specs.Printing.{Formatting, with_failed}
 use Rattle.pdb_type_text.specs.Formatting.{failed_after, Leaves}
 
 -- a text that was made leaves all as it was

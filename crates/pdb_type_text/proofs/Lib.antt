@@ -1,2 +1,5 @@
 pub mod Failing
 pub mod Leaving
+pub mod PrintingFails
+pub mod Scopes
+pub mod VisitsOfIds

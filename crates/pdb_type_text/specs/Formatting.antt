@@ -3,7 +3,7 @@ use Rattle.std.specs.Prelude.{◌≡◌, Result, Ok, Err}
 use Rattle.pdb_resolving.specs.declared.error.Error.{Error}
 use Rattle.pdb_resolving.specs.declared.error.Error.TheVariants as errors
 use Rattle.pdb_resolving.specs.Cause.{Cause, ByFault, ByTable}
-use Rattle.pdb_function_text.specs.Printing.{Formatting, with_failed}
+use Rattle.pdb_type_printing.specs.Printing.{Formatting, with_failed}
 
 -- a formatter after a text was made or ended: the table that ended it stands as failed
 abbrev pub failed_after : {P A : Type 0} → Result A Cause → Formatting P → Formatting P

@@ -1,7 +1,7 @@
 pub mod Formatting
+pub mod Functions
+pub mod Ids
 pub mod Written
-pub use Rattle.pdb_function_text.specs.Env
-pub use Rattle.pdb_function_text.specs.Functions
-pub use Rattle.pdb_function_text.specs.Ids
-pub use Rattle.pdb_function_text.specs.Printing
-pub use Rattle.pdb_function_text.specs.Types
+pub use Rattle.pdb_type_printing.specs.Env
+pub use Rattle.pdb_type_printing.specs.Printing
+pub use Rattle.pdb_type_printing.specs.Types

@@ -7,24 +7,25 @@ ghost use Rattle.pdb_symbols_modules.specs.Machine.{machine_of};
 ghost use Rattle.pdb_resolving.specs.Cause.{Cause, Finds, of_any};
 ghost use Rattle.pdb_resolving.specs.Fault.{Answers};
 ghost use Rattle.pdb_resolving.specs.Resolving.{none_failed};
-ghost use Rattle.pdb_function_text.specs.Reading.{parts_by, pointer_bytes};
-ghost use Rattle.pdb_function_text.specs.Sizes.{size_at};
-ghost use Rattle.pdb_function_text.specs.Printing.{env_of};
+ghost use Rattle.pdb_type_printing.specs.Reading.{parts_by, pointer_bytes};
+ghost use Rattle.pdb_type_printing.specs.Sizes.{size_at};
+ghost use Rattle.pdb_type_printing.specs.Printing.{env_of};
 ghost use Rattle.pdb_type_text.specs.Formatting.{Leaves};
-ghost use Rattle.pdb_function_text.specs.Functions.{function_made, function_text};
-ghost use Rattle.pdb_function_text.specs.Ids.{id_made, id_text};
+ghost use Rattle.pdb_type_text.specs.Functions.{function_made, function_text};
+ghost use Rattle.pdb_type_text.specs.Ids.{id_made, id_text};
 ghost use Rattle.pdb_type_text.specs.Written.{Emits};
 
 use crate::formatter::TypeFormatter;
+use crate::printer::FunctionPrinter;
 use crate::writer::TextWriter;
 use pdb_container::StringTable;
-use pdb_function_text::{Asker, FunctionPrinter, ItemReader, TypePrinter};
 use pdb_indices::{IdIndex, TypeIndex};
 use pdb_items::{IdInformation, TypeInformation};
 use pdb_resolving::stop::{self, Stop};
 use pdb_resolving::{Error, ModuleProvider, Result};
 use pdb_symbols_modules::{DebugInformation, Module};
 use pdb_text_pieces::TypeFormatterFlags;
+use pdb_type_printing::{Asker, ItemReader, TypePrinter};
 use std::alloc::Global;
 
 impl<'a, 's, P: ModuleProvider> TypeFormatter<'a, 's, P> {

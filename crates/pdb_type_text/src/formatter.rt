@@ -1,6 +1,6 @@
 //! A formatter.
 
-use pdb_function_text::FunctionPrinter;
+use crate::printer::FunctionPrinter;
 use pdb_resolving::ModuleProvider;
 use std::marker::Model;
 
@@ -10,7 +10,7 @@ pub struct TypeFormatter<'a, 's, P: ModuleProvider> {
 }
 
 impl<'a, 's, P: ModuleProvider> Model for TypeFormatter<'a, 's, P> {
-    ghost use Rattle.pdb_function_text.specs.Printing.{Formatting};
+    ghost use Rattle.pdb_type_printing.specs.Printing.{Formatting};
 
     ghost Value = { Formatting P };
 

@@ -2,14 +2,14 @@
 
 ghost use Rattle.std.specs.Prelude.{◌≡◌, string_bytes};
 ghost use Rattle.pdb_resolving.specs.Fault.{Answers};
-ghost use Rattle.pdb_function_text.specs.Printing.{env_of};
-ghost use Rattle.pdb_function_text.specs.Functions.{function_text};
-ghost use Rattle.pdb_function_text.specs.Ids.{id_text};
+ghost use Rattle.pdb_type_printing.specs.Printing.{env_of};
+ghost use Rattle.pdb_type_text.specs.Functions.{function_text};
+ghost use Rattle.pdb_type_text.specs.Ids.{id_text};
 
 use crate::formatter::TypeFormatter;
-use pdb_function_text::Asker;
 use pdb_indices::{IdIndex, TypeIndex};
 use pdb_resolving::{ModuleProvider, Result};
+use pdb_type_printing::Asker;
 use std::alloc::Global;
 
 /// The signature that [`TypeFormatter::format_function`] returns. No table of a module is stored as

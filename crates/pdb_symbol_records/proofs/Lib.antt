@@ -1,0 +1,2 @@
+mod Annotating
+pub mod Lists
