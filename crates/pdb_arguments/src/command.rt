@@ -10,7 +10,7 @@ use clap::{Arg, ArgAction, Command};
 use std::alloc::{AllocError, Global};
 
 /// The program's version, as the file VERSION has it.
-const VERSION: &str = "0.1.0";
+const VERSION: &str = "0.2.0";
 
 const PROGRAM_ABOUT: &str =
     "Reports functions, source files and lines at addresses of a Windows program, by its database \

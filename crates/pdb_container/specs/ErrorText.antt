@@ -7,8 +7,6 @@ use Rattle.pdb_container.specs.declared.error.Error.{Error}
 use Rattle.pdb_container.specs.declared.error.Error.TheVariants as errors
 use Rattle.pdb_container.specs.declared.error.ModuleFault.{ModuleFault}
 use Rattle.pdb_container.specs.declared.error.ModuleFault.TheVariants as kept
-use Rattle.pdb_container.specs.declared.error.Values.{Values}
-use Rattle.pdb_container.specs.declared.error.Values.TheVariants as values
 
 -- what the kind of an input or output error prints: its name
 abbrev pub kind_text : ErrorKind → List ℕ
@@ -69,12 +67,3 @@ error_text (errors.CrossModuleRefNotFound value) =
     codes "CrossModuleRefNotFound(" ++ decimal value ++ codes ")"
 error_text (errors.Kept fault) = codes "Kept(" ++ module_fault_text fault ++ codes ")"
 error_text errors.OutOfMemory = codes "OutOfMemory"
-
--- the values of a fault in parentheses
-abbrev pub values_text : Values → List ℕ
-values_text values.None = codes ""
-values_text (values.Number value) = codes "(" ++ decimal value ++ codes ")"
-values_text (values.Numbers first second) =
-    codes "(" ++ decimal first ++ codes ", " ++ decimal second ++ codes ")"
-values_text (values.Text text) = codes "(" ++ text.now ++ codes ")"
-values_text (values.Fault fault) = codes "(" ++ module_fault_text fault ++ codes ")"

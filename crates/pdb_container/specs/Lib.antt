@@ -13,4 +13,5 @@ pub mod Paged
 pub mod PagedNumbers
 pub mod Pages
 pub mod Places
+pub mod PrintedFault
 pub mod RawString

@@ -9,16 +9,20 @@ use std::io;
 use std::io::ErrorKind;
 use std::marker::Model;
 
-/// How many bytes may be copied or listed of bytes of any length: 1 MB. Of 252 databases of real
-/// programs none lists a page twice, and the one that copies most copies 0.22 times its bytes.
-const ALWAYS: u64 = 0x10_0000;
+/// How many bytes may be copied, and as many listed, of a file of any size: 1 MB. So a small file
+/// whose streams lie in several pieces isn't refused. docs/COSTS.md has what the limits on copies
+/// and lists lead to.
+pub const ALWAYS_ALLOWED: u64 = 0x10_0000;
 
-/// How many times their own length may be copied beside that.
-const TIMES: u64 = 7;
+/// How many times a file's size may be copied besides: the file and all copies of it then take
+/// eight times its bytes. Of 252 databases of real linkers none lists a page twice, and the one
+/// that copies most copies 0.22 times its bytes.
+const TIMES_COPIED: u64 = 7;
 
-/// How many times their own length may be listed beside that. It is large, so that a caller who
-/// asks for the same streams again and again isn't refused.
-const TIMES_LISTED: u64 = 1024;
+/// How many times a file's size may be listed besides. It is large, so that a caller who asks for
+/// the same streams again and again isn't refused, and yet going through the lists is linear in the
+/// file: it takes 0.2 microseconds for each byte.
+pub const TIMES_LISTED: u64 = 1024;
 
 /// How many more bytes may be copied and listed of bytes that are shared.
 #[derive(Clone, Copy, Debug)]
@@ -57,8 +61,12 @@ impl BoundedBytes {
         ensures { result ≡ bytes }
     {
         let len = bytes.as_slice().len() as u64;
-        let left = len.saturating_mul(TIMES).saturating_add(ALWAYS);
-        let listed_left = len.saturating_mul(TIMES_LISTED).saturating_add(ALWAYS);
+        let left = len
+            .saturating_mul(TIMES_COPIED)
+            .saturating_add(ALWAYS_ALLOWED);
+        let listed_left = len
+            .saturating_mul(TIMES_LISTED)
+            .saturating_add(ALWAYS_ALLOWED);
         BoundedBytes {
             bytes,
             left,

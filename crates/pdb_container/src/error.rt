@@ -1,11 +1,13 @@
 //! Errors of reading a program database.
 
-ghost use Rattle.std.specs.Prelude.{◌≡◌, ◌++◌};
+ghost use Rattle.std.specs.Prelude.{◌≡◌, ◌++◌, codes, decimal};
 ghost use Rattle.pdb_container.specs.declared.error.Error.TheVariants.{OutOfMemory};
-ghost use Rattle.pdb_container.specs.ErrorText.{error_text, kind_text, values_text};
+ghost use Rattle.pdb_container.specs.ErrorText.{error_text, kind_text, module_fault_text};
 ghost use Rattle.pdb_container.specs.declared.error.Error.TheVariants as errors;
 ghost use Rattle.pdb_container.specs.Fault.{error_of, kept_of};
+ghost use Rattle.pdb_container.specs.PrintedFault.{printed_text};
 
+use crate::printed_fault::{PrintedFault, PrintedPiece};
 use std::alloc::{AllocError, AllocFailed};
 use std::io::ErrorKind;
 use std::{fmt, io};
@@ -92,8 +94,7 @@ impl fmt::Display for Error {
     ghost output = { λ e. Some (error_text e) };
 
     fn fmt<W: fmt::Write>(&self, f: &mut fmt::Formatter<W>) -> fmt::Result {
-        let (name, values) = printed(self);
-        write!(f, "{name}{values}")
+        write!(f, "{}", self.printed())
     }
 }
 
@@ -103,88 +104,81 @@ impl fmt::Debug for Error {
     }
 }
 
-/// The values of a fault, which it prints in parentheses.
-#[derive(Clone, Copy)]
-enum Values {
-    /// No value, and no parentheses.
-    None,
-    /// A number.
-    Number(u32),
-    /// Two numbers.
-    Numbers(u32, u32),
-    /// A text.
-    Text(&'static str),
-    /// A fault that is stored.
-    Fault(ModuleFault),
-}
-
-impl fmt::Display for Values {
-    ghost use Rattle.std.specs.Prelude.{Some};
-    ghost use Rattle.pdb_container.specs.ErrorText.{values_text};
-
-    ghost output = { λ values. Some (values_text values) };
-
-    fn fmt<W: fmt::Write>(&self, f: &mut fmt::Formatter<W>) -> fmt::Result {
+impl Error {
+    /// What the fault prints.
+    pub fn printed(&self) -> PrintedFault<'static>
+        ensures { printed_text result ≡ error_text self.now }
+    {
         match self {
-            Values::None => Ok(()),
-            Values::Number(value) => write!(f, "({value})"),
-            Values::Numbers(first, second) => write!(f, "({first}, {second})"),
-            Values::Text(text) => write!(f, "({text})"),
-            Values::Fault(fault) => write!(f, "({fault})"),
+            Error::UnrecognizedFileFormat => PrintedFault::plain("UnrecognizedFileFormat"),
+            Error::InvalidPageSize(value) => number("InvalidPageSize(", *value),
+            Error::PageReferenceOutOfRange(value) => number("PageReferenceOutOfRange(", *value),
+            Error::StreamNotFound(value) => number("StreamNotFound(", *value),
+            Error::StreamNameNotFound => PrintedFault::plain("StreamNameNotFound"),
+            Error::InvalidStreamLength(text) => PrintedFault::text("InvalidStreamLength(", text),
+            Error::IoError(kind) => PrintedFault::text("IoError(", kind_name(*kind)),
+            Error::UnexpectedEof => PrintedFault::plain("UnexpectedEof"),
+            Error::UnimplementedFeature(text) => PrintedFault::text("UnimplementedFeature(", text),
+            Error::GlobalSymbolsNotFound => PrintedFault::plain("GlobalSymbolsNotFound"),
+            Error::SymbolTooShort => PrintedFault::plain("SymbolTooShort"),
+            Error::UnimplementedSymbolKind(value) => {
+                number("UnimplementedSymbolKind(", u32::from(*value))
+            }
+            Error::InvalidTypeInformationHeader(text) => {
+                PrintedFault::text("InvalidTypeInformationHeader(", text)
+            }
+            Error::TypeTooShort => PrintedFault::plain("TypeTooShort"),
+            Error::TypeNotFound(value) => number("TypeNotFound(", *value),
+            Error::TypeNotIndexed(index, first) => {
+                PrintedFault::numbers("TypeNotIndexed(", u64::from(*index), u64::from(*first))
+            }
+            Error::UnexpectedNumericPrefix(value) => {
+                number("UnexpectedNumericPrefix(", u32::from(*value))
+            }
+            Error::UnimplementedTypeKind(value) => {
+                number("UnimplementedTypeKind(", u32::from(*value))
+            }
+            Error::UnimplementedFileChecksumKind(value) => {
+                number("UnimplementedFileChecksumKind(", u32::from(*value))
+            }
+            Error::InvalidFileChecksumOffset(value) => number("InvalidFileChecksumOffset(", *value),
+            Error::InvalidCompressedAnnotation => PrintedFault::plain(
+                "InvalidCompressedAnnotation",
+            ),
+            Error::UnknownBinaryAnnotation(value) => number("UnknownBinaryAnnotation(", *value),
+            Error::NotACrossModuleRef(value) => number("NotACrossModuleRef(", *value),
+            Error::CrossModuleRefNotFound(value) => number("CrossModuleRefNotFound(", *value),
+            Error::Kept(fault) => printed_kept(*fault),
+            Error::OutOfMemory => PrintedFault::plain("OutOfMemory"),
         }
     }
 }
 
-/// The name of a fault's variant, and its values.
-fn printed(error: &Error) -> (&'static str, Values)
-    ensures { error_text error.now ≡ result.0.now ++ values_text result.1 }
+/// What a fault with a number of 32 bits prints.
+fn number(name: &'static str, value: u32) -> PrintedFault<'static>
+    ensures { printed_text result ≡ name.now ++ decimal value ++ codes ")" }
 {
-    match error {
-        Error::UnrecognizedFileFormat => ("UnrecognizedFileFormat", Values::None),
-        Error::InvalidPageSize(value) => ("InvalidPageSize", Values::Number(*value)),
-        Error::PageReferenceOutOfRange(value) => {
-            ("PageReferenceOutOfRange", Values::Number(*value))
+    PrintedFault::number(name, u64::from(value))
+}
+
+/// What a stored fault of a module's stream prints, as an error.
+#[tactic(auto, using(std::proofs::Common::append_assoc))]
+fn printed_kept(fault: ModuleFault) -> PrintedFault<'static>
+    ensures { printed_text result ≡ codes "Kept(" ++ module_fault_text fault ++ codes ")" }
+{
+    match fault {
+        ModuleFault::StreamNotFound(value) => {
+            let value = PrintedPiece::Number(u64::from(value));
+            PrintedFault::value("Kept(StreamNotFound(", value, "))")
         }
-        Error::StreamNotFound(value) => ("StreamNotFound", Values::Number(*value)),
-        Error::StreamNameNotFound => ("StreamNameNotFound", Values::None),
-        Error::InvalidStreamLength(text) => ("InvalidStreamLength", Values::Text(text)),
-        Error::IoError(kind) => ("IoError", Values::Text(kind_name(*kind))),
-        Error::UnexpectedEof => ("UnexpectedEof", Values::None),
-        Error::UnimplementedFeature(text) => ("UnimplementedFeature", Values::Text(text)),
-        Error::GlobalSymbolsNotFound => ("GlobalSymbolsNotFound", Values::None),
-        Error::SymbolTooShort => ("SymbolTooShort", Values::None),
-        Error::UnimplementedSymbolKind(value) => {
-            ("UnimplementedSymbolKind", Values::Number(u32::from(*value)))
+        ModuleFault::PageReferenceOutOfRange(value) => {
+            let value = PrintedPiece::Number(u64::from(value));
+            PrintedFault::value("Kept(PageReferenceOutOfRange(", value, "))")
         }
-        Error::InvalidTypeInformationHeader(text) => {
-            ("InvalidTypeInformationHeader", Values::Text(text))
+        ModuleFault::IoError(kind) => {
+            PrintedFault::value("Kept(IoError(", PrintedPiece::Text(kind_name(kind)), "))")
         }
-        Error::TypeTooShort => ("TypeTooShort", Values::None),
-        Error::TypeNotFound(value) => ("TypeNotFound", Values::Number(*value)),
-        Error::TypeNotIndexed(index, first) => ("TypeNotIndexed", Values::Numbers(*index, *first)),
-        Error::UnexpectedNumericPrefix(value) => {
-            ("UnexpectedNumericPrefix", Values::Number(u32::from(*value)))
-        }
-        Error::UnimplementedTypeKind(value) => {
-            ("UnimplementedTypeKind", Values::Number(u32::from(*value)))
-        }
-        Error::UnimplementedFileChecksumKind(value) => {
-            (
-                "UnimplementedFileChecksumKind",
-                Values::Number(u32::from(*value)),
-            )
-        }
-        Error::InvalidFileChecksumOffset(value) => {
-            ("InvalidFileChecksumOffset", Values::Number(*value))
-        }
-        Error::InvalidCompressedAnnotation => ("InvalidCompressedAnnotation", Values::None),
-        Error::UnknownBinaryAnnotation(value) => {
-            ("UnknownBinaryAnnotation", Values::Number(*value))
-        }
-        Error::NotACrossModuleRef(value) => ("NotACrossModuleRef", Values::Number(*value)),
-        Error::CrossModuleRefNotFound(value) => ("CrossModuleRefNotFound", Values::Number(*value)),
-        Error::Kept(fault) => ("Kept", Values::Fault(*fault)),
-        Error::OutOfMemory => ("OutOfMemory", Values::None),
+        ModuleFault::UnexpectedEof => PrintedFault::plain("Kept(UnexpectedEof)"),
     }
 }
 

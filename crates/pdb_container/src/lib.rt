@@ -1,6 +1,9 @@
 //! The MSF container of a program database: a file's pages, the streams that lie in them, and the
 //! numbers in a stream's bytes. The format is that of microsoft-pdb's msf.h and of LLVM's The MSF
 //! File Format.
+//!
+//! How bytes are viewed, copied and bounded may change. Which bytes a stream has, which fault comes
+//! first (`specs/Container`) and what a fault prints may not.
 #![tactic(auto)]
 
 mod bounded_bytes;
@@ -16,12 +19,13 @@ mod msf;
 mod numbers;
 mod page_list;
 mod paged_numbers;
+mod printed_fault;
 mod raw_string;
 mod shared_bytes;
 mod source;
 mod string_table;
 
-pub use bounded_bytes::{BoundedBytes, CopyLimits};
+pub use bounded_bytes::{ALWAYS_ALLOWED, BoundedBytes, CopyLimits, TIMES_LISTED};
 pub use buffer::{FromBuffer, ParseBuffer};
 pub use entry_list::parse_entries;
 pub use error::{Error, ModuleFault, Result, kind_name};
@@ -30,6 +34,7 @@ pub use front::{may_be_container, pages_end};
 pub use msf::{BigMSF, Msf, Stream, open_msf};
 pub use numbers::{half_at, nul_in, padding_behind, word_at};
 pub use page_list::PageList;
+pub use printed_fault::{PrintedFault, PrintedPiece};
 pub use raw_string::RawString;
 pub use shared_bytes::SharedBytes;
 pub use source::{ReadView, Source, SourceSlice};

@@ -20,10 +20,12 @@ use std::alloc::Global;
 use std::io::{ErrorKind, Read, Write};
 
 /// The number of bytes that a read asks for, and that gathered answers reach before they are
-/// written.
+/// written: what a pipe of Linux holds.
 const CHUNK_SIZE: usize = 65_536;
 
-/// The number of bytes from which on the room of what was written is given back.
+/// The number of bytes from which on the room of what was written is given back: 1 MB. Answers are
+/// written once [`CHUNK_SIZE`] bytes of them are gathered, so just a long answer takes that much,
+/// and its room isn't held to the end.
 const LONG_ROOM: usize = 1_048_576;
 
 /// The start of a line, and room for what a read takes and for texts, which is used again by each

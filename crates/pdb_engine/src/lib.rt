@@ -1,6 +1,9 @@
 //! Answers the lines of an input: it reads them, asks for their answers, and writes each answer. It
 //! also reads the address that a line or an argument stands for, and counts the failures of readers
 //! and writers.
+//!
+//! How much is read, made and gathered at once may change. What is written when a run ends, and
+//! what an address is, may not: reports promise it.
 #![tactic(auto)]
 
 mod address;

@@ -11,7 +11,10 @@ use crate::line_start::LineStart;
 use std::alloc::{AllocError, Global};
 use std::mem::replace;
 
-/// The number of bytes, taken together, from which on no more texts are made before their turn.
+/// The number of bytes, taken together, from which on no more texts are made before their turn: 8
+/// MB. A file chooses how long its texts are, so something has to bound what waits. With lines and
+/// answers as in the program's stored run, the answers to one read take 1 to 4 MB; docs/COSTS.md
+/// has an answer of 60 MB.
 const AHEAD_SIZE: usize = 8_388_608;
 
 /// Where the answer to a line stands among texts that were made, as offsets in bytes: from `start`

@@ -1,11 +1,13 @@
 -- What a loading fault prints.
 use Rattle.std.specs.Prelude.{◌≡◌, ℕ, List, ◌++◌, codes, string_bytes}
 use Rattle.std.specs.Fmt.{decimal}
-use Rattle.pdb_container.specs.ErrorText.{error_text}
+use Rattle.pdb_container.specs.ErrorText.{error_text, kind_text}
 use Rattle.pdb_resolving.specs.declared.error.Error as context
 use Rattle.pdb_resolving.specs.declared.error.Error.TheVariants as contexts
 use Rattle.pdb_loading.specs.declared.load_fault.LoadFault.{LoadFault}
 use Rattle.pdb_loading.specs.declared.load_fault.LoadFault.TheVariants as faults
+use Rattle.pdb_loading.specs.declared.on_demand.FileFault.{FileFault}
+use Rattle.pdb_loading.specs.declared.on_demand.FileFault.TheVariants.{Load, File}
 
 -- one value in parentheses, after a name that ends with the opening one
 abbrev pub with_number : List ℕ → ℕ → List ℕ
@@ -62,3 +64,9 @@ abbrev pub load_fault_text : LoadFault → List ℕ
 load_fault_text (faults.Pdb e) = cause_text e
 load_fault_text faults.AddressTableDecreases = codes "AddressTableDecreases"
 load_fault_text faults.OutOfMemory = codes "OutOfMemory"
+
+-- what the fault of a file that is read on demand prints: that of loading it, or its name and its
+-- kind
+abbrev pub file_fault_text : FileFault → List ℕ
+file_fault_text (Load fault) = load_fault_text fault
+file_fault_text (File kind) = codes "File(" ++ kind_text kind ++ codes ")"

@@ -2,6 +2,9 @@
 //! before any question. `specs/Loading` says which order, and which fault is the first;
 //! [`load_file`] reads in it. The modules' own streams are read when they are first asked for
 //! ([`FileModules`]).
+//!
+//! How much is read at once, and what is shared, may change. In which order a file is read, and so
+//! which fault is its first (`specs/Loading`), may not.
 #![tactic(auto)]
 
 mod file_modules;

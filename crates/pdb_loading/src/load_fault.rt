@@ -61,6 +61,8 @@ impl<T: Drop> From<AllocFailed<T>> for LoadFault {
     }
 }
 
+impl std::error::Error for LoadFault {}
+
 /// The name of an error without values; the text of others begins otherwise.
 pub fn plain_name(cause: &Error) -> &'static str
     ensures { HasPlainName cause.now result.now }

@@ -17,18 +17,20 @@ use crate::load_fault::LoadFault;
 use crate::loading::{LoadedFile, load_file};
 use crate::module_infos::{KeptModules, collect_modules};
 use boxcar::tag::Tag;
-use pdb_container::Result as ReadResult;
+use pdb_container::{Result as ReadResult, kind_name};
 use pdb_file_views::{FileSource, FileViews, Wanted};
 use pdb_symbols_modules::{DebugInformation, PDB};
 use std::alloc::{AllocError, Global};
+use std::fmt;
 use std::io::{self, ErrorKind};
 use std::os::unix::fs::FileExt;
 
 /// How often loading goes on after it read what was missing. A file whose streams can be found
-/// takes some ten.
+/// takes some ten, as docs/COSTS.md has them; three times that bounds files that lead on and on.
 const ROUNDS: u32 = 32;
 
-/// Why a file that is read on demand isn't loaded.
+/// Why a file that is read on demand isn't loaded. `Load` prints what it holds, and `File` its name
+/// and, in parentheses, its kind.
 #[derive(Debug, Drop)]
 pub enum FileFault {
     /// As of a file that is in memory.
@@ -48,6 +50,22 @@ impl From<AllocError> for FileFault {
         FileFault::Load(LoadFault::OutOfMemory)
     }
 }
+
+impl fmt::Display for FileFault {
+    ghost use Rattle.std.specs.Prelude.{Some};
+    ghost use Rattle.pdb_loading.specs.LoadFaultText.{file_fault_text};
+
+    ghost output = { λ f. Some (file_fault_text f) };
+
+    fn fmt<W: fmt::Write>(&self, f: &mut fmt::Formatter<W>) -> fmt::Result {
+        match self {
+            FileFault::Load(fault) => write!(f, "{fault}"),
+            FileFault::File(kind) => write!(f, "File({})", kind_name(*kind)),
+        }
+    }
+}
+
+impl std::error::Error for FileFault {}
 
 /// How reading a file failed; out of memory has one name.
 fn read_fault(error: &io::Error) -> FileFault

@@ -14,7 +14,7 @@ ghost use Rattle.pdb_symbols_modules.specs.Streams.{streams};
 use pdb_addresses::AddressMap;
 use pdb_container::{Error, Result, Source, StringTable};
 use pdb_items::{IdInformation, TypeInformation};
-use pdb_symbols::SymbolTable;
+use pdb_symbol_records::SymbolTable;
 use pdb_symbols_modules::{DebugInformation, PDB};
 use std::alloc::Global;
 use std::marker::Model;

@@ -27,7 +27,7 @@ use std::alloc::{AllocError, Global};
 use std::io::{ErrorKind, Read, Write};
 use std::os::unix::fs::FileExt;
 
-/// The most bytes of input that a run reads.
+/// The most bytes of input that a run reads, as of a file that is in memory.
 const INPUT_LIMIT: u64 = 1 << 30;
 
 /// A file that is asked for the answers to lines, room for a text, whether nothing was missing when

@@ -1,14 +1,22 @@
 //! Reports by a program database: it is loaded, and the answer to each line of an input is written,
 //! or how many addresses of a range each function has.
 //!
+//! How much is read, cached and made ahead may change. A report's bytes, its faults, and what is
+//! out at each of them may not: scripts and the laws of whole files stand on them.
+//!
 //! A [`Symbolizer`] is a file that was loaded, and a context of it is asked:
 //!
-//! ```text
-//! let symbolizer = Symbolizer::open(alloc, bytes)?;
-//! let mut context = symbolizer.context(alloc)?;
-//! if let Some(found) = context.find_frames(alloc, 0x1148)? {
+//! ```rust
+//! match Symbolizer::open(rt.alloc(), bytes) {
+//!     Ok(symbolizer) => Ok(symbolizer),
+//!     Err(fault) => bail!("{file}: {fault}"),
+//! }
+//! ```
+//!
+//! ```rust
+//! if let Some(found) = context.find_frames(rt.alloc(), address)? {
 //!     for frame in found.frames.iter() {
-//!         println!(rt; "{}", frame.function.as_deref().unwrap_or("??"))?;
+//!         tell_frame(rt, frame)?;
 //!     }
 //! }
 //! ```

@@ -11,7 +11,9 @@ use pdb_report_texts::{append_address, append_unreadable};
 use std::alloc::{AllocError, Global};
 use std::mem::replace;
 
-/// From how many bytes on a text is moved in place of being copied.
+/// From how many bytes on a text is moved in place of being copied: 1 MB. So a long answer is held
+/// once, and twice where it is made ahead, as docs/COSTS.md counts one of 60 MB; the room for short
+/// ones is used again.
 const LONG_TEXT: usize = 1_048_576;
 
 /// Appends what is written for an address.

@@ -25,7 +25,8 @@ use std::alloc::Global;
 use std::io::{Read, Write};
 use std::mem::forget;
 
-/// The most bytes of input that a run reads.
+/// The most bytes of input that a run reads: 2^30, some 100 million addresses. So a run ends on any
+/// reader, also on one that never does. docs/COSTS.md has what an address costs.
 const INPUT_LIMIT: u64 = 1 << 30;
 
 /// What becomes of the memory that a run's context holds, once the run ends.

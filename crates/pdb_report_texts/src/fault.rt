@@ -88,3 +88,5 @@ impl fmt::Display for RunFault {
         }
     }
 }
+
+impl std::error::Error for RunFault {}

@@ -1,4 +1,7 @@
 //! The texts of a report: the lines of an answer, and why a run ends early.
+//!
+//! How a text is put together may change, as long as a fault takes no memory. No byte of it may,
+//! since scripts read it.
 #![tactic(auto)]
 
 mod digits;
