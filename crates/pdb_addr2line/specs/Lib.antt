@@ -7,6 +7,7 @@ pub mod Starts
 pub use Rattle.pdb_answers.specs.Choice
 pub use Rattle.pdb_answers.specs.FailingParts
 pub use Rattle.pdb_answers.specs.Files
+pub use Rattle.pdb_answers.specs.FrameRuns
 pub use Rattle.pdb_answers.specs.FramesAt
 pub use Rattle.pdb_answers.specs.Keys
 pub use Rattle.pdb_answers.specs.Parts

@@ -23,7 +23,7 @@ use pdb_answers::{ContextParts, Namer, PlaceSymbolizer, TypeFormatter};
 use pdb_container::StringTable;
 use pdb_functions::{Function, FunctionFrames, FunctionKey, SharedFunctionFrames};
 use pdb_resolving::{Error, ModuleProvider, Result};
-use pdb_symbols::SymbolTable;
+use pdb_symbol_records::SymbolTable;
 use pdb_symbols_modules::DebugInformation;
 use std::alloc::Global;
 use std::marker::Model;

@@ -2,18 +2,35 @@
 //! it. Of a context, what was read of a module or a procedure, the names of functions and where
 //! functions begin are cached; what was asked before shows in no answer.
 //!
+//! What a context caches may change. Answers may not, nor the names of calls, which are those of
+//! the crate pdb-addr2line where it has them.
+//!
 //! A database is read once, and modules of a file when they are first asked for
 //! ([`ContextPdbData`]); contexts and formatters are made of what is held then:
 //!
-//! ```text
-//! let pdb = PDB::open(alloc, BoundedBytes::new(SharedBytes::new(bytes)?))?;
-//! let held = ContextPdbData::try_from_file(alloc, pdb)?;
-//! if held.address_map().is_ordered() {
-//!     let mut context = held.make_context(alloc)?;
-//!     let function = context.find_function(alloc, 0x1148)?;
+//! ```rust
+//! let bytes = SharedBytes::new(fs::read(rt, file)?)?;
+//! let pdb = PDB::open(rt.alloc(), FileSource::whole(bytes))?;
+//! let held: Held = ContextPdbData::try_from_file(rt.alloc(), pdb)?;
+//! ```
+//!
+//! `Held` is `ContextPdbData<'static, 'static, FileSource>`, and `FileSource` is of
+//! `pdb_file_views`.
+//!
+//! ```rust
+//! if !held.address_map().is_ordered() {
+//!     bail!("the address map is out of order");
 //! }
-//! let mut formatter = held.make_type_formatter(alloc)?;
-//! let text = formatter.format_function(alloc, "f", 0, TypeIndex(0x1007))?;
+//! let flags = TypeFormatterFlags::default() | TypeFormatterFlags::NO_ARGUMENTS;
+//! let mut context = held.make_context_with_formatter_flags(rt.alloc(), flags)?;
+//! ```
+//!
+//! A formatter is handed on by `tell_texts(rt, held.make_type_formatter(rt.alloc())?)`, and asked
+//! there:
+//!
+//! ```rust
+//! let text = formatter.format_function(rt.alloc(), "read", 0, TypeIndex(0x1007))?;
+//! let size = formatter.get_type_size(rt.alloc(), 0, TypeIndex(0x1016))?;
 //! ```
 //!
 //! `Symbolizer` of `pdb_report` does the first half, and refuses a file whose address map is out of
@@ -34,6 +51,8 @@
 //! | go over all functions | [`Context::functions`] |
 //! | ask how far one function goes | [`Context::find_function_run`] |
 //! | ask for the source file of a function, and how far it goes | [`Context::find_file_run`] |
+//! | ask for the frames at a place, and how far they go | [`Context::find_frames_run`] |
+//! | ask for these without copies of names | [`Context::find_shared_frames_run`] |
 //! | make a formatter | `make_type_formatter`, `make_type_formatter_with_flags` |
 //! | have the text of a function | [`TypeFormatter::format_function`] |
 //! | have the text of an inlined function's id | `format_id` |
@@ -44,6 +63,7 @@
 
 mod context;
 mod file_runs;
+mod frame_runs;
 mod function_starts;
 mod functions;
 mod modules;

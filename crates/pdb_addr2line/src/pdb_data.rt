@@ -4,6 +4,7 @@ ghost use Rattle.std.specs.Prelude.{◌≡◌, ◌≤◌, IfOk, IsOkUnless, Ok};
 ghost use Rattle.pdb_addresses.specs.Addresses.{IsOrdered};
 ghost use Rattle.pdb_container.specs.Fault.{HasRisen};
 ghost use Rattle.pdb_addr2line.specs.Formatters.{formatting_of, context_in, with_modules};
+ghost use Rattle.pdb_addr2line.specs.Formatters.{context_in_any_order, parts_held_in_any_order};
 ghost use Rattle.pdb_loading.specs.Held.{parts_held, read_in, IsOwn};
 ghost use Rattle.pdb_loading.specs.Loading.{database_read};
 ghost use Rattle.pdb_resolving.specs.Fault.{Answers};
@@ -19,7 +20,7 @@ use pdb_container::{Result, Source};
 use pdb_file_views::FileSource;
 use pdb_loading::{HeldDatabase, KeptModules, collect_modules, hold_database, read_database};
 use pdb_resolving::{Error, ModuleProvider};
-use pdb_symbols::SymbolTable;
+use pdb_symbol_records::SymbolTable;
 use pdb_symbols_modules::{DebugInformation, Module, ModuleInfo, PDB};
 use pdb_text_pieces::TypeFormatterFlags;
 use std::alloc::Global;
@@ -257,6 +258,46 @@ impl<'p, 's, S: Source> ContextPdbData<'p, 's, S> {
             &self.held.tables.symbol_records,
             self.held.names.as_ref(),
             &self.held.debug_information,
+            MaybeOwned::Owned(formatter),
+        )
+    }
+
+    /// What every question goes over, where section contributions may stand in any order
+    /// ([`ContextParts::in_any_order`]).
+    fn parts_in_any_order(&self, alloc: Global) -> std::result::Result<ContextParts<'_, 's>, Error>
+        requires { IsOrdered self.now.tables.map }
+        ensures { Answers (λ p. p) result (parts_held_in_any_order self.now) }
+    {
+        ContextParts::in_any_order(
+            alloc,
+            self.held.tables.address_map.image_section_headers(),
+            &self.held.tables.address_map,
+            &self.held.tables.symbol_records,
+            self.held.names.as_ref(),
+            &self.held.debug_information,
+        )
+    }
+
+    /// A context as [`ContextPdbData::make_context_with_formatter_flags`] makes it. But where its
+    /// parts are refused for the order of the section contributions, the first one in the order of
+    /// the file that holds a place is its holder. GNU ld before 2.44 writes such databases.
+    ///
+    /// # Errors
+    /// As [`Context::new_from_parts`], but for `UnorderedSectionContributions`.
+    pub fn make_context_in_any_order(
+        &self,
+        alloc: Global,
+        flags: TypeFormatterFlags,
+    ) -> std::result::Result<Context<'_, 's, KeptModules<'s>>, Error>
+        requires { IsOrdered self.now.tables.map }
+        ensures { Answers (λ c. c) result (context_in_any_order self.now flags.bits) }
+    {
+        let formatter = self.make_type_formatter_with_flags(alloc, flags)?;
+        let parts = self.parts_in_any_order(alloc)?;
+        Context::with_parts(
+            alloc,
+            &self.held.modules,
+            parts,
             MaybeOwned::Owned(formatter),
         )
     }

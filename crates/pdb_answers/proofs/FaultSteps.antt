@@ -71,7 +71,7 @@ data_fault : (p : Parts) (env : _) (m : ℕ) (held : ModuleData) (c : Chosen) (p
 unfolding frames_in_data
 data_fault p env m held c place part h = read_fault m held.stream (extended_of held.stream) c place part _ h
 
-frames_fault : (p : Parts) (env : _) (m : ℕ) (known : Option ModuleData) (c : Chosen) (place : PdbInternalSectionOffset) (part : Part) → failing_in m known c ≡ Some part → IsFault (frames_of_chosen p env known place (Some c))
+pub frames_fault : (p : Parts) (env : _) (m : ℕ) (known : Option ModuleData) (c : Chosen) (place : PdbInternalSectionOffset) (part : Part) → failing_in m known c ≡ Some part → IsFault (frames_of_chosen p env known place (Some c))
 frames_fault p env m None c place part h = absurd (none_is_some part h)
 frames_fault p env m (Some held) c place part h = then_fault (frames_in_data p env held c place) _ (data_fault p env m held c place part h)
 

@@ -3,6 +3,7 @@ pub mod FaultSteps
 pub mod FileKeySteps
 pub mod FileRunFaults
 pub mod FileSteps
+pub mod FrameRunSteps
 pub mod KeptSteps
 pub mod KeySteps
 pub mod KnownSteps

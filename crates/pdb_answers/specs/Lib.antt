@@ -5,6 +5,7 @@ pub use Rattle.pdb_frames.specs.Choice
 pub use Rattle.pdb_frames.specs.Failing
 pub use Rattle.pdb_frames.specs.FailingParts
 pub use Rattle.pdb_frames.specs.Files
+pub use Rattle.pdb_frames.specs.FrameRuns
 pub use Rattle.pdb_frames.specs.FramesAt
 pub use Rattle.pdb_frames.specs.Keys
 pub use Rattle.pdb_frames.specs.MaybeOwned

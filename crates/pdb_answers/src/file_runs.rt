@@ -53,7 +53,7 @@ fn run_if_addressed(
 }
 
 /// Remembers which part of a chosen function is the first that can't be read, if one can't.
-fn keep_failure<I: ModuleTables>(
+pub(crate) fn keep_failure<I: ModuleTables>(
     alloc: Global,
     known_failures: &mut KnownFailures,
     module_index: u16,
@@ -147,7 +147,7 @@ fn is_known_unreadable<'c, 'a, I: ModuleTables>(
 
 /// Reads what the file at a place is found by, and caches it, unless a part of it is known to be
 /// unreadable.
-fn keep_rows<'a, I: ModuleTables>(
+pub(crate) fn keep_rows<'a, I: ModuleTables>(
     alloc: Global,
     cached: &mut CachedModules<'a, I>,
     parts: &ContextParts<'a, '_>,

@@ -31,17 +31,17 @@ use std::alloc::Global;
 /// A place in a chosen function, with the data of its module, and the first of the function's parts
 /// that can't be read, where that is known.
 #[derive(Drop)]
-struct ChosenPlace<'c, 'a, I: ModuleTables> {
-    module_index: u16,
-    known: Option<&'c BasicModuleInfo<'a, I>>,
-    chosen: Chosen<'c, 'a>,
-    failing: Option<Part>,
-    place: PdbInternalSectionOffset,
+pub(crate) struct ChosenPlace<'c, 'a, I: ModuleTables> {
+    pub(crate) module_index: u16,
+    pub(crate) known: Option<&'c BasicModuleInfo<'a, I>>,
+    pub(crate) chosen: Chosen<'c, 'a>,
+    pub(crate) failing: Option<Part>,
+    pub(crate) place: PdbInternalSectionOffset,
 }
 
 /// Returns the frames at a place in a chosen function, if it has an RVA. Where it has none, its
 /// module's data are read all the same, but no frame is made.
-fn frames_of<'a, P: ModuleProvider>(
+pub(crate) fn frames_of<'a, P: ModuleProvider>(
     alloc: Global,
     parts: &ContextParts<'a, '_>,
     namer: &mut Namer<'a, '_, P>,

@@ -1,9 +1,13 @@
 //! Answers at a place: the frames, the function and the file, and how far these go on, over what is
 //! cached of modules.
+//!
+//! What is cached may change, since no answer shows it. Answers may not, nor which parts are known
+//! to fail after a question: later answers depend on these.
 #![tactic(auto)]
 
 mod cached_parts;
 mod file_runs;
+mod frame_runs;
 mod frames;
 mod functions;
 mod known_failures;

@@ -5,7 +5,7 @@ use Rattle.pdb_container.specs.Fault.{◌>>=◌}
 use Rattle.pdb_container.specs.Listing.{whole}
 use Rattle.pdb_addresses.specs.declared.sections.ImageSectionHeader.{ImageSectionHeader}
 use Rattle.pdb_addresses.specs.Addresses.{Map}
-use Rattle.pdb_symbols.specs.Symbols.{Symbol, symbols_from}
+use Rattle.pdb_symbol_records.specs.Symbols.{Symbol, symbols_from}
 use Rattle.pdb_contributions.specs.MergedContributions.{Held, held_of}
 use Rattle.pdb_contributions.specs.Publics.{publics_among, entries_of_symbols, placeholders, section_ends}
 use Rattle.pdb_resolving.specs.declared.error.Error.{Error}

@@ -1,6 +1,9 @@
 //! What is chosen at a place: a procedure, or an entry of the public list. It also finds which
 //! parts of an answer can't be read, and how far one answer goes on. It knows no names, and between
 //! questions it stores only what failed.
+//!
+//! How a place is searched may change. Which procedure or entry is chosen there (`specs/Choice`)
+//! may not, since each answer is stated by it.
 #![tactic(auto)]
 
 mod choice;

@@ -1,24 +1,26 @@
 //! The parts that every question goes over.
 
-ghost use Rattle.std.specs.Prelude.{◌≡◌, ℕ, List, Option, option_map};
+ghost use Rattle.std.specs.Prelude.{◌≡◌, ℕ, List, Ok, Option, option_map};
 ghost use Rattle.pdb_addresses.specs.Addresses.{IsOrdered, Map};
 ghost use Rattle.pdb_container.specs.RawString.{raw_bytes};
 ghost use Rattle.pdb_contributions.specs.MergedContributions.{holder as holder_of};
 ghost use Rattle.pdb_resolving.specs.Fault.{Answers};
 ghost use Rattle.pdb_choice.specs.Choice.{decorated_at as decorated_name_at};
 ghost use Rattle.pdb_choice.specs.Choice.{is_decorated as is_decorated_name};
-ghost use Rattle.pdb_choice.specs.Parts.{outcome, parts_checked, parts_of};
+ghost use Rattle.pdb_choice.specs.Parts.{outcome, parts_checked, parts_in_any_order, parts_of};
+ghost use Rattle.pdb_choice.specs.Parts.{parts_over};
 
 use pdb_addresses::{AddressMap, ImageSectionHeader, PdbInternalSectionOffset};
 use pdb_container::{RawString, StringTable};
 use pdb_contributions::{
-    HeldPlaces, ModuleSectionContribution, PublicList, SectionContributions, check_symbols,
-    compute_section_contributions, read_public_symbols,
+    HeldPlaces, ModuleSectionContribution, PublicFunction, PublicList, SectionContributions,
+    check_symbols, compute_section_contributions, compute_section_contributions_in_any_order,
+    read_public_symbols,
 };
 use pdb_known_modules::{SortedBounds, contribution_bounds};
 use pdb_module_data::FileNames;
 use pdb_resolving::Result;
-use pdb_symbols::SymbolTable;
+use pdb_symbol_records::SymbolTable;
 use pdb_symbols_modules::DebugInformation;
 use std::alloc::Global;
 use std::marker::Model;
@@ -101,6 +103,36 @@ fn read_through(
 }
 
 impl<'a, 's> ContextParts<'a, 's> {
+    /// The parts over functions and contributions that were read. `OutOfMemory` alone.
+    fn over(
+        alloc: Global,
+        sections: &[ImageSectionHeader],
+        address_map: &'a AddressMap<'s>,
+        string_table: Option<&'a StringTable<'s>>,
+        functions: Vec<PublicFunction<'a>>,
+        held: SectionContributions,
+    ) -> Result<ContextParts<'a, 's>>
+        requires { IsOrdered address_map.now }
+        ensures { Answers (λ p. p) result (Ok (parts_over sections.now address_map.now
+            (option_map (λ t. t.now) string_table.entry) functions.entry.items held)) }
+    {
+        let SectionContributions {
+            contributions,
+            later_starts,
+        } = held;
+        let publics = PublicList::new(functions, later_starts.as_slice(), sections)?;
+        let bounds = contribution_bounds(alloc, contributions.as_slice())?;
+        let contributions = HeldPlaces::new(alloc, contributions)?;
+        let names = FileNames::new(alloc, string_table)?;
+        Ok(ContextParts {
+            address_map,
+            contributions,
+            bounds,
+            publics,
+            names,
+        })
+    }
+
     /// Makes the parts. It reads the symbol records to their end, and then the section
     /// contributions of the DBI stream.
     ///
@@ -122,21 +154,33 @@ impl<'a, 's> ContextParts<'a, 's> {
             (option_map (λ t. t.now) string_table.entry)) }
     {
         let functions = read_public_symbols(alloc, global_symbols.iter(), sections)?;
-        let SectionContributions {
-            contributions,
-            later_starts,
-        } = compute_section_contributions(alloc, debug_info, sections)?;
-        let publics = PublicList::new(functions, later_starts.as_slice(), sections)?;
-        let bounds = contribution_bounds(alloc, contributions.as_slice())?;
-        let contributions = HeldPlaces::new(alloc, contributions)?;
-        let names = FileNames::new(alloc, string_table)?;
-        Ok(ContextParts {
-            address_map,
-            contributions,
-            bounds,
-            publics,
-            names,
-        })
+        let held = compute_section_contributions(alloc, debug_info, sections)?;
+        ContextParts::over(alloc, sections, address_map, string_table, functions, held)
+    }
+
+    /// Makes the parts as [`ContextParts::new`], where section contributions may stand in any
+    /// order: where merging them is refused for that, the first one in the order of the file that
+    /// holds a place is its holder.
+    ///
+    /// # Errors
+    /// As [`ContextParts::new`], but for `UnorderedSectionContributions`.
+    #[tactic(auto, using(pdb_resolving::proofs::Lifting::given_fails_on, pdb_resolving::proofs::Lifting::fails_on), unfolding(crate::specs::Parts::parts_in_any_order))]
+    pub fn in_any_order(
+        alloc: Global,
+        sections: &[ImageSectionHeader],
+        address_map: &'a AddressMap<'s>,
+        global_symbols: &'a SymbolTable<'s>,
+        string_table: Option<&'a StringTable<'s>>,
+        debug_info: &DebugInformation<'_>,
+    ) -> Result<ContextParts<'a, 's>>
+        requires { IsOrdered address_map.now }
+        ensures { Answers (λ p. p) result
+            (parts_in_any_order sections.now address_map.now global_symbols.now
+            debug_info.now.contributions (option_map (λ t. t.now) string_table.entry)) }
+    {
+        let functions = read_public_symbols(alloc, global_symbols.iter(), sections)?;
+        let held = compute_section_contributions_in_any_order(alloc, debug_info, sections)?;
+        ContextParts::over(alloc, sections, address_map, string_table, functions, held)
     }
 
     /// Checks that the parts can be made, whatever the address map and the names are.

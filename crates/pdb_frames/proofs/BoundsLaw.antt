@@ -14,9 +14,11 @@ use Rattle.pdb_contributions.specs.declared.contribution.ModuleSectionContributi
 }
 use Rattle.pdb_frames.proofs.FileRunLaw.{here_stays, starts_stay}
 use Rattle.pdb_frames.proofs.FileStays.{AreClear}
+use Rattle.pdb_frames.proofs.FrameRunLaw.{cuts_stay, here_stay}
 use Rattle.pdb_frames.proofs.RunLaw.{IsClear, NoBound, by_stays, front_clear, here_by}
 use Rattle.pdb_frames.proofs.RunLaw.{holder_step, left_false, on, right_false}
 use Rattle.pdb_frames.specs.Files.{if_any, starts_here, files_of}
+use Rattle.pdb_frames.specs.FrameRuns.{cuts_here, frames_of_places}
 use Rattle.pdb_frames.specs.Runs.{procedures_of, is_bound, database_of}
 use Rattle.pdb_frames.specs.Scopes.{Scope}
 use Rattle.pdb_functions.specs.Databases as databases
@@ -82,3 +84,23 @@ file_before p scope place free =
     only_one (λ (k : ℕ). IsClear (starts_here p scope here) (here.offset + k)) j low
     (omega (arith, high)) rows in
     ap if_any (here_stays p scope here 1 2 none (omega arith) apart)
+
+-- a place that is no bound has the frames of the place before it
+pub frames_before : (p : Parts) (scope : ℕ → Scope) (place : Place)
+    → (frames_of_places p scope).is_bound (databases.on place 1) ≡ false
+    → (frames_of_places p scope).answer (databases.on place 1)
+    ≡ (frames_of_places p scope).answer place
+frames_before p scope place free =
+    let here = internal_place place in
+    let next = on here 1 in
+    let begun = list_any (λ cut. next.offset == cut) (cuts_here p scope next) in
+    let no_bound = left_false (is_bound p scope next) begun free in
+    let no_cut = right_false (is_bound p scope next) begun free in
+    let none = none_by_holder p scope here no_bound in
+    let cuts : IsClear (cuts_here p scope here) (here.offset + 1) =
+    subst (λ (places : List ℕ). IsClear places (here.offset + 1))
+    (cuts_stay p scope here 1 2 none (omega arith)) no_cut in
+    let apart : AreClear (cuts_here p scope here) here.offset 1 = λ j low high.
+    only_one (λ (k : ℕ). IsClear (cuts_here p scope here) (here.offset + k)) j low
+    (omega (arith, high)) cuts in
+    here_stay p scope here 1 2 none (omega arith) apart

@@ -79,7 +79,7 @@ kind_by_holder p scope (Some c) place k n none lt =
     ∙ frames_stay p s.env known place (on place k) (chosen p procedures c place)
 
 -- whether there are frames, and whether they can be read, stays up to the next bound
-kind_stays : (p : Parts) (scope : ℕ → Scope) (place : PdbInternalSectionOffset) (k n : ℕ)
+pub kind_stays : (p : Parts) (scope : ℕ → Scope) (place : PdbInternalSectionOffset) (k n : ℕ)
     → NoBound p (procedures_of scope (holder p.contributions place)) place n → k < n
     → unnamed (file_here p scope (on place k)) ≡ unnamed (file_here p scope place)
 kind_stays p scope place k n none lt =
@@ -169,7 +169,7 @@ here_stays p scope place k n none lt clear =
 
 -- ---- the run
 
-both_false : (a b : Bool) → a ≡ false → b ≡ false → (a || b) ≡ false
+pub both_false : (a b : Bool) → a ≡ false → b ≡ false → (a || b) ≡ false
 both_false a b h i = (cc)
 
 -- the end of a run is a bound, or a row begins there

@@ -45,7 +45,7 @@ row_step (row ∷ rows) x h =
     ∙ ap (λ (o : Option LineRow). later_row (if_begun row x) o) rest
 
 -- between starts of rows the row stays
-row_stays : (rows : List LineRow) (x k : ℕ)
+pub row_stays : (rows : List LineRow) (x k : ℕ)
     → ((j : ℕ) → 1 ≤ j → j ≤ k → IsClear (row_starts rows) (x + j))
     → row_at rows (x + k) ≡ row_at rows x
 row_stays rows x zero clear = let e : x + 0 ≡ x = omega arith in ap (row_at rows) e
@@ -208,7 +208,7 @@ unnamed Unreadable = Unreadable
 unnamed NoFile = NoFile
 unnamed (File name) = NoFile
 
-unnamed_file : (name : Option (List ℕ)) → unnamed (file_or_none name) ≡ NoFile
+pub unnamed_file : (name : Option (List ℕ)) → unnamed (file_or_none name) ≡ NoFile
 unnamed_file None = refl
 unnamed_file (Some name) = refl
 

@@ -1,7 +1,11 @@
 pub mod BoundsLaw
+pub mod CallsStay
 pub mod FileRunLaw
 pub mod FileRunSteps
 pub mod FileStays
+pub mod FrameRunLaw
+pub mod FrameRunSteps
 pub mod FramesDeep
+pub mod FramesStay
 pub mod ProcedureSteps
 pub mod RunLaw

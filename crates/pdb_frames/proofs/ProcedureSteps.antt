@@ -25,7 +25,7 @@ found row calls = Ok (row, calls)
 abbrev read_both : List LineRow → List Site → Result (List LineRow × List Site) Fault
 read_both rows sites = Ok (rows, sites)
 
-abbrev found_in : (List LineRow → Option LineRow) → (List Site → List InlinedCall) → List LineRow × List Site → Result (Option LineRow × List InlinedCall) Fault
+abbrev pub found_in : (List LineRow → Option LineRow) → (List Site → List InlinedCall) → List LineRow × List Site → Result (Option LineRow × List InlinedCall) Fault
 found_in f g read = Ok (f read.0, g read.1)
 
 module _ (f : List LineRow → Option LineRow) (g : List Site → List InlinedCall) where
@@ -46,12 +46,12 @@ module _ (f : List LineRow → Option LineRow) (g : List Site → List InlinedCa
   in_rows (Err e) symbols sites = refl
 
 -- row and calls by rows and sites
-abbrev by_parts : ModuleStream → ExtendedModule → Procedure → PdbInternalSectionOffset → Type 0
+abbrev pub by_parts : ModuleStream → ExtendedModule → Procedure → PdbInternalSectionOffset → Type 0
 by_parts stream extended q place =
     row_and_calls stream extended (Proc q) place ≡ (extended_procedure_of stream extended.program q >>= found_in (λ rows. row_at rows place.offset) (λ sites. calls_over (call_rows extended.inlinees q.offset) sites place))
 
 -- row and calls of a procedure are those by its rows and its sites
-row_and_calls_by : (stream : ModuleStream) (extended : ExtendedModule) (q : Procedure) (place : PdbInternalSectionOffset) → by_parts stream extended q place
+pub row_and_calls_by : (stream : ModuleStream) (extended : ExtendedModule) (q : Procedure) (place : PdbInternalSectionOffset) → by_parts stream extended q place
 unfolding row_and_calls extended_procedure_of procedure_calls
 row_and_calls_by stream extended q place =
     in_rows (λ rows. row_at rows place.offset) (λ sites. calls_over (call_rows extended.inlinees q.offset) sites place)

@@ -44,7 +44,7 @@ IsClear bounds x = list_any (λ bound. x == bound) bounds ≡ false
 pub front_clear : (bs cs : List ℕ) (x : ℕ) → IsClear (bs ++ cs) x → IsClear bs x
 front_clear bs cs x h = left_false (list_any (λ bound. x == bound) bs) (list_any (λ bound. x == bound) cs) (sym (list_any-append (λ bound. x == bound) bs cs) ∙ h)
 
-rest_clear : (bs cs : List ℕ) (x : ℕ) → IsClear (bs ++ cs) x → IsClear cs x
+pub rest_clear : (bs cs : List ℕ) (x : ℕ) → IsClear (bs ++ cs) x → IsClear cs x
 rest_clear bs cs x h = right_false (list_any (λ bound. x == bound) bs) (list_any (λ bound. x == bound) cs) (sym (list_any-append (λ bound. x == bound) bs cs) ∙ h)
 
 pub leb_step : (start x : ℕ) → x + 1 ≢ start → leb start (x + 1) ≡ leb start x
@@ -53,7 +53,7 @@ leb_step start x other = elim (cases_lt x start) [
   | inr high ↦ rw (le-leb start (x + 1) (omega arith), le-leb start x high) refl
 ]
 
-ltb_step : (end x : ℕ) → x + 1 ≢ end → ltb (x + 1) end ≡ ltb x end
+pub ltb_step : (end x : ℕ) → x + 1 ≢ end → ltb (x + 1) end ≡ ltb x end
 ltb_step end x other = elim (cases_lt x end) [
   | inl low ↦ rw (lt-ltb (x + 1) end (omega arith), lt-ltb x end low) refl
   | inr high ↦ rw (le-ltb (x + 1) end (omega arith), le-ltb x end high) refl

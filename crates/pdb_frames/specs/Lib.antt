@@ -3,6 +3,7 @@ pub mod Depth
 pub mod Failing
 pub mod FileRuns
 pub mod Files
+pub mod FrameRuns
 pub mod FramesAt
 pub mod Keys
 pub mod Runs

@@ -5,6 +5,7 @@ ghost use Rattle.pdb_addresses.specs.Places.{Place};
 ghost use Rattle.pdb_choice.specs.Choice.{Parts};
 ghost use Rattle.pdb_frames.specs.Depth.{AreAsDeep};
 ghost use Rattle.pdb_frames.specs.Files.{files_of};
+ghost use Rattle.pdb_frames.specs.FrameRuns.{frames_of_places};
 ghost use Rattle.pdb_frames.specs.FramesAt.{frames};
 ghost use Rattle.pdb_frames.specs.Runs.{database_of};
 ghost use Rattle.pdb_frames.specs.Scopes.{Scope};
@@ -27,8 +28,8 @@ pub fn functions_have_files()
         → is_some ((files_of parts scope).answer place) ≡ true }
 {}
 
-/// Answers change at bounds alone: a place that is none has the function, and the file, of the
-/// place before it in its section.
+/// Answers change at bounds alone: a place that is none has the function, the file, and the frames
+/// with their rows, of the place before it in its section.
 pub fn answers_change_at_bounds()
     ensures functions { (parts : Parts) (scope : ℕ → Scope) (place : Place)
         → (database_of parts scope).is_bound (on place 1) ≡ false
@@ -37,4 +38,8 @@ pub fn answers_change_at_bounds()
     ensures files { (parts : Parts) (scope : ℕ → Scope) (place : Place)
         → (files_of parts scope).is_bound (on place 1) ≡ false
         → (files_of parts scope).answer (on place 1) ≡ (files_of parts scope).answer place }
+    ensures frames { (parts : Parts) (scope : ℕ → Scope) (place : Place)
+        → (frames_of_places parts scope).is_bound (on place 1) ≡ false
+        → (frames_of_places parts scope).answer (on place 1)
+        ≡ (frames_of_places parts scope).answer place }
 {}

@@ -3,9 +3,9 @@ use Rattle.std.proofs.Common.{◌≡◌, ℕ, zero, suc, ◌+◌, ◌-◌, ◌<�
 use Rattle.std.specs.Prelude.{nat_le, if◌then◌else◌}
 use Rattle.std.proofs.lemmas.Bool.{cases_lt, lt-ltb, le-ltb, le-leb, lt-leb}
 use Rattle.pdb_container.specs.Fault.{Fault, ◌>>=◌}
-use Rattle.pdb_symbols.specs.Forms.{InlineSiteForm}
-use Rattle.pdb_symbols.specs.Symbols.{Symbol, next}
-use Rattle.pdb_symbols.proofs.Lists.{is_found, next_past}
+use Rattle.pdb_symbol_records.specs.Forms.{InlineSiteForm}
+use Rattle.pdb_symbol_records.specs.Symbols.{Symbol, next}
+use Rattle.pdb_symbol_records.proofs.Lists.{is_found, next_past}
 use Rattle.pdb_module_data.specs.Forest.{SitesFault, Unsuccessful, Forest, Empty, Tree, Element, Call, Nested, Plain, element_of, behind_found, past, in_symbols, tree_read, element_read, body_found, body_within, body}
 
 -- what reads a body by its limit, its depth and its place

@@ -3,8 +3,8 @@ use Rattle.std.proofs.Common.{◌≡◌, ℕ, ◌+◌, ◌<◌, ◌≤◌, List,
 use Rattle.std.specs.Prelude.{nat_lt, if◌then◌else◌}
 use Rattle.std.proofs.lemmas.Bool.{lt-ltb, le-ltb, le-leb, lt-leb}
 use Rattle.pdb_container.specs.Fault.{Fault, ◌>>=◌}
-use Rattle.pdb_symbols.specs.Forms.{InlineSiteForm}
-use Rattle.pdb_symbols.specs.Symbols.{Symbol, next}
+use Rattle.pdb_symbol_records.specs.Forms.{InlineSiteForm}
+use Rattle.pdb_symbol_records.specs.Symbols.{Symbol, next}
 use Rattle.pdb_module_data.specs.Forest.{InSymbols, Unsuccessful, Empty, Element, Call, Nested, Plain, element_of, past, in_symbols, tree_read, element_read, body_found, body}
 use Rattle.pdb_module_data.proofs.Bodies.{body_step}
 

@@ -3,7 +3,7 @@ use Rattle.std.proofs.Common.{◌≡◌, ℕ, List, Option, Some, None, length, 
 use Rattle.std.specs.Prelude.{slice_get, option_map, unwrap_or}
 use Rattle.pdb_addresses.specs.declared.internal_section_offset.PdbInternalSectionOffset.{PdbInternalSectionOffset}
 use Rattle.pdb_subsections.specs.declared.line_info.LineInfo.{LineInfo}
-use Rattle.pdb_symbols.specs.Forms.{InlineSiteForm}
+use Rattle.pdb_symbol_records.specs.Forms.{InlineSiteForm}
 use Rattle.pdb_module_data.specs.Forest.{Site}
 use Rattle.pdb_module_data.specs.InlinedCalls.{IsNested, deepest_from, deepest, depth_over, calls_over}
 use Rattle.pdb_module_data.proofs.ChainSteps.{depth_of, depth_at, calls_deep}

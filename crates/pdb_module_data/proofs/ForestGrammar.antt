@@ -2,9 +2,9 @@
 use Rattle.std.proofs.Common.{◌≡◌, ℕ, zero, suc, ◌+◌, ◌-◌, ◌<◌, ◌≤◌, inl, inr, List, length, Option, Some, None, Result, Ok, Err, refl, sym, subst, ap, ◌∙◌, arith}
 use Rattle.std.proofs.lemmas.Bool.{cases_lt, lt-ltb, le-ltb, le-leb, lt-leb}
 use Rattle.pdb_container.specs.Fault.{Fault, ◌>>=◌}
-use Rattle.pdb_symbols.specs.Forms.{InlineSiteForm}
-use Rattle.pdb_symbols.specs.Symbols.{Symbol, next}
-use Rattle.pdb_symbols.proofs.Lists.{next_past}
+use Rattle.pdb_symbol_records.specs.Forms.{InlineSiteForm}
+use Rattle.pdb_symbol_records.specs.Symbols.{Symbol, next}
+use Rattle.pdb_symbol_records.proofs.Lists.{next_past}
 use Rattle.pdb_module_data.specs.Forest.{SitesFault, Unsuccessful, Forest, Empty, Tree, Element, Call, Nested, Plain, element_of, past, Body, ended, closed, other, procedure, site, in_symbols, tree_read, element_read, body_found, body_within, body, Site, numbered, IsForest, sites_from}
 use Rattle.pdb_module_data.proofs.Bodies.{Reader, bind_ok, past_of_symbols, past_further, found_between, IsOnward, within_onward}
 use Rattle.pdb_module_data.proofs.BodySteps.{body_ended, body_closed, body_plain, body_nested, body_site}

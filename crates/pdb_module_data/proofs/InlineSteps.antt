@@ -5,7 +5,7 @@ use Rattle.std.specs.List.{list_any}
 use Rattle.std.proofs.lemmas.Bool.Decides.{nat_tests}
 use Rattle.pdb_addresses.specs.declared.internal_section_offset.PdbInternalSectionOffset.{PdbInternalSectionOffset}
 use Rattle.pdb_subsections.specs.declared.line_info.LineInfo.{LineInfo}
-use Rattle.pdb_symbols.specs.Forms.{InlineSiteForm}
+use Rattle.pdb_symbol_records.specs.Forms.{InlineSiteForm}
 use Rattle.pdb_inlinees.specs.InlinedRows.{covers}
 use Rattle.pdb_pieces.specs.declared.span.Mark.{Mark}
 use Rattle.pdb_pieces.specs.declared.span.Span.{Span}

@@ -1,6 +1,6 @@
 -- What is stored of rows answers as the rows do.
 use Rattle.std.proofs.Common.{◌≡◌, ℕ, zero, suc, ◌+◌, ◌-◌, ◌≤◌, Bool, true, false, List, [], ◌∷◌, ◌++◌, length, get_or, drop, Option, None, Some, refl, sym, ap, ◌∙◌, append_assoc, add-one, arith}
-use Rattle.pdb_symbols.specs.Forms.{InlineSiteForm}
+use Rattle.pdb_symbol_records.specs.Forms.{InlineSiteForm}
 use Rattle.pdb_module_data.specs.Forest.{Site}
 use Rattle.std.specs.Prelude.{◌||◌, ◌<◌, if◌then◌else◌, unwrap_or, option_map, slice_get}
 use Rattle.std.specs.List.{find, list_any}

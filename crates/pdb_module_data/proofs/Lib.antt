@@ -4,6 +4,7 @@ mod BodySteps
 pub mod CallRowSteps
 mod CallsDeep
 pub mod ChainSteps
+pub mod CutSteps
 mod FirstStarts
 mod ForestGrammar
 pub mod KeptRows

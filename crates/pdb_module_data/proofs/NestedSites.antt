@@ -3,7 +3,7 @@ use Rattle.std.proofs.Common.{◌≡◌, ℕ, zero, suc, ◌+◌, ◌≤◌, ◌
 use Rattle.std.specs.List.{slice_get}
 use Rattle.std.proofs.lemmas.Option.{slice_get_within}
 use Rattle.std.proofs.lemmas.List.{append-nil}
-use Rattle.pdb_symbols.specs.Forms.{InlineSiteForm}
+use Rattle.pdb_symbol_records.specs.Forms.{InlineSiteForm}
 use Rattle.pdb_module_data.specs.Forest.{Forest, Empty, Tree, Site, numbered, sites_from}
 use Rattle.pdb_module_data.specs.InlinedCalls.{FitsParent, IsNested}
 use Rattle.pdb_module_data.proofs.ForestGrammar.{forest_is}

@@ -4,10 +4,10 @@ use Rattle.std.specs.Prelude.{IsErrAnd, nat_lt, if◌then◌else◌}
 use Rattle.std.proofs.lemmas.Bool.{cases_lt, lt-ltb, le-ltb}
 use Rattle.std.proofs.lemmas.List.{append-nil, reverse-append, length-reverse, nil_from_length}
 use Rattle.pdb_container.specs.Fault.{Fault, fault_of, ◌>>=◌}
-use Rattle.pdb_symbols.specs.Forms.{InlineSiteForm}
-use Rattle.pdb_symbols.specs.Iteration.{SymbolIteration, found_next, symbol_of, symbols_behind}
-use Rattle.pdb_symbols.specs.Symbols.{Symbol, next}
-use Rattle.pdb_symbols.proofs.Lists.{next_past}
+use Rattle.pdb_symbol_records.specs.Forms.{InlineSiteForm}
+use Rattle.pdb_symbol_records.specs.Iteration.{SymbolIteration, found_next, symbol_of, symbols_behind}
+use Rattle.pdb_symbol_records.specs.Symbols.{Symbol, next}
+use Rattle.pdb_symbol_records.proofs.Lists.{next_past}
 use Rattle.pdb_module_data.specs.declared.inline_sites.Open.{Open}
 use Rattle.pdb_module_data.specs.declared.inline_sites.SitesError.{SitesError}
 use Rattle.pdb_module_data.specs.declared.inline_sites.SitesError.TheVariants as errors

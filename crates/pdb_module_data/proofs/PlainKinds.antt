@@ -2,11 +2,11 @@
 use Rattle.std.proofs.Common.{◌≡◌, ℕ, List, Result, Ok, Err, true, false, refl}
 use Rattle.std.specs.Prelude.{Bool, ◌==◌, if◌then◌else◌}
 use Rattle.pdb_container.specs.Fault.{Fault, UnimplementedSymbolKind}
-use Rattle.pdb_symbols.specs.Forms as forms
-use Rattle.pdb_symbols.specs.Forms.{SymbolForm}
-use Rattle.pdb_symbols.specs.Kinds.{is_public, is_procedure, is_thunk, is_separated_code, is_inline_site}
-use Rattle.pdb_symbols.specs.Records.{public_of, procedure_symbol_at, thunk_of, separated_code_of, inline_site_of, as_form, end_form, form_of, symbol_form_of}
-use Rattle.pdb_symbols.specs.Symbols.{Symbol, kind_of, payload_of}
+use Rattle.pdb_symbol_records.specs.Forms as forms
+use Rattle.pdb_symbol_records.specs.Forms.{SymbolForm}
+use Rattle.pdb_symbol_records.specs.Kinds.{is_public, is_procedure, is_thunk, is_separated_code, is_inline_site}
+use Rattle.pdb_symbol_records.specs.Records.{public_of, procedure_symbol_at, thunk_of, separated_code_of, inline_site_of, as_form, end_form, form_of, symbol_form_of}
+use Rattle.pdb_symbol_records.specs.Symbols.{Symbol, kind_of, payload_of}
 use Rattle.pdb_module_data.specs.Forest.{Plain, element_said, element_of}
 
 form_plain : {A : Type 0} (make : A → SymbolForm) (r : Result A Fault) → ((x : A) → element_said (Ok (make x)) ≡ Plain) → element_said (as_form make r) ≡ Plain

@@ -8,11 +8,11 @@ use Rattle.std.proofs.lemmas.Bool.Decides.{nat_tests}
 use Rattle.pdb_addresses.specs.declared.internal_section_offset.PdbInternalSectionOffset.{PdbInternalSectionOffset}
 use Rattle.pdb_container.specs.Fault.{Fault, ◌>>=◌}
 use Rattle.pdb_container.specs.Listing.{Listing, ending, before, whole, whole_with}
-use Rattle.pdb_symbols.specs.Forms as forms
-use Rattle.pdb_symbols.specs.Forms.{SymbolForm}
-use Rattle.pdb_symbols.specs.Kinds.{is_public, is_procedure, is_thunk, is_separated_code, is_inline_site}
-use Rattle.pdb_symbols.specs.Records.{as_form, end_form, form_of, symbol_form_of}
-use Rattle.pdb_symbols.specs.Symbols.{Symbol, kind_of}
+use Rattle.pdb_symbol_records.specs.Forms as forms
+use Rattle.pdb_symbol_records.specs.Forms.{SymbolForm}
+use Rattle.pdb_symbol_records.specs.Kinds.{is_public, is_procedure, is_thunk, is_separated_code, is_inline_site}
+use Rattle.pdb_symbol_records.specs.Records.{as_form, end_form, form_of, symbol_form_of}
+use Rattle.pdb_symbol_records.specs.Symbols.{Symbol, kind_of}
 use Rattle.pdb_module_data.specs.Procedures.{Procedure, is_procedure_kind, said_procedure, kept_of, kept_before, kept_behind, is_at, place_cmp, has_start, onto_new, firsts_onto, procedures_of}
 
 -- ---- symbols of other kinds

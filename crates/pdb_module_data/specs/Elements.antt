@@ -2,7 +2,7 @@
 -- procedures.
 use Rattle.std.specs.Prelude.{ℕ, ◌+◌, Option, List, [], ◌∷◌, ◌++◌, length, nat_lt, if◌then◌else◌}
 use Rattle.std.specs.Prelude.{Result, Ok, Err}
-use Rattle.pdb_symbols.specs.Forms.{InlineSiteForm, inline_site_form}
+use Rattle.pdb_symbol_records.specs.Forms.{InlineSiteForm, inline_site_form}
 use Rattle.pdb_module_data.specs.Forest as forest
 use Rattle.pdb_module_data.specs.declared.inline_sites.Element.{Element}
 use Rattle.pdb_module_data.specs.declared.inline_sites.Element.TheVariants as elements

@@ -4,10 +4,10 @@
 use Rattle.std.specs.Prelude.{◌≡◌, ℕ, zero, suc, ◌+◌, ◌<◌, ◌≤◌, Option, Some, None, List, [], ◌∷◌}
 use Rattle.std.specs.Prelude.{◌++◌, length, nat_le, nat_lt, if◌then◌else◌, Result, Ok, Err}
 use Rattle.pdb_container.specs.Fault.{Fault, ◌>>=◌}
-use Rattle.pdb_symbols.specs.Forms as forms
-use Rattle.pdb_symbols.specs.Forms.{SymbolForm, InlineSiteForm}
-use Rattle.pdb_symbols.specs.Records.{symbol_form_of}
-use Rattle.pdb_symbols.specs.Symbols.{Symbol, next}
+use Rattle.pdb_symbol_records.specs.Forms as forms
+use Rattle.pdb_symbol_records.specs.Forms.{SymbolForm, InlineSiteForm}
+use Rattle.pdb_symbol_records.specs.Records.{symbol_form_of}
+use Rattle.pdb_symbol_records.specs.Symbols.{Symbol, next}
 
 -- why sites can't be read: a symbol can't be found; or a nested procedure doesn't end after its own
 -- symbol, or sites lie in one another too deep

@@ -3,7 +3,7 @@
 use Rattle.std.specs.Prelude.{◌≡◌, ℕ, ◌+◌, ◌-◌, ◌^◌, ◌<◌, ◌≤◌, Bool, ◌&&◌, ◌==◌, nat_le, nat_lt}
 use Rattle.std.specs.Prelude.{List, [], ◌∷◌, ◌++◌, map, length, take, drop, slice_index, unwrap_or}
 use Rattle.std.specs.Prelude.{Option, None, Some, option_map, if◌then◌else◌}
-use Rattle.std.specs.Prelude.{◌≢◌, option_and_then, slice_get}
+use Rattle.std.specs.Prelude.{◌≢◌, min, option_and_then, slice_get}
 use Rattle.std.specs.BTreeMap.{BTreeMap, get}
 use Rattle.std.specs.List.{find, flat_map}
 use Rattle.std.specs.Ordering.{nat_cmp}
@@ -12,7 +12,7 @@ use Rattle.pdb_addresses.specs.declared.internal_section_offset.PdbInternalSecti
   PdbInternalSectionOffset,
 }
 use Rattle.pdb_subsections.specs.declared.line_info.LineInfo.{LineInfo}
-use Rattle.pdb_symbols.specs.Forms.{InlineSiteForm}
+use Rattle.pdb_symbol_records.specs.Forms.{InlineSiteForm}
 use Rattle.pdb_pieces.specs.declared.span.Span.{Span}
 use Rattle.pdb_pieces.specs.Spans.{best, place_number}
 use Rattle.pdb_module_data.specs.declared.call_rows.CallRow.{CallRow}
@@ -51,6 +51,15 @@ starts_of_sites rows from (site ∷ sites) =
 -- the rows from a number on and before another one
 abbrev pub rows_between : List CallRow → ℕ → ℕ → List CallRow
 rows_between rows from to = take (to - from) (drop from rows)
+
+-- where a row begins, and where it ends: at 2^32 at the latest
+abbrev pub row_cuts : CallRow → List ℕ
+row_cuts row =
+    (row.offset).offset ∷ min ((row.offset).offset + row.length) (2 ^ 32) ∷ []
+
+-- where rows begin and end
+abbrev pub cuts_of : List CallRow → List ℕ
+cuts_of rows = flat_map row_cuts rows
 
 -- for so many sites there are starts that ascend among so many rows, and one more for the end
 pub record AreCut (sites : ℕ) (starts : List ℕ) (rows : ℕ) : Type 0 where

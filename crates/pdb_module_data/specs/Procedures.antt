@@ -13,12 +13,12 @@ use Rattle.pdb_indices.specs.declared.numbers.SymbolIndex.{SymbolIndex}
 use Rattle.pdb_addresses.specs.declared.internal_section_offset.PdbInternalSectionOffset.{
   PdbInternalSectionOffset,
 }
-use Rattle.pdb_symbols.specs.declared.symbol_data.SeparatedCodeSymbol.{SeparatedCodeSymbol}
-use Rattle.pdb_symbols.specs.Forms as forms
-use Rattle.pdb_symbols.specs.Forms.{SymbolForm}
-use Rattle.pdb_symbols.specs.Kinds.{is_procedure, is_thunk, is_separated_code}
-use Rattle.pdb_symbols.specs.Records.{symbol_form_of}
-use Rattle.pdb_symbols.specs.Symbols.{Symbol}
+use Rattle.pdb_symbol_records.specs.declared.symbol_data.SeparatedCodeSymbol.{SeparatedCodeSymbol}
+use Rattle.pdb_symbol_records.specs.Forms as forms
+use Rattle.pdb_symbol_records.specs.Forms.{SymbolForm}
+use Rattle.pdb_symbol_records.specs.Kinds.{is_procedure, is_thunk, is_separated_code}
+use Rattle.pdb_symbol_records.specs.Records.{symbol_form_of}
+use Rattle.pdb_symbol_records.specs.Symbols.{Symbol}
 
 -- a procedure of a module: its symbol and the symbol that ends it, where its code begins, how many
 -- bytes of code it has, the index of its type, and its name

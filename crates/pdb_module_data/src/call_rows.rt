@@ -2,10 +2,12 @@
 
 ghost use Rattle.std.specs.Prelude.{◌≡◌, ◌+◌, ◌++◌, IfOk, OnOk, map, option_map, slice_get, true};
 ghost use Rattle.std.specs.List.{find};
+ghost use Rattle.pdb_addresses.specs.SectionRun.{nearer as nearer_of, up_to_next};
 ghost use Rattle.pdb_pieces.specs.Spans.{place_number as number_of_place};
 ghost use Rattle.pdb_module_data.specs.InlinedCalls.{given_by, call_rows};
 ghost use Rattle.pdb_module_data.specs.InlinePieces.{kept_rows as kept_of_rows, site_row_span};
 ghost use Rattle.pdb_module_data.specs.InlinePieces.{call_by_kept, covers_kept, AreShortRows};
+ghost use Rattle.pdb_module_data.specs.InlinePieces.{cuts_of as cuts_of_rows, row_cuts};
 ghost use Rattle.pdb_module_data.specs.InlinePieces.{IsShortRow};
 ghost use Rattle.pdb_module_data.specs.InlinePieces.{row_spans, AreApart, AreFound, StandForFirst};
 
@@ -18,6 +20,9 @@ use pdb_indices::{FileIndex, IdIndex};
 use pdb_inlinees::InlineeLineIterator;
 use pdb_pieces::{Begins, Mark, Pieces, Span, count_begun, place_number};
 use std::alloc::{AllocError, Global};
+
+/// Where a section ends at the latest: its offsets have 32 bits.
+const SECTION_END: u64 = 0x1_0000_0000;
 
 /// A row of an inlined call that covers something: where its code begins, how many bytes it has,
 /// and its file and line.
@@ -110,6 +115,40 @@ pub fn push_spans(
         spans.push(row_span(number, depth, *row))?;
     }
     Ok(())
+}
+
+/// The lesser of `far` and the distance from an offset to a place, if that lies past it.
+fn nearer(offset: u32, place: u64, far: u32) -> u32
+    ensures { result ≡ nearer_of offset place far }
+{
+    let distance = place.saturating_sub(u64::from(offset));
+    if 0 < distance && distance < u64::from(far) {
+        distance as u32
+    } else {
+        far
+    }
+}
+
+/// The lesser of `far` and the distances from an offset to where a row begins and ends past it. A
+/// row ends at 2^32 at the latest.
+fn to_cut(row: &CallRow, offset: u32, far: u32) -> u32
+    ensures { result ≡ up_to_next (row_cuts row.now) offset far }
+{
+    let start = u64::from(row.offset.offset);
+    let end = start + u64::from(row.length);
+    nearer(offset, start, nearer(offset, end.min(SECTION_END), far))
+}
+
+/// The lesser of `far` and the distance from an offset to the next place past it at which a row
+/// begins or ends. It takes a step for each row.
+pub fn to_next_cut_of(rows: &[CallRow], offset: u32, far: u32) -> u32
+    ensures { result ≡ up_to_next (cuts_of_rows rows.now) offset far }
+{
+    let mut nearest = far;
+    for row in rows {
+        nearest = to_cut(row, offset, nearest);
+    }
+    nearest
 }
 
 /// Whether a row covers a place.

@@ -1,15 +1,17 @@
 //! The inline sites of a procedure, and a search of the deepest one over a place by halving.
 
 ghost use Rattle.std.specs.Prelude.{◌≡◌, ◌++◌, IfOk, OnOk, map};
+ghost use Rattle.pdb_addresses.specs.SectionRun.{up_to_next};
 ghost use Rattle.pdb_module_data.specs.Forest.{sites_of};
 ghost use Rattle.pdb_module_data.specs.InlinedCalls.{given_by, call_rows};
 ghost use Rattle.pdb_module_data.specs.InlinedCalls.{calls_over as calls_over_place};
 ghost use Rattle.pdb_module_data.specs.InlinePieces.{kept_rows, rows_of_sites, starts_of_sites};
+ghost use Rattle.pdb_module_data.specs.InlinePieces.{cuts_of};
 ghost use Rattle.pdb_module_data.specs.InlinePieces.{site_row_span, site_spans as spans_of_sites};
 ghost use Rattle.pdb_module_data.specs.InlinePieces.{AreShortRows, AreShortSites, StandForSites};
 ghost use Rattle.pdb_module_data.specs.SitesFaults.{Reads};
 
-use crate::call_rows::{CallRow, push_site_rows, push_spans};
+use crate::call_rows::{CallRow, push_site_rows, push_spans, to_next_cut_of};
 use crate::inline_sites::{InlineSites, Site, SitesError};
 use crate::inlined_calls::{InlinedCall, calls_from};
 use crate::inlinees::Inlinees;
@@ -18,7 +20,7 @@ use crate::procedures::Procedure;
 use crate::site_rows::{SiteRows, site_pieces};
 use pdb_addresses::PdbInternalSectionOffset;
 use pdb_pieces::{Pieces, Span};
-use pdb_symbols::SymbolIter;
+use pdb_symbol_records::SymbolIter;
 use std::alloc::{AllocError, Global};
 use std::marker::Model;
 
@@ -184,6 +186,14 @@ impl<'t> InlineRanges<'t> {
                 Ok(calls)
             }
         }
+    }
+
+    /// Returns the lesser of `far` and the distance, in bytes, from an offset to the next place
+    /// past it at which a row of a site begins or ends. It takes a step for each row.
+    pub fn to_next_cut(&self, offset: u32, far: u32) -> u32
+        ensures { result ≡ up_to_next (cuts_of (self.now).rows) offset far }
+    {
+        to_next_cut_of(self.rows.rows.as_slice(), offset, far)
     }
 
     /// About how many bytes of memory they take, at most.

@@ -5,20 +5,21 @@ ghost use Rattle.pdb_module_data.specs.Elements.{element_seen, nested_past, with
 ghost use Rattle.pdb_module_data.specs.Forest.{sites_of, element_of, sites_from};
 ghost use Rattle.pdb_module_data.specs.InlinedCalls.{IsNested};
 ghost use Rattle.pdb_module_data.specs.SitesFaults.{Reads};
-ghost use Rattle.pdb_symbols.specs.Forms.{inline_site_form};
+ghost use Rattle.pdb_symbol_records.specs.Forms.{inline_site_form};
 
 use crate::procedures::Procedure;
 use pdb_container::{Error, FallibleIterator};
 use pdb_indices::SymbolIndex;
-use pdb_symbols::kinds::{is_inline_site, is_procedure};
-use pdb_symbols::{InlineSiteSymbol, Symbol, SymbolData, SymbolIter};
+use pdb_symbol_records::kinds::{is_inline_site, is_procedure};
+use pdb_symbol_records::{InlineSiteSymbol, Symbol, SymbolData, SymbolIter};
 use std::alloc::{AllocError, AllocFailed, Global};
 use std::marker::Model;
 
 /// Room that is taken ahead for sites, so that a list of few of them isn't moved as it grows.
 const SITES_AHEAD: usize = 16;
 
-/// How deep a site may lie in others.
+/// How deep a site may lie in others: the most that 16 bits count, as the ported crate counts
+/// depth. Memory for them grows with their rows, as docs/COSTS.md says of nested calls.
 const MAXIMUM_DEPTH: usize = 65_535;
 
 /// Why the inline sites of a procedure can't be read.
@@ -77,7 +78,7 @@ pub struct Site<'t> {
 }
 
 impl<'t> Model for Site<'t> {
-    ghost use Rattle.pdb_symbols.specs.Forms.{inline_site_form};
+    ghost use Rattle.pdb_symbol_records.specs.Forms.{inline_site_form};
     ghost use Rattle.pdb_module_data.specs.Forest as forest;
 
     ghost Value = { forest.Site };

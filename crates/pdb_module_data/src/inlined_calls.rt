@@ -3,7 +3,7 @@
 ghost use Rattle.std.specs.Prelude.{◌≡◌, ◌+◌, ◌<◌, ◌≤◌, List, IfOk, IfSome, length, slice_get};
 ghost use Rattle.std.specs.Prelude.{slice_index, vec_len};
 ghost use Rattle.std.specs.List.{flat_map};
-ghost use Rattle.pdb_symbols.specs.Forms.{InlineSiteForm};
+ghost use Rattle.pdb_symbol_records.specs.Forms.{InlineSiteForm};
 ghost use Rattle.pdb_subsections.specs.declared.line_info.LineInfo.{LineInfo};
 ghost use Rattle.pdb_module_data.specs.InlinedCalls.{chain as chain_of, calls_of, IsNested};
 ghost use Rattle.pdb_module_data.specs.InlinePieces.{rows_of_sites, starts_of_sites};

@@ -7,7 +7,7 @@ ghost use Rattle.pdb_addresses.specs.declared.internal_section_offset.PdbInterna
   PdbInternalSectionOffset,
 };
 ghost use Rattle.pdb_subsections.specs.declared.line_info.LineInfo.{LineInfo};
-ghost use Rattle.pdb_symbols.specs.Forms.{InlineSiteForm};
+ghost use Rattle.pdb_symbol_records.specs.Forms.{InlineSiteForm};
 ghost use Rattle.pdb_lines.specs.LinesSubsections.{Program};
 ghost use Rattle.pdb_lines.specs.LineRows.{subsection_numbered, subsections_for};
 ghost use Rattle.pdb_module_data.specs.Forest.{Site, IsForest, sites_from};

@@ -1,6 +1,9 @@
 //! What a module's own stream says of a place in it: the procedure over it, the line there, and the
 //! inlined calls over it. It goes by symbols, line program, inlinees and string table, and knows
 //! nothing of files, caches or types.
+//!
+//! How procedures, rows and calls are held and searched may change. Which of them a place has
+//! (`specs/Procedures`, `specs/FunctionLine`, `specs/InlinedCalls`) may not.
 #![tactic(auto)]
 
 mod call_rows;

@@ -6,14 +6,14 @@ ghost use Rattle.pdb_module_data.specs.ProcedurePieces.{procedure_span as span_o
 ghost use Rattle.pdb_module_data.specs.ProcedurePieces.{procedure_spans as spans_of_procedures};
 ghost use Rattle.pdb_module_data.specs.ProcedurePieces.{IsShort, AreShort, StandFor};
 ghost use Rattle.pdb_module_data.specs.Procedures.{procedures_of, over as over_of};
-ghost use Rattle.pdb_symbols.specs.Iteration.{symbols_left};
+ghost use Rattle.pdb_symbol_records.specs.Iteration.{symbols_left};
 
 use crate::memory::{PIECES_OF_SPAN, memory_of};
 use crate::procedures::{Procedure, read_procedures};
 use pdb_addresses::PdbInternalSectionOffset;
 use pdb_container::Result;
 use pdb_pieces::{Mark, Pieces, Span, place_number};
-use pdb_symbols::SymbolIter;
+use pdb_symbol_records::SymbolIter;
 use std::alloc::{AllocError, Global};
 use std::marker::Model;
 

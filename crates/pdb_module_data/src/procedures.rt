@@ -10,14 +10,14 @@ ghost use Rattle.pdb_module_data.specs.Procedures.{place_cmp, has_start, is_proc
 ghost use Rattle.pdb_module_data.specs.Procedures.{separated_from, said_procedure};
 ghost use Rattle.pdb_module_data.specs.Procedures.{kept_of as kept_of_symbol, onto_new};
 ghost use Rattle.pdb_module_data.specs.Procedures.{procedures_of};
-ghost use Rattle.pdb_symbols.specs.Iteration.{symbols_left};
-ghost use Rattle.pdb_symbols.specs.Records.{symbol_form_of};
+ghost use Rattle.pdb_symbol_records.specs.Iteration.{symbols_left};
+ghost use Rattle.pdb_symbol_records.specs.Records.{symbol_form_of};
 
 use pdb_addresses::PdbInternalSectionOffset;
 use pdb_container::{FallibleIterator, RawString, Result};
 use pdb_indices::{SymbolIndex, TypeIndex};
-use pdb_symbols::kinds::{is_procedure, is_separated_code, is_thunk};
-use pdb_symbols::{SeparatedCodeSymbol, Symbol, SymbolData, SymbolIter};
+use pdb_symbol_records::kinds::{is_procedure, is_separated_code, is_thunk};
+use pdb_symbol_records::{SeparatedCodeSymbol, Symbol, SymbolData, SymbolIter};
 use std::alloc::{AllocError, Global};
 use std::collections::BTreeSet;
 use std::marker::Model;

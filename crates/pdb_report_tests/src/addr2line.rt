@@ -6,6 +6,7 @@ mod errors;
 mod files;
 mod flags;
 mod formatters;
+mod frame_runs;
 mod one_function;
 mod seen;
 mod sizes;

@@ -19,10 +19,10 @@ use Rattle.pdb_records.specs.TypeRecords.{procedure_at, argument_list_at}
 use Rattle.pdb_items.specs.Items.{header_at, fitting_header, item_header_of, table_of, item_number, piece_at, items_within, items_from, item_at}
 use Rattle.pdb_addresses.specs.Omap.{omap_record_at, omap_of}
 use Rattle.pdb_addresses.specs.Sections.{section_header_at}
-use Rattle.pdb_symbols.specs.Annotations.{with_length_at, with_operand_at, behind_opcode, annotation_or_end, annotations_of}
-use Rattle.pdb_symbols.specs.Numbers.{compressed_at}
-use Rattle.pdb_symbols.specs.Records.{symbol_name_at, name_behind, public_of, procedure_symbol_at, inline_site_of, end_form, form_of, symbol_form_of}
-use Rattle.pdb_symbols.specs.Symbols.{symbol_at, next_within, next, symbols_within, symbols_from}
+use Rattle.pdb_symbol_records.specs.Annotations.{with_length_at, with_operand_at, behind_opcode, annotation_or_end, annotations_of}
+use Rattle.pdb_symbol_records.specs.Numbers.{compressed_at}
+use Rattle.pdb_symbol_records.specs.Records.{symbol_name_at, name_behind, public_of, procedure_symbol_at, inline_site_of, end_form, form_of, symbol_form_of}
+use Rattle.pdb_symbol_records.specs.Symbols.{symbol_at, next_within, next, symbols_within, symbols_from}
 use Rattle.pdb_subsections.specs.Subsections.{subsection_at}
 use Rattle.pdb_lines.specs.Checksums.{file_at, file_in}
 use Rattle.pdb_lines.specs.LineMarks.{block_in, block_at}

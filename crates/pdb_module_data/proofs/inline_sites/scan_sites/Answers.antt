@@ -2,9 +2,9 @@ use Rattle.std.proofs.Common.{rules, Option, ◌≡◌, ◌∷◌, ℕ, List, re
 use Rattle.pdb_container.specs.Fault.{fault_of}
 use Rattle.pdb_module_data.specs.Elements.{nested_past, with_site}
 use Rattle.pdb_module_data.specs.Forest.{InSymbols, Site, sites_from}
-use Rattle.pdb_symbols.specs.Forms.{inline_site_form}
-use Rattle.pdb_symbols.specs.Iteration.{found_next, symbol_of}
-use Rattle.pdb_symbols.specs.Symbols.{Symbol}
+use Rattle.pdb_symbol_records.specs.Forms.{inline_site_form}
+use Rattle.pdb_symbol_records.specs.Iteration.{found_next, symbol_of}
+use Rattle.pdb_symbol_records.specs.Symbols.{Symbol}
 use Rattle.pdb_module_data.proofs.OpenBodies.{HasFound, has_found, scan_ended, scan_fault, scan_popped, scan_last, scan_plain, scan_nested, scan_refused, nested_fewer, scan_site, scan_deep, reads_fault, returned}
 use Rattle.pdb_module_data.proofs.inline_sites.scan_sites.Goals as goal
 use Rattle.pdb_module_data.proofs.inline_sites.scan_sites.Goals.{In-Some}

@@ -2,7 +2,7 @@ use Rattle.std.proofs.Common.{◌≡◌, ℕ, ◌+◌, ◌∷◌, [], ◌++◌, 
 use Rattle.std.specs.Prelude.{slice_get}
 use Rattle.std.specs.List.{flat_map}
 use Rattle.std.proofs.lemmas.Option.{slice_get-get_or}
-use Rattle.pdb_symbols.specs.Forms.{inline_site_form}
+use Rattle.pdb_symbol_records.specs.Forms.{inline_site_form}
 use Rattle.pdb_module_data.specs.Forest.{Site}
 use Rattle.pdb_module_data.specs.InlinedCalls.{calls_of, chain, chain_at}
 use Rattle.pdb_module_data.proofs.ChainSteps.{steps_of, depth_at, chain_more, depth_step, parent_in_range, parent_steps}

@@ -2,7 +2,7 @@ use Rattle.std.proofs.Common.{◌≡◌, ℕ, ◌+◌, ◌<◌, List, ◌++◌, 
 use Rattle.std.specs.Prelude.{slice_get}
 use Rattle.std.specs.List.{flat_map}
 use Rattle.pdb_subsections.specs.declared.line_info.LineInfo.{LineInfo}
-use Rattle.pdb_symbols.specs.Forms.{InlineSiteForm}
+use Rattle.pdb_symbol_records.specs.Forms.{InlineSiteForm}
 use Rattle.pdb_module_data.specs.InlinePieces.{rows_of_sites, starts_of_sites}
 use Rattle.pdb_module_data.specs.InlinedCalls.{calls_of, chain, chain_at}
 use Rattle.pdb_module_data.proofs.ChainSteps.{steps_of, depth_at}

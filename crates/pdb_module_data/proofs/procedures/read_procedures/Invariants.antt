@@ -1,7 +1,7 @@
 use Rattle.std.specs.Prelude.{◌≡◌, length}
 use Rattle.std.specs.BTreeSet.{contains}
 use Rattle.pdb_addresses.specs.declared.internal_section_offset.PdbInternalSectionOffset.{PdbInternalSectionOffset}
-use Rattle.pdb_symbols.specs.Iteration.{symbols_left}
+use Rattle.pdb_symbol_records.specs.Iteration.{symbols_left}
 use Rattle.pdb_module_data.specs.Procedures.{place_cmp, has_start, procedures_of}
 use Rattle.pdb_module_data.proofs.ProcedureSteps.{procedures_left}
 use Rattle.pdb_module_data.proofs.procedures.read_procedures.Given as goal

@@ -1,0 +1,194 @@
+//! Runs of frames: the frames at a place, and how far they go on.
+
+ghost use Rattle.std.specs.Prelude.{◌≡◌, ◌≤◌, ℕ, IfOk, IfSome, Ok, Option, Some, option_copied};
+ghost use Rattle.pdb_addresses.specs.SectionRun.{up_to_next};
+ghost use Rattle.pdb_answers.specs.KnownFailures.{AreFailuresOf};
+ghost use Rattle.pdb_answers.specs.Symbolizers.{scope_in};
+ghost use Rattle.pdb_frames.specs.ChosenSeen.{chosen_seen};
+ghost use Rattle.pdb_frames.specs.FailingParts.{failing_in as failing_in_module};
+ghost use Rattle.pdb_frames.specs.FrameRuns.{cuts_in, frames_here, frames_of_places, readable};
+ghost use Rattle.pdb_frames.specs.FrameRuns.{frames_run_at as run_at_place, run_of_answer};
+ghost use Rattle.pdb_frames.specs.FramesAt.{frames_of_chosen};
+ghost use Rattle.pdb_frames.specs.NearBounds.{bounds_near};
+ghost use Rattle.pdb_frames.specs.Printing.{env_of};
+ghost use Rattle.pdb_frames.specs.Runs.{procedures_of};
+ghost use Rattle.pdb_functions.specs.Databases.{IsOneRun, place_of as as_place};
+ghost use Rattle.pdb_known_modules.specs.KnownModules.{ModuleData};
+ghost use Rattle.pdb_resolving.specs.Fault.{Answers};
+
+use crate::cached_parts::HeldPlace;
+use crate::file_runs::{keep_failure, keep_rows};
+use crate::frames::{ChosenPlace, frames_of};
+use crate::known_failures::KnownFailures;
+use crate::symbolizer::PlaceSymbolizer;
+use pdb_addresses::PdbInternalSectionOffset;
+use pdb_contributions::ModuleSectionContribution;
+use pdb_frames::{
+    ContextParts, Namer, Stretch, choose, frames_count_in, to_next_bound, to_next_shared_bound,
+};
+use pdb_functions::SharedFunctionFrames;
+use pdb_known_modules::{keep_module, known_at, number_over};
+use pdb_resolving::{Error, ModuleProvider, Result};
+use std::alloc::{AllocError, Global};
+
+/// Returns the frames at a place in a chosen function, and how far they go on, by parts that are
+/// read where they aren't cached. Where one can't be read there are no frames up to the next bound
+/// of functions, and the part is remembered for functions like this one.
+fn read_run<'a, P: ModuleProvider>(
+    alloc: Global,
+    parts: &ContextParts<'a, '_>,
+    namer: &mut Namer<'a, '_, P>,
+    known_failures: &mut KnownFailures,
+    found: &ChosenPlace<'_, 'a, P::Info>,
+    far: u32,
+) -> std::result::Result<(Option<SharedFunctionFrames<'a>>, u32), AllocError>
+    ensures same { namer.new ≡ namer.old }
+    ensures known { (own : ℕ → Option ModuleData)
+        → own found.now.module_index ≡ option_copied found.now.known
+        → AreFailuresOf own known_failures.old → AreFailuresOf own known_failures.new }
+    ensures run { IfOk result (λ run. run ≡ run_of_answer (frames_of_chosen parts.now
+        (env_of P.provided namer.old found.now.module_index) (option_copied found.now.known)
+        found.now.place (Some (chosen_seen found.now.chosen)))
+        (cuts_in (option_copied found.now.known) (chosen_seen found.now.chosen))
+        found.now.place far) }
+{
+    let stretch = Stretch {
+        module_index: found.module_index,
+        place: found.place,
+        far,
+    };
+    match frames_of(alloc, parts, namer, found) {
+        Ok(None) => Ok((None, far)),
+        Ok(Some(frames)) => {
+            let count = frames_count_in(alloc, found.known, found.chosen, stretch)?;
+            Ok((Some(frames), count))
+        }
+        Err(Error::OutOfMemory) => Err(AllocError),
+        Err(_) => {
+            keep_failure(
+                alloc,
+                known_failures,
+                found.module_index,
+                found.known,
+                found.chosen,
+            )?;
+            Ok((None, far))
+        }
+    }
+}
+
+/// Returns the frames at a place in a chosen function, and how far they go on. Nothing is read
+/// where a part of the function is known to be unreadable.
+#[tactic(auto, using(crate::proofs::FrameRunSteps::known_unreadable))]
+fn run_unless_known<'a, P: ModuleProvider>(
+    alloc: Global,
+    parts: &ContextParts<'a, '_>,
+    namer: &mut Namer<'a, '_, P>,
+    known_failures: &mut KnownFailures,
+    found: &ChosenPlace<'_, 'a, P::Info>,
+    far: u32,
+) -> std::result::Result<(Option<SharedFunctionFrames<'a>>, u32), AllocError>
+    requires { IfSome found.now.failing (λ part. failing_in_module found.now.module_index
+        (option_copied found.now.known) (chosen_seen found.now.chosen) ≡ Some part) }
+    ensures same { namer.new ≡ namer.old }
+    ensures known { (own : ℕ → Option ModuleData)
+        → own found.now.module_index ≡ option_copied found.now.known
+        → AreFailuresOf own known_failures.old → AreFailuresOf own known_failures.new }
+    ensures run { IfOk result (λ run. run ≡ run_of_answer (frames_of_chosen parts.now
+        (env_of P.provided namer.old found.now.module_index) (option_copied found.now.known)
+        found.now.place (Some (chosen_seen found.now.chosen)))
+        (cuts_in (option_copied found.now.known) (chosen_seen found.now.chosen))
+        found.now.place far) }
+{
+    match found.failing {
+        Some(_) => Ok((None, far)),
+        None => read_run(alloc, parts, namer, known_failures, found, far),
+    }
+}
+
+impl<'a, 's, P: ModuleProvider> PlaceSymbolizer<'a, 's, P> {
+    /// Returns the frames at a place that a contribution holds, and how far they go on.
+    #[tactic(auto, unfolding(crate::specs::KnownFailures::data_of_modules))]
+    fn frames_run_at(
+        &mut self,
+        alloc: Global,
+        contribution: ModuleSectionContribution,
+        place: PdbInternalSectionOffset,
+        limit: u32,
+    ) -> std::result::Result<(Option<SharedFunctionFrames<'a>>, u32), AllocError>
+        ensures same { self.new ≡ self.old }
+        ensures run { IfOk result (λ run. let scope = scope_in P.provided self.old in
+            run ≡ run_at_place self.old.parts (scope contribution.module_index) contribution place
+            (up_to_next (bounds_near self.old.parts (procedures_of scope (Some contribution))
+            place) place.offset limit)) }
+    {
+        let module_index = contribution.module_index();
+        let modules = self.namer.modules();
+        let cache_place = usize::from(module_index);
+        keep_module(alloc, &mut self.cached, self.provider, modules, cache_place)?;
+        let number = number_over(known_at(&self.cached, cache_place), place);
+        let held = HeldPlace {
+            contribution,
+            place,
+            number,
+        };
+        keep_rows(
+            alloc,
+            &mut self.cached,
+            &self.parts,
+            &self.failed,
+            &self.known_failures,
+            held,
+        )?;
+        let known = known_at(&self.cached, cache_place);
+        let far = to_next_bound(&self.parts, known, place, limit);
+        let Some(chosen) = choose(&self.parts, known, number, contribution, place) else {
+            return Ok((None, far));
+        };
+        let found = ChosenPlace {
+            module_index,
+            known,
+            chosen,
+            failing: self.known_failures.part(module_index, chosen),
+            place,
+        };
+        run_unless_known(
+            alloc,
+            &self.parts,
+            &mut self.namer,
+            &mut self.known_failures,
+            &found,
+            far,
+        )
+    }
+
+    /// Returns the frames at a place, and how many bytes from there on have these frames. That is
+    /// the lesser of `limit` and the distance to the next bound of functions or, where there are
+    /// frames, to the next place at which a line row of the function begins, or a row of one of its
+    /// inline sites begins or ends. There are none where they can't be read. Nothing is counted as
+    /// failed.
+    ///
+    /// # Errors
+    /// `OutOfMemory` alone.
+    pub fn frames_run(
+        &mut self,
+        alloc: Global,
+        place: PdbInternalSectionOffset,
+        limit: u32,
+    ) -> Result<(Option<SharedFunctionFrames<'a>>, u32)>
+        requires { 1 ≤ limit }
+        ensures same { self.new ≡ self.old }
+        ensures frames { Answers (λ run. run.0) result (Ok (readable
+            (frames_here self.old.parts (scope_in P.provided self.old) place))) }
+        ensures count { IfOk result (λ run. IsOneRun (frames_of_places self.old.parts
+            (scope_in P.provided self.old)) (as_place place) limit run.1) }
+    {
+        match self.parts.holder(place) {
+            None => Ok((None, to_next_shared_bound(&self.parts, place, limit))),
+            Some(contribution) => {
+                let found = self.frames_run_at(alloc, contribution, place, limit)?;
+                Ok(found)
+            }
+        }
+    }
+}

@@ -1,0 +1,163 @@
+//! How far the frames at a place in a chosen function go on.
+
+ghost use Rattle.std.specs.Prelude.{◌≡◌, ◌++◌, IfOk, Ok, option_copied};
+ghost use Rattle.pdb_addresses.specs.SectionRun.{up_to_next};
+ghost use Rattle.pdb_choice.specs.ChosenSeen.{chosen_seen};
+ghost use Rattle.pdb_choice.specs.Choice as choice;
+ghost use Rattle.pdb_frames.specs.FrameRuns.{chosen_cuts, count_if_read, count_in, cuts_in};
+ghost use Rattle.pdb_frames.specs.FrameRuns.{cuts_in_stream, public_cuts};
+ghost use Rattle.pdb_known_modules.specs.KnownModules.{extended_of};
+ghost use Rattle.pdb_known_modules.specs.Seen.{extended_seen};
+ghost use Rattle.pdb_module_data.specs.FunctionLine.{row_starts};
+ghost use Rattle.pdb_module_data.specs.InlinePieces.{cuts_of};
+ghost use Rattle.pdb_resolving.specs.Fault.{Answers};
+
+use crate::file_runs::Stretch;
+use pdb_addresses::PdbInternalSectionOffset;
+use pdb_choice::Chosen;
+use pdb_known_modules::{
+    BasicModuleInfo, ExtendedModuleInfo, read_extended, read_extended_procedure,
+};
+use pdb_module_data::{FunctionRows, InlineRanges, Procedure};
+use pdb_resolving::{Error, ModuleTables, Result};
+use std::alloc::{AllocError, Global};
+
+/// Returns how far the line row and the inlined calls at a place in a procedure stay, by the
+/// procedure's rows and sites.
+#[tactic(auto, using(crate::proofs::FrameRunSteps::next_of_both))]
+fn procedure_count_by(stretch: Stretch, rows: &FunctionRows, ranges: &InlineRanges<'_>) -> u32
+    ensures { result ≡ up_to_next (row_starts rows.now ++ cuts_of ranges.now.rows)
+        stretch.place.offset stretch.far }
+{
+    let offset = stretch.place.offset;
+    rows.to_next_start(offset, ranges.to_next_cut(offset, stretch.far))
+}
+
+/// Returns how far the frames at a place in a procedure go on, by its module's line program and
+/// inlinees. Cached rows and sites of the procedure are not read again.
+#[tactic(auto, using(pdb_resolving::proofs::Lifting::fails_on))]
+fn procedure_count<'m, I: ModuleTables>(
+    alloc: Global,
+    known: &BasicModuleInfo<'m, I>,
+    extended: &ExtendedModuleInfo<'m>,
+    number: usize,
+    procedure: &Procedure<'_>,
+    stretch: Stretch,
+) -> Result<u32>
+    requires { extended_of known.now.stream ≡ Ok (extended_seen extended.now) }
+    ensures { Answers (λ n. n) result (count_if_read (chosen_cuts known.now.stream
+        (extended_seen extended.now) (choice.Proc procedure.now)) stretch.place.offset
+        stretch.far) }
+{
+    if let Some(read) = known.extended_procedure(number, procedure) {
+        return Ok(procedure_count_by(stretch, read.rows, read.ranges));
+    }
+    let read = read_extended_procedure(alloc, known.module_info, extended, procedure)?;
+    Ok(procedure_count_by(stretch, &read.rows, &read.ranges))
+}
+
+/// Returns how far the frames at a place in the function of a public entry go on, by its module's
+/// line program. Cached rows of that function are not read again.
+#[tactic(auto, using(crate::proofs::FrameRunSteps::count_fails))]
+fn public_count<'m, I: ModuleTables>(
+    alloc: Global,
+    known: &BasicModuleInfo<'m, I>,
+    extended: &ExtendedModuleInfo<'m>,
+    start: PdbInternalSectionOffset,
+    stretch: Stretch,
+) -> Result<u32>
+    requires { extended_of known.now.stream ≡ Ok (extended_seen extended.now) }
+    ensures { Answers (λ n. n) result (count_if_read (public_cuts
+        (extended_seen extended.now).program start) stretch.place.offset stretch.far) }
+{
+    let offset = stretch.place.offset;
+    if let Some(rows) = known.public_rows(start) {
+        return Ok(rows.to_next_start(offset, stretch.far));
+    }
+    let rows = FunctionRows::read(alloc, &extended.line_program, start)?;
+    Ok(rows.to_next_start(offset, stretch.far))
+}
+
+/// Returns how far the frames at a place in a chosen function go on, by its module's line program
+/// and inlinees.
+fn chosen_count<'m, I: ModuleTables>(
+    alloc: Global,
+    known: &BasicModuleInfo<'m, I>,
+    extended: &ExtendedModuleInfo<'m>,
+    chosen: Chosen<'_, '_>,
+    stretch: Stretch,
+) -> Result<u32>
+    requires { extended_of known.now.stream ≡ Ok (extended_seen extended.now) }
+    ensures { Answers (λ n. n) result (count_if_read (chosen_cuts known.now.stream
+        (extended_seen extended.now) (chosen_seen chosen.entry)) stretch.place.offset
+        stretch.far) }
+{
+    match chosen {
+        Chosen::Procedure(number, procedure) => {
+            procedure_count(alloc, known, extended, number, procedure, stretch)
+        }
+        Chosen::Public(public) => {
+            public_count(alloc, known, extended, public.start_offset, stretch)
+        }
+    }
+}
+
+/// Returns how far the frames at a place in a chosen function go on, by its module's data. A cached
+/// line program is not read again.
+#[tactic(auto, using(crate::proofs::FrameRunSteps::count_fails), unfolding(crate::specs::FrameRuns::cuts_in_stream))]
+fn data_count<'m, I: ModuleTables>(
+    alloc: Global,
+    known: &BasicModuleInfo<'m, I>,
+    chosen: Chosen<'_, '_>,
+    stretch: Stretch,
+) -> Result<u32>
+    ensures { Answers (λ n. n) result (count_if_read (cuts_in_stream known.now.stream
+        (chosen_seen chosen.entry)) stretch.place.offset stretch.far) }
+{
+    if let Some(extended) = known.extended() {
+        return chosen_count(alloc, known, extended, chosen, stretch);
+    }
+    let extended = read_extended(alloc, known.module_info)?;
+    chosen_count(alloc, known, &extended, chosen, stretch)
+}
+
+/// Returns how far the frames at a place in a chosen function go on: the distance to the next start
+/// of a line row, or the next start or end of a row of one of the function's inline sites; or the
+/// whole stretch where that is shorter.
+fn count_of_frames<I: ModuleTables>(
+    alloc: Global,
+    known: Option<&BasicModuleInfo<'_, I>>,
+    chosen: Chosen<'_, '_>,
+    stretch: Stretch,
+) -> Result<u32>
+    ensures { Answers (λ n. n) result (count_in (option_copied known.entry)
+        (chosen_seen chosen.entry) stretch.place stretch.far) }
+{
+    match known {
+        None => Ok(stretch.far),
+        Some(known) => data_count(alloc, known, chosen, stretch),
+    }
+}
+
+/// Returns how far the frames at a place in a chosen function go on: the distance to the next start
+/// of a line row, or the next start or end of a row of one of the function's inline sites; or the
+/// whole stretch where that is shorter, or where such rows can't be read.
+///
+/// # Errors
+/// [`AllocError`] where memory is refused.
+#[tactic(auto, using(crate::proofs::FrameRunSteps::count_read, crate::proofs::FrameRunSteps::count_unread))]
+pub fn frames_count_in<I: ModuleTables>(
+    alloc: Global,
+    known: Option<&BasicModuleInfo<'_, I>>,
+    chosen: Chosen<'_, '_>,
+    stretch: Stretch,
+) -> std::result::Result<u32, AllocError>
+    ensures { IfOk result (λ n. n ≡ up_to_next (cuts_in (option_copied known.entry)
+        (chosen_seen chosen.entry)) stretch.place.offset stretch.far) }
+{
+    match count_of_frames(alloc, known, chosen, stretch) {
+        Ok(count) => Ok(count),
+        Err(Error::OutOfMemory) => Err(AllocError),
+        Err(_) => Ok(stretch.far),
+    }
+}
