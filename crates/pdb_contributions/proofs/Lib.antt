@@ -1,4 +1,5 @@
 pub mod ApartSteps
+pub mod FirstEntry
 pub mod Firsts
 pub mod HeldSteps
 pub mod Lookup
@@ -8,3 +9,4 @@ pub mod Order
 pub mod PieceSteps
 pub mod PublicOrder
 pub mod PublicSteps
+pub mod UnmergedSteps

@@ -59,7 +59,7 @@ merging_start sections l = record {
 }
 
 -- an entry before others: among those that count it stands if it counts
-kept_first : (sections : List ImageSectionHeader) (l others : Listing DBISectionContribution)
+pub kept_first : (sections : List ImageSectionHeader) (l others : Listing DBISectionContribution)
     (x : DBISectionContribution) → l ≡ before x others → is_kept sections x ≡ true
     → kept_entries sections l.items ≡ x ∷ kept_entries sections others.items
 kept_first sections l others x step counts =
@@ -67,7 +67,7 @@ kept_first sections l others x step counts =
     ∙ ap (λ b. cond b (x ∷ kept_entries sections others.items) (kept_entries sections others.items))
     counts
 
-not_kept_first : (sections : List ImageSectionHeader) (l others : Listing DBISectionContribution)
+pub not_kept_first : (sections : List ImageSectionHeader) (l others : Listing DBISectionContribution)
     (x : DBISectionContribution) → l ≡ before x others → is_kept sections x ≡ false
     → kept_entries sections l.items ≡ kept_entries sections others.items
 not_kept_first sections l others x step out =
@@ -75,7 +75,7 @@ not_kept_first sections l others x step out =
     ∙ ap (λ b. cond b (x ∷ kept_entries sections others.items) (kept_entries sections others.items))
     out
 
-same_fault : (l others : Listing DBISectionContribution) (x : DBISectionContribution)
+pub same_fault : (l others : Listing DBISectionContribution) (x : DBISectionContribution)
     → l ≡ before x others → others.fault ≡ l.fault
 same_fault l others x step = ap (λ (m : Listing DBISectionContribution). m.fault) (sym step)
 

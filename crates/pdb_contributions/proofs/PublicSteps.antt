@@ -12,15 +12,15 @@ use Rattle.pdb_addresses.specs.declared.internal_section_offset.PdbInternalSecti
   PdbInternalSectionOffset,
 }
 use Rattle.pdb_addresses.specs.Sections.{may_execute}
-use Rattle.pdb_symbols.specs.declared.symbol_data.SeparatedCodeSymbol.{SeparatedCodeSymbol}
-use Rattle.pdb_symbols.specs.Forms as forms
-use Rattle.pdb_symbols.specs.Forms.{SymbolForm}
-use Rattle.pdb_symbols.specs.Kinds.{is_public, is_procedure, is_thunk, is_separated_code}
-use Rattle.pdb_symbols.specs.Kinds.{is_inline_site}
-use Rattle.pdb_symbols.specs.Symbols.{Symbol, kind_of, payload_of}
-use Rattle.pdb_symbols.specs.Records.{symbol_form_of, form_of, as_form, end_form}
-use Rattle.pdb_symbols.specs.Records.{procedure_symbol_at, thunk_of, separated_code_of}
-use Rattle.pdb_symbols.specs.Records.{inline_site_of}
+use Rattle.pdb_symbol_records.specs.declared.symbol_data.SeparatedCodeSymbol.{SeparatedCodeSymbol}
+use Rattle.pdb_symbol_records.specs.Forms as forms
+use Rattle.pdb_symbol_records.specs.Forms.{SymbolForm}
+use Rattle.pdb_symbol_records.specs.Kinds.{is_public, is_procedure, is_thunk, is_separated_code}
+use Rattle.pdb_symbol_records.specs.Kinds.{is_inline_site}
+use Rattle.pdb_symbol_records.specs.Symbols.{Symbol, kind_of, payload_of}
+use Rattle.pdb_symbol_records.specs.Records.{symbol_form_of, form_of, as_form, end_form}
+use Rattle.pdb_symbol_records.specs.Records.{procedure_symbol_at, thunk_of, separated_code_of}
+use Rattle.pdb_symbol_records.specs.Records.{inline_site_of}
 use Rattle.pdb_contributions.specs.Publics.{PublicFunction, placeholder, placeholders, section_end}
 use Rattle.pdb_contributions.specs.Publics.{section_ends_from, section_ends, as_public}
 use Rattle.pdb_contributions.specs.Publics.{entry_of_public, entries_of_symbols, entries_read}

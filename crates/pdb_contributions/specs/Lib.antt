@@ -1,3 +1,4 @@
 pub mod ContributionPieces
 pub mod MergedContributions
 pub mod Publics
+pub mod UnmergedContributions

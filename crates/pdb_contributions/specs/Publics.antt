@@ -13,10 +13,10 @@ use Rattle.pdb_addresses.specs.declared.internal_section_offset.PdbInternalSecti
   PdbInternalSectionOffset,
 }
 use Rattle.pdb_addresses.specs.Sections.{may_execute}
-use Rattle.pdb_symbols.specs.Forms as forms
-use Rattle.pdb_symbols.specs.Forms.{SymbolForm, PublicForm}
-use Rattle.pdb_symbols.specs.Records.{symbol_form_of}
-use Rattle.pdb_symbols.specs.Symbols.{Symbol}
+use Rattle.pdb_symbol_records.specs.Forms as forms
+use Rattle.pdb_symbol_records.specs.Forms.{SymbolForm, PublicForm}
+use Rattle.pdb_symbol_records.specs.Records.{symbol_form_of}
+use Rattle.pdb_symbol_records.specs.Symbols.{Symbol}
 use Rattle.pdb_contributions.specs.MergedContributions.{is_executable}
 
 -- an entry of the public list: where a function may begin, and its name as it is stored; a

@@ -4,15 +4,15 @@ ghost use Rattle.std.specs.Prelude.{◌≡◌, ◌++◌, OnOk, option_map};
 ghost use Rattle.pdb_container.specs.Fault.{Gives, Parses};
 ghost use Rattle.pdb_contributions.specs.Publics.{as_public, entry_of_public, placeholders};
 ghost use Rattle.pdb_contributions.specs.Publics.{section_ends, are_whole, entries_read};
-ghost use Rattle.pdb_symbols.specs.Forms.{public_form};
-ghost use Rattle.pdb_symbols.specs.Iteration.{symbols_left};
-ghost use Rattle.pdb_symbols.specs.Records.{symbol_form_of};
+ghost use Rattle.pdb_symbol_records.specs.Forms.{public_form};
+ghost use Rattle.pdb_symbol_records.specs.Iteration.{symbols_left};
+ghost use Rattle.pdb_symbol_records.specs.Records.{symbol_form_of};
 
 use crate::contribution::is_executable;
 use pdb_addresses::{ImageSectionHeader, PdbInternalSectionOffset};
 use pdb_container::{FallibleIterator, RawString, Result};
-use pdb_symbols::kinds::is_public;
-use pdb_symbols::{PublicSymbol, Symbol, SymbolData, SymbolIter};
+use pdb_symbol_records::kinds::is_public;
+use pdb_symbol_records::{PublicSymbol, Symbol, SymbolData, SymbolIter};
 use std::alloc::{AllocError, Global};
 use std::marker::Model;
 

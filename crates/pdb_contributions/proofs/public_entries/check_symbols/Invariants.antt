@@ -1,5 +1,5 @@
 use Rattle.std.proofs.Common.{◌≡◌, length}
-use Rattle.pdb_symbols.specs.Iteration.{symbols_left}
+use Rattle.pdb_symbol_records.specs.Iteration.{symbols_left}
 use Rattle.pdb_contributions.specs.Publics.{are_whole}
 use Rattle.pdb_contributions.proofs.public_entries.check_symbols.Given as goal
 

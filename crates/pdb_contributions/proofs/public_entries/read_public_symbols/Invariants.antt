@@ -1,5 +1,5 @@
 use Rattle.std.proofs.Common.{◌≡◌, length}
-use Rattle.pdb_symbols.specs.Iteration.{symbols_left}
+use Rattle.pdb_symbol_records.specs.Iteration.{symbols_left}
 use Rattle.pdb_contributions.specs.Publics.{entries_read}
 use Rattle.pdb_contributions.proofs.PublicSteps.{entries_front}
 use Rattle.pdb_contributions.proofs.public_entries.read_public_symbols.Given as goal
