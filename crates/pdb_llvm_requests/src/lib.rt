@@ -1,6 +1,9 @@
 //! What `llvm-symbolizer` 19 is asked by, as it reads it: the words of its arguments, and lines of
 //! a command, a file, and an address. And where an address lies in its image.
 //!
+//! How a line is gone through may change. What it asks may not, but to be what `llvm-symbolizer` 19
+//! takes it for.
+//!
 //! Not read, beside `llvm-symbolizer`: the name of a symbol in place of an address, which is
 //! [`RequestFault::SymbolName`]. A carriage return ends a word, where `llvm-symbolizer` drops each
 //! one of a line: at the end of a line that is the same.

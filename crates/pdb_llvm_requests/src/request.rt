@@ -73,7 +73,8 @@ enum Prefix {
     BuildId,
 }
 
-/// The most bytes that a request has: a path of 4,096 bytes fits, and what stands around it.
+/// The most bytes that a request has: a path of 4,096 bytes fits, which is the longest that Linux
+/// opens, and what stands around it.
 const LONGEST: usize = 4_351;
 
 /// Why a line is no request. It prints as `llvm-symbolizer` reports it, which for an empty line and

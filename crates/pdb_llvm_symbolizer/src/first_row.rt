@@ -105,9 +105,20 @@ pub fn with_first_row<'a>(
 }
 
 impl<'a> FirstRow<'a> {
-    /// Gives the last of the frames that are reported the file and line of the row, if that is the
-    /// function's own: the innermost frame alone is the function's where it has no inlined calls.
-    pub fn report<'f>(&'f self, frames: &mut Vec<ReportedFrame<'f>>, options: ReportOptions) {
+    /// Returns the RVA of the row.
+    pub fn rva(&self) -> u32 {
+        self.rva
+    }
+
+    /// Gives the last of the frames that are reported the file and line of the row with this
+    /// column, if that is the function's own: the innermost frame alone is the function's where it
+    /// has no inlined calls.
+    pub fn report<'f>(
+        &'f self,
+        frames: &mut Vec<ReportedFrame<'f>>,
+        options: ReportOptions,
+        column: u32,
+    ) {
         let Some(own) = self.found.frames.last() else {
             return;
         };
@@ -118,6 +129,7 @@ impl<'a> FirstRow<'a> {
         if let Some(frame) = frames.last_mut() {
             frame.file = place.file;
             frame.line = place.line;
+            frame.column = column;
         }
     }
 }

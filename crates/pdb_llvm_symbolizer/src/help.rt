@@ -1,7 +1,7 @@
 //! The texts of the program's help and version.
 
 /// The program's version, as the file VERSION has it.
-pub const VERSION: &str = "0.1.0";
+pub const VERSION: &str = "0.2.0";
 
 /// The help.
 pub const HELP: &str = "\

@@ -2,6 +2,7 @@
 
 use crate::arguments::Arguments;
 use crate::choices::FunctionName;
+use crate::columns::Columns;
 use crate::database::{Database, open};
 use crate::first_row::{FirstRow, with_first_row};
 use crate::names::FunctionNames;
@@ -15,7 +16,7 @@ use pdb_addr2line::{
 };
 use pdb_llvm_requests::{Command, rva_of};
 use pdb_llvm_texts::{
-    ReportedFrame, append_frames, append_no_data, append_no_locals, report_frames,
+    OwnFrame, ReportedFrame, append_frames, append_no_data, append_no_locals, report_frames,
 };
 use pdb_loading::LoadFault;
 use std::alloc::{AllocError, Global};
@@ -37,6 +38,7 @@ pub struct FileAnswers<'a, F: Drop> {
     /// `None` once memory ran out while one was made.
     context: Option<FileContext<'a>>,
     names: FunctionNames<'a>,
+    columns: Columns<'a>,
 }
 
 /// An address of a file, as it is asked for.
@@ -51,12 +53,13 @@ pub struct AskedAddress<'n> {
 }
 
 /// What is known of an address: its frames, the name of its function, and the function's first row
-/// where that lies after it.
+/// where that lies after it; and the column of the function's own line.
 #[derive(Drop)]
 struct KnownAddress<'a> {
     found: Option<SharedFunctionFrames<'a>>,
     name: Option<Vec<u8>>,
     first: Option<FirstRow<'a>>,
+    column: u32,
 }
 
 impl<'a> KnownAddress<'a> {
@@ -73,9 +76,13 @@ impl<'a> KnownAddress<'a> {
             None => None,
         };
         let options = arguments.frames;
-        let mut frames = report_frames(alloc, &self.found, name, rva, options)?;
+        let own = OwnFrame {
+            name,
+            column: self.column,
+        };
+        let mut frames = report_frames(alloc, &self.found, own, rva, options)?;
         if let Some(first) = &self.first {
-            first.report(&mut frames, options);
+            first.report(&mut frames, options, self.column);
         }
         let address = Some(asked.address);
         append_frames(alloc, output, arguments.texts, asked.file, address, &frames)
@@ -95,10 +102,12 @@ fn over<'a, F: FileExt + Drop>(
         file,
         context: Some(context),
         names,
+        columns: Columns::new(alloc, held),
     })
 }
 
-/// A context over what is held of a file, and what names its functions.
+/// A context over what is held of a file, and what names its functions. Section contributions may
+/// stand in any order.
 fn context_and_names<'a>(
     alloc: Global,
     held: &'a Held,
@@ -106,7 +115,7 @@ fn context_and_names<'a>(
     let Some(map) = OrderedMap::of(held.address_map()) else {
         return Err(OpenError::Load(LoadFault::AddressTableDecreases));
     };
-    let context = held.make_context_with_formatter_flags(alloc, flags())?;
+    let context = held.make_context_in_any_order(alloc, flags())?;
     Ok((context, FunctionNames::new(held, map)))
 }
 
@@ -147,6 +156,7 @@ fn no_function<'f>() -> ReportedFrame<'f> {
         function: Some(b""),
         file: None,
         line: 0,
+        column: 0,
     }
 }
 
@@ -211,6 +221,26 @@ impl<'a, F: FileExt + Drop> FileAnswers<'a, F> {
         known.append(alloc, arguments, (asked, rva), output)
     }
 
+    /// The column of the line of the function's own frame at an address, 0 where it isn't known.
+    fn column_of(
+        &mut self,
+        alloc: Global,
+        context: &FileContext<'a>,
+        found: &Option<SharedFunctionFrames<'a>>,
+        rva: u32,
+    ) -> Result<u32, AllocError> {
+        let (Some(found), Some(number)) = (found, context.module_at(rva)) else {
+            return Ok(0);
+        };
+        let start = self.names.place(found.start_rva);
+        let (Some(start), Some(place)) = (start, self.names.place(rva)) else {
+            return Ok(0);
+        };
+        let modules = context.provider();
+        self.columns
+            .column_at(alloc, modules, number, start, place.offset)
+    }
+
     /// What a context knows of an address.
     fn known_at(
         &mut self,
@@ -223,7 +253,17 @@ impl<'a, F: FileExt + Drop> FileAnswers<'a, F> {
         let function = self.names.function_at(alloc, context, rva)?;
         let first = with_first_row(alloc, context, &function, &found, rva)?;
         let name = self.name_of(alloc, arguments, &function, rva)?;
-        Ok(KnownAddress { found, name, first })
+        let line_at = match &first {
+            Some(first) => first.rva(),
+            None => rva,
+        };
+        let column = self.column_of(alloc, context, &found, line_at)?;
+        Ok(KnownAddress {
+            found,
+            name,
+            first,
+            column,
+        })
     }
 
     /// Reads what was asked for and is missing, and makes a context over it. Returns whether

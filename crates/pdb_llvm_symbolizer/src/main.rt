@@ -1,9 +1,13 @@
 //! Answers addresses of Windows images by their program databases, as `llvm-symbolizer` does:
 //! `pdb_llvm_symbolizer --obj=FILE ADDRESS..`.
+//!
+//! How files are found, read and cached may change. What is written may not, but to be what
+//! `llvm-symbolizer` 19 writes; stored cases name each difference from it.
 #![tactic(auto)]
 
 mod arguments;
 mod choices;
+mod columns;
 mod command_words;
 mod database;
 mod files;

@@ -6,7 +6,7 @@ use crate::ordered_map::OrderedMap;
 use crate::publics::Publics;
 use crate::undecorated::undecorated;
 use pdb_addr2line::Function;
-use pdb_addr2line::pdb::MachineType;
+use pdb_addr2line::pdb::{MachineType, PdbInternalSectionOffset};
 use pdb_functions::FunctionKey;
 use std::alloc::{AllocError, Global};
 
@@ -45,6 +45,11 @@ impl<'a> FunctionNames<'a> {
             publics: Publics::new(held.symbol_records(), sections),
             is_x86: machine == MachineType::Other(X86),
         }
+    }
+
+    /// The place of an RVA, if it has one.
+    pub fn place(&self, rva: u32) -> Option<PdbInternalSectionOffset> {
+        self.map.place(rva)
     }
 
     /// The procedure that covers an address, if there is one.

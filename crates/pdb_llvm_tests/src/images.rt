@@ -3,7 +3,7 @@
 //! of the rest. The expected values are what `llvm-readobj` and `objdump` say of these bytes and of
 //! the whole files, and what `llvm-pdbutil` says of their PDBs.
 
-use pdb_image::{CodeView, Image, PdbIdentity};
+use pdb_image::{CodeView, Image, ImageError, PdbIdentity};
 use pdb_samples::{SampleError, overwrite};
 use std::alloc::Global;
 use std::test::Fail;
@@ -81,6 +81,14 @@ fn has_section(image: &Image<'_>, number: usize, name: &str, address: u32, place
     })
 }
 
+/// Whether an image names the PDB of this identity.
+fn names_pdb(image: &[u8], pdb: &PdbIdentity) -> Result<bool, ImageError> {
+    match Image::parse(image)?.code_view()? {
+        Some(record) => Ok(record.identity().matches(pdb)),
+        None => Ok(false),
+    }
+}
+
 #[test]
 fn wide_image(rt: HostRuntime) -> Result<(), Fail> {
     let alloc = rt.alloc();
@@ -102,7 +110,7 @@ fn wide_image(rt: HostRuntime) -> Result<(), Fail> {
         )?
     );
     let pdb = PdbIdentity::of_pdb(record.identity().guid, 7, Some(1));
-    assert!(rt; record.identity().matches(&pdb));
+    assert!(rt; names_pdb(bytes.as_slice(), &pdb)?);
     Ok(())
 }
 

@@ -1,9 +1,9 @@
 //! The texts of answers. The expected values are what `llvm-symbolizer` 19 wrote of an image,
-//! `x64.exe`.
+//! `x64.exe`, but for a column.
 
 use pdb_functions::{FrameRow, SharedFrame, SharedFunctionFrames};
 use pdb_llvm_texts::{
-    Asked, ReportOptions, ReportedFrame, Style, TextOptions, append_error, append_frames,
+    Asked, OwnFrame, ReportOptions, ReportedFrame, Style, TextOptions, append_error, append_frames,
     append_no_data, append_no_locals, report_frames,
 };
 use std::alloc::Global;
@@ -13,17 +13,19 @@ use std::sync::ArcStr;
 /// An address in a call that was inlined into a function.
 const ADDRESS: u64 = 0x1_4000_1148;
 
-/// The frames at the address, as llvm-symbolizer reports them.
+/// The frames at the address, as llvm-symbolizer reports them, but for a column.
 const FRAMES: [ReportedFrame<'static>; 2] = [
     ReportedFrame {
         function: Some(b"bytes::rotate"),
         file: Some(b"C:\\src\\checksum.h"),
         line: 6,
+        column: 0,
     },
     ReportedFrame {
         function: Some(b"archive::verify(struct archive::Entry const &)"),
         file: Some(b"C:\\src\\archive.cpp"),
         line: 9,
+        column: 12,
     },
 ];
 
@@ -45,7 +47,7 @@ fn frames_in_each_style(rt: HostRuntime) {
         (
             Style::Llvm,
             b"bytes::rotate\nC:\\src\\checksum.h:6:0\n\
-            archive::verify(struct archive::Entry const &)\nC:\\src\\archive.cpp:9:0\n\n",
+            archive::verify(struct archive::Entry const &)\nC:\\src\\archive.cpp:9:12\n\n",
         ),
         (
             Style::Gnu,
@@ -58,7 +60,7 @@ fn frames_in_each_style(rt: HostRuntime) {
             {\"Column\":0,\"Discriminator\":0,\"FileName\":\"C:\\\\src\\\\checksum.h\",\
             \"FunctionName\":\"bytes::rotate\",\"Line\":6,\
             \"StartAddress\":\"\",\"StartFileName\":\"\",\"StartLine\":0},\
-            {\"Column\":0,\"Discriminator\":0,\"FileName\":\"C:\\\\src\\\\archive.cpp\",\
+            {\"Column\":12,\"Discriminator\":0,\"FileName\":\"C:\\\\src\\\\archive.cpp\",\
             \"FunctionName\":\"archive::verify(struct archive::Entry const &)\",\"Line\":9,\
             \"StartAddress\":\"\",\"StartFileName\":\"\",\"StartLine\":0}]}\n",
         ),
@@ -126,21 +128,27 @@ fn found(alloc: Global, length: u32) -> Option<SharedFunctionFrames<'static>> {
     })
 }
 
-/// A row that ends before the address gives no line. The file's folders are left out.
+/// A row that ends before the address gives no line and no column. The file's folders are left out.
 #[test]
 fn lines_of_their_own_rows(rt: HostRuntime) {
     let options = ReportOptions {
         asked: Asked::All,
         base_names: true,
     };
+    let own = OwnFrame {
+        name: Some(b"f()"),
+        column: 5,
+    };
     for (length, line) in [(0x10, 7), (4, 0)] {
         let found = found(rt.alloc(), length);
-        let reported = report_frames(rt.alloc(), &found, Some(b"f()"), 0x1008, options);
+        let reported = report_frames(rt.alloc(), &found, own, 0x1008, options);
         let is_right = match &reported {
             Ok(frames) => match frames.as_slice() {
                 [frame] => {
                     let file: &[u8] = if line == 7 { b"a.cpp" } else { b"" };
+                    let column = if line == 7 { 5 } else { 0 };
                     frame.line == line
+                        && frame.column == column
                         && frame.function == Some(b"f()")
                         && frame.file.unwrap_or(b"") == file
                 }

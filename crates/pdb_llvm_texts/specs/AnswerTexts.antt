@@ -10,7 +10,7 @@ use Rattle.pdb_llvm_texts.specs.declared.options.TextOptions.{TextOptions}
 
 -- a frame of which nothing is known
 abbrev pub unknown : ReportedFrame
-unknown = record { function = None; file = None; line = 0 }
+unknown = record { function = None; file = None; line = 0; column = 0 }
 
 -- how deep an answer's object stands
 abbrev pub depth_of : TextOptions → ℕ

@@ -46,10 +46,11 @@ abbrev pub text_or_none : Option (List ℕ) → List ℕ
 text_or_none None = []
 text_or_none (Some text) = text
 
--- a frame's column and discriminator, which aren't known, and its file
+-- a frame's column and discriminator, which isn't known, and its file
 unfoldable pub place_members : Bool → ℕ → ReportedFrame → List ℕ
 place_members p d f =
-    key p d (codes "Column") ++ codes "0," ++ key p d (codes "Discriminator") ++ codes "0,"
+    key p d (codes "Column") ++ decimal f.column ++ codes ","
+    ++ key p d (codes "Discriminator") ++ codes "0,"
     ++ string_member p d (codes "FileName") (text_or_none f.file) ++ codes ","
 
 -- its function's name, and its line

@@ -37,21 +37,25 @@ name_text o is_caller f =
     ++ (if o.pretty then codes " at " else codes "\n")
     else []
 
--- what stands after the line: in the style LLVM the column, which isn't known
-abbrev pub column_text : Style → List ℕ
-column_text styles.Llvm = codes ":0\n"
-column_text styles.Gnu = codes "\n"
-column_text styles.Json = codes "\n"
+-- a number after a text, and a line's end
+abbrev pub number_line : List ℕ → ℕ → List ℕ
+number_line text number = text ++ decimal number ++ codes "\n"
+
+-- what stands after the line: in the style LLVM the column
+abbrev pub column_text : Style → ℕ → List ℕ
+column_text styles.Llvm column = number_line (codes ":") column
+column_text styles.Gnu column = codes "\n"
+column_text styles.Json column = codes "\n"
 
 -- a frame's file and line
 abbrev pub place_text : Style → ReportedFrame → List ℕ
-place_text style f = text_or f.file ++ codes ":" ++ decimal f.line ++ column_text style
+place_text style f = text_or f.file ++ codes ":" ++ decimal f.line ++ column_text style f.column
 
--- ..on a line each, with the column, which isn't known
+-- ..on a line each, with the column
 unfoldable pub verbose_text : ReportedFrame → List ℕ
 verbose_text f =
     codes "  Filename: " ++ text_or f.file ++ codes "\n  Line: " ++ decimal f.line
-    ++ codes "\n  Column: 0\n"
+    ++ number_line (codes "\n  Column: ") f.column
 
 -- the text of a frame
 abbrev pub frame_text : TextOptions → Bool → ReportedFrame → List ℕ

@@ -45,8 +45,9 @@ reported base_names start address f =
       function = f.function;
       file = if base_names then option_map base_name f.file else f.file;
       line = unwrap_or f.line 0;
+      column = 0;
     }
-    else record { function = f.function; file = None; line = 0 }
+    else record { function = f.function; file = None; line = 0; column = 0 }
 
 -- the inlined calls of the frames, which are all but the last
 abbrev pub calls_of : List Frame → List Frame
@@ -56,13 +57,19 @@ calls_of frames = take (length frames - 1) frames
 abbrev pub own_of : List Frame → List Frame
 own_of frames = drop (length frames - 1) frames
 
--- a frame under another name
-abbrev pub named : Option (List ℕ) → ReportedFrame → ReportedFrame
-named name f = record { function = name; file = f.file; line = f.line }
+-- the function's own frame, under its name: a line has the column, 0 for none
+abbrev pub named : Option (List ℕ) → ℕ → ReportedFrame → ReportedFrame
+named name column f =
+    record {
+      function = name;
+      file = f.file;
+      line = f.line;
+      column = if f.line == 0 then 0 else column;
+    }
 
 -- a function without file and line
 abbrev pub function_alone : Option (List ℕ) → ReportedFrame
-function_alone name = record { function = name; file = None; line = 0 }
+function_alone name = record { function = name; file = None; line = 0; column = 0 }
 
 -- the inlined calls, unless the function alone is asked for
 abbrev pub calls_asked : Asked → List ReportedFrame → List ReportedFrame
@@ -77,15 +84,15 @@ kept_asked asked.Innermost frames = take 1 frames
 kept_asked asked.Outermost frames = frames
 
 -- the frames of a function at an address: the inlined calls, and the function under its name
-abbrev pub reported_frames : ReportOptions → Option (List ℕ) → ℕ → FunctionFrames
+abbrev pub reported_frames : ReportOptions → Option (List ℕ) → ℕ → ℕ → FunctionFrames
     → List ReportedFrame
-reported_frames o name a f =
+reported_frames o name column a f =
     kept_asked o.asked
     (calls_asked o.asked (map (reported o.base_names f.start_rva a) (calls_of f.frames))
-    ++ map (λ own. named name (reported o.base_names f.start_rva a own)) (own_of f.frames))
+    ++ map (λ own. named name column (reported o.base_names f.start_rva a own)) (own_of f.frames))
 
 -- the frames that are reported for an address
-abbrev pub reported_found : ReportOptions → Option (List ℕ) → ℕ → Option FunctionFrames
+abbrev pub reported_found : ReportOptions → Option (List ℕ) → ℕ → ℕ → Option FunctionFrames
     → List ReportedFrame
-reported_found o name a None = function_alone name ∷ []
-reported_found o name a (Some f) = reported_frames o name a f
+reported_found o name column a None = function_alone name ∷ []
+reported_found o name column a (Some f) = reported_frames o name column a f

@@ -161,6 +161,13 @@ fn line_of(frame: &ReportedFrame<'_>) -> u32
     frame.line
 }
 
+/// The column of a frame.
+fn column_of(frame: &ReportedFrame<'_>) -> u32
+    ensures { result ≡ frame.now.column }
+{
+    frame.column
+}
+
 /// Appends the members of a frame's place: column, discriminator, file.
 #[tactic(auto, unfolding(crate::specs::Json::place_members))]
 fn append_place_members(
@@ -173,7 +180,8 @@ fn append_place_members(
         ≡ output.old.items ++ place_members pretty depth frame.now) }
 {
     append_key(output, pretty, depth, "Column")?;
-    append(output, "0,")?;
+    append_number(output, column_of(frame))?;
+    append(output, ",")?;
     append_key(output, pretty, depth, "Discriminator")?;
     append(output, "0,")?;
     append_string_member(output, pretty, depth, "FileName", file_text(frame))?;

@@ -6,6 +6,7 @@ ghost use Rattle.std.specs.Fmt.{decimal};
 ghost use Rattle.std.specs.List.{flat_map};
 ghost use Rattle.pdb_llvm_texts.specs.Plain.{address_text, caller_text, column_text, footer_text};
 ghost use Rattle.pdb_llvm_texts.specs.Plain.{frame_text, frames_text, header_text, name_text};
+ghost use Rattle.pdb_llvm_texts.specs.Plain.{number_line};
 ghost use Rattle.pdb_llvm_texts.specs.Plain.{name_or_unknown as name_or, place_text, verbose_text};
 ghost use Rattle.pdb_functions.specs.Texts.{text_or};
 
@@ -121,13 +122,22 @@ fn append_name(
     append(output, after_name(options.pretty))
 }
 
-/// What stands after the line.
-fn column(style: Style) -> &'static str
-    ensures { result.now ≡ column_text style }
+/// Appends a number after a text, and a line's end.
+fn append_number_line(output: &mut Vec<u8>, text: &str, number: u32) -> Result<(), AllocError>
+    ensures { OnOk result (output.new.items ≡ output.old.items ++ number_line text.now number) }
+{
+    append(output, text)?;
+    append_number(output, number)?;
+    append(output, "\n")
+}
+
+/// Appends what stands after the line.
+fn append_column(output: &mut Vec<u8>, style: Style, column: u32) -> Result<(), AllocError>
+    ensures { OnOk result (output.new.items ≡ output.old.items ++ column_text style column) }
 {
     match style {
-        Style::Llvm => ":0\n",
-        Style::Gnu | Style::Json => "\n",
+        Style::Llvm => append_number_line(output, ":", column),
+        Style::Gnu | Style::Json => append(output, "\n"),
     }
 }
 
@@ -142,7 +152,7 @@ fn append_place(
     output.extend_from_slice(bytes_or_unknown(frame.file))?;
     append(output, ":")?;
     append_number(output, frame.line)?;
-    append(output, column(style))
+    append_column(output, style, frame.column)
 }
 
 /// Appends a frame's file, line and column, on a line each.
@@ -153,7 +163,7 @@ fn append_verbose(output: &mut Vec<u8>, frame: &ReportedFrame<'_>) -> Result<(),
     output.extend_from_slice(bytes_or_unknown(frame.file))?;
     append(output, "\n  Line: ")?;
     append_number(output, frame.line)?;
-    append(output, "\n  Column: 0\n")
+    append_number_line(output, "\n  Column: ", frame.column)
 }
 
 /// Appends a frame.

@@ -26,6 +26,8 @@ pub struct ReportedFrame<'f> {
     pub file: Option<&'f [u8]>,
     /// The line, counted from 1, and 0 where it isn't known.
     pub line: u32,
+    /// The column, counted from 1, and 0 where it isn't known.
+    pub column: u32,
 }
 
 impl<'f> Model for ReportedFrame<'f> {
@@ -38,6 +40,7 @@ impl<'f> Model for ReportedFrame<'f> {
       function = option_map (λ s. s.now) f.function;
       file = option_map (λ s. s.now) f.file;
       line = f.line;
+      column = f.column;
     } };
 }
 
@@ -52,6 +55,7 @@ impl<'f> ReportedFrame<'f> {
             function: None,
             file: None,
             line: 0,
+            column: 0,
         }
     }
 }
@@ -74,6 +78,15 @@ pub struct ReportOptions {
     pub asked: Asked,
     /// Whether a file is reported without its folders.
     pub base_names: bool,
+}
+
+/// What is known of the function's own frame besides what was found.
+#[derive(Clone, Copy, Debug)]
+pub struct OwnFrame<'f> {
+    /// The function's name, in UTF-8, if it has one.
+    pub name: Option<&'f [u8]>,
+    /// The column of its line, counted from 1, and 0 where it isn't known.
+    pub column: u32,
 }
 
 /// Whether a byte parts the names of a path.
@@ -159,6 +172,7 @@ pub fn report_frame<'f>(
             function,
             file: None,
             line: 0,
+            column: 0,
         };
     }
     let line = frame.line.unwrap_or(0);
@@ -170,6 +184,7 @@ pub fn report_frame<'f>(
         function,
         file,
         line,
+        column: 0,
     }
 }
 
@@ -220,14 +235,16 @@ fn keep_asked(reported: &mut Vec<ReportedFrame<'_>>, asked: Asked)
     }
 }
 
-/// A frame under another name.
-fn renamed<'f>(frame: ReportedFrame<'f>, name: Option<&'f [u8]>) -> ReportedFrame<'f>
-    ensures { result ≡ named (option_map (λ s. s.now) name.entry) frame.entry }
+/// The function's own frame, under its name. A line has the column.
+fn own_frame<'f>(frame: ReportedFrame<'f>, own: OwnFrame<'f>) -> ReportedFrame<'f>
+    ensures { result ≡ named (option_map (λ s. s.now) own.entry.name) own.entry.column frame.entry }
 {
+    let column = if frame.line == 0 { 0 } else { own.column };
     ReportedFrame {
-        function: name,
+        function: own.name,
         file: frame.file,
         line: frame.line,
+        column,
     }
 }
 
@@ -236,20 +253,21 @@ fn renamed<'f>(frame: ReportedFrame<'f>, name: Option<&'f [u8]>) -> ReportedFram
 fn report_function<'f>(
     alloc: Global,
     found: &'f SharedFunctionFrames<'_>,
-    name: Option<&'f [u8]>,
+    own: OwnFrame<'f>,
     address: u32,
     options: ReportOptions,
 ) -> Result<Vec<ReportedFrame<'f>>, AllocError>
     ensures { IfOk result (λ v. v.items
-        ≡ reported_frames options (option_map (λ s. s.now) name.entry) address found.now) }
+        ≡ reported_frames options (option_map (λ s. s.now) own.entry.name) own.entry.column address
+        found.now) }
 {
     let mut reported = Vec::new(alloc);
-    let Some((own, calls)) = found.frames.split_last() else {
+    let Some((frame, calls)) = found.frames.split_last() else {
         return Ok(reported);
     };
     push_asked(&mut reported, calls, found.start_rva, address, options)?;
-    let own = report_frame(own, found.start_rva, address, options.base_names);
-    reported.push(renamed(own, name))?;
+    let frame = report_frame(frame, found.start_rva, address, options.base_names);
+    reported.push(own_frame(frame, own))?;
     keep_asked(&mut reported, options.asked);
     Ok(reported)
 }
@@ -267,12 +285,13 @@ fn function_alone<'f>(
         function: name,
         file: None,
         line: 0,
+        column: 0,
     })?;
     Ok(reported)
 }
 
 /// The frames at an address as they are reported: the inlined calls, innermost first, and then the
-/// function, under this name. Where no frames were found, the function alone.
+/// function, under its name. Where no frames were found, the function alone.
 ///
 /// A frame has a line only by a row that begins in the function and goes on past the address. So a
 /// function without lines of its own has none, and neither has padding after a function.
@@ -282,15 +301,16 @@ fn function_alone<'f>(
 pub fn report_frames<'f>(
     alloc: Global,
     found: &'f Option<SharedFunctionFrames<'_>>,
-    name: Option<&'f [u8]>,
+    own: OwnFrame<'f>,
     address: u32,
     options: ReportOptions,
 ) -> Result<Vec<ReportedFrame<'f>>, AllocError>
     ensures { IfOk result (λ v. v.items
-        ≡ reported_found options (option_map (λ s. s.now) name.entry) address found.now) }
+        ≡ reported_found options (option_map (λ s. s.now) own.entry.name) own.entry.column address
+        found.now) }
 {
     match found {
-        None => function_alone(alloc, name),
-        Some(found) => report_function(alloc, found, name, address, options),
+        None => function_alone(alloc, own.name),
+        Some(found) => report_function(alloc, found, own, address, options),
     }
 }

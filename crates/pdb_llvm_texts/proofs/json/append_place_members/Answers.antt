@@ -1,4 +1,5 @@
 use Rattle.std.proofs.Common.{◌≡◌, ◌++◌, ◌∙◌, ap, codes}
+use Rattle.std.specs.Fmt.{decimal}
 use Rattle.pdb_llvm_texts.specs.Json.{key, place_members, string_member, text_or_none}
 use Rattle.pdb_llvm_texts.proofs.Lists.{after}
 use Rattle.pdb_llvm_texts.proofs.json.append_place_members.Goals as goal
@@ -12,11 +13,18 @@ returns c =
     let old = c.args.output.now.items in
     let text1 = key p d (codes "Column") in
     let step1 : c.append_key.new.output.items ≡ old ++ text1 = c.in_ok-append_key.ensures in
-    let more2 : c.append.new.output.items ≡ c.append_key.new.output.items ++ codes "0," =
+    let column = decimal c.args.frame.now.column in
+    let more_c : c.append_number.new.output.items ≡ c.append_key.new.output.items ++ column =
+    c.in_ok-append_number.ensures
+    ∙ ap (λ l. c.append_key.new.output.items ++ decimal l) c.column_of.ensures in
+    let text_c = text1 ++ column in
+    let step_c : c.append_number.new.output.items ≡ old ++ text_c =
+    after old text1 c.append_key.new.output.items column c.append_number.new.output.items step1 more_c in
+    let more2 : c.append.new.output.items ≡ c.append_number.new.output.items ++ codes "," =
     c.in_ok-append.ensures in
-    let text2 = text1 ++ codes "0," in
+    let text2 = text_c ++ codes "," in
     let step2 : c.append.new.output.items ≡ old ++ text2 =
-    after old text1 c.append_key.new.output.items (codes "0,") c.append.new.output.items step1 more2 in
+    after old text_c c.append_number.new.output.items (codes ",") c.append.new.output.items step_c more2 in
     let more3 : c.append_key-2.new.output.items ≡ c.append.new.output.items ++ key p d (codes "Discriminator") =
     c.in_ok-append_key-2.ensures in
     let text3 = text2 ++ key p d (codes "Discriminator") in

@@ -2,7 +2,7 @@ use Rattle.std.proofs.Common.{rules, ◌≡◌, ◌++◌, ap, ◌∙◌, codes}
 use Rattle.std.proofs.lemmas.Result.{on_ok_weaker}
 use Rattle.std.specs.Fmt.{decimal}
 use Rattle.pdb_functions.specs.Texts.{text_or}
-use Rattle.pdb_llvm_texts.specs.Plain.{verbose_text}
+use Rattle.pdb_llvm_texts.specs.Plain.{number_line, verbose_text}
 use Rattle.pdb_llvm_texts.proofs.Lists.{after}
 use Rattle.pdb_llvm_texts.proofs.plain.append_verbose.Goals as goal
 
@@ -29,7 +29,9 @@ returns c =
     c.in_ok-append_number.ensures ∙ ap (λ n. three ++ decimal n) line_is in
     let numbered : four ≡ old ++ (name ++ file ++ codes "\n  Line: " ++ line) =
     after old (name ++ file ++ codes "\n  Line: ") three line four begun more4 in
-    on_ok_weaker c.append-3.result
+    let column_is : c.frame.inside.column ≡ c.args.frame.now.column = search rules in
+    on_ok_weaker c.append_number_line.result
     (λ ended. after old (name ++ file ++ codes "\n  Line: " ++ line) four
-    (codes "\n  Column: 0\n") c.append-3.new.output.items numbered ended)
-    c.append-3.ensures
+    (number_line (codes "\n  Column: ") c.args.frame.now.column) c.append_number_line.new.output.items
+    numbered (ended ∙ ap (λ n. four ++ number_line (codes "\n  Column: ") n) column_is))
+    c.append_number_line.ensures
