@@ -2,6 +2,9 @@
 //! their unwind codes, the rules at an address by which a frame is left, and the records
 //! `STACK CFI` of a symbol file that say these rules. The layout is that of Microsoft's page x64
 //! Exception Handling; the records are those that Breakpad and rust-minidump read.
+//!
+//! How codes are gone over may change. Rules (`specs/Rules`) and the form of records may not, since
+//! other programs read these.
 #![tactic(auto)]
 
 mod code;

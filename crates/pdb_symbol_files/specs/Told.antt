@@ -1,0 +1,44 @@
+-- What a symbol file tells of addresses.
+use Rattle.std.specs.Prelude.{ℕ, ◌+◌, ◌&&◌, ◌==◌, nat_eq, Bool, List, Option}
+use Rattle.std.specs.Option.{option_eq}
+use Rattle.std.specs.Str.{bytes_eq}
+use lib.Pointwise.{pointwise}
+
+-- an inlined call: file and line from which a function was called, and its name; 0 for no line
+pub record Call : Type 0 where
+  pub file : List ℕ
+  pub line : ℕ
+  pub callee : List ℕ
+
+-- what is told of an address: where its function begins, if that is known, and its name; the
+-- inlined calls, the outermost one first; file and line of the innermost frame, 0 for no line
+pub record Told : Type 0 where
+  pub start : Option ℕ
+  pub function : List ℕ
+  pub calls : List Call
+  pub file : List ℕ
+  pub line : ℕ
+
+-- addresses of which the same is told: the first one, and how many there are
+pub record Piece : Type 0 where
+  pub address : ℕ
+  pub size : ℕ
+  pub told : Told
+
+-- the address after a piece's last one
+abbrev pub end_of : Piece → ℕ
+end_of p = p.address + p.size
+
+abbrev pub same_call : Call → Call → Bool
+same_call a b = a.line == b.line && bytes_eq a.file b.file && bytes_eq a.callee b.callee
+
+abbrev pub same_path : List Call → List Call → Bool
+same_path = pointwise same_call
+
+-- one function: start and name are the same
+abbrev pub same_function : Told → Told → Bool
+same_function a b = option_eq nat_eq a.start b.start && bytes_eq a.function b.function
+
+-- a piece goes on with the function of the one before it
+abbrev pub continues : Piece → Piece → Bool
+continues p q = end_of p == q.address && same_function p.told q.told

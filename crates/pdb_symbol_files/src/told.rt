@@ -1,0 +1,71 @@
+//! What a symbol file tells of an answer.
+
+use crate::pieces::{Call, Told};
+use crate::texts::told_text;
+use pdb_functions::Frame;
+use std::alloc::{AllocError, Global};
+use std::borrow::CowStr;
+
+/// The text of a frame's function.
+fn name_of(alloc: Global, frame: &Frame<'_>) -> Result<String, AllocError> {
+    match &frame.function {
+        Some(name) => told_text(alloc, Some(name.as_str())),
+        None => told_text(alloc, None),
+    }
+}
+
+/// The text of a frame's source file.
+fn file_of(alloc: Global, frame: &Frame<'_>) -> Result<String, AllocError> {
+    match &frame.file {
+        Some(CowStr::Borrowed(file)) => told_text(alloc, Some(*file)),
+        Some(CowStr::Owned(file)) => told_text(alloc, Some(file.as_str())),
+        None => told_text(alloc, None),
+    }
+}
+
+/// The call by which a frame's function called that of another, inlined.
+fn call_of(alloc: Global, caller: &Frame<'_>, callee: &Frame<'_>) -> Result<Call, AllocError> {
+    let file = file_of(alloc, caller)?;
+    let callee = name_of(alloc, callee)?;
+    Ok(Call {
+        file,
+        line: caller.line.unwrap_or(0),
+        callee,
+    })
+}
+
+/// The inlined calls of frames, innermost frame first; the outermost call comes first.
+fn calls_of(alloc: Global, frames: &[Frame<'_>]) -> Result<Vec<Call>, AllocError> {
+    let mut calls = Vec::new(alloc);
+    let mut left = frames.len();
+    while 1 < left {
+        left -= 1;
+        calls.push(call_of(alloc, &frames[left], &frames[left - 1])?)?;
+    }
+    Ok(calls)
+}
+
+/// What a symbol file tells of frames, innermost first, in a function that begins at an address, if
+/// that is known; `None` of no frames.
+///
+/// # Errors
+/// `AllocError` when memory runs out.
+pub fn told_of(
+    alloc: Global,
+    start: Option<u32>,
+    frames: &[Frame<'_>],
+) -> Result<Option<Told>, AllocError> {
+    let (Some(innermost), Some(outermost)) = (frames.first(), frames.last()) else {
+        return Ok(None);
+    };
+    let function = name_of(alloc, outermost)?;
+    let calls = calls_of(alloc, frames)?;
+    let file = file_of(alloc, innermost)?;
+    Ok(Some(Told {
+        start,
+        function,
+        calls,
+        file,
+        line: innermost.line.unwrap_or(0),
+    }))
+}

@@ -1,2 +1,0 @@
-mod Annotating
-pub mod Lists

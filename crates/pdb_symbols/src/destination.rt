@@ -1,0 +1,216 @@
+//! Where a symbol file is written.
+
+use crate::fault::SymbolsFault;
+use crate::image::read_image;
+use crate::loaded::{Loaded, load_bytes, load_views};
+use crate::options::{Options, Target};
+use crate::progress::Progress;
+use crate::writing::{SymbolsText, text_of};
+use bumpalo::Bump;
+use pdb_image::{Image, PdbIdentity};
+use pdb_loading::read_file;
+use std::alloc::{AllocError, Global};
+use std::fs;
+use std::fs::OpenFile;
+use std::io::{self, ErrorKind, Read, Write};
+use std::mem::forget;
+use std::os::unix::fs::FileExt;
+use std::rt::Files;
+
+/// The size of a file that can be read at any place, in bytes; `None` of any other, such as a pipe
+/// or a device, and of one that says that it has no byte, such as those of `/proc`.
+fn size_of(file: &impl OpenFile) -> Option<u64> {
+    match file.metadata() {
+        Ok(metadata) if metadata.is_file() && metadata.len() > 0 => Some(metadata.len()),
+        _ => None,
+    }
+}
+
+/// What stands after the last slash of a path.
+fn file_name(path: &str) -> &str {
+    match path.rsplit_once('/') {
+        Some((_, name)) => name,
+        None => path,
+    }
+}
+
+/// A name without the extension of databases, in that case or another one.
+fn stem_of(name: &str) -> &str {
+    match name.rsplit_once('.') {
+        Some((stem, extension)) if extension.eq_ignore_ascii_case("pdb") => stem,
+        _ => name,
+    }
+}
+
+/// The folder and the path of a symbol file in a store.
+fn store_path(
+    alloc: Global,
+    store: &str,
+    file: &str,
+    identity: &PdbIdentity,
+) -> Result<(String, String), AllocError> {
+    let name = file_name(file);
+    let stem = stem_of(name);
+    let folder = format!(in alloc; "{store}/{name}/{identity}")?;
+    let path = format!(in alloc; "{folder}/{stem}.sym")?;
+    Ok((folder, path))
+}
+
+/// Where a write failed.
+fn write_fault<T>(outcome: io::Result<T>) -> Result<T, SymbolsFault> {
+    match outcome {
+        Ok(done) => Ok(done),
+        Err(error) => Err(SymbolsFault::of_write(&error)),
+    }
+}
+
+/// Writes a symbol file to a path: beside it, and once it is whole it is renamed.
+fn write_beside<S: Files + AllocGlobal>(
+    rt: &S,
+    path: &str,
+    demangle: bool,
+    text: &SymbolsText,
+    image: Option<&Image<'_>>,
+) -> Result<(), SymbolsFault> {
+    let beside = format!(in rt.alloc(); "{path}.part")?;
+    let mut file = write_fault(fs::create(rt, beside.as_str()))?;
+    let written = text.write(rt.alloc(), demangle, image, &mut file);
+    drop(file);
+    let outcome = match written {
+        Ok(()) => write_fault(fs::rename(rt, beside.as_str(), path)),
+        Err(fault) => Err(fault),
+    };
+    if outcome.is_err() {
+        let _ = fs::remove_file(rt, beside.as_str());
+    }
+    outcome
+}
+
+/// Writes a symbol file to where it is asked for.
+fn write_to<S: Files + AllocGlobal, W: Write>(
+    rt: &S,
+    options: &Options,
+    identity: &PdbIdentity,
+    text: &SymbolsText,
+    image: Option<&Image<'_>>,
+    output: &mut W,
+) -> Result<(), SymbolsFault> {
+    let demangle = options.demangle;
+    match &options.target {
+        Target::Output => text.write(rt.alloc(), demangle, image, output),
+        Target::File(path) => write_beside(rt, path.as_str(), demangle, text, image),
+        Target::Store(store) => {
+            let file = options.file.as_str();
+            let (folder, path) = store_path(rt.alloc(), store.as_str(), file, identity)?;
+            write_fault(fs::create_dir_all(rt, folder.as_str()))?;
+            write_beside(rt, path.as_str(), demangle, text, image)
+        }
+    }
+}
+
+/// Reads a file from its beginning on.
+fn read_bytes(alloc: Global, file: &mut impl Read) -> Result<Vec<u8>, SymbolsFault> {
+    match read_file(alloc, file) {
+        Ok(bytes) => Ok(bytes),
+        Err(error) if error.kind() == ErrorKind::OutOfMemory => Err(SymbolsFault::out_of_memory()),
+        Err(_) => Err(SymbolsFault::ReadFile),
+    }
+}
+
+/// Writes a symbol file by its database, which is loaded, and its image.
+fn write_by_image<S: Files + AllocGlobal, F: FileExt, W: Write, E: Write>(
+    rt: &S,
+    loaded: Loaded<'_, '_, F>,
+    options: &Options,
+    image: Option<&Image<'_>>,
+    output: &mut W,
+    progress: &mut Progress<E>,
+) -> Result<(), SymbolsFault> {
+    let identity = loaded.identity;
+    let text = text_of(rt.alloc(), loaded, options, image, progress)?;
+    progress.end();
+    write_to(rt, options, &identity, &text, image, output)
+}
+
+/// Writes a symbol file by its database, which is loaded.
+fn write_loaded<S: Files + AllocGlobal, F: FileExt, W: Write, E: Write>(
+    rt: &S,
+    loaded: Loaded<'_, '_, F>,
+    options: &Options,
+    output: &mut W,
+    progress: &mut Progress<E>,
+) -> Result<(), SymbolsFault> {
+    let Some(path) = &options.image else {
+        return write_by_image(rt, loaded, options, None, output, progress);
+    };
+    let bytes = read_image(rt, path.as_str())?;
+    let image = Image::parse(bytes.as_slice())?;
+    write_by_image(rt, loaded, options, Some(&image), output, progress)
+}
+
+/// Writes a symbol file by a database's file of `size` bytes, which is read on demand. The process
+/// is left to give its memory back.
+fn write_by_views<S: Files + AllocGlobal, F: FileExt, W: Write, E: Write>(
+    rt: &S,
+    options: &Options,
+    file: &F,
+    size: u64,
+    output: &mut W,
+    progress: &mut Progress<E>,
+) -> Result<(), SymbolsFault> {
+    let arena = Bump::new(rt.alloc());
+    let loaded = load_views(rt.alloc(), &arena, file, size)?;
+    let outcome = write_loaded(rt, loaded, options, output, progress);
+    forget(arena);
+    outcome
+}
+
+/// Writes a symbol file by the bytes of a database's file. The process is left to give its memory
+/// back.
+fn write_by_bytes<S: Files + AllocGlobal, W: Write, E: Write>(
+    rt: &S,
+    options: &Options,
+    bytes: Vec<u8>,
+    output: &mut W,
+    progress: &mut Progress<E>,
+) -> Result<(), SymbolsFault>
+where
+    S::File: FileExt,
+{
+    let arena = Bump::new(rt.alloc());
+    let loaded: Loaded<'_, '_, S::File> = load_bytes(rt.alloc(), &arena, bytes)?;
+    let outcome = write_loaded(rt, loaded, options, output, progress);
+    forget(arena);
+    outcome
+}
+
+/// Opens the database's file.
+fn open_file<S: Files + AllocGlobal>(rt: &S, path: &str) -> Result<S::File, SymbolsFault> {
+    match fs::open(rt, path) {
+        Ok(file) => Ok(file),
+        Err(error) if error.kind() == ErrorKind::OutOfMemory => Err(SymbolsFault::out_of_memory()),
+        Err(_) => Err(SymbolsFault::ReadFile),
+    }
+}
+
+/// Writes the symbol file that is asked for, by its database's file: a regular one is read on
+/// demand, any other from its beginning on.
+///
+/// # Errors
+/// Why it isn't written.
+pub fn write_symbols<S: Files + AllocGlobal, W: Write, E: Write>(
+    rt: &S,
+    options: &Options,
+    output: &mut W,
+    progress: &mut Progress<E>,
+) -> Result<(), SymbolsFault>
+where
+    S::File: FileExt,
+{
+    let mut file = open_file(rt, options.file.as_str())?;
+    let Some(size) = size_of(&file) else {
+        let bytes = read_bytes(rt.alloc(), &mut file)?;
+        return write_by_bytes(rt, options, bytes, output, progress);
+    };
+    write_by_views(rt, options, &file, size, output, progress)
+}

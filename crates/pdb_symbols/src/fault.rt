@@ -1,0 +1,106 @@
+//! Why a symbol file isn't written.
+
+use pdb_image::ImageError;
+use pdb_loading::{FileFault, LoadFault};
+use std::alloc::{AllocError, AllocFailed};
+use std::fmt;
+use std::io::{self, ErrorKind};
+
+/// Why a symbol file isn't written.
+#[derive(Debug, Drop)]
+pub enum SymbolsFault {
+    /// The program database isn't loaded, or memory ran out.
+    Load(LoadFault),
+    /// The program database's file couldn't be read, with that kind.
+    File(ErrorKind),
+    /// It couldn't be opened or read from its beginning on.
+    ReadFile,
+    /// The image's file couldn't be read, with that kind.
+    ImageFile(ErrorKind),
+    /// The file is no image, or doesn't say which database it has.
+    Image(ImageError),
+    /// The image names no database.
+    ImageNamesNoPdb,
+    /// The image is of another build than the database: GUID or age differ.
+    OtherBuild,
+    /// A write failed with that kind.
+    Write(ErrorKind),
+}
+
+impl fmt::Display for SymbolsFault {
+    fn fmt<W: fmt::Write>(&self, f: &mut fmt::Formatter<W>) -> fmt::Result {
+        match self {
+            SymbolsFault::Load(fault) => write!(f, "{fault}"),
+            SymbolsFault::File(kind) => write!(f, "File({kind:?})"),
+            SymbolsFault::ReadFile => write!(f, "ReadFile"),
+            SymbolsFault::ImageFile(kind) => write!(f, "ImageFile({kind:?})"),
+            SymbolsFault::Image(error) => write!(f, "Image({error:?})"),
+            SymbolsFault::ImageNamesNoPdb => write!(f, "ImageNamesNoPdb"),
+            SymbolsFault::OtherBuild => write!(f, "OtherBuild"),
+            SymbolsFault::Write(kind) => write!(f, "Write({kind:?})"),
+        }
+    }
+}
+
+impl SymbolsFault {
+    /// Out of memory.
+    pub fn out_of_memory() -> SymbolsFault {
+        SymbolsFault::Load(LoadFault::OutOfMemory)
+    }
+
+    /// Why a file that is read on demand couldn't be read.
+    pub fn of_file(error: &io::Error) -> SymbolsFault {
+        match error.kind() {
+            ErrorKind::OutOfMemory => SymbolsFault::out_of_memory(),
+            kind => SymbolsFault::File(kind),
+        }
+    }
+
+    /// Why an output couldn't be written.
+    pub fn of_write(error: &io::Error) -> SymbolsFault {
+        match error.kind() {
+            ErrorKind::OutOfMemory => SymbolsFault::out_of_memory(),
+            kind => SymbolsFault::Write(kind),
+        }
+    }
+}
+
+impl From<AllocError> for SymbolsFault {
+    fn from(_cause: AllocError) -> SymbolsFault {
+        SymbolsFault::out_of_memory()
+    }
+}
+
+impl<T: Drop> From<AllocFailed<T>> for SymbolsFault {
+    fn from(_cause: AllocFailed<T>) -> SymbolsFault {
+        SymbolsFault::out_of_memory()
+    }
+}
+
+impl From<LoadFault> for SymbolsFault {
+    fn from(cause: LoadFault) -> SymbolsFault {
+        SymbolsFault::Load(cause)
+    }
+}
+
+impl From<pdb_container::Error> for SymbolsFault {
+    fn from(cause: pdb_container::Error) -> SymbolsFault {
+        SymbolsFault::Load(LoadFault::from(cause))
+    }
+}
+
+impl From<FileFault> for SymbolsFault {
+    fn from(cause: FileFault) -> SymbolsFault {
+        match cause {
+            FileFault::Load(fault) => SymbolsFault::Load(fault),
+            FileFault::File(ErrorKind::OutOfMemory) => SymbolsFault::out_of_memory(),
+            FileFault::File(kind) => SymbolsFault::File(kind),
+        }
+    }
+}
+
+impl From<ImageError> for SymbolsFault {
+    fn from(cause: ImageError) -> SymbolsFault {
+        SymbolsFault::Image(cause)
+    }
+}

@@ -1,0 +1,90 @@
+//! The image of a database: its code ID, and how its functions are unwound.
+
+use crate::fault::SymbolsFault;
+use pdb_image::{Image, PdbIdentity};
+use pdb_unwinding::UnwoundFunctions;
+use std::alloc::Global;
+use std::fs::OpenFile;
+use std::io::{ErrorKind, Read, Write};
+use std::rt::Files;
+use std::{fs, io};
+
+/// How long a text gets before it is written.
+const AT_ONCE: usize = 65_536;
+
+/// Reads a file.
+fn read_bytes(rt: &(impl Files + AllocGlobal), path: &str) -> io::Result<Vec<u8>> {
+    let mut file = fs::open(rt, path)?;
+    let mut bytes = Vec::new(rt.alloc());
+    file.read_to_end(&mut bytes)?;
+    Ok(bytes)
+}
+
+/// Reads an image's file.
+///
+/// # Errors
+/// `ImageFile` where it can't be read.
+pub fn read_image(rt: &(impl Files + AllocGlobal), path: &str) -> Result<Vec<u8>, SymbolsFault> {
+    match read_bytes(rt, path) {
+        Ok(bytes) => Ok(bytes),
+        Err(error) if error.kind() == ErrorKind::OutOfMemory => Err(SymbolsFault::out_of_memory()),
+        Err(error) => Err(SymbolsFault::ImageFile(error.kind())),
+    }
+}
+
+/// Checks that an image names the database of an identity.
+///
+/// # Errors
+/// `Image` where it can't be read whose it is, `ImageNamesNoPdb`, and `OtherBuild`.
+pub fn check_build(image: &Image<'_>, identity: &PdbIdentity) -> Result<(), SymbolsFault> {
+    match image.code_view()? {
+        None => Err(SymbolsFault::ImageNamesNoPdb),
+        Some(record) if record.identity().matches(identity) => Ok(()),
+        Some(_) => Err(SymbolsFault::OtherBuild),
+    }
+}
+
+/// Writes a text, and empties it.
+fn write_text<W: Write>(text: &mut String, output: &mut W) -> Result<(), SymbolsFault> {
+    match output.write_all(text.as_bytes()) {
+        Ok(()) => {}
+        Err(error) => return Err(SymbolsFault::of_write(&error)),
+    }
+    text.clear();
+    Ok(())
+}
+
+/// Writes the records of functions.
+fn write_functions<W: Write>(
+    alloc: Global,
+    functions: &mut UnwoundFunctions<'_, '_>,
+    output: &mut W,
+) -> Result<(), SymbolsFault> {
+    let mut text = String::new(alloc);
+    for _ in 0..u32::MAX {
+        let Some(function) = functions.next(alloc)? else {
+            break;
+        };
+        function.append_records(&mut text)?;
+        if AT_ONCE <= text.len() {
+            write_text(&mut text, output)?;
+        }
+    }
+    write_text(&mut text, output)
+}
+
+/// Writes how the functions of an image are unwound; nothing of one that isn't x64, or whose
+/// exception directory can't be read.
+///
+/// # Errors
+/// `Write` where a write failed, or out of memory.
+pub fn write_unwinding<W: Write>(
+    alloc: Global,
+    image: &Image<'_>,
+    output: &mut W,
+) -> Result<(), SymbolsFault> {
+    match UnwoundFunctions::of_image(image) {
+        Ok(mut functions) => write_functions(alloc, &mut functions, output),
+        Err(_) => Ok(()),
+    }
+}

@@ -1,0 +1,89 @@
+//! Writes the symbol file of a Windows program by its database (PDB), which crash reporters read:
+//! `pdb_symbols FILE [IMAGE]`.
+#![tactic(auto)]
+
+mod addresses;
+mod answers;
+mod destination;
+mod fault;
+mod frames_run;
+mod help;
+mod image;
+mod loaded;
+mod options;
+mod ordered_map;
+mod progress;
+mod undecorated;
+mod words;
+mod writing;
+
+use destination::write_symbols;
+use fault::SymbolsFault;
+use help::{HELP, NOT_UTF8, VERSION};
+use options::{Options, Words, read_options};
+use progress::Progress;
+use std::io::{ErrorKind, IsTerminal, Write};
+use std::process::ExitCode;
+use words::given_words;
+
+fn main(rt: HostRuntime) -> ExitCode {
+    let mut errors = rt.stderr();
+    let words = match given_words(&rt) {
+        Ok(words) => words,
+        Err(error) if error.kind() == ErrorKind::OutOfMemory => {
+            return exit_with(&mut errors, "fault: OutOfMemory\n", 1);
+        }
+        Err(_) => return exit_with(&mut errors, NOT_UTF8, 2),
+    };
+    let Ok(read) = read_options(rt.alloc(), words.as_slice()) else {
+        return exit_with(&mut errors, "fault: OutOfMemory\n", 1);
+    };
+    match read {
+        Words::Help => tell(&mut rt.stdout(), &mut errors, HELP),
+        Words::Version => tell(&mut rt.stdout(), &mut errors, VERSION),
+        Words::Wrong(error) => refuse(&mut errors, error.as_str()),
+        Words::Options(options) => run(&rt, &options),
+    }
+}
+
+/// Writes the symbol file, and reports how that ended.
+fn run(rt: &HostRuntime, options: &Options) -> ExitCode {
+    let mut errors = rt.stderr();
+    let shows = errors.is_terminal();
+    let mut progress = Progress::new(rt.stderr(), shows);
+    let outcome = write_symbols(rt, options, &mut rt.stdout(), &mut progress);
+    progress.end();
+    match outcome {
+        Ok(()) => ExitCode::SUCCESS,
+        Err(fault) => report(&mut errors, &fault),
+    }
+}
+
+/// Reports a fault, with status 1; a write that fails is ignored.
+fn report(errors: &mut impl Write, fault: &SymbolsFault) -> ExitCode {
+    let _ = write!(errors, "fault: {fault}\n");
+    ExitCode::from(1)
+}
+
+/// Reports what is wrong with the words, with status 2; a write that fails is ignored.
+fn refuse(errors: &mut impl Write, error: &str) -> ExitCode {
+    let _ = write!(
+        errors,
+        "error: {error}\n\nFor more information, try '--help'.\n"
+    );
+    ExitCode::from(2)
+}
+
+/// Writes a text to the output, and reports where that fails.
+fn tell(output: &mut impl Write, errors: &mut impl Write, text: &str) -> ExitCode {
+    match output.write_all(text.as_bytes()) {
+        Ok(()) => ExitCode::SUCCESS,
+        Err(error) => report(errors, &SymbolsFault::Write(error.kind())),
+    }
+}
+
+/// Writes a text, and returns the status; a write that fails is ignored.
+fn exit_with(stream: &mut impl Write, text: &str, status: u8) -> ExitCode {
+    let _ = stream.write_all(text.as_bytes());
+    ExitCode::from(status)
+}
