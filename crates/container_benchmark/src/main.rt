@@ -1,6 +1,8 @@
 //! Times how the streams of a container in memory are read, beside one copy of its bytes:
 //! `container_benchmark [STREAMS [PAGES]]`.
 //!
+//! What it makes and times may change together with its stored output. No crate stands on it.
+//!
 //! It makes a container with that many streams, each with that many pages of 4096 bytes. Without
 //! numbers it has 64 streams of 256 pages. It times a copy of the container's bytes. Then it times
 //! how long it takes to open that copy and to read all its streams, which are held until the time

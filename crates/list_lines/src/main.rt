@@ -1,5 +1,8 @@
 //! Lists the lines of a program database, module by module: `list_lines FILE`.
 //!
+//! The head of `pdb_symbols_modules` shows lines of it, so these change in both places. No crate
+//! stands on it.
+//!
 //! It prints the name of each module, and after it each of its procedures: its place (section and
 //! offset), the length of its code, and its name. After a procedure it prints each row of its
 //! lines: where the row's code begins in the section, its length in bytes, and the file and line

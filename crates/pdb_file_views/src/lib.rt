@@ -2,6 +2,9 @@
 //! file's bytes ([`FileSource`]), which answers a view that wasn't read yet by `OutOfMemory` and
 //! notes it ([`Wanted`]). Whoever asks reads what is wanted, and asks again.
 //!
+//! What is read ahead, and how it is held, may change. That a view has bytes of the file, or is
+//! wanted and refused, may not.
+//!
 //! No contract can say what a file holds. Each says what holds for a list of bytes that agrees with
 //! everything that was read, such as the bytes of a file that nobody writes to.
 #![tactic(auto)]

@@ -1,5 +1,8 @@
 //! Program databases made from a description in plain structs, and readers and writers that
 //! misbehave, for tests.
+//!
+//! Descriptions may have more fields. What a description that is there is written as may not
+//! change, since tests know these bytes.
 #![tactic(auto)]
 
 mod bytes;

@@ -1,6 +1,9 @@
 //! Answers addresses of a program by its program database: `pdb_symbolizer frames FILE`; and counts
 //! how many addresses of a range each function has, or with `--by-file` each source file:
 //! `pdb_symbolizer sizes FILE START END`. With `--demangle` names of functions are undecorated.
+//!
+//! How a file is read may change. What is written, with which status, may not: scripts read it, and
+//! contracts of `pdb_report` say it.
 #![tactic(auto)]
 
 ghost use Rattle.std.specs.Prelude.{◌≡◌, ℕ, ◌<◌, ◌≤◌, ◌⊎◌, List, None, IfErr, OnErr, OnOk};

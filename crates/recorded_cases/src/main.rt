@@ -3,6 +3,9 @@
 //! as `again.rt` describes. Or writes the texts of decorated names: `recorded_cases undecorated
 //! FILE`, as `undecorated.rt` describes.
 //!
+//! Cases may be added. A recorded answer may change with a difference that docs/DIFFERENCES.md
+//! names, and the form of cases with the scripts that write them.
+//!
 //! The cases of a FILE have the form that `texts.rt` describes. Each case whose answer isn't as
 //! recorded is printed, and at last the number of cases.
 #![tactic(auto)]

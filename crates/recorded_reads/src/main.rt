@@ -1,6 +1,8 @@
 //! Goes through recorded cases of what records, streams, tables and addresses say:
 //! `recorded_reads FILE..`.
 //!
+//! Cases may be added. A recorded answer comes from the format, so it stays whatever the code says.
+//!
 //! A line of a FILE is a case if it contains ` => `. Before that stand words: what is asked; bytes
 //! in hexadecimal, a number or a database's file; changes of that file or further bytes; and
 //! numbers. After it stands the answer, or the fault, that must come.

@@ -1,5 +1,5 @@
 use Rattle.std.specs.Prelude.{length}
-use Rattle.pdb_symbols.specs.Iteration.{symbols_left}
+use Rattle.pdb_symbol_records.specs.Iteration.{symbols_left}
 use Rattle.list_lines.proofs.list_procedures.Given as goal
 
 -- each step gives one of the symbols that are still to come
