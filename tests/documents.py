@@ -374,7 +374,7 @@ def constant(path, name):
 
 def kinds_of_scopes():
     """How many kinds of symbols start a scope."""
-    path, words = "crates/pdb_symbols/src/kinds.rt", ""
+    path, words = "crates/pdb_symbol_records/src/kinds.rt", ""
     scoped = "is_global is_dpc is_procedure is_thunk is_separated_code is_inline_site"
     for name in scoped.split():
         words += body_of(path, f"pub fn {name}")
@@ -398,7 +398,7 @@ TRIED, OTHERS = edits("crates/*/must-fail", 1), edits("tests/wrong_bodies/*", 2)
 SOURCE = {
     "types": "crates/pdb_records/src/type_data.rt",
     "ids": "crates/pdb_records/src/id_data.rt",
-    "symbols": "crates/pdb_symbols/src/symbol_data.rt",
+    "symbols": "crates/pdb_symbol_records/src/symbol_data.rt",
     "errors": "crates/pdb_resolving/src/error.rt",
     "requests": "crates/pdb_llvm_requests/src/request.rt",
     "sites": "crates/pdb_module_data/src/inline_sites.rt",
@@ -425,7 +425,7 @@ COUNTS = [
     ("docs/RELEASING.md", "that no equation refuses, in # crates", lambda: TRIED[1]),
     ("docs/ARCHITECTURE.md", "# inline", lambda: constant(SOURCE["sites"], "MAXIMUM_DEPTH")),
     ("docs/ARCHITECTURE.md", "# types or ids", lambda: constant(SOURCE["paths"], "MAX_LENGTH")),
-    ("docs/COSTS.md", "copied than 1 MB and #n", lambda: constant(SOURCE["copies"], "TIMES")),
+    ("docs/COSTS.md", "copied than 1 MB and #n", lambda: constant(SOURCE["copies"], "TIMES_COPIED")),
     ("docs/COSTS.md", "listed than 1 MB and #n", lambda: constant(SOURCE["copies"], LISTED)),
 ]
 
@@ -445,7 +445,7 @@ def counts(document, text):
 def scripts(text):
     """The scripts that test.sh runs: each has a row here."""
     for name in re.findall(r"(?m)^count (?:python3 )?(\S+)", read("test.sh")):
-        there = name == "rt" or f"| `{name}" in text
+        there = name == "rt" or f"`{name}`" in text
         yield "script", 1, None if there else f"no row says what {name} checks"
 
 

@@ -1,9 +1,10 @@
 #!/usr/bin/env python3
 """Has clients of llvm-symbolizer ask pdb_llvm_symbolizer in its place:
 
-    tests/llvm_clients.py [--built FILE]
+    tests/llvm_clients.py [--built FILE | --unproved]
 
-FILE is where the program lies, with NAME in it for its name; if left out, the proved one is run.
+FILE is where the program lies, with NAME in it for its name; if left out, the proved one is run,
+with --unproved one that `rt try` compiles, which answers a sanitizer's request and no client.
 The clients are asan_symbolize, over a report of a sanitizer, and pprof, over a profile, both of
 x64.exe. Each prints what llvm-symbolizer-19 has it print. A client that isn't installed is passed
 over, and all are where llvm-symbolizer-19 isn't (Debian: llvm-19 has both it and asan_symbolize-19;
@@ -81,14 +82,15 @@ def pprof(client, symbolizer, room):
 def answers(symbolizer, room):
     """Whether the program answers as a sanitizer asks it."""
     words = [symbolizer, "--demangle", "--inlines", "--default-arch=x86_64"]
-    given = f'CODE "{room}/x64.exe" {BASE + 0x1168:#x}\n'.encode()
-    ran = subprocess.run(words, input=given, capture_output=True, timeout=SECONDS)
+    given = f'CODE "x64.exe" {BASE + 0x1168:#x}\n'.encode()
+    ran = subprocess.run(words, input=given, capture_output=True, cwd=room, timeout=SECONDS)
     return ran.stdout.startswith(b"archive::verify(struct archive::Entry const &)\n")
 
 
 CLIENTS = {asan_symbolize: ["asan_symbolize-19", "asan_symbolize"], pprof: ["pprof"]}
+CLIENTS = {} if "--unproved" in sys.argv else CLIENTS
 
-place, _ = built.taken(sys.argv[1:], None)
+place, _ = built.taken(sys.argv[1:])
 program = built.program(place, "pdb_llvm_symbolizer")
 original = shutil.which("llvm-symbolizer-19")
 with tempfile.TemporaryDirectory() as room:

@@ -2,9 +2,11 @@
 """Compares pdb_llvm_symbolizer's protocol with what llvm-symbolizer 19 writes, option by option and
 line by line:
 
-    tests/llvm_protocol.py [--built FILE] [--write ORIGINAL]
+    tests/llvm_protocol.py [--built FILE | --unproved] [--write ORIGINAL]
 
-FILE is where the program lies, with NAME in it for its name; if left out, the proved one is run.
+FILE is where the program lies, with NAME in it for its name; if left out, the proved one is run,
+with --unproved one that `rt try` compiles, on the cases that need no environment, no folder and no
+name of its own.
 tests/llvm_protocol.json has the cases: the arguments, standard input (a character a byte), the
 environment, how the program is called, and llvm-symbolizer's status and standard output. Both have
 to be those stored, unless the case has `differs`: the beginning of a row of docs/DIFFERENCES.md,
@@ -65,9 +67,18 @@ def named(case):
     return f"{case.get('called', 'llvm-symbolizer')} {case['args']} {case.get('input', '')!r}"
 
 
-place, words = built.taken(sys.argv[1:], None)
+def is_bare(case):
+    """Whether a case needs no environment, no folder and no name of the program's own."""
+    words = [*case["args"], case.get("input", "")]
+    return not any([case.get("env"), case.get("called"), any("adir" in it for it in words)])
+
+
+is_unproved = "--unproved" in sys.argv
+place, words = built.taken(sys.argv[1:])
 with open(CASES, encoding="utf-8") as file:
     cases = json.load(file)
+if is_unproved:
+    cases = list(filter(is_bare, cases))
 with tempfile.TemporaryDirectory() as room:
     made(room)
     if words[:1] == ["--write"]:
@@ -83,12 +94,13 @@ with tempfile.TemporaryDirectory() as room:
         came = run(program, room, case)
         wanted = case["status"], case["output"]
         row = case.get("differs")
-        if (came == wanted) == (row is None) and (row is None or any(it.startswith(row) for it in rows)):
+        is_told = row is None or any(it.startswith(row) for it in rows)
+        if (came == wanted) == (row is None) and is_told:
             alike += row is None
             continue
         failed += 1
         print(f"{named(case)}\n  llvm-symbolizer: {wanted}\n  came: {came}\n  differs: {row}")
-        if case is cases[0]:
+        if case is cases[0] and not is_unproved:
             built.end(0, len(cases))
 print(f"{alike} of {len(cases)} are llvm-symbolizer's; the others differ as DIFFERENCES says")
 built.end(len(cases) - failed, failed)

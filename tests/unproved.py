@@ -17,7 +17,7 @@ import subprocess
 import sys
 import tempfile
 
-PROGRAMS = ["pdb_symbolizer", "pdb_llvm_symbolizer", "recorded_cases"]
+PROGRAMS = ["pdb_symbolizer", "pdb_llvm_symbolizer", "pdb_symbols", "recorded_cases"]
 STAND_IN = '''#!/usr/bin/env python3
 import hashlib, json, os, re, shutil, sys
 FOLDER, NAME = {folder!r}, {name!r}
@@ -25,8 +25,12 @@ words, given, files = sys.argv[1:], b"", {{}}
 if not sys.stdin.isatty():
     given = sys.stdin.buffer.read()
 if NAME == "pdb_llvm_symbolizer":
-    # Lines and images name files beside them.
-    files = {{it: it for it in sorted(os.listdir("."))[:50] if os.path.isfile(it)}}
+    # Lines and images name files beside them. `rt try` takes no name that isn't UTF-8.
+    names = [it for it in sorted(os.listdir(".")) if it.encode(errors="ignore").decode() == it]
+    files = {{it: it for it in names[:50] if os.path.isfile(it)}}
+elif NAME == "pdb_symbols":
+    # The files' names are written, too.
+    files = {{it: it for it in words if os.path.isfile(it)}}
 else:
     for at, word in enumerate(words):
         if os.path.isfile(word):
@@ -50,7 +54,8 @@ if words:
 print("not run without proof: it depends on an earlier run", file=sys.stderr)
 sys.exit(3)
 '''
-ERROR = re.compile(rb"(?m)^(?:fault: |error: |Error: |pdb_llvm_symbolizer: error: ).*\n?")
+OTHERS = rb"Warning: |--[a-z-]+=: expected |pdb_llvm_symbolizer: error: "
+ERROR = re.compile(rb"(?m)^(?:fault: |error: |Error: |" + OTHERS + rb").*\n?")
 # The file of a program that `rt try` compiled, where it stands for the program's name.
 COMPILED = re.compile(rb"(?m)^/\S*/program(?=: error: )")
 

@@ -3,14 +3,14 @@
 #
 #   tests/version.sh [--built FILE | --unproved]
 #
-# These are CHANGELOG.md's newest heading, the sources of the two programs, and what the programs
+# These are CHANGELOG.md's newest heading, the sources of the programs, and what the programs
 # print when asked by --version; and no other document names it. The programs are the proved ones,
 # or those of FILE, with NAME in it for a program's name; with --unproved none is run. The last line
 # is `N passed, M failed`.
 set -u
 cd "$(dirname "$0")/.."
 built=crates/NAME/out/NAME
-programs="pdb_symbolizer pdb_llvm_symbolizer"
+programs="pdb_symbolizer pdb_llvm_symbolizer pdb_symbols"
 [ "${1:-}" = --built ] && built=$2
 [ "${1:-}" = --unproved ] && programs=
 version=$(cat VERSION)
@@ -30,8 +30,9 @@ same() { # WHAT FOUND WANTED
 
 newest=$(grep -m1 '^## ' CHANGELOG.md | sed -E 's/ \((not released|[0-9][^)]*)\)$//')
 same "CHANGELOG.md's newest heading" "$newest" "## $version"
-for file in crates/pdb_arguments/src/command.rt crates/pdb_llvm_symbolizer/src/help.rt; do
-    same "$file" "$(grep -o 'const VERSION: &str.*' "$file")" "const VERSION: &str = \"$version\";"
+for file in crates/pdb_arguments/src/command.rt crates/pdb_{llvm_symbolizer,symbols}/src/help.rt; do
+    said=$(grep -o 'const VERSION: &str.*' "$file" | sed -E 's/"pdb_[a-z]+ /"/; s/\\n"/"/')
+    same "$file" "$said" "const VERSION: &str = \"$version\";"
 done
 for name in $programs; do
     said=$("${built//NAME/$name}" --version 2>&1; echo "status $?")

@@ -407,7 +407,7 @@ def library_in(folder):
 
 
 def main(words):
-    place, words = built.taken(words)
+    place, words = built.taken(words, None)
     exceptions, passed, failed, where = exceptions_of(), 0, 0, collections.Counter()
     with tempfile.TemporaryDirectory(prefix="refused-requests-") as folder:
         library, programs = library_in(folder), {}

@@ -1,0 +1,181 @@
+"""The work of llvm_symbolizer.sh, whose head says what it does."""
+import os, re, resource, shutil, struct, subprocess, sys, tempfile
+
+sys.dont_write_bytecode = True
+import built, llvm_cases
+
+words = sys.argv[1:]
+SECONDS = 60
+MEMORY = 64 << 20
+LONG = 256 << 20
+# Requests and their answers: the first one has to be answered before the next one comes.
+FRAMES = b"""bytes::rotate
+C:\\src\\checksum.h:6:0
+bytes::Checksum::add
+C:\\src\\checksum.h:13:0
+archive::verify(struct archive::Entry const &)
+C:\\src\\archive.cpp:9:0
+
+"""
+ASKED = {b"x64.exe 0x1148\n": FRAMES, b"x64.exe 0x11c4\n": b"plain\n??:0:0\n\n"}
+# What is no regular file, and what is reported of it.
+NO_FILES = {
+    "missing": "No such file or directory",
+    "folder": "Is a directory",
+    "fifo": "Not a regular file",
+    "/dev/stdin": "Not a regular file",
+    "/dev/null": "Not a regular file",
+    "/dev/zero": "Not a regular file",
+}
+NO_REQUEST = b"??\n??:0:0\n\n"
+TOO_LONG = rb".*: error: 'a{1,4352}': the line has more than 4351 bytes\n"
+
+
+def started(which, *words, **how):
+    """A run of a program in the folder of images, of no more than so many seconds."""
+    command = ["timeout", str(SECONDS), which, *words]
+    pipes = dict.fromkeys(("stdin", "stdout", "stderr"), subprocess.PIPE)
+    return subprocess.Popen(command, cwd=llvm_cases.DATA, **pipes, **how)
+
+
+def run(which, name):
+    """What a program writes on a case, and its status."""
+    ran = started(which, *llvm_cases.arguments(name))
+    output, errors = ran.communicate(llvm_cases.content(name, "input"))
+    return llvm_cases.told(ran.returncode, output, errors)
+
+
+def store(name, kind, text):
+    """Stores a case's file, or removes it if it would be empty."""
+    path = f"{llvm_cases.CASES}/{name}.{kind}"
+    with open(path, "wb") as file:
+        file.write(text)
+    if not text:
+        os.remove(path)
+
+
+def answers_in_turn():
+    """Whether an answer comes before the input ends, and the one to the next line after that."""
+    ran = started(program, "--relative-address")
+    for request, answer in ASKED.items():
+        try:
+            ran.stdin.write(request)
+            ran.stdin.flush()
+        except BrokenPipeError:
+            return False
+        if ran.stdout.read(len(answer)) != answer:
+            return False
+    return ran.communicate() == (b"", b"") and ran.returncode == 0
+
+
+def bounds_lines():
+    """Whether a line of 256 MB is one that is no request, within 64 MB of memory."""
+    limit = lambda: resource.setrlimit(resource.RLIMIT_AS, (MEMORY, MEMORY))
+    ran = started(program, preexec_fn=limit)
+    output, errors = ran.communicate(b"a" * LONG)
+    is_told = output == NO_REQUEST and re.fullmatch(TOO_LONG, errors)
+    return is_told and ran.returncode == 0
+
+
+def image_of(database):
+    """The bytes of x64.exe with another path in place of its database's."""
+    with open(f"{llvm_cases.DATA}/x64.exe", "rb") as file:
+        image = bytearray(file.read())
+    record = image.index(b"RSDS")
+    path = database.encode() + b"\0"
+    entry = image.index(struct.pack("<I", record)) - 24
+    assert struct.unpack_from("<I", image, entry + 12) == (2,)
+    struct.pack_into("<I", image, entry + 16, 24 + len(path))
+    image[record + 24 : record + 24 + len(path)] = path
+    return bytes(image)
+
+
+def copied_data(room):
+    """Copies the image and its database into a folder."""
+    for name in ("x64.exe", "x64.pdb"):
+        shutil.copy(f"{llvm_cases.DATA}/{name}", room)
+
+
+def refuses(room, words, reported):
+    """Whether a request by arguments alone is answered by a report of why, and at once."""
+    ran = subprocess.run(
+        ["timeout", "20", program, *words, "0x1148"], cwd=room, input=b"", capture_output=True
+    )
+    errors = f"{program}: error: {reported}\n".encode()
+    return (ran.returncode, ran.stdout, ran.stderr) == (1, b"", errors)
+
+
+def opens_regular_files():
+    """Whether a folder, a FIFO, a pipe and devices are answered as a missing file, at once, as what
+    is asked for and as its database. No request is taken for one: the last line is answered."""
+    with tempfile.TemporaryDirectory() as room:
+        copied_data(room)
+        os.mkfifo(f"{room}/fifo")
+        os.mkdir(f"{room}/folder")
+        requests = reported = ""
+        for place, why in NO_FILES.items():
+            if not refuses(room, [f"--obj={place}"], f"'{place}': {why}"):
+                return False
+            told = f"'x64.exe': '{place}': {why}"
+            if not refuses(room, ["--obj=x64.exe", f"--pdb={place}"], told):
+                return False
+            image = f"{os.path.basename(place)}.exe"
+            with open(f"{room}/{image}", "wb") as file:
+                file.write(image_of(place))
+            requests += f"{place} 0x1148\n{image} 0x1148\n"
+            reported += f"{program}: error: '{place}': {why}\n"
+            reported += f"{program}: error: '{image}': '{place}': {why}\n"
+        ran = subprocess.run(
+            ["timeout", "20", program, "--relative-address"],
+            cwd=room, input=f"{requests}x64.exe 0x1148\n".encode(), capture_output=True,
+        )
+        answers = NO_REQUEST * 2 * len(NO_FILES) + FRAMES
+        return ran.returncode == 0 and (ran.stdout, ran.stderr) == (answers, reported.encode())
+
+
+def reads_as_far_as_headers():
+    """Whether images and databases are read as far as their headers say: files of 100 GB are
+    answered, and one that is no image refused, within 64 MB of memory."""
+    limit = lambda: resource.setrlimit(resource.RLIMIT_AS, (MEMORY, MEMORY))
+    with tempfile.TemporaryDirectory() as room:
+        copied_data(room)
+        with open(f"{room}/no.exe", "wb") as file:
+            file.write(b"MZ")
+        for name in ("x64.exe", "x64.pdb", "no.exe"):
+            os.truncate(f"{room}/{name}", 100 << 30)
+        requests = b"no.exe 0x1148\nx64.exe 0x1148\nx64.pdb 0x1148\n"
+        ran = subprocess.run(
+            ["timeout", "60", program, "--relative-address"],
+            cwd=room, input=requests, capture_output=True, preexec_fn=limit,
+        )
+    errors = f"{program}: error: 'no.exe': the file has no PE signature\n".encode()
+    is_told = (ran.returncode, ran.stderr) == (0, errors)
+    return is_told and ran.stdout == NO_REQUEST + FRAMES + FRAMES
+
+
+is_unproved = "--unproved" in words
+place, words = built.taken(words)
+is_writing = words[:1] == ["--write"]
+names = llvm_cases.names()
+if is_writing:
+    for name in names:
+        store(name, "expected", run(words[1], name))
+elif words:
+    names = words
+program = built.program(place, "pdb_llvm_symbolizer")
+failed = 0
+for name in names:
+    differs = llvm_cases.differences(name, run(program, name))
+    if is_writing:
+        store(name, "differs", differs)
+    if differs != llvm_cases.content(name, "differs"):
+        failed += 1
+        print(f"{name}: otherwise than llvm-symbolizer, and not as {name}.differs says:")
+        print(differs.decode(errors="replace"))
+TESTS = (answers_in_turn, bounds_lines, opens_regular_files, reads_as_far_as_headers)
+TESTS = () if is_unproved else TESTS
+for test in TESTS:
+    if not test():
+        failed += 1
+        print(f"{test.__name__}: failed")
+built.end(len(names) + len(TESTS) - failed, failed)
