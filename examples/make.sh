@@ -6,14 +6,15 @@
 # OUT gets x64.pdb and i386.pdb (clang and lld), columns.pdb (x64.pdb with columns of lines),
 # gnu_ld.pdb and unordered.pdb (clang and GNU ld; in the latter what modules hold is out of order)
 # and damaged.pdb (x64.pdb with four bytes of one module overwritten), each but the last with its
-# .exe. The sources are in examples/source; no Windows SDK is needed. lld's own, of 76 and 80 KB, are laid out in pages
-# of 1,024 bytes (repage.py), which takes 21 and 22 KB. With --store the databases are copied to
-# where programs read them: crates/pdb_symbolizer/data, crates/recorded_cases/data and
+# .exe. The sources are in examples/source; no Windows SDK is needed. lld's own, of 76 and 80 KB,
+# are laid out in pages of 1,024 bytes (repage.py), which takes 21 and 22 KB. With --store the
+# databases are copied to where programs read them: crates/pdb_symbolizer/data, crates/recorded_cases/data and
 # crates/example_calls/data, and x64, i386, columns and unordered with their images to
 # crates/pdb_llvm_symbolizer/data.
 # GNU ld writes the time into its own, so each one made differs in that.
 #
-# The stored ones were made on Debian 12 by clang-19 and lld-19 (19.1.7) and binutils-mingw-w64-x86-64 (2.40+10.4):
+# The stored ones were made on Debian 12 by clang-19 and lld-19 (19.1.7) and
+# binutils-mingw-w64-x86-64 (2.40+10.4):
 #   apt-get install clang-19 lld-19 binutils-mingw-w64-x86-64
 set -eu
 here=$(cd "$(dirname "$0")" && pwd)
@@ -21,8 +22,8 @@ out=${1:?usage: examples/make.sh OUT [--store]}
 mkdir -p "$out"
 out=$(cd "$out" && pwd)
 
-# Objects lie in a folder of their own, which is refused if it is there. Its path is always the same,
-# since GNU ld writes their whole paths into the database.
+# Objects lie in a folder of their own, which is refused if it is there. The folder's path is always
+# the same, since GNU ld writes their whole paths into the database.
 work=/tmp/pdb_example_objects
 mkdir "$work"
 trap 'rm -rf "$work"' EXIT

@@ -1,6 +1,6 @@
 #!/usr/bin/env python3
-"""Checks a crate against the statements alone of the crates below it. That takes minutes; `rt check`
-first proves all of these crates.
+"""Checks a crate against the statements alone of the crates below it. That takes minutes; `rt
+check` first proves all of these crates.
 
     tests/check_over_statements.py CRATE [FLAG..]
 

@@ -51,10 +51,16 @@ def paragraphs(lines):
 
 
 def command(name):
-    """The section of a command: what it does, its usage, its arguments, what it reads and writes."""
+    """The section of a command: what it does, its usage and arguments, what it reads and writes."""
     about, _, usage, *rest = help_of(name)
     usage = usage.removeprefix("Usage: ").removesuffix(" [OPTIONS]")
     return [f".SS {roff(usage)}", f"{roff(about)}.", *paragraphs(rest)]
+
+
+def page_of(made):
+    """The lines of a page as its text, without a `.PP` that nothing follows."""
+    following = zip(made, [*made[1:], ".PP"])
+    return "".join(f"{line}\n" for line, next_one in following if (line, next_one) != (".PP", ".PP"))
 
 
 def whole():
@@ -73,12 +79,11 @@ def whole():
     made += [".SH OPTIONS", *paragraphs(rest[rest.index("Options:") + 1 : at - 1])]
     made += [".SH EXAMPLES", *paragraphs(rest[at + 1 : last])]
     made += [".SH EXIT STATUS", *paragraphs(rest[last:])]
-    lines = [it for at, it in enumerate(made) if it != ".PP" or made[at + 1 : at + 2] not in ([".PP"], [])]
-    return "\n".join(lines) + "\n"
+    return page_of(made)
 
 
 def single(name):
-    """The page of a program without commands: sections by the lines of its help that end in a colon."""
+    """The page of a program without commands: a section for each line of help that ends in `:`."""
     about, _, usage, *rest = lines_of(built.program(place, name), "--help")
     version = open(f"{built.ROOT}/VERSION").read().strip()
     made = [f'.TH {name.upper()} 1 "" "{name} {version}"']
@@ -94,8 +99,7 @@ def single(name):
             part.append(line)
     at = next(it for it, line in enumerate(made) if line.startswith("The exit status is "))
     made = made[:at] + made[-1:] + made[at:-1]
-    lines = [it for at, it in enumerate(made) if it != ".PP" or made[at + 1 : at + 2] not in ([".PP"], [])]
-    return "\n".join(lines) + "\n"
+    return page_of(made)
 
 
 def ask_ahead(names):

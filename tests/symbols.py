@@ -6,8 +6,8 @@
 FILE is where the programs lie, with NAME in it for a program's name; if left out, the proved ones
 are run, with --unproved those that `rt try` compiles. A case is a database of
 tests/symbols/cases.tar.xz, NAME.pdb; NAME alone is tried if names are given. Beside it lie what has
-to be written: NAME.sym of the database alone, NAME.image.sym with its image NAME.exe, NAME.outer.sym
-without inlined calls, all three with names as they are stored, and NAME.names.sym with undecorated
+to be written: NAME.sym of the database alone, NAME.image.sym with its image NAME.exe,
+NAME.outer.sym without inlined calls, all three with names as they are stored, and NAME.names.sym with undecorated
 ones. The files were made by a program that asks for each address by itself, and finds stretches and
 numbers by the rules of the form; the undecorated names are those that llvm-undname 19 prints.
 

@@ -1,4 +1,4 @@
--- What a symbol file tells of addresses.
+-- What a symbol file says of addresses.
 use Rattle.std.specs.Prelude.{ℕ, ◌+◌, ◌&&◌, ◌==◌, nat_eq, Bool, List, Option}
 use Rattle.std.specs.Option.{option_eq}
 use Rattle.std.specs.Str.{bytes_eq}
@@ -10,7 +10,7 @@ pub record Call : Type 0 where
   pub line : ℕ
   pub callee : List ℕ
 
--- what is told of an address: where its function begins, if that is known, and its name; the
+-- what is said of an address: where its function begins, if that is known, and its name; the
 -- inlined calls, the outermost one first; file and line of the innermost frame, 0 for no line
 pub record Told : Type 0 where
   pub start : Option ℕ
@@ -19,7 +19,7 @@ pub record Told : Type 0 where
   pub file : List ℕ
   pub line : ℕ
 
--- addresses of which the same is told: the first one, and how many there are
+-- addresses of which the same is said: the first one, and how many there are
 pub record Piece : Type 0 where
   pub address : ℕ
   pub size : ℕ

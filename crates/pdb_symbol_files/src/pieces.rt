@@ -67,7 +67,7 @@ pub struct Piece {
     pub address: u32,
     /// How many addresses it has.
     pub size: u32,
-    /// What is told of each of them.
+    /// What is said of each of them.
     pub told: Told,
 }
 

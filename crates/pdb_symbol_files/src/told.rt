@@ -1,4 +1,4 @@
-//! What a symbol file tells of an answer.
+//! What a symbol file says of an answer.
 
 use crate::pieces::{Call, Told};
 use crate::texts::told_text;
@@ -45,7 +45,7 @@ fn calls_of(alloc: Global, frames: &[Frame<'_>]) -> Result<Vec<Call>, AllocError
     Ok(calls)
 }
 
-/// What a symbol file tells of frames, innermost first, in a function that begins at an address, if
+/// What a symbol file says of frames, innermost first, in a function that begins at an address, if
 /// that is known; `None` of no frames.
 ///
 /// # Errors

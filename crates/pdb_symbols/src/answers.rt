@@ -14,8 +14,8 @@ use std::os::unix::fs::FileExt;
 /// How often an address is asked for again after what it lacked was read.
 const TRIES: u32 = 8;
 
-/// What is told of frames, with inlined calls or without, in a function that begins at an address,
-/// if that is known.
+/// What a symbol file says of frames, with inlined calls or without, in a function that begins at an
+/// address, if that is known.
 fn tell(
     alloc: Global,
     inlines: bool,
@@ -31,12 +31,12 @@ fn tell(
     told_of(alloc, start, &frames[skipped..])
 }
 
-/// What is told of so many addresses from one on.
+/// What is said of so many addresses from one on.
 #[derive(Drop)]
 pub struct ToldRun {
-    /// What is told, if anything is.
+    /// What is said, if anything is.
     pub told: Option<Told>,
-    /// How many addresses it is told of.
+    /// How many addresses it is said of.
     pub count: u32,
 }
 
@@ -47,7 +47,7 @@ pub struct Answers<'a, 'f, F> {
     map: OrderedMap<'a>,
     /// `None` once memory ran out while one was made.
     context: Option<FileContext<'a>>,
-    /// Whether inlined calls are told.
+    /// Whether inlined calls are written.
     inlines: bool,
 }
 
@@ -153,7 +153,7 @@ impl<'a, 'f, F: FileExt> Answers<'a, 'f, F> {
         Err(SymbolsFault::out_of_memory())
     }
 
-    /// What is told of an address, and of those after it before `end`.
+    /// What is said of an address, and of the addresses after it before `end`.
     ///
     /// # Errors
     /// Why the file can't be read, or where memory ran out.

@@ -25,7 +25,7 @@ fn machine_number(machine: MachineType) -> u16 {
     }
 }
 
-/// Adds what is told of a range of addresses.
+/// Adds what is said of a range of addresses.
 fn add_range<F: FileExt, E: Write>(
     alloc: Global,
     answers: &mut Answers<'_, '_, F>,
@@ -54,7 +54,7 @@ fn add_range<F: FileExt, E: Write>(
     Ok(())
 }
 
-/// Adds what is told of ranges of addresses.
+/// Adds what is said of ranges of addresses.
 fn add_ranges<F: FileExt, E: Write>(
     alloc: Global,
     answers: &mut Answers<'_, '_, F>,
