@@ -1,5 +1,6 @@
 pub mod AscendingRows
 mod Bodies
+pub mod BriefSteps
 mod BodySteps
 pub mod CallRowSteps
 mod CallsDeep

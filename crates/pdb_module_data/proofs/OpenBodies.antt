@@ -59,6 +59,15 @@ found_by it s new (Err e) is symbol behind = absurd (cc)
 pub has_found : (it : SymbolIteration) (o : Option Symbol) (s : Symbol) (new : SymbolIteration) → symbol_of (found_next it) ≡ Ok o → o ≡ Some s → new ≡ symbols_behind it.bytes (found_next it) → HasFound it s new
 has_found it o s new symbol some behind = found_by it s new (found_next it) refl (symbol ∙ ap Ok some) behind
 
+behind_bytes : (bytes : List ℕ) (r : Result (Option (Symbol × ℕ)) Fault) → (symbols_behind bytes r).bytes ≡ bytes
+behind_bytes bytes (Ok (Some found)) = refl
+behind_bytes bytes (Ok None) = refl
+behind_bytes bytes (Err e) = refl
+
+-- an iterator goes on over the same bytes
+pub behind_same : (it new : SymbolIteration) → new ≡ symbols_behind it.bytes (found_next it) → new.bytes ≡ it.bytes
+behind_same it new behind = ap (λ (i : SymbolIteration). i.bytes) behind ∙ behind_bytes it.bytes (found_next it)
+
 none_found : (r : Result (Option (Symbol × ℕ)) Fault) → symbol_of r ≡ Ok None → r ≡ Ok None
 none_found (Ok (Some found)) none = absurd (cc)
 none_found (Ok None) none = refl

@@ -1,3 +1,4 @@
+pub mod BriefSites
 pub mod Elements
 pub mod FileNames
 pub mod Forest

@@ -11,6 +11,7 @@ ghost use Rattle.pdb_module_data.specs.InlinePieces.{site_row_span, site_spans a
 ghost use Rattle.pdb_module_data.specs.InlinePieces.{AreShortRows, AreShortSites, StandForSites};
 ghost use Rattle.pdb_module_data.specs.SitesFaults.{Reads};
 
+use crate::brief_sites::{BriefSite, briefs_of, short_number};
 use crate::call_rows::{CallRow, push_site_rows, push_spans, to_next_cut_of};
 use crate::inline_sites::{InlineSites, Site, SitesError};
 use crate::inlined_calls::{InlinedCall, calls_from};
@@ -19,6 +20,7 @@ use crate::memory::{PIECES_OF_SPAN, memory_of};
 use crate::procedures::Procedure;
 use crate::site_rows::{SiteRows, site_pieces};
 use pdb_addresses::PdbInternalSectionOffset;
+use pdb_indices::SymbolIndex;
 use pdb_pieces::{Pieces, Span};
 use pdb_symbol_records::SymbolIter;
 use std::alloc::{AllocError, Global};
@@ -32,28 +34,40 @@ const ROWS_OF_SITE: usize = 4;
 /// a place.
 #[derive(Drop)]
 pub struct InlineRanges<'t> {
-    sites: InlineSites<'t>,
+    /// The module's symbols, from which the sites were read.
+    symbols: SymbolIter<'t>,
+    /// The place of the procedure's symbol in them, in bytes.
+    start: SymbolIndex,
+    /// The place of the symbol that ends the procedure, in bytes.
+    end: SymbolIndex,
+    sites: Vec<BriefSite>,
     rows: SiteRows,
     pieces: Pieces,
 }
 
 impl<'t> Model for InlineRanges<'t> {
-    ghost use Rattle.std.specs.Prelude.{length};
+    ghost use Rattle.std.specs.Prelude.{◌≡◌, length, map};
+    ghost use Rattle.pdb_module_data.specs.BriefSites.{brief_of, sites_if_read};
+    ghost use Rattle.pdb_module_data.specs.Forest.{sites_of};
+    ghost use Rattle.pdb_module_data.specs.InlinedCalls.{IsNested};
     ghost use Rattle.pdb_module_data.specs.InlinePieces as ranges;
     ghost use Rattle.pdb_module_data.specs.InlinePieces.{AreAllFound};
 
     ghost Value = { ranges.Ranges };
 
     ghost view = { λ r. record {
-      sites = r.sites;
+      sites = sites_if_read (sites_of r.symbols.bytes r.start.0 r.end.0);
       rows = r.rows.rows.items;
       starts = r.rows.starts.items;
       pieces = r.pieces;
     } };
 
-    // The row of each site over a place is found by halving.
-    ghost invariant = { λ r.
-        AreAllFound (length r.sites) r.rows.rows.items r.rows.starts.items r.rows.pieces };
+    // The row of each site over a place is found by halving. What is stored of the sites is theirs.
+    ghost invariant = { λ r. AreAllFound (length r.sites.items) r.rows.rows.items
+        r.rows.starts.items r.rows.pieces
+        × (r.sites.items ≡ map brief_of
+        (sites_if_read (sites_of r.symbols.bytes r.start.0 r.end.0)))
+        × IsNested (sites_if_read (sites_of r.symbols.bytes r.start.0 r.end.0)) };
 }
 
 /// What is stored of the rows of sites, where those of each start, and what they cover, each ranked
@@ -61,7 +75,7 @@ impl<'t> Model for InlineRanges<'t> {
 #[derive(Drop)]
 struct RowsAndSpans {
     rows: Vec<CallRow>,
-    starts: Vec<usize>,
+    starts: Vec<u32>,
     spans: Vec<Span>,
 }
 
@@ -112,10 +126,10 @@ fn rows_and_spans<'a>(
     let mut starts = Vec::with_capacity(alloc, sites.len() + 1)?;
     let mut spans = Vec::with_capacity(alloc, usual)?;
     for (number, site) in sites.iter().enumerate() {
-        starts.push(rows.len())?;
+        starts.push(short_number(rows.len())?)?;
         push_site(&mut rows, &mut spans, number, site, inlinees, start)?;
     }
-    starts.push(rows.len())?;
+    starts.push(short_number(rows.len())?)?;
     Ok(RowsAndSpans {
         rows: Vec::from_slice(alloc, rows.as_slice())?,
         starts,
@@ -132,7 +146,7 @@ impl<'t> InlineRanges<'t> {
     /// Those of [`InlineSites::read`].
     pub fn read(
         alloc: Global,
-        symbols: SymbolIter<'t>,
+        mut symbols: SymbolIter<'t>,
         procedure: &Procedure<'_>,
         inlinees: &Inlinees<'t>,
     ) -> Result<InlineRanges<'t>, SitesError>
@@ -142,13 +156,17 @@ impl<'t> InlineRanges<'t> {
         ensures stand { IfOk result
             (λ r. StandForSites (call_rows (given_by inlinees.now) procedure.now.offset) r) }
     {
-        let sites = InlineSites::read(alloc, symbols, procedure)?;
+        let sites = InlineSites::read_by(alloc, &mut symbols, procedure)?;
         let read = rows_and_spans(alloc, sites.as_slice(), inlinees, procedure.offset)?;
         let pieces = Pieces::new(alloc, read.spans.as_slice())?;
         let count = sites.as_slice().len();
         let of_sites = site_pieces(alloc, count, read.rows.as_slice(), read.starts.as_slice())?;
+        let briefs = briefs_of(alloc, sites.as_slice())?;
         Ok(InlineRanges {
-            sites,
+            symbols,
+            start: procedure.symbol_index,
+            end: procedure.end_symbol_index,
+            sites: briefs,
             rows: SiteRows {
                 rows: read.rows,
                 starts: read.starts,
@@ -166,7 +184,7 @@ impl<'t> InlineRanges<'t> {
     ///
     /// # Errors
     /// `AllocError` when memory runs out.
-    #[tactic(auto, using(crate::proofs::Deepest::deepest_within, crate::proofs::KeptRows::are_cut))]
+    #[tactic(auto, using(crate::proofs::BriefSteps::brief_within, crate::proofs::BriefSteps::briefs_cut))]
     pub fn calls_over(
         &self,
         alloc: Global,
@@ -198,9 +216,9 @@ impl<'t> InlineRanges<'t> {
 
     /// About how many bytes of memory they take, at most.
     pub fn memory_size(&self) -> u64 {
-        let site_size = size_of::<Site<'_>>() + size_of::<usize>();
+        let site_size = size_of::<BriefSite>() + size_of::<u32>();
         let row_size = size_of::<CallRow>() + 2 * PIECES_OF_SPAN;
-        let sites = memory_of(self.sites.as_slice().len(), site_size);
+        let sites = memory_of(self.sites.len(), site_size);
         sites.saturating_add(memory_of(self.rows.rows.len(), row_size))
     }
 }

@@ -1,6 +1,6 @@
 //! The inline sites of a procedure.
 
-ghost use Rattle.std.specs.Prelude.{◌≡◌, ◌∷◌, ◌<◌, ◌≤◌, ◌^◌, length, IfOk};
+ghost use Rattle.std.specs.Prelude.{◌≡◌, ◌∷◌, ◌<◌, ◌≤◌, ◌^◌, length, IfOk, OnOk};
 ghost use Rattle.pdb_module_data.specs.Elements.{element_seen, nested_past, with_site};
 ghost use Rattle.pdb_module_data.specs.Forest.{sites_of, element_of, sites_from};
 ghost use Rattle.pdb_module_data.specs.InlinedCalls.{IsNested};
@@ -179,11 +179,12 @@ fn push_site<'t>(
 /// The sites from where the iterator stands on, of the body that closes at a limit.
 fn scan_sites<'t>(
     alloc: Global,
-    mut symbols: SymbolIter<'t>,
+    symbols: &mut SymbolIter<'t>,
     limit: u32,
 ) -> Result<Vec<Site<'t>>, SitesError>
-    ensures { Reads (λ v. v.items) result
-        (sites_from symbols.entry.bytes limit symbols.entry.place) }
+    ensures sites { Reads (λ v. v.items) result
+        (sites_from symbols.old.bytes limit symbols.old.place) }
+    ensures bytes { OnOk result (symbols.new.bytes ≡ symbols.old.bytes) }
 {
     let mut sites = Vec::with_capacity(alloc, SITES_AHEAD)?;
     let mut below = Vec::new(alloc);
@@ -198,7 +199,7 @@ fn scan_sites<'t>(
             match parse_element(&symbol) {
                 Element::Plain => {}
                 Element::Nested(end) => {
-                    skip_nested(&mut symbols, symbol.index(), end)?;
+                    skip_nested(symbols, symbol.index(), end)?;
                 }
                 Element::Call(call) => {
                     let number = push_site(&mut sites, top.site, below.len(), call)?;
@@ -232,10 +233,22 @@ impl<'t> InlineSites<'t> {
             (sites_of symbols.entry.bytes procedure.now.symbol_index.0
             procedure.now.end_symbol_index.0) }
     {
+        InlineSites::read_by(alloc, &mut symbols, procedure)
+    }
+
+    /// The same by an iterator over the symbols, which is over them afterward, too.
+    pub(crate) fn read_by(
+        alloc: Global,
+        symbols: &mut SymbolIter<'t>,
+        procedure: &Procedure<'_>,
+    ) -> Result<InlineSites<'t>, SitesError>
+        ensures sites { Reads (λ s. s) result
+            (sites_of symbols.old.bytes procedure.now.symbol_index.0
+            procedure.now.end_symbol_index.0) }
+        ensures bytes { OnOk result (symbols.new.bytes ≡ symbols.old.bytes) }
+    {
         symbols.skip_to(procedure.symbol_index)?;
-        let mut found = scan_sites(alloc, symbols, procedure.end_symbol_index.0)?;
-        let mut sites = Vec::with_capacity(alloc, found.len())?;
-        sites.append(&mut found)?;
+        let sites = scan_sites(alloc, symbols, procedure.end_symbol_index.0)?;
         Ok(InlineSites { sites })
     }
 

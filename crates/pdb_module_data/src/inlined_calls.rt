@@ -1,16 +1,17 @@
 //! Inlined calls over a place.
 
-ghost use Rattle.std.specs.Prelude.{◌≡◌, ◌+◌, ◌<◌, ◌≤◌, List, IfOk, IfSome, length, slice_get};
-ghost use Rattle.std.specs.Prelude.{slice_index, vec_len};
+ghost use Rattle.std.specs.Prelude.{◌≡◌, ◌<◌, List, IfOk, Some, length, map, slice_get};
 ghost use Rattle.std.specs.List.{flat_map};
 ghost use Rattle.pdb_symbol_records.specs.Forms.{InlineSiteForm};
 ghost use Rattle.pdb_subsections.specs.declared.line_info.LineInfo.{LineInfo};
+ghost use Rattle.pdb_module_data.specs.BriefSites.{brief_of, AreOfNested};
+ghost use Rattle.pdb_module_data.specs.Forest.{Site};
 ghost use Rattle.pdb_module_data.specs.InlinedCalls.{chain as chain_of, calls_of, IsNested};
 ghost use Rattle.pdb_module_data.specs.InlinePieces.{rows_of_sites, starts_of_sites};
 ghost use Rattle.pdb_module_data.specs.InlinePieces.{AreAllFound, AreCut};
 
+use crate::brief_sites::BriefSite;
 use crate::call_rows::call_over;
-use crate::inline_sites::Site;
 use crate::site_rows::SiteRows;
 use pdb_addresses::PdbInternalSectionOffset;
 use pdb_indices::{FileIndex, IdIndex};
@@ -39,38 +40,55 @@ pub struct InlinedCall {
     pub row: Option<CodeSpan>,
 }
 
-/// The calls of a site and of those that it lies in, innermost first, by what is stored of the rows
-/// of each site.
+/// What is stored of the site with that number.
+fn site_numbered(sites: &[BriefSite], number: usize) -> BriefSite
+    requires { number < length sites.now }
+    ensures { slice_get sites.now number ≡ Some result }
+{
+    sites[number]
+}
+
+/// The number of the site that a site lies in.
+fn parent_of(site: BriefSite) -> Option<usize>
+    ensures { result ≡ site.parent }
+{
+    match site.parent {
+        None => None,
+        Some(number) => Some(number as usize),
+    }
+}
+
+/// The calls of a site and of those that it lies in, innermost first, by what is stored of the sites
+/// and of the rows of each.
 pub fn calls_from(
     alloc: Global,
-    sites: &[Site<'_>],
+    sites: &[BriefSite],
     of_sites: &SiteRows,
     number: usize,
     place: PdbInternalSectionOffset,
 ) -> Result<Vec<InlinedCall>, AllocError>
-    requires nested { IsNested sites.now }
+    requires nested { AreOfNested sites.now }
     requires there { number < length sites.now }
     requires cut { AreCut (length sites.now) of_sites.now.starts.items
         (length of_sites.now.rows.items) }
     requires found { AreAllFound (length sites.now) of_sites.now.rows.items
         of_sites.now.starts.items of_sites.now.pieces }
-    ensures calls { IfOk result (λ v. (lines : InlineSiteForm → List LineInfo)
-        → of_sites.now.rows.items ≡ rows_of_sites lines sites.now
-        → of_sites.now.starts.items ≡ starts_of_sites lines 0 sites.now
-        → v.items ≡ flat_map (λ k. calls_of lines place (slice_get sites.now k))
-        (chain_of sites.now number)) }
-    ensures deep { IfOk result
-        (λ v. IfSome (slice_get sites.now number) (λ s. vec_len v ≡ s.depth)) }
+    ensures { IfOk result (λ v. (whole : List Site) (lines : InlineSiteForm → List LineInfo)
+        → IsNested whole → sites.now ≡ map brief_of whole
+        → of_sites.now.rows.items ≡ rows_of_sites lines whole
+        → of_sites.now.starts.items ≡ starts_of_sites lines 0 whole
+        → v.items ≡ flat_map (λ k. calls_of lines place (slice_get whole k))
+        (chain_of whole number)) }
 {
-    let deepest = &sites[number];
-    let mut calls = Vec::with_capacity(alloc, deepest.depth)?;
+    let deepest = site_numbered(sites, number);
+    let mut calls = Vec::with_capacity(alloc, deepest.depth as usize)?;
     let mut next = Some(number);
     while let Some(k) = next {
-        let site = &sites[k];
+        let site = site_numbered(sites, k);
         let rows = of_sites.rows_of(k);
         let pieces = of_sites.pieces_of(k);
-        calls.push(call_over(site.call.inlinee, rows, pieces, place))?;
-        next = site.parent;
+        calls.push(call_over(site.inlinee, rows, pieces, place))?;
+        next = parent_of(site);
     }
     Ok(calls)
 }

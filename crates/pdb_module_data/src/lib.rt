@@ -6,6 +6,7 @@
 //! (`specs/Procedures`, `specs/FunctionLine`, `specs/InlinedCalls`) may not.
 #![tactic(auto)]
 
+mod brief_sites;
 mod call_rows;
 mod file_names;
 mod function_line;

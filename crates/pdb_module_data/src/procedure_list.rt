@@ -91,7 +91,9 @@ impl<'t> Procedures<'t> {
     pub fn read(alloc: Global, symbols: SymbolIter<'t>) -> Result<Procedures<'t>>
         ensures { Gives (λ p. p) ⊥ result (procedures_of (symbols_left symbols.entry)) }
     {
-        let list = read_procedures(alloc, symbols)?;
+        let mut found = read_procedures(alloc, symbols)?;
+        let mut list = Vec::with_capacity(alloc, found.len())?;
+        list.append(&mut found)?;
         let pieces = procedure_pieces(alloc, list.as_slice())?;
         Ok(Procedures { list, pieces })
     }

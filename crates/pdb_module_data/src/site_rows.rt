@@ -18,7 +18,7 @@ use std::collections::BTreeMap;
 #[derive(Drop)]
 pub struct SiteRows {
     pub rows: Vec<CallRow>,
-    pub starts: Vec<usize>,
+    pub starts: Vec<u32>,
     pub pieces: BTreeMap<usize, Pieces>,
 }
 
@@ -46,7 +46,7 @@ impl SiteRows {
 }
 
 /// The rows of the site with that number, by where those of each site start.
-fn rows_of_site<'r>(rows: &'r [CallRow], starts: &[usize], number: usize) -> &'r [CallRow]
+fn rows_of_site<'r>(rows: &'r [CallRow], starts: &[u32], number: usize) -> &'r [CallRow]
     requires there { number + 1 < length starts.now }
     requires ascend { slice_index starts.now number ≤ slice_index starts.now (number + 1) }
     requires bound { slice_index starts.now (number + 1) ≤ length rows.now }
@@ -54,7 +54,9 @@ fn rows_of_site<'r>(rows: &'r [CallRow], starts: &[usize], number: usize) -> &'r
         ≡ rows_between rows.now (slice_index starts.now number)
         (slice_index starts.now (number + 1)) }
 {
-    &rows[starts[number]..starts[number + 1]]
+    let start = starts[number] as usize;
+    let end = starts[number + 1] as usize;
+    &rows[start..end]
 }
 
 /// Adds pieces for a search among the rows of the site with that number, unless these lie apart in
@@ -82,7 +84,7 @@ pub fn site_pieces(
     alloc: Global,
     sites: usize,
     rows: &[CallRow],
-    starts: &[usize],
+    starts: &[u32],
 ) -> Result<BTreeMap<usize, Pieces>, AllocError>
     requires { AreCut sites starts.now (length rows.now) }
     ensures { IfOk result (λ pieces. AreAllFound sites rows.now starts.now pieces) }

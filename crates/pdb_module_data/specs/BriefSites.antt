@@ -1,0 +1,20 @@
+-- What is stored of sites once their rows were read.
+use Rattle.std.specs.Prelude.{◌≡◌, List, [], Result, Ok, Err, map}
+use Rattle.pdb_module_data.specs.Forest.{Site, SitesFault}
+use Rattle.pdb_module_data.specs.InlinedCalls.{IsNested}
+use Rattle.pdb_module_data.specs.declared.brief_sites.BriefSite.{BriefSite}
+
+-- the id of a site's function, the number of the site that it lies in, and its depth
+abbrev pub brief_of : Site → BriefSite
+brief_of s = record { inlinee = (s.call).inlinee; parent = s.parent; depth = s.depth }
+
+-- what is stored of sites that lie in sites before them
+pub record AreOfNested (briefs : List BriefSite) : Type 0 where
+  pub sites : List Site
+  pub nested : IsNested sites
+  pub is : briefs ≡ map brief_of sites
+
+-- the sites that were read; none where they can't be
+abbrev pub sites_if_read : Result (List Site) SitesFault → List Site
+sites_if_read (Ok sites) = sites
+sites_if_read (Err e) = []
