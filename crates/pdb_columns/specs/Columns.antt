@@ -1,6 +1,6 @@
 -- Columns of lines, and the column of a place in a function.
 use Rattle.std.specs.Prelude.{ℕ, ◌&&◌, Bool, true, false, List, [], ◌∷◌, nat_le}
-use Rattle.std.specs.Prelude.{if◌then◌else◌, Option, Some, None, Result, Ok}
+use Rattle.std.specs.Prelude.{if◌then◌else◌, Option, Some, None, Result, Ok, ◌≡◌, option_map}
 use Rattle.std.specs.List.{list_any}
 use Rattle.pdb_container.specs.Fault.{Fault, ◌>>=◌}
 use Rattle.pdb_container.specs.Listing.{Listing, whole}
@@ -10,6 +10,7 @@ use Rattle.pdb_addresses.specs.declared.internal_section_offset.PdbInternalSecti
 use Rattle.pdb_subsections.specs.declared.line_info.LineInfo.{LineInfo}
 use Rattle.pdb_lines.specs.LinesSubsections.{Program}
 use Rattle.pdb_lines.specs.LineRows.{line_rows, lines_for}
+use Rattle.pdb_module_data.specs.FunctionLine.{function_row, row_of}
 
 -- whether a column is there
 abbrev pub is_there : Option ℕ → Bool
@@ -54,3 +55,12 @@ column_onto offset found left =
 -- line.
 abbrev pub column_for : Program → PdbInternalSectionOffset → ℕ → Result (Option ℕ) Fault
 column_for p start offset = column_onto offset None (lines_for p start)
+
+-- A column is that of the row that gives the line of an offset in the function that begins at a
+-- place.
+pub record IsOfLine (p : Program) (start : PdbInternalSectionOffset) (offset : ℕ)
+    (column : Option ℕ) : Type 0 where
+  pub row : Option LineInfo
+  pub gives_line : function_row p start (record { offset = offset; section = start.section })
+      ≡ Ok (option_map row_of row)
+  pub has_column : column ≡ column_of row

@@ -1,10 +1,10 @@
 //! Columns of places in functions.
 
-ghost use Rattle.std.specs.Prelude.{◌≡◌};
+ghost use Rattle.std.specs.Prelude.{◌≡◌, IfOk};
 ghost use Rattle.pdb_container.specs.Fault.{Parses};
 ghost use Rattle.pdb_columns.specs.Columns.{column_for as column_for_place, column_of as column_in};
 ghost use Rattle.pdb_columns.specs.Columns.{found_with as found_with_row, is_later as is_later_row};
-ghost use Rattle.pdb_columns.specs.Columns.{has_column as has_column_in};
+ghost use Rattle.pdb_columns.specs.Columns.{has_column as has_column_in, IsOfLine};
 ghost use Rattle.pdb_columns.specs.Columns.{has_columns as have_columns};
 
 use pdb_addresses::PdbInternalSectionOffset;
@@ -75,14 +75,15 @@ fn column_of(found: Option<LineInfo>) -> Option<u32>
 ///
 /// # Errors
 /// `UnexpectedEof` where some block can't be read.
-#[tactic(auto, using(crate::proofs::ColumnSteps::column_more, crate::proofs::ColumnSteps::column_end, crate::proofs::ColumnSteps::column_fault))]
+#[tactic(auto, using(crate::proofs::ColumnSteps::column_more, crate::proofs::ColumnSteps::column_end, crate::proofs::ColumnSteps::column_fault, crate::proofs::RowOfLine::end_of_line))]
 pub fn column_for(
     line_program: &LineProgram<'_>,
     start: PdbInternalSectionOffset,
     offset: u32,
 ) -> Result<Option<u32>>
-    ensures { Parses (λ column. column) result
+    ensures value { Parses (λ column. column) result
         (column_for_place line_program.now start offset) }
+    ensures of_line { IfOk result (IsOfLine line_program.now start offset) }
 {
     let mut remaining = line_program.lines_for_symbol(start);
     let mut found: Option<LineInfo> = None;
