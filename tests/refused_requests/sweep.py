@@ -315,18 +315,22 @@ class Program:
             environment["REFUSE"] = str(number)
         if read_number:
             environment["REFUSE_READ"] = str(read_number)
-        try:
-            ran = subprocess.run(
-                [self.file, *case.words],
-                input=case.given,
-                capture_output=True,
-                env=environment,
-                cwd=case.folder,
-                pass_fds=[write],
-                timeout=SECONDS,
-            )
-        finally:
-            os.close(write)
+        # A pipe may hand the input over in parts, and each may be a request more: so it is a file.
+        with tempfile.TemporaryFile() as given:
+            given.write(case.given)
+            given.seek(0)
+            try:
+                ran = subprocess.run(
+                    [self.file, *case.words],
+                    stdin=given,
+                    capture_output=True,
+                    env=environment,
+                    cwd=case.folder,
+                    pass_fds=[write],
+                    timeout=SECONDS,
+                )
+            finally:
+                os.close(write)
         with open(read, encoding="ascii") as told:
             lines = dict(line.split(" ", 1) for line in told.read().splitlines())
         places = lines.get("refused", "0").split()[1:]
