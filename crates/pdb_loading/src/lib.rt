@@ -20,7 +20,7 @@ mod tables;
 pub use file_modules::FileModules;
 pub use file_read::read_file;
 pub use held_database::{HeldDatabase, hold_database, read_database};
-pub use load_fault::{LoadFault, plain_name};
+pub use load_fault::LoadFault;
 pub use loading::{LoadedFile, load_file};
 pub use module_infos::{KeptModules, collect_modules};
 pub use on_demand::{FileFault, LoadedViews, load_on_demand, modules_of_views};

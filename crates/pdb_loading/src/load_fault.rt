@@ -1,9 +1,11 @@
 //! Why a program database isn't loaded.
 
 ghost use Rattle.std.specs.Prelude.{◌≡◌};
+ghost use Rattle.pdb_container.specs.PrintedFault.{printed_text};
 ghost use Rattle.pdb_loading.specs.declared.load_fault.LoadFault.TheVariants as load_faults;
-ghost use Rattle.pdb_loading.specs.LoadFaultText.{HasPlainName};
+ghost use Rattle.pdb_loading.specs.LoadFaultText.{HasPlainName, cause_text, load_fault_text};
 
+use pdb_container::PrintedFault;
 use pdb_resolving::Error;
 use std::alloc::{AllocError, AllocFailed};
 use std::fmt;
@@ -63,8 +65,57 @@ impl<T: Drop> From<AllocFailed<T>> for LoadFault {
 
 impl std::error::Error for LoadFault {}
 
+impl LoadFault {
+    /// What the fault prints.
+    pub fn printed(&self) -> PrintedFault<'_>
+        ensures { printed_text result ≡ load_fault_text self.now }
+    {
+        match self {
+            LoadFault::Pdb(cause) => printed_cause(cause),
+            LoadFault::AddressTableDecreases => PrintedFault::plain("AddressTableDecreases"),
+            LoadFault::OutOfMemory => PrintedFault::plain("OutOfMemory"),
+        }
+    }
+}
+
+/// What a cause prints: of the container as it does there, any other its name and, in parentheses,
+/// its values.
+fn printed_cause(cause: &Error) -> PrintedFault<'_>
+    ensures { printed_text result ≡ cause_text cause.now }
+{
+    match cause {
+        Error::PdbError(cause) => cause.printed(),
+        Error::FormatError(_) => PrintedFault::plain("FormatError"),
+        Error::UnorderedSectionContributions(module, section) => PrintedFault::numbers(
+            "UnorderedSectionContributions(",
+            *module as u64,
+            u64::from(*section),
+        ),
+        Error::OverlappingSectionContributions(section, earlier, later) => PrintedFault::three(
+            "OverlappingSectionContributions(",
+            u64::from(*section),
+            *earlier as u64,
+            *later as u64,
+        ),
+        Error::ModuleNameNotFound(name) => PrintedFault::text("ModuleNameNotFound(", name.as_str()),
+        Error::LocalIndexNotInExports(index) => {
+            PrintedFault::number("LocalIndexNotInExports(", u64::from(*index))
+        }
+        Error::OutOfRangeModuleIndex(number) => {
+            PrintedFault::number("OutOfRangeModuleIndex(", *number as u64)
+        }
+        Error::ModuleInfoNotFound(number) => {
+            PrintedFault::number("ModuleInfoNotFound(", *number as u64)
+        }
+        Error::CircularTypeDefinition(index) => {
+            PrintedFault::number("CircularTypeDefinition(", u64::from(*index))
+        }
+        cause => PrintedFault::plain(plain_name(cause)),
+    }
+}
+
 /// The name of an error without values; the text of others begins otherwise.
-pub fn plain_name(cause: &Error) -> &'static str
+fn plain_name(cause: &Error) -> &'static str
     ensures { HasPlainName cause.now result.now }
 {
     match cause {
@@ -91,34 +142,6 @@ impl fmt::Display for LoadFault {
     ghost output = { λ f. Some (load_fault_text f) };
 
     fn fmt<W: fmt::Write>(&self, f: &mut fmt::Formatter<W>) -> fmt::Result {
-        match self {
-            LoadFault::Pdb(Error::PdbError(cause)) => write!(f, "{cause}"),
-            LoadFault::Pdb(Error::FormatError(_)) => f.write_str("FormatError"),
-            LoadFault::Pdb(Error::UnorderedSectionContributions(module, section)) => {
-                write!(f, "UnorderedSectionContributions({module}, {section})")
-            }
-            LoadFault::Pdb(Error::OverlappingSectionContributions(section, earlier, later)) => {
-                write!(
-                    f,
-                    "OverlappingSectionContributions({section}, {earlier}, {later})"
-                )
-            }
-            LoadFault::Pdb(Error::ModuleNameNotFound(name)) => {
-                write!(f, "ModuleNameNotFound({name})")
-            }
-            LoadFault::Pdb(Error::LocalIndexNotInExports(n)) => {
-                write!(f, "LocalIndexNotInExports({n})")
-            }
-            LoadFault::Pdb(Error::OutOfRangeModuleIndex(n)) => {
-                write!(f, "OutOfRangeModuleIndex({n})")
-            }
-            LoadFault::Pdb(Error::ModuleInfoNotFound(n)) => write!(f, "ModuleInfoNotFound({n})"),
-            LoadFault::Pdb(Error::CircularTypeDefinition(n)) => {
-                write!(f, "CircularTypeDefinition({n})")
-            }
-            LoadFault::Pdb(cause) => f.write_str(plain_name(cause)),
-            LoadFault::AddressTableDecreases => f.write_str("AddressTableDecreases"),
-            LoadFault::OutOfMemory => f.write_str("OutOfMemory"),
-        }
+        write!(f, "{}", self.printed())
     }
 }

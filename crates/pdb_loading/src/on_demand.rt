@@ -2,11 +2,13 @@
 //! what is there then.
 
 ghost use Rattle.std.specs.Prelude.{◌≡◌, true, List, IfErr, IfOk, None, OnOk};
+ghost use Rattle.pdb_container.specs.PrintedFault.{printed_text};
 ghost use Rattle.pdb_file_views.specs.Views.{agrees, source_bytes, Grows};
 ghost use Rattle.pdb_loading.specs.FileFaults.{OnLoadFault};
 ghost use Rattle.pdb_loading.specs.declared.load_fault.LoadFault.TheVariants as faults;
 ghost use Rattle.pdb_loading.specs.Held.{kept_infos};
 ghost use Rattle.pdb_loading.specs.LoadFaults.{Refuses};
+ghost use Rattle.pdb_loading.specs.LoadFaultText.{file_fault_text};
 ghost use Rattle.pdb_loading.specs.Loading.{load_fault};
 ghost use Rattle.pdb_symbols_modules.specs.Modules.{modules_of};
 ghost use Rattle.pdb_symbols_modules.specs.Streams.{streams};
@@ -17,7 +19,7 @@ use crate::load_fault::LoadFault;
 use crate::loading::{LoadedFile, load_file};
 use crate::module_infos::{KeptModules, collect_modules};
 use boxcar::tag::Tag;
-use pdb_container::{Result as ReadResult, kind_name};
+use pdb_container::{PrintedFault, Result as ReadResult, kind_name};
 use pdb_file_views::{FileSource, FileViews, Wanted};
 use pdb_symbols_modules::{DebugInformation, PDB};
 use std::alloc::{AllocError, Global};
@@ -51,6 +53,18 @@ impl From<AllocError> for FileFault {
     }
 }
 
+impl FileFault {
+    /// What the fault prints.
+    pub fn printed(&self) -> PrintedFault<'_>
+        ensures { printed_text result ≡ file_fault_text self.now }
+    {
+        match self {
+            FileFault::Load(fault) => fault.printed(),
+            FileFault::File(kind) => PrintedFault::text("File(", kind_name(*kind)),
+        }
+    }
+}
+
 impl fmt::Display for FileFault {
     ghost use Rattle.std.specs.Prelude.{Some};
     ghost use Rattle.pdb_loading.specs.LoadFaultText.{file_fault_text};
@@ -58,10 +72,7 @@ impl fmt::Display for FileFault {
     ghost output = { λ f. Some (file_fault_text f) };
 
     fn fmt<W: fmt::Write>(&self, f: &mut fmt::Formatter<W>) -> fmt::Result {
-        match self {
-            FileFault::Load(fault) => write!(f, "{fault}"),
-            FileFault::File(kind) => write!(f, "File({})", kind_name(*kind)),
-        }
+        write!(f, "{}", self.printed())
     }
 }
 

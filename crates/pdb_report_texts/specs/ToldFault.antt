@@ -1,25 +1,9 @@
 -- What is reported of a fault.
 use Rattle.std.specs.Prelude.{◌⊎◌, ℕ, List, [], ◌∷◌, ◌++◌, Option, codes}
-use Rattle.std.specs.Fmt.{decimal}
 use Rattle.std.specs.declared.io.ErrorKind.{ErrorKind}
 use Rattle.pdb_engine.specs.Puts.{Count, PutsAll, PutsFront}
 use Rattle.pdb_report_texts.specs.declared.fault.RunFault.{RunFault}
-use Rattle.pdb_report_texts.specs.declared.told.Told.{Told}
-use Rattle.pdb_report_texts.specs.declared.told.Piece.{Piece}
-use Rattle.pdb_report_texts.specs.declared.told.Piece.TheVariants as pieces
 use Rattle.pdb_report_texts.specs.FaultText.{run_fault_text}
-
--- a piece as text, a number in decimal
-abbrev pub piece_text : Piece → List ℕ
-piece_text (pieces.Text text) = text.now
-piece_text (pieces.Number n) = decimal n
-
--- a fault's text, by its pieces
-abbrev pub text_of : Told → List ℕ
-text_of t =
-    (t.name).now ++ piece_text t.first ++ (t.between).now ++ piece_text t.second
-    ++ (t.before_third).now
-    ++ piece_text t.third ++ (t.end).now
 
 -- the line on a fault
 abbrev pub fault_line : RunFault → List ℕ

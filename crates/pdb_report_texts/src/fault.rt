@@ -1,8 +1,10 @@
 //! Why a run ends early.
 
 ghost use Rattle.std.specs.Prelude.{◌≡◌};
+ghost use Rattle.pdb_container.specs.PrintedFault.{printed_text};
+ghost use Rattle.pdb_report_texts.specs.FaultText.{run_fault_text};
 
-use pdb_container::kind_name;
+use pdb_container::{PrintedFault, kind_name};
 use pdb_engine::InputFault;
 use pdb_loading::{FileFault, LoadFault};
 use std::fmt;
@@ -70,6 +72,23 @@ impl From<InputFault> for RunFault {
     }
 }
 
+impl RunFault {
+    /// What the fault prints.
+    pub fn printed(&self) -> PrintedFault<'_>
+        ensures { printed_text result ≡ run_fault_text self.now }
+    {
+        match self {
+            RunFault::Load(fault) => fault.printed(),
+            RunFault::ReversedRange => PrintedFault::plain("ReversedRange"),
+            RunFault::Read(kind) => PrintedFault::text("Read(", kind_name(*kind)),
+            RunFault::Write(kind) => PrintedFault::text("Write(", kind_name(*kind)),
+            RunFault::File(kind) => PrintedFault::text("File(", kind_name(*kind)),
+            RunFault::InputTooLong => PrintedFault::plain("InputTooLong"),
+            RunFault::OutOfMemory => PrintedFault::plain("OutOfMemory"),
+        }
+    }
+}
+
 impl fmt::Display for RunFault {
     ghost use Rattle.std.specs.Prelude.{Some};
     ghost use Rattle.pdb_report_texts.specs.FaultText.{run_fault_text};
@@ -77,15 +96,7 @@ impl fmt::Display for RunFault {
     ghost output = { λ f. Some (run_fault_text f) };
 
     fn fmt<W: fmt::Write>(&self, f: &mut fmt::Formatter<W>) -> fmt::Result {
-        match self {
-            RunFault::Load(fault) => write!(f, "{fault}"),
-            RunFault::ReversedRange => f.write_str("ReversedRange"),
-            RunFault::Read(kind) => write!(f, "Read({})", kind_name(*kind)),
-            RunFault::Write(kind) => write!(f, "Write({})", kind_name(*kind)),
-            RunFault::File(kind) => write!(f, "File({})", kind_name(*kind)),
-            RunFault::InputTooLong => f.write_str("InputTooLong"),
-            RunFault::OutOfMemory => f.write_str("OutOfMemory"),
-        }
+        write!(f, "{}", self.printed())
     }
 }
 

@@ -1,6 +1,6 @@
 use Rattle.std.proofs.Common.{refl}
 use Rattle.std.proofs.KnownBytes.{Appends-nil}
-use Rattle.pdb_report_texts.specs.ToldFault.{piece_text}
+use Rattle.pdb_container.specs.PrintedFault.{piece_text}
 use Rattle.pdb_report_texts.proofs.Pieces.{pieces_more, pieces_part, pieces_all}
 use Rattle.pdb_report_texts.proofs.told.write_pieces.Goals as goal
 

@@ -1,7 +1,7 @@
 use Rattle.std.proofs.Common.{take}
 use Rattle.std.specs.List.{flat_map}
 use Rattle.pdb_engine.specs.Puts.{PutsAll}
-use Rattle.pdb_report_texts.specs.ToldFault.{piece_text}
+use Rattle.pdb_container.specs.PrintedFault.{piece_text}
 use Rattle.pdb_report_texts.proofs.told.write_pieces.Given as goal
 
 -- the pieces so far are out
