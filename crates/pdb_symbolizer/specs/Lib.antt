@@ -1,1 +1,3 @@
 pub mod Tasks
+pub mod UndecoratedLines
+pub mod UndecoratedText

@@ -16,8 +16,10 @@ ghost use Rattle.pdb_symbolizer.specs.Tasks.{IsInOrder, IsReversed, OnRangeRepor
 ghost use Rattle.pdb_symbols_modules.specs.Streams.{streams};
 
 mod on_demand;
+mod undecorated;
 
 use crate::on_demand::{run_task_on_demand, size_of};
+use crate::undecorated::{ReportKind, UndecoratedWriter};
 use bumpalo::Bump;
 pub use pdb_arguments::{Task, TextOutput, WordsFault, read_words, tell_words};
 use pdb_file_views::reach;
@@ -33,7 +35,6 @@ use std::os::unix::fs::FileExt;
 use std::process::ExitCode;
 use std::rt::{Env, Files};
 use std::{env, fs};
-use undecorated_lines::{ReportKind, UndecoratedWriter};
 
 /// The text that is reported if an argument isn't UTF-8.
 const NOT_UTF8: &str = "error: invalid UTF-8 was detected in one or more arguments\n\n\

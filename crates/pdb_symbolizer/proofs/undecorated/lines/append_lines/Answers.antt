@@ -1,5 +1,5 @@
-use Rattle.undecorated_lines.proofs.LineSteps.{one_more}
-use Rattle.undecorated_lines.proofs.lines.append_lines.Goals as goal
+use Rattle.pdb_symbolizer.proofs.LineSteps.{one_more}
+use Rattle.pdb_symbolizer.proofs.undecorated.lines.append_lines.Goals as goal
 
 pub loop-line-preserved : goal.loop-line-preserved
 loop-line-preserved c = one_more c.args.kind c.args.text.now c.loop-line.rest.now c.in-Some.line.now

@@ -1,9 +1,8 @@
 //! Lines of a report with the names of functions as people read them: a writer that takes a report
-//! of `pdb_symbolizer` and writes it with its decorated names undecorated.
+//! and writes it with its decorated names undecorated.
 //!
 //! How lines are gathered may change. What is written of a line that has no decorated name may not:
 //! it is that line.
-#![tactic(auto)]
 
 mod lines;
 mod writer;

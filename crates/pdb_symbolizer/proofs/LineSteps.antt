@@ -8,10 +8,10 @@ use Rattle.std.proofs.lemmas.List.{drop_more, get_or-take}
 use Rattle.std.proofs.lemmas.List.Elements.{All-append, All-nil}
 use Rattle.std.proofs.lemmas.List.Folds.{length-prefix_len}
 use Rattle.std.proofs.lemmas.List.Sums.{prefix_len_passes, prefix_len_stops}
-use Rattle.undecorated_lines.specs.declared.lines.ReportKind.{ReportKind}
-use Rattle.undecorated_lines.specs.Lines.{IsLineOf, IsNamed, IsNameText, IsUnbroken, Line, SplitsLine}
-use Rattle.undecorated_lines.specs.Lines.{Undecorates, is_in_line, is_in_word, name_end, name_in}
-use Rattle.undecorated_lines.specs.Lines.{name_start, named_lines, stored_lines}
+use Rattle.pdb_symbolizer.specs.declared.undecorated.lines.ReportKind.{ReportKind}
+use Rattle.pdb_symbolizer.specs.UndecoratedLines.{IsLineOf, IsNamed, IsNameText, IsUnbroken, Line, SplitsLine}
+use Rattle.pdb_symbolizer.specs.UndecoratedLines.{Undecorates, is_in_line, is_in_word, name_end, name_in}
+use Rattle.pdb_symbolizer.specs.UndecoratedLines.{name_start, named_lines, stored_lines}
 
 -- before the first newline there is none
 unbroken_front : (text : List ℕ) → IsUnbroken (take (prefix_len is_in_line text) text)

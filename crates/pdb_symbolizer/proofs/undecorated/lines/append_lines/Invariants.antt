@@ -1,6 +1,6 @@
 use Rattle.std.proofs.Common.{◌≡◌, ◌++◌, ℕ, List, length}
-use Rattle.undecorated_lines.specs.Lines.{Undecorates}
-use Rattle.undecorated_lines.proofs.lines.append_lines.Given as goal
+use Rattle.pdb_symbolizer.specs.UndecoratedLines.{Undecorates}
+use Rattle.pdb_symbolizer.proofs.undecorated.lines.append_lines.Given as goal
 
 -- the lines before the rest were written
 abbrev pub invariant-loop-line : goal.invariant-loop-line

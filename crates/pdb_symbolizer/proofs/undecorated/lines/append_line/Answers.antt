@@ -1,5 +1,5 @@
-use Rattle.undecorated_lines.proofs.LineSteps.{named_line}
-use Rattle.undecorated_lines.proofs.lines.append_line.Goals as goal
+use Rattle.pdb_symbolizer.proofs.LineSteps.{named_line}
+use Rattle.pdb_symbolizer.proofs.undecorated.lines.append_line.Goals as goal
 
 pub returns : goal.returns
 returns c = named_line c.args.kind c.args.line.now c.name_start-start.result c.word_length.result

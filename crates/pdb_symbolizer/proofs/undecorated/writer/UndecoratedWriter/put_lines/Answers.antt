@@ -1,5 +1,5 @@
-use Rattle.undecorated_lines.proofs.NothingOut.{nothing_written}
-use Rattle.undecorated_lines.proofs.writer.UndecoratedWriter.put_lines.Goals as goal
+use Rattle.pdb_symbolizer.proofs.NothingOut.{nothing_written}
+use Rattle.pdb_symbolizer.proofs.undecorated.writer.UndecoratedWriter.put_lines.Goals as goal
 
 pub returns-in_default-clause-part : goal.returns-in_default-clause-part
 returns-in_default-clause-part g c = nothing_written g.W.Write.contents c.args.self.now

@@ -1,9 +1,9 @@
 //! A writer that undecorates names.
 
 ghost use Rattle.std.specs.Prelude.{◌≡◌, ◌++◌, [], IfOk, OnErr, OnOk};
-ghost use Rattle.undecorated_lines.specs.Lines.{IsUnbroken, Undecorates};
+ghost use Rattle.pdb_symbolizer.specs.UndecoratedLines.{IsUnbroken, Undecorates};
 
-use crate::lines::{ReportKind, append_lines};
+use crate::undecorated::lines::{ReportKind, append_lines};
 use pdb_engine::ErrorOutput;
 use std::alloc::{AllocError, Global};
 use std::io::{self, ErrorKind, Write};
@@ -46,7 +46,7 @@ pub struct UndecoratedWriter<W> {
 }
 
 impl<W: Write> UndecoratedWriter<W> {
-    ghost use Rattle.undecorated_lines.specs.Writer.{WritesEnded, WritesFrontOf};
+    ghost use Rattle.pdb_symbolizer.specs.UndecoratedText.{WritesEnded, WritesFrontOf};
 
     /// Writes to another writer, and was given nothing yet.
     pub fn new(alloc: Global, kind: ReportKind, writer: W) -> UndecoratedWriter<W>

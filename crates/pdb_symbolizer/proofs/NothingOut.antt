@@ -3,9 +3,9 @@ use Rattle.std.proofs.Common.{ℕ, List, [], ◌++◌, refl, sym, append-nil}
 use Rattle.std.specs.Prelude.{Option, None, Some}
 use Rattle.std.specs.Io.KnownBytes.{Appends}
 use Rattle.std.proofs.lemmas.List.Elements.{All-nil}
-use Rattle.undecorated_lines.specs.Lines.{IsLineOf}
-use Rattle.undecorated_lines.specs.Writer.{WritesFrontOf}
-use Rattle.undecorated_lines.specs.declared.writer.UndecoratedWriter.{UndecoratedWriter}
+use Rattle.pdb_symbolizer.specs.UndecoratedLines.{IsLineOf}
+use Rattle.pdb_symbolizer.specs.UndecoratedText.{WritesFrontOf}
+use Rattle.pdb_symbolizer.specs.declared.undecorated.writer.UndecoratedWriter.{UndecoratedWriter}
 
 nothing_out : (contents : Option (List ℕ)) → Appends contents contents []
 nothing_out None = tt

@@ -3,16 +3,16 @@
 ghost use Rattle.std.specs.Prelude.{◌≡◌, ◌++◌, ◌∷◌, [], ◌≤◌, ℕ, List, IfOk, MatchOption, OnOk};
 ghost use Rattle.std.specs.Prelude.{length};
 ghost use Rattle.std.specs.List.{prefix_len};
-ghost use Rattle.undecorated_lines.specs.Lines.{IsNamed, IsNameText, IsUnbroken, SplitsLine};
-ghost use Rattle.undecorated_lines.specs.Lines.{Undecorates, after_blank as after_blank_of};
-ghost use Rattle.undecorated_lines.specs.Lines.{is_decorated as is_decorated_name, is_in_line};
-ghost use Rattle.undecorated_lines.specs.Lines.{is_in_word, name_start as name_start_of};
+ghost use Rattle.pdb_symbolizer.specs.UndecoratedLines.{IsNamed, IsNameText, IsUnbroken, SplitsLine};
+ghost use Rattle.pdb_symbolizer.specs.UndecoratedLines.{Undecorates, after_blank as after_blank_of};
+ghost use Rattle.pdb_symbolizer.specs.UndecoratedLines.{is_decorated as is_decorated_name, is_in_line};
+ghost use Rattle.pdb_symbolizer.specs.UndecoratedLines.{is_in_word, name_start as name_start_of};
 
 use msvc_demangler::{Demangled, SHORT_TEXT, demangle};
 use std::alloc::{AllocError, Global};
 
 /// Which report a line is of, and so where it has the name of a function.
-#[derive(Clone, Copy, Debug, PartialEq, Eq)]
+#[derive(Clone, Copy)]
 pub enum ReportKind {
     /// Frames of addresses: `  NAME at FILE:LINE @START+LENGTH`.
     Frames,
@@ -39,7 +39,7 @@ fn after_blank(line: &[u8], start: usize) -> usize
 }
 
 /// Where a line's name begins; at its end if it has none.
-#[tactic(auto, unfolding(crate::specs::Lines::name_start))]
+#[tactic(auto, unfolding(crate::specs::UndecoratedLines::name_start))]
 fn name_start(kind: ReportKind, line: &[u8]) -> usize
     ensures is { result ≡ name_start_of kind line.now }
     ensures within { result ≤ length line.now }

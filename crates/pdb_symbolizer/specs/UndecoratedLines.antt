@@ -3,8 +3,8 @@ use Rattle.std.specs.Prelude.{◌≡◌, ◌⊎◌, ℕ, ◌+◌, ◌^◌, ◌==
 use Rattle.std.specs.Prelude.{true, if◌then◌else◌, List, [], ◌∷◌, ◌++◌, length, take, drop}
 use Rattle.std.specs.Prelude.{slice_index}
 use Rattle.std.specs.List.{All, AllPass, flat_map, prefix_len}
-use Rattle.undecorated_lines.specs.declared.lines.ReportKind.{ReportKind}
-use Rattle.undecorated_lines.specs.declared.lines.ReportKind.TheVariants.{Frames, Sizes}
+use Rattle.pdb_symbolizer.specs.declared.undecorated.lines.ReportKind.{ReportKind}
+use Rattle.pdb_symbolizer.specs.declared.undecorated.lines.ReportKind.TheVariants.{Frames, Sizes}
 
 -- a byte of a line
 abbrev pub is_in_line : ℕ → Bool

@@ -2,8 +2,8 @@
 use Rattle.std.specs.Prelude.{◌≡◌, ℕ, List, ◌++◌, Option}
 use Rattle.std.specs.Io.KnownBytes.{Appends}
 use Rattle.pdb_engine.specs.InputLines.{Begins}
-use Rattle.undecorated_lines.specs.Lines.{IsUnbroken, Undecorates}
-use Rattle.undecorated_lines.specs.declared.writer.UndecoratedWriter.{UndecoratedWriter}
+use Rattle.pdb_symbolizer.specs.UndecoratedLines.{IsUnbroken, Undecorates}
+use Rattle.pdb_symbolizer.specs.declared.undecorated.writer.UndecoratedWriter.{UndecoratedWriter}
 
 -- The lines that newlines end of what was pending and of the bytes were written with the texts of
 -- their names, and what comes after them is pending.
