@@ -16,16 +16,17 @@ nothing refused.
 - `pdb_llvm_symbolizer`, on the cases of tests/llvm_symbolizer: such a run ends with status 1 and
   says so on standard error, and what is out is a prefix. For such runs as go on exceptions.txt has
   the reason too.
-- `recorded_reads`, on recorded reads of records, streams and tables: the call that finds no memory
-  says so, and is made again.
+- `recorded_cases reads`, on recorded reads of records, streams and tables: the call that finds no
+  memory says so, and is made again.
 - `recorded_cases again`, on the files of the same rows and on the recorded texts: the call that
   finds no memory says so. The same context or formatter then answers it, and all other questions of
   its file, as if nothing was refused.
 
 CASE is the name of a case: of a row, or as "context DATABASE FLAGS". Without one all are swept, and
-each program has to have requests. The script prints how many of each function were refused. The
-last line is `N passed, M failed`, in cases. FILE is where the programs lie, with NAME in it for a
-program's name; if left out, the proved ones are run. A C compiler is needed (Debian: gcc).
+each program and command has to have requests. The script prints how many of each function were
+refused. The last line is `N passed, M failed`, in cases. FILE is where the programs lie, with NAME
+in it for a program's name; if left out, the proved ones are run. A C compiler is needed (Debian:
+gcc).
 """
 import bisect
 import collections
@@ -45,7 +46,6 @@ import llvm_cases  # noqa: E402
 from built import ROOT, stop  # noqa: E402
 from recorded import DATA, Malformed, database_of, reports_of  # noqa: E402
 
-READS = f"{ROOT}/crates/recorded_reads/data"
 SECONDS = 60
 # The greatest file that contexts are asked about: in greater ones each of 65,536 frames is a request of its own.
 GREATEST = 100_000
@@ -97,9 +97,10 @@ def recorded_texts():
 
 class Case:
     """A run of a program, with at least so many requests; and with so many reads at offsets, where these are failed.
-    Where `wanted` is none, it is what comes with nothing refused."""
+    Where `wanted` is none, it is what comes with nothing refused. `called` is what names the
+    program and its command."""
 
-    folder, given, wanted, least, least_reads = ROOT, b"", None, 1, None
+    folder, given, wanted, least, least_reads, called = ROOT, b"", None, 1, None, None
 
     def __init__(self, name, words):
         self.name, self.words = name, words
@@ -182,9 +183,10 @@ class Repeating(Case):
 
 
 class Read(Repeating):
-    """A run of recorded_reads."""
+    """A run of `recorded_cases reads`."""
 
-    program, folder, wanted, least = "recorded_reads", READS, (0, b"1 reads\n", b""), 0
+    program, called = "recorded_cases", "recorded_cases reads"
+    folder, wanted, least = DATA, (0, b"1 reads\n", b""), 0
 
 
 def unshared(text):
@@ -195,7 +197,7 @@ def unshared(text):
 class Asked(Repeating):
     """A run of `recorded_cases again`, with its questions and their recorded answers, if there are."""
 
-    program = "recorded_cases"
+    program, called = "recorded_cases", "recorded_cases again"
 
     def __init__(self, name, words, answers):
         super().__init__(name, ["again", *words])
@@ -243,12 +245,12 @@ def drop_ins():
 def reads(folder):
     """The recorded reads: all that were worked out by hand, and of each kind the longest answer that isn't very long."""
     chosen, longest = [], {}
-    for file in ("by_hand.txt", "records.txt", "modules.txt", "databases.txt"):
-        with open(f"{READS}/{file}", encoding="ascii") as lines:
+    for file in ("by_hand", "records", "modules", "databases"):
+        with open(f"{DATA}/reads_{file}.txt", encoding="ascii") as lines:
             for line in lines:
                 question, is_case, answer = line.partition(" => ")
                 kind = question.split(" ")[0], ".pdb" in question
-                if is_case and file == "by_hand.txt":
+                if is_case and file == "by_hand":
                     chosen.append(line)
                 elif is_case and len(longest.get(kind, ("", ""))[1]) < len(answer) < LONGEST:
                     longest[kind] = line, answer
@@ -256,7 +258,7 @@ def reads(folder):
         path = f"{folder}/read {number}"
         with open(path, "w", encoding="ascii") as file:
             file.write(line)
-        yield Read(f"read {line.partition(' => ')[0][:60]}", [path])
+        yield Read(f"read {line.partition(' => ')[0][:60]}", ["reads", path])
 
 
 def asked(folder):
@@ -393,6 +395,8 @@ def shown(came):
 
 # All
 
+KINDS = Report, DropIn, Read, Asked
+
 
 def exceptions_of():
     """The cases of exceptions.txt."""
@@ -415,26 +419,26 @@ def main(words):
     exceptions, passed, failed, where = exceptions_of(), 0, 0, collections.Counter()
     with tempfile.TemporaryDirectory(prefix="refused-requests-") as folder:
         library, programs = library_in(folder), {}
-        for kind in (Report, DropIn, Read, Asked):
+        for kind in KINDS:
             file = built.program(place, kind.program)
-            programs[kind.program] = Program(file, library, kind in (Read, Asked))
+            programs[kind.program] = Program(file, library, issubclass(kind, Repeating))
         cases = [*reports(folder), *drop_ins(), *reads(folder), *asked(folder)]
         unknown = set(words) - {it.name for it in cases}
         if unknown:
             stop(f"no case has the name {', '.join(sorted(unknown))}")
         cases = [it for it in cases if not words or it.name in words]
-        unswept = set() if words else set(programs)
+        unswept = [] if words else KINDS
         with concurrent.futures.ProcessPoolExecutor() as lanes:
             lanes_of = [lanes.submit(sweep, programs[it.program], it, exceptions) for it in cases]
             for case, it in zip(cases, lanes_of):
                 wrong, refused = it.result()
                 passed, failed = passed + (not wrong), failed + bool(wrong)
                 where.update(refused)
-                unswept -= {case.program} if refused else set()
+                unswept = [it for it in unswept if not refused or not isinstance(case, it)]
                 print("".join(f"{line}\n" for line in wrong), end="")
-        for name in sorted(unswept):
+        for kind in unswept:
             failed += 1
-            print(f"no request of {name} was refused")
+            print(f"no request of {kind.called or kind.program} was refused")
     for name, number in sorted(where.items()):
         print(f"{number:6} refused, of {name}")
     print(f"{sum(where.values())} requests refused")

@@ -21,7 +21,7 @@
 //! shown_read(alloc, item.parse(alloc))
 //! ```
 //!
-//! The program `recorded_reads` has all of it.
+//! The program `recorded_cases` has all of it.
 #![tactic(auto)]
 
 pub use pdb_addresses::{

@@ -1,23 +1,39 @@
-//! Goes through recorded cases of formatters and contexts: `recorded_cases FILE..`. Or asks about a
-//! database again, where a call finds no memory: `recorded_cases again KIND DATABASE FLAGS FILE`,
-//! as `again.rt` describes. Or writes the texts of decorated names: `recorded_cases undecorated
-//! FILE`, as `undecorated.rt` describes.
+//! Goes through recorded cases: `recorded_cases WORD..`.
+//!
+//! A WORD is the file of cases of formatters and contexts, as `texts.rt` describes them; after the
+//! word `reads` the file of cases of reads, as `reads.rt` does. Each case whose answer isn't as
+//! recorded is printed, and after each file the number of its cases. After the word `streams` it is
+//! the shape of a container whose reading is timed, as `streams.rt` describes.
+//!
+//! Or asks about a database again, where a call finds no memory: `recorded_cases again KIND
+//! DATABASE FLAGS FILE`, as `again.rt` describes. Or writes the texts of decorated names:
+//! `recorded_cases undecorated FILE`, as `undecorated.rt` describes.
 //!
 //! Cases may be added. A recorded answer may change with a difference that docs/DIFFERENCES.md
 //! names, and the form of cases with the scripts that write them.
-//!
-//! The cases of a FILE have the form that `texts.rt` describes. Each case whose answer isn't as
-//! recorded is printed, and at last the number of cases.
 #![tactic(auto)]
 
 mod again;
 mod database;
+mod reads;
+mod streams;
 mod texts;
 mod undecorated;
 
 use anyhow::Result;
 use std::env;
-use std::rt::{Env, Files};
+use std::rt::{Clock, Env, Files};
+
+/// What the program's next words are.
+#[derive(Clone, Copy)]
+enum Words {
+    /// Files of cases of formatters and contexts.
+    Texts,
+    /// Files of cases of reads.
+    Reads,
+    /// Shapes of containers.
+    Streams,
+}
 
 /// Returns the program's arguments.
 fn words_of(rt: &(impl Env + AllocGlobal)) -> Result<Vec<String>> {
@@ -28,14 +44,38 @@ fn words_of(rt: &(impl Env + AllocGlobal)) -> Result<Vec<String>> {
     Ok(words)
 }
 
-/// Goes through the cases of files, and prints how many there are.
-fn run_files(rt: &(impl Files + Print + AllocGlobal), files: &[String]) -> Result<()> {
-    let mut count = 0u64;
-    for file in files {
-        count = count.saturating_add(texts::run_file(rt, file.as_str())?);
+/// Does what words ask for.
+fn run_words(
+    rt: &(impl Files + Print + Eprint + Clock + AllocGlobal),
+    words: &[String],
+) -> Result<()> {
+    let mut kind = Words::Texts;
+    for word in words {
+        match word.as_str() {
+            "reads" => kind = Words::Reads,
+            "streams" => kind = Words::Streams,
+            word => run_word(rt, kind, word)?,
+        }
     }
-    println!(rt; "{count} texts")?;
     Ok(())
+}
+
+/// Goes through the cases of a file, and prints how many there are; or times a container.
+fn run_word(
+    rt: &(impl Files + Print + Eprint + Clock + AllocGlobal),
+    kind: Words,
+    word: &str,
+) -> Result<()> {
+    match kind {
+        Words::Texts => print_count(rt, texts::run_file(rt, word)?, "texts"),
+        Words::Reads => print_count(rt, reads::run_file(rt, word)?, "reads"),
+        Words::Streams => streams::run(rt, word),
+    }
+}
+
+/// Prints how many cases of a kind a file has.
+fn print_count(rt: &impl Print, count: u64, kind: &str) -> Result<()> {
+    Ok(println!(rt; "{count} {kind}")?)
 }
 
 fn main(rt: HostRuntime) -> Result<()> {
@@ -43,6 +83,6 @@ fn main(rt: HostRuntime) -> Result<()> {
     match words.first() {
         Some(word) if word.as_str() == "again" => again::run(&rt, &words),
         Some(word) if word.as_str() == "undecorated" => undecorated::run(&rt, &words),
-        _ => run_files(&rt, &words),
+        _ => run_words(&rt, &words),
     }
 }

@@ -1,8 +1,8 @@
 //! Open databases.
 
-use crate::question::{Question, Task};
-use crate::shown::{listed, push, shown, shown_read};
-use crate::{addresses, modules, refusals};
+use crate::reads::question::{Question, Task};
+use crate::reads::shown::{listed, push, shown, shown_read};
+use crate::reads::{addresses, modules, refusals};
 use pdb_container::{Error, FallibleIterator, Result, Stream, StringRef, StringTable};
 use pdb_container_types::{
     IdFinder, IdIndex, IdInformation, SymbolIndex, TypeFinder, TypeIndex, TypeInformation,

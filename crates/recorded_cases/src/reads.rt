@@ -1,19 +1,17 @@
-//! Goes through recorded cases of what records, streams, tables and addresses say:
-//! `recorded_reads FILE..`.
+//! Cases of reads: what records, streams, tables and addresses say.
 //!
-//! Cases may be added. A recorded answer comes from the format, so it stays whatever the code says.
+//! A recorded answer comes from the format, so it stays whatever the code says.
 //!
-//! A line of a FILE is a case if it contains ` => `. Before that stand words: what is asked; bytes
+//! A line of a file is a case if it contains ` => `. Before that stand words: what is asked; bytes
 //! in hexadecimal, a number or a database's file; changes of that file or further bytes; and
 //! numbers. After it stands the answer, or the fault, that must come.
-//!
-//! Each case whose answer isn't as recorded is printed, and at last the number of cases.
 //!
 //! When a case runs out of memory, `out of memory` is printed, and it is asked once more, of the
 //! same database if that was open. A library refuses the requests in turn
 //! (`tests/refused_requests`). Standard error has `+` before each case and `-` after it, which
 //! shows that library which requests are the case's.
-#![tactic(auto)]
+//!
+//! A case whose answer isn't as recorded is printed.
 
 mod addresses;
 mod databases;
@@ -29,19 +27,14 @@ mod words;
 use pdb_container::{Error, Result};
 use question::{Question, Subject, question_of};
 use shown::shown;
-use std::rt::{Env, Files};
-use std::{env, fs, io};
-
-fn main(rt: HostRuntime) -> anyhow::Result<()> {
-    let mut count = 0u64;
-    for file in env::args(&rt)?.skip(1) {
-        count = count.saturating_add(run_file(&rt, file.as_str())?);
-    }
-    Ok(println!(rt; "{count} reads")?)
-}
+use std::rt::Files;
+use std::{fs, io};
 
 /// Goes through the cases of a file, and returns how many there are.
-fn run_file(rt: &(impl Files + Print + Eprint + AllocGlobal), file: &str) -> Result<u64> {
+///
+/// # Errors
+/// A file that can't be read, a failed write; `OutOfMemory`.
+pub fn run_file(rt: &(impl Files + Print + Eprint + AllocGlobal), file: &str) -> Result<u64> {
     let text = fs::read_to_string(rt, file)?;
     run_lines(rt, text.as_str())
 }

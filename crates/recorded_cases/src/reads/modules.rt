@@ -1,9 +1,9 @@
 //! Records, and what modules' own streams hold.
 
-use crate::question::{Question, Task};
-use crate::shown::{listed, push, shown, shown_read};
-use crate::words::{bytes_of, not_a_case};
-use crate::{pages, records};
+use crate::reads::question::{Question, Task};
+use crate::reads::shown::{listed, push, shown, shown_read};
+use crate::reads::words::{bytes_of, not_a_case};
+use crate::reads::{pages, records};
 use pdb_container::{FallibleIterator, RawString, Result};
 use pdb_container_types::{
     FileIndex, IdIndex, Local, PdbInternalSectionOffset, SymbolIndex, TypeIndex,

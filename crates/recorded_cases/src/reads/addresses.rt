@@ -2,9 +2,9 @@
 
 ghost use Rattle.pdb_addresses.specs.Addresses.{IsOrdered};
 
-use crate::question::{Question, Task};
-use crate::shown::{push, shown};
-use crate::words::not_a_case;
+use crate::reads::question::{Question, Task};
+use crate::reads::shown::{push, shown};
+use crate::reads::words::not_a_case;
 use pdb_container::Result;
 use pdb_container_types::{
     AddressMap, ImageSectionHeader, PdbInternalRva, PdbInternalSectionOffset, Rva, SectionOffset,

@@ -1,8 +1,8 @@
 //! Lists of pages.
 
-use crate::question::Question;
-use crate::shown::shown;
-use crate::words::not_a_case;
+use crate::reads::question::Question;
+use crate::reads::shown::shown;
+use crate::reads::words::not_a_case;
 use pdb_container::Result;
 use pdb_container_types::PageList;
 use std::alloc::Global;

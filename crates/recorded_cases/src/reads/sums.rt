@@ -1,8 +1,8 @@
 //! Sums of addresses, and primitive types: what numbers are asked for.
 
-use crate::question::{Question, Task};
-use crate::records;
-use crate::shown::shown;
+use crate::reads::question::{Question, Task};
+use crate::reads::records;
+use crate::reads::shown::shown;
 use pdb_container::Result;
 use pdb_container_types::{PdbInternalRva, PdbInternalSectionOffset, Rva, SectionOffset};
 use std::alloc::Global;

@@ -1,17 +1,14 @@
-//! Times how the streams of a container in memory are read, beside one copy of its bytes:
-//! `container_benchmark [STREAMS [PAGES]]`.
+//! Times how the streams of a container in memory are read, beside one copy of its bytes.
 //!
-//! What it makes and times may change together with its stored output. No crate stands on it.
+//! What it makes and times may change together with the stored output.
 //!
-//! It makes a container with that many streams, each with that many pages of 4096 bytes. Without
-//! numbers it has 64 streams of 256 pages. It times a copy of the container's bytes. Then it times
-//! how long it takes to open that copy and to read all its streams, which are held until the time
-//! is taken. Both are done once untimed before. The output says what was read, and the error output
-//! how long it took.
-#![tactic(auto)]
+//! `300x256` makes a container of 300 streams, each with 256 pages of 4096 bytes. It times a copy
+//! of the container's bytes. Then it times how long it takes to open that copy and to read all its
+//! streams, which are held until the time is taken. Both are done once untimed before. The output
+//! says what was read, and the error output how long it took.
 
 ghost use Rattle.std.specs.Prelude.{◌≡◌, ◌*◌, ◌≤◌, ◌^◌, IfOk};
-ghost use Rattle.container_benchmark.specs.Streams.{AreFirst};
+ghost use Rattle.recorded_cases.specs.Streams.{AreFirst};
 
 mod file;
 
@@ -19,29 +16,33 @@ use anyhow::{Context, Result, ensure};
 use file::{MOST_IN_ALL, MOST_PAGES, MOST_STREAMS, container_of};
 use pdb_container::{BigMSF, Msf, Stream, open_msf};
 use std::alloc::Global;
-use std::rt::{Clock, Env};
+use std::io;
+use std::rt::Clock;
 use std::time::{Duration, Instant};
-use std::{env, io};
 
-fn main(rt: HostRuntime) -> Result<()> {
-    let (count, pages) = shape_asked(&rt)?;
+/// Times a container of a shape, as `300x256`, and prints what was read.
+///
+/// # Errors
+/// Another word, or too many streams or pages; a failed write; out of memory.
+pub fn run(rt: &(impl Print + Eprint + Clock + AllocGlobal), shape: &str) -> Result<()> {
+    let (count, pages) = shape_of(shape)?;
     let file = container_of(rt.alloc(), count, pages)?;
-    read_copy(&rt, file.as_slice(), count)?;
-    let reading = read_copy(&rt, file.as_slice(), count)?;
-    print_streams(&rt, reading.streams.as_slice())?;
-    print_times(&rt, reading.copied, reading.read)?;
+    read_copy(rt, file.as_slice(), count)?;
+    let reading = read_copy(rt, file.as_slice(), count)?;
+    print_streams(rt, reading.streams.as_slice())?;
+    print_times(rt, reading.copied, reading.read)?;
     Ok(())
 }
 
-/// Returns how many streams to read, and how many pages each has: the program's arguments, or 64
-/// and 256.
-fn shape_asked(rt: &(impl Env + AllocGlobal)) -> Result<(u32, u32)>
+/// Returns how many streams a shape has, and how many pages each of them.
+fn shape_of(shape: &str) -> Result<(u32, u32)>
     ensures streams { IfOk result (λ shape. shape.0 ≤ 10000) }
     ensures pages { IfOk result (λ shape. shape.1 ≤ 2 ^ 10) }
     ensures in_all { IfOk result (λ shape. shape.0 * shape.1 ≤ 2 ^ 18) }
 {
-    let streams = number_asked(rt, 1, 64, MOST_STREAMS)?;
-    let pages = number_asked(rt, 2, 256, MOST_PAGES)?;
+    let (streams, pages) = shape.split_once('x').context("streams x pages is needed")?;
+    let streams = number_of(streams, MOST_STREAMS)?;
+    let pages = number_of(pages, MOST_PAGES)?;
     ensure!(
         streams * pages <= MOST_IN_ALL,
         "at most {MOST_IN_ALL} pages in all"
@@ -49,15 +50,10 @@ fn shape_asked(rt: &(impl Env + AllocGlobal)) -> Result<(u32, u32)>
     Ok((streams, pages))
 }
 
-/// Returns the number of the argument with that index, from 1 to a greatest one. Without that
-/// argument it is the usual number.
-fn number_asked(rt: &(impl Env + AllocGlobal), place: usize, usual: u32, most: u32) -> Result<u32>
-    requires { usual ≤ most }
+/// Returns the number of a word, from 1 to a greatest one.
+fn number_of(word: &str, most: u32) -> Result<u32>
     ensures { IfOk result (λ number. number ≤ most) }
 {
-    let Some(word) = env::args(rt)?.nth(place) else {
-        return Ok(usual);
-    };
     let number = word.parse::<u32>().context("a number of streams or pages")?;
     ensure!(1 <= number && number <= most, "from 1 to {most}");
     Ok(number)

@@ -1,7 +1,7 @@
 //! Records of types and ids, and primitive types.
 
-use crate::shown::{shown, shown_read};
-use crate::words::not_a_case;
+use crate::reads::shown::{shown, shown_read};
+use crate::reads::words::not_a_case;
 use pdb_container::Result;
 use pdb_container_types::{PointerAttributes, TypeData, TypeIndex, type_data_for_primitive};
 use pdb_records::{parse_id_data, parse_type_data};

@@ -3,7 +3,7 @@ use Rattle.std.proofs.Common.{◌≡◌, ℕ, ◌+◌, ◌-◌, ◌<◌, inl, in
 use Rattle.std.proofs.lemmas.Bool.{cases_lt}
 use Rattle.std.proofs.lemmas.List.{length-append, get_or_append_left, get_or-append_right}
 use Rattle.pdb_container.specs.Container.{stream}
-use Rattle.container_benchmark.specs.Streams.{AreFirst}
+use Rattle.recorded_cases.specs.Streams.{AreFirst}
 
 -- no streams are the first of a file
 pub first_none : (file : List ℕ) (streams : List (List ℕ)) → streams ≡ [] → AreFirst file 0 streams
