@@ -6,7 +6,8 @@ ghost use Rattle.std.specs.List.{prefix_len};
 
 use pdb_indices::TypeIndex;
 
-/// How many indices stand on a path at most where an argument is copied.
+/// How many indices stand on a path at most where an argument is copied. Real names read no more
+/// than 29 records (docs/COSTS.md), and what prints a copy takes stack that deep nests need.
 const COPIED_DEPTH: usize = 64;
 
 /// An argument, how many right after it repeat it, and the arguments after these.
