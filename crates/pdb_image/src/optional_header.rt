@@ -30,7 +30,7 @@ pub struct DataDirectory {
 }
 
 /// What is read of an optional header.
-#[derive(Clone, Copy, Debug)]
+#[derive(Clone, Copy)]
 pub(crate) struct OptionalHeader {
     /// The address at which the image wants to be loaded.
     pub(crate) image_base: u64,

@@ -56,14 +56,14 @@ pub struct LineForm {
 }
 
 /// The file of a request, and what comes after it in the line.
-#[derive(Clone, Copy, Debug, Drop)]
+#[derive(Clone, Copy)]
 struct FileAndRest<'l> {
     file: RequestedFile<'l>,
     rest: &'l [u8],
 }
 
 /// What stands before the file of a request.
-#[derive(Clone, Copy, Debug, PartialEq, Eq)]
+#[derive(Clone, Copy, PartialEq, Eq)]
 enum Prefix {
     /// Nothing.
     Bare,

@@ -22,7 +22,7 @@ use std::alloc::{AllocError, Global};
 use std::collections::BTreeMap;
 
 /// What a type says of its size.
-#[derive(Clone, Copy, Debug)]
+#[derive(Clone, Copy)]
 pub(crate) enum Stated {
     /// A number of bytes.
     Bytes(u64),

@@ -13,7 +13,7 @@ const STACK_POINTER: u8 = 4;
 
 /// A frame: the register that it is found by, how far that lies above the frame's lowest address,
 /// and how far this one lies below the slot of the return address, in bytes.
-#[derive(Clone, Copy, Debug, PartialEq, Eq)]
+#[derive(Clone, Copy)]
 pub(crate) struct Frame {
     pub(crate) register: u8,
     pub(crate) offset: u8,
@@ -22,7 +22,7 @@ pub(crate) struct Frame {
 
 /// Where a register was saved: so far below the slot of the return address, or so far above the
 /// frame's lowest address, in bytes.
-#[derive(Clone, Copy, Debug, PartialEq, Eq)]
+#[derive(Clone, Copy)]
 pub(crate) enum Saved {
     Below(u64),
     Above(u32),
@@ -30,7 +30,7 @@ pub(crate) enum Saved {
 
 /// What steps have done: how far the slot of the return address lies above the stack pointer, the
 /// frame that was set, and whether there is a machine frame.
-#[derive(Clone, Copy, Debug, PartialEq, Eq)]
+#[derive(Clone, Copy)]
 pub(crate) struct Steps {
     pub(crate) depth: u64,
     pub(crate) frame: Option<Frame>,
