@@ -4,6 +4,7 @@ pub mod Firsts
 pub mod HeldSteps
 pub mod Lookup
 pub mod MergeSteps
+pub mod Missing
 pub mod OnePlace
 pub mod Order
 pub mod PieceSteps

@@ -160,6 +160,13 @@ is_behind p f = ((f.start_offset).section == p.section) && nat_lt p.offset (f.st
 abbrev pub next_public : List PublicFunction → PdbInternalSectionOffset → Option PublicFunction
 next_public list p = find (is_behind p) list
 
+-- the places at which no entry of a list begins
+abbrev pub missing : List PublicFunction → List PdbInternalSectionOffset
+    → List PdbInternalSectionOffset
+missing list [] = []
+missing list (p ∷ places) =
+    if is_some (public_exactly list p) then missing list places else p ∷ missing list places
+
 -- ---- looking up in order
 
 -- places ascend strictly

@@ -1,8 +1,8 @@
 //! The public list in order, and looking up in it.
 
-ghost use Rattle.std.specs.Prelude.{◌≡◌, ◌++◌, IfOk, OnOk, length, option_map, slice_get};
+ghost use Rattle.std.specs.Prelude.{◌≡◌, ◌++◌, IfOk, OnOk, is_some, length, option_map, slice_get};
 ghost use Rattle.pdb_contributions.specs.Publics.{placeholders, section_ends, publics_among};
-ghost use Rattle.pdb_contributions.specs.Publics.{public_exactly, public_over, next_public};
+ghost use Rattle.pdb_contributions.specs.Publics.{missing, public_exactly, public_over, next_public};
 ghost use Rattle.pdb_contributions.specs.Publics.{is_at as at_place, is_before as comes_before};
 ghost use Rattle.pdb_contributions.specs.Publics.{last_at_or_before as last_before};
 ghost use Rattle.pdb_contributions.specs.Publics.{last_of as last_of_list, Rises, IsSplit};
@@ -145,14 +145,58 @@ fn first_behind<'f, 's>(
     Some(next)
 }
 
+/// Whether an entry of a list in order begins at a place.
+fn begins_at(functions: &[PublicFunction<'_>], place: PdbInternalSectionOffset) -> bool
+    requires { Rises functions.now }
+    ensures { result ≡ is_some (public_exactly functions.now place) }
+{
+    exactly_at(functions, place).is_some()
+}
+
+/// The places at which no entry of a list in order begins.
+#[tactic(auto, using(crate::proofs::Missing::missing_start, crate::proofs::Missing::missing_more, crate::proofs::Missing::missing_passed, crate::proofs::Missing::missing_end))]
+fn missing_among(
+    alloc: Global,
+    functions: &[PublicFunction<'_>],
+    starts: &[PdbInternalSectionOffset],
+) -> Result<Vec<PdbInternalSectionOffset>, AllocError>
+    requires { Rises functions.now }
+    ensures { IfOk result (λ v. v.items ≡ missing functions.now starts.now) }
+{
+    let mut places = Vec::new(alloc);
+    for start in starts {
+        if !begins_at(functions, *start) {
+            places.push(*start)?;
+        }
+    }
+    Ok(places)
+}
+
+/// Appends placeholders at the places at which no entry of a list in order begins.
+fn push_missing(
+    functions: &mut Vec<PublicFunction<'_>>,
+    starts: &[PdbInternalSectionOffset],
+) -> Result<(), AllocError>
+    requires { Rises functions.old.items }
+    ensures { OnOk result (functions.new.items ≡ functions.old.items
+        ++ placeholders (missing functions.old.items starts.now)) }
+{
+    let alloc = *functions.allocator();
+    let places = missing_among(alloc, functions.as_slice(), starts)?;
+    push_placeholders(functions, places.as_slice())
+}
+
 impl<'s> PublicList<'s> {
     /// The public list of public symbols, of the places where contributions begin, and of the
     /// sections' ends. Of the entries at one place a named one counts before a placeholder, and
     /// then the first.
     ///
+    /// A public symbol is at most of the places, so only the others get a placeholder before all
+    /// are sorted.
+    ///
     /// # Errors
     /// `AllocError` when memory runs out.
-    #[tactic(auto, using(crate::proofs::Lookup::rises))]
+    #[tactic(auto, using(crate::proofs::Lookup::rises, crate::proofs::Missing::all_stand))]
     pub fn new(
         mut functions: Vec<PublicFunction<'s>>,
         starts: &[PdbInternalSectionOffset],
@@ -162,7 +206,8 @@ impl<'s> PublicList<'s> {
             (λ l. l ≡ publics_among
             (functions.entry.items ++ placeholders starts.now ++ section_ends sections.now)) }
     {
-        push_placeholders(&mut functions, starts)?;
+        sort_and_dedup(&mut functions)?;
+        push_missing(&mut functions, starts)?;
         push_section_ends(&mut functions, sections)?;
         sort_and_dedup(&mut functions)?;
         Ok(PublicList { functions })
