@@ -1,2 +1,11 @@
 pub mod Told
 pub mod Texts
+pub mod Frames
+pub mod Stretches
+pub mod Spans
+pub mod Records
+pub mod RecordTexts
+pub mod PieceRecords
+pub mod Lookup
+pub mod Reading
+pub mod Output

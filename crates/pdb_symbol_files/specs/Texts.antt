@@ -21,16 +21,17 @@ front n (c ∷ cs) =
     if nat_le (length (encode_utf8 c)) n
     then c ∷ front (n - length (encode_utf8 c)) cs else []
 
--- the bytes of characters: of more than 65,536 the longest prefix of at most 65,533, and three dots
+-- a text: of one of more than 65,536 bytes the longest prefix of whole characters that has 65,533 at
+-- most, and three dots
 abbrev pub shortened : List ℕ → List ℕ
-shortened cs =
-    if nat_le (length (encode_utf8_all cs)) 65536 then encode_utf8_all cs
-    else encode_utf8_all (front 65533 cs) ++ codes "..."
+shortened text =
+    if nat_le (length text) 65536 then text
+    else encode_utf8_all (front 65533 (chars text)) ++ codes "..."
 
 -- a name or a file, by its text
 abbrev pub text_of : List ℕ → List ℕ
 text_of [] = codes "??"
-text_of (b ∷ bs) = shortened (clean true (chars (b ∷ bs)))
+text_of (b ∷ bs) = shortened (encode_utf8_all (clean true (chars (b ∷ bs))))
 
 -- a name or a file that may be missing
 abbrev pub told_text : Option (List ℕ) → List ℕ

@@ -1,5 +1,6 @@
 -- What a symbol file says of addresses.
-use Rattle.std.specs.Prelude.{ℕ, ◌+◌, ◌&&◌, ◌==◌, nat_eq, Bool, List, Option}
+use Rattle.std.specs.Prelude.{ℕ, ◌+◌, ◌&&◌, ◌==◌, nat_eq, zero, suc, Bool, List, [], ◌∷◌, Option}
+use Rattle.std.specs.List.{flat_map}
 use Rattle.std.specs.Option.{option_eq}
 use Rattle.std.specs.Str.{bytes_eq}
 use lib.Pointwise.{pointwise}
@@ -19,6 +20,11 @@ pub record Told : Type 0 where
   pub file : List ℕ
   pub line : ℕ
 
+-- an address, and what is said of it
+pub record Answer : Type 0 where
+  pub address : ℕ
+  pub told : Told
+
 -- addresses of which the same is said: the first one, and how many there are
 pub record Piece : Type 0 where
   pub address : ℕ
@@ -28,6 +34,20 @@ pub record Piece : Type 0 where
 -- the address after a piece's last one
 abbrev pub end_of : Piece → ℕ
 end_of p = p.address + p.size
+
+-- so many addresses from one on, and what is said of each
+abbrev pub answers_from : ℕ → ℕ → Told → List Answer
+answers_from address zero told = []
+answers_from address (suc size) told =
+    record { address = address; told = told } ∷ answers_from (suc address) size told
+
+-- the addresses of a piece
+abbrev pub answers_of : Piece → List Answer
+answers_of p = answers_from p.address p.size p.told
+
+-- the addresses of pieces, one after the other
+abbrev pub answers_in : List Piece → List Answer
+answers_in pieces = flat_map answers_of pieces
 
 abbrev pub same_call : Call → Call → Bool
 same_call a b = a.line == b.line && bytes_eq a.file b.file && bytes_eq a.callee b.callee

@@ -1,13 +1,25 @@
 //! FUNC records, with what is below them.
 
+ghost use Rattle.std.specs.Prelude.{◌≡◌, ◌++◌, ◌-◌, [], IfOk, OnOk, List, string_bytes};
+ghost use Rattle.std.specs.List.{flat_map};
+ghost use Rattle.pdb_symbol_files.specs.PieceRecords.{added, AreOf, function_if, is_more as is_more_of};
+ghost use Rattle.pdb_symbol_files.specs.PieceRecords.{nothing_yet, numbers_after_function};
+ghost use Rattle.pdb_symbol_files.specs.PieceRecords.{without_last};
+ghost use Rattle.pdb_symbol_files.specs.Records.{symbol_records};
+ghost use Rattle.pdb_symbol_files.specs.RecordTexts.{function_text, functions_text, head_text};
+ghost use Rattle.pdb_symbol_files.specs.RecordTexts.{numbers_text};
+ghost use Rattle.pdb_symbol_files.specs.Told.{Answer, answers_of, end_of};
+
 use crate::inlines::{Numbers, append_inlines};
 use crate::lines::append_lines;
 use crate::numbering::Numbering;
 use crate::pieces::{Piece, goes_on};
 use std::alloc::{AllocError, Global};
+use std::marker::Model;
 
 /// The records of a module's functions, by pieces in ascending order: FUNC records with INLINE and
-/// line records below them, and before them FILE and INLINE_ORIGIN records.
+/// line records below them, and before them FILE and INLINE_ORIGIN records. After an error they
+/// are of no use.
 #[derive(Drop)]
 pub struct FunctionRecords {
     alloc: Global,
@@ -18,17 +30,40 @@ pub struct FunctionRecords {
     text: String,
 }
 
+impl Model for FunctionRecords {
+    ghost use Rattle.std.specs.Prelude.{string_bytes};
+    ghost use Rattle.pdb_symbol_files.specs.PieceRecords as adding;
+
+    ghost Value = { adding.SoFar };
+
+    ghost view = { λ r. record {
+      numbers = r.numbers;
+      last = r.pieces.items;
+      text = string_bytes r.text;
+    } };
+}
+
 /// Whether a piece goes on with the function of those before it.
-fn is_more(pieces: &[Piece], piece: &Piece) -> bool {
+#[tactic(auto, using(crate::proofs::LastPieces::none_more, crate::proofs::LastPieces::some_more))]
+fn is_more(pieces: &[Piece], piece: &Piece) -> bool
+    ensures { result ≡ is_more_of pieces.now piece.now }
+{
     match pieces.last() {
         Some(last) => goes_on(last, piece),
         None => true,
     }
 }
 
-/// How many addresses pieces have, one after the other.
-fn size_of(first: &Piece, last: &Piece) -> u64 {
-    (u64::from(last.address) + u64::from(last.size)).saturating_sub(u64::from(first.address))
+/// Appends the FUNC record of pieces, by the first one and the last one.
+fn append_head(first: &Piece, last: &Piece, output: &mut String) -> Result<(), AllocError>
+    ensures { OnOk result (string_bytes output.new ≡ string_bytes output.old
+        ++ head_text (first.now).address (end_of last.now - (first.now).address)
+        ((first.now).told).function) }
+{
+    let end = u64::from(last.address) + u64::from(last.size);
+    let size = end.saturating_sub(u64::from(first.address));
+    let (address, name) = (first.address, &first.told.function);
+    write!(output, "FUNC {address:x} {size:x} 0 {name}\n")
 }
 
 /// Appends the records of a function's pieces.
@@ -37,19 +72,25 @@ fn append_function(
     pieces: &[Piece],
     numbers: &mut Numbers,
     output: &mut String,
-) -> Result<(), AllocError> {
+) -> Result<(), AllocError>
+    ensures numbers { OnOk result (numbers.new ≡ numbers_after_function numbers.old pieces.now) }
+    ensures text { OnOk result (string_bytes output.new ≡ string_bytes output.old
+        ++ flat_map function_text (function_if numbers.old pieces.now)) }
+{
     let (Some(first), Some(last)) = (pieces.first(), pieces.last()) else {
         return Ok(());
     };
-    let (address, size, name) = (first.address, size_of(first, last), &first.told.function);
-    write!(output, "FUNC {address:x} {size:x} 0 {name}\n")?;
+    append_head(first, last, output)?;
     append_inlines(alloc, pieces, numbers, output)?;
-    append_lines(alloc, pieces, &mut numbers.files, output)
+    append_lines(alloc, pieces, &mut numbers.files, output)?;
+    Ok(())
 }
 
 impl FunctionRecords {
     /// No records.
-    pub fn new(alloc: Global) -> FunctionRecords {
+    pub fn new(alloc: Global) -> FunctionRecords
+        ensures { AreOf result [] }
+    {
         FunctionRecords {
             alloc,
             numbers: Numbers {
@@ -61,20 +102,10 @@ impl FunctionRecords {
         }
     }
 
-    /// Adds a piece that lies after all that were added.
-    ///
-    /// # Errors
-    /// `AllocError` when memory runs out.
-    pub fn add(&mut self, piece: Piece) -> Result<(), AllocError> {
-        if !is_more(self.pieces.as_slice(), &piece) {
-            self.end_function()?;
-        }
-        self.pieces.push(piece)?;
-        Ok(())
-    }
-
     /// Appends the records of the last function to the text.
-    fn end_function(&mut self) -> Result<(), AllocError> {
+    fn end_function(&mut self) -> Result<(), AllocError>
+        ensures { OnOk result (self.new ≡ without_last self.old) }
+    {
         let FunctionRecords {
             alloc,
             numbers,
@@ -86,12 +117,44 @@ impl FunctionRecords {
         Ok(())
     }
 
+    /// Adds a piece, which may have no address.
+    fn add_piece(&mut self, piece: Piece) -> Result<(), AllocError>
+        ensures { OnOk result (self.new ≡ added self.old piece) }
+    {
+        if piece.size == 0 {
+            return Ok(());
+        }
+        if !is_more(self.pieces.as_slice(), &piece) {
+            self.end_function()?;
+        }
+        self.pieces.push(piece)?;
+        Ok(())
+    }
+
+    /// Adds a piece: what is said of its addresses, which come after all that were added.
+    ///
+    /// # Errors
+    /// `AllocError` when memory runs out.
+    pub fn add(&mut self, piece: Piece) -> Result<(), AllocError>
+        ensures { (answers : List Answer) → AreOf self.old answers
+            → OnOk result (AreOf self.new (answers ++ answers_of piece)) }
+    {
+        self.add_piece(piece)?;
+        Ok(())
+    }
+
     /// Appends the FILE and INLINE_ORIGIN records, and returns the text of the FUNC records with
     /// what is below them.
     ///
     /// # Errors
     /// `AllocError` when memory runs out.
-    pub fn finish(self, output: &mut String) -> Result<String, AllocError> {
+    pub fn finish(self, output: &mut String) -> Result<String, AllocError>
+        ensures numbers { (answers : List Answer) → AreOf self answers
+            → OnOk result (string_bytes output.new ≡ string_bytes output.old
+            ++ numbers_text (symbol_records answers)) }
+        ensures functions { (answers : List Answer) → AreOf self answers
+            → IfOk result (λ text. string_bytes text ≡ functions_text (symbol_records answers)) }
+    {
         let mut records = self;
         records.end_function()?;
         let FunctionRecords {

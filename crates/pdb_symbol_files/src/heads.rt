@@ -1,5 +1,7 @@
 //! The first records of a symbol file: whose it is.
 
+ghost use Rattle.std.specs.Prelude.{◌≡◌};
+
 use crate::texts::told_text;
 use std::alloc::{AllocError, Global};
 

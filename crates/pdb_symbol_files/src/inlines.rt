@@ -1,86 +1,156 @@
-//! INLINE records: inlined calls, over addresses where these and those around them are the same.
+//! INLINE records: inlined calls, over addresses where these and the calls around them are the same.
+
+ghost use Rattle.std.specs.Prelude.{◌≡◌, ◌++◌, ◌∷◌, [], None, IfOk, OnOk, string_bytes};
+ghost use Rattle.std.specs.List.{flat_map};
+ghost use Rattle.std.specs.Option.{option_or, option_to_list};
+ghost use Rattle.pdb_symbol_files.specs.PieceRecords.{begun as begun_by, depth_of as depth_in, ended};
+ghost use Rattle.pdb_symbol_files.specs.PieceRecords.{inline_records, is_key, level_records};
+ghost use Rattle.pdb_symbol_files.specs.PieceRecords.{level_spans, longer, numbers_after};
+ghost use Rattle.pdb_symbol_files.specs.PieceRecords.{numbers_after_inlines, path_in};
+ghost use Rattle.pdb_symbol_files.specs.Records.{inline_record};
+ghost use Rattle.pdb_symbol_files.specs.RecordTexts.{call_text, inline_text, range_text};
+ghost use Rattle.pdb_symbol_files.specs.Spans.{same_calls};
 
 use crate::numbering::Numbering;
-use crate::pieces::{Call, Piece, is_one_path};
+use crate::pieces::{Call, Piece, is_one_call, is_one_path};
 use std::alloc::{AllocError, Global};
+use std::marker::Model;
 
-/// An INLINE record of a level: the last one of these calls, within the others.
-#[derive(Clone, Copy, Debug)]
-pub(crate) struct InlineRecord<'p> {
-    pub(crate) address: u32,
-    pub(crate) size: u32,
-    pub(crate) path: &'p [Call],
+/// An inlined call, and those around it, the outermost one first.
+#[derive(Debug, Drop)]
+pub(crate) struct Path<'p> {
+    pub(crate) outer: &'p [Call],
+    pub(crate) call: &'p Call,
 }
 
-/// The calls of a piece up to a level, if it has one there.
-fn path_of(piece: &Piece, level: usize) -> Option<&[Call]> {
+impl<'p> Model for Path<'p> {
+    ghost use Rattle.pdb_symbol_files.specs.Spans as stretching;
+
+    ghost Value = { stretching.Path };
+
+    ghost view = { λ p. record { outer = p.outer.now; call = p.call.now } };
+}
+
+/// Addresses with one path at a level of calls.
+#[derive(Debug, Drop)]
+pub(crate) struct CallStretch<'p> {
+    pub(crate) start: u32,
+    pub(crate) end: u64,
+    pub(crate) path: Path<'p>,
+}
+
+impl<'p> Model for CallStretch<'p> {
+    ghost use Rattle.pdb_symbol_files.specs.Spans as stretching;
+
+    ghost Value = { stretching.Span stretching.Path };
+
+    ghost view = { λ s. record { start = s.start; end = s.end; key = s.path } };
+}
+
+/// The path of a piece to the call at a level, if there is one.
+fn path_of(piece: &Piece, level: usize) -> Option<Path<'_>>
+    ensures { result ≡ path_in level piece.now }
+{
     let calls = piece.told.calls.as_slice();
     if level < calls.len() {
-        Some(&calls[..level + 1])
+        Some(Path {
+            outer: &calls[..level],
+            call: &calls[level],
+        })
     } else {
         None
     }
 }
 
-/// A record of a piece with these calls, if there are any.
-fn begun<'p>(piece: &Piece, path: Option<&'p [Call]>) -> Option<InlineRecord<'p>> {
+/// Whether two paths are the same.
+fn is_same(a: &Path<'_>, b: &Path<'_>) -> bool
+    ensures { result ≡ same_calls a.now b.now }
+{
+    is_one_call(a.call, b.call) && is_one_path(a.outer, b.outer)
+}
+
+/// Whether a stretch goes on with a path.
+fn goes_on(stretch: &CallStretch<'_>, path: &Option<Path<'_>>) -> bool
+    ensures { result ≡ is_key same_calls (stretch.now).key path.now }
+{
     match path {
-        Some(path) => Some(InlineRecord {
-            address: piece.address,
-            size: piece.size,
+        Some(path) => is_same(&stretch.path, path),
+        None => false,
+    }
+}
+
+/// The stretch of a piece, if it has a path.
+fn begun<'p>(piece: &Piece, path: Option<Path<'p>>) -> Option<CallStretch<'p>>
+    ensures { result ≡ begun_by piece.now path.entry }
+{
+    match path {
+        Some(path) => Some(CallStretch {
+            start: piece.address,
+            end: u64::from(piece.address) + u64::from(piece.size),
             path,
         }),
         None => None,
     }
 }
 
-/// The record that goes on, longer by a piece, if it does.
-fn longer<'p>(
-    open: Option<InlineRecord<'p>>,
+/// The stretch that ends before a piece, if one does, and that which runs after it.
+fn advanced<'p>(
+    running: Option<CallStretch<'p>>,
     piece: &Piece,
-    path: Option<&'p [Call]>,
-) -> Option<InlineRecord<'p>> {
-    match (open, path) {
-        (Some(open), Some(path)) if is_one_path(open.path, path) => Some(InlineRecord {
-            address: open.address,
-            size: open.size.saturating_add(piece.size),
-            path: open.path,
-        }),
-        _ => None,
+    path: Option<Path<'p>>,
+) -> (Option<CallStretch<'p>>, Option<CallStretch<'p>>)
+    ensures ended { option_to_list result.0
+        ≡ ended running.entry (longer same_calls running.entry piece.now path.entry) }
+    ensures next { result.1 ≡ option_or (longer same_calls running.entry piece.now path.entry)
+        (begun_by piece.now path.entry) }
+{
+    let Some(stretch) = running else {
+        return (None, begun(piece, path));
+    };
+    if goes_on(&stretch, &path) {
+        let CallStretch {
+            start,
+            end: _,
+            path,
+        } = stretch;
+        let end = u64::from(piece.address) + u64::from(piece.size);
+        return (None, Some(CallStretch { start, end, path }));
     }
+    (Some(stretch), begun(piece, path))
 }
 
-/// Appends a record, if there is one.
+/// Appends a stretch, if there is one.
 fn push_if_some<'p>(
-    records: &mut Vec<InlineRecord<'p>>,
-    record: Option<InlineRecord<'p>>,
-) -> Result<(), AllocError> {
-    match record {
-        Some(record) => Ok(records.push(record)?),
+    stretches: &mut Vec<CallStretch<'p>>,
+    stretch: Option<CallStretch<'p>>,
+) -> Result<(), AllocError>
+    ensures { OnOk result (stretches.new.items
+        ≡ stretches.old.items ++ option_to_list stretch.entry) }
+{
+    match stretch {
+        Some(stretch) => Ok(stretches.push(stretch)?),
         None => Ok(()),
     }
 }
 
-/// The INLINE records of a level of a function's pieces.
-fn inline_records<'p>(
+/// The stretches of a level of a function's pieces.
+#[tactic(auto, using(crate::proofs::SpanSteps::call_step, crate::proofs::SpanSteps::call_end))]
+fn stretches_of<'p>(
     alloc: Global,
     pieces: &'p [Piece],
     level: usize,
-) -> Result<Vec<InlineRecord<'p>>, AllocError> {
-    let mut records = Vec::new(alloc);
-    let mut open: Option<InlineRecord<'p>> = None;
+) -> Result<Vec<CallStretch<'p>>, AllocError>
+    ensures { IfOk result (λ v. v.items ≡ level_spans level pieces.now) }
+{
+    let mut stretches = Vec::new(alloc);
+    let mut running: Option<CallStretch<'p>> = None;
     for piece in pieces {
-        let path = path_of(piece, level);
-        match longer(open, piece, path) {
-            Some(record) => open = Some(record),
-            None => {
-                push_if_some(&mut records, open)?;
-                open = begun(piece, path);
-            }
-        }
+        let (ended, next) = advanced(running, piece, path_of(piece, level));
+        push_if_some(&mut stretches, ended)?;
+        running = next;
     }
-    push_if_some(&mut records, open)?;
-    Ok(records)
+    push_if_some(&mut stretches, running)?;
+    Ok(stretches)
 }
 
 /// The numbers of files and of inlined functions.
@@ -90,42 +160,82 @@ pub(crate) struct Numbers {
     pub(crate) origins: Numbering,
 }
 
-/// Appends a record of a level.
+impl Model for Numbers {
+    ghost use Rattle.pdb_symbol_files.specs.Records as numbering;
+
+    ghost Value = { numbering.Numbers };
+
+    ghost view = { λ n. record { files = n.files; origins = n.origins } };
+}
+
+/// Appends an INLINE record up to its addresses.
+fn append_call(
+    level: usize,
+    line: u32,
+    file: usize,
+    origin: usize,
+    output: &mut String,
+) -> Result<(), AllocError>
+    ensures { OnOk result (string_bytes output.new ≡ string_bytes output.old
+        ++ call_text level line file origin) }
+{
+    write!(output, "INLINE {level} {line} {file} {origin} ")
+}
+
+/// Appends the addresses of an INLINE record, so many from one on, and the line's end.
+fn append_range(address: u32, size: u64, output: &mut String) -> Result<(), AllocError>
+    ensures { OnOk result (string_bytes output.new ≡ string_bytes output.old
+        ++ range_text address size) }
+{
+    write!(output, "{address:x} {size:x}\n")
+}
+
+/// Appends the record of a stretch of a level.
 fn append_inline(
-    record: &InlineRecord<'_>,
+    stretch: &CallStretch<'_>,
     level: usize,
     numbers: &mut Numbers,
     output: &mut String,
-) -> Result<(), AllocError> {
-    let Some(call) = record.path.last() else {
-        return Ok(());
-    };
+) -> Result<(), AllocError>
+    ensures numbers { OnOk result (numbers.new ≡ numbers_after numbers.old (stretch.now ∷ [])) }
+    ensures text { OnOk result (string_bytes output.new ≡ string_bytes output.old
+        ++ inline_text (inline_record numbers.old level stretch.now)) }
+{
+    let call = stretch.path.call;
     let file = numbers.files.number(call.file.as_str())?;
     let origin = numbers.origins.number(call.callee.as_str())?;
-    let (address, size, line) = (record.address, record.size, call.line);
-    write!(
-        output,
-        "INLINE {level} {line} {file} {origin} {address:x} {size:x}\n"
-    )
+    append_call(level, call.line, file, origin, output)?;
+    let size = stretch.end.saturating_sub(u64::from(stretch.start));
+    append_range(stretch.start, size, output)?;
+    Ok(())
 }
 
 /// Appends the INLINE records of a level.
+#[tactic(auto, using(crate::proofs::InlineSteps::numbers_more, crate::proofs::InlineSteps::text_more, crate::proofs::InlineSteps::numbers_end, crate::proofs::InlineSteps::text_end))]
 fn append_level(
     alloc: Global,
     pieces: &[Piece],
     level: usize,
     numbers: &mut Numbers,
     output: &mut String,
-) -> Result<(), AllocError> {
-    let records = inline_records(alloc, pieces, level)?;
-    for record in records.iter() {
-        append_inline(record, level, numbers, output)?;
+) -> Result<(), AllocError>
+    ensures numbers { OnOk result (numbers.new
+        ≡ numbers_after numbers.old (level_spans level pieces.now)) }
+    ensures text { OnOk result (string_bytes output.new ≡ string_bytes output.old
+        ++ flat_map inline_text (inline_records numbers.old level (level_spans level pieces.now))) }
+{
+    let stretches = stretches_of(alloc, pieces, level)?;
+    for stretch in stretches.iter() {
+        append_inline(stretch, level, numbers, output)?;
     }
     Ok(())
 }
 
 /// How many levels of calls pieces have.
-fn depth_of(pieces: &[Piece]) -> usize {
+#[tactic(auto, using(crate::proofs::InlineSteps::depth_more, crate::proofs::InlineSteps::depth_end))]
+fn levels_of(pieces: &[Piece]) -> usize
+    ensures { result ≡ depth_in pieces.now }
+{
     let mut depth = 0;
     for piece in pieces {
         depth = piece.told.calls.len().max(depth);
@@ -137,13 +247,18 @@ fn depth_of(pieces: &[Piece]) -> usize {
 ///
 /// # Errors
 /// `AllocError` when memory runs out.
+#[tactic(auto, using(crate::proofs::InlineSteps::levels_more, crate::proofs::InlineSteps::levels_text_more, crate::proofs::InlineSteps::levels_end, crate::proofs::InlineSteps::levels_text_end))]
 pub(crate) fn append_inlines(
     alloc: Global,
     pieces: &[Piece],
     numbers: &mut Numbers,
     output: &mut String,
-) -> Result<(), AllocError> {
-    let depth = depth_of(pieces);
+) -> Result<(), AllocError>
+    ensures numbers { OnOk result (numbers.new ≡ numbers_after_inlines numbers.old pieces.now) }
+    ensures text { OnOk result (string_bytes output.new ≡ string_bytes output.old
+        ++ flat_map inline_text (level_records numbers.old 0 (depth_in pieces.now) pieces.now)) }
+{
+    let depth = levels_of(pieces);
     for level in 0..depth {
         append_level(alloc, pieces, level, numbers, output)?;
     }

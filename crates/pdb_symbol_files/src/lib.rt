@@ -4,21 +4,28 @@
 //! | to | call |
 //! |---|---|
 //! | say an answer as a symbol file does | [`told_of`] |
-//! | write the records of a module's functions | [`FunctionRecords`] |
-//! | write the lines before them | [`append_module`], [`append_code_id`] |
+//! | make the records of a module's functions | [`FunctionRecords`] |
+//! | make the lines before them | [`append_module`], [`append_code_id`] |
+//! | write a text | [`SymbolsText::write`], [`write_text`] |
+//!
+//! The laws are [`laws::two_roads`], that looking an address up in the records gives what is told of
+//! it, and [`laws::reads_back`], that the text of records reads as these.
 #![tactic(auto)]
 
 mod functions;
 mod heads;
 mod inlines;
+pub mod laws;
 mod lines;
 mod numbering;
+mod output;
 mod pieces;
 mod texts;
 mod told;
 
 pub use functions::FunctionRecords;
 pub use heads::{append_code_id, append_module};
+pub use output::{SymbolsText, write_text};
 pub use pieces::{Call, Piece, Told};
 pub use texts::told_text;
 pub use told::told_of;

@@ -95,7 +95,7 @@ pub(crate) fn goes_on(before: &Piece, piece: &Piece) -> bool
 }
 
 /// Whether two calls are the same.
-fn is_one_call(a: &Call, b: &Call) -> bool
+pub(crate) fn is_one_call(a: &Call, b: &Call) -> bool
     ensures { result ≡ is_same_call a.now b.now }
 {
     a.line == b.line && a.file.as_str() == b.file.as_str() && a.callee.as_str() == b.callee.as_str()

@@ -1,7 +1,10 @@
 //! Names and files, as a symbol file has them.
 
-ghost use Rattle.std.specs.Prelude.{◌≡◌};
-ghost use Rattle.pdb_symbol_files.specs.Texts.{clean_char as clean_char_of};
+ghost use Rattle.std.specs.Prelude.{◌≡◌, ◌&&◌, ◌==◌, IfOk, option_copied, string_bytes, true};
+ghost use Rattle.std.specs.Str.{chars, encode_utf8_all};
+ghost use Rattle.pdb_symbol_files.specs.Texts.{clean, clean_char as clean_char_of};
+ghost use Rattle.pdb_symbol_files.specs.Texts.{front as front_of, shortened};
+ghost use Rattle.pdb_symbol_files.specs.Texts.{told_text as told_text_of};
 
 use std::alloc::{AllocError, Global};
 
@@ -25,23 +28,36 @@ fn clean_char(leading: bool, character: char) -> char
     }
 }
 
+/// Whether only blanks stand before what follows a character, where they do before it or don't.
+fn still_leading(leading: bool, character: char) -> bool
+    ensures { result ≡ (leading && character == 32) }
+{
+    leading && character == ' '
+}
+
 /// A text without control characters, and without blanks before it: `_` stands for each.
-fn cleaned(alloc: Global, text: &str) -> Result<String, AllocError> {
+fn cleaned(alloc: Global, text: &str) -> Result<String, AllocError>
+    ensures { IfOk result (λ made. string_bytes made
+        ≡ encode_utf8_all (clean true (chars text.now))) }
+{
     let mut made = String::new(alloc);
     let mut leading = true;
     for character in text.chars() {
         made.push(clean_char(leading, character))?;
-        leading = leading && character == ' ';
+        leading = still_leading(leading, character);
     }
     Ok(made)
 }
 
 /// The longest prefix of whole characters that has so many bytes at most.
-fn front(alloc: Global, text: &str, limit: usize) -> Result<String, AllocError> {
+fn front(alloc: Global, text: &str, limit: usize) -> Result<String, AllocError>
+    ensures { IfOk result (λ made. string_bytes made
+        ≡ encode_utf8_all (front_of limit (chars text.now))) }
+{
     let mut made = String::new(alloc);
     for character in text.chars() {
         if limit.saturating_sub(made.len()) < character.len_utf8() {
-            break;
+            return Ok(made);
         }
         made.push(character)?;
     }
@@ -49,7 +65,9 @@ fn front(alloc: Global, text: &str, limit: usize) -> Result<String, AllocError> 
 }
 
 /// A text of at most 65,536 bytes: of a longer one the beginning, and three dots.
-fn short(alloc: Global, text: String) -> Result<String, AllocError> {
+fn short(alloc: Global, text: String) -> Result<String, AllocError>
+    ensures { IfOk result (λ made. string_bytes made ≡ shortened (string_bytes text)) }
+{
     if text.len() <= LONGEST {
         return Ok(text);
     }
@@ -64,7 +82,9 @@ fn short(alloc: Global, text: String) -> Result<String, AllocError> {
 ///
 /// # Errors
 /// `AllocError` when memory runs out.
-pub fn told_text(alloc: Global, text: Option<&str>) -> Result<String, AllocError> {
+pub fn told_text(alloc: Global, text: Option<&str>) -> Result<String, AllocError>
+    ensures { IfOk result (λ told. string_bytes told ≡ told_text_of (option_copied text.entry)) }
+{
     match text {
         Some(text) if !text.is_empty() => {
             let text = cleaned(alloc, text)?;

@@ -1,5 +1,10 @@
 //! What a symbol file says of an answer.
 
+ghost use Rattle.std.specs.Prelude.{◌≡◌, IfOk, string_bytes};
+ghost use Rattle.pdb_symbol_files.specs.Frames.{call_of as call_in, calls_of as calls_in};
+ghost use Rattle.pdb_symbol_files.specs.Frames.{told_of as told_in};
+ghost use Rattle.pdb_symbol_files.specs.Texts.{told_text as told_text_of};
+
 use crate::pieces::{Call, Told};
 use crate::texts::told_text;
 use pdb_functions::Frame;
@@ -7,7 +12,9 @@ use std::alloc::{AllocError, Global};
 use std::borrow::CowStr;
 
 /// The text of a frame's function.
-fn name_of(alloc: Global, frame: &Frame<'_>) -> Result<String, AllocError> {
+fn name_of(alloc: Global, frame: &Frame<'_>) -> Result<String, AllocError>
+    ensures { IfOk result (λ name. string_bytes name ≡ told_text_of (frame.now).function) }
+{
     match &frame.function {
         Some(name) => told_text(alloc, Some(name.as_str())),
         None => told_text(alloc, None),
@@ -15,7 +22,9 @@ fn name_of(alloc: Global, frame: &Frame<'_>) -> Result<String, AllocError> {
 }
 
 /// The text of a frame's source file.
-fn file_of(alloc: Global, frame: &Frame<'_>) -> Result<String, AllocError> {
+fn file_of(alloc: Global, frame: &Frame<'_>) -> Result<String, AllocError>
+    ensures { IfOk result (λ file. string_bytes file ≡ told_text_of (frame.now).file) }
+{
     match &frame.file {
         Some(CowStr::Borrowed(file)) => told_text(alloc, Some(*file)),
         Some(CowStr::Owned(file)) => told_text(alloc, Some(file.as_str())),
@@ -24,7 +33,9 @@ fn file_of(alloc: Global, frame: &Frame<'_>) -> Result<String, AllocError> {
 }
 
 /// The call by which a frame's function called that of another, inlined.
-fn call_of(alloc: Global, caller: &Frame<'_>, callee: &Frame<'_>) -> Result<Call, AllocError> {
+fn call_of(alloc: Global, caller: &Frame<'_>, callee: &Frame<'_>) -> Result<Call, AllocError>
+    ensures { IfOk result (λ call. call ≡ call_in caller.now callee.now) }
+{
     let file = file_of(alloc, caller)?;
     let callee = name_of(alloc, callee)?;
     Ok(Call {
@@ -35,7 +46,10 @@ fn call_of(alloc: Global, caller: &Frame<'_>, callee: &Frame<'_>) -> Result<Call
 }
 
 /// The inlined calls of frames, innermost frame first; the outermost call comes first.
-fn calls_of(alloc: Global, frames: &[Frame<'_>]) -> Result<Vec<Call>, AllocError> {
+#[tactic(auto, using(crate::proofs::FrameSteps::calls_first, crate::proofs::FrameSteps::calls_more, crate::proofs::FrameSteps::calls_end))]
+fn calls_of(alloc: Global, frames: &[Frame<'_>]) -> Result<Vec<Call>, AllocError>
+    ensures { IfOk result (λ calls. calls.items ≡ calls_in frames.now) }
+{
     let mut calls = Vec::new(alloc);
     let mut left = frames.len();
     while 1 < left {
@@ -54,7 +68,9 @@ pub fn told_of(
     alloc: Global,
     start: Option<u32>,
     frames: &[Frame<'_>],
-) -> Result<Option<Told>, AllocError> {
+) -> Result<Option<Told>, AllocError>
+    ensures { IfOk result (λ told. told ≡ told_in start frames.now) }
+{
     let (Some(innermost), Some(outermost)) = (frames.first(), frames.last()) else {
         return Ok(None);
     };

@@ -5,10 +5,11 @@ use crate::image::read_image;
 use crate::loaded::{Loaded, load_bytes, load_views};
 use crate::options::{Options, Target};
 use crate::progress::Progress;
-use crate::writing::{SymbolsText, text_of};
+use crate::writing::{text_of, write_symbols_text};
 use bumpalo::Bump;
 use pdb_image::{Image, PdbIdentity};
 use pdb_loading::read_file;
+use pdb_symbol_files::SymbolsText;
 use std::alloc::{AllocError, Global};
 use std::fs;
 use std::fs::OpenFile;
@@ -60,7 +61,7 @@ fn store_path(
 fn write_fault<T>(outcome: io::Result<T>) -> Result<T, SymbolsFault> {
     match outcome {
         Ok(done) => Ok(done),
-        Err(error) => Err(SymbolsFault::of_write(&error)),
+        Err(error) => Err(SymbolsFault::of_write(error.kind())),
     }
 }
 
@@ -74,7 +75,7 @@ fn write_beside<S: Files + AllocGlobal>(
 ) -> Result<(), SymbolsFault> {
     let beside = format!(in rt.alloc(); "{path}.part")?;
     let mut file = write_fault(fs::create(rt, beside.as_str()))?;
-    let written = text.write(rt.alloc(), demangle, image, &mut file);
+    let written = write_symbols_text(rt.alloc(), text, demangle, image, &mut file);
     drop(file);
     let outcome = match written {
         Ok(()) => write_fault(fs::rename(rt, beside.as_str(), path)),
@@ -97,7 +98,7 @@ fn write_to<S: Files + AllocGlobal, W: Write>(
 ) -> Result<(), SymbolsFault> {
     let demangle = options.demangle;
     match &options.target {
-        Target::Output => text.write(rt.alloc(), demangle, image, output),
+        Target::Output => write_symbols_text(rt.alloc(), text, demangle, image, output),
         Target::File(path) => write_beside(rt, path.as_str(), demangle, text, image),
         Target::Store(store) => {
             let file = options.file.as_str();

@@ -57,8 +57,8 @@ impl SymbolsFault {
     }
 
     /// Why an output couldn't be written.
-    pub fn of_write(error: &io::Error) -> SymbolsFault {
-        match error.kind() {
+    pub fn of_write(kind: ErrorKind) -> SymbolsFault {
+        match kind {
             ErrorKind::OutOfMemory => SymbolsFault::out_of_memory(),
             kind => SymbolsFault::Write(kind),
         }

@@ -2,6 +2,7 @@
 
 use crate::fault::SymbolsFault;
 use pdb_image::{Image, PdbIdentity};
+use pdb_symbol_files::write_text;
 use pdb_unwinding::UnwoundFunctions;
 use std::alloc::Global;
 use std::fs::OpenFile;
@@ -45,10 +46,10 @@ pub fn check_build(image: &Image<'_>, identity: &PdbIdentity) -> Result<(), Symb
 }
 
 /// Writes a text, and empties it.
-fn write_text<W: Write>(text: &mut String, output: &mut W) -> Result<(), SymbolsFault> {
-    match output.write_all(text.as_bytes()) {
+fn write_part<W: Write>(text: &mut String, output: &mut W) -> Result<(), SymbolsFault> {
+    match write_text(text.as_str(), output) {
         Ok(()) => {}
-        Err(error) => return Err(SymbolsFault::of_write(&error)),
+        Err(kind) => return Err(SymbolsFault::of_write(kind)),
     }
     text.clear();
     Ok(())
@@ -67,10 +68,10 @@ fn write_functions<W: Write>(
         };
         function.append_records(&mut text)?;
         if AT_ONCE <= text.len() {
-            write_text(&mut text, output)?;
+            write_part(&mut text, output)?;
         }
     }
-    write_text(&mut text, output)
+    write_part(&mut text, output)
 }
 
 /// Writes how the functions of an image are unwound; nothing of one that isn't x64, or whose

@@ -10,7 +10,9 @@ use crate::progress::Progress;
 use crate::undecorated::append_undecorated;
 use pdb_addr2line::pdb::MachineType;
 use pdb_image::{Image, PdbIdentity};
-use pdb_symbol_files::{FunctionRecords, Piece, append_code_id, append_module};
+use pdb_symbol_files::{
+    FunctionRecords, Piece, SymbolsText, append_code_id, append_module, write_text,
+};
 use std::alloc::Global;
 use std::io::Write;
 use std::os::unix::fs::FileExt;
@@ -100,13 +102,6 @@ fn append_heads(
     Ok(())
 }
 
-/// A text of a symbol file: its head, and the records of its functions.
-#[derive(Drop)]
-pub struct SymbolsText {
-    head: String,
-    functions: String,
-}
-
 /// The text of the records of a database's functions, after that of the records before them.
 ///
 /// # Errors
@@ -144,9 +139,9 @@ const AT_ONCE: usize = 65_536;
 
 /// Writes a text.
 fn write_part<W: Write>(text: &str, output: &mut W) -> Result<(), SymbolsFault> {
-    match output.write_all(text.as_bytes()) {
+    match write_text(text, output) {
         Ok(()) => Ok(()),
-        Err(error) => Err(SymbolsFault::of_write(&error)),
+        Err(kind) => Err(SymbolsFault::of_write(kind)),
     }
 }
 
@@ -167,29 +162,34 @@ fn write_undecorated<W: Write>(
     write_part(text.as_str(), output)
 }
 
-impl SymbolsText {
-    /// Writes the text, with the names of functions undecorated if that is asked for, and after it
-    /// how the functions of an image are unwound.
-    ///
-    /// # Errors
-    /// `Write` where a write failed, or out of memory.
-    pub fn write<W: Write>(
-        &self,
-        alloc: Global,
-        demangle: bool,
-        image: Option<&Image<'_>>,
-        output: &mut W,
-    ) -> Result<(), SymbolsFault> {
-        if demangle {
-            write_undecorated(alloc, self.head.as_str(), output)?;
-            write_undecorated(alloc, self.functions.as_str(), output)?;
-        } else {
-            write_part(self.head.as_str(), output)?;
-            write_part(self.functions.as_str(), output)?;
-        }
-        match image {
-            Some(image) => write_unwinding(alloc, image, output),
-            None => Ok(()),
-        }
+/// Writes a text as it is.
+fn write_plain<W: Write>(text: &SymbolsText, output: &mut W) -> Result<(), SymbolsFault> {
+    match text.write(output) {
+        Ok(()) => Ok(()),
+        Err(kind) => Err(SymbolsFault::of_write(kind)),
+    }
+}
+
+/// Writes a text, with the names of functions undecorated if that is asked for, and after it how
+/// the functions of an image are unwound.
+///
+/// # Errors
+/// `Write` where a write failed, or out of memory.
+pub fn write_symbols_text<W: Write>(
+    alloc: Global,
+    text: &SymbolsText,
+    demangle: bool,
+    image: Option<&Image<'_>>,
+    output: &mut W,
+) -> Result<(), SymbolsFault> {
+    if demangle {
+        write_undecorated(alloc, text.head.as_str(), output)?;
+        write_undecorated(alloc, text.functions.as_str(), output)?;
+    } else {
+        write_plain(text, output)?;
+    }
+    match image {
+        Some(image) => write_unwinding(alloc, image, output),
+        None => Ok(()),
     }
 }

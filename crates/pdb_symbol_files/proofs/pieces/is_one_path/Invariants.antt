@@ -1,4 +1,4 @@
-use Rattle.std.proofs.Common.{◌≡◌, drop, length, ◌≤◌}
+use Rattle.std.proofs.Common.{◌≡◌, drop, length}
 use Rattle.pdb_symbol_files.specs.Told.{same_path}
 use Rattle.pdb_symbol_files.proofs.pieces.is_one_path.Given as goal
 
