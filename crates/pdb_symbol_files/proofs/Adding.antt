@@ -1,14 +1,14 @@
 -- Records, one piece after another.
-use Rattle.std.proofs.Common.{◌≡◌, ℕ, ◌+◌, ◌-◌, ◌<◌, ◌≤◌, List, [], ◌∷◌, ◌++◌, Bool, true, false, cond}
+use Rattle.std.proofs.Common.{◌≡◌, ℕ, ◌-◌, ◌<◌, List, [], ◌∷◌, ◌++◌, Bool, true, false, cond}
 use Rattle.std.proofs.Common.{subst}
 use Rattle.std.proofs.lemmas.Bool.{eqb-true}
 use Rattle.std.proofs.Common.{eqb, length, refl, sym, ◌∙◌, ap, arith, zero, suc}
-use Rattle.std.specs.Prelude.{Option, None, Some, codes, slice_get}
+use Rattle.std.specs.Prelude.{Some, codes, slice_get}
 use Rattle.std.specs.List.{flat_map, fold}
 use Rattle.std.proofs.lemmas.Grind.{flat_map-append}
 use Rattle.std.proofs.lemmas.List.{append_assoc, append-nil}
 use Rattle.pdb_symbol_files.specs.Told.{Answer, Told, Piece, end_of, answers_from, answers_of}
-use Rattle.pdb_symbol_files.specs.Told.{answers_in, continues}
+use Rattle.pdb_symbol_files.specs.Told.{answers_in}
 use Rattle.pdb_symbol_files.specs.Records.{Numbers, FunctionRecord, SymbolRecords, symbol_records}
 use Rattle.pdb_symbol_files.specs.RecordTexts.{function_text, functions_text, head_text}
 use Rattle.pdb_symbol_files.specs.RecordTexts.{inline_text, line_text, numbered_texts, numbers_text}
@@ -16,7 +16,7 @@ use Rattle.pdb_symbol_files.specs.PieceRecords.{added, all_numbers, AllSome, Are
 use Rattle.pdb_symbol_files.specs.PieceRecords.{function_if, function_records, group_record, groups}
 use Rattle.pdb_symbol_files.specs.PieceRecords.{is_more}
 use Rattle.pdb_symbol_files.specs.PieceRecords.{last_of, level_records, line_records, line_spans}
-use Rattle.pdb_symbol_files.specs.PieceRecords.{no_numbers, nothing_yet, numbers_after_function}
+use Rattle.pdb_symbol_files.specs.PieceRecords.{nothing_yet, numbers_after_function}
 use Rattle.pdb_symbol_files.specs.PieceRecords.{numbers_after_inlines, piece_records, SoFar}
 use Rattle.pdb_symbol_files.specs.PieceRecords.{with_piece, without_last}
 use Rattle.pdb_symbol_files.proofs.LastPieces.{last_got}

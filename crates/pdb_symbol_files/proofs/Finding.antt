@@ -1,16 +1,16 @@
 -- Stretches have at each address what its piece has.
-use Rattle.std.proofs.Common.{◌≡◌, ℕ, ◌+◌, ◌<◌, ◌≤◌, List, [], ◌∷◌, ◌++◌, Bool, true, false, cond, leb, ltb}
-use Rattle.std.proofs.Common.{length, refl, sym, ◌∙◌, ap, arith, inl, inr, eqb}
+use Rattle.std.proofs.Common.{◌≡◌, ℕ, ◌<◌, ◌≤◌, List, [], ◌∷◌, ◌++◌, Bool, true, false, cond, leb, ltb}
+use Rattle.std.proofs.Common.{refl, sym, ◌∙◌, ap, arith, inl, inr, eqb}
 use Rattle.std.specs.Prelude.{Option, None, Some, ◌&&◌}
-use Rattle.std.specs.Option.{option_or, option_to_list}
+use Rattle.std.specs.Option.{option_or}
 use Rattle.std.specs.Str.{bytes_eq}
 use Rattle.std.proofs.lemmas.Bool.{le-leb, lt-leb, lt-ltb, le-ltb, ltb-true, eqb-true, and_parts, and_from}
 use Rattle.std.proofs.lemmas.Bool.{and_left, and_right, cases_lt}
 use Rattle.std.proofs.lemmas.Slice.Eq.{bytes_eq-Decides}
 use Rattle.pdb_symbol_files.specs.Lookup.{holds}
-use Rattle.pdb_symbol_files.specs.PieceRecords.{begun, ended, is_key, longer, spans}
+use Rattle.pdb_symbol_files.specs.PieceRecords.{begun, ended, is_key, spans}
 use Rattle.pdb_symbol_files.specs.Spans.{Path, same_calls, same_place, SourcePlace, Span}
-use Rattle.pdb_symbol_files.specs.Told.{Call, end_of, Piece, same_call, same_path, Told}
+use Rattle.pdb_symbol_files.specs.Told.{Call, end_of, Piece, same_call, same_path}
 
 -- ---- an address in a range, or not
 

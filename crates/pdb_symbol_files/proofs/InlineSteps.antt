@@ -1,12 +1,12 @@
 -- The INLINE records of spans and levels, one after the other.
 use Rattle.std.proofs.Common.{◌≡◌, ℕ, ◌+◌, ◌-◌, ◌<◌, ◌≤◌, List, [], ◌∷◌, ◌++◌, length, drop, get_or}
-use Rattle.std.proofs.Common.{refl, sym, ◌∙◌, ap, arith, zero, suc, max}
+use Rattle.std.proofs.Common.{sym, ◌∙◌, ap, arith, suc, max}
 use Rattle.std.specs.List.{flat_map}
 use Rattle.std.proofs.lemmas.Grind.{flat_map-append}
 use Rattle.std.proofs.lemmas.List.{append_assoc, append-nil, drop_all, drop_more}
-use Rattle.pdb_symbol_files.specs.Told.{Piece, Told}
+use Rattle.pdb_symbol_files.specs.Told.{Piece}
 use Rattle.pdb_symbol_files.specs.Spans.{Span, Path}
-use Rattle.pdb_symbol_files.specs.Records.{Numbers, InlineRecord, inline_record}
+use Rattle.pdb_symbol_files.specs.Records.{Numbers, inline_record}
 use Rattle.pdb_symbol_files.specs.PieceRecords.{inline_records, numbers_after, level_spans, depth_of}
 use Rattle.pdb_symbol_files.specs.PieceRecords.{level_records, numbers_after_levels}
 use Rattle.pdb_symbol_files.specs.RecordTexts.{inline_text}

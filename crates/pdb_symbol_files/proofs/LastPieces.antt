@@ -1,6 +1,5 @@
 -- The last of some pieces.
-use Rattle.std.proofs.Common.{◌≡◌, ℕ, ◌-◌, List, [], ◌∷◌, Bool, true, length, refl, sym, ◌∙◌, ap, arith}
-use Rattle.std.proofs.Common.{zero, suc}
+use Rattle.std.proofs.Common.{◌≡◌, ◌-◌, List, [], ◌∷◌, Bool, true, length, refl, ◌∙◌, ap, arith}
 use Rattle.std.specs.Prelude.{Option, None, Some, slice_get}
 use Rattle.pdb_symbol_files.specs.PieceRecords.{is_more, last_of}
 use Rattle.pdb_symbol_files.specs.Told.{continues, Piece}

@@ -1,6 +1,6 @@
 -- INLINE records, level by level.
 use Rattle.std.proofs.Common.{◌≡◌, ℕ, ◌+◌, ◌-◌, ◌<◌, ◌≤◌, List, [], ◌∷◌, ◌++◌, Bool, true, false, cond}
-use Rattle.std.proofs.Common.{leb, ltb, eqb, length, refl, sym, ◌∙◌, ap, subst, arith, inl, inr, zero}
+use Rattle.std.proofs.Common.{leb, ltb, eqb, refl, sym, ◌∙◌, ap, subst, arith, inl, inr, zero}
 use Rattle.std.proofs.Common.{suc}
 use Rattle.std.specs.Prelude.{Option, None, Some, ◌&&◌, ◌⊎◌}
 use Rattle.std.proofs.lemmas.Bool.{le-leb, lt-leb, eq-eqb, ne_eqb, and_left, and_right, cases_lt}
@@ -8,7 +8,7 @@ use Rattle.std.proofs.lemmas.Bool.{cases_eq}
 use Rattle.pdb_symbol_files.specs.Lookup.{held, holds, inline_at, later, nearest, text_at}
 use Rattle.pdb_symbol_files.specs.PieceRecords.{inline_records, level_records, level_spans}
 use Rattle.pdb_symbol_files.specs.PieceRecords.{numbers_after, numbers_after_levels, with_call}
-use Rattle.pdb_symbol_files.specs.Records.{inline_record, InlineRecord, number_of, Numbers, used}
+use Rattle.pdb_symbol_files.specs.Records.{inline_record, InlineRecord, Numbers}
 use Rattle.pdb_symbol_files.specs.Spans.{Path, Span}
 use Rattle.pdb_symbol_files.specs.Told.{Piece}
 use Rattle.pdb_symbol_files.proofs.Finding.{in_range, below_range, after_range, span_at, IsRising}

@@ -1,11 +1,11 @@
 -- The line records of stretches, one after the other.
 use Rattle.std.proofs.Common.{◌≡◌, ℕ, ◌+◌, ◌<◌, ◌≤◌, List, [], ◌∷◌, ◌++◌, length, drop, get_or}
-use Rattle.std.proofs.Common.{refl, sym, ◌∙◌, ap}
+use Rattle.std.proofs.Common.{sym, ◌∙◌, ap}
 use Rattle.std.specs.List.{flat_map}
 use Rattle.std.proofs.lemmas.List.{append_assoc, append-nil, drop_all, drop_more}
 use Rattle.pdb_symbol_files.specs.PieceRecords.{files_after, line_records}
 use Rattle.pdb_symbol_files.specs.RecordTexts.{line_text}
-use Rattle.pdb_symbol_files.specs.Records.{line_record, used}
+use Rattle.pdb_symbol_files.specs.Records.{line_record}
 use Rattle.pdb_symbol_files.specs.Spans.{SourcePlace, Span}
 
 here : (items : List (Span SourcePlace)) (i : ℕ) (s : Span SourcePlace) → i < length items

@@ -1,9 +1,8 @@
 -- Numbers of texts, by what stores these.
-use Rattle.std.proofs.Common.{◌≡◌, ℕ, ◌+◌, ◌<◌, List, [], ◌∷◌, ◌++◌, Bool, true, false, cond, length, map, drop, ◌≤◌}
+use Rattle.std.proofs.Common.{◌≡◌, ℕ, ◌+◌, List, [], ◌∷◌, ◌++◌, Bool, true, false, cond, length, map, drop, ◌≤◌}
 use Rattle.std.proofs.Common.{refl, sym, ◌∙◌, ap, arith, not, ltb, zero, suc}
-use Rattle.std.specs.Prelude.{Option, None, Some, ◌||◌, codes, slice_get}
-use Rattle.std.specs.Fmt.{decimal}
-use Rattle.std.specs.List.{list_any, position, position_or_len, prefix_len}
+use Rattle.std.specs.Prelude.{None, Some, ◌||◌, slice_get}
+use Rattle.std.specs.List.{list_any, position, position_or_len}
 use Rattle.std.specs.Str.{bytes_eq}
 use Rattle.std.proofs.lemmas.List.{append-nil, append_assoc, drop_all, map-append}
 use Rattle.pdb_symbol_files.specs.RecordTexts.{numbered_text, numbered_texts}

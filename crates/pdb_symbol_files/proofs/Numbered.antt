@@ -1,8 +1,8 @@
 -- Numbers of texts lead back to the texts, and line records to places.
-use Rattle.std.proofs.Common.{◌≡◌, ℕ, ◌+◌, ◌-◌, ◌<◌, ◌≤◌, List, [], ◌∷◌, ◌++◌, Bool, true, false, cond}
-use Rattle.std.proofs.Common.{leb, ltb, length, refl, sym, ◌∙◌, ap, arith, inl, inr, not, zero, suc}
+use Rattle.std.proofs.Common.{◌≡◌, ℕ, ◌+◌, ◌-◌, List, [], ◌∷◌, ◌++◌, Bool, true, false, cond}
+use Rattle.std.proofs.Common.{leb, ltb, refl, sym, ◌∙◌, ap, arith, inl, inr, not, suc}
 use Rattle.std.specs.Prelude.{Option, None, Some, ◌&&◌, ◌||◌, codes, slice_get, unwrap_or}
-use Rattle.std.specs.List.{list_any, position_or_len}
+use Rattle.std.specs.List.{list_any}
 use Rattle.std.specs.Str.{bytes_eq}
 use Rattle.std.proofs.lemmas.Bool.{cases_lt}
 use Rattle.std.proofs.lemmas.List.{append_assoc, append-nil}

@@ -1,9 +1,8 @@
 -- Names and files have no control character.
-use Rattle.std.proofs.Common.{◌≡◌, ℕ, ◌+◌, ◌-◌, ◌*◌, ◌/◌, ◌%◌, ◌<◌, ◌≤◌, List, [], ◌∷◌, ◌++◌, Bool}
-use Rattle.std.proofs.Common.{true, false, cond, eqb, leb, ltb, length, refl, sym, ◌∙◌, ap, arith, subst}
+use Rattle.std.proofs.Common.{◌≡◌, ℕ, ◌-◌, ◌≤◌, List, [], ◌∷◌, ◌++◌, Bool}
+use Rattle.std.proofs.Common.{true, false, cond, eqb, leb, ltb, length, refl, sym, arith, subst}
 use Rattle.std.specs.Prelude.{◌&&◌, ◌||◌, codes}
 use Rattle.std.specs.Char.{encode_utf8, IsScalar}
-use Rattle.std.specs.List.{AllByRecursion}
 use Rattle.std.specs.Str.{all_scalars, chars, encode_utf8_all, IsUtf8}
 use lib.Utf8.{scalar}
 use Rattle.std.proofs.lemmas.Bool.{and_from, and_parts}

@@ -1,9 +1,9 @@
 -- The text of records reads as these records.
 use Rattle.std.proofs.Common.{◌≡◌, ℕ, ◌+◌, ◌^◌, ◌<◌, ◌≤◌, List, [], ◌∷◌, ◌++◌, Bool, true, false, cond}
-use Rattle.std.proofs.Common.{eqb, length, refl, sym, ◌∙◌, ap, subst, arith, zero, suc}
+use Rattle.std.proofs.Common.{eqb, length, refl, sym, ◌∙◌, ap, subst, arith}
 use Rattle.std.specs.Prelude.{codes, ◌||◌}
 use Rattle.std.specs.List.{AllByRecursion, flat_map}
-use Rattle.std.specs.Fmt.{decimal, digits}
+use Rattle.std.specs.Fmt.{decimal}
 use Rattle.std.specs.Char.{digit_value}
 use Rattle.std.specs.Str.{bytes_eq}
 use Rattle.std.specs.Str.Parse.{AllDigits, IsNumeral, digits_value}
@@ -11,7 +11,7 @@ use Rattle.std.proofs.lemmas.Bool.{ne_eqb}
 use Rattle.std.proofs.lemmas.Fmt.{decimal_is_IsNumeral, digits_is_IsNumeral}
 use Rattle.std.proofs.lemmas.List.{append_assoc, append-nil}
 use Rattle.std.proofs.lemmas.Slice.Eq.{bytes_eq-Decides}
-use Rattle.pdb_symbol_files.specs.Records.{FunctionRecord, InlineRecord, LineRecord, Numbers}
+use Rattle.pdb_symbol_files.specs.Records.{FunctionRecord, InlineRecord, LineRecord}
 use Rattle.pdb_symbol_files.specs.Records.{SymbolRecords}
 use Rattle.pdb_symbol_files.specs.RecordTexts.{function_text, functions_text, head_text, hexadecimal}
 use Rattle.pdb_symbol_files.specs.RecordTexts.{inline_text, line_text, numbered_text, numbered_texts}

@@ -1,10 +1,10 @@
 -- The functions of pieces are those of their addresses, and so are the records.
-use Rattle.std.proofs.Common.{◌≡◌, ℕ, ◌+◌, ◌-◌, ◌<◌, ◌≤◌, List, [], ◌∷◌, ◌++◌, Bool, true, false, cond}
+use Rattle.std.proofs.Common.{◌≡◌, ℕ, ◌+◌, ◌<◌, ◌≤◌, List, [], ◌∷◌, ◌++◌, Bool, true, false, cond}
 use Rattle.std.proofs.Common.{◌≢◌, subst}
-use Rattle.std.proofs.Common.{eqb, leb, ltb, length, refl, sym, ◌∙◌, ap, arith, zero, suc, map, inl, inr}
+use Rattle.std.proofs.Common.{eqb, refl, sym, ◌∙◌, ap, arith, zero, suc, map, inl, inr}
 use Rattle.std.specs.Prelude.{◌&&◌}
 use Rattle.std.specs.List.{flat_map}
-use Rattle.std.proofs.lemmas.Bool.{and_from, and_right, eq-eqb, ne_eqb, cases_lt, cases_eq}
+use Rattle.std.proofs.lemmas.Bool.{and_from, eq-eqb, ne_eqb, cases_lt, cases_eq}
 use Rattle.std.proofs.lemmas.Grind.{flat_map-append}
 use Rattle.std.proofs.lemmas.List.{append_assoc, append-nil}
 use Rattle.pdb_symbol_files.specs.Lookup.{Shown, shown, holds, told_at, lookup, HasTwoRoads}
@@ -13,9 +13,9 @@ use Rattle.pdb_symbol_files.specs.Told.{Answer, Told, Piece, end_of, answers_fro
 use Rattle.pdb_symbol_files.specs.Told.{answers_in, continues, same_function}
 use Rattle.pdb_symbol_files.specs.Stretches.{Stretch, stretches, with_first, members}
 use Rattle.pdb_symbol_files.specs.Records.{Numbers, FunctionRecord, function_record, one_function}
-use Rattle.pdb_symbol_files.specs.Records.{files_in, origins_in, numbers_of, records_of, SymbolRecords}
+use Rattle.pdb_symbol_files.specs.Records.{files_in, origins_in, records_of, SymbolRecords}
 use Rattle.pdb_symbol_files.specs.Records.{symbol_records}
-use Rattle.pdb_symbol_files.specs.PieceRecords.{all_numbers, function_records, group_record, groups}
+use Rattle.pdb_symbol_files.specs.PieceRecords.{all_numbers, function_records, groups}
 use Rattle.pdb_symbol_files.specs.PieceRecords.{last_of, no_numbers, numbers_after_function}
 use Rattle.pdb_symbol_files.specs.PieceRecords.{AllSome, piece_records}
 use Rattle.pdb_symbol_files.proofs.Finding.{IsChain, in_range, below_range, after_range}

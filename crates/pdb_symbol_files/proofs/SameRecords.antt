@@ -1,37 +1,32 @@
 -- The records of pieces are those of their addresses.
-use Rattle.std.proofs.Common.{◌≡◌, ℕ, ◌+◌, ◌-◌, ◌<◌, ◌≤◌, List, [], ◌∷◌, ◌++◌, Bool, true, false, cond}
+use Rattle.std.proofs.Common.{◌≡◌, ℕ, ◌+◌, ◌-◌, ◌<◌, List, [], ◌∷◌, ◌++◌, Bool, true, false, cond}
 use Rattle.std.proofs.Common.{eqb, length, refl, sym, ◌∙◌, ap, arith, zero, suc, map, not, max}
 use Rattle.std.specs.Prelude.{Option, None, Some, ◌&&◌, ◌||◌, nat_eq}
-use Rattle.std.specs.List.{flat_map, fold, list_any, position_or_len}
+use Rattle.std.specs.List.{flat_map, list_any}
 use Rattle.std.specs.Option.{option_eq}
 use Rattle.std.specs.Str.{bytes_eq}
-use Rattle.std.proofs.lemmas.Bool.{and_parts, and_from, eqb-true, eq-eqb}
-use Rattle.std.proofs.lemmas.Grind.{flat_map-append}
-use Rattle.std.proofs.lemmas.List.{append_assoc, append-nil, map-append}
+use Rattle.std.proofs.lemmas.Bool.{and_from, eq-eqb}
+use Rattle.std.proofs.lemmas.List.{append-nil}
 use Rattle.std.proofs.lemmas.Slice.Eq.{bytes_eq-Decides}
-use Rattle.pdb_symbol_files.specs.Told.{Answer, Call, Told, Piece, end_of, answers_from, answers_of}
-use Rattle.pdb_symbol_files.specs.Told.{answers_in, same_call, same_path, same_function, continues}
-use Rattle.pdb_symbol_files.specs.Stretches.{Stretch, stretches, with_first, size_of, members}
+use Rattle.pdb_symbol_files.specs.Told.{Answer, Call, Told, Piece, end_of, answers_from}
+use Rattle.pdb_symbol_files.specs.Told.{answers_in, same_call, same_path, same_function}
+use Rattle.pdb_symbol_files.specs.Stretches.{Stretch, size_of, members}
 use Rattle.pdb_symbol_files.specs.Spans.{Span, SourcePlace, Path, same_place, same_calls, place_of}
-use Rattle.pdb_symbol_files.specs.Spans.{path_at, spans_of, is_next}
+use Rattle.pdb_symbol_files.specs.Spans.{path_at, spans_of}
 use Rattle.pdb_symbol_files.specs.Records.{used, distinct_after, number_of, Numbers, LineRecord}
 use Rattle.pdb_symbol_files.specs.Records.{line_record, InlineRecord, inline_record, FunctionRecord}
-use Rattle.pdb_symbol_files.specs.Records.{one_function, levels_in, levels_from, call_levels, places}
-use Rattle.pdb_symbol_files.specs.Records.{calls, function_record, files_in, origins_in, numbers_of}
-use Rattle.pdb_symbol_files.specs.Records.{symbol_records}
-use Rattle.pdb_symbol_files.specs.Lookup.{HasTwoRoads, IsAscending}
-use Rattle.pdb_symbol_files.specs.PieceRecords.{spans, place_in, path_in, level_spans, line_spans}
-use Rattle.pdb_symbol_files.specs.PieceRecords.{no_numbers, line_records, files_after, with_call}
+use Rattle.pdb_symbol_files.specs.Records.{levels_in, levels_from}
+use Rattle.pdb_symbol_files.specs.Records.{function_record, files_in, origins_in}
+use Rattle.pdb_symbol_files.specs.PieceRecords.{level_spans, line_spans}
+use Rattle.pdb_symbol_files.specs.PieceRecords.{line_records, files_after, with_call}
 use Rattle.pdb_symbol_files.specs.PieceRecords.{inline_records, numbers_after, level_records}
 use Rattle.pdb_symbol_files.specs.PieceRecords.{numbers_after_levels, depth_of, last_of, end_after}
-use Rattle.pdb_symbol_files.specs.PieceRecords.{numbers_after_inlines, group_record, function_if}
-use Rattle.pdb_symbol_files.specs.PieceRecords.{numbers_after_function, is_more, groups}
-use Rattle.pdb_symbol_files.specs.PieceRecords.{function_records, all_numbers, piece_records}
-use Rattle.pdb_symbol_files.proofs.Finding.{IsChain, place_equal, calls_equal, text_equal}
+use Rattle.pdb_symbol_files.specs.PieceRecords.{numbers_after_inlines, group_record}
+use Rattle.pdb_symbol_files.specs.PieceRecords.{numbers_after_function}
+use Rattle.pdb_symbol_files.proofs.Finding.{IsChain, place_equal, calls_equal}
 use Rattle.pdb_symbol_files.proofs.Numbered.{Begins, begins_on, begins_files}
-use Rattle.pdb_symbol_files.proofs.Levels.{Extends, extends_itself, extends_on, extends_after}
+use Rattle.pdb_symbol_files.proofs.Levels.{Extends, extends_on, extends_after}
 use Rattle.pdb_symbol_files.proofs.Levels.{extends_levels}
-use Rattle.pdb_symbol_files.proofs.TwoRoads.{extends_function, extends_all}
 use Rattle.pdb_symbol_files.proofs.SameSpans.{same_spans}
 
 -- ---- what is equal is the same

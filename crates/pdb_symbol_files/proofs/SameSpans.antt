@@ -1,16 +1,16 @@
 -- The spans of pieces are those of their addresses.
 use Rattle.std.proofs.Common.{◌≡◌, ℕ, ◌+◌, ◌-◌, ◌<◌, ◌≤◌, List, [], ◌∷◌, ◌++◌, Bool, true, false, cond}
-use Rattle.std.proofs.Common.{eqb, length, refl, sym, ◌∙◌, ap, subst, arith, zero, suc, map}
+use Rattle.std.proofs.Common.{eqb, length, refl, sym, ◌∙◌, ap, arith, zero, suc, map}
 use Rattle.std.specs.Prelude.{Option, None, Some, ◌&&◌}
 use Rattle.std.specs.List.{flat_map}
 use Rattle.std.specs.Option.{option_eq, option_or, option_to_list}
-use Rattle.std.proofs.lemmas.Bool.{and_parts, and_from, and_left, and_right, eqb-true, eq-eqb}
+use Rattle.std.proofs.lemmas.Bool.{and_parts, and_from, eqb-true, eq-eqb}
 use Rattle.std.proofs.lemmas.List.{append-nil}
 use Rattle.pdb_symbol_files.specs.Told.{Answer, Told, Piece, end_of, answers_from, answers_of}
 use Rattle.pdb_symbol_files.specs.Told.{answers_in}
 use Rattle.pdb_symbol_files.specs.Stretches.{Stretch, stretches, with_first, size_of, members}
 use Rattle.pdb_symbol_files.specs.Spans.{Span, same_known, span_if, spans_of, is_next}
-use Rattle.pdb_symbol_files.specs.PieceRecords.{begun, is_key, longer, ended, spans}
+use Rattle.pdb_symbol_files.specs.PieceRecords.{begun, longer, ended, spans}
 use Rattle.pdb_symbol_files.proofs.Finding.{IsChain}
 
 -- ---- spans of which something is known, or nothing

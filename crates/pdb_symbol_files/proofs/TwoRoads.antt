@@ -1,5 +1,5 @@
 -- A consumer's frames, by the records of pieces, are what is told.
-use Rattle.std.proofs.Common.{◌≡◌, ℕ, ◌+◌, ◌-◌, ◌<◌, ◌≤◌, List, [], ◌∷◌, ◌++◌, Bool, true, false, cond}
+use Rattle.std.proofs.Common.{◌≡◌, ℕ, ◌+◌, ◌<◌, ◌≤◌, List, [], ◌∷◌, ◌++◌, Bool, true, false, cond}
 use Rattle.std.proofs.Common.{leb, ltb, eqb, length, refl, sym, ◌∙◌, ap, subst, arith, inl, inr, zero}
 use Rattle.std.proofs.Common.{suc, drop, max}
 use Rattle.std.specs.Prelude.{Option, None, Some, ◌&&◌, ◌⊎◌, codes, slice_get, take}
@@ -12,20 +12,19 @@ use Rattle.std.proofs.lemmas.Option.{slice_get_past}
 use Rattle.pdb_symbol_files.specs.Lookup.{caller, frames_in, function_at, held, holds, inline_at}
 use Rattle.pdb_symbol_files.specs.Lookup.{innermost, later, levels_of, line_at, lookup, nearest}
 use Rattle.pdb_symbol_files.specs.Lookup.{Shown, shown, shown_over, text_at, walk, walk_on}
-use Rattle.pdb_symbol_files.specs.PieceRecords.{all_numbers, depth_of, end_after, files_after}
-use Rattle.pdb_symbol_files.specs.PieceRecords.{function_records, group_record, groups, is_more}
-use Rattle.pdb_symbol_files.specs.PieceRecords.{last_of, level_records, level_spans, line_spans}
+use Rattle.pdb_symbol_files.specs.PieceRecords.{all_numbers, depth_of, files_after}
+use Rattle.pdb_symbol_files.specs.PieceRecords.{function_records, group_record, groups}
+use Rattle.pdb_symbol_files.specs.PieceRecords.{last_of, level_spans, line_spans}
 use Rattle.pdb_symbol_files.specs.PieceRecords.{no_numbers, numbers_after_function}
 use Rattle.pdb_symbol_files.specs.PieceRecords.{numbers_after_inlines, path_in, piece_records}
 use Rattle.pdb_symbol_files.specs.PieceRecords.{place_in}
-use Rattle.pdb_symbol_files.specs.Records.{FunctionRecord, InlineRecord, LineRecord, Numbers}
-use Rattle.pdb_symbol_files.specs.Spans.{Path, path_of, path_to, place_of, same_calls, same_place}
-use Rattle.pdb_symbol_files.specs.Spans.{SourcePlace}
+use Rattle.pdb_symbol_files.specs.Records.{FunctionRecord, InlineRecord, Numbers}
+use Rattle.pdb_symbol_files.specs.Spans.{Path, path_of, path_to, same_calls, same_place}
 use Rattle.pdb_symbol_files.specs.Told.{Call, continues, end_of, Piece, same_function, Told}
 use Rattle.pdb_symbol_files.proofs.Finding.{in_range, below_range, after_range, IsChain, known_at}
 use Rattle.pdb_symbol_files.proofs.Finding.{span_at, finds, rises, IsRising, text_equal}
 use Rattle.pdb_symbol_files.proofs.Finding.{place_equal, calls_equal}
-use Rattle.pdb_symbol_files.proofs.Numbered.{Begins, begins_on, begins_files, range_same, placed}
+use Rattle.pdb_symbol_files.proofs.Numbered.{begins_on, begins_files, range_same, placed}
 use Rattle.pdb_symbol_files.proofs.Numbered.{line_found}
 use Rattle.pdb_symbol_files.proofs.Levels.{Extends, extends_itself, extends_on, extends_levels, Says}
 use Rattle.pdb_symbol_files.proofs.Levels.{others_none, levels_found}

@@ -1,6 +1,6 @@
 -- What several writes put out.
-use Rattle.std.proofs.Common.{◌≡◌, ℕ, ◌-◌, List, [], ◌++◌, sym, ap, ◌∙◌, append_assoc, append-nil, length}
-use Rattle.std.proofs.Common.{take, drop, take-append-drop, length-drop, take_all, arith, refl}
+use Rattle.std.proofs.Common.{◌≡◌, ℕ, ◌-◌, List, ◌++◌, sym, ap, ◌∙◌, append_assoc, length}
+use Rattle.std.proofs.Common.{take, drop, take-append-drop, length-drop, take_all, arith}
 use Rattle.std.specs.Prelude.{Option, Result, Ok, Err, OnErr}
 use Rattle.std.specs.Io.KnownBytes.{Appends}
 use Rattle.std.proofs.KnownBytes.{Appends-trans}

@@ -1,5 +1,5 @@
 -- How a consumer of symbol files looks an address up, and the law of two roads.
-use Rattle.std.specs.Prelude.{◌≡◌, ℕ, ◌+◌, ◌<◌, ◌≤◌, ◌++◌, ◌&&◌, ◌==◌, Bool, nat_lt, nat_le, List, []}
+use Rattle.std.specs.Prelude.{◌≡◌, ℕ, ◌+◌, ◌≤◌, ◌++◌, ◌&&◌, ◌==◌, Bool, nat_lt, nat_le, List, []}
 use Rattle.std.specs.Prelude.{◌∷◌, if◌then◌else◌, Option, None, Some, codes, max, slice_get}
 use Rattle.std.specs.Prelude.{unwrap_or, zero, suc}
 use Rattle.pdb_symbol_files.specs.Told.{Answer, Call, Told}

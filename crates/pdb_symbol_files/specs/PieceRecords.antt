@@ -4,7 +4,7 @@ use Rattle.std.specs.Prelude.{◌≡◌, ◌==◌, ◌<◌, ℕ, ◌-◌, ◌++�
 use Rattle.std.specs.Prelude.{if◌then◌else◌, Option, None, Some, zero, suc}
 use Rattle.std.specs.List.{flat_map, fold}
 use Rattle.std.specs.Option.{option_or, option_to_list}
-use Rattle.pdb_symbol_files.specs.Told.{Answer, answers_in, Call, Told, Piece, continues, end_of}
+use Rattle.pdb_symbol_files.specs.Told.{Answer, answers_in, Call, Piece, continues, end_of}
 use Rattle.pdb_symbol_files.specs.Spans.{Span, SourcePlace, same_place, place_of, Path, path_of}
 use Rattle.pdb_symbol_files.specs.Spans.{same_calls}
 use Rattle.pdb_symbol_files.specs.Records.{used, Numbers, LineRecord, line_record, InlineRecord}

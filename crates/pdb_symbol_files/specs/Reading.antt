@@ -4,7 +4,7 @@ use Rattle.std.specs.Prelude.{codes, if◌then◌else◌, length, zero, suc}
 use Rattle.std.specs.List.{AllByRecursion}
 use Rattle.std.specs.Str.{bytes_eq}
 use Rattle.std.specs.Str.Parse.{digits_value}
-use Rattle.pdb_symbol_files.specs.Records.{FunctionRecord, InlineRecord, LineRecord, Numbers}
+use Rattle.pdb_symbol_files.specs.Records.{FunctionRecord, InlineRecord, LineRecord}
 use Rattle.pdb_symbol_files.specs.Records.{SymbolRecords}
 use Rattle.pdb_symbol_files.specs.RecordTexts.{functions_text, numbers_text}
 

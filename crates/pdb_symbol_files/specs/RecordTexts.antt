@@ -1,5 +1,5 @@
 -- The text of a symbol file's records.
-use Rattle.std.specs.Prelude.{ℕ, ◌+◌, ◌++◌, false, true, List, [], ◌∷◌, codes}
+use Rattle.std.specs.Prelude.{ℕ, ◌+◌, ◌++◌, false, List, [], ◌∷◌, codes}
 use Rattle.std.specs.Fmt.{decimal, digits}
 use Rattle.std.specs.List.{flat_map}
 use Rattle.pdb_symbol_files.specs.Records.{LineRecord, InlineRecord, FunctionRecord, SymbolRecords}

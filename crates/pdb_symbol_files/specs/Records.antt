@@ -3,7 +3,7 @@ use Rattle.std.specs.Prelude.{ℕ, ◌-◌, ◌++◌, ◌&&◌, Bool, List, [], 
 use Rattle.std.specs.Prelude.{if◌then◌else◌, zero, suc}
 use Rattle.std.specs.List.{flat_map, fold, list_any, position_or_len}
 use Rattle.std.specs.Str.{bytes_eq}
-use Rattle.pdb_symbol_files.specs.Told.{Answer, Told, same_function}
+use Rattle.pdb_symbol_files.specs.Told.{Answer, same_function}
 use Rattle.pdb_symbol_files.specs.Stretches.{Stretch, stretches, members, size_of}
 use Rattle.pdb_symbol_files.specs.Spans.{Span, SourcePlace, spans_of, is_next, same_place, place_of}
 use Rattle.pdb_symbol_files.specs.Spans.{Path, path_at, same_calls}

@@ -5,7 +5,7 @@ use Rattle.std.specs.List.{flat_map}
 use Rattle.std.specs.Option.{option_eq}
 use Rattle.std.specs.Str.{bytes_eq}
 use Rattle.pdb_symbol_files.specs.Told.{Answer, Call, Told, same_call, same_path}
-use Rattle.pdb_symbol_files.specs.Stretches.{Stretch, stretches, size_of}
+use Rattle.pdb_symbol_files.specs.Stretches.{stretches, size_of}
 
 -- addresses of which something is the same: the first one, that after the last one, and what
 pub record Span (K : Type 0) : Type 0 where
