@@ -72,6 +72,20 @@ kept_now own slots n known kept empty is =
     let lt = slice_get_within slots n None empty in
     record { each = each_now own slots n known kept lt is; past = λ k le. kept.past k (omega (arith, length-set slots n (Some known))) }
 
+each_but : (own : ℕ → Option ModuleData) (slots : Slots) (n : ℕ) → AreKept own slots → n < length slots
+    → (k : ℕ) (other : Option ModuleData) → slice_get (slice_set slots n None) k ≡ Some (Some other) → other ≡ own k
+each_but own slots n kept lt k other e = elim (eqb_tells k n) [
+  | inl same ↦
+      let at : slice_get (slice_set slots n None) k ≡ slice_get (slice_set slots n None) n = ap (slice_get (slice_set slots n None)) (same.1) in
+      let now = set_same slots n None lt in
+      absurd (cc)
+  | inr apart ↦ kept.each k other (sym (set_other slots n k None (apart.1)) ∙ e)
+]
+
+-- what is cached is each module's own, still, where one is forgotten
+pub one_forgotten : (own : ℕ → Option ModuleData) (slots : Slots) (n : ℕ) → AreKept own slots → n < length slots → AreKept own (slice_set slots n None)
+one_forgotten own slots n kept lt = record { each = each_but own slots n kept lt; past = λ k le. kept.past k (omega (arith, length-set slots n None)) }
+
 abbrev empty_place : Option (Option ModuleData)
 empty_place = None
 

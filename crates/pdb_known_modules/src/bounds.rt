@@ -79,7 +79,7 @@ fn contribution_numbers_of(
 ) -> Result<Vec<u64>, AllocError>
     ensures { IfOk result (λ v. v.items ≡ flat_map contribution_numbers contributions.now) }
 {
-    let mut numbers = Vec::new(alloc);
+    let mut numbers = Vec::with_capacity(alloc, contributions.len().saturating_mul(2))?;
     for contribution in contributions {
         let start = u64::from(contribution.start_offset());
         let end = u64::from(contribution.end_offset());
@@ -117,7 +117,7 @@ fn push_procedure(numbers: &mut Vec<u64>, procedure: &Procedure<'_>) -> Result<(
 fn procedure_numbers_of(alloc: Global, procedures: &[Procedure<'_>]) -> Result<Vec<u64>, AllocError>
     ensures { IfOk result (λ v. v.items ≡ flat_map procedure_numbers procedures.now) }
 {
-    let mut numbers = Vec::new(alloc);
+    let mut numbers = Vec::with_capacity(alloc, procedures.len().saturating_mul(2))?;
     for procedure in procedures {
         push_procedure(&mut numbers, procedure)?;
     }

@@ -1,14 +1,14 @@
 //! What is cached of modules that were asked for; past what a meter allows it is forgotten.
 
-ghost use Rattle.std.specs.Prelude.{◌≡◌, ℕ, IfOk, length, Option, option_copied, replicate, None};
-ghost use Rattle.std.specs.Prelude.{slice_get};
+ghost use Rattle.std.specs.Prelude.{◌≡◌, ◌<◌, ℕ, IfOk, length, Option, option_copied, replicate};
+ghost use Rattle.std.specs.Prelude.{None, slice_get, slice_set};
 ghost use Rattle.pdb_known_modules.specs.CachedModules.{AreKept, known_in};
 ghost use Rattle.pdb_known_modules.specs.CachedModules.{is_empty as is_empty_slot};
 ghost use Rattle.pdb_known_modules.specs.KnownModules.{ModuleData, module_data, own_of};
 
 use crate::meter::Meter;
 use crate::modules::{BasicModuleInfo, get_basic_module_info};
-use crate::slots::empty_slots;
+use crate::slots::{empty_all, empty_slots};
 use pdb_addresses::PdbInternalSectionOffset;
 use pdb_resolving::{ModuleProvider, ModuleTables};
 use pdb_symbols_modules::Module;
@@ -24,6 +24,10 @@ type KeptModule<'a, I> = Option<Option<BasicModuleInfo<'a, I>>>;
 pub struct CachedModules<'a, I: ModuleTables> {
     slots: Vec<KeptModule<'a, I>>,
     meter: Meter,
+    /// The index of the module that was asked for last; that of none before the first question.
+    last: usize,
+    /// For each module, whether another one was asked for after it.
+    left: Vec<bool>,
 }
 
 impl<'a, I: ModuleTables> Model for CachedModules<'a, I> {
@@ -37,9 +41,15 @@ impl<'a, I: ModuleTables> Model for CachedModules<'a, I> {
 
 impl<'a, I: ModuleTables> Drop for CachedModules<'a, I> {
     fn drop(self) {
-        let CachedModules { slots, meter } = self;
+        let CachedModules {
+            slots,
+            meter,
+            last: _,
+            left,
+        } = self;
         drop(slots);
         drop(meter);
+        drop(left);
     }
 }
 
@@ -59,16 +69,9 @@ pub fn nothing_cached<'a, I: ModuleTables>(
     Ok(CachedModules {
         slots,
         meter: Meter::new(alloc, database_size),
+        last: count,
+        left: vec![in alloc; false; count]?,
     })
-}
-
-/// Empties all slots.
-fn empty_all<'a, I: ModuleTables>(slots: &mut [KeptModule<'a, I>])
-    ensures { slots.new ≡ replicate (length slots.old) None }
-{
-    for slot in 0..slots.len() {
-        slots[slot] = None;
-    }
 }
 
 /// Forgets what is cached: all slots are as empty as before the first question.
@@ -86,6 +89,78 @@ fn forget_if_full<'a, I: ModuleTables>(cached: &mut CachedModules<'a, I>)
 {
     if cached.meter.is_full() {
         forget(cached);
+    }
+}
+
+/// About how many bytes are cached of a module, and how many of them of its procedures.
+fn sizes_at<'a, I: ModuleTables>(place: &KeptModule<'a, I>) -> (u64, u64) {
+    match place {
+        Some(Some(known)) => (known.cached_size(), known.procedures_size()),
+        _ => (0, 0),
+    }
+}
+
+/// Forgets the module with that index.
+fn forget_module<'a, I: ModuleTables>(cached: &mut CachedModules<'a, I>, number: usize)
+    requires { number < length cached.old }
+    ensures { cached.new ≡ slice_set cached.old number None }
+{
+    let (bytes, procedures) = sizes_at(&cached.slots[number]);
+    cached.slots[number] = None;
+    cached.meter.give_back(bytes, procedures);
+}
+
+/// Forgets what is cached of the procedures of a module, if its data are cached there. Returns about
+/// how many bytes that took.
+fn forget_procedures_at<'a, I: ModuleTables>(place: &mut KeptModule<'a, I>) -> u64
+    ensures { place.new ≡ place.old }
+{
+    match place {
+        Some(Some(known)) => known.forget_procedures(),
+        _ => 0,
+    }
+}
+
+/// Forgets what is cached of the procedures of the module with that index.
+fn forget_procedures<'a, I: ModuleTables>(cached: &mut CachedModules<'a, I>, number: usize)
+    requires { number < length cached.old }
+    ensures { cached.new ≡ cached.old }
+{
+    let bytes = forget_procedures_at(&mut cached.slots[number]);
+    cached.meter.give_back(bytes, bytes);
+}
+
+/// Notes that another module is asked for after the one with that index. Returns whether that wasn't
+/// noted before.
+fn note_left(left: &mut Vec<bool>, number: usize) -> bool {
+    match left.get_mut(number) {
+        None => false,
+        Some(is_left) => {
+            let first = !*is_left;
+            *is_left = true;
+            first
+        }
+    }
+}
+
+/// Leaves the module that was asked for last, where another one is asked for now. Where much is
+/// cached, the module is forgotten if it is left for the first time: most modules are asked for
+/// once. Else, where procedures take more bytes than they may, its procedures are. Questions that go
+/// from module to module, in turn and again, then find those that were cached first.
+#[tactic(auto, using(crate::proofs::KeptSteps::one_forgotten))]
+fn leave_last<'a, I: ModuleTables>(cached: &mut CachedModules<'a, I>, module_index: usize)
+    ensures { (own : ℕ → Option ModuleData) → AreKept own cached.old → AreKept own cached.new }
+{
+    let last = cached.last;
+    cached.last = module_index;
+    if last == module_index || last >= cached.slots.len() {
+        return;
+    }
+    let is_first = note_left(&mut cached.left, last);
+    if is_first && cached.meter.has_many_modules() {
+        forget_module(cached, last);
+    } else if cached.meter.has_many_procedures() {
+        forget_procedures(cached, last);
     }
 }
 
@@ -118,6 +193,7 @@ pub fn keep_module<'a, P: ModuleProvider>(
         ≡ module_data (own_of (P.provided provider.now) modules.now module_index)) }
 {
     forget_if_full(kept);
+    leave_last(kept, module_index);
     if !is_empty_at(&kept.slots, module_index) {
         return Ok(());
     }
@@ -190,7 +266,7 @@ pub fn keep_procedure<'a, I: ModuleTables>(
 {
     if module_index < kept.slots.len() {
         let bytes = keep_procedure_at(alloc, &mut kept.slots[module_index], number)?;
-        kept.meter.count(bytes);
+        kept.meter.count_procedure(bytes);
     }
     Ok(())
 }
@@ -225,7 +301,7 @@ pub fn keep_public_rows<'a, I: ModuleTables>(
 {
     if module_index < kept.slots.len() {
         let bytes = keep_public_rows_at(alloc, &mut kept.slots[module_index], start)?;
-        kept.meter.count(bytes);
+        kept.meter.count_procedure(bytes);
     }
     Ok(())
 }

@@ -15,11 +15,27 @@ const ALLOWED: u64 = 64 << 20;
 /// over and over.
 const FOR_EACH_BYTE: u64 = 4;
 
+/// How many bytes may be cached of modules but for their procedures, beside one for each eight bytes
+/// of the symbols and lines that were read: 512 KB. Past that a module is forgotten once another one
+/// is asked for, but only the first time.
+const ALLOWED_MODULES: u64 = 512 << 10;
+
+/// How many bytes may be cached of procedures, beside three for each two bytes of the symbols and
+/// lines that were read: 1.5 MB. Past that the procedures of a module are forgotten once another
+/// module is asked for. As is counted what they take at most, they take about a third of it.
+const ALLOWED_PROCEDURES: u64 = 3 << 19;
+
 /// Counts the bytes that are cached of modules.
 #[derive(Drop)]
 pub struct Meter {
     /// How many bytes are cached.
     cached: u64,
+    /// How many of them are of procedures.
+    procedures: u64,
+    /// How many of the others may be cached of modules that are left for the first time.
+    allowed_modules: u64,
+    /// How many of them may be of procedures.
+    allowed_procedures: u64,
     /// The most that one part takes: a part is cached whatever its size, and for its size alone
     /// nothing is forgotten.
     greatest: u64,
@@ -38,6 +54,9 @@ impl Meter {
         let for_database = database_size.saturating_mul(FOR_EACH_BYTE);
         Meter {
             cached: 0,
+            procedures: 0,
+            allowed_modules: ALLOWED_MODULES,
+            allowed_procedures: ALLOWED_PROCEDURES,
             greatest: 0,
             allowed: ALLOWED,
             most_allowed: ALLOWED.saturating_add(for_database),
@@ -56,6 +75,29 @@ impl Meter {
         self.greatest = self.greatest.max(bytes);
     }
 
+    /// Counts bytes that were cached of a procedure.
+    pub fn count_procedure(&mut self, bytes: u64) {
+        self.count(bytes);
+        self.procedures = self.procedures.saturating_add(bytes);
+    }
+
+    /// Whether procedures take more bytes than they may.
+    pub fn has_many_procedures(&self) -> bool {
+        self.procedures > self.allowed_procedures
+    }
+
+    /// Whether modules take more bytes, besides procedures, than they may when they are left for the
+    /// first time.
+    pub fn has_many_modules(&self) -> bool {
+        self.cached.saturating_sub(self.procedures) > self.allowed_modules
+    }
+
+    /// Counts bytes that are no longer cached, so many of them of procedures.
+    pub fn give_back(&mut self, bytes: u64, procedures: u64) {
+        self.cached = self.cached.saturating_sub(bytes);
+        self.procedures = self.procedures.saturating_sub(procedures);
+    }
+
     /// Counts the data of a module, if it has some. The first time that a module names its stream,
     /// more is allowed for the stream's symbols and lines: where there are data, the stream has as
     /// many bytes of them as the module's entry states.
@@ -71,6 +113,8 @@ impl Meter {
             let bytes = u64::from(module.symbols_size()) + u64::from(module.c13_lines_size());
             let allowed = self.allowed.saturating_add(bytes * FOR_EACH_BYTE);
             self.allowed = allowed.min(self.most_allowed);
+            self.allowed_modules = self.allowed_modules.saturating_add(bytes / 8);
+            self.allowed_procedures = self.allowed_procedures.saturating_add(bytes / 2 * 3);
         }
         self.count(known.memory_size());
         Ok(())
@@ -79,5 +123,6 @@ impl Meter {
     /// Nothing is cached any more. What is allowed stays.
     pub fn clear(&mut self) {
         self.cached = 0;
+        self.procedures = 0;
     }
 }

@@ -17,7 +17,7 @@ ghost use Rattle.pdb_known_modules.specs.KnownModules.{procedures_in as procedur
 
 use crate::bounds::{SortedBounds, procedure_bounds};
 use crate::procedure_data::{KeptProcedure, LentProcedure, procedure_ranges};
-use crate::slots::{empty_slots, slot_at};
+use crate::slots::{empty_all, empty_slots, slot_at};
 use crate::subsection_rows::SubsectionRows;
 use pdb_addresses::PdbInternalSectionOffset;
 use pdb_container::{Error, Result};
@@ -52,6 +52,10 @@ pub struct BasicModuleInfo<'a, I: ModuleTables> {
     subsection_rows: SubsectionRows,
     /// How many bytes its line data have.
     line_data_size: u32,
+    /// About how many bytes line program and inlinees take, if they are cached.
+    extended_size: u64,
+    /// About how many bytes its procedures take that are cached, and the rows of subsections.
+    procedures_size: u64,
 }
 
 impl<'a, I: ModuleTables> Model for BasicModuleInfo<'a, I> {
@@ -83,6 +87,8 @@ impl<'a, I: ModuleTables> Drop for BasicModuleInfo<'a, I> {
             kept_procedures,
             subsection_rows,
             line_data_size: _,
+            extended_size: _,
+            procedures_size: _,
         } = self;
         drop(procedures);
         drop(bounds);
@@ -114,7 +120,22 @@ impl<'a, I: ModuleTables> BasicModuleInfo<'a, I> {
             kept_procedures: Vec::new(alloc),
             subsection_rows: SubsectionRows::new(alloc),
             line_data_size,
+            extended_size: 0,
+            procedures_size: 0,
         })
+    }
+
+    /// Forgets what is cached of procedures and of the rows of subsections. Returns about how many
+    /// bytes that took.
+    #[tactic(auto, using(crate::proofs::KeptProcedures::nothing_kept))]
+    pub(crate) fn forget_procedures(&mut self) -> u64
+        ensures { self.new ≡ self.old }
+    {
+        empty_all(&mut self.kept_procedures);
+        self.subsection_rows.forget();
+        let bytes = self.procedures_size;
+        self.procedures_size = 0;
+        bytes
     }
 
     /// The lesser of `far` and the distance from a place to the next start or end of a procedure.
@@ -130,6 +151,18 @@ impl<'a, I: ModuleTables> BasicModuleInfo<'a, I> {
     pub(crate) fn memory_size(&self) -> u64 {
         let bounds = memory_of(self.procedures.as_slice().len(), BOUNDS_SIZE);
         self.procedures.memory_size().saturating_add(bounds)
+    }
+
+    /// About how many bytes its procedures take that are cached, and the rows of subsections.
+    pub(crate) fn procedures_size(&self) -> u64 {
+        self.procedures_size
+    }
+
+    /// About how many bytes all take that is cached of it.
+    pub(crate) fn cached_size(&self) -> u64 {
+        self.memory_size()
+            .saturating_add(self.extended_size)
+            .saturating_add(self.procedures_size)
     }
 
     /// Reads the line program and the inlinees, and caches them, unless they were cached before.
@@ -153,6 +186,7 @@ impl<'a, I: ModuleTables> BasicModuleInfo<'a, I> {
                 self.kept_procedures = empty_slots(alloc, count)?;
                 self.subsection_rows = SubsectionRows::with_slots(alloc, subsections)?;
                 self.extended = Some(extended);
+                self.extended_size = bytes;
                 Ok(bytes)
             }
             Err(Error::OutOfMemory) => Err(AllocError),
@@ -207,6 +241,7 @@ impl<'a, I: ModuleTables> BasicModuleInfo<'a, I> {
             None => Ok(0),
             Some(data) => {
                 let bytes = data.memory_size();
+                self.procedures_size = self.procedures_size.saturating_add(bytes);
                 self.kept_procedures[number] = Some(data);
                 Ok(bytes)
             }
@@ -304,10 +339,11 @@ impl<'a, I: ModuleTables> BasicModuleInfo<'a, I> {
         match self.read_rows(alloc, start)? {
             None => Ok(0),
             Some(rows) => {
-                let bytes = rows.memory_size();
+                let bytes = rows.memory_size().saturating_add(SUBSECTION_ROWS_SIZE);
                 let rows = Box::new(alloc, rows)?;
+                self.procedures_size = self.procedures_size.saturating_add(bytes);
                 self.subsection_rows.keep(number, rows);
-                Ok(bytes.saturating_add(SUBSECTION_ROWS_SIZE))
+                Ok(bytes)
             }
         }
     }

@@ -1,6 +1,6 @@
 //! Lists with a slot for each number, in which something is cached once it was read.
 
-ghost use Rattle.std.specs.Prelude.{◌≡◌, IfOk, None, option_map, replicate, slice_get};
+ghost use Rattle.std.specs.Prelude.{◌≡◌, IfOk, None, length, option_map, replicate, slice_get};
 
 use std::alloc::{AllocError, Global};
 
@@ -16,6 +16,15 @@ pub fn empty_slots<T: Drop>(alloc: Global, count: usize) -> Result<Vec<Option<T>
         slots.push(None)?;
     }
     Ok(slots)
+}
+
+/// Empties all slots.
+pub fn empty_all<T: Drop>(slots: &mut [Option<T>])
+    ensures { slots.new ≡ replicate (length slots.old) None }
+{
+    for slot in 0..slots.len() {
+        slots[slot] = None;
+    }
 }
 
 /// The slot with that number, if it is there.

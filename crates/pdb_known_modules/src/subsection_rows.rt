@@ -6,7 +6,7 @@ ghost use Rattle.std.specs.Box.{box_value};
 ghost use Rattle.pdb_symbols_modules.specs.ModuleStream.{ModuleStream};
 ghost use Rattle.pdb_known_modules.specs.SubsectionRows.{AreRowsOf, AreRowsOfStream};
 
-use crate::slots::{empty_slots, slot_at};
+use crate::slots::{empty_all, empty_slots, slot_at};
 use pdb_module_data::FunctionRows;
 use std::alloc::{AllocError, Global};
 
@@ -36,6 +36,14 @@ impl SubsectionRows {
     {
         let slots = empty_slots(alloc, count.saturating_add(1))?;
         Ok(SubsectionRows { slots })
+    }
+
+    /// Forgets all rows.
+    #[tactic(auto, using(crate::proofs::KeptRows::nothing_kept))]
+    pub fn forget(&mut self)
+        ensures { (stream : ModuleStream) → AreRowsOfStream stream (self.new).slots.items }
+    {
+        empty_all(&mut self.slots);
     }
 
     /// The rows of the subsection of that number, if they are cached.

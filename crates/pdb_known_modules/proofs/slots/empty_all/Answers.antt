@@ -1,7 +1,7 @@
 use Rattle.std.proofs.Common.{None, ap, ◌∙◌, refl}
 use Rattle.std.specs.Prelude.{slice_set}
 use Rattle.pdb_known_modules.proofs.Fills.{fill_more, fill_all}
-use Rattle.pdb_known_modules.proofs.kept.empty_all.Goals as goal
+use Rattle.pdb_known_modules.proofs.slots.empty_all.Goals as goal
 
 pub loop-slot-init : goal.loop-slot-init
 loop-slot-init g c = refl
