@@ -27,6 +27,13 @@ NO_FILES = {
     "/dev/null": "Not a regular file",
     "/dev/zero": "Not a regular file",
 }
+# The identities of x64.pdb and x64.exe, and where stores have the database.
+DATABASE, IMAGE = "167A444B34A4F3304C4C44205044422E1", "797A49014000"
+STORES = {
+    "one": f"x64.pdb/{DATABASE}/x64.pdb",
+    "two": f"x6/x64.pdb/{DATABASE}/x64.pdb",
+    "other": f"X64.PDB/{DATABASE.lower()}/X64.Pdb",
+}
 NO_REQUEST = b"??\n??:0:0\n\n"
 TOO_LONG = rb".*: error: 'a{1,4352}': the line has more than 4351 bytes\n"
 
@@ -153,6 +160,40 @@ def reads_as_far_as_headers():
     return is_told and ran.stdout == NO_REQUEST + FRAMES + FRAMES
 
 
+def finds_in_stores():
+    """Whether a database is found in symbol stores, and beside its image, whatever the case of names:
+    in stores of one level and of two, by arguments and by the environment, for an image, and by a
+    line that names it or the image by its identity."""
+    with tempfile.TemporaryDirectory() as room:
+        shutil.copy(f"{llvm_cases.DATA}/x64.exe", room)
+        for store, path in STORES.items():
+            os.makedirs(os.path.dirname(f"{room}/{store}/{path}"))
+            shutil.copy(f"{llvm_cases.DATA}/x64.pdb", f"{room}/{store}/{path}")
+        image = f"{room}/one/x64.exe/{IMAGE}"
+        os.makedirs(image)
+        shutil.copy(f"{llvm_cases.DATA}/x64.exe", image)
+        os.mkdir(f"{room}/beside")
+        shutil.copy(f"{llvm_cases.DATA}/x64.exe", f"{room}/beside")
+        shutil.copy(f"{llvm_cases.DATA}/x64.pdb", f"{room}/beside/X64.Pdb")
+        asked = [({}, "--obj=beside/x64.exe"), ({}, "--symbol-store=one", f"--obj=x64.exe:{IMAGE}")]
+        for store in STORES:
+            named = f"--symbol-store={store}"
+            asked.append(({}, "--symbol-store=none", named, "--obj=x64.exe"))
+            asked.append(({}, named, f"--obj=X64.PDB:{DATABASE}"))
+            path = f"none;srv*{store}*https://localhost/symbols"
+            asked.append(({"_NT_SYMBOL_PATH": path}, "--obj=x64.exe"))
+        return all(answers(room, more, *words) for more, *words in asked)
+
+
+def answers(room, environment, *words):
+    """Whether the program answers one address with these arguments."""
+    ran = subprocess.run(
+        ["timeout", str(SECONDS), program, *words, "--relative-address", "0x1148"],
+        cwd=room, env={**os.environ, **environment}, input=b"", capture_output=True,
+    )
+    return (ran.returncode, ran.stdout, ran.stderr) == (0, FRAMES, b"")
+
+
 is_unproved = "--unproved" in words
 place, words = built.taken(words)
 is_writing = words[:1] == ["--write"]
@@ -173,6 +214,7 @@ for name in names:
         print(f"{name}: otherwise than llvm-symbolizer, and not as {name}.differs says:")
         print(differs.decode(errors="replace"))
 TESTS = (answers_in_turn, bounds_lines, opens_regular_files, reads_as_far_as_headers)
+TESTS += (finds_in_stores,)
 TESTS = () if is_unproved else TESTS
 for test in TESTS:
     if not test():
