@@ -15,7 +15,8 @@ Documents are the .md files at the top and in docs/; if DOCUMENTs are named, the
   it, and so has a file of definitions of the third column. In GLOSSARY the files of the third
   column are there.
 - clause: in PROVED's tables each call is a function of the crates that the heading names, or of the
-  one after `of`, and has exactly the clauses that the row says; `-` is one without a name.
+  one after `of`, and has exactly the clauses that the row says; `-` is one without a name. The
+  fields of a record stand for a clause that is this record.
 - count: a number that the sources have too is the same there (COUNTS).
 - date: each entry of DECISIONS ends with the day on which it held, and its refusals name the kit.
 - script: each script that test.sh runs has a row in RELEASING.
@@ -53,7 +54,7 @@ class Function:
 
     def __init__(self, crate, owners, name, public):
         self.crate, self.owners, self.name, self.public = crate, owners, name, public
-        self.clauses = set()
+        self.clauses, self.fields = set(), {}
 
 
 def owners_of(line):
@@ -67,7 +68,13 @@ def owners_of(line):
     return {it.strip(" &{").split("::")[-1] for it in names}
 
 
-def functions_in(path):
+def records_in(path):
+    """The records of a file of definitions, with their fields."""
+    for name, body in re.findall(r"(?ms)^pub record (\w+)(.*?)(?=^\S|\Z)", read(path)):
+        yield name, set(re.findall(r"(?m)^ +pub (\w+) :", body.partition("where\n")[2]))
+
+
+def functions_in(path, records):
     """The functions of a file."""
     crate = path.split("/")[1]
     owners, facts, found = set(), set(), None
@@ -91,9 +98,10 @@ def functions_in(path):
             found = Function(crate, named, declared[3], bool(declared[2]) or "Trait" in named)
             found.facts, found.depth = facts, len(declared[1])
             yield found
-        clause = re.match(r"(\s*)ensures\*? ?(\w*) ?\{", line)
+        clause = re.match(r"(\s*)ensures\*? ?(\w*) ?\{ ?(\w*)", line)
         if clause and found and len(clause[1]) == found.depth + 4:
             found.clauses.add(clause[2] or "-")
+            found.fields[clause[2] or "-"] = records.get(clause[3], set())
 
 
 def read(path):
@@ -114,9 +122,11 @@ class Sources:
 
     def __init__(self):
         self.crates = re.findall(r"(?m)^(\w+):", read("crates.txt"))
-        self.functions = collections.defaultdict(list)
+        self.functions, records = collections.defaultdict(list), {}
+        for path in sources("crates/*/specs/**/*.antt"):
+            records.update(records_in(path))
         for path in sources("crates/*/src/**/*.rt"):
-            for it in functions_in(path):
+            for it in functions_in(path, records):
                 self.functions[it.name].append(it)
         self.words = set()
         kinds = ["crates/*/src/**/*.rt", "crates/*/specs/**/*.antt", "crates/*/proofs/**/*.antt"]
@@ -345,15 +355,23 @@ def clauses(text, known):
                 yield "clause", number, f"{' '.join(crates)}: no call {label}"
             else:
                 fitting = any(fits(it, wanted, "follows" in named) for it in found)
-                said = " or ".join(sorted({", ".join(sorted(it.clauses)) for it in found}))
+                said = " or ".join(sorted({", ".join(sorted(names(it))) for it in found}))
                 why = f"{label} has the clauses {said}"
                 yield "clause", number, None if fitting else why
 
 
+def names(function):
+    """The names of a function's clauses; of one that is a record, the names of its fields."""
+    return set().union(*(function.fields[it] or {it} for it in function.clauses))
+
+
 def fits(function, wanted, more):
-    """Whether a function has these clauses, and no more unless there may be."""
-    there = wanted <= function.clauses | function.facts
-    return there and (more or function.clauses <= wanted)
+    """Whether a function has these clauses, and no more unless there may be. A clause that is a
+    record is named by its fields, all of them, or itself."""
+    there = wanted <= function.clauses | names(function) | function.facts
+    left = {it for it in function.clauses if not function.fields[it] or it not in wanted}
+    left = set().union(*(function.fields[it] or {it} for it in left))
+    return there and (more or left <= wanted)
 
 
 def body_of(path, opening):

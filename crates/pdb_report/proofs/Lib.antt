@@ -1,5 +1,6 @@
 pub mod FileFaults
 pub mod FileSteps
+pub mod FrameSteps
 pub mod IsolationLaw
 pub mod NeededStreams
 pub mod OtherFiles

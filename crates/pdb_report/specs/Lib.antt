@@ -1,6 +1,7 @@
 pub mod Answer
 pub mod FileAnswers
 pub mod FileFrames
+pub mod FrameReports
 pub mod Isolation
 pub mod SameReports
 pub mod SizesByFile

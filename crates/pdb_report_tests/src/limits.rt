@@ -1,8 +1,7 @@
 //! Inputs that are longer than the limit, and one that is exactly as long.
 
 use crate::files::F;
-use pdb_engine::InputFault;
-use pdb_report::{AtEnd, Symbolizer, Watched, answer_lines};
+use pdb_report::{AtEnd, RunFault, Symbolizer, Watched, answer_lines};
 use std::alloc::Global;
 use std::io::{self, Read};
 use std::test::Fail;
@@ -43,7 +42,7 @@ const CASES: &[Case] = &[
 ];
 
 /// Answers the lines of a case by file F, and returns what is written, and how that ends.
-fn answered(alloc: Global, case: &Case) -> Result<(Vec<u8>, Result<(), InputFault>), Fail> {
+fn answered(alloc: Global, case: &Case) -> Result<(Vec<u8>, Result<(), RunFault>), Fail> {
     let symbolizer = match Symbolizer::open(alloc, F.bytes(alloc)?) {
         Ok(symbolizer) => symbolizer,
         Err(_) => Symbolizer::open(alloc, F.bytes(alloc)?)?,
@@ -64,12 +63,12 @@ fn answered(alloc: Global, case: &Case) -> Result<(Vec<u8>, Result<(), InputFaul
 /// Returns whether a case ends as it should. If memory runs out, it is tried once more.
 fn is_limited(alloc: Global, case: &Case) -> Result<bool, Fail> {
     let mut found = answered(alloc, case)?;
-    if found.1 == Err(InputFault::OutOfMemory) {
+    if found.1 == Err(RunFault::OutOfMemory) {
         found = answered(alloc, case)?;
     }
     let (_, _, _, out, is_too_long) = *case;
     let wanted = if is_too_long {
-        Err(InputFault::InputTooLong)
+        Err(RunFault::InputTooLong)
     } else {
         Ok(())
     };

@@ -1,24 +1,30 @@
-use Rattle.std.proofs.Common.{ℕ, ◌<◌, ◌≤◌, List, length, take, subst}
-use Rattle.std.specs.Prelude.{IfErr, IfSome, OnErr, OnOk}
-use Rattle.pdb_engine.specs.InputFaults as inputs
-use Rattle.pdb_engine.specs.InputLines.{report, report_of_ended}
-use Rattle.pdb_engine.specs.Watched.{inner_of, Writes, WritesFront, Takes}
-use Rattle.pdb_report_texts.specs.AddressText.{Answers, line_text}
+use Rattle.std.proofs.Common.{Err, sym, subst}
+use Rattle.pdb_report.specs.Answer.{answer_of, answered_in}
+use Rattle.pdb_report.specs.FrameReports.{ReportsFrames, frames_loaded}
+use Rattle.pdb_report_texts.specs.declared.fault.RunFault.{RunFault}
+use Rattle.pdb_report.proofs.FrameSteps.{ended_early, ended_well, lacking}
 use Rattle.pdb_report.proofs.report.answer_lines.Goals as goal
 
+pub returns-in_default : goal.returns-in_default
+returns-in_default g c =
+    lacking g.R.Read.remaining g.W.Write.contents c.args.limit
+    (frames_loaded c.args.symbolizer.now) c.args.reader.now c.args.writer.now
+
 -- the context answers as the file does
-pub returns-in-Ok-clause-ok : goal.returns-in-Ok-clause-ok
-returns-in-Ok-clause-ok g c =
-    subst (λ (f : Answers). OnOk c.run-outcome.result (IfSome (g.R.Read.remaining (inner_of c.args.reader.now)) (λ input. (length input ≤ c.args.limit) × Writes g.W.Write.contents c.args.writer.now c.run-outcome.new.writer (report (line_text f) input)))) c.in-Ok.ensures.answers.frames (c.run-outcome.ensures.ok tt)
+pub returns-in-Ok-outcome : goal.returns-in-Ok-outcome
+returns-in-Ok-outcome g c =
+    let is = c.in-Ok-outcome.ensures in
+    ended_well g.R.Read.remaining g.W.Write.contents c.args.limit c.args.reader.now
+    c.run-outcome.new.reader c.args.writer.now c.run-outcome.new.writer c.args.symbolizer.now
+    (answer_of answered_in c.in-Ok.context) tt c.in-Ok.ensures.answers.frames (is.ok tt) is.quiet
 
-pub returns-in-Ok-clause-read_out : goal.returns-in-Ok-clause-read_out
-returns-in-Ok-clause-read_out g c =
-    subst (λ (f : Answers). IfErr c.run-outcome.result (λ fault. inputs.OnRead fault (λ _. (taken : List ℕ) × Takes g.R.Read.remaining c.args.reader.now c.run-outcome.new.reader taken × Writes g.W.Write.contents c.args.writer.now c.run-outcome.new.writer (report_of_ended (line_text f) taken)))) c.in-Ok.ensures.answers.frames (c.run-outcome.ensures.read_out tt)
-
-pub returns-in-Ok-clause-too_long : goal.returns-in-Ok-clause-too_long
-returns-in-Ok-clause-too_long g c =
-    subst (λ (f : Answers). IfErr c.run-outcome.result (λ fault. inputs.OnTooLong fault (IfSome (g.R.Read.remaining (inner_of c.args.reader.now)) (λ input. (c.args.limit < length input) × Writes g.W.Write.contents c.args.writer.now c.run-outcome.new.writer (report_of_ended (line_text f) (take c.args.limit input)))))) c.in-Ok.ensures.answers.frames (c.run-outcome.ensures.too_long tt)
-
-pub returns-in-Ok-clause-part : goal.returns-in-Ok-clause-part
-returns-in-Ok-clause-part g c =
-    subst (λ (f : Answers). OnErr c.run-outcome.result (IfSome (g.R.Read.remaining (inner_of c.args.reader.now)) (λ input. WritesFront g.W.Write.contents c.args.writer.now c.run-outcome.new.writer (report (line_text f) input)))) c.in-Ok.ensures.answers.frames (c.run-outcome.ensures.part tt)
+pub returns-in-Err : goal.returns-in-Err
+returns-in-Err g c =
+    let is = c.in-Err.ensures in
+    subst (λ (fault : RunFault). ReportsFrames {T = Unit {0}} (frames_loaded c.args.symbolizer.now)
+    c.args.limit g.R.Read.remaining g.W.Write.contents c.args.reader.now c.run-outcome.new.reader
+    c.args.writer.now c.run-outcome.new.writer (Err fault)) (sym c.from.ensures)
+    (ended_early g.R.Read.remaining g.W.Write.contents c.args.limit c.args.reader.now
+    c.run-outcome.new.reader c.args.writer.now c.run-outcome.new.writer c.args.symbolizer.now
+    (answer_of answered_in c.in-Ok.context) c.in-Err.fault c.in-Ok.ensures.answers.frames is.kind
+    is.read_fails is.write_fails (is.read_out tt) (is.too_long tt) (is.part tt))

@@ -1,0 +1,85 @@
+-- How a report on lines ends.
+use Rattle.std.proofs.Common.{◌≡◌, ℕ, ◌<◌, ◌≤◌, List, length, take, Result, Ok, Err, inl, inr, refl, sym, subst}
+use Rattle.std.specs.Prelude.{Option, None, IfErr, IfSome, OnErr, OnOk}
+use Rattle.pdb_engine.specs.declared.fault.InputFault.{InputFault}
+use Rattle.pdb_engine.specs.declared.watched.Watched.{Watched}
+use Rattle.pdb_engine.specs.InputFaults as inputs
+use Rattle.pdb_engine.specs.InputLines.{report, report_of_ended}
+use Rattle.pdb_engine.specs.Watched.{inner_of, CountsFailure, IsQuiet, Takes, Writes, WritesFront}
+use Rattle.pdb_loading.specs.declared.load_fault.LoadFault.{LoadFault}
+use Rattle.pdb_loading.specs.declared.load_fault.LoadFault.TheVariants as faults
+use Rattle.pdb_loading.specs.LoadFaults.{Refuses}
+use Rattle.pdb_loading.specs.Loading.{LoadingFault, load_fault}
+use Rattle.pdb_report.specs.Answer.{answer}
+use Rattle.pdb_report.specs.FrameReports.{FramesOf, ReportsFrames, frames_in, frames_loaded}
+use Rattle.pdb_report_texts.specs.AddressText.{Answers, line_text}
+use Rattle.pdb_report_texts.specs.declared.fault.RunFault.{RunFault}
+use Rattle.pdb_report_texts.specs.declared.fault.RunFault.TheVariants as runs
+use Rattle.pdb_report_texts.specs.RunFaults.{run_fault_of, run_fault_of_input}
+use Rattle.pdb_report_texts.proofs.InputFaultSteps.{on_read, on_write, on_too_long, of_frames, on_memory, on_load, unless_load}
+use Rattle.pdb_symbols_modules.specs.Streams.{streams}
+use Rattle.pdb_report.proofs.FileFaults.{nothing_out}
+use Rattle.pdb_report.proofs.IsolationLaw.{exchanged_out, isolated}
+
+module _ {R W : Type 0} (remaining : R → Option (List ℕ)) (contents : W → Option (List ℕ)) (limit : ℕ) where
+  -- nothing was read and nothing written, where a file is refused
+  pub refused : {T : Type 0} (f : FramesOf) (reader : Watched R) (writer : Watched W) (e : LoadFault) → Refuses e f.fault
+      → ReportsFrames {T = T} f limit remaining contents reader reader writer writer (Err (run_fault_of e))
+  refused f reader writer faults.OutOfMemory h = record {
+    load = tt; loaded = tt; kind = tt; memory = inr (refl, refl); ok = tt; quiet = tt; read_fails = tt; write_fails = tt; read_out = tt; too_long = tt;
+    part = nothing_out contents writer (remaining (inner_of reader)) (report (line_text f.answer)); isolated = isolated f.bytes; exchanged = tt;
+  }
+  refused f reader writer e h = record {
+    load = (h, (refl, refl)); loaded = tt; kind = tt; memory = tt; ok = tt; quiet = tt; read_fails = tt; write_fails = tt; read_out = tt; too_long = tt;
+    part = nothing_out contents writer (remaining (inner_of reader)) (report (line_text f.answer)); isolated = isolated f.bytes; exchanged = tt;
+  }
+
+  -- nor where memory is short
+  pub lacking : {T : Type 0} (f : FramesOf) (reader : Watched R) (writer : Watched W)
+      → ReportsFrames {T = T} f limit remaining contents reader reader writer writer (Err runs.OutOfMemory)
+  lacking f reader writer = refused f reader writer faults.OutOfMemory tt
+
+  module _ {T : Type 0} (reader reader' : Watched R) (writer writer' : Watched W) where
+    -- a file that was loaded has no loading fault
+    pub of_loaded : (file bytes : List ℕ) (result : Result T RunFault) → file ≡ bytes → load_fault (streams bytes) ≡ None
+        → ReportsFrames (frames_loaded file) limit remaining contents reader reader' writer writer' result
+        → ReportsFrames (frames_in bytes) limit remaining contents reader reader' writer writer' result
+    of_loaded file bytes result same none r =
+        subst (λ (fault : Option LoadingFault). ReportsFrames (record { bytes = bytes; fault = fault; answer = answer (streams bytes) }) limit remaining contents reader reader' writer writer' result) (sym none)
+        (subst (λ (b : List ℕ). ReportsFrames (frames_loaded b) limit remaining contents reader reader' writer writer' result) same r)
+
+    -- what a run by answers that are the file's says, where it ends well
+    pub ended_well : (file : List ℕ) (own : Answers) (done : T) → own ≡ answer (streams file)
+        → IfSome (remaining (inner_of reader)) (λ input. (length input ≤ limit) × Writes contents writer writer' (report (line_text own) input))
+        → IsQuiet reader reader' × IsQuiet writer writer'
+        → ReportsFrames (frames_loaded file) limit remaining contents reader reader' writer writer' (Ok done)
+    ended_well file own done same ok quiet =
+        let out : IfSome (remaining (inner_of reader)) (λ input. (length input ≤ limit) × Writes contents writer writer' (report (line_text (answer (streams file))) input)) =
+            subst (λ (f : Answers). IfSome (remaining (inner_of reader)) (λ input. (length input ≤ limit) × Writes contents writer writer' (report (line_text f) input))) same ok in
+        record {
+          load = tt; loaded = refl; kind = tt; memory = tt; ok = out; quiet = quiet; read_fails = tt; write_fails = tt; read_out = tt; too_long = tt; part = tt;
+          isolated = isolated file;
+          exchanged = exchanged_out {T = T} {E = RunFault} file (Ok done) (remaining (inner_of reader)) (λ input. length input ≤ limit) (λ answers input. Writes contents writer writer' (report (line_text answers) input)) out;
+        }
+
+    -- and where it ends early
+    pub ended_early : (file : List ℕ) (own : Answers) (fault : InputFault) → own ≡ answer (streams file)
+        → inputs.IsOfRunning fault
+        → inputs.OnRead fault (λ kind. CountsFailure reader reader' kind)
+        → inputs.OnWrite fault (λ kind. CountsFailure writer writer' kind)
+        → inputs.OnRead fault (λ _. (taken : List ℕ) × Takes remaining reader reader' taken × Writes contents writer writer' (report_of_ended (line_text own) taken))
+        → inputs.OnTooLong fault (IfSome (remaining (inner_of reader)) (λ input. (limit < length input) × Writes contents writer writer' (report_of_ended (line_text own) (take limit input))))
+        → IfSome (remaining (inner_of reader)) (λ input. WritesFront contents writer writer' (report (line_text own) input))
+        → ReportsFrames {T = T} (frames_loaded file) limit remaining contents reader reader' writer writer' (Err (run_fault_of_input fault))
+    ended_early file own fault same kind read_fails write_fails read_out too_long part = record {
+      load = on_load fault _;
+      loaded = unless_load {A = T} (Err (run_fault_of_input fault)) _ refl;
+      kind = of_frames fault kind;
+      memory = on_memory fault _ (inl refl);
+      ok = tt; quiet = tt; exchanged = tt; isolated = isolated file;
+      read_fails = on_read fault _ read_fails;
+      write_fails = on_write fault _ write_fails;
+      read_out = on_read fault _ (subst (λ (f : Answers). inputs.OnRead fault (λ _. (taken : List ℕ) × Takes remaining reader reader' taken × Writes contents writer writer' (report_of_ended (line_text f) taken))) same read_out);
+      too_long = on_too_long fault _ (subst (λ (f : Answers). inputs.OnTooLong fault (IfSome (remaining (inner_of reader)) (λ input. (limit < length input) × Writes contents writer writer' (report_of_ended (line_text f) (take limit input))))) same too_long);
+      part = subst (λ (f : Answers). IfSome (remaining (inner_of reader)) (λ input. WritesFront contents writer writer' (report (line_text f) input))) same part;
+    }

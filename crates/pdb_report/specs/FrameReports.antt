@@ -1,0 +1,129 @@
+-- Reports on lines of addresses: how a run on an input ends, and what is out then.
+use Rattle.std.specs.Prelude.{◌≡◌, ℕ, ◌<◌, ◌≤◌, ◌⊎◌, true, List, length, take, Option, None}
+use Rattle.std.specs.Prelude.{Result, IfErr, IfSome, OnErr, OnOk}
+use Rattle.pdb_engine.specs.declared.watched.Watched.{Watched}
+use Rattle.pdb_engine.specs.InputLines.{report, report_of_ended}
+use Rattle.pdb_engine.specs.Watched.{inner_of, CountsFailure, IsQuiet, Takes, Writes, WritesFront}
+use Rattle.pdb_file_views.specs.Views.{Views, agrees}
+use Rattle.pdb_loading.specs.LoadFaults.{IsFileFault}
+use Rattle.pdb_loading.specs.Loading.{LoadingFault, load_fault}
+use Rattle.pdb_report.specs.Answer.{answer}
+use Rattle.pdb_report.specs.FileAnswers.{IfRefused}
+use Rattle.pdb_report.specs.Isolation.{AreAlikeFor, IsIsolated, exchanged as exchanged_answers}
+use Rattle.pdb_report_texts.specs.AddressText.{Answers, line_text}
+use Rattle.pdb_report_texts.specs.declared.fault.RunFault.{RunFault}
+use Rattle.pdb_report_texts.specs.RunFaults.{OnLoad, OnMemory, OnRead, OnTooLong, OnWrite}
+use Rattle.pdb_report_texts.specs.RunFaults.{IsOfFileFrames, IsOfFrames, UnlessLoad}
+use Rattle.pdb_symbols_modules.specs.Streams.{streams}
+
+-- what a report on lines goes over: a file's bytes, its loading fault, if it has one, and the
+-- answers for its addresses
+pub record FramesOf : Type 0 where
+  pub bytes : List ℕ
+  pub fault : Option LoadingFault
+  pub answer : Answers
+
+-- that of a file
+abbrev pub frames_in : List ℕ → FramesOf
+frames_in bytes = record {
+  bytes = bytes;
+  fault = load_fault (streams bytes);
+  answer = answer (streams bytes);
+}
+
+-- that of a file that was loaded, and so has no loading fault
+abbrev pub frames_loaded : List ℕ → FramesOf
+frames_loaded bytes = record { bytes = bytes; fault = None; answer = answer (streams bytes) }
+
+-- The report on an input of up to so many bytes: how the run ends, by what the reader has left and
+-- the writer contains, where that is known, and by both before and after the run.
+pub record ReportsFrames {R W T : Type 0} (f : FramesOf) (limit : ℕ)
+    (remaining : R → Option (List ℕ)) (contents : W → Option (List ℕ))
+    (reader reader' : Watched R) (writer writer' : Watched W) (result : Result T RunFault)
+    : Type 0 where
+  -- `Load` is the file's loading fault, and nothing was read and nothing written
+  pub load : IfErr result (λ fault. OnLoad fault (λ cause. IsFileFault cause f.fault
+      × ((reader' ≡ reader) × (writer' ≡ writer))))
+  -- every other end but out of memory says that the file has no loading fault
+  pub loaded : UnlessLoad result (f.fault ≡ None)
+  -- the faults are those of a report on lines
+  pub kind : IfErr result IsOfFrames
+  -- out of memory is returned with both ends untouched, or where there is no loading fault
+  pub memory : IfErr result (λ fault. OnMemory fault
+      ((f.fault ≡ None) ⊎ ((reader' ≡ reader) × (writer' ≡ writer))))
+  -- where the run ends well, the report on the whole input is out
+  pub ok : OnOk result (IfSome (remaining (inner_of reader)) (λ input. (length input ≤ limit)
+      × Writes contents writer writer' (report (line_text f.answer) input)))
+  -- and neither end failed
+  pub quiet : OnOk result (IsQuiet reader reader' × IsQuiet writer writer')
+  -- a failed read is one of this run, with its kind
+  pub read_fails : IfErr result (λ fault. OnRead fault (λ k. CountsFailure reader reader' k))
+  -- so is a failed write
+  pub write_fails : IfErr result (λ fault. OnWrite fault (λ k. CountsFailure writer writer' k))
+  -- the complete lines before a failed read are answered
+  pub read_out : IfErr result (λ fault. OnRead fault (λ _. (taken : List ℕ)
+      × Takes remaining reader reader' taken
+      × Writes contents writer writer' (report_of_ended (line_text f.answer) taken)))
+  -- the complete lines among the first bytes of a too long input are answered
+  pub too_long : IfErr result (λ fault. OnTooLong fault
+      (IfSome (remaining (inner_of reader)) (λ input. (limit < length input)
+      × Writes contents writer writer' (report_of_ended (line_text f.answer) (take limit input)))))
+  -- at every fault what is out is a prefix of the report
+  pub part : OnErr result (IfSome (remaining (inner_of reader)) (λ input.
+      WritesFront contents writer writer' (report (line_text f.answer) input)))
+  -- every file that is alike for the module that holds an address answers it alike
+  pub isolated : IsIsolated f.bytes
+  -- where the run ends well, the report is also that with the lines of one module's addresses
+  -- answered by such a file
+  pub exchanged : OnOk result (IfSome (remaining (inner_of reader)) (λ input.
+      (other : List ℕ) (m : ℕ) → AreAlikeFor m f.bytes other → Writes contents writer writer'
+      (report (line_text (exchanged_answers m (streams f.bytes) (streams other))) input)))
+
+-- The same over a file that is read on demand, where its bytes agree with what was read of it.
+pub record ReportsFileFrames {R W T : Type 0} (f : FramesOf) (views : Views) (limit : ℕ)
+    (remaining : R → Option (List ℕ)) (contents : W → Option (List ℕ))
+    (reader reader' : Watched R) (writer writer' : Watched W) (result : Result T RunFault)
+    : Type 0 where
+  -- `Load` comes with nothing read and nothing written, and is the file's loading fault
+  pub load : IfErr result (λ fault. OnLoad fault (λ cause.
+      ((reader' ≡ reader) × (writer' ≡ writer))
+      × (agrees views f.bytes ≡ true → IsFileFault cause f.fault)))
+  -- every other end but out of memory and a file that couldn't be read says that the file has no
+  -- loading fault
+  pub loaded : agrees views f.bytes ≡ true → UnlessLoad result (f.fault ≡ None)
+  -- the faults are those of a report on lines, or the file couldn't be read
+  pub kind : IfErr result IsOfFileFrames
+  -- out of memory, and a file that couldn't be read, are returned with both ends untouched, or
+  -- where there is no loading fault
+  pub memory : agrees views f.bytes ≡ true → IfErr result (λ fault. IfRefused fault
+      ((f.fault ≡ None) ⊎ ((reader' ≡ reader) × (writer' ≡ writer))))
+  -- where the run ends well, the report on the whole input is out
+  pub ok : agrees views f.bytes ≡ true → OnOk result
+      (IfSome (remaining (inner_of reader)) (λ input. (length input ≤ limit)
+      × Writes contents writer writer' (report (line_text f.answer) input)))
+  -- and neither end failed
+  pub quiet : OnOk result (IsQuiet reader reader' × IsQuiet writer writer')
+  -- a failed read is one of this run, with its kind
+  pub read_fails : IfErr result (λ fault. OnRead fault (λ k. CountsFailure reader reader' k))
+  -- so is a failed write
+  pub write_fails : IfErr result (λ fault. OnWrite fault (λ k. CountsFailure writer writer' k))
+  -- the complete lines before a failed read are answered
+  pub read_out : agrees views f.bytes ≡ true → IfErr result (λ fault. OnRead fault
+      (λ _. (taken : List ℕ) × Takes remaining reader reader' taken
+      × Writes contents writer writer' (report_of_ended (line_text f.answer) taken)))
+  -- the complete lines among the first bytes of a too long input are answered
+  pub too_long : agrees views f.bytes ≡ true → IfErr result (λ fault. OnTooLong fault
+      (IfSome (remaining (inner_of reader)) (λ input. (limit < length input)
+      × Writes contents writer writer' (report_of_ended (line_text f.answer) (take limit input)))))
+  -- at every fault what is out is a prefix of the report
+  pub part : agrees views f.bytes ≡ true → OnErr result
+      (IfSome (remaining (inner_of reader)) (λ input.
+      WritesFront contents writer writer' (report (line_text f.answer) input)))
+  -- every file that is alike for the module that holds an address answers it alike
+  pub isolated : IsIsolated f.bytes
+  -- where the run ends well, the report is also that with the lines of one module's addresses
+  -- answered by such a file
+  pub exchanged : agrees views f.bytes ≡ true → OnOk result
+      (IfSome (remaining (inner_of reader)) (λ input.
+      (other : List ℕ) (m : ℕ) → AreAlikeFor m f.bytes other → Writes contents writer writer'
+      (report (line_text (exchanged_answers m (streams f.bytes) (streams other))) input)))
