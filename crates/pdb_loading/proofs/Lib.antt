@@ -1,3 +1,4 @@
+pub mod CheckedParts
 pub mod Consumed
 pub mod FileSteps
 pub mod HeldSteps

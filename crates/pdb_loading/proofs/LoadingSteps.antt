@@ -5,6 +5,7 @@ use Rattle.pdb_container.specs.declared.error.Error.{Error}
 use Rattle.pdb_container.specs.declared.error.Error.TheVariants as errors
 use Rattle.pdb_container.specs.Fault.{Fault, fault_of, IsOutside, HasRisen, ◌>>=◌, refuse}
 use Rattle.pdb_addresses.specs.Addresses.{IsOrdered, is_ordered}
+use Rattle.pdb_loading.specs.declared.order.ContributionOrder.{ContributionOrder}
 use Rattle.pdb_choice.specs.Choice.{Parts}
 use Rattle.pdb_symbols_modules.specs.Dbi.{Dbi}
 use Rattle.pdb_symbols_modules.specs.DatabaseCalls.{debug_information}
@@ -15,82 +16,82 @@ use Rattle.pdb_resolving.specs.declared.error.Error.TheVariants as contexts
 use Rattle.pdb_resolving.specs.Fault as answers
 use Rattle.pdb_loading.specs.declared.load_fault.LoadFault.{LoadFault}
 use Rattle.pdb_loading.specs.declared.load_fault.LoadFault.TheVariants as faults
-use Rattle.pdb_loading.specs.Held.{Held, IsOwn, read_in, given, names_in, parts_held, parts_checked}
-use Rattle.pdb_loading.specs.LoadedFile.{IsLoadedFrom, AreInOrder}
+use Rattle.pdb_loading.specs.Held.{Held, IsOwn, read_in, given, names_in, parts_held_with, parts_checked}
+use Rattle.pdb_loading.specs.LoadedFile.{IsLoadedWith, AreInOrder}
 use Rattle.pdb_loading.specs.LoadFaults.{load_fault_of, load_fault_in_context, FailsLoading, Refuses}
-use Rattle.pdb_loading.specs.Loading.{Tables, tables, listed, LoadingFault, AddressTableDecreases, lifted, in_loading, Loaded, parts_in, none_or, loaded, load_fault, DatabaseRead, read_after}
+use Rattle.pdb_loading.specs.Loading.{Tables, tables, listed, LoadingFault, AddressTableDecreases, lifted, in_loading, Loaded, parts_in, none_or, loaded_with, load_fault_with, DatabaseRead, read_after}
 use Rattle.pdb_loading.specs.ModuleInfos.{answered_at}
 use Rattle.pdb_loading.proofs.Lifting.{fails_on, loads_on, opening_fails}
 
 -- ---- what is left of a load
 
 -- what is left after the tables
-unfoldable loaded_behind : Shared → Dbi → Tables → Result Loaded LoadingFault
-loaded_behind c dbi read = do
+unfoldable loaded_behind : ContributionOrder → Shared → Dbi → Tables → Result Loaded LoadingFault
+loaded_behind order c dbi read = do
   ordered ← refuse (not (is_ordered read.map)) AddressTableDecreases
   modules ← lifted (listed dbi)
-  parts ← parts_in c dbi read
+  parts ← parts_in order c dbi read
   Ok record { debug_information = dbi; tables = read; parts = parts }
 
 -- what is left after the container
-unfoldable loaded_open : Shared → Result Loaded LoadingFault
-loaded_open c = do
+unfoldable loaded_open : ContributionOrder → Shared → Result Loaded LoadingFault
+loaded_open order c = do
   dbi ← lifted (debug_information c)
   read ← lifted (tables c dbi)
-  loaded_behind c dbi read
+  loaded_behind order c dbi read
 
 -- after a container that is open
-opened : (s : Streams) → s.open_fault ≡ None → loaded (shared s) ≡ loaded_open (shared s)
-unfolding loaded loaded_open loaded_behind shared
-opened s h = rw h refl
+opened : (order : ContributionOrder) (s : Streams) → s.open_fault ≡ None → loaded_with order (shared s) ≡ loaded_open order (shared s)
+unfolding loaded_with loaded_open loaded_behind shared
+opened order s h = rw h refl
 
 -- after stream 3
-behind_dbi : (c : Shared) (dbi : Dbi) → debug_information c ≡ Ok dbi → loaded_open c ≡ (lifted (tables c dbi) >>= loaded_behind c dbi)
+behind_dbi : (order : ContributionOrder) (c : Shared) (dbi : Dbi) → debug_information c ≡ Ok dbi → loaded_open order c ≡ (lifted (tables c dbi) >>= loaded_behind order c dbi)
 unfolding loaded_open
-behind_dbi c dbi read = ap (λ r. lifted r >>= λ d. lifted (tables c d) >>= loaded_behind c d) read
+behind_dbi order c dbi read = ap (λ r. lifted r >>= λ d. lifted (tables c d) >>= loaded_behind order c d) read
 
 -- after the tables
-behind_tables : (c : Shared) (dbi : Dbi) (read : Tables) → debug_information c ≡ Ok dbi → tables c dbi ≡ Ok read → loaded_open c ≡ loaded_behind c dbi read
-behind_tables c dbi read dbi_is read_is = behind_dbi c dbi dbi_is ∙ ap (λ r. lifted r >>= loaded_behind c dbi) read_is
+behind_tables : (order : ContributionOrder) (c : Shared) (dbi : Dbi) (read : Tables) → debug_information c ≡ Ok dbi → tables c dbi ≡ Ok read → loaded_open order c ≡ loaded_behind order c dbi read
+behind_tables order c dbi read dbi_is read_is = behind_dbi order c dbi dbi_is ∙ ap (λ r. lifted r >>= loaded_behind order c dbi) read_is
 
 -- what is after the order of the tables
-abbrev after_order : Shared → Dbi → Tables → Result Loaded LoadingFault
-after_order c dbi read = lifted (listed dbi) >>= λ whole_list. parts_in c dbi read >>= λ parts. Ok (record { debug_information = dbi; tables = read; parts = parts })
+abbrev after_order : ContributionOrder → Shared → Dbi → Tables → Result Loaded LoadingFault
+after_order order c dbi read = lifted (listed dbi) >>= λ whole_list. parts_in order c dbi read >>= λ parts. Ok (record { debug_information = dbi; tables = read; parts = parts })
 
-in_order : (c : Shared) (dbi : Dbi) (read : Tables) → is_ordered read.map ≡ true → loaded_behind c dbi read ≡ after_order c dbi read
+in_order : (order : ContributionOrder) (c : Shared) (dbi : Dbi) (read : Tables) → is_ordered read.map ≡ true → loaded_behind order c dbi read ≡ after_order order c dbi read
 unfolding loaded_behind
-in_order c dbi read h = rw h refl
+in_order order c dbi read h = rw h refl
 
-out_of_order : (c : Shared) (dbi : Dbi) (read : Tables) → is_ordered read.map ≡ false → loaded_behind c dbi read ≡ Err AddressTableDecreases
+out_of_order : (order : ContributionOrder) (c : Shared) (dbi : Dbi) (read : Tables) → is_ordered read.map ≡ false → loaded_behind order c dbi read ≡ Err AddressTableDecreases
 unfolding loaded_behind
-out_of_order c dbi read h = rw h refl
+out_of_order order c dbi read h = rw h refl
 
 -- after the module list
-behind_list : (c : Shared) (dbi : Dbi) (read : Tables) (u : Unit {0}) → is_ordered read.map ≡ true → listed dbi ≡ Ok u
-    → loaded_behind c dbi read ≡ (parts_in c dbi read >>= λ parts. Ok (record { debug_information = dbi; tables = read; parts = parts }))
-behind_list c dbi read u ordered list_is = in_order c dbi read ordered ∙ ap (λ r. lifted r >>= λ whole_list. parts_in c dbi read >>= λ parts. Ok (record { debug_information = dbi; tables = read; parts = parts })) list_is
+behind_list : (order : ContributionOrder) (c : Shared) (dbi : Dbi) (read : Tables) (u : Unit {0}) → is_ordered read.map ≡ true → listed dbi ≡ Ok u
+    → loaded_behind order c dbi read ≡ (parts_in order c dbi read >>= λ parts. Ok (record { debug_information = dbi; tables = read; parts = parts }))
+behind_list order c dbi read u ordered list_is = in_order order c dbi read ordered ∙ ap (λ r. lifted r >>= λ whole_list. parts_in order c dbi read >>= λ parts. Ok (record { debug_information = dbi; tables = read; parts = parts })) list_is
 
 -- ---- where a step fails
 
 -- a container that isn't opened isn't loaded, with its fault
-pub container_fails : (s : Streams) (e : LoadFault) → FailsLoading e (lifted (none_or s.open_fault)) → FailsLoading e (loaded (shared s))
-unfolding loaded shared
-container_fails s e h = fails_on e (lifted (none_or s.open_fault)) _ h
+pub container_fails : (order : ContributionOrder) (s : Streams) (e : LoadFault) → FailsLoading e (lifted (none_or s.open_fault)) → FailsLoading e (loaded_with order (shared s))
+unfolding loaded_with shared
+container_fails order s e h = fails_on e (lifted (none_or s.open_fault)) _ h
 
 -- a DBI stream that is refused isn't loaded, with its fault
-pub dbi_fails : (s : Streams) (e : Error) → s.open_fault ≡ None → (IsOutside e (HasRisen 0 0) ⊎ (debug_information (shared s) ≡ Err (fault_of e))) → FailsLoading (load_fault_of e) (loaded (shared s))
+pub dbi_fails : (order : ContributionOrder) (s : Streams) (e : Error) → s.open_fault ≡ None → (IsOutside e (HasRisen 0 0) ⊎ (debug_information (shared s) ≡ Err (fault_of e))) → FailsLoading (load_fault_of e) (loaded_with order (shared s))
 unfolding loaded_open
-dbi_fails s e h read = rw (opened s h) (loads_on e (debug_information (shared s)) _ read)
+dbi_fails order s e h read = rw (opened order s h) (loads_on e (debug_information (shared s)) _ read)
 
 -- what stands after stream 3 that is refused isn't loaded, with its fault
-pub tables_fail : (s : Streams) (e : Error) (dbi : Dbi) → s.open_fault ≡ None → debug_information (shared s) ≡ Ok dbi
-    → (IsOutside e (HasRisen 0 0) ⊎ (tables (shared s) dbi ≡ Err (fault_of e))) → FailsLoading (load_fault_of e) (loaded (shared s))
-tables_fail s e dbi h dbi_is read = rw (opened s h, behind_dbi (shared s) dbi dbi_is) (loads_on e (tables (shared s) dbi) (loaded_behind (shared s) dbi) read)
+pub tables_fail : (order : ContributionOrder) (s : Streams) (e : Error) (dbi : Dbi) → s.open_fault ≡ None → debug_information (shared s) ≡ Ok dbi
+    → (IsOutside e (HasRisen 0 0) ⊎ (tables (shared s) dbi ≡ Err (fault_of e))) → FailsLoading (load_fault_of e) (loaded_with order (shared s))
+tables_fail order s e dbi h dbi_is read = rw (opened order s h, behind_dbi order (shared s) dbi dbi_is) (loads_on e (tables (shared s) dbi) (loaded_behind order (shared s) dbi) read)
 
 -- address tables that aren't in order aren't loaded
-pub order_fails : (s : Streams) (dbi : Dbi) (read : Tables) → s.open_fault ≡ None → debug_information (shared s) ≡ Ok dbi → tables (shared s) dbi ≡ Ok read → is_ordered read.map ≡ false
-    → loaded (shared s) ≡ Err AddressTableDecreases
-order_fails s dbi read h dbi_is read_is ordered = opened s h ∙ behind_tables (shared s) dbi read dbi_is read_is ∙ out_of_order (shared s) dbi read ordered
+pub order_fails : (order : ContributionOrder) (s : Streams) (dbi : Dbi) (read : Tables) → s.open_fault ≡ None → debug_information (shared s) ≡ Ok dbi → tables (shared s) dbi ≡ Ok read → is_ordered read.map ≡ false
+    → loaded_with order (shared s) ≡ Err AddressTableDecreases
+order_fails order s dbi read h dbi_is read_is ordered = opened order s h ∙ behind_tables order (shared s) dbi read dbi_is read_is ∙ out_of_order order (shared s) dbi read ordered
 
 -- a module list that isn't whole isn't loaded, with its fault
 same_fault : (f e : Fault) → Some f ≡ Some e → f ≡ e
@@ -107,10 +108,10 @@ list_outside : (e : Error) (dbi : Dbi) (read : Tables) → (IsOutside e (HasRise
 list_outside e dbi read (inl h) = inl h
 list_outside e dbi read (inr h) = inr (listed_fails dbi read (fault_of e) h)
 
-pub list_fails : (s : Streams) (e : Error) (dbi : Dbi) (read : Tables) → s.open_fault ≡ None → debug_information (shared s) ≡ Ok dbi → tables (shared s) dbi ≡ Ok read → is_ordered read.map ≡ true
-    → (IsOutside e (HasRisen 0 0) ⊎ (read_after dbi read ≡ Err (fault_of e))) → FailsLoading (load_fault_of e) (loaded (shared s))
-list_fails s e dbi read h dbi_is read_is ordered failed =
-    rw (opened s h, behind_tables (shared s) dbi read dbi_is read_is, in_order (shared s) dbi read ordered) (loads_on e (listed dbi) _ (list_outside e dbi read failed))
+pub list_fails : (order : ContributionOrder) (s : Streams) (e : Error) (dbi : Dbi) (read : Tables) → s.open_fault ≡ None → debug_information (shared s) ≡ Ok dbi → tables (shared s) dbi ≡ Ok read → is_ordered read.map ≡ true
+    → (IsOutside e (HasRisen 0 0) ⊎ (read_after dbi read ≡ Err (fault_of e))) → FailsLoading (load_fault_of e) (loaded_with order (shared s))
+list_fails order s e dbi read h dbi_is read_is ordered failed =
+    rw (opened order s h, behind_tables order (shared s) dbi read dbi_is read_is, in_order order (shared s) dbi read ordered) (loads_on e (listed dbi) _ (list_outside e dbi read failed))
 
 -- whether what every question goes over was read
 abbrev checked : Result Parts answers.Fault → Result (Unit {0}) answers.Fault
@@ -150,8 +151,8 @@ read_is : (dbi : Dbi) (read : Tables) (h : Held) → read_after dbi read ≡ Ok 
 read_is dbi read h e = read_by (listed dbi) dbi read h e
 
 -- what every question goes over, by the names of the file
-same_parts : (s : Streams) (h : Held) → h.names ≡ names_in s → parts_in (shared s) h.debug_information h.tables ≡ in_loading (parts_held h)
-same_parts s h names_are = rw names_are refl
+same_parts : (order : ContributionOrder) (s : Streams) (h : Held) → h.names ≡ names_in s → parts_in order (shared s) h.debug_information h.tables ≡ in_loading (parts_held_with order h)
+same_parts order s h names_are = rw names_are refl
 
 own_names : (s : Streams) (h : Held) → IsOwn s (HasRisen 0 0) h → h.names ≡ names_in s
 own_names s h own = elim own.names_are [ inl is ↦ is | inr failed ↦ absurd (omega (arith, failed.0)) ]
@@ -160,37 +161,37 @@ own_modules : (s : Streams) (h : Held) → IsOwn s (HasRisen 0 0) h → (number 
 own_modules s h own = λ number. elim (own.modules_are number) [ inl is ↦ is | inr failed ↦ absurd (omega (arith, failed.0)) ]
 
 -- what every question goes over that is refused isn't loaded, with its fault
-pub parts_fail : (s : Streams) (e : context.Error) (dbi : Dbi) (read : Tables) (h : Held) → s.open_fault ≡ None → debug_information (shared s) ≡ Ok dbi → tables (shared s) dbi ≡ Ok read → is_ordered read.map ≡ true
-    → read_after dbi read ≡ Ok (read_in h) → IsOwn s (HasRisen 0 0) h → answers.Fails e (parts_checked h) → FailsLoading (load_fault_in_context e) (loaded (shared s))
-parts_fail s e dbi read h is_open dbi_is tables_are ordered loads own failed =
+pub parts_fail : (order : ContributionOrder) (s : Streams) (e : context.Error) (dbi : Dbi) (read : Tables) (h : Held) → s.open_fault ≡ None → debug_information (shared s) ≡ Ok dbi → tables (shared s) dbi ≡ Ok read → is_ordered read.map ≡ true
+    → read_after dbi read ≡ Ok (read_in h) → IsOwn s (HasRisen 0 0) h → answers.Fails e (parts_checked order h) → FailsLoading (load_fault_in_context e) (loaded_with order (shared s))
+parts_fail order s e dbi read h is_open dbi_is tables_are ordered loads own failed =
     let same = read_is dbi read h loads in
-    rw (opened s is_open, behind_tables (shared s) dbi read dbi_is tables_are, behind_list (shared s) dbi read tt ordered same.2, same.0, same.1, same_parts s h (own_names s h own)) (parts_refused e (parts_held h) _ failed)
+    rw (opened order s is_open, behind_tables order (shared s) dbi read dbi_is tables_are, behind_list order (shared s) dbi read tt ordered same.2, same.0, same.1, same_parts order s h (own_names s h own)) (parts_refused e (parts_held_with order h) _ failed)
 
 -- what every question goes over was read
 there : (parts : Result Parts answers.Fault) (u : Unit {0}) → checked parts ≡ Ok u → (p : Parts) × (parts ≡ Ok p)
 there (Ok p) u h = (p, refl)
 there (Err e) u h = absurd cc
 
-pub loaded_fully : (s : Streams) (h : Held) (parts : Parts) → s.open_fault ≡ None → debug_information (shared s) ≡ Ok h.debug_information → tables (shared s) h.debug_information ≡ Ok h.tables
-    → is_ordered h.tables.map ≡ true → listed h.debug_information ≡ Ok tt → h.names ≡ names_in s → parts_held h ≡ Ok parts
-    → loaded (shared s) ≡ Ok (record { debug_information = h.debug_information; tables = h.tables; parts = parts })
-loaded_fully s h parts is_open dbi_is read_is ordered list_is names_are parts_are =
-    opened s is_open ∙ behind_tables (shared s) h.debug_information h.tables dbi_is read_is ∙ behind_list (shared s) h.debug_information h.tables tt ordered list_is
-    ∙ ap (λ r. r >>= λ (p : Parts). Ok (record { debug_information = h.debug_information; tables = h.tables; parts = p })) (same_parts s h names_are ∙ ap in_loading parts_are)
+pub loaded_fully : (order : ContributionOrder) (s : Streams) (h : Held) (parts : Parts) → s.open_fault ≡ None → debug_information (shared s) ≡ Ok h.debug_information → tables (shared s) h.debug_information ≡ Ok h.tables
+    → is_ordered h.tables.map ≡ true → listed h.debug_information ≡ Ok tt → h.names ≡ names_in s → parts_held_with order h ≡ Ok parts
+    → loaded_with order (shared s) ≡ Ok (record { debug_information = h.debug_information; tables = h.tables; parts = parts })
+loaded_fully order s h parts is_open dbi_is read_is ordered list_is names_are parts_are =
+    opened order s is_open ∙ behind_tables order (shared s) h.debug_information h.tables dbi_is read_is ∙ behind_list order (shared s) h.debug_information h.tables tt ordered list_is
+    ∙ ap (λ r. r >>= λ (p : Parts). Ok (record { debug_information = h.debug_information; tables = h.tables; parts = p })) (same_parts order s h names_are ∙ ap in_loading parts_are)
 
 -- what was stored of a loaded file is the file's
-pub is_kept : (file : List ℕ) (dbi : Dbi) (read : Tables) (h : Held) (u : Unit {0}) → (streams file).open_fault ≡ None → debug_information (shared (streams file)) ≡ Ok dbi → tables (shared (streams file)) dbi ≡ Ok read
-    → is_ordered read.map ≡ true → IsOrdered read.map → read_after dbi read ≡ Ok (read_in h) → IsOwn (streams file) (HasRisen 0 0) h → parts_checked h ≡ Ok u → IsLoadedFrom file h
-is_kept file dbi read h u is_open dbi_is tables_are ordered is_so loads own was_checked =
+pub is_kept : (order : ContributionOrder) (file : List ℕ) (dbi : Dbi) (read : Tables) (h : Held) (u : Unit {0}) → (streams file).open_fault ≡ None → debug_information (shared (streams file)) ≡ Ok dbi → tables (shared (streams file)) dbi ≡ Ok read
+    → is_ordered read.map ≡ true → IsOrdered read.map → read_after dbi read ≡ Ok (read_in h) → IsOwn (streams file) (HasRisen 0 0) h → parts_checked order h ≡ Ok u → IsLoadedWith order file h
+is_kept order file dbi read h u is_open dbi_is tables_are ordered is_so loads own was_checked =
     let s = streams file in
     let same = read_is dbi read h loads in
-    let parts = there (parts_held h) u was_checked in
+    let parts = there (parts_held_with order h) u was_checked in
     let dbi_too : debug_information (shared s) ≡ Ok h.debug_information = dbi_is ∙ ap (λ (d : Dbi). Ok d) same.0 in
     let read_too : tables (shared s) h.debug_information ≡ Ok h.tables = ap (tables (shared s)) (sym same.0) ∙ tables_are ∙ ap (λ (t : Tables). Ok t) same.1 in
     let names_are = own_names s h own in
     record {
       parts = parts.0;
-      loaded_is = loaded_fully s h parts.0 is_open dbi_too read_too (ap (λ (t : Tables). is_ordered t.map) (sym same.1) ∙ ordered) (ap listed (sym same.0) ∙ same.2) names_are parts.1;
+      loaded_is = loaded_fully order s h parts.0 is_open dbi_too read_too (ap (λ (t : Tables). is_ordered t.map) (sym same.1) ∙ ordered) (ap listed (sym same.0) ∙ same.2) names_are parts.1;
       parts_are = parts.1;
       ordered = rw (sym same.1) is_so;
       names_are = names_are;
@@ -203,37 +204,37 @@ kept_ordered dbi read h is loads = let same = read_is dbi read h loads in rw (sy
 
 -- ---- the same after tables that are in order
 
-pub ordered_list_fails : (file : List ℕ) (e : Error) (dbi : Dbi) (read : Tables) → (streams file).open_fault ≡ None → AreInOrder (streams file) dbi read
-    → (IsOutside e (HasRisen 0 0) ⊎ (read_after dbi read ≡ Err (fault_of e))) → FailsLoading (load_fault_of e) (loaded (shared (streams file)))
-ordered_list_fails file e dbi read is_open are failed = list_fails (streams file) e dbi read is_open are.dbi_is are.tables_are are.in_order failed
+pub ordered_list_fails : (order : ContributionOrder) (file : List ℕ) (e : Error) (dbi : Dbi) (read : Tables) → (streams file).open_fault ≡ None → AreInOrder (streams file) dbi read
+    → (IsOutside e (HasRisen 0 0) ⊎ (read_after dbi read ≡ Err (fault_of e))) → FailsLoading (load_fault_of e) (loaded_with order (shared (streams file)))
+ordered_list_fails order file e dbi read is_open are failed = list_fails order (streams file) e dbi read is_open are.dbi_is are.tables_are are.in_order failed
 
-pub ordered_parts_fail : (file : List ℕ) (e : context.Error) (dbi : Dbi) (read : Tables) (h : Held) → (streams file).open_fault ≡ None → AreInOrder (streams file) dbi read
-    → read_after dbi read ≡ Ok (read_in h) → IsOwn (streams file) (HasRisen 0 0) h → answers.Fails e (parts_checked h) → FailsLoading (load_fault_in_context e) (loaded (shared (streams file)))
-ordered_parts_fail file e dbi read h is_open are loads own failed = parts_fail (streams file) e dbi read h is_open are.dbi_is are.tables_are are.in_order loads own failed
+pub ordered_parts_fail : (order : ContributionOrder) (file : List ℕ) (e : context.Error) (dbi : Dbi) (read : Tables) (h : Held) → (streams file).open_fault ≡ None → AreInOrder (streams file) dbi read
+    → read_after dbi read ≡ Ok (read_in h) → IsOwn (streams file) (HasRisen 0 0) h → answers.Fails e (parts_checked order h) → FailsLoading (load_fault_in_context e) (loaded_with order (shared (streams file)))
+ordered_parts_fail order file e dbi read h is_open are loads own failed = parts_fail order (streams file) e dbi read h is_open are.dbi_is are.tables_are are.in_order loads own failed
 
-pub held_is_kept : (file : List ℕ) (dbi : Dbi) (read : Tables) (h : Held) → (streams file).open_fault ≡ None → AreInOrder (streams file) dbi read
-    → read_after dbi read ≡ Ok (read_in h) → IsOwn (streams file) (HasRisen 0 0) h → parts_checked h ≡ Ok tt → IsLoadedFrom file h
-held_is_kept file dbi read h is_open are loads own was_checked = is_kept file dbi read h tt is_open are.dbi_is are.tables_are are.in_order are.ordered loads own was_checked
+pub held_is_kept : (order : ContributionOrder) (file : List ℕ) (dbi : Dbi) (read : Tables) (h : Held) → (streams file).open_fault ≡ None → AreInOrder (streams file) dbi read
+    → read_after dbi read ≡ Ok (read_in h) → IsOwn (streams file) (HasRisen 0 0) h → parts_checked order h ≡ Ok tt → IsLoadedWith order file h
+held_is_kept order file dbi read h is_open are loads own was_checked = is_kept order file dbi read h tt is_open are.dbi_is are.tables_are are.in_order are.ordered loads own was_checked
 
 no_fault : (r : Result Loaded LoadingFault) (l : Loaded) → r ≡ Ok l → fault_in r ≡ None
 no_fault r l h = ap fault_in h
 
 -- a file that was loaded has no load fault
-pub kept_loads : (file : List ℕ) (h : Held) → IsLoadedFrom file h → load_fault (streams file) ≡ None
-kept_loads file h is = no_fault (loaded (shared (streams file))) _ is.loaded_is
+pub kept_loads : (order : ContributionOrder) (file : List ℕ) (h : Held) → IsLoadedWith order file h → load_fault_with order (streams file) ≡ None
+kept_loads order file h is = no_fault (loaded_with order (shared (streams file))) _ is.loaded_is
 
 -- a failed load is a load fault
-pub refuses : (e : LoadFault) (s : Streams) → FailsLoading e (loaded (shared s)) → Refuses e (load_fault s)
-refuses faults.OutOfMemory s h = tt
-refuses (faults.Pdb contexts.OutOfMemory) s h = h
-refuses (faults.Pdb (contexts.PdbError errors.OutOfMemory)) s h = h
-refuses e s h = ap fault_in h
+pub refuses : (order : ContributionOrder) (e : LoadFault) (s : Streams) → FailsLoading e (loaded_with order (shared s)) → Refuses e (load_fault_with order s)
+refuses order faults.OutOfMemory s h = tt
+refuses order (faults.Pdb contexts.OutOfMemory) s h = h
+refuses order (faults.Pdb (contexts.PdbError errors.OutOfMemory)) s h = h
+refuses order e s h = ap fault_in h
 
-pub all_refused : {A : Type 0} (r : Result A LoadFault) (s : Streams) → IfErr r (λ e. FailsLoading e (loaded (shared s))) → IfErr r (λ e. Refuses e (load_fault s))
-all_refused (Ok x) s h = tt
-all_refused (Err e) s h = refuses e s h
+pub all_refused : {A : Type 0} (order : ContributionOrder) (r : Result A LoadFault) (s : Streams) → IfErr r (λ e. FailsLoading e (loaded_with order (shared s))) → IfErr r (λ e. Refuses e (load_fault_with order s))
+all_refused order (Ok x) s h = tt
+all_refused order (Err e) s h = refuses order e s h
 
 -- a container that isn't opened is a load fault
-pub not_opened : {S : Type 0} (bytes : S → List ℕ) (before : S) (s : Streams) (e : Error)
-    → (IsOutside e ((after : S) × (bytes after ≡ bytes before) × HasRisen 0 0) ⊎ (s.open_fault ≡ Some (fault_of e))) → Refuses (load_fault_of e) (load_fault s)
-not_opened bytes before s e h = refuses (load_fault_of e) s (container_fails s (load_fault_of e) (opening_fails bytes before e s.open_fault h))
+pub not_opened : {S : Type 0} (order : ContributionOrder) (bytes : S → List ℕ) (before : S) (s : Streams) (e : Error)
+    → (IsOutside e ((after : S) × (bytes after ≡ bytes before) × HasRisen 0 0) ⊎ (s.open_fault ≡ Some (fault_of e))) → Refuses (load_fault_of e) (load_fault_with order s)
+not_opened order bytes before s e h = refuses order (load_fault_of e) s (container_fails order s (load_fault_of e) (opening_fails bytes before e s.open_fault h))

@@ -4,10 +4,11 @@ use Rattle.std.specs.Prelude.{not, Option, None, Some}
 use Rattle.std.proofs.lemmas.Bool.{and_parts}
 use Rattle.std.proofs.lemmas.Slice.Eq.{bytes_eq-Decides}
 use Rattle.pdb_addresses.specs.Addresses.{is_ordered}
+use Rattle.pdb_loading.specs.declared.order.ContributionOrder.{ContributionOrder}
 use Rattle.pdb_container.specs.Fault.{Fault, ◌>>=◌, refuse}
 use Rattle.pdb_loading.specs.Held.{Held, given, kept_infos}
-use Rattle.pdb_loading.specs.LoadedFile.{IsLoadedFrom}
-use Rattle.pdb_loading.specs.Loading.{AddressTableDecreases, Loaded, LoadingFault, lifted, listed, loaded, none_or, parts_in, tables}
+use Rattle.pdb_loading.specs.LoadedFile.{IsLoadedWith}
+use Rattle.pdb_loading.specs.Loading.{AddressTableDecreases, Loaded, LoadingFault, lifted, listed, loaded_with, none_or, parts_in, tables}
 use Rattle.pdb_loading.specs.ModuleInfos.{KeptInfo, answered_at}
 use Rattle.pdb_loading.proofs.HeldSteps.{list_ends, modules_given}
 use Rattle.pdb_symbols_modules.specs.DatabaseCalls.{debug_information}
@@ -41,24 +42,24 @@ dbi_or l (Ok x) = x.debug_information
 dbi_or l (Err e) = l.debug_information
 
 -- stream 3 of a file that loads, and its module list
-dbi_of_loaded : (c : Shared) (l : Loaded) → loaded c ≡ Ok l → (debug_information c ≡ Ok l.debug_information) × (listed l.debug_information ≡ Ok tt)
-unfolding loaded
-dbi_of_loaded c l h =
+dbi_of_loaded : (order : ContributionOrder) (c : Shared) (l : Loaded) → loaded_with order c ≡ Ok l → (debug_information c ≡ Ok l.debug_information) × (listed l.debug_information ≡ Ok tt)
+unfolding loaded_with
+dbi_of_loaded order c l h =
     let opened = bound (lifted (none_or c.open_fault)) _ l h in
     let dbi = bound (lifted (debug_information c)) _ l opened.2 in
     let read = bound (lifted (tables c dbi.0)) _ l dbi.2 in
     let ordered = bound (refuse (not (is_ordered read.0.map)) AddressTableDecreases) _ l read.2 in
     let modules = bound (lifted (listed dbi.0)) _ l ordered.2 in
-    let parts = bound (parts_in c dbi.0 read.0) _ l modules.2 in
+    let parts = bound (parts_in order c dbi.0 read.0) _ l modules.2 in
     let same : dbi.0 ≡ l.debug_information = ap (λ (r : Result Loaded LoadingFault). dbi_or l r) parts.2 in (
       not_lifted (debug_information c) dbi.0 dbi.1 ∙ ap (λ (d : Dbi). let r : Result Dbi Fault = Ok d in r) same,
       subst (λ (d : Dbi). listed d ≡ Ok tt) same (not_lifted (listed dbi.0) tt modules.1),
     )
 
 -- modules that are what a loaded file has are what it gives
-pub modules_of_loaded : (file : List ℕ) (h : Held) (infos : List KeptInfo) → IsLoadedFrom file h → infos ≡ kept_infos (streams file) (modules_of h.debug_information.modules).items
+pub modules_of_loaded : (order : ContributionOrder) (file : List ℕ) (h : Held) (infos : List KeptInfo) → IsLoadedWith order file h → infos ≡ kept_infos (streams file) (modules_of h.debug_information.modules).items
     → (number : ℕ) → answered_at infos number ≡ given (streams file) number
-modules_of_loaded file h infos is same number =
-    let there = dbi_of_loaded (shared (streams file)) (record { debug_information = h.debug_information; tables = h.tables; parts = is.parts }) is.loaded_is in
+modules_of_loaded order file h infos is same number =
+    let there = dbi_of_loaded order (shared (streams file)) (record { debug_information = h.debug_information; tables = h.tables; parts = is.parts }) is.loaded_is in
     ap (λ (xs : List KeptInfo). answered_at xs number) same
     ∙ modules_given (streams file) h.debug_information number there.0 (list_ends h.debug_information tt there.1)

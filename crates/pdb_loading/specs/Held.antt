@@ -3,8 +3,11 @@ use Rattle.std.specs.Prelude.{◌≡◌, ℕ, List, length, Option, map, Result}
 use Rattle.pdb_loading.specs.ModuleInfos.{KeptInfo, kept_info, answered, answered_at, if_read}
 use Rattle.pdb_loading.specs.ModuleInfos.{AnswersSourceFault, KeepsAt, KeepsNames}
 use Rattle.pdb_loading.specs.Loading.{Tables, DatabaseRead}
+use Rattle.pdb_loading.specs.Orders.{parts_with}
+use Rattle.pdb_loading.specs.declared.order.ContributionOrder.{ContributionOrder}
+use Rattle.pdb_loading.specs.declared.order.ContributionOrder.TheVariants.{InOrder}
 use Rattle.pdb_choice.specs.Choice.{Parts}
-use Rattle.pdb_choice.specs.Parts.{outcome, parts_of}
+use Rattle.pdb_choice.specs.Parts.{outcome}
 use Rattle.pdb_container.specs.Fault.{Fault}
 use Rattle.pdb_resolving.specs.Fault as answers
 use Rattle.pdb_symbols_modules.specs.ModuleStream.{ModuleStream}
@@ -26,15 +29,20 @@ pub record Held : Type 0 where
 abbrev pub read_in : Held → DatabaseRead
 read_in h = record { debug_information = h.debug_information; tables = h.tables }
 
--- what every question of a context goes over
-abbrev pub parts_held : Held → Result Parts answers.Fault
-parts_held h =
-    parts_of h.tables.map.image h.tables.map h.tables.symbol_records
+-- what every question of a context goes over, where section contributions have to stand in this
+-- order
+abbrev pub parts_held_with : ContributionOrder → Held → Result Parts answers.Fault
+parts_held_with order h =
+    parts_with order h.tables.map.image h.tables.map h.tables.symbol_records
     h.debug_information.contributions h.names
 
--- whether that can be had
-abbrev pub parts_checked : Held → Result (Unit {0}) answers.Fault
-parts_checked h = outcome (parts_held h)
+-- what it goes over where they have to stand in order
+abbrev pub parts_held : Held → Result Parts answers.Fault
+parts_held h = parts_held_with InOrder h
+
+-- whether that can be had, where they have to stand in this order
+abbrev pub parts_checked : ContributionOrder → Held → Result (Unit {0}) answers.Fault
+parts_checked order h = outcome (parts_held_with order h)
 
 -- what is stored of the modules of a list
 abbrev pub kept_infos : Streams → List Module → List KeptInfo

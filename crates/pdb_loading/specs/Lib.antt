@@ -8,5 +8,6 @@ pub mod LoadFaults
 pub mod LoadedFile
 pub mod Loading
 pub mod ModuleInfos
+pub mod Orders
 pub mod Provided
 pub mod Sharing

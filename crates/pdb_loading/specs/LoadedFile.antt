@@ -5,20 +5,27 @@ use Rattle.pdb_symbols_modules.specs.Dbi.{Dbi}
 use Rattle.pdb_symbols_modules.specs.DatabaseCalls.{debug_information}
 use Rattle.pdb_symbols_modules.specs.Shared.{shared}
 use Rattle.pdb_symbols_modules.specs.Streams.{Streams, streams}
+use Rattle.pdb_loading.specs.declared.order.ContributionOrder.{ContributionOrder}
 use Rattle.pdb_choice.specs.Choice.{Parts}
-use Rattle.pdb_loading.specs.Held.{Held, given, names_in, parts_held}
+use Rattle.pdb_loading.specs.Held.{Held, given, names_in, parts_held_with}
 use Rattle.pdb_loading.specs.ModuleInfos.{answered_at}
-use Rattle.pdb_loading.specs.Loading.{Tables, tables, loaded}
+use Rattle.pdb_loading.specs.Loading.{Tables, tables, loaded_with}
 
--- What was loaded, the string table, and what is given of each module are the file's.
-pub record IsLoadedFrom (file : List ℕ) (h : Held) : Type 0 where
+-- a file that was loaded: its bytes, and the order in which section contributions have to stand
+pub record FileBytes : Type 0 where
+  pub bytes : List ℕ
+  pub order : ContributionOrder
+
+-- What was loaded, where section contributions have to stand in this order, the string table, and
+-- what is given of each module are the file's.
+pub record IsLoadedWith (order : ContributionOrder) (file : List ℕ) (h : Held) : Type 0 where
   pub parts : Parts
-  pub loaded_is : loaded (shared (streams file)) ≡ Ok record {
+  pub loaded_is : loaded_with order (shared (streams file)) ≡ Ok record {
     debug_information = h.debug_information;
     tables = h.tables;
     parts = parts;
   }
-  pub parts_are : parts_held h ≡ Ok parts
+  pub parts_are : parts_held_with order h ≡ Ok parts
   pub ordered : IsOrdered h.tables.map
   pub names_are : h.names ≡ names_in (streams file)
   pub modules_are : (number : ℕ) → answered_at h.infos number ≡ given (streams file) number

@@ -13,9 +13,11 @@ use Rattle.pdb_symbols_modules.specs.DatabaseCalls.{ids, names}
 use Rattle.pdb_symbols_modules.specs.Shared.{Shared, shared, optional_in}
 use Rattle.pdb_symbols_modules.specs.Streams.{Streams, fault_in}
 use Rattle.pdb_resolving.specs.Fault as answers
+use Rattle.pdb_loading.specs.declared.order.ContributionOrder.{ContributionOrder}
+use Rattle.pdb_loading.specs.declared.order.ContributionOrder.TheVariants.{InOrder}
 use Rattle.pdb_choice.specs.Choice.{Parts}
-use Rattle.pdb_choice.specs.Parts.{parts_of}
 use Rattle.pdb_loading.specs.ModuleInfos.{if_read}
+use Rattle.pdb_loading.specs.Orders.{parts_with}
 
 -- ---- faults
 
@@ -75,15 +77,17 @@ listed dbi = do
   Ok tt
 
 -- What every question goes over: the symbol records to their end, and then the contributions, in
--- order and apart. A string table that can't be read is none.
-abbrev pub parts_in : Shared → Dbi → Tables → Result Parts LoadingFault
-parts_in c dbi read =
+-- this order and apart. A string table that can't be read is none.
+abbrev pub parts_in : ContributionOrder → Shared → Dbi → Tables → Result Parts LoadingFault
+parts_in order c dbi read =
     in_loading
-    (parts_of read.map.image read.map read.symbol_records dbi.contributions (if_read (names c)))
+    (parts_with order read.map.image read.map read.symbol_records dbi.contributions
+    (if_read (names c)))
 
--- The order of loading: the first step that fails has the fault.
-unfoldable pub loaded : Shared → Result Loaded LoadingFault
-loaded c = do
+-- The order of loading, where section contributions have to stand in this order: the first step
+-- that fails has the fault.
+unfoldable pub loaded_with : ContributionOrder → Shared → Result Loaded LoadingFault
+loaded_with order c = do
   -- the container
   opened ← lifted (none_or c.open_fault)
   -- stream 3 (DBI), with its header
@@ -95,8 +99,16 @@ loaded c = do
   -- the module list
   modules ← lifted (listed dbi)
   -- symbols, contributions
-  parts ← parts_in c dbi read
+  parts ← parts_in order c dbi read
   Ok record { debug_information = dbi; tables = read; parts = parts }
+
+-- what is loaded where they have to stand in order
+abbrev pub loaded : Shared → Result Loaded LoadingFault
+loaded c = loaded_with InOrder c
+
+-- why a file isn't loaded where they have to stand in this order
+abbrev pub load_fault_with : ContributionOrder → Streams → Option LoadingFault
+load_fault_with order s = fault_in (loaded_with order (shared s))
 
 -- why a file isn't loaded
 abbrev pub load_fault : Streams → Option LoadingFault

@@ -1,12 +1,15 @@
 //! What is held of a database: the streams that are read in the order of loading, the names of
 //! files and modules, and the modules' own streams.
 
-ghost use Rattle.std.specs.Prelude.{◌≡◌, IfOk, Ok};
+ghost use Rattle.std.specs.Prelude.{◌≡◌, ℕ, IfOk, List, Ok, Option};
+ghost use Rattle.pdb_addresses.specs.Addresses.{Map};
+ghost use Rattle.pdb_choice.specs.Parts.{outcome, parts_in_any_order};
 ghost use Rattle.pdb_container.specs.Fault.{Gives, HasRisen};
 ghost use Rattle.pdb_container.specs.SourceAnswers.{AnswersFrom};
 ghost use Rattle.pdb_loading.specs.Held.{IsOwn, kept_infos, names_in, parts_checked, read_in};
 ghost use Rattle.pdb_loading.specs.Loading.{database_read, listed, read_after};
 ghost use Rattle.pdb_loading.specs.ModuleInfos.{KeepsNames};
+ghost use Rattle.pdb_loading.specs.Orders.{checked_in_any_order};
 ghost use Rattle.pdb_resolving.specs.Fault.{Answers};
 ghost use Rattle.pdb_symbols_modules.specs.DatabaseCalls.{debug_information as read_dbi};
 ghost use Rattle.pdb_symbols_modules.specs.Modules.{modules_of};
@@ -15,11 +18,15 @@ ghost use Rattle.pdb_symbols_modules.specs.Streams.{streams};
 
 use crate::file_modules::FileModules;
 use crate::module_infos::{KeptModules, collect_modules, read_module_infos};
+use crate::order::ContributionOrder;
 use crate::tables::{Tables, read_names, read_tables};
+use pdb_addresses::ImageSectionHeader;
 use pdb_choice::ContextParts;
 use pdb_container::{Result, Source, StringTable};
+use pdb_contributions::{check_symbols, compute_section_contributions_in_any_order};
 use pdb_file_views::FileSource;
 use pdb_resolving::Error;
+use pdb_symbol_records::SymbolTable;
 use pdb_symbols_modules::{DebugInformation, PDB};
 use std::alloc::Global;
 use std::marker::Model;
@@ -189,20 +196,62 @@ pub fn hold_database<'s>(alloc: Global, mut pdb: PDB<'s, FileSource>) -> Result<
     hold_after_tables(alloc, pdb, debug_information, tables)
 }
 
+/// Reads the symbol records to their end, and then the section contributions of the DBI stream,
+/// which may stand in any order. It stores nothing.
+#[tactic(auto, using(pdb_resolving::proofs::Lifting::parsed_fails_on, pdb_resolving::proofs::Lifting::fails_on), unfolding(crate::specs::Orders::checked_in_any_order))]
+fn read_in_any_order(
+    alloc: Global,
+    sections: &[ImageSectionHeader],
+    symbol_records: &SymbolTable<'_>,
+    debug_information: &DebugInformation<'_>,
+) -> std::result::Result<(), Error>
+    ensures { Answers (λ _. tt) result (checked_in_any_order sections.now symbol_records.now
+        debug_information.now.contributions) }
+{
+    check_symbols(symbol_records.iter())?;
+    compute_section_contributions_in_any_order(alloc, debug_information, sections)?;
+    Ok(())
+}
+
+/// Checks that what every question goes over can be had where section contributions may stand in
+/// any order, whatever the address map and the names are.
+#[tactic(auto, using(crate::proofs::CheckedParts::as_checked))]
+fn check_in_any_order(
+    alloc: Global,
+    sections: &[ImageSectionHeader],
+    symbol_records: &SymbolTable<'_>,
+    debug_information: &DebugInformation<'_>,
+) -> std::result::Result<(), Error>
+    ensures { (map : Map) (names : Option (List ℕ)) → Answers (λ _. tt) result (outcome
+        (parts_in_any_order sections.now map symbol_records.now
+        debug_information.now.contributions names)) }
+{
+    read_in_any_order(alloc, sections, symbol_records, debug_information)
+}
+
 impl<'s> HeldDatabase<'s> {
-    /// Checks that a context can be made: the symbol records are gone over to their end, and the
-    /// section contributions are merged.
+    /// Checks that a context can be made, where section contributions have to stand in this order:
+    /// the symbol records are gone over to their end, and the section contributions are merged.
     ///
     /// # Errors
-    /// As [`ContextParts::new`].
-    pub fn check_parts(&self, alloc: Global) -> std::result::Result<(), Error>
-        ensures { Answers (λ _. tt) result (parts_checked self.now) }
+    /// As [`ContextParts::new`]; in any order as [`ContextParts::in_any_order`].
+    pub fn check_parts(
+        &self,
+        alloc: Global,
+        order: ContributionOrder,
+    ) -> std::result::Result<(), Error>
+        ensures { Answers (λ _. tt) result (parts_checked order self.now) }
     {
-        ContextParts::check(
-            alloc,
-            self.tables.address_map.image_section_headers(),
-            &self.tables.symbol_records,
-            &self.debug_information,
-        )
+        let sections = self.tables.address_map.image_section_headers();
+        let symbol_records = &self.tables.symbol_records;
+        let debug_information = &self.debug_information;
+        match order {
+            ContributionOrder::InOrder => {
+                ContextParts::check(alloc, sections, symbol_records, debug_information)
+            }
+            ContributionOrder::Any => {
+                check_in_any_order(alloc, sections, symbol_records, debug_information)
+            }
+        }
     }
 }

@@ -15,6 +15,7 @@ mod load_fault;
 mod loading;
 mod module_infos;
 mod on_demand;
+mod order;
 mod tables;
 
 pub use file_modules::FileModules;
@@ -24,4 +25,5 @@ pub use load_fault::LoadFault;
 pub use loading::{LoadedFile, load_file};
 pub use module_infos::{KeptModules, collect_modules};
 pub use on_demand::{FileFault, LoadedViews, load_on_demand, modules_of_views};
+pub use order::ContributionOrder;
 pub use tables::{Tables, read_tables};

@@ -4,14 +4,16 @@
 ghost use Rattle.std.specs.Prelude.{◌≡◌, true, false, IfOk, OnOk, IfErr, None};
 ghost use Rattle.pdb_addresses.specs.Addresses.{IsOrdered, is_ordered};
 ghost use Rattle.pdb_loading.specs.declared.load_fault.LoadFault.TheVariants as faults;
-ghost use Rattle.pdb_loading.specs.LoadedFile.{AreInOrder, IsLoadedFrom};
+ghost use Rattle.pdb_loading.specs.declared.order.ContributionOrder.{ContributionOrder as Order};
+ghost use Rattle.pdb_loading.specs.LoadedFile.{AreInOrder, IsLoadedWith};
 ghost use Rattle.pdb_loading.specs.LoadFaults.{FailsLoading, Refuses};
-ghost use Rattle.pdb_loading.specs.Loading.{loaded, load_fault};
+ghost use Rattle.pdb_loading.specs.Loading.{loaded_with, load_fault_with};
 ghost use Rattle.pdb_symbols_modules.specs.Shared.{shared};
 ghost use Rattle.pdb_symbols_modules.specs.Streams.{streams};
 
 use crate::held_database::{HeldDatabase, hold_after_tables};
 use crate::load_fault::LoadFault;
+use crate::order::ContributionOrder;
 use crate::tables::{Tables, read_tables};
 use pdb_addresses::AddressMap;
 use pdb_file_views::FileSource;
@@ -22,29 +24,34 @@ use std::marker::Model;
 /// An open program database over a file's bytes.
 type FileDatabase = PDB<'static, FileSource>;
 
-/// A file that was loaded: its bytes, and what is held of its database. Its value in contracts is
-/// the file's bytes.
+/// A file that was loaded: its bytes, the order in which its section contributions have to stand,
+/// and what is held of its database. Its value in contracts is the file's bytes, with that order.
 pub struct LoadedFile {
     /// The file's bytes.
     pub file: FileSource,
+    /// In which order section contributions have to stand.
+    pub order: ContributionOrder,
     /// What contexts are made of.
     pub held: HeldDatabase<'static>,
 }
 
 impl Model for LoadedFile {
-    ghost use Rattle.std.specs.Prelude.{ℕ, List};
-    ghost use Rattle.pdb_loading.specs.LoadedFile.{IsLoadedFrom};
+    ghost use Rattle.pdb_loading.specs.LoadedFile.{FileBytes, IsLoadedWith};
 
-    ghost Value = { List ℕ };
+    ghost Value = { FileBytes };
 
-    ghost view = { λ f. f.file };
+    ghost view = { λ f. record { bytes = f.file; order = f.order } };
 
-    ghost invariant = { λ f. IsLoadedFrom f.file f.held };
+    ghost invariant = { λ f. IsLoadedWith f.order f.file f.held };
 }
 
 impl Drop for LoadedFile {
     fn drop(self) {
-        let LoadedFile { file, held } = self;
+        let LoadedFile {
+            file,
+            order: _,
+            held,
+        } = self;
         drop(file);
         drop(held);
     }
@@ -53,10 +60,14 @@ impl Drop for LoadedFile {
 impl LoadedFile {
     /// The file's bytes, and what is held of its database.
     pub fn into_parts(self) -> (FileSource, HeldDatabase<'static>)
-        ensures file { result.0 ≡ self }
-        ensures held { IsLoadedFrom result.0 result.1 }
+        ensures file { result.0 ≡ self.bytes }
+        ensures held { IsLoadedWith self.order result.0 result.1 }
     {
-        let LoadedFile { file, held } = self;
+        let LoadedFile {
+            file,
+            order: _,
+            held,
+        } = self;
         (file, held)
     }
 }
@@ -82,7 +93,8 @@ fn read_in_order(
     requires { (streams pdb.old).open_fault ≡ None }
     ensures same { OnOk result (pdb.new ≡ pdb.old) }
     ensures read { IfOk result (λ read. AreInOrder (streams pdb.old) read.0 read.1) }
-    ensures err { IfErr result (λ e. FailsLoading e (loaded (shared (streams pdb.old)))) }
+    ensures err { (order : Order)
+        → IfErr result (λ e. FailsLoading e (loaded_with order (shared (streams pdb.old)))) }
 {
     let debug_information = pdb.debug_information(alloc)?;
     let tables = read_tables(pdb, alloc, &debug_information)?;
@@ -93,21 +105,27 @@ fn read_in_order(
 }
 
 /// Reads what contexts are made of, and checks that a context can be made.
-fn read_held(alloc: Global, mut pdb: FileDatabase) -> Result<HeldDatabase<'static>, LoadFault>
+fn read_held(
+    alloc: Global,
+    mut pdb: FileDatabase,
+    order: ContributionOrder,
+) -> Result<HeldDatabase<'static>, LoadFault>
     requires { (streams pdb).open_fault ≡ None }
-    ensures kept { IfOk result (λ held. IsLoadedFrom pdb.entry held) }
-    ensures err { IfErr result (λ e. FailsLoading e (loaded (shared (streams pdb.entry)))) }
+    ensures kept { IfOk result (λ held. IsLoadedWith order pdb.entry held) }
+    ensures err { IfErr result
+        (λ e. FailsLoading e (loaded_with order (shared (streams pdb.entry)))) }
 {
     let (debug_information, tables) = read_in_order(alloc, &mut pdb)?;
     let held = hold_after_tables(alloc, pdb, debug_information, tables)?;
-    held.check_parts(alloc)?;
+    held.check_parts(alloc, order)?;
     Ok(held)
 }
 
 /// Opens the program database of a file's bytes, which are shared.
 fn open_file(alloc: Global, file: &FileSource) -> Result<FileDatabase, LoadFault>
     ensures ok { IfOk result (λ p. (p ≡ file.now) × ((streams file.now).open_fault ≡ None)) }
-    ensures refused { IfErr result (λ e. Refuses e (load_fault (streams file.now))) }
+    ensures refused { (order : Order)
+        → IfErr result (λ e. Refuses e (load_fault_with order (streams file.now))) }
 {
     let file = file.share(file.limits())?;
     Ok(PDB::open(alloc, file)?)
@@ -115,21 +133,25 @@ fn open_file(alloc: Global, file: &FileSource) -> Result<FileDatabase, LoadFault
 
 /// Opens the program database of a file's bytes and loads it: everything that keeps the file from
 /// being answered is found here, and what answers need is read, but for the modules' own streams:
-/// each is read when it is first asked for.
+/// each is read when it is first asked for. Section contributions have to stand in that order.
 ///
 /// # Errors
 /// The first fault, in the order in which a file is read: the container; stream 3 and its header;
 /// the stream of symbol records, types and ids with their headers; the address tables;
 /// `AddressTableDecreases` where the sources of an OMAP decrease; the module list; the symbol
 /// records to their end; the section contributions. `OutOfMemory`.
-pub fn load_file(alloc: Global, file: FileSource) -> Result<LoadedFile, LoadFault>
-    ensures ok { IfOk result (λ f. f ≡ file) }
-    ensures loaded { OnOk result (load_fault (streams file) ≡ None) }
-    ensures refused { IfErr result (λ e. Refuses e (load_fault (streams file))) }
+pub fn load_file(
+    alloc: Global,
+    file: FileSource,
+    order: ContributionOrder,
+) -> Result<LoadedFile, LoadFault>
+    ensures ok { IfOk result (λ f. (f.bytes ≡ file) × (f.order ≡ order)) }
+    ensures loaded { OnOk result (load_fault_with order (streams file) ≡ None) }
+    ensures refused { IfErr result (λ e. Refuses e (load_fault_with order (streams file))) }
 {
     let pdb = open_file(alloc, &file)?;
-    match read_held(alloc, pdb) {
-        Ok(held) => Ok(LoadedFile { file, held }),
+    match read_held(alloc, pdb, order) {
+        Ok(held) => Ok(LoadedFile { file, order, held }),
         Err(fault) => Err(fault),
     }
 }

@@ -9,7 +9,7 @@ ghost use Rattle.pdb_loading.specs.declared.load_fault.LoadFault.TheVariants as 
 ghost use Rattle.pdb_loading.specs.Held.{kept_infos};
 ghost use Rattle.pdb_loading.specs.LoadFaults.{Refuses};
 ghost use Rattle.pdb_loading.specs.LoadFaultText.{file_fault_text};
-ghost use Rattle.pdb_loading.specs.Loading.{load_fault};
+ghost use Rattle.pdb_loading.specs.Loading.{load_fault_with};
 ghost use Rattle.pdb_symbols_modules.specs.Modules.{modules_of};
 ghost use Rattle.pdb_symbols_modules.specs.Streams.{streams};
 
@@ -18,6 +18,7 @@ use crate::held_database::HeldDatabase;
 use crate::load_fault::LoadFault;
 use crate::loading::{LoadedFile, load_file};
 use crate::module_infos::{KeptModules, collect_modules};
+use crate::order::ContributionOrder;
 use boxcar::tag::Tag;
 use pdb_container::{PrintedFault, Result as ReadResult, kind_name};
 use pdb_file_views::{FileSource, FileViews, Wanted};
@@ -99,18 +100,21 @@ fn load_views(
     views: &FileViews,
     contents: &Tag,
     wanted: &Wanted,
+    order: ContributionOrder,
 ) -> Result<LoadedFile, LoadFault>
     ensures ok { agrees views.now contents.now.numbers ≡ true
-        → IfOk result (λ f. f ≡ contents.now.numbers) }
+        → IfOk result (λ f. f.bytes ≡ contents.now.numbers) }
+    ensures order { IfOk result (λ f. f.order ≡ order) }
     ensures loaded { agrees views.now contents.now.numbers ≡ true
-        → OnOk result (load_fault (streams contents.now.numbers) ≡ None) }
+        → OnOk result (load_fault_with order (streams contents.now.numbers) ≡ None) }
     ensures refused { agrees views.now contents.now.numbers ≡ true
-        → IfErr result (λ e. Refuses e (load_fault (streams contents.now.numbers))) }
+        → IfErr result
+        (λ e. Refuses e (load_fault_with order (streams contents.now.numbers))) }
 {
     let Ok(file) = FileSource::of_views(alloc, views, contents, wanted) else {
         return Err(LoadFault::OutOfMemory);
     };
-    load_file(alloc, file)
+    load_file(alloc, file, order)
 }
 
 /// A file that was loaded by what was read of it.
@@ -123,7 +127,8 @@ pub struct LoadedViews {
 }
 
 /// Loads a file that is read on demand. `contents` names the bytes that the clauses speak of: they
-/// hold where these agree with all that was read.
+/// hold where these agree with all that was read. Section contributions have to stand in that
+/// order.
 ///
 /// # Errors
 /// As [`load_file`]; `File` where the file couldn't be read.
@@ -132,18 +137,21 @@ pub fn load_on_demand<F: FileExt>(
     file: &F,
     views: &mut FileViews,
     contents: &Tag,
+    order: ContributionOrder,
 ) -> Result<LoadedViews, FileFault>
     ensures grows { Grows views.old views.new }
     ensures ok { agrees views.new contents.now.numbers ≡ true
-        → IfOk result (λ f. f.loaded ≡ contents.now.numbers) }
+        → IfOk result (λ f. f.loaded.bytes ≡ contents.now.numbers) }
+    ensures order { IfOk result (λ f. f.loaded.order ≡ order) }
     ensures loaded { agrees views.new contents.now.numbers ≡ true
-        → OnOk result (load_fault (streams contents.now.numbers) ≡ None) }
+        → OnOk result (load_fault_with order (streams contents.now.numbers) ≡ None) }
     ensures refused { agrees views.new contents.now.numbers ≡ true → IfErr result (λ e.
-        OnLoadFault e (λ cause. Refuses cause (load_fault (streams contents.now.numbers)))) }
+        OnLoadFault e
+        (λ cause. Refuses cause (load_fault_with order (streams contents.now.numbers)))) }
 {
     for _ in 0..ROUNDS {
         let wanted = Wanted::new(alloc)?;
-        match load_views(alloc, views, contents, &wanted) {
+        match load_views(alloc, views, contents, &wanted, order) {
             Ok(loaded) => return Ok(LoadedViews { loaded, wanted }),
             Err(LoadFault::OutOfMemory) => {}
             Err(fault) => return Err(FileFault::Load(fault)),

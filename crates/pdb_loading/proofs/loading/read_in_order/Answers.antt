@@ -10,20 +10,20 @@ use Rattle.pdb_loading.proofs.loading.read_in_order.Goals as goal
 
 -- a step that fails is the file's fault
 pub returns-in_err-debug_information-clause-err : goal.returns-in_err-debug_information-clause-err
-returns-in_err-debug_information-clause-err c =
+returns-in_err-debug_information-clause-err c = λ order.
     let p = err_from_is_err_and c.from_residual.result c.from_residual.ensures.1 in
-    rw (p.1, p.2) (dbi_fails (streams c.args.pdb.now) c.in_err-debug_information.field-0.0 c.requires c.in_err-debug_information.ensures.exact)
+    rw (p.1, p.2) (dbi_fails order (streams c.args.pdb.now) c.in_err-debug_information.field-0.0 c.requires c.in_err-debug_information.ensures.exact)
 
 pub returns-in_err-tables-clause-err : goal.returns-in_err-tables-clause-err
-returns-in_err-tables-clause-err c =
+returns-in_err-tables-clause-err c = λ order.
     let p = err_from_is_err_and c.from_residual-in_err-tables.result c.from_residual-in_err-tables.ensures.1 in
     let failed = rw c.debug_information.ensures.same at c.in_err-tables.ensures.exact in
-    rw (p.1, p.2) (tables_fail (streams c.args.pdb.now) c.in_err-tables.field-0.0 c.in_ok-debug_information.debug_information c.requires c.in_ok-debug_information.ensures.exact failed)
+    rw (p.1, p.2) (tables_fail order (streams c.args.pdb.now) c.in_err-tables.field-0.0 c.in_ok-debug_information.debug_information c.requires c.in_ok-debug_information.ensures.exact failed)
 
 pub returns-clause-err : goal.returns-clause-err
-returns-clause-err c =
+returns-clause-err c = λ order.
     let read = rw c.debug_information.ensures.same at c.in_ok-tables.ensures.exact in
-    let failed = order_fails (streams c.args.pdb.now) c.in_ok-debug_information.debug_information c.in_ok-tables.tables c.requires c.in_ok-debug_information.ensures.exact read
+    let failed = order_fails order (streams c.args.pdb.now) c.in_ok-debug_information.debug_information c.in_ok-tables.tables c.requires c.in_ok-debug_information.ensures.exact read
     (ap (λ (t : Tables). is_ordered t.map) (sym c.tables.view_is) ∙ c.in-Err.ensures.err.1) in
     rw c.in-Err.ensures.err.0 failed
 
