@@ -1,8 +1,7 @@
 -- A formatter and a context over what is held of a database.
 use Rattle.std.specs.Prelude.{ℕ, List, Result}
-use Rattle.pdb_answers.specs.Choice.{Parts}
-use Rattle.pdb_answers.specs.Parts.{parts_in_any_order}
-use Rattle.pdb_loading.specs.Held.{Held, parts_held}
+use Rattle.pdb_loading.specs.declared.order.ContributionOrder.{ContributionOrder}
+use Rattle.pdb_loading.specs.Held.{Held, parts_held, parts_held_with}
 use Rattle.pdb_loading.specs.ModuleInfos.{KeptInfo}
 use Rattle.pdb_symbols_modules.specs.Machine.{machine_of}
 use Rattle.pdb_symbols_modules.specs.Modules.{modules_of}
@@ -43,14 +42,7 @@ formatting_of h flags = record { reading = reading_of h; flags = flags }
 abbrev pub context_in : Held → ℕ → Result (Context (List KeptInfo)) Fault
 context_in h flags = context_over h.infos (formatting_of h flags) (parts_held h)
 
--- what every question of a context goes over, where section contributions may stand in any order
-abbrev pub parts_held_in_any_order : Held → Result Parts Fault
-parts_held_in_any_order h =
-    parts_in_any_order h.tables.map.image h.tables.map h.tables.symbol_records
-    h.debug_information.contributions h.names
-
--- a context over what is held, where section contributions may stand in any order; its formatter
--- has these flags
-abbrev pub context_in_any_order : Held → ℕ → Result (Context (List KeptInfo)) Fault
-context_in_any_order h flags =
-    context_over h.infos (formatting_of h flags) (parts_held_in_any_order h)
+-- a context over what is held, where section contributions have to stand in this order; its
+-- formatter has these flags
+abbrev pub context_with : ContributionOrder → Held → ℕ → Result (Context (List KeptInfo)) Fault
+context_with order h flags = context_over h.infos (formatting_of h flags) (parts_held_with order h)

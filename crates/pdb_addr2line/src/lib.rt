@@ -43,6 +43,7 @@
 //! | read what a context made of parts needs | [`read_tables`], [`Context::new_from_parts`] |
 //! | make a context | `make_context` |
 //! | make one with flags in place of the default ones | `make_context_with_formatter_flags` |
+//! | make one of a database that GNU ld before 2.44 wrote | `make_context_with_order` |
 //! | make one over other modules | [`Context::into_parts`], `make_context_over` |
 //! | ask whose module's stream a question needs | [`Context::module_at`], `modules_between` |
 //! | ask for the frames at an address | [`Context::find_frames`] |
@@ -79,6 +80,6 @@ pub use pdb_data::ContextPdbData;
 pub use pdb_functions::{
     FileAnswer, Frame, FrameRow, Function, FunctionFrames, SharedFrame, SharedFunctionFrames,
 };
-pub use pdb_loading::{KeptModules, Tables, read_tables};
+pub use pdb_loading::{ContributionOrder, KeptModules, Tables, read_tables};
 pub use pdb_resolving::{Error, ModuleProvider, Result};
 pub use pdb_text_pieces::{Flags, TypeFormatterFlags};

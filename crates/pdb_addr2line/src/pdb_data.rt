@@ -3,9 +3,10 @@
 ghost use Rattle.std.specs.Prelude.{◌≡◌, ◌≤◌, IfOk, IsOkUnless, Ok};
 ghost use Rattle.pdb_addresses.specs.Addresses.{IsOrdered};
 ghost use Rattle.pdb_container.specs.Fault.{HasRisen};
-ghost use Rattle.pdb_addr2line.specs.Formatters.{formatting_of, context_in, with_modules};
-ghost use Rattle.pdb_addr2line.specs.Formatters.{context_in_any_order, parts_held_in_any_order};
-ghost use Rattle.pdb_loading.specs.Held.{parts_held, read_in, IsOwn};
+ghost use Rattle.pdb_addr2line.specs.Context.{context_over};
+ghost use Rattle.pdb_addr2line.specs.Formatters.{formatting_of, context_in, context_with};
+ghost use Rattle.pdb_addr2line.specs.Formatters.{with_modules};
+ghost use Rattle.pdb_loading.specs.Held.{parts_held_with, read_in, IsOwn};
 ghost use Rattle.pdb_loading.specs.Loading.{database_read};
 ghost use Rattle.pdb_resolving.specs.Fault.{Answers};
 ghost use Rattle.pdb_addr2line.specs.Refused.{CanFail, Loads};
@@ -18,7 +19,9 @@ use pdb_answers::maybe_owned::MaybeOwned;
 use pdb_answers::{ContextParts, TypeFormatter};
 use pdb_container::{Result, Source};
 use pdb_file_views::FileSource;
-use pdb_loading::{HeldDatabase, KeptModules, collect_modules, hold_database, read_database};
+use pdb_loading::{
+    ContributionOrder, HeldDatabase, KeptModules, collect_modules, hold_database, read_database,
+};
 use pdb_resolving::{Error, ModuleProvider};
 use pdb_symbol_records::SymbolTable;
 use pdb_symbols_modules::{DebugInformation, Module, ModuleInfo, PDB};
@@ -249,51 +252,56 @@ impl<'p, 's, S: Source> ContextPdbData<'p, 's, S> {
         requires { IsOrdered self.now.tables.map }
         ensures { Answers (λ c. c) result (context_in self.now flags.bits) }
     {
-        let formatter = self.make_type_formatter_with_flags(alloc, flags)?;
-        Context::new_from_parts(
-            alloc,
-            &self.held.modules,
-            self.held.tables.address_map.image_section_headers(),
-            &self.held.tables.address_map,
-            &self.held.tables.symbol_records,
-            self.held.names.as_ref(),
-            &self.held.debug_information,
-            MaybeOwned::Owned(formatter),
-        )
+        self.make_context_with_order(alloc, flags, ContributionOrder::InOrder)
     }
 
-    /// What every question goes over, where section contributions may stand in any order
-    /// ([`ContextParts::in_any_order`]).
-    fn parts_in_any_order(&self, alloc: Global) -> std::result::Result<ContextParts<'_, 's>, Error>
+    /// What every question goes over, where section contributions have to stand in that order.
+    fn parts(
+        &self,
+        alloc: Global,
+        order: ContributionOrder,
+    ) -> std::result::Result<ContextParts<'_, 's>, Error>
         requires { IsOrdered self.now.tables.map }
-        ensures { Answers (λ p. p) result (parts_held_in_any_order self.now) }
+        ensures { Answers (λ p. p) result (parts_held_with order self.now) }
     {
-        ContextParts::in_any_order(
-            alloc,
-            self.held.tables.address_map.image_section_headers(),
-            &self.held.tables.address_map,
-            &self.held.tables.symbol_records,
-            self.held.names.as_ref(),
-            &self.held.debug_information,
-        )
+        match order {
+            ContributionOrder::InOrder => ContextParts::new(
+                alloc,
+                self.held.tables.address_map.image_section_headers(),
+                &self.held.tables.address_map,
+                &self.held.tables.symbol_records,
+                self.held.names.as_ref(),
+                &self.held.debug_information,
+            ),
+            ContributionOrder::Any => ContextParts::in_any_order(
+                alloc,
+                self.held.tables.address_map.image_section_headers(),
+                &self.held.tables.address_map,
+                &self.held.tables.symbol_records,
+                self.held.names.as_ref(),
+                &self.held.debug_information,
+            ),
+        }
     }
 
-    /// A context as [`ContextPdbData::make_context_with_formatter_flags`] makes it. But where its
-    /// parts are refused for the order of the section contributions, the first one in the order of
-    /// the file that holds a place is its holder. GNU ld before 2.44 writes such databases.
+    /// A context as [`ContextPdbData::make_context_with_formatter_flags`] makes it, where section
+    /// contributions have to stand in that order. In any order, where merging them is refused for
+    /// it, the first one in the order of the file that holds a place is its holder. GNU ld before
+    /// 2.44 writes such databases.
     ///
     /// # Errors
-    /// As [`Context::new_from_parts`], but for `UnorderedSectionContributions`.
-    pub fn make_context_in_any_order(
+    /// As [`Context::new_from_parts`]; in any order no `UnorderedSectionContributions`.
+    pub fn make_context_with_order(
         &self,
         alloc: Global,
         flags: TypeFormatterFlags,
+        order: ContributionOrder,
     ) -> std::result::Result<Context<'_, 's, KeptModules<'s>>, Error>
         requires { IsOrdered self.now.tables.map }
-        ensures { Answers (λ c. c) result (context_in_any_order self.now flags.bits) }
+        ensures { Answers (λ c. c) result (context_with order self.now flags.bits) }
     {
         let formatter = self.make_type_formatter_with_flags(alloc, flags)?;
-        let parts = self.parts_in_any_order(alloc)?;
+        let parts = self.parts(alloc, order)?;
         Context::with_parts(
             alloc,
             &self.held.modules,
@@ -314,8 +322,8 @@ impl<'p, 's, S: Source> ContextPdbData<'p, 's, S> {
         modules: &'a KeptModules<'s>,
         parts: ContextParts<'a, 's>,
     ) -> std::result::Result<Context<'a, 's, KeptModules<'s>>, Error>
-        requires { parts_held self.now ≡ Ok parts }
-        ensures { Answers (λ c. c) result (context_in (with_modules self.now modules.now) 23) }
+        ensures { Answers (λ c. c) result (context_over modules.now
+            (formatting_of (with_modules self.now modules.now) 23) (Ok parts.entry)) }
     {
         let flags = TypeFormatterFlags::default();
         self.make_context_over_with_formatter_flags(alloc, modules, parts, flags)
@@ -326,7 +334,6 @@ impl<'p, 's, S: Source> ContextPdbData<'p, 's, S> {
     ///
     /// # Errors
     /// `OutOfMemory` alone.
-    #[tactic(auto, using(crate::proofs::HeldModules::over_held))]
     pub fn make_context_over_with_formatter_flags<'a>(
         &'a self,
         alloc: Global,
@@ -334,9 +341,8 @@ impl<'p, 's, S: Source> ContextPdbData<'p, 's, S> {
         parts: ContextParts<'a, 's>,
         flags: TypeFormatterFlags,
     ) -> std::result::Result<Context<'a, 's, KeptModules<'s>>, Error>
-        requires { parts_held self.now ≡ Ok parts }
-        ensures { Answers (λ c. c) result
-            (context_in (with_modules self.now modules.now) flags.bits) }
+        ensures { Answers (λ c. c) result (context_over modules.now
+            (formatting_of (with_modules self.now modules.now) flags.bits) (Ok parts.entry)) }
     {
         let formatter = self.make_type_formatter_over(alloc, modules, flags)?;
         Context::with_parts(alloc, modules, parts, MaybeOwned::Owned(formatter))
