@@ -13,7 +13,7 @@ use pdb_addr2line::pdb::PDB;
 use pdb_file_views::FileSource;
 use pdb_image::{Image, PdbIdentity};
 use pdb_llvm_requests::{split_identity, without_architecture};
-use pdb_loading::LoadFault;
+use pdb_loading::{ContributionOrder, LoadFault, load_file};
 use std::alloc::{AllocError, Global};
 use std::fs;
 use std::io::{self, ErrorKind};
@@ -87,12 +87,9 @@ fn beside(rt: &(impl Files + AllocGlobal), file: &str, name: &str) -> Result<Str
     }
 }
 
-/// Checks that a database has an identity.
-fn check_build<'s>(
-    alloc: Global,
-    pdb: &mut PDB<'s, FileSource>,
-    wanted: PdbIdentity,
-) -> Result<(), OpenError> {
+/// Checks that the database of a source has an identity.
+fn check_build(alloc: Global, source: &FileSource, wanted: PdbIdentity) -> Result<(), OpenError> {
+    let mut pdb = PDB::open(alloc, source.share(source.limits())?)?;
     let information = pdb.pdb_information(alloc)?;
     let age = pdb.debug_information(alloc)?.age();
     if !wanted.matches(&PdbIdentity::of_pdb(information.guid, information.age, age)) {
@@ -101,17 +98,20 @@ fn check_build<'s>(
     Ok(())
 }
 
-/// Reads what contexts are made of. With an identity, that of the database has to match it.
+/// Reads what contexts are made of, in the order in which all programs do; section contributions
+/// may stand in any. With an identity, that of the database has to match it.
 fn load_source(
     alloc: Global,
     source: FileSource,
     identity: Option<PdbIdentity>,
 ) -> Result<Held, OpenError> {
-    let mut pdb = PDB::open(alloc, source)?;
     if let Some(wanted) = identity {
-        check_build(alloc, &mut pdb, wanted)?;
+        check_build(alloc, &source, wanted)?;
     }
-    Ok(ContextPdbData::try_from_file(alloc, pdb)?)
+    let loaded = load_file(alloc, source, ContributionOrder::Any)?;
+    let (source, held) = loaded.into_parts();
+    drop(source);
+    Ok(ContextPdbData::from_held(held))
 }
 
 /// Loads a database that is read on demand. With an identity, that of the database has to match it.

@@ -12,7 +12,8 @@ use crate::ordered_map::OrderedMap;
 use bumpalo::Bump;
 use pdb_addr2line::maybe_owned::MaybeOwned;
 use pdb_addr2line::{
-    Context, Error, Function, KeptModules, SharedFunctionFrames, TypeFormatterFlags,
+    Context, ContributionOrder, Error, Function, KeptModules, SharedFunctionFrames,
+    TypeFormatterFlags,
 };
 use pdb_llvm_requests::{Command, rva_of};
 use pdb_llvm_texts::{
@@ -115,7 +116,7 @@ fn context_and_names<'a>(
     let Some(map) = OrderedMap::of(held.address_map()) else {
         return Err(OpenError::Load(LoadFault::AddressTableDecreases));
     };
-    let context = held.make_context_in_any_order(alloc, flags())?;
+    let context = held.make_context_with_order(alloc, flags(), ContributionOrder::Any)?;
     Ok((context, FunctionNames::new(held, map)))
 }
 

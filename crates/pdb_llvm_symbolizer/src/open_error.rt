@@ -42,6 +42,12 @@ impl From<pdb_container::Error> for OpenError {
     }
 }
 
+impl From<LoadFault> for OpenError {
+    fn from(cause: LoadFault) -> OpenError {
+        OpenError::Load(cause)
+    }
+}
+
 impl From<ContextError> for OpenError {
     fn from(cause: ContextError) -> OpenError {
         OpenError::Load(LoadFault::from(cause))
