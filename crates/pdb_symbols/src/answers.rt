@@ -5,7 +5,7 @@ use crate::frames_run::{FileContext, FramesRun, find_frames_run};
 use crate::loaded::{Held, Loaded, not_in_order};
 use crate::ordered_map::OrderedMap;
 use pdb_addr2line::maybe_owned::MaybeOwned;
-use pdb_addr2line::{Error, FunctionFrames, KeptModules, TypeFormatterFlags};
+use pdb_addr2line::{ContributionOrder, Error, FunctionFrames, KeptModules, TypeFormatterFlags};
 use pdb_addresses::PdbInternalSectionOffset;
 use pdb_symbol_files::{Told, told_of};
 use std::alloc::{AllocError, Global};
@@ -70,7 +70,8 @@ fn over_modules<'a>(
 }
 
 impl<'a, 'f, F: FileExt> Answers<'a, 'f, F> {
-    /// What answers the addresses of a database that is loaded.
+    /// What answers the addresses of a database that is loaded. Section contributions may stand in
+    /// any order.
     ///
     /// # Errors
     /// Why it can't be asked.
@@ -83,7 +84,8 @@ impl<'a, 'f, F: FileExt> Answers<'a, 'f, F> {
         let Some(map) = OrderedMap::of(held.address_map()) else {
             return Err(not_in_order());
         };
-        let Ok(context) = held.make_context(alloc) else {
+        let flags = TypeFormatterFlags::default();
+        let Ok(context) = held.make_context_with_order(alloc, flags, ContributionOrder::Any) else {
             return Err(SymbolsFault::out_of_memory());
         };
         let mut answers = Answers {

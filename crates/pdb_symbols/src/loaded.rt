@@ -5,7 +5,7 @@ use crate::fault::SymbolsFault;
 use boxcar::tag::Tag;
 use bumpalo::Bump;
 use pdb_addr2line::pdb::PDB;
-use pdb_addr2line::{ContextPdbData, KeptModules};
+use pdb_addr2line::{ContextPdbData, ContributionOrder, KeptModules};
 use pdb_container::SharedBytes;
 use pdb_file_views::{FileSource, FileViews, Wanted, reach};
 use pdb_image::PdbIdentity;
@@ -125,7 +125,8 @@ impl<'f, F: FileExt> ReadFile<'f, F> {
     }
 }
 
-/// Loads a file of `size` bytes that is read on demand.
+/// Loads a file of `size` bytes that is read on demand. Section contributions may stand in any
+/// order.
 ///
 /// # Errors
 /// Why it can't be loaded.
@@ -140,7 +141,13 @@ pub fn load_views<'a, 'f, F: FileExt>(
         Err(error) => return Err(SymbolsFault::of_file(&error)),
     };
     let mut views = FileViews::new(alloc, size)?;
-    let LoadedViews { loaded, wanted } = load_on_demand(alloc, file, &mut views, &Tag::empty())?;
+    let LoadedViews { loaded, wanted } = load_on_demand(
+        alloc,
+        file,
+        &mut views,
+        &Tag::empty(),
+        ContributionOrder::Any,
+    )?;
     let (source, held) = loaded.into_parts();
     drop(source);
     let held = arena.try_alloc(ContextPdbData::from_held(held))?;
@@ -160,7 +167,7 @@ pub fn load_views<'a, 'f, F: FileExt>(
     })
 }
 
-/// Loads a file of these bytes.
+/// Loads a file of these bytes. Section contributions may stand in any order.
 ///
 /// # Errors
 /// Why it can't be loaded.
@@ -172,7 +179,7 @@ pub fn load_bytes<'a, 'f, F>(
     let Ok(bytes) = SharedBytes::new(bytes) else {
         return Err(SymbolsFault::out_of_memory());
     };
-    let loaded = load_file(alloc, FileSource::whole(bytes))?;
+    let loaded = load_file(alloc, FileSource::whole(bytes), ContributionOrder::Any)?;
     let (source, held) = loaded.into_parts();
     let held = arena.try_alloc(ContextPdbData::from_held(held))?;
     let identity = identity_in(alloc, source)?;
