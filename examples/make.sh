@@ -93,6 +93,7 @@ if [ "${2:-}" = --store ]; then
         cp "$out/$name.pdb" "$here/../crates/pdb_symbolizer/data/"
         cp "$out/$name.pdb" "$here/../crates/recorded_cases/data/real_$name.pdb"
     done
+    cp "$out/unordered.pdb" "$here/../crates/recorded_cases/data/real_unordered.pdb"
     cp "$out/x64.pdb" "$here/../crates/example_calls/data/"
     cp "$out"/{x64,i386,columns,unordered}.{pdb,exe} "$here/../crates/pdb_llvm_symbolizer/data/"
 fi

@@ -14,6 +14,7 @@ forms:
   function has
 - `by-file START END`: the range, in hexadecimal, for a report on how many of its addresses each
   source file has
+- `any-order`: the report is asked for with `--any-order`
 - `> TEXT`: a line of output that must come
 - `! TEXT`: a line of error output that must come
 - `status NUMBER`: the exit status that must come, by default 0
@@ -44,13 +45,13 @@ TEXT = r"(?:[ -\[\]-~]|\\r|\\x[0-9A-Fa-f]{2})*"
 # A case's lines.
 LINE = re.compile(
     rf"case \S+ \S+|(?:sizes|by-file) \S+ \S+|status [0-9]+|bytes {NUMBER} {BYTES}"
-    rf"|prefixes {NUMBER} {NUMBER}|numbers {NUMBER} {NUMBER} {NUMBER}"
+    rf"|any-order|prefixes {NUMBER} {NUMBER}|numbers {NUMBER} {NUMBER} {NUMBER}"
     rf"|[<>!](?:-|[1-9][0-9]*)?(?: {TEXT})?"
 )
 # The text of a database.
 DATABASE = re.compile(f"length [0-9]+\n(?:{NUMBER} {BYTES}\n)*")
 # Lines of which a case has no more than one.
-ONCE = ("case", "sizes", "by-file", "status")
+ONCE = ("case", "sizes", "by-file", "any-order", "status")
 
 
 class Malformed(Exception):
@@ -146,6 +147,7 @@ class Report:
 
     def __init__(self, paragraph):
         self.name, self.range, self.flags, self.status, self.changes = "", [], [], 0, []
+        self.order = []
         self.given, self.output, self.errors = b"", b"", b""
         lines = paragraph.removesuffix("\n").split("\n")
         for line in lines:
@@ -164,6 +166,8 @@ class Report:
             self.name, self.database = rest.split(" ")
         elif word in ("sizes", "by-file"):
             self.range, self.flags = rest.split(" "), ["--by-file"] * (word == "by-file")
+        elif word == "any-order":
+            self.order = ["--any-order"]
         elif word == "status":
             self.status = int(rest)
         elif word.isalpha():
@@ -185,7 +189,9 @@ class Report:
 
     def arguments(self, path):
         """The program's arguments that ask for it of a file."""
-        return ["sizes", *self.flags, path, *self.range] if self.range else ["frames", path]
+        if self.range:
+            return ["sizes", *self.order, *self.flags, path, *self.range]
+        return ["frames", *self.order, path]
 
     def addresses(self):
         """The addresses of its input."""

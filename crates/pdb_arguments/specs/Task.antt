@@ -21,19 +21,20 @@ needed name = record (new_rule name) { required = true }
 abbrev pub flagged : List ℕ → Rule
 flagged name = record (new_rule name) { long = Some name; action = Some SetTrue }
 
--- `frames FILE`, with the flag `--demangle`
+-- `frames FILE`, with the flags `--demangle` and `--any-order`
 abbrev pub frames_app : App
-frames_app = with_rule (with_rule (new_app (codes "frames")) (needed (codes "FILE")))
-    (flagged (codes "demangle"))
+frames_app = with_rule (with_rule (with_rule (new_app (codes "frames")) (needed (codes "FILE")))
+    (flagged (codes "demangle"))) (flagged (codes "any-order"))
 
 -- `sizes FILE START END`
 abbrev pub range_app : App
 range_app = with_rule (with_rule (with_rule (new_app (codes "sizes")) (needed (codes "FILE")))
     (needed (codes "START"))) (needed (codes "END"))
 
--- `sizes FILE START END`, with the flags `--by-file` and `--demangle`
+-- `sizes FILE START END`, with the flags `--by-file`, `--demangle` and `--any-order`
 abbrev pub sizes_app : App
-sizes_app = with_rule (with_rule range_app (flagged (codes "by-file"))) (flagged (codes "demangle"))
+sizes_app = with_rule (with_rule (with_rule range_app (flagged (codes "by-file")))
+    (flagged (codes "demangle"))) (flagged (codes "any-order"))
 
 -- a subcommand is required, no argument is the program's name, and there is a version to ask for
 abbrev pub bare_app : App
@@ -69,15 +70,17 @@ flag_at name rows =
 -- the task has the subcommand's name, its FILE, the addresses at START and END, and the flags
 abbrev pub IsTask : Task → Option Entered → Type 0
 IsTask task None = ⊥
-IsTask (Frames file demangle) (Some entered) = (entered.0 ≡ codes "frames")
+IsTask (Frames file demangle any_order) (Some entered) = (entered.0 ≡ codes "frames")
     × (first_of (codes "FILE") entered.1 ≡ Some (string_bytes file))
     × (demangle ≡ flag_at (codes "demangle") entered.1)
-IsTask (Sizes file start end by_file demangle) (Some entered) =
+    × (any_order ≡ flag_at (codes "any-order") entered.1)
+IsTask (Sizes file start end by_file demangle any_order) (Some entered) =
     (entered.0 ≡ codes "sizes") × (first_of (codes "FILE") entered.1 ≡ Some (string_bytes file))
     × (address_at (codes "START") entered.1 ≡ Some start)
     × (address_at (codes "END") entered.1 ≡ Some end)
     × (by_file ≡ flag_at (codes "by-file") entered.1)
     × (demangle ≡ flag_at (codes "demangle") entered.1)
+    × (any_order ≡ flag_at (codes "any-order") entered.1)
 
 -- `sizes` was entered, and START or END is no address
 abbrev pub LacksAddress : Option Entered → Type 0

@@ -61,6 +61,9 @@ const BY_FILE_HELP: &str = "Counts for each source file instead of each function
 const DEMANGLE_HELP: &str =
     "Writes decorated names of Visual C++, ?f@@YAXXZ, as people read them, f(void)";
 
+const ANY_ORDER_HELP: &str =
+    "Takes section contributions in any order, as GNU ld before 2.44 writes them";
+
 const START_HELP: &str = "The range's first address, in hexadecimal, such as 1000 or 0x1000";
 
 const END_HELP: &str =
@@ -123,14 +126,24 @@ fn described<'a>(alloc: Global, name: &'a str, about: &'a str, end: &'a str) -> 
     Command::new(alloc, name).about(about).after_help(end)
 }
 
-/// The command `frames FILE`, with the flag `--demangle`.
+/// The command `frames FILE`, with the flags `--demangle` and `--any-order`.
 fn frames_command<'a>(alloc: Global) -> Result<Command<'a>, AllocError>
     ensures app { IfOk result (λ c. app_of c ≡ frames_app) }
     ensures local { IfOk result (λ c. (fields_of c).has_globals ≡ false) }
 {
     let command = described(alloc, "frames", FRAMES_ABOUT, FRAMES_EXAMPLE);
-    let with_file = with_needed(alloc, command, "FILE", FILE_HELP)?;
-    with_flag(alloc, with_file, "demangle", DEMANGLE_HELP)
+    with_names_and_order(alloc, with_needed(alloc, command, "FILE", FILE_HELP)?)
+}
+
+/// Adds the flags that both subcommands have, `--demangle` and `--any-order`.
+fn with_names_and_order<'a>(alloc: Global, command: Command<'a>) -> Result<Command<'a>, AllocError>
+    ensures app { IfOk result (λ c. app_of c ≡ with_rule (with_rule (app_of command.entry)
+        (flagged (codes "demangle"))) (flagged (codes "any-order"))) }
+    ensures local { (fields_of command.entry).has_globals ≡ false
+        → IfOk result (λ c. (fields_of c).has_globals ≡ false) }
+{
+    let with_demangle = with_flag(alloc, command, "demangle", DEMANGLE_HELP)?;
+    with_flag(alloc, with_demangle, "any-order", ANY_ORDER_HELP)
 }
 
 /// Adds the arguments `START END`.
@@ -153,13 +166,13 @@ fn range_command<'a>(alloc: Global) -> Result<Command<'a>, AllocError>
     with_range(alloc, with_needed(alloc, command, "FILE", FILE_HELP)?)
 }
 
-/// The command `sizes FILE START END`, with the flags `--by-file` and `--demangle`.
+/// The command `sizes FILE START END`, with the flags `--by-file`, `--demangle` and `--any-order`.
 fn sizes_command<'a>(alloc: Global) -> Result<Command<'a>, AllocError>
     ensures app { IfOk result (λ c. app_of c ≡ sizes_app) }
     ensures local { IfOk result (λ c. (fields_of c).has_globals ≡ false) }
 {
     let with_by_file = with_flag(alloc, range_command(alloc)?, "by-file", BY_FILE_HELP)?;
-    with_flag(alloc, with_by_file, "demangle", DEMANGLE_HELP)
+    with_names_and_order(alloc, with_by_file)
 }
 
 /// The program's command, which requires a subcommand and has none yet. Its name appears in the

@@ -72,9 +72,14 @@ fn task_in(alloc: Global, name: &str, matches: &ArgMatches<'_>) -> Result<Task, 
         return Err(WordsFault::Words(String::new(alloc)));
     };
     let file = String::from_str(alloc, word)?;
+    let demangle = is_set(matches, "demangle");
+    let any_order = is_set(matches, "any-order");
     if is_word(name, "frames") {
-        let demangle = is_set(matches, "demangle");
-        return Ok(Task::Frames { file, demangle });
+        return Ok(Task::Frames {
+            file,
+            demangle,
+            any_order,
+        });
     }
     if !is_word(name, "sizes") {
         return Err(WordsFault::Words(String::new(alloc)));
@@ -86,13 +91,13 @@ fn task_in(alloc: Global, name: &str, matches: &ArgMatches<'_>) -> Result<Task, 
         return Err(WordsFault::NotAnAddress);
     };
     let by_file = is_set(matches, "by-file");
-    let demangle = is_set(matches, "demangle");
     Ok(Task::Sizes {
         file,
         start,
         end,
         by_file,
         demangle,
+        any_order,
     })
 }
 

@@ -12,6 +12,8 @@ pub enum Task {
         file: String,
         /// Whether decorated names are undecorated.
         demangle: bool,
+        /// Whether what modules hold may stand in any order in the file.
+        any_order: bool,
     },
     /// Counts the addresses that each function or source file owns in a range.
     Sizes {
@@ -25,6 +27,8 @@ pub enum Task {
         by_file: bool,
         /// Whether decorated names are undecorated.
         demangle: bool,
+        /// Whether what modules hold may stand in any order in the file.
+        any_order: bool,
     },
 }
 

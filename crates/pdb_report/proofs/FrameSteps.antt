@@ -8,10 +8,12 @@ use Rattle.pdb_engine.specs.InputLines.{report, report_of_ended}
 use Rattle.pdb_engine.specs.Watched.{inner_of, CountsFailure, IsQuiet, Takes, Writes, WritesFront}
 use Rattle.pdb_loading.specs.declared.load_fault.LoadFault.{LoadFault}
 use Rattle.pdb_loading.specs.declared.load_fault.LoadFault.TheVariants as faults
+use Rattle.pdb_loading.specs.declared.order.ContributionOrder.{ContributionOrder}
+use Rattle.pdb_loading.specs.LoadedFile.{FileBytes}
 use Rattle.pdb_loading.specs.LoadFaults.{Refuses}
-use Rattle.pdb_loading.specs.Loading.{LoadingFault, load_fault}
-use Rattle.pdb_report.specs.Answer.{answer}
-use Rattle.pdb_report.specs.FrameReports.{FramesOf, ReportsFrames, frames_in, frames_loaded}
+use Rattle.pdb_loading.specs.Loading.{LoadingFault, load_fault_with}
+use Rattle.pdb_report.specs.Answer.{answer_with}
+use Rattle.pdb_report.specs.FrameReports.{FramesOf, ReportsFrames, frames_with, frames_loaded}
 use Rattle.pdb_report_texts.specs.AddressText.{Answers, line_text}
 use Rattle.pdb_report_texts.specs.declared.fault.RunFault.{RunFault}
 use Rattle.pdb_report_texts.specs.declared.fault.RunFault.TheVariants as runs
@@ -26,12 +28,34 @@ module _ {R W : Type 0} (remaining : R → Option (List ℕ)) (contents : W → 
   pub refused : {T : Type 0} (f : FramesOf) (reader : Watched R) (writer : Watched W) (e : LoadFault) → Refuses e f.fault
       → ReportsFrames {T = T} f limit remaining contents reader reader writer writer (Err (run_fault_of e))
   refused f reader writer faults.OutOfMemory h = record {
-    load = tt; loaded = tt; kind = tt; memory = inr (refl, refl); ok = tt; quiet = tt; read_fails = tt; write_fails = tt; read_out = tt; too_long = tt;
-    part = nothing_out contents writer (remaining (inner_of reader)) (report (line_text f.answer)); isolated = isolated f.bytes; exchanged = tt;
+    load = tt;
+    loaded = tt;
+    kind = tt;
+    memory = inr (refl, refl);
+    ok = tt;
+    quiet = tt;
+    read_fails = tt;
+    write_fails = tt;
+    read_out = tt;
+    too_long = tt;
+    part = nothing_out contents writer (remaining (inner_of reader)) (report (line_text f.answer));
+    isolated = isolated f.bytes;
+    exchanged = tt;
   }
   refused f reader writer e h = record {
-    load = (h, (refl, refl)); loaded = tt; kind = tt; memory = tt; ok = tt; quiet = tt; read_fails = tt; write_fails = tt; read_out = tt; too_long = tt;
-    part = nothing_out contents writer (remaining (inner_of reader)) (report (line_text f.answer)); isolated = isolated f.bytes; exchanged = tt;
+    load = (h, (refl, refl));
+    loaded = tt;
+    kind = tt;
+    memory = tt;
+    ok = tt;
+    quiet = tt;
+    read_fails = tt;
+    write_fails = tt;
+    read_out = tt;
+    too_long = tt;
+    part = nothing_out contents writer (remaining (inner_of reader)) (report (line_text f.answer));
+    isolated = isolated f.bytes;
+    exchanged = tt;
   }
 
   -- nor where memory is short
@@ -41,29 +65,39 @@ module _ {R W : Type 0} (remaining : R → Option (List ℕ)) (contents : W → 
 
   module _ {T : Type 0} (reader reader' : Watched R) (writer writer' : Watched W) where
     -- a file that was loaded has no loading fault
-    pub of_loaded : (file bytes : List ℕ) (result : Result T RunFault) → file ≡ bytes → load_fault (streams bytes) ≡ None
+    pub of_loaded : (order : ContributionOrder) (file : FileBytes) (bytes : List ℕ) (result : Result T RunFault) → file ≡ record { bytes = bytes; order = order } → load_fault_with order (streams bytes) ≡ None
         → ReportsFrames (frames_loaded file) limit remaining contents reader reader' writer writer' result
-        → ReportsFrames (frames_in bytes) limit remaining contents reader reader' writer writer' result
-    of_loaded file bytes result same none r =
-        subst (λ (fault : Option LoadingFault). ReportsFrames (record { bytes = bytes; fault = fault; answer = answer (streams bytes) }) limit remaining contents reader reader' writer writer' result) (sym none)
-        (subst (λ (b : List ℕ). ReportsFrames (frames_loaded b) limit remaining contents reader reader' writer writer' result) same r)
+        → ReportsFrames (frames_with order bytes) limit remaining contents reader reader' writer writer' result
+    of_loaded order file bytes result same none r =
+        subst (λ (fault : Option LoadingFault). ReportsFrames (record { bytes = bytes; order = order; fault = fault; answer = answer_with order (streams bytes) }) limit remaining contents reader reader' writer writer' result) (sym none)
+        (subst (λ (f : FileBytes). ReportsFrames (frames_loaded f) limit remaining contents reader reader' writer writer' result) same r)
 
     -- what a run by answers that are the file's says, where it ends well
-    pub ended_well : (file : List ℕ) (own : Answers) (done : T) → own ≡ answer (streams file)
+    pub ended_well : (file : FileBytes) (own : Answers) (done : T) → own ≡ answer_with file.order (streams file.bytes)
         → IfSome (remaining (inner_of reader)) (λ input. (length input ≤ limit) × Writes contents writer writer' (report (line_text own) input))
         → IsQuiet reader reader' × IsQuiet writer writer'
         → ReportsFrames (frames_loaded file) limit remaining contents reader reader' writer writer' (Ok done)
     ended_well file own done same ok quiet =
-        let out : IfSome (remaining (inner_of reader)) (λ input. (length input ≤ limit) × Writes contents writer writer' (report (line_text (answer (streams file))) input)) =
-            subst (λ (f : Answers). IfSome (remaining (inner_of reader)) (λ input. (length input ≤ limit) × Writes contents writer writer' (report (line_text f) input))) same ok in
+        let out : IfSome (remaining (inner_of reader)) (λ input. (length input ≤ limit) × Writes contents writer writer' (report (line_text (answer_with file.order (streams file.bytes))) input)) =
+        subst (λ (f : Answers). IfSome (remaining (inner_of reader)) (λ input. (length input ≤ limit) × Writes contents writer writer' (report (line_text f) input))) same ok in
         record {
-          load = tt; loaded = refl; kind = tt; memory = tt; ok = out; quiet = quiet; read_fails = tt; write_fails = tt; read_out = tt; too_long = tt; part = tt;
-          isolated = isolated file;
-          exchanged = exchanged_out {T = T} {E = RunFault} file (Ok done) (remaining (inner_of reader)) (λ input. length input ≤ limit) (λ answers input. Writes contents writer writer' (report (line_text answers) input)) out;
+          load = tt;
+          loaded = refl;
+          kind = tt;
+          memory = tt;
+          ok = out;
+          quiet = quiet;
+          read_fails = tt;
+          write_fails = tt;
+          read_out = tt;
+          too_long = tt;
+          part = tt;
+          isolated = isolated file.bytes;
+          exchanged = exchanged_out {T = T} {E = RunFault} file.order file.bytes (Ok done) (remaining (inner_of reader)) (λ input. length input ≤ limit) (λ answers input. Writes contents writer writer' (report (line_text answers) input)) out;
         }
 
     -- and where it ends early
-    pub ended_early : (file : List ℕ) (own : Answers) (fault : InputFault) → own ≡ answer (streams file)
+    pub ended_early : (file : FileBytes) (own : Answers) (fault : InputFault) → own ≡ answer_with file.order (streams file.bytes)
         → inputs.IsOfRunning fault
         → inputs.OnRead fault (λ kind. CountsFailure reader reader' kind)
         → inputs.OnWrite fault (λ kind. CountsFailure writer writer' kind)
@@ -76,7 +110,10 @@ module _ {R W : Type 0} (remaining : R → Option (List ℕ)) (contents : W → 
       loaded = unless_load {A = T} (Err (run_fault_of_input fault)) _ refl;
       kind = of_frames fault kind;
       memory = on_memory fault _ (inl refl);
-      ok = tt; quiet = tt; exchanged = tt; isolated = isolated file;
+      ok = tt;
+      quiet = tt;
+      exchanged = tt;
+      isolated = isolated file.bytes;
       read_fails = on_read fault _ read_fails;
       write_fails = on_write fault _ write_fails;
       read_out = on_read fault _ (subst (λ (f : Answers). inputs.OnRead fault (λ _. (taken : List ℕ) × Takes remaining reader reader' taken × Writes contents writer writer' (report_of_ended (line_text f) taken))) same read_out);

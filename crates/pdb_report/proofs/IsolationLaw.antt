@@ -5,10 +5,11 @@ use Rattle.std.proofs.lemmas.Bool.Decides.{eqb_tells}
 use mathlib.Core.Path.{fun_ext}
 use Rattle.pdb_addr2line.specs.Choice as places
 use Rattle.pdb_addr2line.specs.Choice.{held_at, place_of}
+use Rattle.pdb_loading.specs.declared.order.ContributionOrder.{ContributionOrder}
 use Rattle.pdb_frames.specs.FramesAt.{frames, frames_if_held, function, function_at as function_in}
 use Rattle.pdb_loading.specs.Held.{given, names_in}
 use Rattle.pdb_loading.specs.ModuleInfos.{if_read}
-use Rattle.pdb_loading.specs.Loading.{tables, listed, Loaded, parts_in, none_or, loaded, load_fault, LoadingFault, AddressTableDecreases, lifted}
+use Rattle.pdb_loading.specs.Loading.{tables, listed, Loaded, parts_in, none_or, loaded_with, load_fault_with, LoadingFault, AddressTableDecreases, lifted}
 use Rattle.pdb_frames.specs.Scopes.{Scope}
 use Rattle.pdb_engine.specs.Address.{address_of}
 use Rattle.pdb_addresses.specs.Addresses.{is_ordered}
@@ -16,8 +17,8 @@ use Rattle.pdb_addresses.specs.declared.internal_section_offset.PdbInternalSecti
 use Rattle.pdb_container.specs.Fault as container
 use Rattle.pdb_container.specs.Fault.{refuse}
 use Rattle.pdb_contributions.specs.declared.contribution.ModuleSectionContribution.{ModuleSectionContribution}
-use Rattle.pdb_report.specs.Answer.{given_in, formatting_in, scope, answer, answer_by, function_at, function_by}
-use Rattle.pdb_report.specs.Isolation.{AreAlikeFor, IsRelated, modules_in, holder_by, holder_at, IsIsolated, exchanged, exchanged_if}
+use Rattle.pdb_report.specs.Answer.{given_in, formatting_in, scope, answer_with, answer_by, function_with, function_by}
+use Rattle.pdb_report.specs.Isolation.{AreAlikeFor, IsRelated, modules_in, holder_by, holder_with, IsIsolated, exchanged_with, exchanged_if}
 use Rattle.pdb_report.specs.Isolation.IsRelated.{Itself, Reached}
 use Rattle.pdb_report_texts.specs.AddressText.{line_text, Answers}
 use Rattle.pdb_resolving.specs.Reaches.{Reaches}
@@ -36,15 +37,15 @@ use Rattle.pdb_module_items.proofs.ReadingAlike.{types_alike, ids_alike, sizes_a
 -- ---- what an answer depends on
 
 -- what was loaded has the module list of the file
-loaded_dbi : (c : Shared) (l : Loaded) → loaded c ≡ Ok l → debug_information c ≡ Ok l.debug_information
-unfolding loaded
-loaded_dbi c l e =
+loaded_dbi : (order : ContributionOrder) (c : Shared) (l : Loaded) → loaded_with order c ≡ Ok l → debug_information c ≡ Ok l.debug_information
+unfolding loaded_with
+loaded_dbi order c l e =
     bind_cases (lifted (none_or c.open_fault)) _ e λ _ _ e.
     bind_cases (lifted (debug_information c)) _ e λ dbi dbi_is e.
     bind_cases (lifted (tables c dbi)) _ e λ read _ e.
     bind_cases (refuse (not (is_ordered read.map)) AddressTableDecreases) _ e λ _ _ e.
     bind_cases (lifted (listed dbi)) _ e λ _ _ e.
-    bind_cases (parts_in c dbi read) _ e λ parts _ e.
+    bind_cases (parts_in order c dbi read) _ e λ parts _ e.
     as_read (debug_information c) dbi dbi_is ∙ ap (λ (k : Loaded). Ok k.debug_information) (value_is _ l e)
   where
     as_read : (r : Result Dbi container.Fault) (x : Dbi) → lifted r ≡ Ok x → r ≡ Ok x
@@ -68,18 +69,18 @@ reading_in s l = parts_by given_in (formatting_in s l).reading
 abbrev modules_loaded : Streams → Loaded → Modules
 modules_loaded s l = (reading_in s l).modules
 
-modules_are : (s : Streams) (l : Loaded) → loaded (shared s) ≡ Ok l → modules_in s ≡ modules_loaded s l
-modules_are s l e = rw (loaded_dbi (shared s) l e) refl
+modules_are : (order : ContributionOrder) (s : Streams) (l : Loaded) → loaded_with order (shared s) ≡ Ok l → modules_in s ≡ modules_loaded s l
+modules_are order s l e = rw (loaded_dbi order (shared s) l e) refl
 
-all_given : (a b : Streams) (m : ℕ) (l : Loaded) → NeedsAlike m a b → loaded (shared a) ≡ Ok l → GivenAlike (modules_loaded a l) (given_in b) m
-all_given a b m l h e = record {
+all_given : (order : ContributionOrder) (a b : Streams) (m : ℕ) (l : Loaded) → NeedsAlike m a b → loaded_with order (shared a) ≡ Ok l → GivenAlike (modules_loaded a l) (given_in b) m
+all_given order a b m l h e = record {
   itself = given_in_alike a b m m h (Itself refl);
-  reached = λ k reaches. given_in_alike a b m k h (Reached (subst (λ (modules : Modules). Reaches modules m k) (sym (modules_are a l e)) reaches));
+  reached = λ k reaches. given_in_alike a b m k h (Reached (subst (λ (modules : Modules). Reaches modules m k) (sym (modules_are order a l e)) reaches));
 }
 
-indices_alike : (a b : Streams) (m : ℕ) (l : Loaded) → NeedsAlike m a b → loaded (shared a) ≡ Ok l → resolve (modules_loaded a l) m ≡ resolve (modules_loaded b l) m
-indices_alike a b m l h e =
-    resolve_alike (modules_loaded a l) (given_in b) m (all_given a b m l h e)
+indices_alike : (order : ContributionOrder) (a b : Streams) (m : ℕ) (l : Loaded) → NeedsAlike m a b → loaded_with order (shared a) ≡ Ok l → resolve (modules_loaded a l) m ≡ resolve (modules_loaded b l) m
+indices_alike order a b m l h e =
+    resolve_alike (modules_loaded a l) (given_in b) m (all_given order a b m l h e)
     ∙ ap (λ (found : Option (List ℕ)). resolve (record (modules_loaded b l) { names = found }) m) (names_alike a b m h)
 
 -- what is given of a module that is listed
@@ -92,10 +93,10 @@ unfolding scope
 own_alike a b m l same = ap (λ given. if_listed given (slice_get (modules_of l.debug_information.modules).items m)) same
 
 -- an answer in the module depends on the same
-pub scope_alike : (a b : Streams) (m : ℕ) (l : Loaded) → NeedsAlike m a b → loaded (shared a) ≡ Ok l → scope a l m ≡ scope b l m
+pub scope_alike : (order : ContributionOrder) (a b : Streams) (m : ℕ) (l : Loaded) → NeedsAlike m a b → loaded_with order (shared a) ≡ Ok l → scope a l m ≡ scope b l m
 unfolding scope
-scope_alike a b m l h e =
-    let same = indices_alike a b m l h e in
+scope_alike order a b m l h e =
+    let same = indices_alike order a b m l h e in
     λ i. record {
       own = own_alike a b m l (given_alike a b m m h (Itself refl)) i;
       env = record {
@@ -135,15 +136,15 @@ unfolding function
 by_function a b m x (Err e) held same = refl
 by_function a b m x (Ok l) held same = function_held l.parts (scope a l) (scope b l) m (held_at l.parts (place_of l.parts x)) held (same l refl)
 
-answer_alike : (a b : Streams) (m x : ℕ) → NeedsAlike m a b → holder_at a x ≡ Some m → answer a x ≡ answer b x
-unfolding holder_at answer
-answer_alike a b m x h held =
-    by_frames a b m x (loaded (shared a)) held (λ l e. scope_alike a b m l h e) ∙ ap (λ c. answer_by b (loaded c) x) (shared_alike a b m h)
+answer_alike : (order : ContributionOrder) (a b : Streams) (m x : ℕ) → NeedsAlike m a b → holder_with order a x ≡ Some m → answer_with order a x ≡ answer_with order b x
+unfolding holder_with answer_with
+answer_alike order a b m x h held =
+    by_frames a b m x (loaded_with order (shared a)) held (λ l e. scope_alike order a b m l h e) ∙ ap (λ c. answer_by b (loaded_with order c) x) (shared_alike a b m h)
 
-function_alike : (a b : Streams) (m x : ℕ) → NeedsAlike m a b → holder_at a x ≡ Some m → function_at a x ≡ function_at b x
-unfolding holder_at function_at
-function_alike a b m x h held =
-    by_function a b m x (loaded (shared a)) held (λ l e. scope_alike a b m l h e) ∙ ap (λ c. function_by b (loaded c) x) (shared_alike a b m h)
+function_alike : (order : ContributionOrder) (a b : Streams) (m x : ℕ) → NeedsAlike m a b → holder_with order a x ≡ Some m → function_with order a x ≡ function_with order b x
+unfolding holder_with function_with
+function_alike order a b m x h held =
+    by_function a b m x (loaded_with order (shared a)) held (λ l e. scope_alike order a b m l h e) ∙ ap (λ c. function_by b (loaded_with order c) x) (shared_alike a b m h)
 
 line_alike : (f g : Answers) (x : ℕ) (line : List ℕ) → f x ≡ g x → address_of line ≡ Some x → line_text f line ≡ line_text g line
 unfolding line_text
@@ -151,18 +152,18 @@ line_alike f g x line same is = rw (is, same) refl
 
 -- the law
 pub isolated : (a : List ℕ) → IsIsolated a
-isolated a b m x h held =
+isolated a order b m x h held =
     let needs = needs_alike a b m h in
-    let same = answer_alike (streams a) (streams b) m x needs held in
+    let same = answer_alike order (streams a) (streams b) m x needs held in
     record {
       frames = same;
-      functions = function_alike (streams a) (streams b) m x needs held;
-      lines = λ line is. line_alike (answer (streams a)) (answer (streams b)) x line same is;
+      functions = function_alike order (streams a) (streams b) m x needs held;
+      lines = λ line is. line_alike (answer_with order (streams a)) (answer_with order (streams b)) x line same is;
     }
 
 -- the same fault of loading, or none
-pub loads_alike : (a b : List ℕ) (m : ℕ) → AreAlikeFor m a b → load_fault (streams a) ≡ load_fault (streams b)
-loads_alike a b m h = ap (λ c. fault_in (loaded c)) (shared_alike (streams a) (streams b) m (needs_alike a b m h))
+pub loads_alike : (order : ContributionOrder) (a b : List ℕ) (m : ℕ) → AreAlikeFor m a b → load_fault_with order (streams a) ≡ load_fault_with order (streams b)
+loads_alike order a b m h = ap (λ c. fault_in (loaded_with order c)) (shared_alike (streams a) (streams b) m (needs_alike a b m h))
 
 -- ---- exchanged answers
 
@@ -174,14 +175,14 @@ exchanged_held m (Some k) own other same = elim (eqb_tells k m) [
 ]
 
 -- the answers of a file are those that another one has where the module holds the address
-pub exchanged_alike : (a b : List ℕ) (m : ℕ) → AreAlikeFor m a b → answer (streams a) ≡ exchanged m (streams a) (streams b)
-exchanged_alike a b m h = fun_ext λ x.
-    exchanged_held m (holder_at (streams a) x) (answer (streams a) x) (answer (streams b) x) (λ held. (isolated a b m x h held).frames)
+pub exchanged_alike : (order : ContributionOrder) (a b : List ℕ) (m : ℕ) → AreAlikeFor m a b → answer_with order (streams a) ≡ exchanged_with order m (streams a) (streams b)
+exchanged_alike order a b m h = fun_ext λ x.
+    exchanged_held m (holder_with order (streams a) x) (answer_with order (streams a) x) (answer_with order (streams b) x) (λ held. (isolated a order b m x h held).frames)
 
 -- what is out by a file's own answers is out by exchanged ones
-pub exchanged_out : {T E : Type 0} (a : List ℕ) (result : Result T E) (input : Option (List ℕ)) (Q : List ℕ → Type 0) (P : Answers → List ℕ → Type 0)
-    → OnOk result (IfSome input (λ input. Q input × P (answer (streams a)) input))
-    → OnOk result (IfSome input (λ input. (other : List ℕ) (m : ℕ) → AreAlikeFor m a other → P (exchanged m (streams a) (streams other)) input))
-exchanged_out a (Err e) input Q P h = tt
-exchanged_out a (Ok x) None Q P h = tt
-exchanged_out a (Ok x) (Some input) Q P h = λ other m alike. subst (λ (answers : Answers). P answers input) (exchanged_alike a other m alike) h.1
+pub exchanged_out : {T E : Type 0} (order : ContributionOrder) (a : List ℕ) (result : Result T E) (input : Option (List ℕ)) (Q : List ℕ → Type 0) (P : Answers → List ℕ → Type 0)
+    → OnOk result (IfSome input (λ input. Q input × P (answer_with order (streams a)) input))
+    → OnOk result (IfSome input (λ input. (other : List ℕ) (m : ℕ) → AreAlikeFor m a other → P (exchanged_with order m (streams a) (streams other)) input))
+exchanged_out order a (Err e) input Q P h = tt
+exchanged_out order a (Ok x) None Q P h = tt
+exchanged_out order a (Ok x) (Some input) Q P h = λ other m alike. subst (λ (answers : Answers). P answers input) (exchanged_alike order a other m alike) h.1

@@ -1,3 +1,4 @@
+pub mod AnyOrder
 pub mod FileFaults
 pub mod FileSteps
 pub mod FrameSteps

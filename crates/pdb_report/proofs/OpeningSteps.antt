@@ -15,6 +15,7 @@ use Rattle.pdb_resolving.specs.Resolving.{Provided, none_failed}
 use Rattle.pdb_module_items.specs.Reading.{pointer_bytes}
 use Rattle.pdb_addr2line.specs.Printing.{Formatting}
 use Rattle.pdb_addr2line.specs.Choice.{Parts}
+use Rattle.pdb_loading.specs.declared.order.ContributionOrder.{ContributionOrder}
 use Rattle.pdb_frames.specs.Scopes.{Scope, scope_of}
 use Rattle.pdb_addr2line.specs.Context.{Context, context_over}
 use Rattle.pdb_addr2line.specs.FailingParts.{no_failures}
@@ -24,18 +25,22 @@ use Rattle.pdb_frames.specs.Files.{files_of}
 use Rattle.pdb_frames.specs.Runs.{database_of}
 use Rattle.pdb_loading.specs.declared.load_fault.LoadFault.{LoadFault}
 use Rattle.pdb_loading.specs.declared.load_fault.LoadFault.TheVariants as faults
-use Rattle.pdb_loading.specs.Held.{Held, given, names_in, parts_held}
+use Rattle.pdb_loading.specs.Held.{Held, given, names_in, parts_held_with}
 use Rattle.pdb_loading.specs.LoadFaults.{load_fault_in_context, Refuses, IsFileFault}
-use Rattle.pdb_loading.specs.LoadedFile.{IsLoadedFrom}
-use Rattle.pdb_loading.specs.Loading.{LoadingFault, Loaded, loaded}
+use Rattle.pdb_loading.specs.LoadedFile.{FileBytes, IsLoadedWith}
+use Rattle.pdb_loading.specs.Loading.{LoadingFault, Loaded, loaded_with}
 use Rattle.pdb_loading.specs.ModuleInfos.{KeptInfo, answered_at}
-use Rattle.pdb_report.specs.Answer.{AnswersAs, Listing, address_map, answer, answer_by, answered_in, database, database_by, files, files_by, function_at, function_by, given_in, listing, listing_by, map_by, scope}
+use Rattle.pdb_report.specs.Answer.{AnswersWith, Listing, answer_with, answer_by, answered_in, database_with, database_by, files_with, files_by, function_with, function_by, given_in, listing_with, listing_by, map_with, map_by, scope}
 use Rattle.pdb_report_texts.specs.RunFaults.{OnLoad, run_fault_of}
 
 -- how a run ends where the file is refused
 pub run_refused : (e : LoadFault) (fault : Option LoadingFault) (quiet : Type 0) → Refuses e fault → quiet → OnLoad (run_fault_of e) (λ cause. IsFileFault cause fault × quiet)
 run_refused faults.OutOfMemory fault quiet h q = tt
 run_refused e fault quiet h q = (h, q)
+
+-- a file that was loaded, by its bytes and the order
+pub same_file : (f g : FileBytes) (bytes : List ℕ) (order : ContributionOrder) → f ≡ g → g.bytes ≡ bytes → g.order ≡ order → f ≡ record { bytes = bytes; order = order }
+same_file f g bytes order is bytes_are order_is = is ∙ (λ i. record { bytes = bytes_are i; order = order_is i })
 
 -- ---- a context answers as the file does
 
@@ -83,10 +88,10 @@ context_of h parts = record { provider = h.infos; parts = parts; formatting = he
 abbrev listing_in : Held → Parts → (ℕ → Scope) → Listing
 listing_in h parts known = record { parts = parts; scope = known; entries = (modules_of h.debug_information.modules).items }
 
-over_kept : (file : List ℕ) (h : Held) → IsLoadedFrom file h → (parts : Parts) → parts_held h ≡ Ok parts
-    → loaded (shared (streams file)) ≡ Ok (record { debug_information = h.debug_information; tables = h.tables; parts = parts }) → AnswersAs answered_in (streams file) (context_of h parts)
-unfolding answer function_at database files listing
-over_kept file h is parts parts_are loaded_is =
+over_kept : (order : ContributionOrder) (file : List ℕ) (h : Held) → IsLoadedWith order file h → (parts : Parts) → parts_held_with order h ≡ Ok parts
+    → loaded_with order (shared (streams file)) ≡ Ok (record { debug_information = h.debug_information; tables = h.tables; parts = parts }) → AnswersWith order answered_in (streams file) (context_of h parts)
+unfolding answer_with function_with database_with files_with listing_with
+over_kept order file h is parts parts_are loaded_is =
     let s = streams file in
     let l : Loaded = record { debug_information = h.debug_information; tables = h.tables; parts = parts } in
     let scopes = fun_ext (λ m. same_scope s h parts m is.modules_are is.names_are) in
@@ -99,32 +104,32 @@ over_kept file h is parts parts_are loaded_is =
     }
 
 -- the context that was made is that over what is stored
-pub context_answers : (file : List ℕ) (h : Held) (c : Context (List KeptInfo)) → IsLoadedFrom file h → held.context_in h 23 ≡ Ok c → AnswersAs answered_in (streams file) c
-context_answers file h c is made =
+pub context_answers : (order : ContributionOrder) (file : List ℕ) (h : Held) (c : Context (List KeptInfo)) → IsLoadedWith order file h → held.context_with order h 23 ≡ Ok c → AnswersWith order answered_in (streams file) c
+context_answers order file h c is made =
     let c_is : context_of h is.parts ≡ c = ap (made_or c) (ap (λ r. context_over h.infos (held.formatting_of h 23) r) (sym is.parts_are) ∙ made) in
-    rw (sym c_is) (over_kept file h is is.parts is.parts_are is.loaded_is)
+    rw (sym c_is) (over_kept order file h is is.parts is.parts_are is.loaded_is)
 
 -- nothing but memory keeps a context from being made
-pub context_made : (file : List ℕ) (h : Held) (e : context.Error) → IsLoadedFrom file h → answers.Fails e (held.context_in h 23) → load_fault_in_context e ≡ faults.OutOfMemory
-context_made file h e is failed = memory_alone e _ (rw is.parts_are at failed)
+pub context_made : (order : ContributionOrder) (file : List ℕ) (h : Held) (e : context.Error) → IsLoadedWith order file h → answers.Fails e (held.context_with order h 23) → load_fault_in_context e ≡ faults.OutOfMemory
+context_made order file h e is failed = memory_alone e _ (rw is.parts_are at failed)
 
 -- a context that was made was asked nothing
-pub context_unasked : (file : List ℕ) (h : Held) (c : Context (List KeptInfo)) → IsLoadedFrom file h → held.context_in h 23 ≡ Ok c → c.lookups ≡ 0
-context_unasked file h c is made =
+pub context_unasked : (order : ContributionOrder) (file : List ℕ) (h : Held) (c : Context (List KeptInfo)) → IsLoadedWith order file h → held.context_with order h 23 ≡ Ok c → c.lookups ≡ 0
+context_unasked order file h c is made =
     let c_is : context_of h is.parts ≡ c = ap (made_or c) (ap (λ r. context_over h.infos (held.formatting_of h 23) r) (sym is.parts_are) ∙ made) in
     sym (ap (λ (k : Context (List KeptInfo)). k.lookups) c_is)
 
 -- nothing stands as failed in a context that was made
-pub context_unfailed : (file : List ℕ) (h : Held) (c : Context (List KeptInfo)) → IsLoadedFrom file h → held.context_in h 23 ≡ Ok c → c.failed ≡ no_failures
-context_unfailed file h c is made =
+pub context_unfailed : (order : ContributionOrder) (file : List ℕ) (h : Held) (c : Context (List KeptInfo)) → IsLoadedWith order file h → held.context_with order h 23 ≡ Ok c → c.failed ≡ no_failures
+context_unfailed order file h c is made =
     let c_is : context_of h is.parts ≡ c = ap (made_or c) (ap (λ r. context_over h.infos (held.formatting_of h 23) r) (sym is.parts_are) ∙ made) in
     sym (ap (λ (k : Context (List KeptInfo)). k.failed) c_is)
 
 -- the address map that is stored is the file's
-pub map_kept : (file : List ℕ) (h : Held) → IsLoadedFrom file h → address_map (streams file) ≡ Some h.tables.map
-unfolding address_map
-map_kept file h is = ap map_by is.loaded_is
+pub map_kept : (order : ContributionOrder) (file : List ℕ) (h : Held) → IsLoadedWith order file h → map_with order (streams file) ≡ Some h.tables.map
+unfolding map_with
+map_kept order file h is = ap map_by is.loaded_is
 
 -- it is in order
-pub map_ordered : (file : List ℕ) (h : Held) → IsLoadedFrom file h → IsOrdered h.tables.map
-map_ordered file h is = is.ordered
+pub map_ordered : (order : ContributionOrder) (file : List ℕ) (h : Held) → IsLoadedWith order file h → IsOrdered h.tables.map
+map_ordered order file h is = is.ordered

@@ -1,4 +1,6 @@
--- The answer for an address of a file's image: its function with its frames.
+-- The answer for an address of a file's image: its function with its frames. Each definition is
+-- there twice: for a file whose section contributions have to stand in an order that is given, and
+-- for one where they have to stand in order.
 use Rattle.std.specs.Prelude.{◌≡◌, ℕ, false, List, Option, None, Some, Result, Ok, Err}
 use Rattle.pdb_addresses.specs.Addresses.{Map}
 use Rattle.pdb_symbols_modules.specs.Machine.{machine_of}
@@ -10,6 +12,8 @@ use Rattle.pdb_resolving.specs.Resolving.{Provided, none_failed}
 use Rattle.pdb_module_items.specs.Reading.{pointer_bytes}
 use Rattle.pdb_addr2line.specs.Printing.{Formatting}
 use Rattle.pdb_addr2line.specs.Choice.{Parts}
+use Rattle.pdb_loading.specs.declared.order.ContributionOrder.{ContributionOrder}
+use Rattle.pdb_loading.specs.declared.order.ContributionOrder.TheVariants.{InOrder}
 use Rattle.pdb_frames.specs.Scopes.{Scope, scope_of, entries_of}
 use Rattle.pdb_addr2line.specs.Context.{Context, scope_in}
 use Rattle.pdb_functions.specs.Frames.{FunctionFrames}
@@ -24,7 +28,7 @@ use Rattle.pdb_functions.specs.Databases.{Database, Keyed}
 use Rattle.pdb_functions.specs.FunctionOrder.{Function}
 use Rattle.pdb_loading.specs.Held.{given, names_in}
 use Rattle.pdb_loading.specs.ModuleInfos.{KeptInfo, answered_at}
-use Rattle.pdb_loading.specs.Loading.{LoadingFault, Loaded, loaded}
+use Rattle.pdb_loading.specs.Loading.{LoadingFault, Loaded, loaded_with}
 
 -- what a file gives of the module with that index, whatever its entry; a fault says that it was
 -- stored
@@ -60,8 +64,11 @@ answer_by s (Err e) a = Ok None
 answer_by s (Ok l) a = frames l.parts (scope s l) a
 
 -- the answer for an address of the image
-unfoldable pub answer : Streams → ℕ → Result (Option FunctionFrames) Fault
-answer s = answer_by s (loaded (shared s))
+unfoldable pub answer_with : ContributionOrder → Streams → ℕ → Result (Option FunctionFrames) Fault
+answer_with order s = answer_by s (loaded_with order (shared s))
+
+abbrev pub answer : Streams → ℕ → Result (Option FunctionFrames) Fault
+answer s = answer_with InOrder s
 
 -- the function by what was loaded
 abbrev pub function_by : Streams → Result Loaded LoadingFault → ℕ → Option Function
@@ -69,8 +76,11 @@ function_by s (Err e) a = None
 function_by s (Ok l) a = function l.parts (scope s l) a
 
 -- the function at an address of the image
-unfoldable pub function_at : Streams → ℕ → Option Function
-function_at s = function_by s (loaded (shared s))
+unfoldable pub function_with : ContributionOrder → Streams → ℕ → Option Function
+function_with order s = function_by s (loaded_with order (shared s))
+
+abbrev pub function_at : Streams → ℕ → Option Function
+function_at s = function_with InOrder s
 
 -- the functions at places, and where they may change, by what was loaded
 abbrev pub database_by : Streams → Result Loaded LoadingFault → Database Function
@@ -78,8 +88,11 @@ database_by s (Err e) = record { answer = λ place. None; is_bound = λ place. f
 database_by s (Ok l) = database_of l.parts (scope s l)
 
 -- the functions at places of the file's sections, and where they may change
-unfoldable pub database : Streams → Database Function
-database s = database_by s (loaded (shared s))
+unfoldable pub database_with : ContributionOrder → Streams → Database Function
+database_with order s = database_by s (loaded_with order (shared s))
+
+abbrev pub database : Streams → Database Function
+database s = database_with InOrder s
 
 -- the files at places, and where they may change, by what was loaded
 abbrev pub files_by : Streams → Result Loaded LoadingFault → Database FileAnswer
@@ -87,8 +100,11 @@ files_by s (Err e) = record { answer = λ place. None; is_bound = λ place. fals
 files_by s (Ok l) = files_of l.parts (scope s l)
 
 -- the source files at places of the file's sections, and where they may change
-unfoldable pub files : Streams → Database FileAnswer
-files s = files_by s (loaded (shared s))
+unfoldable pub files_with : ContributionOrder → Streams → Database FileAnswer
+files_with order s = files_by s (loaded_with order (shared s))
+
+abbrev pub files : Streams → Database FileAnswer
+files s = files_with InOrder s
 
 -- what a list of functions goes over: the parts that each question goes over, what an answer in
 -- each module depends on, and the modules' entries in order
@@ -107,8 +123,11 @@ listing_by s (Ok l) = Some (record {
 })
 
 -- what the list of the file's functions goes over; none where the file isn't loaded
-unfoldable pub listing : Streams → Option Listing
-listing s = listing_by s (loaded (shared s))
+unfoldable pub listing_with : ContributionOrder → Streams → Option Listing
+listing_with order s = listing_by s (loaded_with order (shared s))
+
+abbrev pub listing : Streams → Option Listing
+listing s = listing_with InOrder s
 
 -- the address map, by what was loaded
 abbrev pub map_by : Result Loaded LoadingFault → Option Map
@@ -116,8 +135,11 @@ map_by (Err e) = None
 map_by (Ok l) = Some l.tables.map
 
 -- the map between addresses of the image and places in sections; none where the file isn't loaded
-unfoldable pub address_map : Streams → Option Map
-address_map s = map_by (loaded (shared s))
+unfoldable pub map_with : ContributionOrder → Streams → Option Map
+map_with order s = map_by (loaded_with order (shared s))
+
+abbrev pub address_map : Streams → Option Map
+address_map s = map_with InOrder s
 
 -- ---- by a context
 
@@ -158,11 +180,16 @@ listing_of provided c = record {
   entries = entries_of c.formatting;
 }
 
+-- A context answers as the file does where section contributions have to stand in this order, and
+-- lists the file's functions.
+pub record AnswersWith (order : ContributionOrder) {P : Type 0} (provided : P → Provided)
+    (s : Streams) (c : Context P) : Type 0 where
+  pub frames : answer_of provided c ≡ answer_with order s
+  pub functions : function_of provided c ≡ function_with order s
+  pub places : database_in provided c ≡ database_with order s
+  pub by_file : files_in provided c ≡ files_with order s
+  pub list : Some (listing_of provided c) ≡ listing_with order s
+
 -- A context answers as the file does, and lists the file's functions.
-pub record AnswersAs {P : Type 0} (provided : P → Provided) (s : Streams) (c : Context P) : Type 0
-  where
-    pub frames : answer_of provided c ≡ answer s
-    pub functions : function_of provided c ≡ function_at s
-    pub places : database_in provided c ≡ database s
-    pub by_file : files_in provided c ≡ files s
-    pub list : Some (listing_of provided c) ≡ listing s
+abbrev pub AnswersAs : {P : Type 0} → (P → Provided) → Streams → Context P → Type 0
+AnswersAs provided s c = AnswersWith InOrder provided s c

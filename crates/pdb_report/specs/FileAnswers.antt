@@ -2,24 +2,31 @@
 use Rattle.std.specs.Prelude.{◌≡◌, true, List, ℕ, Option, IfSome, Ok}
 use Rattle.pdb_addresses.specs.Addresses.{IsOrdered}
 use Rattle.pdb_addr2line.specs.Context.{Context}
+use Rattle.pdb_loading.specs.declared.order.ContributionOrder.{ContributionOrder}
 use Rattle.pdb_file_views.specs.Views.{Views, agrees}
-use Rattle.pdb_loading.specs.Held.{Held, parts_held}
-use Rattle.pdb_loading.specs.LoadedFile.{IsLoadedFrom}
+use Rattle.pdb_loading.specs.Held.{Held, parts_held_with}
+use Rattle.pdb_loading.specs.LoadedFile.{FileBytes, IsLoadedWith}
 use Rattle.pdb_loading.specs.ModuleInfos.{KeptInfo}
-use Rattle.pdb_report.specs.Answer.{AnswersAs, answered_in}
+use Rattle.pdb_report.specs.Answer.{AnswersWith, answered_in}
 use Rattle.pdb_report_texts.specs.declared.fault.RunFault.{RunFault}
 use Rattle.pdb_report_texts.specs.declared.fault.RunFault.TheVariants.{Load, ReversedRange, Read}
 use Rattle.pdb_report_texts.specs.declared.fault.RunFault.TheVariants.{Write, InputTooLong}
 use Rattle.pdb_report_texts.specs.declared.fault.RunFault.TheVariants.{File, OutOfMemory}
 use Rattle.pdb_symbols_modules.specs.Streams.{streams}
 
--- what was read of a file, the bytes that it is taken to have, what is held of it, and the context
--- that is asked
+-- what was read of a file, the bytes that it is taken to have, the order in which its section
+-- contributions have to stand, what is held of it, and the context that is asked
 pub record FileAnswers : Type 0 where
   pub views : Views
   pub contents : List ℕ
+  pub order : ContributionOrder
   pub held : Held
   pub context : Option (Context (List KeptInfo))
+
+-- the bytes that the file is taken to have, with the order in which section contributions have to
+-- stand
+abbrev pub file_of : FileAnswers → FileBytes
+file_of f = record { bytes = f.contents; order = f.order }
 
 -- the bytes agree with everything that was read
 abbrev pub IsKnown : FileAnswers → Type 0
@@ -29,10 +36,10 @@ IsKnown f = agrees f.views f.contents ≡ true
 -- that has them.
 pub record IsOfContents (f : FileAnswers) : Type 0 where
   pub ordered : IsOrdered f.held.tables.map
-  pub parts : IfSome f.context (λ c. parts_held f.held ≡ Ok c.parts)
-  pub held_is : IsKnown f → IsLoadedFrom f.contents f.held
+  pub parts : IfSome f.context (λ c. parts_held_with f.order f.held ≡ Ok c.parts)
+  pub held_is : IsKnown f → IsLoadedWith f.order f.contents f.held
   pub answers : IsKnown f
-      → IfSome f.context (λ c. AnswersAs answered_in (streams f.contents) c)
+      → IfSome f.context (λ c. AnswersWith f.order answered_in (streams f.contents) c)
 
 -- the context was asked nothing yet
 abbrev pub IsUnasked : FileAnswers → Type 0

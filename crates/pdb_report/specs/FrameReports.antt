@@ -6,34 +6,48 @@ use Rattle.pdb_engine.specs.InputLines.{report, report_of_ended}
 use Rattle.pdb_engine.specs.Watched.{inner_of, CountsFailure, IsQuiet, Takes, Writes, WritesFront}
 use Rattle.pdb_file_views.specs.Views.{Views, agrees}
 use Rattle.pdb_loading.specs.LoadFaults.{IsFileFault}
-use Rattle.pdb_loading.specs.Loading.{LoadingFault, load_fault}
-use Rattle.pdb_report.specs.Answer.{answer}
+use Rattle.pdb_loading.specs.declared.order.ContributionOrder.{ContributionOrder}
+use Rattle.pdb_loading.specs.declared.order.ContributionOrder.TheVariants.{InOrder}
+use Rattle.pdb_loading.specs.LoadedFile.{FileBytes}
+use Rattle.pdb_loading.specs.Loading.{LoadingFault, load_fault_with}
+use Rattle.pdb_report.specs.Answer.{answer_with}
 use Rattle.pdb_report.specs.FileAnswers.{IfRefused}
-use Rattle.pdb_report.specs.Isolation.{AreAlikeFor, IsIsolated, exchanged as exchanged_answers}
+use Rattle.pdb_report.specs.Isolation.{AreAlikeFor, IsIsolated, exchanged_with}
 use Rattle.pdb_report_texts.specs.AddressText.{Answers, line_text}
 use Rattle.pdb_report_texts.specs.declared.fault.RunFault.{RunFault}
 use Rattle.pdb_report_texts.specs.RunFaults.{OnLoad, OnMemory, OnRead, OnTooLong, OnWrite}
 use Rattle.pdb_report_texts.specs.RunFaults.{IsOfFileFrames, IsOfFrames, UnlessLoad}
 use Rattle.pdb_symbols_modules.specs.Streams.{streams}
 
--- what a report on lines goes over: a file's bytes, its loading fault, if it has one, and the
--- answers for its addresses
+-- what a report on lines goes over: a file's bytes, the order in which its section contributions
+-- have to stand, its loading fault, if it has one, and the answers for its addresses
 pub record FramesOf : Type 0 where
   pub bytes : List ℕ
+  pub order : ContributionOrder
   pub fault : Option LoadingFault
   pub answer : Answers
 
--- that of a file
-abbrev pub frames_in : List ℕ → FramesOf
-frames_in bytes = record {
+-- that of a file, where section contributions have to stand in this order
+abbrev pub frames_with : ContributionOrder → List ℕ → FramesOf
+frames_with order bytes = record {
   bytes = bytes;
-  fault = load_fault (streams bytes);
-  answer = answer (streams bytes);
+  order = order;
+  fault = load_fault_with order (streams bytes);
+  answer = answer_with order (streams bytes);
 }
 
+-- that of a file
+abbrev pub frames_in : List ℕ → FramesOf
+frames_in bytes = frames_with InOrder bytes
+
 -- that of a file that was loaded, and so has no loading fault
-abbrev pub frames_loaded : List ℕ → FramesOf
-frames_loaded bytes = record { bytes = bytes; fault = None; answer = answer (streams bytes) }
+abbrev pub frames_loaded : FileBytes → FramesOf
+frames_loaded file = record {
+  bytes = file.bytes;
+  order = file.order;
+  fault = None;
+  answer = answer_with file.order (streams file.bytes);
+}
 
 -- The report on an input of up to so many bytes: how the run ends, by what the reader has left and
 -- the writer contains, where that is known, and by both before and after the run.
@@ -77,7 +91,7 @@ pub record ReportsFrames {R W T : Type 0} (f : FramesOf) (limit : ℕ)
   -- answered by such a file
   pub exchanged : OnOk result (IfSome (remaining (inner_of reader)) (λ input.
       (other : List ℕ) (m : ℕ) → AreAlikeFor m f.bytes other → Writes contents writer writer'
-      (report (line_text (exchanged_answers m (streams f.bytes) (streams other))) input)))
+      (report (line_text (exchanged_with f.order m (streams f.bytes) (streams other))) input)))
 
 -- The same over a file that is read on demand, where its bytes agree with what was read of it.
 pub record ReportsFileFrames {R W T : Type 0} (f : FramesOf) (views : Views) (limit : ℕ)
@@ -126,4 +140,4 @@ pub record ReportsFileFrames {R W T : Type 0} (f : FramesOf) (views : Views) (li
   pub exchanged : agrees views f.bytes ≡ true → OnOk result
       (IfSome (remaining (inner_of reader)) (λ input.
       (other : List ℕ) (m : ℕ) → AreAlikeFor m f.bytes other → Writes contents writer writer'
-      (report (line_text (exchanged_answers m (streams f.bytes) (streams other))) input)))
+      (report (line_text (exchanged_with f.order m (streams f.bytes) (streams other))) input)))

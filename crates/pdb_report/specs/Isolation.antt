@@ -2,12 +2,14 @@
 use Rattle.std.specs.Prelude.{◌≡◌, ◌==◌, if◌then◌else◌, ℕ, ◌<◌, ◌^◌, List, [], Option, None, Some}
 use Rattle.std.specs.Prelude.{option_map, Result, Ok, Err}
 use Rattle.pdb_addr2line.specs.Choice.{held_at, place_of}
+use Rattle.pdb_loading.specs.declared.order.ContributionOrder.{ContributionOrder}
+use Rattle.pdb_loading.specs.declared.order.ContributionOrder.TheVariants.{InOrder}
 use Rattle.pdb_loading.specs.Held.{names_in}
 use Rattle.pdb_engine.specs.Address.{address_of}
 use Rattle.pdb_container.specs.Alike.{OpenAlike, ReadAlike}
 use Rattle.pdb_container.specs.Fault as container
-use Rattle.pdb_report.specs.Answer.{answer, function_at, given_in}
-use Rattle.pdb_loading.specs.Loading.{Loaded, loaded, LoadingFault}
+use Rattle.pdb_report.specs.Answer.{answer_with, function_with, given_in}
+use Rattle.pdb_loading.specs.Loading.{Loaded, loaded_with, LoadingFault}
 use Rattle.pdb_report_texts.specs.AddressText.{line_text, Answers}
 use Rattle.pdb_resolving.specs.Reaches.{Reaches}
 use Rattle.pdb_resolving.specs.Resolving.{Modules, none_failed}
@@ -71,21 +73,22 @@ holder_by (Ok l) a =
     option_map (λ held. (held.0).module_index) (held_at l.parts (place_of l.parts a))
 
 -- the number of the module that holds an address of the image
-unfoldable pub holder_at : Streams → ℕ → Option ℕ
-holder_at s = holder_by (loaded (shared s))
+unfoldable pub holder_with : ContributionOrder → Streams → ℕ → Option ℕ
+holder_with order s = holder_by (loaded_with order (shared s))
 
--- Two files answer an address alike: by frames, by function, and by what is written for each line
--- that is the address.
-pub record AnswersAlike (a b : Streams) (x : ℕ) : Type 0 where
-  pub frames : answer a x ≡ answer b x
-  pub functions : function_at a x ≡ function_at b x
+-- Two files answer an address alike, where section contributions have to stand in this order: by
+-- frames, by function, and by what is written for each line that is the address.
+pub record AnswersAlike (order : ContributionOrder) (a b : Streams) (x : ℕ) : Type 0 where
+  pub frames : answer_with order a x ≡ answer_with order b x
+  pub functions : function_with order a x ≡ function_with order b x
   pub lines : (line : List ℕ) → address_of line ≡ Some x
-      → line_text (answer a) line ≡ line_text (answer b) line
+      → line_text (answer_with order a) line ≡ line_text (answer_with order b) line
 
--- Every file that is alike for module m answers alike each address that m holds in this one.
+-- Every file that is alike for module m answers alike each address that m holds in this one,
+-- whatever order section contributions have to stand in.
 abbrev pub IsIsolated : List ℕ → Type 0
-IsIsolated a = (b : List ℕ) (m x : ℕ) → AreAlikeFor m a b → holder_at (streams a) x ≡ Some m
-    → AnswersAlike (streams a) (streams b) x
+IsIsolated a = (order : ContributionOrder) (b : List ℕ) (m x : ℕ) → AreAlikeFor m a b
+    → holder_with order (streams a) x ≡ Some m → AnswersAlike order (streams a) (streams b) x
 
 -- ---- exchanged answers
 
@@ -95,5 +98,9 @@ exchanged_if m None own other = own
 exchanged_if m (Some k) own other = if k == m then other else own
 
 -- the answers of a file, but those of another one at the addresses that module m holds in the first
+abbrev pub exchanged_with : ContributionOrder → ℕ → Streams → Streams → Answers
+exchanged_with order m a b x =
+    exchanged_if m (holder_with order a x) (answer_with order a x) (answer_with order b x)
+
 abbrev pub exchanged : ℕ → Streams → Streams → Answers
-exchanged m a b x = exchanged_if m (holder_at a x) (answer a x) (answer b x)
+exchanged m a b x = exchanged_with InOrder m a b x

@@ -1,4 +1,5 @@
 pub mod Answer
+pub mod AnyOrder
 pub mod FileAnswers
 pub mod FileFrames
 pub mod FrameReports

@@ -7,8 +7,8 @@ ghost use Rattle.pdb_addresses.specs.Addresses.{Map};
 ghost use Rattle.pdb_addr2line.specs.Context.{Context as ContextValue};
 ghost use Rattle.pdb_loading.specs.ModuleInfos.{KeptInfo};
 ghost use Rattle.pdb_functions.specs.Databases.{Database, IsOneRun, Keyed, place_of};
-ghost use Rattle.pdb_report.specs.Answer.{AnswersAs};
-ghost use Rattle.pdb_report.specs.Answer.{answered_in};
+ghost use Rattle.pdb_loading.specs.declared.order.ContributionOrder.{ContributionOrder as Order};
+ghost use Rattle.pdb_report.specs.Answer.{AnswersWith, answered_in};
 ghost use Rattle.pdb_report.specs.SizesReport.{AreSizes};
 ghost use Rattle.pdb_symbols_modules.specs.Streams.{Streams};
 
@@ -30,7 +30,7 @@ pub(crate) trait Counted: Answer {
 
     ghost keyed: { ContextValue (List KeptInfo) → Keyed Self.Key Self };
 
-    ghost places: { Streams → Database Self };
+    ghost places: { Order → Streams → Database Self };
 
     ghost is_report: { Map → Database Self → ℕ → ℕ → List ℕ → Type 0 };
 
@@ -67,24 +67,24 @@ pub(crate) trait Counted: Answer {
             → AreSizes Self.cmp m db start end sizes.now.counts sizes.now.none
             → is_report m db start end (string_bytes text)) };
 
-    ghost of_file: { (s : Streams) (c : ContextValue (List KeptInfo)) → AnswersAs answered_in s c
-        → (keyed c).places ≡ places s };
+    ghost of_file: { (order : Order) (s : Streams) (c : ContextValue (List KeptInfo))
+        → AnswersWith order answered_in s c → (keyed c).places ≡ places order s };
 }
 
 /// Functions, in the order of start, end and name.
 impl Counted for Function {
     ghost use Rattle.pdb_functions.specs.Report.{IsReport};
-    ghost use Rattle.pdb_report.specs.Answer.{database, keyed_in};
+    ghost use Rattle.pdb_report.specs.Answer.{database_with, keyed_in};
 
     type Key = FunctionKey;
 
     ghost keyed = { keyed_in answered_in };
 
-    ghost places = { database };
+    ghost places = { database_with };
 
     ghost is_report = { IsReport };
 
-    ghost of_file = { λ s c answers. answers.places };
+    ghost of_file = { λ order s c answers. answers.places };
 
     fn run_at(
         alloc: Global,
@@ -117,17 +117,17 @@ impl Counted for Function {
 /// Files, by their kind, and those that are known in the order of their texts' bytes.
 impl Counted for CountedFile {
     ghost use Rattle.pdb_functions.specs.FileReport.{IsFileReport};
-    ghost use Rattle.pdb_report.specs.Answer.{files, files_keyed_in};
+    ghost use Rattle.pdb_report.specs.Answer.{files_with, files_keyed_in};
 
     type Key = FileKey;
 
     ghost keyed = { files_keyed_in answered_in };
 
-    ghost places = { files };
+    ghost places = { files_with };
 
     ghost is_report = { IsFileReport };
 
-    ghost of_file = { λ s c answers. answers.by_file };
+    ghost of_file = { λ order s c answers. answers.by_file };
 
     fn run_at(
         alloc: Global,

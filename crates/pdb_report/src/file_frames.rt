@@ -4,7 +4,7 @@ ghost use Rattle.std.specs.Prelude.{◌≡◌, Err, Option, Result as Answer};
 ghost use Rattle.pdb_functions.specs.Frames.{FunctionFrames as Found};
 ghost use Rattle.pdb_resolving.specs.Fault.{Fault};
 ghost use Rattle.pdb_file_views.specs.Views.{Grows};
-ghost use Rattle.pdb_report.specs.Answer.{answer};
+ghost use Rattle.pdb_report.specs.Answer.{answer_with};
 ghost use Rattle.pdb_report.specs.FileAnswers.{IsKnown};
 ghost use Rattle.pdb_report.specs.FileFrames.{FindsFrames, FindsHeldFrames};
 ghost use Rattle.pdb_symbols_modules.specs.Streams.{streams};
@@ -50,9 +50,11 @@ impl<'a, F: FileExt> FileSymbolizer<'a, F> {
         probe: u32,
     ) -> Result<Option<FunctionFrames<'a>>, FileFramesFault>
         ensures contents { self.new.contents ≡ self.old.contents }
+        ensures order { self.new.order ≡ self.old.order }
         ensures grows { Grows self.old.views self.new.views }
         ensures frames { IsKnown self.new
-            → FindsFrames result (answer (streams self.old.contents) probe) }
+            → FindsFrames result
+            (answer_with self.old.order (streams self.old.contents) probe) }
     {
         for _ in 0..TRIES {
             match self.find_held_frames(alloc, probe) {

@@ -7,11 +7,11 @@ ghost use Rattle.pdb_engine.specs.Watched.{inner_of, CountsFailure, IsQuiet, Wri
 ghost use Rattle.pdb_engine.specs.Watched.{Takes};
 ghost use Rattle.pdb_file_views.specs.Views.{agrees, Grows};
 ghost use Rattle.pdb_loading.specs.LoadFaults.{IsFileFault};
-ghost use Rattle.pdb_loading.specs.Loading.{load_fault};
-ghost use Rattle.pdb_report.specs.Answer.{answer};
+ghost use Rattle.pdb_loading.specs.Loading.{load_fault_with};
+ghost use Rattle.pdb_report.specs.Answer.{answer_with};
 ghost use Rattle.pdb_report.specs.FileAnswers.{IfRefused, IsKnown};
 ghost use Rattle.pdb_report_texts.specs.AddressText.{line_text};
-ghost use Rattle.pdb_report.specs.Isolation.{AreAlikeFor, IsIsolated, exchanged};
+ghost use Rattle.pdb_report.specs.Isolation.{AreAlikeFor, IsIsolated, exchanged_with};
 ghost use Rattle.pdb_report_texts.specs.RunFaults.{OnLoad, OnRead, OnWrite, OnTooLong};
 ghost use Rattle.pdb_report_texts.specs.RunFaults.{IsOfFileFrames, OnMemoryOrFile, UnlessLoad};
 ghost use Rattle.pdb_symbols_modules.specs.Streams.{streams};
@@ -45,6 +45,7 @@ impl<'a, F: FileExt> FileLines<'a, F> {
     /// whether there is more now.
     fn go_on(&mut self, alloc: Global) -> bool
         ensures contents { self.new.symbolizer.contents ≡ self.old.symbolizer.contents }
+        ensures order { self.new.symbolizer.order ≡ self.old.symbolizer.order }
         ensures grows { Grows self.old.symbolizer.views self.new.symbolizer.views }
     {
         if self.failed.is_some() {
@@ -85,13 +86,14 @@ impl<'a, F: FileExt> Answers for FileLines<'a, F> {
     type Start = AddressStart;
 
     ghost use Rattle.pdb_report_texts.specs.AddressText.{line_text};
-    ghost use Rattle.pdb_report.specs.Answer.{answer};
+    ghost use Rattle.pdb_report.specs.Answer.{answer_with};
     ghost use Rattle.pdb_report.specs.FileAnswers.{IsKnown};
     ghost use Rattle.pdb_symbols_modules.specs.Streams.{streams};
 
     ghost known = { λ lines. IsKnown lines.symbolizer };
 
-    ghost text = { λ lines line. line_text (answer (streams lines.symbolizer.contents)) line };
+    ghost text = { λ lines line. line_text
+        (answer_with lines.symbolizer.order (streams lines.symbolizer.contents)) line };
 
     ghost subject = { λ lines. lines.symbolizer.contents };
 
@@ -148,7 +150,8 @@ fn answer_file_lines<F: FileExt, R: Read, W: Write>(
     ensures ok { IsKnown lines.new.symbolizer → OnOk result
         (IfSome (R.remaining (inner_of reader.old)) (λ input. (length input ≤ 2 ^ 30)
         × Writes W.contents writer.old writer.new
-        (report (line_text (answer (streams lines.old.symbolizer.contents))) input))) }
+        (report (line_text (answer_with lines.old.symbolizer.order
+        (streams lines.old.symbolizer.contents))) input))) }
     ensures quiet { OnOk result (IsQuiet reader.old reader.new × IsQuiet writer.old writer.new) }
     ensures read_fails { IfErr result
         (λ fault. OnRead fault (λ kind. CountsFailure reader.old reader.new kind)) }
@@ -158,16 +161,19 @@ fn answer_file_lines<F: FileExt, R: Read, W: Write>(
         (λ fault. OnRead fault
         (λ _. (taken : List ℕ) × Takes R.remaining reader.old reader.new taken
         × Writes W.contents writer.old writer.new (report_of_ended
-        (line_text (answer (streams lines.old.symbolizer.contents))) taken))) }
+        (line_text (answer_with lines.old.symbolizer.order
+        (streams lines.old.symbolizer.contents))) taken))) }
     ensures too_long { IsKnown lines.new.symbolizer → IfErr result
         (λ fault. OnTooLong fault
         (IfSome (R.remaining (inner_of reader.old)) (λ input. (2 ^ 30 < length input)
         × Writes W.contents writer.old writer.new (report_of_ended
-        (line_text (answer (streams lines.old.symbolizer.contents))) (take (2 ^ 30) input))))) }
+        (line_text (answer_with lines.old.symbolizer.order
+        (streams lines.old.symbolizer.contents))) (take (2 ^ 30) input))))) }
     ensures part { IsKnown lines.new.symbolizer → OnErr result
         (IfSome (R.remaining (inner_of reader.old))
         (λ input. WritesFront W.contents writer.old writer.new
-        (report (line_text (answer (streams lines.old.symbolizer.contents))) input))) }
+        (report (line_text (answer_with lines.old.symbolizer.order
+        (streams lines.old.symbolizer.contents))) input))) }
 {
     match run(alloc, lines, reader, writer, INPUT_LIMIT) {
         Ok(()) => Ok(()),
@@ -217,7 +223,8 @@ fn answer_file<'a, F: FileExt, R: Read, W: Write>(
         → OnOk result.outcome
         (IfSome (R.remaining (inner_of reader.old)) (λ input. (length input ≤ 2 ^ 30)
         × Writes W.contents writer.old writer.new
-        (report (line_text (answer (streams symbolizer.entry.contents))) input))) }
+        (report (line_text (answer_with symbolizer.entry.order
+        (streams symbolizer.entry.contents))) input))) }
     ensures quiet { OnOk result.outcome
         (IsQuiet reader.old reader.new × IsQuiet writer.old writer.new) }
     ensures read_fails { IfErr result.outcome
@@ -228,16 +235,19 @@ fn answer_file<'a, F: FileExt, R: Read, W: Write>(
         → IfErr result.outcome (λ fault. OnRead fault
         (λ _. (taken : List ℕ) × Takes R.remaining reader.old reader.new taken
         × Writes W.contents writer.old writer.new (report_of_ended
-        (line_text (answer (streams symbolizer.entry.contents))) taken))) }
+        (line_text (answer_with symbolizer.entry.order
+        (streams symbolizer.entry.contents))) taken))) }
     ensures too_long { agrees result.source.views symbolizer.entry.contents ≡ true
         → IfErr result.outcome (λ fault. OnTooLong fault
         (IfSome (R.remaining (inner_of reader.old)) (λ input. (2 ^ 30 < length input)
         × Writes W.contents writer.old writer.new (report_of_ended
-        (line_text (answer (streams symbolizer.entry.contents))) (take (2 ^ 30) input))))) }
+        (line_text (answer_with symbolizer.entry.order
+        (streams symbolizer.entry.contents))) (take (2 ^ 30) input))))) }
     ensures part { agrees result.source.views symbolizer.entry.contents ≡ true
         → OnErr result.outcome (IfSome (R.remaining (inner_of reader.old))
         (λ input. WritesFront W.contents writer.old writer.new
-        (report (line_text (answer (streams symbolizer.entry.contents))) input))) }
+        (report (line_text (answer_with symbolizer.entry.order
+        (streams symbolizer.entry.contents))) input))) }
 {
     let mut lines = FileLines {
         symbolizer,
@@ -277,23 +287,25 @@ pub fn run_file_frames<'a, F: FileExt, R: Read, W: Write>(
     ensures load { IfErr result.outcome (λ fault. OnLoad fault (λ cause.
         ((reader.new ≡ reader.old) × (writer.new ≡ writer.old))
         × (agrees result.source.views source.entry.contents.numbers ≡ true
-        → IsFileFault cause (load_fault (streams source.entry.contents.numbers))))) }
+        → IsFileFault cause
+        (load_fault_with source.entry.order (streams source.entry.contents.numbers))))) }
     ensures loaded { agrees result.source.views source.entry.contents.numbers ≡ true
         → UnlessLoad result.outcome
-        (load_fault (streams source.entry.contents.numbers) ≡ None) }
+        (load_fault_with source.entry.order (streams source.entry.contents.numbers) ≡ None) }
     ensures kind { IfErr result.outcome IsOfFileFrames }
     // Out of memory, and a file that couldn't be read, are returned with both ends untouched, or
     // where there is no loading fault.
     ensures memory { agrees result.source.views source.entry.contents.numbers ≡ true
         → IfErr result.outcome (λ fault. IfRefused fault
-        ((load_fault (streams source.entry.contents.numbers) ≡ None)
+        ((load_fault_with source.entry.order (streams source.entry.contents.numbers) ≡ None)
         ⊎ ((reader.new ≡ reader.old) × (writer.new ≡ writer.old)))) }
     // Where the run ends well, the report on the whole input is out, and neither end failed.
     ensures ok { agrees result.source.views source.entry.contents.numbers ≡ true
         → OnOk result.outcome
         (IfSome (R.remaining (inner_of reader.old)) (λ input. (length input ≤ 2 ^ 30)
         × Writes W.contents writer.old writer.new
-        (report (line_text (answer (streams source.entry.contents.numbers))) input))) }
+        (report (line_text (answer_with source.entry.order
+        (streams source.entry.contents.numbers))) input))) }
     ensures quiet { OnOk result.outcome
         (IsQuiet reader.old reader.new × IsQuiet writer.old writer.new) }
     // A failed read or write is one of this call, with its kind.
@@ -306,17 +318,20 @@ pub fn run_file_frames<'a, F: FileExt, R: Read, W: Write>(
         → IfErr result.outcome (λ fault. OnRead fault
         (λ _. (taken : List ℕ) × Takes R.remaining reader.old reader.new taken
         × Writes W.contents writer.old writer.new (report_of_ended
-        (line_text (answer (streams source.entry.contents.numbers))) taken))) }
+        (line_text (answer_with source.entry.order
+        (streams source.entry.contents.numbers))) taken))) }
     ensures too_long { agrees result.source.views source.entry.contents.numbers ≡ true
         → IfErr result.outcome (λ fault. OnTooLong fault
         (IfSome (R.remaining (inner_of reader.old)) (λ input. (2 ^ 30 < length input)
         × Writes W.contents writer.old writer.new (report_of_ended
-        (line_text (answer (streams source.entry.contents.numbers))) (take (2 ^ 30) input))))) }
+        (line_text (answer_with source.entry.order
+        (streams source.entry.contents.numbers))) (take (2 ^ 30) input))))) }
     // At every fault what is out is a prefix of the report.
     ensures part { agrees result.source.views source.entry.contents.numbers ≡ true
         → OnErr result.outcome (IfSome (R.remaining (inner_of reader.old))
         (λ input. WritesFront W.contents writer.old writer.new
-        (report (line_text (answer (streams source.entry.contents.numbers))) input))) }
+        (report (line_text (answer_with source.entry.order
+        (streams source.entry.contents.numbers))) input))) }
     // The file's answers are those of every other file that is alike for the module that holds the
     // address. At `Ok` what is out is also the report in which the lines of one module's addresses
     // are such a file's.
@@ -325,7 +340,8 @@ pub fn run_file_frames<'a, F: FileExt, R: Read, W: Write>(
         → OnOk result.outcome (IfSome (R.remaining (inner_of reader.old)) (λ input.
         (other : List ℕ) (m : ℕ) → AreAlikeFor m source.entry.contents.numbers other
         → Writes W.contents writer.old writer.new (report (line_text
-        (exchanged m (streams source.entry.contents.numbers) (streams other))) input))) }
+        (exchanged_with source.entry.order m (streams source.entry.contents.numbers)
+        (streams other))) input))) }
 {
     match FileSymbolizer::open(alloc, source) {
         Ok(symbolizer) => answer_file(alloc, symbolizer, reader, writer, at_end),

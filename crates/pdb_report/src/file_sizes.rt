@@ -5,11 +5,11 @@ ghost use Rattle.std.specs.Prelude.{IfErr, IfOk, OnErr, OnOk};
 ghost use Rattle.pdb_engine.specs.Watched.{CountsFailure, IsQuiet, Writes, WritesFront};
 ghost use Rattle.pdb_file_views.specs.Views.{agrees, Grows};
 ghost use Rattle.pdb_loading.specs.LoadFaults.{IsFileFault};
-ghost use Rattle.pdb_loading.specs.Loading.{load_fault};
+ghost use Rattle.pdb_loading.specs.Loading.{load_fault_with};
 ghost use Rattle.pdb_report.specs.FileAnswers.{IfRefused, IsKnown, IsUnasked};
-ghost use Rattle.pdb_report.specs.SizesByFile.{IsSizesByFile, IsWithinFilePieces};
+ghost use Rattle.pdb_report.specs.SizesByFile.{IsSizesByFileWith, IsWithinFilePiecesWith};
 ghost use Rattle.pdb_report.specs.SizesReport.{AreWithinPieces, IsReportOn};
-ghost use Rattle.pdb_report.specs.SizesReport.{IsSizesReport, IsWithinPieces};
+ghost use Rattle.pdb_report.specs.SizesReport.{IsSizesReportWith, IsWithinPiecesWith};
 ghost use Rattle.pdb_report_texts.specs.RunFaults.{IsOfFileSizes, OnCounted, OnLoad};
 ghost use Rattle.pdb_report_texts.specs.RunFaults.{OnMemoryOrFile, OnReversed, OnWrite};
 ghost use Rattle.pdb_report_texts.specs.RunFaults.{UnlessLoad};
@@ -41,16 +41,20 @@ fn count_file<A: Counted, F: FileExt>(
     requires order { start ≤ end }
     requires unasked { IsUnasked symbolizer.old }
     ensures contents { symbolizer.new.contents ≡ symbolizer.old.contents }
+    ensures order { symbolizer.new.order ≡ symbolizer.old.order }
     ensures grows { Grows symbolizer.old.views symbolizer.new.views }
     ensures kind { IfErr result OnMemoryOrFile }
     ensures text { IsKnown symbolizer.new → IfOk result (λ counted. IsReportOn A.is_report
-        (A.places (streams symbolizer.old.contents)) (streams symbolizer.old.contents) start end
+        (A.places symbolizer.old.order (streams symbolizer.old.contents))
+        symbolizer.old.order (streams symbolizer.old.contents) start end
         (string_bytes counted.0)) }
     ensures lookups { IsKnown symbolizer.new → IfOk result (λ counted. AreWithinPieces
-        (A.places (streams symbolizer.old.contents)) (streams symbolizer.old.contents) start end
+        (A.places symbolizer.old.order (streams symbolizer.old.contents))
+        symbolizer.old.order (streams symbolizer.old.contents) start end
         counted.1.lookups) }
     ensures answered { IsKnown symbolizer.new → IfOk result (λ counted. AreWithinPieces
-        (A.places (streams symbolizer.old.contents)) (streams symbolizer.old.contents) start end
+        (A.places symbolizer.old.order (streams symbolizer.old.contents))
+        symbolizer.old.order (streams symbolizer.old.contents) start end
         counted.1.answered) }
 {
     symbolizer.ask_between(alloc, start, end);
@@ -96,6 +100,7 @@ fn write_file_report<A: Counted, F: FileExt, W: Write>(
 ) -> Result<Tally, RunFault>
     requires unasked { IsUnasked symbolizer.old }
     ensures contents { symbolizer.new.contents ≡ symbolizer.old.contents }
+    ensures same { symbolizer.new.order ≡ symbolizer.old.order }
     ensures grows { IsKnown symbolizer.new → IsKnown symbolizer.old }
     ensures load { IfErr result (λ fault. OnLoad fault (λ _. ⊥)) }
     ensures reversed { IfErr result (λ fault. OnReversed fault
@@ -103,21 +108,24 @@ fn write_file_report<A: Counted, F: FileExt, W: Write>(
     ensures order { OnCounted result (start ≤ end) }
     ensures kind { IfErr result IsOfFileSizes }
     ensures ok { IsKnown symbolizer.new → OnOk result ((text : List ℕ)
-        × IsReportOn A.is_report (A.places (streams symbolizer.old.contents))
-        (streams symbolizer.old.contents) start end text
+        × IsReportOn A.is_report (A.places symbolizer.old.order (streams symbolizer.old.contents))
+        symbolizer.old.order (streams symbolizer.old.contents) start end text
         × Writes W.contents writer.old writer.new text) }
     ensures lookups { IsKnown symbolizer.new → IfOk result (λ tally. AreWithinPieces
-        (A.places (streams symbolizer.old.contents)) (streams symbolizer.old.contents) start end
+        (A.places symbolizer.old.order (streams symbolizer.old.contents))
+        symbolizer.old.order (streams symbolizer.old.contents) start end
         tally.lookups) }
     ensures answered { IsKnown symbolizer.new → IfOk result (λ tally. AreWithinPieces
-        (A.places (streams symbolizer.old.contents)) (streams symbolizer.old.contents) start end
+        (A.places symbolizer.old.order (streams symbolizer.old.contents))
+        symbolizer.old.order (streams symbolizer.old.contents) start end
         tally.answered) }
     ensures quiet { OnOk result (IsQuiet writer.old writer.new) }
     ensures write_fails { IfErr result (λ fault. OnWrite fault
         (λ kind. CountsFailure writer.old writer.new kind)) }
     ensures part { IsKnown symbolizer.new → OnErr result ((writer.new ≡ writer.old)
-        ⊎ ((text : List ℕ) × IsReportOn A.is_report (A.places (streams symbolizer.old.contents))
-        (streams symbolizer.old.contents) start end text
+        ⊎ ((text : List ℕ) × IsReportOn A.is_report
+        (A.places symbolizer.old.order (streams symbolizer.old.contents))
+        symbolizer.old.order (streams symbolizer.old.contents) start end text
         × WritesFront W.contents writer.old writer.new text)) }
 {
     if end < start {
@@ -147,10 +155,11 @@ fn run_file_report<'a, A: Counted, F: FileExt, W: Write>(
     // The loading fault is returned where the file has one, with nothing written.
     ensures load { IfErr result.outcome (λ fault. OnLoad fault (λ cause.
         (writer.new ≡ writer.old) × (agrees result.source.views source.entry.contents.numbers ≡ true
-        → IsFileFault cause (load_fault (streams source.entry.contents.numbers))))) }
+        → IsFileFault cause
+        (load_fault_with source.entry.order (streams source.entry.contents.numbers))))) }
     ensures loaded { agrees result.source.views source.entry.contents.numbers ≡ true
         → UnlessLoad result.outcome
-        (load_fault (streams source.entry.contents.numbers) ≡ None) }
+        (load_fault_with source.entry.order (streams source.entry.contents.numbers) ≡ None) }
     // A reversed range is refused exactly where it is one, with nothing written.
     ensures reversed { IfErr result.outcome (λ fault. OnReversed fault
         ((end < start) × (writer.new ≡ writer.old))) }
@@ -160,24 +169,24 @@ fn run_file_report<'a, A: Counted, F: FileExt, W: Write>(
     // there is no loading fault.
     ensures memory { agrees result.source.views source.entry.contents.numbers ≡ true
         → IfErr result.outcome (λ fault. IfRefused fault
-        ((load_fault (streams source.entry.contents.numbers) ≡ None)
+        ((load_fault_with source.entry.order (streams source.entry.contents.numbers) ≡ None)
         ⊎ (writer.new ≡ writer.old))) }
     // Where the run ends well, the report is out, the writer didn't fail, and the last count took
     // at most one lookup for each piece, and one more question for each key that lookups found.
     ensures ok { agrees result.source.views source.entry.contents.numbers ≡ true
         → OnOk result.outcome ((text : List ℕ) × IsReportOn A.is_report
-        (A.places (streams source.entry.contents.numbers))
-        (streams source.entry.contents.numbers) start end text
+        (A.places source.entry.order (streams source.entry.contents.numbers))
+        source.entry.order (streams source.entry.contents.numbers) start end text
         × Writes W.contents writer.old writer.new text) }
     ensures lookups { agrees result.source.views source.entry.contents.numbers ≡ true
         → IfOk result.outcome (λ tally. AreWithinPieces
-        (A.places (streams source.entry.contents.numbers))
-        (streams source.entry.contents.numbers) start end
+        (A.places source.entry.order (streams source.entry.contents.numbers))
+        source.entry.order (streams source.entry.contents.numbers) start end
         tally.lookups) }
     ensures answered { agrees result.source.views source.entry.contents.numbers ≡ true
         → IfOk result.outcome (λ tally. AreWithinPieces
-        (A.places (streams source.entry.contents.numbers))
-        (streams source.entry.contents.numbers) start end
+        (A.places source.entry.order (streams source.entry.contents.numbers))
+        source.entry.order (streams source.entry.contents.numbers) start end
         tally.answered) }
     ensures quiet { OnOk result.outcome (IsQuiet writer.old writer.new) }
     // A failed write is one of this call, with its kind.
@@ -187,8 +196,8 @@ fn run_file_report<'a, A: Counted, F: FileExt, W: Write>(
     ensures part { agrees result.source.views source.entry.contents.numbers ≡ true
         → OnErr result.outcome ((writer.new ≡ writer.old) ⊎ ((text : List ℕ)
         × IsReportOn A.is_report
-        (A.places (streams source.entry.contents.numbers))
-        (streams source.entry.contents.numbers) start end text
+        (A.places source.entry.order (streams source.entry.contents.numbers))
+        source.entry.order (streams source.entry.contents.numbers) start end text
         × WritesFront W.contents writer.old writer.new text)) }
 {
     match FileSymbolizer::open(alloc, source) {
@@ -223,10 +232,11 @@ pub fn run_file_sizes<'a, F: FileExt, W: Write>(
     // The loading fault is returned where the file has one, with nothing written.
     ensures load { IfErr result.outcome (λ fault. OnLoad fault (λ cause.
         (writer.new ≡ writer.old) × (agrees result.source.views source.entry.contents.numbers ≡ true
-        → IsFileFault cause (load_fault (streams source.entry.contents.numbers))))) }
+        → IsFileFault cause
+        (load_fault_with source.entry.order (streams source.entry.contents.numbers))))) }
     ensures loaded { agrees result.source.views source.entry.contents.numbers ≡ true
         → UnlessLoad result.outcome
-        (load_fault (streams source.entry.contents.numbers) ≡ None) }
+        (load_fault_with source.entry.order (streams source.entry.contents.numbers) ≡ None) }
     // A reversed range is refused exactly where it is one, with nothing written.
     ensures reversed { IfErr result.outcome (λ fault. OnReversed fault
         ((end < start) × (writer.new ≡ writer.old))) }
@@ -236,21 +246,22 @@ pub fn run_file_sizes<'a, F: FileExt, W: Write>(
     // there is no loading fault.
     ensures memory { agrees result.source.views source.entry.contents.numbers ≡ true
         → IfErr result.outcome (λ fault. IfRefused fault
-        ((load_fault (streams source.entry.contents.numbers) ≡ None)
+        ((load_fault_with source.entry.order (streams source.entry.contents.numbers) ≡ None)
         ⊎ (writer.new ≡ writer.old))) }
     // Where the run ends well, the report is out, the writer didn't fail, and the last count took
     // at most one lookup for each piece, and one more question for each key that lookups found.
     ensures ok { agrees result.source.views source.entry.contents.numbers ≡ true
         → OnOk result.outcome ((text : List ℕ)
-        × IsSizesReport (streams source.entry.contents.numbers) start end text
+        × IsSizesReportWith source.entry.order (streams source.entry.contents.numbers) start end
+        text
         × Writes W.contents writer.old writer.new text) }
     ensures lookups { agrees result.source.views source.entry.contents.numbers ≡ true
         → IfOk result.outcome (λ tally.
-        IsWithinPieces (streams source.entry.contents.numbers) start end
+        IsWithinPiecesWith source.entry.order (streams source.entry.contents.numbers) start end
         tally.lookups) }
     ensures answered { agrees result.source.views source.entry.contents.numbers ≡ true
         → IfOk result.outcome (λ tally.
-        IsWithinPieces (streams source.entry.contents.numbers) start end
+        IsWithinPiecesWith source.entry.order (streams source.entry.contents.numbers) start end
         tally.answered) }
     ensures quiet { OnOk result.outcome (IsQuiet writer.old writer.new) }
     // A failed write is one of this call, with its kind.
@@ -259,7 +270,8 @@ pub fn run_file_sizes<'a, F: FileExt, W: Write>(
     // At every fault nothing is out, or a prefix of the report.
     ensures part { agrees result.source.views source.entry.contents.numbers ≡ true
         → OnErr result.outcome ((writer.new ≡ writer.old) ⊎ ((text : List ℕ)
-        × IsSizesReport (streams source.entry.contents.numbers) start end text
+        × IsSizesReportWith source.entry.order (streams source.entry.contents.numbers) start end
+        text
         × WritesFront W.contents writer.old writer.new text)) }
 {
     run_file_report::<Function, F, W>(alloc, source, start, end, writer)
@@ -281,10 +293,11 @@ pub fn run_file_sizes_by_file<'a, F: FileExt, W: Write>(
     // The loading fault is returned where the file has one, with nothing written.
     ensures load { IfErr result.outcome (λ fault. OnLoad fault (λ cause.
         (writer.new ≡ writer.old) × (agrees result.source.views source.entry.contents.numbers ≡ true
-        → IsFileFault cause (load_fault (streams source.entry.contents.numbers))))) }
+        → IsFileFault cause
+        (load_fault_with source.entry.order (streams source.entry.contents.numbers))))) }
     ensures loaded { agrees result.source.views source.entry.contents.numbers ≡ true
         → UnlessLoad result.outcome
-        (load_fault (streams source.entry.contents.numbers) ≡ None) }
+        (load_fault_with source.entry.order (streams source.entry.contents.numbers) ≡ None) }
     // A reversed range is refused exactly where it is one, with nothing written.
     ensures reversed { IfErr result.outcome (λ fault. OnReversed fault
         ((end < start) × (writer.new ≡ writer.old))) }
@@ -294,21 +307,22 @@ pub fn run_file_sizes_by_file<'a, F: FileExt, W: Write>(
     // there is no loading fault.
     ensures memory { agrees result.source.views source.entry.contents.numbers ≡ true
         → IfErr result.outcome (λ fault. IfRefused fault
-        ((load_fault (streams source.entry.contents.numbers) ≡ None)
+        ((load_fault_with source.entry.order (streams source.entry.contents.numbers) ≡ None)
         ⊎ (writer.new ≡ writer.old))) }
     // Where the run ends well, the report is out, the writer didn't fail, and the last count took
     // at most one lookup for each piece, and one more question for each key that lookups found.
     ensures ok { agrees result.source.views source.entry.contents.numbers ≡ true
         → OnOk result.outcome ((text : List ℕ)
-        × IsSizesByFile (streams source.entry.contents.numbers) start end text
+        × IsSizesByFileWith source.entry.order (streams source.entry.contents.numbers) start end
+        text
         × Writes W.contents writer.old writer.new text) }
     ensures lookups { agrees result.source.views source.entry.contents.numbers ≡ true
         → IfOk result.outcome (λ tally.
-        IsWithinFilePieces (streams source.entry.contents.numbers) start end
+        IsWithinFilePiecesWith source.entry.order (streams source.entry.contents.numbers) start end
         tally.lookups) }
     ensures answered { agrees result.source.views source.entry.contents.numbers ≡ true
         → IfOk result.outcome (λ tally.
-        IsWithinFilePieces (streams source.entry.contents.numbers) start end
+        IsWithinFilePiecesWith source.entry.order (streams source.entry.contents.numbers) start end
         tally.answered) }
     ensures quiet { OnOk result.outcome (IsQuiet writer.old writer.new) }
     // A failed write is one of this call, with its kind.
@@ -317,7 +331,8 @@ pub fn run_file_sizes_by_file<'a, F: FileExt, W: Write>(
     // At every fault nothing is out, or a prefix of the report.
     ensures part { agrees result.source.views source.entry.contents.numbers ≡ true
         → OnErr result.outcome ((writer.new ≡ writer.old) ⊎ ((text : List ℕ)
-        × IsSizesByFile (streams source.entry.contents.numbers) start end text
+        × IsSizesByFileWith source.entry.order (streams source.entry.contents.numbers) start end
+        text
         × WritesFront W.contents writer.old writer.new text)) }
 {
     run_file_report::<CountedFile, F, W>(alloc, source, start, end, writer)

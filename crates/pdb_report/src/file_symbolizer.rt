@@ -5,13 +5,13 @@ ghost use Rattle.std.specs.Prelude.{OnOk, string_bytes};
 ghost use Rattle.pdb_file_views.specs.Views.{agrees, Grows};
 ghost use Rattle.pdb_loading.specs.FileFaults.{OnLoadFault};
 ghost use Rattle.pdb_loading.specs.LoadFaults.{Refuses};
-ghost use Rattle.pdb_loading.specs.Loading.{load_fault};
-ghost use Rattle.pdb_report.specs.Answer.{answer};
+ghost use Rattle.pdb_loading.specs.Loading.{load_fault_with};
+ghost use Rattle.pdb_report.specs.Answer.{answer_with};
 ghost use Rattle.pdb_report.specs.FileAnswers.{IsKnown, IsUnasked};
 ghost use Rattle.pdb_report.specs.FileFrames.{FindsHeldFrames};
-ghost use Rattle.pdb_addr2line.specs.Formatters.{context_in, with_modules};
+ghost use Rattle.pdb_addr2line.specs.Formatters.{context_with, with_modules};
 ghost use Rattle.pdb_addresses.specs.Addresses.{IsOrdered};
-ghost use Rattle.pdb_loading.specs.Held.{kept_infos, parts_held};
+ghost use Rattle.pdb_loading.specs.Held.{kept_infos, parts_held_with};
 ghost use Rattle.pdb_report.specs.SizesReport.{AreWithinPieces, IsReportOn};
 ghost use Rattle.pdb_report_texts.specs.AddressText.{line_text};
 ghost use Rattle.pdb_symbols_modules.specs.Modules.{modules_of};
@@ -22,9 +22,11 @@ use crate::lines::append_line;
 use crate::sizes::{Tally, count_text};
 use boxcar::tag::Tag;
 use bumpalo::Bump;
-use pdb_addr2line::{ContextPdbData, Error, FunctionFrames, KeptModules};
+use pdb_addr2line::{ContextPdbData, Error, FunctionFrames, KeptModules, TypeFormatterFlags};
 use pdb_file_views::{FileSource, FileViews, Wanted};
-use pdb_loading::{FileFault, LoadFault, LoadedViews, load_on_demand, modules_of_views};
+use pdb_loading::{
+    ContributionOrder, FileFault, LoadFault, LoadedViews, load_on_demand, modules_of_views,
+};
 use std::alloc::{AllocError, Global};
 use std::io::ErrorKind;
 use std::marker::Model;
@@ -54,10 +56,13 @@ pub struct FileOnDemand<'a, F> {
     pub views: FileViews,
     /// The bytes that contracts take the file to have. It has no bytes itself.
     pub contents: Tag,
+    /// In which order section contributions have to stand.
+    pub order: ContributionOrder,
 }
 
 impl<'a, F> FileOnDemand<'a, F> {
-    /// A file of `size` bytes, of which nothing was read.
+    /// A file of `size` bytes, of which nothing was read. Its section contributions have to stand
+    /// in order.
     ///
     /// # Errors
     /// `AllocError` when memory runs out.
@@ -68,7 +73,7 @@ impl<'a, F> FileOnDemand<'a, F> {
         size: u64,
     ) -> Result<FileOnDemand<'a, F>, AllocError>
         ensures { IfOk result (λ s. (s.views.size ≡ size) × (s.views.views ≡ [])
-            × (s.views.whole ≡ None)) }
+            × (s.views.whole ≡ None) × (s.order ≡ ContributionOrder.InOrder)) }
     {
         let views = FileViews::new(alloc, size)?;
         Ok(FileOnDemand {
@@ -76,6 +81,7 @@ impl<'a, F> FileOnDemand<'a, F> {
             file,
             views,
             contents: Tag::empty(),
+            order: ContributionOrder::InOrder,
         })
     }
 }
@@ -102,6 +108,7 @@ impl<'a, F> Model for FileSymbolizer<'a, F> {
     ghost view = { λ s. record {
       views = s.source.views;
       contents = s.source.contents.numbers;
+      order = s.source.order;
       held = s.held.now;
       context = s.context;
     } };
@@ -109,6 +116,7 @@ impl<'a, F> Model for FileSymbolizer<'a, F> {
     ghost invariant = { λ s. IsOfContents record {
       views = s.source.views;
       contents = s.source.contents.numbers;
+      order = s.source.order;
       held = s.held.now;
       context = s.context;
     } };
@@ -148,13 +156,16 @@ fn of_loaded<'a, F>(
     source: FileOnDemand<'a, F>,
     loaded: LoadedViews,
 ) -> Result<FileSymbolizer<'a, F>, FileOnDemand<'a, F>>
-    requires { agrees source.views source.contents.numbers ≡ true
-        → loaded.loaded ≡ source.contents.numbers }
+    requires contents { agrees source.views source.contents.numbers ≡ true
+        → loaded.loaded.bytes ≡ source.contents.numbers }
+    requires order { loaded.loaded.order ≡ source.order }
     ensures ok { IfOk result (λ s. (s.views ≡ source.entry.views)
         × (s.contents ≡ source.entry.contents.numbers)) }
+    ensures order { IfOk result (λ s. s.order ≡ source.entry.order) }
     ensures unasked { IfOk result (λ s. IsUnasked s) }
     ensures refused { IfErr result (λ s. (s.views ≡ source.entry.views)
         × (s.contents.numbers ≡ source.entry.contents.numbers)) }
+    ensures same { IfErr result (λ s. s.order ≡ source.entry.order) }
 {
     let LoadedViews { loaded, wanted } = loaded;
     let (file, held) = loaded.into_parts();
@@ -163,7 +174,8 @@ fn of_loaded<'a, F>(
         return Err(source);
     };
     let held: &'a Held = held;
-    let Ok(context) = held.make_context(alloc) else {
+    let flags = TypeFormatterFlags::default();
+    let Ok(context) = held.make_context_with_order(alloc, flags, source.order) else {
         return Err(source);
     };
     Ok(FileSymbolizer {
@@ -186,28 +198,31 @@ impl<'a, F: FileExt> FileSymbolizer<'a, F> {
         source: FileOnDemand<'a, F>,
     ) -> Result<FileSymbolizer<'a, F>, NotLoaded<'a, F>>
         ensures contents { IfOk result (λ s. s.contents ≡ source.entry.contents.numbers) }
+        ensures order { IfOk result (λ s. s.order ≡ source.entry.order) }
         ensures unasked { IfOk result (λ s. IsUnasked s) }
         ensures same { IfErr result (λ e. e.source.contents.numbers
             ≡ source.entry.contents.numbers) }
         ensures loaded { IfOk result (λ s. IsKnown s
-            → load_fault (streams source.entry.contents.numbers) ≡ None) }
+            → load_fault_with source.entry.order (streams source.entry.contents.numbers) ≡ None) }
         ensures refused { IfErr result (λ e.
             agrees e.source.views source.entry.contents.numbers ≡ true
-            → OnLoadFault e.fault (λ cause.
-            Refuses cause (load_fault (streams source.entry.contents.numbers)))) }
+            → OnLoadFault e.fault (λ cause. Refuses cause
+            (load_fault_with source.entry.order (streams source.entry.contents.numbers)))) }
     {
         let FileOnDemand {
             arena,
             file,
             mut views,
             contents,
+            order,
         } = source;
-        let loaded = load_on_demand(alloc, file, &mut views, &contents);
+        let loaded = load_on_demand(alloc, file, &mut views, &contents, order);
         let source = FileOnDemand {
             arena,
             file,
             views,
             contents,
+            order,
         };
         match loaded {
             Ok(loaded) => match of_loaded(alloc, source, loaded) {
@@ -297,6 +312,7 @@ impl<'a, F> FileSymbolizer<'a, F> {
     #[tactic(auto, using(crate::proofs::FileSteps::renewed, crate::proofs::FileSteps::without_context, pdb_addr2line::proofs::HeldModules::parts_of_context))]
     fn renew(&mut self, alloc: Global) -> Result<(), AllocError>
         ensures contents { self.new.contents ≡ self.old.contents }
+        ensures order { self.new.order ≡ self.old.order }
         ensures views { self.new.views ≡ self.old.views }
         ensures unasked { IsUnasked self.old → IsUnasked self.new }
     {
@@ -305,7 +321,8 @@ impl<'a, F> FileSymbolizer<'a, F> {
         let Ok(modules) = self.source.arena.try_alloc(modules) else {
             return Err(AllocError);
         };
-        let context = context_over(alloc, self.held, modules, self.context.take())?;
+        let order = self.source.order;
+        let context = context_over(alloc, self.held, modules, order, self.context.take())?;
         self.context = Some(context);
         self.wanted = wanted;
         Ok(())
@@ -337,17 +354,18 @@ impl<'a, F> FileSymbolizer<'a, F> {
         requires order { start ≤ end }
         requires unasked { IsUnasked self.old }
         ensures contents { self.new.contents ≡ self.old.contents }
+        ensures order { self.new.order ≡ self.old.order }
         ensures views { self.new.views ≡ self.old.views }
         ensures unasked { IsUnasked self.new }
         ensures text { IsKnown self.new → IfOk result (λ counted. IsReportOn A.is_report
-            (A.places (streams self.old.contents)) (streams self.old.contents) start end
-            (string_bytes counted.0)) }
+            (A.places self.old.order (streams self.old.contents)) self.old.order
+            (streams self.old.contents) start end (string_bytes counted.0)) }
         ensures lookups { IsKnown self.new → IfOk result (λ counted. AreWithinPieces
-            (A.places (streams self.old.contents)) (streams self.old.contents) start end
-            counted.1.lookups) }
+            (A.places self.old.order (streams self.old.contents)) self.old.order
+            (streams self.old.contents) start end counted.1.lookups) }
         ensures answered { IsKnown self.new → IfOk result (λ counted. AreWithinPieces
-            (A.places (streams self.old.contents)) (streams self.old.contents) start end
-            counted.1.answered) }
+            (A.places self.old.order (streams self.old.contents)) self.old.order
+            (streams self.old.contents) start end counted.1.answered) }
     {
         let Some(context) = self.context.take() else {
             return Err(AllocError);
@@ -367,9 +385,11 @@ impl<'a, F> FileSymbolizer<'a, F> {
         probe: u32,
     ) -> Result<Option<FunctionFrames<'a>>, Error>
         ensures contents { self.new.contents ≡ self.old.contents }
+        ensures order { self.new.order ≡ self.old.order }
         ensures views { self.new.views ≡ self.old.views }
         ensures frames { IsKnown self.new
-            → FindsHeldFrames result (answer (streams self.old.contents) probe) }
+            → FindsHeldFrames result
+            (answer_with self.old.order (streams self.old.contents) probe) }
     {
         match &mut self.context {
             Some(context) => context.find_frames(alloc, probe),
@@ -389,9 +409,11 @@ impl<'a, F> FileSymbolizer<'a, F> {
         room: &mut String,
     ) -> Result<(), AllocError>
         ensures contents { self.new.contents ≡ self.old.contents }
+        ensures order { self.new.order ≡ self.old.order }
         ensures views { self.new.views ≡ self.old.views }
         ensures text { IsKnown self.new → OnOk result (string_bytes room.new
-            ≡ string_bytes room.old ++ line_text (answer (streams self.old.contents)) line.now) }
+            ≡ string_bytes room.old
+            ++ line_text (answer_with self.old.order (streams self.old.contents)) line.now) }
     {
         match &mut self.context {
             Some(context) => append_line(alloc, context, line, room),
@@ -401,20 +423,24 @@ impl<'a, F> FileSymbolizer<'a, F> {
 }
 
 /// A context over these modules, and over the parts of another one, if there is one.
+#[tactic(auto, using(pdb_addr2line::proofs::HeldModules::over_held, pdb_addr2line::proofs::HeldModules::parts_of_context))]
 fn context_over<'a>(
     alloc: Global,
     held: &'a Held,
     modules: &'a KeptModules<'static>,
+    order: ContributionOrder,
     last: Option<FileContext<'a>>,
 ) -> Result<FileContext<'a>, AllocError>
     requires ordered { IsOrdered held.now.tables.map }
-    requires parts { IfSome last (λ c. parts_held held.now ≡ Ok c.parts) }
-    ensures made { IfOk result (λ c. context_in (with_modules held.now modules.now) 23 ≡ Ok c) }
+    requires parts { IfSome last (λ c. parts_held_with order held.now ≡ Ok c.parts) }
+    ensures made { IfOk result
+        (λ c. context_with order (with_modules held.now modules.now) 23 ≡ Ok c) }
     ensures unasked { IfOk result (λ c. c.lookups ≡ 0) }
 {
+    let flags = TypeFormatterFlags::default();
     let parts = match last {
         Some(context) => context.into_parts(),
-        None => match held.make_context(alloc) {
+        None => match held.make_context_with_order(alloc, flags, order) {
             Ok(context) => context.into_parts(),
             Err(_) => return Err(AllocError),
         },
@@ -435,6 +461,7 @@ impl<'a, F: FileExt> FileSymbolizer<'a, F> {
     #[tactic(auto, using(crate::proofs::FileSteps::grown))]
     pub fn go_on(&mut self, alloc: Global) -> Result<bool, ErrorKind>
         ensures contents { self.new.contents ≡ self.old.contents }
+        ensures order { self.new.order ≡ self.old.order }
         ensures grows { Grows self.old.views self.new.views }
         ensures unasked { IsUnasked self.old → IsUnasked self.new }
     {
@@ -456,6 +483,7 @@ impl<'a, F: FileExt> FileSymbolizer<'a, F> {
     #[tactic(auto, using(crate::proofs::FileSteps::grown))]
     fn read_more(&mut self, alloc: Global) -> Result<bool, ErrorKind>
         ensures contents { self.new.contents ≡ self.old.contents }
+        ensures order { self.new.order ≡ self.old.order }
         ensures grows { Grows self.old.views self.new.views }
         ensures context { self.new.context ≡ self.old.context }
     {

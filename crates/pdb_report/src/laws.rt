@@ -1,18 +1,24 @@
 //! Laws of the definitions: functions that do nothing, whose contracts are proved.
 
-ghost use Rattle.std.specs.Prelude.{◌≡◌, ◌+◌, ◌-◌, ◌<◌, ◌≤◌, ◌^◌, ℕ, List};
+ghost use Rattle.std.specs.Prelude.{◌≡◌, ◌+◌, ◌-◌, ◌<◌, ◌≤◌, ◌^◌, ℕ, List, None, Some, false};
 ghost use Rattle.pdb_container.specs.Alike.{OpenAlike, ReadAlike};
 ghost use Rattle.pdb_loading.specs.FileRead.{IsRead};
 ghost use Rattle.pdb_functions.specs.FileAnswers.{FileAnswer as FileValue, file_cmp};
 ghost use Rattle.pdb_functions.specs.FunctionOrder.{Function as FunctionValue, function_cmp};
-ghost use Rattle.pdb_report.specs.Answer.{database, files};
-ghost use Rattle.pdb_report.specs.SizesByFile.{IsSizesByFile};
+ghost use Rattle.pdb_loading.specs.declared.order.ContributionOrder.{ContributionOrder as Order};
+ghost use Rattle.pdb_loading.specs.declared.order.ContributionOrder.TheVariants.{Any};
+ghost use Rattle.pdb_report.specs.Answer.{address_map, answer, answer_with, database};
+ghost use Rattle.pdb_report.specs.Answer.{database_with, files, files_with, map_with};
+ghost use Rattle.pdb_report.specs.AnyOrder.{is_for_order};
+ghost use Rattle.pdb_report.specs.SizesByFile.{IsSizesByFileWith};
 ghost use Rattle.pdb_report.specs.Isolation.{AreAlikeFor, IsIsolated};
-ghost use Rattle.pdb_loading.specs.Loading.{load_fault};
+ghost use Rattle.pdb_loading.specs.Loading.{LoadingFault, load_fault, load_fault_with, loaded};
+ghost use Rattle.pdb_loading.specs.Loading.{loaded_with};
 ghost use Rattle.pdb_report.specs.SameReports.{HaveSameReports};
-ghost use Rattle.pdb_report.specs.SizesReport.{IsSizesReport};
+ghost use Rattle.pdb_report.specs.SizesReport.{IsSizesReportWith};
 ghost use Rattle.pdb_functions.specs.Counts.{count_of_none, count_without};
 ghost use Rattle.pdb_functions.specs.Table.{count_in, sum_of};
+ghost use Rattle.pdb_symbols_modules.specs.Shared.{shared};
 ghost use Rattle.pdb_symbols_modules.specs.Streams.{Streams, streams};
 
 use pdb_functions::laws as functions;
@@ -21,8 +27,8 @@ use pdb_functions::laws as functions;
 /// fault; so it has the same loading fault or none, and the same answers and reports. What wasn't
 /// read is part of no stream.
 pub fn files_that_were_read()
-    ensures alike { (file bytes : List ℕ) → IsRead file bytes
-        → load_fault (streams bytes) ≡ load_fault (streams file) }
+    ensures alike { (order : Order) (file bytes : List ℕ) → IsRead file bytes
+        → load_fault_with order (streams bytes) ≡ load_fault_with order (streams file) }
     ensures streams { (file bytes : List ℕ) → IsRead file bytes → streams bytes ≡ streams file }
     ensures reports { (file bytes : List ℕ) → IsRead file bytes
         → HaveSameReports (streams bytes) (streams file) }
@@ -32,17 +38,21 @@ pub fn files_that_were_read()
 /// range's addresses. What the reports on two ranges, one after the other, have for a function, and
 /// for nothing, adds up to what the report on both has.
 pub fn size_reports_add_up()
-    ensures sum { (s : Streams) (start end : ℕ) (text : List ℕ) → start ≤ end
-        → (r : IsSizesReport s start end text)
-        → sum_of r.report.table + count_of_none r.map (database s) start end ≡ end - start }
-    ensures each { (s : Streams) (a b c : ℕ) (x y z : List ℕ) → a ≤ b → b ≤ c
-        → (p : IsSizesReport s a b x) (q : IsSizesReport s b c y) (r : IsSizesReport s a c z)
+    ensures sum { (order : Order) (s : Streams) (start end : ℕ) (text : List ℕ) → start ≤ end
+        → (r : IsSizesReportWith order s start end text)
+        → sum_of r.report.table + count_of_none r.map (database_with order s) start end
+        ≡ end - start }
+    ensures each { (order : Order) (s : Streams) (a b c : ℕ) (x y z : List ℕ) → a ≤ b → b ≤ c
+        → (p : IsSizesReportWith order s a b x) (q : IsSizesReportWith order s b c y)
+        (r : IsSizesReportWith order s a c z)
         (f : FunctionValue) → count_in function_cmp p.report.table f
         + count_in function_cmp q.report.table f ≡ count_in function_cmp r.report.table f }
-    ensures none { (s : Streams) (a b c : ℕ) (x y z : List ℕ) → a ≤ b → b ≤ c
-        → (p : IsSizesReport s a b x) (q : IsSizesReport s b c y) (r : IsSizesReport s a c z)
-        → count_of_none p.map (database s) a b + count_of_none q.map (database s) b c
-        ≡ count_of_none r.map (database s) a c }
+    ensures none { (order : Order) (s : Streams) (a b c : ℕ) (x y z : List ℕ) → a ≤ b → b ≤ c
+        → (p : IsSizesReportWith order s a b x) (q : IsSizesReportWith order s b c y)
+        (r : IsSizesReportWith order s a c z)
+        → count_of_none p.map (database_with order s) a b
+        + count_of_none q.map (database_with order s) b c
+        ≡ count_of_none r.map (database_with order s) a c }
 {}
 
 /// The counts of a file's report by source file, and those on two ranges, add up as those of the
@@ -51,25 +61,30 @@ pub fn size_reports_add_up()
 /// that the report by function leaves out. These are the addresses that have no function and yet
 /// one of those three. The report by function counts that many more as having nothing.
 pub fn file_reports_add_up()
-    ensures sum { (s : Streams) (start end : ℕ) (text : List ℕ) → start ≤ end
-        → (r : IsSizesByFile s start end text)
-        → sum_of r.report.table + count_of_none r.map (files s) start end ≡ end - start }
-    ensures each { (s : Streams) (a b c : ℕ) (x y z : List ℕ) → a ≤ b → b ≤ c
-        → (p : IsSizesByFile s a b x) (q : IsSizesByFile s b c y) (r : IsSizesByFile s a c z)
+    ensures sum { (order : Order) (s : Streams) (start end : ℕ) (text : List ℕ) → start ≤ end
+        → (r : IsSizesByFileWith order s start end text)
+        → sum_of r.report.table + count_of_none r.map (files_with order s) start end
+        ≡ end - start }
+    ensures each { (order : Order) (s : Streams) (a b c : ℕ) (x y z : List ℕ) → a ≤ b → b ≤ c
+        → (p : IsSizesByFileWith order s a b x) (q : IsSizesByFileWith order s b c y)
+        (r : IsSizesByFileWith order s a c z)
         (f : FileValue) → count_in file_cmp p.report.table f
         + count_in file_cmp q.report.table f ≡ count_in file_cmp r.report.table f }
-    ensures none { (s : Streams) (a b c : ℕ) (x y z : List ℕ) → a ≤ b → b ≤ c
-        → (p : IsSizesByFile s a b x) (q : IsSizesByFile s b c y) (r : IsSizesByFile s a c z)
-        → count_of_none p.map (files s) a b + count_of_none q.map (files s) b c
-        ≡ count_of_none r.map (files s) a c }
-    ensures functions { (s : Streams) (start end : ℕ) (x y : List ℕ) → start ≤ end
-        → (p : IsSizesReport s start end x) (q : IsSizesByFile s start end y)
+    ensures none { (order : Order) (s : Streams) (a b c : ℕ) (x y z : List ℕ) → a ≤ b → b ≤ c
+        → (p : IsSizesByFileWith order s a b x) (q : IsSizesByFileWith order s b c y)
+        (r : IsSizesByFileWith order s a c z)
+        → count_of_none p.map (files_with order s) a b
+        + count_of_none q.map (files_with order s) b c
+        ≡ count_of_none r.map (files_with order s) a c }
+    ensures functions { (order : Order) (s : Streams) (start end : ℕ) (x y : List ℕ) → start ≤ end
+        → (p : IsSizesReportWith order s start end x) (q : IsSizesByFileWith order s start end y)
         → sum_of q.report.table ≡ sum_of p.report.table
-        + count_without p.map (database s) (files s) start end }
-    ensures left_out { (s : Streams) (start end : ℕ) (x y : List ℕ) → start ≤ end
-        → (p : IsSizesReport s start end x) (q : IsSizesByFile s start end y)
-        → count_of_none p.map (database s) start end ≡ count_of_none q.map (files s) start end
-        + count_without p.map (database s) (files s) start end }
+        + count_without p.map (database_with order s) (files_with order s) start end }
+    ensures left_out { (order : Order) (s : Streams) (start end : ℕ) (x y : List ℕ) → start ≤ end
+        → (p : IsSizesReportWith order s start end x) (q : IsSizesByFileWith order s start end y)
+        → count_of_none p.map (database_with order s) start end
+        ≡ count_of_none q.map (files_with order s) start end
+        + count_without p.map (database_with order s) (files_with order s) start end }
 {
     functions::file_reports_add_up();
 }
@@ -79,8 +94,8 @@ pub fn file_reports_add_up()
 /// fault, or none. At every address that the module holds in the first they have the same frames,
 /// the same function, and the same line of a report.
 pub fn isolation()
-    ensures loads { (a b : List ℕ) (m : ℕ) → AreAlikeFor m a b
-        → load_fault (streams a) ≡ load_fault (streams b) }
+    ensures loads { (order : Order) (a b : List ℕ) (m : ℕ) → AreAlikeFor m a b
+        → load_fault_with order (streams a) ≡ load_fault_with order (streams b) }
     ensures answers { (file : List ℕ) → IsIsolated file }
 {}
 
@@ -89,4 +104,21 @@ pub fn isolation()
 pub fn page_layout()
     ensures { (a b : List ℕ) → OpenAlike a b → ((n : ℕ) → n < 2 ^ 32 → ReadAlike a b n)
         → HaveSameReports (streams a) (streams b) }
+{}
+
+/// Where section contributions may stand in any order, files are answered that are refused
+/// otherwise, and nothing else changes. A file that loads where they have to stand in order is
+/// loaded the same, and so has the same answers. A loading fault that isn't for their order is the
+/// same. None is for their order.
+pub fn any_order_adds_files()
+    ensures loads { (s : Streams) → load_fault s ≡ None
+        → loaded_with Any (shared s) ≡ loaded (shared s) }
+    ensures frames { (s : Streams) → load_fault s ≡ None → answer_with Any s ≡ answer s }
+    ensures places { (s : Streams) → load_fault s ≡ None → database_with Any s ≡ database s }
+    ensures by_file { (s : Streams) → load_fault s ≡ None → files_with Any s ≡ files s }
+    ensures map { (s : Streams) → load_fault s ≡ None → map_with Any s ≡ address_map s }
+    ensures faults { (s : Streams) (e : LoadingFault) → load_fault s ≡ Some e
+        → is_for_order e ≡ false → load_fault_with Any s ≡ Some e }
+    ensures none { (s : Streams) (e : LoadingFault) → load_fault_with Any s ≡ Some e
+        → is_for_order e ≡ false }
 {}

@@ -26,6 +26,7 @@
 //! | load a file once, for many questions | [`Symbolizer::open`], [`Symbolizer::context`] |
 //! | write the answers to lines of addresses | [`run_frames`] |
 //! | write them in a process that ends after that | [`run_frames_ending`] |
+//! | write them of a database of GNU ld before 2.44, too | [`run_frames_with_order`] |
 //! | write how many addresses of a range each function has | [`run_sizes`] |
 //! | write how many of them each source file has | [`run_sizes_by_file`] |
 //! | ask a file that is read on demand for frames | [`FileSymbolizer::open`], [`find_frames`] |
@@ -60,8 +61,10 @@ pub use file_symbolizer::{FileOnDemand, FileSymbolizer, NotLoaded};
 pub use finish::finish_run;
 pub use pdb_addr2line::{Context, Error};
 pub use pdb_engine::{ErrorOutput, Watched, parse_address};
-pub use pdb_loading::{LoadFault, read_file};
+pub use pdb_loading::{ContributionOrder, LoadFault, read_file};
 pub use pdb_report_texts::RunFault;
-pub use report::{AtEnd, answer_lines, run_frames, run_frames_ending};
-pub use sizes::{Tally, run_sizes, run_sizes_by_file};
+pub use report::{AtEnd, answer_lines, run_frames, run_frames_ending, run_frames_with_order};
+pub use sizes::{
+    Tally, run_sizes, run_sizes_by_file, run_sizes_by_file_with_order, run_sizes_with_order,
+};
 pub use symbolizer::Symbolizer;

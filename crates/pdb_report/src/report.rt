@@ -2,10 +2,12 @@
 
 ghost use Rattle.std.specs.Prelude.{◌^◌};
 ghost use Rattle.pdb_report.specs.FrameReports.{ReportsFrames, frames_in, frames_loaded};
+ghost use Rattle.pdb_report.specs.FrameReports.{frames_with};
 
 use crate::lines::LineAnswers;
 use crate::symbolizer::Symbolizer;
 use pdb_engine::{Watched, run};
+use pdb_loading::ContributionOrder;
 use pdb_report_texts::RunFault;
 use std::alloc::Global;
 use std::io::{Read, Write};
@@ -88,7 +90,6 @@ pub fn run_frames<R: Read, W: Write>(
 ///
 /// # Errors
 /// As those of [`run_frames`].
-#[tactic(auto, using(crate::proofs::FrameSteps::of_loaded))]
 pub fn run_frames_ending<R: Read, W: Write>(
     alloc: Global,
     bytes: Vec<u8>,
@@ -99,7 +100,33 @@ pub fn run_frames_ending<R: Read, W: Write>(
     ensures { ReportsFrames (frames_in bytes.items) (2 ^ 30) R.remaining W.contents
         reader.old reader.new writer.old writer.new result }
 {
-    match Symbolizer::open(alloc, bytes) {
+    run_frames_with_order(
+        alloc,
+        bytes,
+        ContributionOrder::InOrder,
+        reader,
+        writer,
+        at_end,
+    )
+}
+
+/// As [`run_frames_ending`], where section contributions have to stand in that order.
+///
+/// # Errors
+/// As those of [`run_frames`]. In any order no `Load` is for the order of section contributions.
+#[tactic(auto, using(crate::proofs::FrameSteps::of_loaded))]
+pub fn run_frames_with_order<R: Read, W: Write>(
+    alloc: Global,
+    bytes: Vec<u8>,
+    order: ContributionOrder,
+    reader: &mut Watched<R>,
+    writer: &mut Watched<W>,
+    at_end: AtEnd,
+) -> Result<(), RunFault>
+    ensures { ReportsFrames (frames_with order bytes.items) (2 ^ 30) R.remaining W.contents
+        reader.old reader.new writer.old writer.new result }
+{
+    match Symbolizer::open_with_order(alloc, bytes, order) {
         Ok(symbolizer) => answer_lines(alloc, &symbolizer, reader, writer, at_end, INPUT_LIMIT),
         Err(fault) => Err(RunFault::from(fault)),
     }

@@ -5,11 +5,13 @@ ghost use Rattle.std.specs.Prelude.{IfOk, string_bytes};
 ghost use Rattle.pdb_addresses.specs.Addresses.{IsOrdered};
 ghost use Rattle.pdb_engine.specs.InputFaults.{IsOfWriting, OnWrite as OnInputWrite};
 ghost use Rattle.pdb_engine.specs.Watched.{CountsFailure, IsQuiet, Writes, WritesFront};
-ghost use Rattle.pdb_report.specs.SizesByFile.{IsSizesByFile, IsWithinFilePieces};
-ghost use Rattle.pdb_loading.specs.Loading.{load_fault};
+ghost use Rattle.pdb_report.specs.SizesByFile.{IsSizesByFile, IsSizesByFileWith};
+ghost use Rattle.pdb_report.specs.SizesByFile.{IsWithinFilePieces, IsWithinFilePiecesWith};
+ghost use Rattle.pdb_loading.specs.Loading.{load_fault, load_fault_with};
 ghost use Rattle.pdb_loading.specs.LoadFaults.{IsFileFault};
 ghost use Rattle.pdb_report.specs.SizesReport.{AreWithinPieces, IsReportOn};
-ghost use Rattle.pdb_report.specs.SizesReport.{IsSizesReport, IsWithinPieces};
+ghost use Rattle.pdb_report.specs.SizesReport.{IsSizesReport, IsSizesReportWith};
+ghost use Rattle.pdb_report.specs.SizesReport.{IsWithinPieces, IsWithinPiecesWith};
 ghost use Rattle.pdb_report_texts.specs.RunFaults.{IsOfSizes, OnCounted, OnLoad, OnMemory};
 ghost use Rattle.pdb_report_texts.specs.RunFaults.{OnReversed, OnWrite, UnlessLoad};
 ghost use Rattle.pdb_functions.specs.Counts.{pieces};
@@ -21,6 +23,7 @@ use pdb_addr2line::Function;
 use pdb_addresses::AddressMap;
 use pdb_engine::{InputFault, Watched, write_all, write_fault};
 use pdb_functions::{CountedFile, count_runs};
+use pdb_loading::ContributionOrder;
 use pdb_report_texts::RunFault;
 use std::alloc::{AllocError, Global};
 use std::io::Write;
@@ -116,19 +119,23 @@ fn report_of<A: Counted, W: Write>(
 ) -> Result<Tally, InputFault>
     requires { start ≤ end }
     ensures ok { OnOk result ((text : List ℕ) × IsReportOn A.is_report
-        (A.places (streams symbolizer.now)) (streams symbolizer.now) start end text
+        (A.places symbolizer.now.order (streams symbolizer.now.bytes))
+        symbolizer.now.order (streams symbolizer.now.bytes) start end text
         × Writes W.contents writer.old writer.new text) }
-    ensures lookups { IfOk result (λ tally. AreWithinPieces (A.places (streams symbolizer.now))
-        (streams symbolizer.now) start end tally.lookups) }
-    ensures answered { IfOk result (λ tally. AreWithinPieces (A.places (streams symbolizer.now))
-        (streams symbolizer.now) start end tally.answered) }
+    ensures lookups { IfOk result (λ tally. AreWithinPieces
+        (A.places symbolizer.now.order (streams symbolizer.now.bytes))
+        symbolizer.now.order (streams symbolizer.now.bytes) start end tally.lookups) }
+    ensures answered { IfOk result (λ tally. AreWithinPieces
+        (A.places symbolizer.now.order (streams symbolizer.now.bytes))
+        symbolizer.now.order (streams symbolizer.now.bytes) start end tally.answered) }
     ensures quiet { OnOk result (IsQuiet writer.old writer.new) }
     ensures kind { IfErr result IsOfWriting }
     ensures write_fails { IfErr result (λ fault. OnInputWrite fault
         (λ kind. CountsFailure writer.old writer.new kind)) }
     ensures part { OnErr result ((writer.new ≡ writer.old) ⊎ ((text : List ℕ)
         × IsReportOn A.is_report
-        (A.places (streams symbolizer.now)) (streams symbolizer.now) start end text
+        (A.places symbolizer.now.order (streams symbolizer.now.bytes))
+        symbolizer.now.order (streams symbolizer.now.bytes) start end text
         × WritesFront W.contents writer.old writer.new text)) }
 {
     match symbolizer.context(alloc) {
@@ -161,18 +168,22 @@ fn report_in_order<A: Counted, W: Write>(
     ensures order { OnCounted result (start ≤ end) }
     ensures kind { IfErr result IsOfSizes }
     ensures ok { OnOk result ((text : List ℕ) × IsReportOn A.is_report
-        (A.places (streams symbolizer.now)) (streams symbolizer.now) start end text
+        (A.places symbolizer.now.order (streams symbolizer.now.bytes))
+        symbolizer.now.order (streams symbolizer.now.bytes) start end text
         × Writes W.contents writer.old writer.new text) }
-    ensures lookups { IfOk result (λ tally. AreWithinPieces (A.places (streams symbolizer.now))
-        (streams symbolizer.now) start end tally.lookups) }
-    ensures answered { IfOk result (λ tally. AreWithinPieces (A.places (streams symbolizer.now))
-        (streams symbolizer.now) start end tally.answered) }
+    ensures lookups { IfOk result (λ tally. AreWithinPieces
+        (A.places symbolizer.now.order (streams symbolizer.now.bytes))
+        symbolizer.now.order (streams symbolizer.now.bytes) start end tally.lookups) }
+    ensures answered { IfOk result (λ tally. AreWithinPieces
+        (A.places symbolizer.now.order (streams symbolizer.now.bytes))
+        symbolizer.now.order (streams symbolizer.now.bytes) start end tally.answered) }
     ensures quiet { OnOk result (IsQuiet writer.old writer.new) }
     ensures write_fails { IfErr result (λ fault. OnWrite fault
         (λ kind. CountsFailure writer.old writer.new kind)) }
     ensures part { OnErr result ((writer.new ≡ writer.old) ⊎ ((text : List ℕ)
         × IsReportOn A.is_report
-        (A.places (streams symbolizer.now)) (streams symbolizer.now) start end text
+        (A.places symbolizer.now.order (streams symbolizer.now.bytes))
+        symbolizer.now.order (streams symbolizer.now.bytes) start end text
         × WritesFront W.contents writer.old writer.new text)) }
 {
     if end < start {
@@ -191,37 +202,43 @@ fn report_in_order<A: Counted, W: Write>(
 fn run_report<A: Counted, W: Write>(
     alloc: Global,
     bytes: Vec<u8>,
+    order: ContributionOrder,
     start: u32,
     end: u32,
     writer: &mut Watched<W>,
 ) -> Result<Tally, RunFault>
     ensures load { IfErr result (λ fault. OnLoad fault (λ cause.
-        IsFileFault cause (load_fault (streams bytes.items)) × (writer.new ≡ writer.old))) }
-    ensures loaded { UnlessLoad result (load_fault (streams bytes.items) ≡ None) }
+        IsFileFault cause (load_fault_with order (streams bytes.items))
+        × (writer.new ≡ writer.old))) }
+    ensures loaded { UnlessLoad result (load_fault_with order (streams bytes.items) ≡ None) }
     ensures reversed { IfErr result (λ fault. OnReversed fault
         ((end < start) × (writer.new ≡ writer.old))) }
     ensures order { OnCounted result (start ≤ end) }
     ensures kind { IfErr result IsOfSizes }
     ensures memory { IfErr result (λ fault. OnMemory fault
-        ((load_fault (streams bytes.items) ≡ None) ⊎ (writer.new ≡ writer.old))) }
+        ((load_fault_with order (streams bytes.items) ≡ None) ⊎ (writer.new ≡ writer.old))) }
     ensures ok { OnOk result ((text : List ℕ) × IsReportOn A.is_report
-        (A.places (streams bytes.items)) (streams bytes.items) start end text
+        (A.places order (streams bytes.items))
+        order (streams bytes.items) start end text
         × Writes W.contents writer.old writer.new text) }
     ensures lookups { IfOk result (λ tally.
-        AreWithinPieces (A.places (streams bytes.items)) (streams bytes.items) start end
+        AreWithinPieces (A.places order (streams bytes.items))
+        order (streams bytes.items) start end
         tally.lookups) }
     ensures answered { IfOk result (λ tally.
-        AreWithinPieces (A.places (streams bytes.items)) (streams bytes.items) start end
+        AreWithinPieces (A.places order (streams bytes.items))
+        order (streams bytes.items) start end
         tally.answered) }
     ensures quiet { OnOk result (IsQuiet writer.old writer.new) }
     ensures write_fails { IfErr result (λ fault. OnWrite fault
         (λ kind. CountsFailure writer.old writer.new kind)) }
     ensures part { OnErr result ((writer.new ≡ writer.old) ⊎ ((text : List ℕ)
         × IsReportOn A.is_report
-        (A.places (streams bytes.items)) (streams bytes.items) start end text
+        (A.places order (streams bytes.items))
+        order (streams bytes.items) start end text
         × WritesFront W.contents writer.old writer.new text)) }
 {
-    match Symbolizer::open(alloc, bytes) {
+    match Symbolizer::open_with_order(alloc, bytes, order) {
         Ok(symbolizer) => report_in_order::<A, W>(alloc, &symbolizer, start, end, writer),
         Err(fault) => Err(RunFault::from(fault)),
     }
@@ -271,7 +288,7 @@ pub fn run_sizes<W: Write>(
         × IsSizesReport (streams bytes.items) start end text
         × WritesFront W.contents writer.old writer.new text)) }
 {
-    run_report::<Function, W>(alloc, bytes, start, end, writer)
+    run_report::<Function, W>(alloc, bytes, ContributionOrder::InOrder, start, end, writer)
 }
 
 /// Writes how many of the addresses from `start` on and before `end` each source file has in the
@@ -320,5 +337,84 @@ pub fn run_sizes_by_file<W: Write>(
         × IsSizesByFile (streams bytes.items) start end text
         × WritesFront W.contents writer.old writer.new text)) }
 {
-    run_report::<CountedFile, W>(alloc, bytes, start, end, writer)
+    run_report::<CountedFile, W>(alloc, bytes, ContributionOrder::InOrder, start, end, writer)
+}
+
+/// As [`run_sizes`], where section contributions have to stand in that order.
+///
+/// # Errors
+/// As those of [`run_sizes`]. In any order no `Load` is for the order of section contributions.
+pub fn run_sizes_with_order<W: Write>(
+    alloc: Global,
+    bytes: Vec<u8>,
+    order: ContributionOrder,
+    start: u32,
+    end: u32,
+    writer: &mut Watched<W>,
+) -> Result<Tally, RunFault>
+    ensures load { IfErr result (λ fault. OnLoad fault (λ cause.
+        IsFileFault cause (load_fault_with order (streams bytes.items))
+        × (writer.new ≡ writer.old))) }
+    ensures loaded { UnlessLoad result (load_fault_with order (streams bytes.items) ≡ None) }
+    ensures reversed { IfErr result (λ fault. OnReversed fault
+        ((end < start) × (writer.new ≡ writer.old))) }
+    ensures order { OnCounted result (start ≤ end) }
+    ensures kind { IfErr result IsOfSizes }
+    ensures memory { IfErr result (λ fault. OnMemory fault
+        ((load_fault_with order (streams bytes.items) ≡ None) ⊎ (writer.new ≡ writer.old))) }
+    ensures ok { OnOk result ((text : List ℕ)
+        × IsSizesReportWith order (streams bytes.items) start end text
+        × Writes W.contents writer.old writer.new text) }
+    ensures lookups { IfOk result (λ tally.
+        IsWithinPiecesWith order (streams bytes.items) start end tally.lookups) }
+    ensures answered { IfOk result (λ tally.
+        IsWithinPiecesWith order (streams bytes.items) start end tally.answered) }
+    ensures quiet { OnOk result (IsQuiet writer.old writer.new) }
+    ensures write_fails { IfErr result (λ fault. OnWrite fault
+        (λ kind. CountsFailure writer.old writer.new kind)) }
+    ensures part { OnErr result ((writer.new ≡ writer.old) ⊎ ((text : List ℕ)
+        × IsSizesReportWith order (streams bytes.items) start end text
+        × WritesFront W.contents writer.old writer.new text)) }
+{
+    run_report::<Function, W>(alloc, bytes, order, start, end, writer)
+}
+
+/// As [`run_sizes_by_file`], where section contributions have to stand in that order.
+///
+/// # Errors
+/// As those of [`run_sizes_by_file`]. In any order no `Load` is for the order of section
+/// contributions.
+pub fn run_sizes_by_file_with_order<W: Write>(
+    alloc: Global,
+    bytes: Vec<u8>,
+    order: ContributionOrder,
+    start: u32,
+    end: u32,
+    writer: &mut Watched<W>,
+) -> Result<Tally, RunFault>
+    ensures load { IfErr result (λ fault. OnLoad fault (λ cause.
+        IsFileFault cause (load_fault_with order (streams bytes.items))
+        × (writer.new ≡ writer.old))) }
+    ensures loaded { UnlessLoad result (load_fault_with order (streams bytes.items) ≡ None) }
+    ensures reversed { IfErr result (λ fault. OnReversed fault
+        ((end < start) × (writer.new ≡ writer.old))) }
+    ensures order { OnCounted result (start ≤ end) }
+    ensures kind { IfErr result IsOfSizes }
+    ensures memory { IfErr result (λ fault. OnMemory fault
+        ((load_fault_with order (streams bytes.items) ≡ None) ⊎ (writer.new ≡ writer.old))) }
+    ensures ok { OnOk result ((text : List ℕ)
+        × IsSizesByFileWith order (streams bytes.items) start end text
+        × Writes W.contents writer.old writer.new text) }
+    ensures lookups { IfOk result (λ tally.
+        IsWithinFilePiecesWith order (streams bytes.items) start end tally.lookups) }
+    ensures answered { IfOk result (λ tally.
+        IsWithinFilePiecesWith order (streams bytes.items) start end tally.answered) }
+    ensures quiet { OnOk result (IsQuiet writer.old writer.new) }
+    ensures write_fails { IfErr result (λ fault. OnWrite fault
+        (λ kind. CountsFailure writer.old writer.new kind)) }
+    ensures part { OnErr result ((writer.new ≡ writer.old) ⊎ ((text : List ℕ)
+        × IsSizesByFileWith order (streams bytes.items) start end text
+        × WritesFront W.contents writer.old writer.new text)) }
+{
+    run_report::<CountedFile, W>(alloc, bytes, order, start, end, writer)
 }

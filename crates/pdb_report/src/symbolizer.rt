@@ -5,39 +5,43 @@ ghost use Rattle.pdb_addresses.specs.Addresses.{IsOrdered};
 ghost use Rattle.pdb_addr2line.specs.FailingParts.{no_failures};
 ghost use Rattle.pdb_loading.specs.declared.load_fault.LoadFault.TheVariants as faults;
 ghost use Rattle.pdb_loading.specs.LoadFaults.{Refuses};
-ghost use Rattle.pdb_loading.specs.Loading.{load_fault};
-ghost use Rattle.pdb_report.specs.Answer.{AnswersAs, answered_in, address_map as address_map_of};
+ghost use Rattle.pdb_loading.specs.Loading.{load_fault, load_fault_with};
+ghost use Rattle.pdb_report.specs.Answer.{AnswersWith, answered_in, map_with};
 ghost use Rattle.pdb_symbols_modules.specs.Streams.{streams};
 
-use pdb_addr2line::{Context, ContextPdbData, KeptModules};
+use pdb_addr2line::{Context, ContextPdbData, KeptModules, TypeFormatterFlags};
 use pdb_addresses::AddressMap;
 use pdb_container::SharedBytes;
 use pdb_file_views::FileSource;
-use pdb_loading::{LoadFault, LoadedFile, load_file};
+use pdb_loading::{ContributionOrder, LoadFault, LoadedFile, load_file};
 use std::alloc::Global;
 use std::marker::Model;
 
 /// A symbolizer: a program database that was loaded, with what contexts are made of. Its value in
-/// contracts is the file's bytes.
+/// contracts is the file's bytes, with the order in which section contributions have to stand.
 pub struct Symbolizer {
     file: FileSource,
+    order: ContributionOrder,
     held: ContextPdbData<'static, 'static, FileSource>,
 }
 
 impl Model for Symbolizer {
-    ghost use Rattle.std.specs.Prelude.{ℕ, List};
-    ghost use Rattle.pdb_loading.specs.LoadedFile.{IsLoadedFrom};
+    ghost use Rattle.pdb_loading.specs.LoadedFile.{FileBytes, IsLoadedWith};
 
-    ghost Value = { List ℕ };
+    ghost Value = { FileBytes };
 
-    ghost view = { λ s. s.file };
+    ghost view = { λ s. record { bytes = s.file; order = s.order } };
 
-    ghost invariant = { λ s. IsLoadedFrom s.file s.held };
+    ghost invariant = { λ s. IsLoadedWith s.order s.file s.held };
 }
 
 impl Drop for Symbolizer {
     fn drop(self) {
-        let Symbolizer { file, held } = self;
+        let Symbolizer {
+            file,
+            order: _,
+            held,
+        } = self;
         drop(file);
         drop(held);
     }
@@ -47,9 +51,11 @@ impl Drop for Symbolizer {
 fn of_loaded(loaded: LoadedFile) -> Symbolizer
     ensures { result ≡ loaded }
 {
+    let order = loaded.order;
     let (file, held) = loaded.into_parts();
     Symbolizer {
         file,
+        order,
         held: ContextPdbData::from_held(held),
     }
 }
@@ -66,14 +72,36 @@ impl Symbolizer {
     /// `AddressTableDecreases` where the sources of an OMAP decrease; the module list; the symbol
     /// records to their end; the section contributions. `OutOfMemory`.
     pub fn open(alloc: Global, bytes: Vec<u8>) -> Result<Symbolizer, LoadFault>
-        ensures ok { IfOk result (λ s. s ≡ bytes.items) }
+        ensures ok { IfOk result
+            (λ s. s ≡ record { bytes = bytes.items; order = ContributionOrder.InOrder }) }
         ensures loaded { OnOk result (load_fault (streams bytes.items) ≡ None) }
         ensures refused { IfErr result (λ e. Refuses e (load_fault (streams bytes.items))) }
+    {
+        Symbolizer::open_with_order(alloc, bytes, ContributionOrder::InOrder)
+    }
+
+    /// Loads the program database of a file's bytes as [`Symbolizer::open`], where section
+    /// contributions have to stand in that order. In any order, where merging them is refused for
+    /// it, the first one in the order of the file that holds a place is its holder. GNU ld before
+    /// 2.44 writes such databases.
+    ///
+    /// # Errors
+    /// As [`Symbolizer::open`]; in any order no `UnorderedSectionContributions`.
+    #[tactic(auto, using(crate::proofs::OpeningSteps::same_file))]
+    pub fn open_with_order(
+        alloc: Global,
+        bytes: Vec<u8>,
+        order: ContributionOrder,
+    ) -> Result<Symbolizer, LoadFault>
+        ensures ok { IfOk result (λ s. s ≡ record { bytes = bytes.items; order = order }) }
+        ensures loaded { OnOk result (load_fault_with order (streams bytes.items) ≡ None) }
+        ensures refused { IfErr result
+            (λ e. Refuses e (load_fault_with order (streams bytes.items))) }
     {
         let Ok(file) = SharedBytes::new(bytes) else {
             return Err(LoadFault::OutOfMemory);
         };
-        match load_file(alloc, FileSource::whole(file)) {
+        match load_file(alloc, FileSource::whole(file), order) {
             Ok(loaded) => Ok(of_loaded(loaded)),
             Err(fault) => Err(fault),
         }
@@ -82,7 +110,7 @@ impl Symbolizer {
     /// The address map, between addresses of the image and places in sections; the sources of its
     /// OMAPs don't decrease.
     pub fn address_map(&self) -> &AddressMap<'static>
-        ensures map { address_map_of (streams self.now) ≡ Some result.now }
+        ensures map { map_with self.now.order (streams self.now.bytes) ≡ Some result.now }
         ensures ordered { IsOrdered result.now }
     {
         self.held.address_map()
@@ -98,12 +126,14 @@ impl Symbolizer {
         &self,
         alloc: Global,
     ) -> Result<Context<'_, 'static, KeptModules<'static>>, LoadFault>
-        ensures answers { IfOk result (λ c. AnswersAs answered_in (streams self.now) c) }
+        ensures answers { IfOk result
+            (λ c. AnswersWith self.now.order answered_in (streams self.now.bytes) c) }
         ensures unasked { IfOk result (λ c. c.lookups ≡ 0) }
         ensures unfailed { IfOk result (λ c. c.failed ≡ no_failures) }
         ensures memory { IsOkUnless result faults.OutOfMemory }
     {
-        match self.held.make_context(alloc) {
+        let flags = TypeFormatterFlags::default();
+        match self.held.make_context_with_order(alloc, flags, self.order) {
             Ok(context) => Ok(context),
             Err(error) => Err(LoadFault::from(error)),
         }

@@ -6,13 +6,14 @@
 //! contracts of `pdb_report` say it.
 #![tactic(auto)]
 
-ghost use Rattle.std.specs.Prelude.{◌≡◌, ℕ, ◌<◌, ◌≤◌, ◌⊎◌, List, None, IfErr, OnErr, OnOk};
+ghost use Rattle.std.specs.Prelude.{◌≡◌, ◌⊎◌, None, IfErr, OnErr, OnOk};
 ghost use Rattle.pdb_engine.specs.Watched.{CountsFailure, IsQuiet, Writes, WritesFront, inner_of};
 ghost use Rattle.pdb_loading.specs.LoadFaults.{IsFileFault};
-ghost use Rattle.pdb_loading.specs.Loading.{load_fault};
-ghost use Rattle.pdb_report_texts.specs.RunFaults.{IsOfSizes, OnCounted, OnLoad, OnReversed};
+ghost use Rattle.pdb_loading.specs.Loading.{load_fault_with};
+ghost use Rattle.pdb_report_texts.specs.RunFaults.{OnCounted, OnLoad, OnReversed};
 ghost use Rattle.pdb_report_texts.specs.RunFaults.{OnWrite, UnlessLoad};
-ghost use Rattle.pdb_symbolizer.specs.Tasks.{IsInOrder, IsReversed, OnRangeReport, OnReport};
+ghost use Rattle.pdb_symbolizer.specs.Tasks.{IsInOrder, IsReversed, OnReport};
+ghost use Rattle.pdb_symbolizer.specs.Tasks.{order_of as order_for};
 ghost use Rattle.pdb_symbols_modules.specs.Streams.{streams};
 
 mod on_demand;
@@ -24,8 +25,9 @@ use bumpalo::Bump;
 pub use pdb_arguments::{Task, TextOutput, WordsFault, read_words, tell_words};
 use pdb_file_views::reach;
 pub use pdb_report::{
-    AtEnd, Error, LoadFault, RunFault, Symbolizer, Tally, Watched, finish_run, parse_address,
-    read_file, run_frames, run_frames_ending, run_sizes, run_sizes_by_file,
+    AtEnd, ContributionOrder, Error, LoadFault, RunFault, Symbolizer, Tally, Watched, finish_run,
+    parse_address, read_file, run_frames, run_frames_with_order, run_sizes, run_sizes_by_file,
+    run_sizes_by_file_with_order, run_sizes_with_order,
 };
 use pdb_report::{FileOnDemand, FileRun};
 use std::alloc::Global;
@@ -70,6 +72,23 @@ fn file_of(task: &Task) -> &str {
     match task {
         Task::Frames { file, .. } => file.as_str(),
         Task::Sizes { file, .. } => file.as_str(),
+    }
+}
+
+/// In which order section contributions have to stand for a task.
+fn order_of(task: &Task) -> ContributionOrder
+    ensures { result ≡ order_for task.now }
+{
+    match task {
+        Task::Frames {
+            any_order: true,
+            ..
+        } => ContributionOrder::Any,
+        Task::Sizes {
+            any_order: true,
+            ..
+        } => ContributionOrder::Any,
+        _ => ContributionOrder::InOrder,
     }
 }
 
@@ -137,7 +156,8 @@ where
         Err(error) => return Ok(Err(RunFault::File(error.kind()))),
     };
     let arena = Bump::new(rt.alloc());
-    let source = FileOnDemand::new(rt.alloc(), &arena, &file, size)?;
+    let mut source = FileOnDemand::new(rt.alloc(), &arena, &file, size)?;
+    source.order = order_of(task);
     let FileRun { outcome, source } = run_task_on_demand(rt.alloc(), task, source, reader, writer);
     forget(source);
     forget(arena);
@@ -166,8 +186,10 @@ fn run_task<R: Read, W: Write>(
 ) -> Result<(), RunFault>
     // As those of `run_frames`, `run_sizes` and `run_sizes_by_file`, by the task's values.
     ensures load { IfErr result (λ fault. OnLoad fault (λ cause.
-        IsFileFault cause (load_fault (streams bytes.items)) × (writer.new ≡ writer.old))) }
-    ensures loaded { UnlessLoad result (load_fault (streams bytes.items) ≡ None) }
+        IsFileFault cause (load_fault_with (order_for task.now) (streams bytes.items))
+        × (writer.new ≡ writer.old))) }
+    ensures loaded { UnlessLoad result
+        (load_fault_with (order_for task.now) (streams bytes.items) ≡ None) }
     ensures reversed { IfErr result (λ fault. OnReversed fault
         (IsReversed task.now × (writer.new ≡ writer.old))) }
     ensures order { OnCounted result (IsInOrder task.now) }
@@ -180,16 +202,31 @@ fn run_task<R: Read, W: Write>(
         (streams bytes.items) (R.remaining (inner_of reader.old))
         (WritesFront W.contents writer.old writer.new)) }
 {
+    let order = order_of(task);
     match task {
         Task::Frames { .. } => {
-            run_frames_ending(alloc, bytes, reader, writer, AtEnd::LeaveToProcess)
+            run_frames_with_order(alloc, bytes, order, reader, writer, AtEnd::LeaveToProcess)
         }
         Task::Sizes {
             start,
             end,
-            by_file,
+            by_file: true,
             ..
-        } => count_sizes(alloc, bytes, *start, *end, *by_file, writer),
+        } => without_tally(run_sizes_by_file_with_order(alloc, bytes, order, *start, *end, writer)),
+        Task::Sizes { start, end, .. } => {
+            without_tally(run_sizes_with_order(alloc, bytes, order, *start, *end, writer))
+        }
+    }
+}
+
+/// How a count ended; how much was looked up for it isn't reported.
+fn without_tally(outcome: Result<Tally, RunFault>) -> Result<(), RunFault>
+    ensures ok { OnOk outcome.entry (result ≡ Ok tt) }
+    ensures err { IfErr outcome.entry (λ fault. result ≡ Err fault) }
+{
+    match outcome {
+        Ok(_) => Ok(()),
+        Err(fault) => Err(fault),
     }
 }
 
@@ -203,45 +240,6 @@ fn given_words(rt: &(impl Env + AllocGlobal)) -> io::Result<Vec<String>> {
         words.push(word)?;
     }
     Ok(words)
-}
-
-/// Writes the report on a range, by source file or by function; how much was looked up for it isn't
-/// reported.
-///
-/// # Errors
-/// As [`run_sizes`].
-fn count_sizes<W: Write>(
-    alloc: Global,
-    bytes: Vec<u8>,
-    start: u32,
-    end: u32,
-    by_file: bool,
-    writer: &mut Watched<W>,
-) -> Result<(), RunFault>
-    ensures load { IfErr result (λ fault. OnLoad fault (λ cause.
-        IsFileFault cause (load_fault (streams bytes.items)) × (writer.new ≡ writer.old))) }
-    ensures loaded { UnlessLoad result (load_fault (streams bytes.items) ≡ None) }
-    ensures reversed { IfErr result (λ fault. OnReversed fault
-        ((end < start) × (writer.new ≡ writer.old))) }
-    ensures order { OnCounted result (start ≤ end) }
-    ensures kind { IfErr result IsOfSizes }
-    ensures ok { OnOk result (OnRangeReport by_file (streams bytes.items) start end
-        (Writes W.contents writer.old writer.new)) }
-    ensures quiet { OnOk result (IsQuiet writer.old writer.new) }
-    ensures write_fails { IfErr result (λ fault. OnWrite fault
-        (λ kind. CountsFailure writer.old writer.new kind)) }
-    ensures part { OnErr result ((writer.new ≡ writer.old) ⊎ OnRangeReport by_file
-        (streams bytes.items) start end (WritesFront W.contents writer.old writer.new)) }
-{
-    let outcome = if by_file {
-        run_sizes_by_file(alloc, bytes, start, end, writer)
-    } else {
-        run_sizes(alloc, bytes, start, end, writer)
-    };
-    match outcome {
-        Ok(_) => Ok(()),
-        Err(fault) => Err(fault),
-    }
 }
 
 /// Writes a text, and returns the status; a write that fails is ignored.

@@ -4,10 +4,11 @@ ghost use Rattle.std.specs.Prelude.{◌≡◌, ◌<◌, ◌≤◌, ◌⊎◌, Li
 ghost use Rattle.pdb_engine.specs.Watched.{CountsFailure, IsQuiet, Writes, WritesFront, inner_of};
 ghost use Rattle.pdb_file_views.specs.Views.{agrees};
 ghost use Rattle.pdb_loading.specs.LoadFaults.{IsFileFault};
-ghost use Rattle.pdb_loading.specs.Loading.{load_fault};
+ghost use Rattle.pdb_loading.specs.Loading.{load_fault_with};
 ghost use Rattle.pdb_report_texts.specs.RunFaults.{OnCounted, OnLoad, OnReversed, OnWrite};
 ghost use Rattle.pdb_report_texts.specs.RunFaults.{UnlessLoad};
 ghost use Rattle.pdb_symbolizer.specs.Tasks.{IsInOrder, IsReversed, OnRangeReport, OnReport};
+ghost use Rattle.pdb_symbolizer.specs.Tasks.{order_of};
 ghost use Rattle.pdb_symbols_modules.specs.Streams.{streams};
 
 use pdb_arguments::Task;
@@ -39,13 +40,15 @@ pub fn run_task_on_demand<'a, F: FileExt, R: Read, W: Write>(
     reader: &mut Watched<R>,
     writer: &mut Watched<W>,
 ) -> FileRun<'a, F>
+    requires { source.order ≡ order_of task.now }
     ensures contents { result.source.contents.numbers ≡ source.entry.contents.numbers }
     ensures load { IfErr result.outcome (λ fault. OnLoad fault (λ cause. (writer.new ≡ writer.old)
         × (agrees result.source.views source.entry.contents.numbers ≡ true
-        → IsFileFault cause (load_fault (streams source.entry.contents.numbers))))) }
+        → IsFileFault cause
+        (load_fault_with source.entry.order (streams source.entry.contents.numbers))))) }
     ensures loaded { agrees result.source.views source.entry.contents.numbers ≡ true
         → UnlessLoad result.outcome
-        (load_fault (streams source.entry.contents.numbers) ≡ None) }
+        (load_fault_with source.entry.order (streams source.entry.contents.numbers) ≡ None) }
     ensures reversed { IfErr result.outcome (λ fault. OnReversed fault
         (IsReversed task.now × (writer.new ≡ writer.old))) }
     ensures order { OnCounted result.outcome (IsInOrder task.now) }
@@ -86,16 +89,18 @@ fn count_sizes_on_demand<'a, F: FileExt, W: Write>(
     ensures contents { result.source.contents.numbers ≡ source.entry.contents.numbers }
     ensures load { IfErr result.outcome (λ fault. OnLoad fault (λ cause. (writer.new ≡ writer.old)
         × (agrees result.source.views source.entry.contents.numbers ≡ true
-        → IsFileFault cause (load_fault (streams source.entry.contents.numbers))))) }
+        → IsFileFault cause
+        (load_fault_with source.entry.order (streams source.entry.contents.numbers))))) }
     ensures loaded { agrees result.source.views source.entry.contents.numbers ≡ true
         → UnlessLoad result.outcome
-        (load_fault (streams source.entry.contents.numbers) ≡ None) }
+        (load_fault_with source.entry.order (streams source.entry.contents.numbers) ≡ None) }
     ensures reversed { IfErr result.outcome (λ fault. OnReversed fault
         ((end < start) × (writer.new ≡ writer.old))) }
     ensures order { OnCounted result.outcome (start ≤ end) }
     ensures ok { agrees result.source.views source.entry.contents.numbers ≡ true
-        → OnOk result.outcome (OnRangeReport by_file (streams source.entry.contents.numbers)
-        start end (Writes W.contents writer.old writer.new)) }
+        → OnOk result.outcome (OnRangeReport by_file source.entry.order
+        (streams source.entry.contents.numbers) start end
+        (Writes W.contents writer.old writer.new)) }
     ensures quiet { OnOk result.outcome (IsQuiet writer.old writer.new) }
     ensures write_fails { IfErr result.outcome (λ fault. OnWrite fault
         (λ kind. CountsFailure writer.old writer.new kind)) }

@@ -160,7 +160,6 @@ fn answer(alloc: Global, bytes: Vec<u8>, question: Question) -> Result<String, E
 
 /// Makes a context over the tables of one file, by the parts of another context, and the modules of
 /// another file.
-#[tactic(auto, using(pdb_addr2line::proofs::HeldModules::parts_of_context))]
 fn context_over<'a>(
     alloc: Global,
     data: &'a Data,

@@ -17,6 +17,10 @@ enum Wanted {
     SizesByFile(&'static str, u32, u32),
     /// The task `sizes` over a range of a file, with `--demangle`.
     SizesDemangled(&'static str, u32, u32),
+    /// The task `frames` over a file, with `--any-order`.
+    FramesAnyOrder(&'static str),
+    /// The task `sizes` over a range of a file, with `--any-order`.
+    SizesAnyOrder(&'static str, u32, u32),
     /// The fault with that name.
     NotAnAddress,
     /// A text on wrong arguments that contains these texts.
@@ -34,12 +38,49 @@ impl Wanted {
     /// Returns whether it came.
     fn came(self, outcome: &Result<Task, WordsFault>) -> bool {
         match (self, outcome) {
-            (Wanted::Frames(wanted), Ok(Task::Frames { file, demangle })) => {
-                file.as_str() == wanted && !*demangle
-            }
-            (Wanted::FramesDemangled(wanted), Ok(Task::Frames { file, demangle })) => {
-                file.as_str() == wanted && *demangle
-            }
+            (
+                Wanted::Frames(wanted),
+                Ok(
+                    Task::Frames {
+                        file,
+                        demangle: false,
+                        any_order: false,
+                    },
+                ),
+            ) => { file.as_str() == wanted }
+            (
+                Wanted::FramesDemangled(wanted),
+                Ok(
+                    Task::Frames {
+                        file,
+                        demangle: true,
+                        any_order: false,
+                    },
+                ),
+            ) => { file.as_str() == wanted }
+            (
+                Wanted::FramesAnyOrder(wanted),
+                Ok(
+                    Task::Frames {
+                        file,
+                        demangle: false,
+                        any_order: true,
+                    },
+                ),
+            ) => { file.as_str() == wanted }
+            (
+                Wanted::SizesAnyOrder(wanted, from, to),
+                Ok(
+                    Task::Sizes {
+                        file,
+                        start,
+                        end,
+                        by_file: false,
+                        demangle: false,
+                        any_order: true,
+                    },
+                ),
+            ) => { file.as_str() == wanted && *start == from && *end == to }
             (
                 Wanted::Sizes(wanted, from, to),
                 Ok(
@@ -49,6 +90,7 @@ impl Wanted {
                         end,
                         by_file: false,
                         demangle: false,
+                        any_order: false,
                     },
                 ),
             ) => { file.as_str() == wanted && *start == from && *end == to }
@@ -61,6 +103,7 @@ impl Wanted {
                         end,
                         by_file: true,
                         demangle: false,
+                        any_order: false,
                     },
                 ),
             ) => { file.as_str() == wanted && *start == from && *end == to }
@@ -73,6 +116,7 @@ impl Wanted {
                         end,
                         by_file: false,
                         demangle: true,
+                        any_order: false,
                     },
                 ),
             ) => { file.as_str() == wanted && *start == from && *end == to }
@@ -90,8 +134,9 @@ const SIZES_HELP: &[&str] = &[
     "<FILE>   The program database",
     "<START>  The range's first address, in hexadecimal",
     "<END>    The address after the range's last",
-    "--by-file   Counts for each source file",
-    "--demangle  Writes decorated names",
+    "--by-file    Counts for each source file",
+    "--demangle   Writes decorated names",
+    "--any-order  Takes section contributions",
     "pdb_symbolizer sizes program.pdb 1000 2000",
     "pdb_symbolizer sizes --by-file program.pdb 1000 2000",
 ];
@@ -100,7 +145,8 @@ const SIZES_HELP: &[&str] = &[
 const FRAMES_HELP: &[&str] = &[
     "Usage: pdb_symbolizer frames [OPTIONS] <FILE>",
     "<FILE>  The program database",
-    "--demangle  Writes decorated names",
+    "--demangle   Writes decorated names",
+    "--any-order  Takes section contributions",
     "Standard input has one address a line",
     "echo 1018 | pdb_symbolizer frames program.pdb",
 ];
@@ -128,6 +174,11 @@ const ROWS: &[(&str, Wanted)] = &[
     ("sizes --help", Wanted::Help(SIZES_HELP)),
     ("frames F", Wanted::Frames("F")),
     ("frames F --demangle", Wanted::FramesDemangled("F")),
+    ("frames --any-order F", Wanted::FramesAnyOrder("F")),
+    (
+        "sizes F 10 20 --any-order",
+        Wanted::SizesAnyOrder("F", 16, 32),
+    ),
     (
         "sizes --demangle F 10 20",
         Wanted::SizesDemangled("F", 16, 32),

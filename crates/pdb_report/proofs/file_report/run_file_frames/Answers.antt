@@ -3,7 +3,8 @@ use Rattle.std.specs.Prelude.{IfSome, OnOk}
 use Rattle.pdb_engine.specs.InputLines.{report}
 use Rattle.pdb_engine.specs.Watched.{inner_of, Writes}
 use Rattle.pdb_file_views.specs.Views.{agrees}
-use Rattle.pdb_report.specs.Answer.{answer}
+use Rattle.pdb_loading.specs.declared.order.ContributionOrder.{ContributionOrder}
+use Rattle.pdb_report.specs.Answer.{answer_with}
 use Rattle.pdb_report.proofs.FileFaults.{nothing_out}
 use Rattle.pdb_report.proofs.IsolationLaw.{exchanged_out, isolated}
 use Rattle.pdb_report_texts.specs.AddressText.{line_text}
@@ -20,13 +21,17 @@ returns-in-Err-clause-isolated g c = isolated c.args.source.contents.numbers
 pub returns-in-Ok-clause-exchanged : goal.returns-in-Ok-clause-exchanged
 returns-in-Ok-clause-exchanged g c = λ known.
     let contents = c.args.source.contents.numbers in
+    let asked = c.in-Ok.symbolizer.contents in
+    let ordered = subst (λ (o : ContributionOrder). agrees c.answer_file.result.source.views asked ≡ true
+    → OnOk c.answer_file.result.outcome (IfSome (g.R.Read.remaining (inner_of c.args.reader.now)) (λ input. (length input ≤ 2 ^ 30) × Writes g.W.Write.contents c.args.writer.now c.answer_file.new.writer (report (line_text (answer_with o (streams asked))) input))))
+    c.in-Ok.ensures.order c.answer_file.ensures.ok in
     let ok = subst (λ (b : List ℕ). agrees c.answer_file.result.source.views b ≡ true
-    → OnOk c.answer_file.result.outcome (IfSome (g.R.Read.remaining (inner_of c.args.reader.now)) (λ input. (length input ≤ 2 ^ 30) × Writes g.W.Write.contents c.args.writer.now c.answer_file.new.writer (report (line_text (answer (streams b))) input))))
-    c.in-Ok.ensures.contents c.answer_file.ensures.ok in
-    exchanged_out contents c.answer_file.result.outcome (g.R.Read.remaining (inner_of c.args.reader.now)) (λ input. length input ≤ 2 ^ 30)
+    → OnOk c.answer_file.result.outcome (IfSome (g.R.Read.remaining (inner_of c.args.reader.now)) (λ input. (length input ≤ 2 ^ 30) × Writes g.W.Write.contents c.args.writer.now c.answer_file.new.writer (report (line_text (answer_with c.args.source.order (streams b))) input))))
+    c.in-Ok.ensures.contents ordered in
+    exchanged_out c.args.source.order contents c.answer_file.result.outcome (g.R.Read.remaining (inner_of c.args.reader.now)) (λ input. length input ≤ 2 ^ 30)
     (λ answers input. Writes g.W.Write.contents c.args.writer.now c.answer_file.new.writer (report (line_text answers) input)) (ok known)
 
 -- a file that isn't loaded leaves nothing out
 pub returns-in-Err-clause-part : goal.returns-in-Err-clause-part
 returns-in-Err-clause-part g c = λ known.
-    nothing_out g.W.Write.contents c.args.writer.now (g.R.Read.remaining (inner_of c.args.reader.now)) (λ input. report (line_text (answer (streams c.args.source.contents.numbers))) input)
+    nothing_out g.W.Write.contents c.args.writer.now (g.R.Read.remaining (inner_of c.args.reader.now)) (λ input. report (line_text (answer_with c.args.source.order (streams c.args.source.contents.numbers))) input)

@@ -7,6 +7,7 @@ use Rattle.pdb_report.proofs.file_sizes.count_file.Given as goal
 abbrev pub invariant-loop : goal.invariant-loop
 invariant-loop g l = record {
   contents : l.symbolizer.contents ≡ l.fn.symbolizer.contents;
+  order : l.symbolizer.order ≡ l.fn.symbolizer.order;
   grows : Grows l.fn.symbolizer.views l.symbolizer.views;
   unasked : IsUnasked l.symbolizer;
 }

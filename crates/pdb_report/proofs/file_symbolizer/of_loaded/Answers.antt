@@ -1,6 +1,7 @@
 use Rattle.std.proofs.Common.{◌≡◌, sym, subst, ◌∙◌}
+use Rattle.pdb_loading.specs.declared.order.ContributionOrder.{ContributionOrder}
 use Rattle.pdb_loading.specs.Held.{Held}
-use Rattle.pdb_loading.specs.LoadedFile.{IsLoadedFrom}
+use Rattle.pdb_loading.specs.LoadedFile.{IsLoadedWith}
 use Rattle.pdb_report.proofs.FileSteps.{opened}
 use Rattle.pdb_report.proofs.file_symbolizer.of_loaded.Goals as goal
 
@@ -9,5 +10,7 @@ pub invariant_of-result : goal.invariant_of-result
 invariant_of-result g c =
     let file = c.into_parts-file.result.0 in
     let held_is : c.in-Ok.held.now ≡ c.into_parts-file.result.1 = c.in-Ok.ensures ∙ c.from_held.ensures in
-    let is = subst (λ (h : Held). IsLoadedFrom file h) (sym held_is) c.into_parts-file.ensures.held in
-    opened c.args.source.views c.args.source.contents.numbers file c.in-Ok.held.now c.in-Ok-make_context.context (λ known. c.into_parts-file.ensures.file ∙ c.requires known) is c.in-Ok-make_context.ensures
+    let order = c.args.source.order in
+    let loaded = subst (λ (o : ContributionOrder). IsLoadedWith o file c.into_parts-file.result.1) c.requires.order c.into_parts-file.ensures.held in
+    let is = subst (λ (h : Held). IsLoadedWith order file h) (sym held_is) loaded in
+    opened order c.args.source.views c.args.source.contents.numbers file c.in-Ok.held.now c.in-Ok-make_context_with_order.context (λ known. c.into_parts-file.ensures.file ∙ c.requires.contents known) is (rw c.default-flags.ensures at c.in-Ok-make_context_with_order.ensures)

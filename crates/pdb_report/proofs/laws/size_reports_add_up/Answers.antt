@@ -3,21 +3,21 @@ use Rattle.pdb_functions.specs.Counts.{counted_at}
 use Rattle.pdb_functions.specs.FunctionOrder.{function_cmp}
 use Rattle.pdb_functions.specs.OrderLaws.{function_total, function_exact}
 use Rattle.pdb_functions.proofs.RangeSums.{table_fills}
-use Rattle.pdb_report.specs.Answer.{database}
+use Rattle.pdb_report.specs.Answer.{database_with}
 use Rattle.pdb_report.proofs.SizeSums.{each_joined, none_joined}
 use Rattle.pdb_report.proofs.laws.size_reports_add_up.Goals as goal
 
 pub returns-clause-sum : goal.returns-clause-sum
-returns-clause-sum cc' = λ s start end text order r.
-    table_fills function_cmp function_total function_exact (counted_at r.map (database s)) start
+returns-clause-sum cc' = λ order s start end text ordered r.
+    table_fills function_cmp function_total function_exact (counted_at r.map (database_with order s)) start
     (end - start) r.report.table r.report.in_order r.report.each
 
 pub returns-clause-each : goal.returns-clause-each
-returns-clause-each cc' = λ s a b c x y z ab bc p q r f.
-    each_joined function_cmp s (database s) p.map q.map r.map p.map_is q.map_is r.map_is a b c ab bc
+returns-clause-each cc' = λ order s a b c x y z ab bc p q r f.
+    each_joined function_cmp order s (database_with order s) p.map q.map r.map p.map_is q.map_is r.map_is a b c ab bc
     p.report.table q.report.table r.report.table f (p.report.each f) (q.report.each f)
     (r.report.each f)
 
 pub returns-clause-none : goal.returns-clause-none
-returns-clause-none cc' = λ s a b c x y z ab bc p q r.
-    none_joined function_cmp s (database s) p.map q.map r.map p.map_is q.map_is r.map_is a b c ab bc
+returns-clause-none cc' = λ order s a b c x y z ab bc p q r.
+    none_joined function_cmp order s (database_with order s) p.map q.map r.map p.map_is q.map_is r.map_is a b c ab bc

@@ -1,4 +1,5 @@
 use Rattle.std.proofs.Common.{◌≡◌, ◌⊎◌, inl, ℕ, List, subst}
+use Rattle.pdb_loading.specs.LoadedFile.{FileBytes}
 use Rattle.std.specs.Prelude.{OnOk, OnErr, IfOk}
 use Rattle.pdb_engine.specs.Watched.{Writes, WritesFront}
 use Rattle.pdb_symbols_modules.specs.Streams.{streams}
@@ -21,28 +22,28 @@ returns-in-Ok-clause-memory g c =
 -- the file that was loaded is that of the bytes
 pub returns-in-Ok-clause-ok : goal.returns-in-Ok-clause-ok
 returns-in-Ok-clause-ok g c =
-    subst (λ (b : List ℕ). OnOk c.report_in_order.result ((text : List ℕ)
-    × IsReportOn g.A.Counted.is_report (g.A.Counted.places (streams b)) (streams b) c.args.start
+    subst (λ (b : FileBytes). OnOk c.report_in_order.result ((text : List ℕ)
+    × IsReportOn g.A.Counted.is_report (g.A.Counted.places b.order (streams b.bytes)) b.order (streams b.bytes) c.args.start
     c.args.end text × Writes g.W.Write.contents c.args.writer.now c.report_in_order.new.writer text))
     c.in-Ok.ensures.ok c.report_in_order.ensures.ok
 
 pub returns-in-Ok-clause-lookups : goal.returns-in-Ok-clause-lookups
 returns-in-Ok-clause-lookups g c =
-    subst (λ (b : List ℕ). IfOk c.report_in_order.result (λ tally.
-    AreWithinPieces (g.A.Counted.places (streams b)) (streams b) c.args.start c.args.end
+    subst (λ (b : FileBytes). IfOk c.report_in_order.result (λ tally.
+    AreWithinPieces (g.A.Counted.places b.order (streams b.bytes)) b.order (streams b.bytes) c.args.start c.args.end
     tally.lookups)) c.in-Ok.ensures.ok c.report_in_order.ensures.lookups
 
 pub returns-in-Ok-clause-answered : goal.returns-in-Ok-clause-answered
 returns-in-Ok-clause-answered g c =
-    subst (λ (b : List ℕ). IfOk c.report_in_order.result (λ tally.
-    AreWithinPieces (g.A.Counted.places (streams b)) (streams b) c.args.start c.args.end
+    subst (λ (b : FileBytes). IfOk c.report_in_order.result (λ tally.
+    AreWithinPieces (g.A.Counted.places b.order (streams b.bytes)) b.order (streams b.bytes) c.args.start c.args.end
     tally.answered)) c.in-Ok.ensures.ok c.report_in_order.ensures.answered
 
 pub returns-in-Ok-clause-part : goal.returns-in-Ok-clause-part
 returns-in-Ok-clause-part g c =
-    subst (λ (b : List ℕ). OnErr c.report_in_order.result
+    subst (λ (b : FileBytes). OnErr c.report_in_order.result
     ((c.report_in_order.new.writer ≡ c.args.writer.now) ⊎ ((text : List ℕ)
-    × IsReportOn g.A.Counted.is_report (g.A.Counted.places (streams b)) (streams b) c.args.start
+    × IsReportOn g.A.Counted.is_report (g.A.Counted.places b.order (streams b.bytes)) b.order (streams b.bytes) c.args.start
     c.args.end text
     × WritesFront g.W.Write.contents c.args.writer.now c.report_in_order.new.writer text)))
     c.in-Ok.ensures.ok c.report_in_order.ensures.part

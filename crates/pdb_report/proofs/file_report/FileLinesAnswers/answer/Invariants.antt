@@ -6,6 +6,7 @@ use Rattle.pdb_report.proofs.file_report.FileLinesAnswers.answer.Given as goal
 abbrev pub invariant-loop : goal.invariant-loop
 invariant-loop g l = record {
   contents : l.self.symbolizer.contents ≡ l.fn.self.symbolizer.contents;
+  order : l.self.symbolizer.order ≡ l.fn.self.symbolizer.order;
   grows : Grows l.fn.self.symbolizer.views l.self.symbolizer.views;
   output : l.output.items ≡ l.fn.output.items;
 }

@@ -6,5 +6,6 @@ use Rattle.pdb_report.proofs.file_symbolizer.FileSymbolizer.find_frames.Given as
 abbrev pub invariant-loop : goal.invariant-loop
 invariant-loop g l = record {
   contents : l.self.contents ≡ l.fn.self.contents;
+  order : l.self.order ≡ l.fn.self.order;
   grows : Grows l.fn.self.views l.self.views;
 }

@@ -5,5 +5,5 @@ use Rattle.pdb_report.proofs.file_symbolizer.FileSymbolizer.renew.Goals as goal
 
 pub invariant_of-self-2 : goal.invariant_of-self-2
 invariant_of-self-2 g c =
-    let f : FileAnswers = record { views = c.self.inside.source.views; contents = c.self.inside.source.contents.numbers; held = c.self.inside.held.now; context = c.self.inside.context } in
+    let f : FileAnswers = record { views = c.self.inside.source.views; contents = c.self.inside.source.contents.numbers; order = c.self.inside.source.order; held = c.self.inside.held.now; context = c.self.inside.context } in
     renewed f c.in-Ok.modules.now c.in_ok-context.context c.self.invariant (λ known. c.in-Ok.ensures ∙ c.in_ok-modules.ensures known) c.in_ok-context.ensures.made
