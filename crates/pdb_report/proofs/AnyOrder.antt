@@ -78,7 +78,7 @@ for_order_is (Ok x) e h for_order = absurd for_order
 for_order_is (Err f) e h for_order = let same : f ≡ e = cc in rw (← same) for_order
 
 true_and_false : {A : Type 0} (e : LoadingFault) → is_for_order e ≡ true → is_for_order e ≡ false → A
-true_and_false e yes no = absurd cc
+true_and_false e is_so is_not = absurd cc
 
 -- another fault than for the order is the same in any
 pub faults_same : (s : Streams) (e : LoadingFault) → load_fault s ≡ Some e → is_for_order e ≡ false → load_fault_with Any s ≡ Some e
