@@ -1,4 +1,5 @@
 pub mod Alike
+pub mod ApartSlices
 pub mod Bytes
 pub mod DirectorySteps
 pub mod DistinctPages

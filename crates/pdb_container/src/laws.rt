@@ -5,7 +5,8 @@ ghost use Rattle.std.specs.Ordering.{nat_cmp};
 ghost use Rattle.pdb_container.specs.Alike.{ReadAlike, AreAlike, HaveSameStream, HaveSameStreams};
 ghost use Rattle.pdb_container.specs.Container.{layout_of, pages_end, stream};
 ghost use Rattle.pdb_container.specs.Paged.{IsStream, IsLimited};
-ghost use Rattle.pdb_container.specs.Places.{bytes_at, page_places, IsPaged};
+ghost use Rattle.pdb_container.specs.Pages.{AreApart};
+ghost use Rattle.pdb_container.specs.Places.{bytes_at, page_places, places_of, IsPaged};
 ghost use Rattle.pdb_container.specs.RawString.{raw_bytes};
 ghost use Rattle.pdb_container.specs.declared.raw_string.RawString.{RawString as Text};
 ghost use Rattle.pdb_container.specs.declared.string_table.StringRef.{StringRef as Offset};
@@ -59,6 +60,12 @@ pub fn tail_of_no_stream()
     ensures streams { (file tail : List ℕ) (n : ℕ) (limit : Option ℕ)
         → 4096 ≤ length file → pages_end file ≤ length file
         → stream (file ++ tail) n limit ≡ stream file n limit }
+{}
+
+/// Two lists of slices with the same bytes, in which none is empty and none ends where the next
+/// begins, are one and the same.
+pub fn slices_of_places()
+    ensures { (a b : List Slice) → AreApart a → AreApart b → places_of a ≡ places_of b → a ≡ b }
 {}
 
 /// Raw strings are equal exactly where their bytes are, and equal ones hash alike.
