@@ -20,7 +20,7 @@
 #include <stdlib.h>
 #include <unistd.h>
 
-enum { LEVELS = 12 };
+enum { LEVELS = 32 };
 
 static void *(*real_malloc)(size_t);
 static void *(*real_realloc)(void *, size_t);

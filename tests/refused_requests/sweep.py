@@ -9,10 +9,9 @@ nothing refused.
 
 - `pdb_symbolizer`, on the recorded rows of reports: such a run ends with status 1 and `fault:
   OutOfMemory` on standard error, and what is out is a prefix of the row's report. One that ends as
-  if nothing was refused passes in a case that exceptions.txt names, with the reason; and where at
-  most one of 20 requests of its row goes so: what is read before it's asked for is read again, and
-  an arena asks for a smaller piece. A run whose Nth read at an offset fails, in the Nth of as many
-  as there are, ends with status 1 and `fault: File(Other)`, and what is out is a prefix, too.
+  if nothing was refused passes in a case that exceptions.txt names, with the reason, and where the
+  request is of a function that it names. A run whose Nth read at an offset fails, in the Nth of as
+  many as there are, ends with status 1 and `fault: File(Other)`, and what is out is a prefix, too.
 - `pdb_llvm_symbolizer`, on the cases of tests/llvm_symbolizer: such a run ends with status 1 and
   says so on standard error, and what is out is a prefix. For such runs as go on exceptions.txt has
   the reason too.
@@ -51,8 +50,6 @@ SECONDS = 60
 GREATEST = 100_000
 # The longest answer of a recorded read, in bytes: a text of it is made piece by piece.
 LONGEST = 1_000
-# At most one of so many requests of a run may be for what is read before it's asked for, or for a large piece of an arena.
-AHEAD = 20
 # Recorded texts of several calls or several files, which aren't asked here, and comments.
 LEFT_OUT = ("#", "each_again", "file_run_again", "forgotten", "prefixes")
 # Recorded texts of formatters; all others are of contexts.
@@ -349,20 +346,21 @@ def sweep(program, case, exceptions):
     differs = case.differs(wanted) or ("" if is_seen else "no request or no read is seen")
     if differs:
         return [f"{case.name}: with nothing refused: {differs}"], {}
-    wrong, ahead, refused = [], [], collections.Counter()
+    wrong, refused = [], collections.Counter()
     for number in range(1, count + 1):
         came, _, callers, _ = program.run(case, number)
         if case.is_right(wanted, came):
             refused[asker(callers)] += 1
-        elif case.name in exceptions and came in (wanted, without_tip(wanted)):
+        elif may_go_on(case, callers, exceptions) and came in (wanted, without_tip(wanted)):
             refused[f"{asker(callers)}, as if it weren't"] += 1
         else:
-            said = f"{case.name}: request {number} of {count} refused, of {' < '.join(callers)}: {shown(came)}"
-            (ahead if case.least_reads is not None and came == wanted else wrong).append(said)
-    if len(ahead) * AHEAD > count:
-        wrong += ahead
-    refused["requests, as if they weren't"] += len(ahead)
+            wrong.append(f"{case.name}: request {number} of {count} refused, of {' < '.join(callers)}: {shown(came)}")
     return wrong + failing_reads(program, case, wanted, reads), refused
+
+
+def may_go_on(case, callers, exceptions):
+    """Whether exceptions.txt names the case, or a function by which a request was refused."""
+    return case.name in exceptions or any(f"of {caller}".startswith(it) for caller in callers for it in exceptions if it.startswith("of "))
 
 
 def failing_reads(program, case, wanted, reads):
@@ -399,7 +397,7 @@ KINDS = Report, DropIn, Read, Asked
 
 
 def exceptions_of():
-    """The cases of exceptions.txt."""
+    """The cases of exceptions.txt, and the beginnings of functions' names after `of `."""
     with open(f"{HERE}/exceptions.txt", encoding="utf-8") as text:
         return {it.split(": ")[0] for it in text if it.strip() and not it.startswith("#")}
 
