@@ -1,10 +1,11 @@
 #!/usr/bin/env python3
 """Makes files that are built to cost much, measures the program on each, and prints a table.
 
-    bench/costs.py PROGRAM [--only NAME] [--limit SECONDS]
+    bench/costs.py PROGRAM [--symbols] [--only NAME] [--limit SECONDS]
 
-PROGRAM is the built pdb_symbolizer. Each case is a function below: it makes a file of about so many
-bytes, and addresses to ask. Times are processor seconds, memory the most that the process held."""
+PROGRAM is the built pdb_symbolizer; with --symbols pdb_symbols, which asks for all addresses. Each
+case is a function below: it makes a file of about so many bytes, and addresses to ask. Times are
+processor seconds, memory the most that the process held."""
 import struct
 import sys
 import tempfile
@@ -231,6 +232,14 @@ def rows_of_calls(size):
     return container(streams), spread(1000, 1000, 1, 0x1010 + 20000)
 
 
+def runs_of_calls(size):
+    """a call of which each row, one byte long, has another line"""
+    rows = size // 2
+    symbols = nested_sites(1, code(1, 0) + b"\x0b\x21" * rows, length=rows + 16)
+    streams = database([(symbols, CHECKSUMS + INLINEES)])
+    return container(streams), spread(1000, 1000, 1, 0x1010)
+
+
 def rows_of_functions(size):
     """procedures that share one long subsection of lines"""
     count = size // 60
@@ -424,6 +433,7 @@ def long_tail(size):
 CASES = [
     (file_names, (1, 10)),
     (rows_of_calls, (1, 10)),
+    (runs_of_calls, (0.01, 0.02, 0.04)),
     (rows_of_functions, (1,)),
     (rows_of_publics, (1,)),
     (sites_of_thunks, (1,)),
@@ -482,7 +492,10 @@ def main():
                 file.flush()
                 if case is long_tail:
                     file.truncate(2_000_000_000)
-                arguments, addresses = asked(case, file.name, addresses)
+                if "--symbols" in words:
+                    arguments, addresses = [file.name], []
+                else:
+                    arguments, addresses = asked(case, file.name, addresses)
                 ended, seconds, memory = measured(words[0], arguments, addresses, limit)
             row = [case.__doc__, f"{len(data) / 1e6:.2f}", f"{len(addresses):,}"]
             row += [f"{seconds:.2f}", f"{memory:.0f}", ended]

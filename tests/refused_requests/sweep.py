@@ -15,6 +15,9 @@ nothing refused.
 - `pdb_llvm_symbolizer`, on the cases of tests/llvm_symbolizer: such a run ends with status 1 and
   says so on standard error, and what is out is a prefix. For such runs as go on exceptions.txt has
   the reason too.
+- `pdb_symbols`, on databases of tests/symbols, alone and with an image: such a run ends as one of
+  `pdb_symbolizer` has to, with a prefix of the symbol file. With `--output` the file that was there
+  before stays as it was, and nothing is left beside it.
 - `recorded_cases reads`, on recorded reads of records, streams and tables: the call that finds no
   memory says so, and is made again.
 - `recorded_cases again`, on the files of the same rows and on the recorded texts: the call that
@@ -35,6 +38,7 @@ import re
 import shutil
 import subprocess
 import sys
+import tarfile
 import tempfile
 
 HERE = os.path.dirname(os.path.realpath(__file__))
@@ -169,6 +173,54 @@ class DropIn(Case):
         return came[0] == 1 and b"memory" in came[2] and wanted[1].startswith(came[1])
 
 
+class Symbols(Report):
+    """A run of pdb_symbols, which writes a symbol file to its output."""
+
+    program = "pdb_symbols"
+
+    def __init__(self, folder, words):
+        super().__init__(f"symbols {' '.join(words)}", words)
+        self.folder = folder
+
+
+class SymbolsFile(Symbols):
+    """A run of pdb_symbols that writes a symbol file to a path."""
+
+    def __init__(self, folder, path, words):
+        super().__init__(folder, words)
+        self.words = ["--output", path, *words]
+        self.name += " --output"
+        self.path = f"{folder}/{path}"
+
+    def differs(self, came):
+        """What differs where nothing was refused. The file that is there then has to stay."""
+        if came != (0, b"", b"") or not self.written():
+            return f"{shown(came)}, and {len(self.written())} bytes were written"
+        with open(f"{self.path}.whole", "wb") as file:
+            file.write(self.written())
+        return ""
+
+    def written(self):
+        """What the file holds; nothing if it isn't there, or if something lies beside it."""
+        if os.path.exists(f"{self.path}.part") or not os.path.exists(self.path):
+            return b""
+        with open(self.path, "rb") as file:
+            return file.read()
+
+    def stays(self):
+        """Whether the file is as it was before."""
+        with open(f"{self.path}.whole", "rb") as file:
+            return self.written() == file.read()
+
+    def is_unread(self, wanted, came):
+        """Whether a run in which a read failed is as it has to be."""
+        return came == (1, b"", b"fault: File(Other)\n") and self.stays()
+
+    def is_right(self, wanted, came):
+        """Whether a run in which a request was refused is as it has to be."""
+        return came == (1, b"", b"fault: OutOfMemory\n") and self.stays()
+
+
 class Repeating(Case):
     """A run of a program that asks again where a call finds no memory, and says so."""
 
@@ -237,6 +289,25 @@ def drop_ins():
         case = DropIn(f"llvm {name}", llvm_cases.arguments(name))
         case.given = llvm_cases.content(name, "input")
         yield case
+
+
+# Databases of symbol files, with images, and how they are asked for.
+SYMBOLS = (
+    ["--no-demangle", "x64.pdb"],
+    ["misc_o0.pdb", "misc_o0.exe"],
+    ["--no-inlines", "--no-demangle", "rust_o2.pdb", "rust_o2.exe"],
+    ["gnuld_one_O2_19.pdb"],
+)
+
+
+def symbols(folder):
+    """pdb_symbols on stored databases, to its output and to a file."""
+    below = f"{folder}/symbols"
+    with tarfile.open(f"{ROOT}/tests/symbols/cases.tar.xz") as cases:
+        cases.extractall(below, filter="data")
+    for words in SYMBOLS:
+        yield Symbols(below, words)
+    yield SymbolsFile(below, "it.sym", ["misc_o0.pdb", "misc_o0.exe"])
 
 
 def reads(folder):
@@ -393,7 +464,7 @@ def shown(came):
 
 # All
 
-KINDS = Report, DropIn, Read, Asked
+KINDS = Report, DropIn, Symbols, Read, Asked
 
 
 def exceptions_of():
@@ -420,7 +491,7 @@ def main(words):
         for kind in KINDS:
             file = built.program(place, kind.program)
             programs[kind.program] = Program(file, library, issubclass(kind, Repeating))
-        cases = [*reports(folder), *drop_ins(), *reads(folder), *asked(folder)]
+        cases = [*reports(folder), *drop_ins(), *symbols(folder), *reads(folder), *asked(folder)]
         unknown = set(words) - {it.name for it in cases}
         if unknown:
             stop(f"no case has the name {', '.join(sorted(unknown))}")

@@ -97,8 +97,8 @@ walk_on n name here further None = here
 walk_on n name here further (Some r) =
     further (text_at n.origins r.origin) ++ caller n name r ∷ []
 
--- the frames from a level on, of so many levels at most, by the name of the function there: level by
--- level, until one has no record for the address
+-- the frames from a level on, of so many levels at most, by the name of the function there: level
+-- by level, until one has no record for the address
 abbrev pub walk : Numbers → FunctionRecord → ℕ → ℕ → ℕ → List ℕ → List Shown
 walk n f address zero level name = innermost n name (line_at f.lines address)
 walk n f address (suc left) level name =
@@ -121,8 +121,8 @@ abbrev pub IsAscending : ℕ → List Answer → Type 0
 IsAscending start [] = Unit {0}
 IsAscending start (a ∷ answers) = (start ≤ a.address) × IsAscending (suc a.address) answers
 
--- The law of two roads: a consumer's frames for an address are what is told of it, and there are none
--- where nothing is told.
+-- The law of two roads: a consumer's frames for an address are what is told of it, and there are
+-- none where nothing is told.
 abbrev pub HasTwoRoads : List Answer → Type 0
 HasTwoRoads answers =
     (address : ℕ) → lookup (symbol_records answers) address ≡ told_at answers address

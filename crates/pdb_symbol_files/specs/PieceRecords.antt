@@ -1,7 +1,7 @@
 -- The same records by pieces, in the order in which the code goes over them; that they are the same
 -- is proved (`piece_records` and `symbol_records`).
-use Rattle.std.specs.Prelude.{◌≡◌, ◌==◌, ◌<◌, ℕ, ◌-◌, ◌++◌, Bool, true, false, List, [], ◌∷◌, max, length}
-use Rattle.std.specs.Prelude.{if◌then◌else◌, Option, None, Some, zero, suc}
+use Rattle.std.specs.Prelude.{◌≡◌, ◌==◌, ◌<◌, ℕ, ◌-◌, ◌++◌, Bool, true, false, List, [], ◌∷◌}
+use Rattle.std.specs.Prelude.{if◌then◌else◌, length, max, Option, None, Some, zero, suc}
 use Rattle.std.specs.List.{flat_map, fold}
 use Rattle.std.specs.Option.{option_or, option_to_list}
 use Rattle.pdb_symbol_files.specs.Told.{Answer, answers_in, Call, Piece, continues, end_of}

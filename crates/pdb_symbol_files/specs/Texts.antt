@@ -21,8 +21,8 @@ front n (c ∷ cs) =
     if nat_le (length (encode_utf8 c)) n
     then c ∷ front (n - length (encode_utf8 c)) cs else []
 
--- a text: of one of more than 65,536 bytes the longest prefix of whole characters that has 65,533 at
--- most, and three dots
+-- a text: of one of more than 65,536 bytes the longest prefix of whole characters that has 65,533
+-- at most, and three dots
 abbrev pub shortened : List ℕ → List ℕ
 shortened text =
     if nat_le (length text) 65536 then text

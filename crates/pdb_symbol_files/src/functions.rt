@@ -2,8 +2,9 @@
 
 ghost use Rattle.std.specs.Prelude.{◌≡◌, ◌++◌, ◌-◌, [], IfOk, OnOk, List, string_bytes};
 ghost use Rattle.std.specs.List.{flat_map};
-ghost use Rattle.pdb_symbol_files.specs.PieceRecords.{added, AreOf, function_if, is_more as is_more_of};
-ghost use Rattle.pdb_symbol_files.specs.PieceRecords.{nothing_yet, numbers_after_function};
+ghost use Rattle.pdb_symbol_files.specs.PieceRecords.{added, AreOf, function_if};
+ghost use Rattle.pdb_symbol_files.specs.PieceRecords.{is_more as is_more_of};
+ghost use Rattle.pdb_symbol_files.specs.PieceRecords.{numbers_after_function};
 ghost use Rattle.pdb_symbol_files.specs.PieceRecords.{without_last};
 ghost use Rattle.pdb_symbol_files.specs.Records.{symbol_records};
 ghost use Rattle.pdb_symbol_files.specs.RecordTexts.{function_text, functions_text, head_text};

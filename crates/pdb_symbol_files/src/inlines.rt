@@ -1,10 +1,10 @@
-//! INLINE records: inlined calls, over addresses where these and the calls around them are the same.
+//! INLINE records: inlined calls, over addresses where these and those around them are the same.
 
 ghost use Rattle.std.specs.Prelude.{◌≡◌, ◌++◌, ◌∷◌, [], None, IfOk, OnOk, string_bytes};
 ghost use Rattle.std.specs.List.{flat_map};
 ghost use Rattle.std.specs.Option.{option_or, option_to_list};
-ghost use Rattle.pdb_symbol_files.specs.PieceRecords.{begun as begun_by, depth_of as depth_in, ended};
-ghost use Rattle.pdb_symbol_files.specs.PieceRecords.{inline_records, is_key, level_records};
+ghost use Rattle.pdb_symbol_files.specs.PieceRecords.{begun as begun_by, depth_of as depth_in};
+ghost use Rattle.pdb_symbol_files.specs.PieceRecords.{ended, inline_records, is_key, level_records};
 ghost use Rattle.pdb_symbol_files.specs.PieceRecords.{level_spans, longer, numbers_after};
 ghost use Rattle.pdb_symbol_files.specs.PieceRecords.{numbers_after_inlines, path_in};
 ghost use Rattle.pdb_symbol_files.specs.Records.{inline_record};

@@ -8,8 +8,8 @@
 //! | make the lines before them | [`append_module`], [`append_code_id`] |
 //! | write a text | [`SymbolsText::write`], [`write_text`] |
 //!
-//! The laws are [`laws::two_roads`], that looking an address up in the records gives what is told of
-//! it, and [`laws::reads_back`], that the text of records reads as these.
+//! The laws are [`laws::two_roads`], that looking an address up in the records gives what is told
+//! of it, and [`laws::reads_back`], that the text of records reads as these.
 #![tactic(auto)]
 
 mod functions;

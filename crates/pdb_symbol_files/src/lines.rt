@@ -3,8 +3,8 @@
 ghost use Rattle.std.specs.Prelude.{◌≡◌, ◌++◌, ◌∷◌, [], None, IfOk, OnOk, string_bytes};
 ghost use Rattle.std.specs.List.{flat_map};
 ghost use Rattle.std.specs.Option.{option_or, option_to_list};
-ghost use Rattle.pdb_symbol_files.specs.PieceRecords.{begun as begun_by, ended, files_after, is_key};
-ghost use Rattle.pdb_symbol_files.specs.PieceRecords.{line_records, line_spans, longer};
+ghost use Rattle.pdb_symbol_files.specs.PieceRecords.{begun as begun_by, ended, files_after};
+ghost use Rattle.pdb_symbol_files.specs.PieceRecords.{is_key, line_records, line_spans, longer};
 ghost use Rattle.pdb_symbol_files.specs.Records.{line_record};
 ghost use Rattle.pdb_symbol_files.specs.RecordTexts.{line_text};
 ghost use Rattle.pdb_symbol_files.specs.Spans.{place_of as place_told, same_place};

@@ -51,7 +51,8 @@ impl SymbolsText {
     /// # Errors
     /// The kind of that failure; a prefix of the text was written.
     pub fn write<W: Write>(&self, output: &mut W) -> Result<(), ErrorKind>
-        ensures ok { OnOk result (Appends (W.contents output.old) (W.contents output.new) self.now) }
+        ensures ok { OnOk result
+            (Appends (W.contents output.old) (W.contents output.new) self.now) }
         ensures part { OnErr result
             (AppendsFront (W.contents output.old) (W.contents output.new) self.now) }
     {

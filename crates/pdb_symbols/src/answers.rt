@@ -14,8 +14,8 @@ use std::os::unix::fs::FileExt;
 /// How often an address is asked for again after what it lacked was read.
 const TRIES: u32 = 8;
 
-/// What a symbol file says of frames, with inlined calls or without, in a function that begins at an
-/// address, if that is known.
+/// What a symbol file says of frames, with inlined calls or without, in a function that begins at
+/// an address, if that is known.
 fn tell(
     alloc: Global,
     inlines: bool,
