@@ -293,10 +293,9 @@ def drop_ins():
 
 # Databases of symbol files, with images, and how they are asked for.
 SYMBOLS = (
-    ["--no-demangle", "x64.pdb"],
-    ["misc_o0.pdb", "misc_o0.exe"],
-    ["--no-inlines", "--no-demangle", "rust_o2.pdb", "rust_o2.exe"],
-    ["gnuld_one_O2_19.pdb"],
+    ["x64.pdb"],
+    ["--no-demangle", "rust_o2.pdb", "rust_o2.exe"],
+    ["--no-inlines", "gnuld_one_O2_19.pdb"],
 )
 
 
@@ -307,7 +306,7 @@ def symbols(folder):
         cases.extractall(below, filter="data")
     for words in SYMBOLS:
         yield Symbols(below, words)
-    yield SymbolsFile(below, "it.sym", ["misc_o0.pdb", "misc_o0.exe"])
+    yield SymbolsFile(below, "it.sym", ["gnuld_one_O2_19.pdb", "gnuld_one_O2_19.exe"])
 
 
 def reads(folder):
