@@ -6,7 +6,7 @@
 //! contracts of `pdb_report` say it.
 #![tactic(auto)]
 
-ghost use Rattle.std.specs.Prelude.{◌≡◌, ◌⊎◌, None, IfErr, OnErr, OnOk};
+ghost use Rattle.std.specs.Prelude.{◌≡◌, ◌⊎◌, None, Ok, Err, IfErr, OnErr, OnOk};
 ghost use Rattle.pdb_engine.specs.Watched.{CountsFailure, IsQuiet, Writes, WritesFront, inner_of};
 ghost use Rattle.pdb_loading.specs.LoadFaults.{IsFileFault};
 ghost use Rattle.pdb_loading.specs.Loading.{load_fault_with};
@@ -221,8 +221,8 @@ fn run_task<R: Read, W: Write>(
 
 /// How a count ended; how much was looked up for it isn't reported.
 fn without_tally(outcome: Result<Tally, RunFault>) -> Result<(), RunFault>
-    ensures ok { OnOk outcome.entry (result ≡ Ok tt) }
-    ensures err { IfErr outcome.entry (λ fault. result ≡ Err fault) }
+    ensures ok { OnOk outcome (result ≡ Ok tt) }
+    ensures err { IfErr outcome (λ fault. result ≡ Err fault) }
 {
     match outcome {
         Ok(_) => Ok(()),

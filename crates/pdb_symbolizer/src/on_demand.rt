@@ -106,7 +106,7 @@ fn count_sizes_on_demand<'a, F: FileExt, W: Write>(
         (λ kind. CountsFailure writer.old writer.new kind)) }
     ensures part { agrees result.source.views source.entry.contents.numbers ≡ true
         → OnErr result.outcome ((writer.new ≡ writer.old) ⊎ OnRangeReport by_file
-        (streams source.entry.contents.numbers) start end
+        source.entry.order (streams source.entry.contents.numbers) start end
         (WritesFront W.contents writer.old writer.new)) }
 {
     if by_file {
