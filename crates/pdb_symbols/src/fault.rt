@@ -1,5 +1,6 @@
 //! Why a symbol file isn't written.
 
+use pdb_container::kind_name;
 use pdb_image::ImageError;
 use pdb_loading::{FileFault, LoadFault};
 use std::alloc::{AllocError, AllocFailed};
@@ -31,13 +32,13 @@ impl fmt::Display for SymbolsFault {
     fn fmt<W: fmt::Write>(&self, f: &mut fmt::Formatter<W>) -> fmt::Result {
         match self {
             SymbolsFault::Load(fault) => write!(f, "{fault}"),
-            SymbolsFault::File(kind) => write!(f, "File({kind:?})"),
+            SymbolsFault::File(kind) => write!(f, "File({})", kind_name(*kind)),
             SymbolsFault::ReadFile => write!(f, "ReadFile"),
-            SymbolsFault::ImageFile(kind) => write!(f, "ImageFile({kind:?})"),
+            SymbolsFault::ImageFile(kind) => write!(f, "ImageFile({})", kind_name(*kind)),
             SymbolsFault::Image(error) => write!(f, "Image({error:?})"),
             SymbolsFault::ImageNamesNoPdb => write!(f, "ImageNamesNoPdb"),
             SymbolsFault::OtherBuild => write!(f, "OtherBuild"),
-            SymbolsFault::Write(kind) => write!(f, "Write({kind:?})"),
+            SymbolsFault::Write(kind) => write!(f, "Write({})", kind_name(*kind)),
         }
     }
 }
