@@ -9,9 +9,10 @@ nothing refused.
 
 - `pdb_symbolizer`, on the recorded rows of reports: such a run ends with status 1 and `fault:
   OutOfMemory` on standard error, and what is out is a prefix of the row's report. One that ends as
-  if nothing was refused passes in a case that exceptions.txt names, with the reason, and where the
-  request is of a function that it names. A run whose Nth read at an offset fails, in the Nth of as
-  many as there are, ends with status 1 and `fault: File(Other)`, and what is out is a prefix, too.
+  if nothing was refused passes in a case that exceptions.txt names, with the reason; where the
+  request is of a function that it names; and at most once in 20 requests of others. A run whose Nth
+  read at an offset fails, in the Nth of as many as there are, ends with status 1 and `fault:
+  File(Other)`, and what is out is a prefix, too.
 - `pdb_llvm_symbolizer`, on the cases of tests/llvm_symbolizer: such a run ends with status 1 and
   says so on standard error, and what is out is a prefix. For such runs as go on exceptions.txt has
   the reason too.
@@ -52,6 +53,9 @@ from recorded import DATA, Malformed, database_of, reports_of  # noqa: E402
 SECONDS = 60
 # The greatest file that contexts are asked about: in greater ones each of 65,536 frames is a request of its own.
 GREATEST = 100_000
+# At most one of so many requests of a run on demand may go on that is of no function with a name in exceptions.txt: a
+# compiler may have put the named function into the one that calls it.
+UNNAMED = 20
 # The longest answer of a recorded read, in bytes: a text of it is made piece by piece.
 LONGEST = 1_000
 # Recorded texts of several calls or several files, which aren't asked here, and comments.
@@ -416,7 +420,7 @@ def sweep(program, case, exceptions):
     differs = case.differs(wanted) or ("" if is_seen else "no request or no read is seen")
     if differs:
         return [f"{case.name}: with nothing refused: {differs}"], {}
-    wrong, refused = [], collections.Counter()
+    wrong, unnamed, refused = [], [], collections.Counter()
     for number in range(1, count + 1):
         came, _, callers, _ = program.run(case, number)
         if case.is_right(wanted, came):
@@ -424,7 +428,11 @@ def sweep(program, case, exceptions):
         elif may_go_on(case, callers, exceptions) and came in (wanted, without_tip(wanted)):
             refused[f"{asker(callers)}, as if it weren't"] += 1
         else:
-            wrong.append(f"{case.name}: request {number} of {count} refused, of {' < '.join(callers)}: {shown(came)}")
+            said = f"{case.name}: request {number} of {count} refused, of {' < '.join(callers)}: {shown(came)}"
+            (unnamed if case.least_reads is not None and came == wanted else wrong).append(said)
+    if len(unnamed) * UNNAMED > count:
+        wrong += unnamed
+    refused["functions without a name in exceptions.txt, as if they weren't"] += len(unnamed)
     return wrong + failing_reads(program, case, wanted, reads), refused
 
 
