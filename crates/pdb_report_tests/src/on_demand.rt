@@ -2,9 +2,7 @@
 //! fault.
 
 use crate::files::{F0, run_over};
-use boxcar::tag::Tag;
 use bumpalo::Bump;
-use pdb_file_views::FileViews;
 use pdb_report::{
     AtEnd, FileOnDemand, FileRun, FileSizes, RunFault, Watched, run_file_frames, run_file_sizes,
     run_file_sizes_by_file, run_sizes, run_sizes_by_file,
@@ -58,12 +56,8 @@ fn unread<'a>(
     arena: &'a Bump,
     file: &'a InMemory,
 ) -> Result<FileOnDemand<'a, InMemory>, Fail> {
-    Ok(FileOnDemand {
-        arena,
-        file,
-        views: FileViews::new(alloc, file.bytes.len() as u64)?,
-        contents: Tag::empty(),
-    })
+    let size = file.bytes.len() as u64;
+    Ok(FileOnDemand::new(alloc, arena, file, size)?)
 }
 
 /// What is written for the input, and how the run ends.
