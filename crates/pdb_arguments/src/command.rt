@@ -132,17 +132,8 @@ fn frames_command<'a>(alloc: Global) -> Result<Command<'a>, AllocError>
     ensures local { IfOk result (λ c. (fields_of c).has_globals ≡ false) }
 {
     let command = described(alloc, "frames", FRAMES_ABOUT, FRAMES_EXAMPLE);
-    with_names_and_order(alloc, with_needed(alloc, command, "FILE", FILE_HELP)?)
-}
-
-/// Adds the flags that both subcommands have, `--demangle` and `--any-order`.
-fn with_names_and_order<'a>(alloc: Global, command: Command<'a>) -> Result<Command<'a>, AllocError>
-    ensures app { IfOk result (λ c. app_of c ≡ with_rule (with_rule (app_of command.entry)
-        (flagged (codes "demangle"))) (flagged (codes "any-order"))) }
-    ensures local { (fields_of command.entry).has_globals ≡ false
-        → IfOk result (λ c. (fields_of c).has_globals ≡ false) }
-{
-    let with_demangle = with_flag(alloc, command, "demangle", DEMANGLE_HELP)?;
+    let with_file = with_needed(alloc, command, "FILE", FILE_HELP)?;
+    let with_demangle = with_flag(alloc, with_file, "demangle", DEMANGLE_HELP)?;
     with_flag(alloc, with_demangle, "any-order", ANY_ORDER_HELP)
 }
 
@@ -172,7 +163,8 @@ fn sizes_command<'a>(alloc: Global) -> Result<Command<'a>, AllocError>
     ensures local { IfOk result (λ c. (fields_of c).has_globals ≡ false) }
 {
     let with_by_file = with_flag(alloc, range_command(alloc)?, "by-file", BY_FILE_HELP)?;
-    with_names_and_order(alloc, with_by_file)
+    let with_demangle = with_flag(alloc, with_by_file, "demangle", DEMANGLE_HELP)?;
+    with_flag(alloc, with_demangle, "any-order", ANY_ORDER_HELP)
 }
 
 /// The program's command, which requires a subcommand and has none yet. Its name appears in the

@@ -1,6 +1,6 @@
 -- What is loaded in order is loaded the same in any.
-use Rattle.std.proofs.Common.{◌≡◌, ℕ, ◌⊎◌, inl, inr, true, false, List, Result, Ok, Err, refl, sym, ap, ◌∙◌}
-use Rattle.std.specs.Prelude.{Option, None, Some, IfErr, not}
+use Rattle.std.proofs.Common.{◌≡◌, ◌⊎◌, inl, inr, true, false, List, Result, Ok, Err, refl, ap, ◌∙◌}
+use Rattle.std.specs.Prelude.{None, Some, IfErr, not}
 use Rattle.std.specs.Result.{IsErrAnd}
 use Rattle.pdb_addresses.specs.Addresses.{is_ordered}
 use Rattle.pdb_addr2line.specs.Choice.{Parts}

@@ -1,6 +1,6 @@
 -- How a report on lines ends.
 use Rattle.std.proofs.Common.{◌≡◌, ℕ, ◌<◌, ◌≤◌, List, length, take, Result, Ok, Err, inl, inr, refl, sym, subst}
-use Rattle.std.specs.Prelude.{Option, None, IfErr, IfSome, OnErr, OnOk}
+use Rattle.std.specs.Prelude.{Option, None, IfSome}
 use Rattle.pdb_engine.specs.declared.fault.InputFault.{InputFault}
 use Rattle.pdb_engine.specs.declared.watched.Watched.{Watched}
 use Rattle.pdb_engine.specs.InputFaults as inputs

@@ -1,7 +1,6 @@
 -- Two files that agree stream by stream have the same reports, however their pages lie.
 use Rattle.std.specs.Prelude.{◌≡◌, ◌↔◌, ℕ, List}
 use Rattle.pdb_loading.specs.declared.order.ContributionOrder.{ContributionOrder}
-use Rattle.pdb_loading.specs.declared.order.ContributionOrder.TheVariants.{InOrder}
 use Rattle.pdb_engine.specs.InputLines.{report}
 use Rattle.pdb_report.specs.Answer.{answer_with, function_with, listing_with}
 use Rattle.pdb_report.specs.SizesByFile.{IsSizesByFileWith}
