@@ -132,6 +132,15 @@ fn defaults(is_addr2line: bool) -> (Style, FunctionName) {
     }
 }
 
+/// The names of functions, where those in `default` are reported if none are chosen.
+fn function_of(choices: &Choices, default: FunctionName) -> FunctionName {
+    if choices.functions {
+        FunctionName::Linkage
+    } else {
+        choices.function.unwrap_or(default)
+    }
+}
+
 /// What a program of this name is asked for by choices; or what is wrong with them.
 ///
 /// # Errors
@@ -151,7 +160,7 @@ pub fn read_arguments(
     }
     let (style, function) = defaults(is_plain);
     let style = choices.style.unwrap_or(style);
-    let function = choices.function.unwrap_or(function);
+    let function = function_of(&choices, function);
     let texts = texts_of(&choices, function, style);
     let frames = frames_of(&choices, choices.inlines.unwrap_or(!is_plain), style);
     Ok(Ok(Arguments {

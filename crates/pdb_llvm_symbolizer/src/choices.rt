@@ -38,7 +38,10 @@ pub struct Choices {
     pub inlines: Option<bool>,
     /// Whether names are undecorated.
     pub demangle: Option<bool>,
-    /// The names of functions.
+    /// Whether names of functions are asked for without saying which. Then they have arguments,
+    /// whatever else is chosen.
+    pub functions: bool,
+    /// The names of functions that are asked for by a value.
     pub function: Option<FunctionName>,
     /// How answers are written.
     pub style: Option<Style>,
@@ -94,6 +97,7 @@ impl Choices {
             verbose: false,
             relative: false,
             base_names: false,
+            functions: false,
             inlines: None,
             demangle: None,
             function: None,
@@ -121,7 +125,7 @@ impl Choices {
             Flag::NoDemangle => self.demangle = Some(false),
             Flag::Inlines => self.inlines = Some(true),
             Flag::NoInlines => self.inlines = Some(false),
-            Flag::Functions => self.function = Some(FunctionName::Linkage),
+            Flag::Functions => self.functions = true,
             Flag::PrettyPrint => self.pretty = true,
             Flag::RelativeAddress => self.relative = true,
             Flag::Verbose => self.verbose = true,

@@ -4,8 +4,10 @@ use crate::arguments::Arguments;
 use crate::loaded::{AskedAddress, FileAnswers, load};
 use crate::open_error::OpenError;
 use bumpalo::Bump;
-use pdb_llvm_requests::{LineRequest, RequestFault, RequestedFile, read_request};
-use pdb_llvm_texts::{ReportedFrame, Style, append_error, append_frames};
+use pdb_llvm_requests::{Command, LineRequest, RequestFault, RequestedFile, read_request};
+use pdb_llvm_texts::{
+    ReportedFrame, Style, append_error, append_frames, append_no_data, append_no_locals,
+};
 use pdb_loading::LoadFault;
 use std::alloc::{AllocError, Global};
 use std::collections::BTreeMap;
@@ -39,6 +41,16 @@ fn tell(rt: &impl Eprint, arguments: &Arguments, subject: &str, reason: &str) {
     }
 }
 
+/// A line up to its first NUL, without a carriage return at its end.
+fn shown_part(line: &[u8]) -> &[u8] {
+    let end = line.iter().position(|byte| *byte == 0);
+    let shown = line.get(..end.unwrap_or(line.len())).unwrap_or(line);
+    match shown.split_last() {
+        Some((last, rest)) if *last == b'\r' => rest,
+        Some(_) | None => shown,
+    }
+}
+
 /// Reports why a line is no request. Of an empty line and a symbol's name nothing is said.
 fn tell_fault(
     rt: &(impl Eprint + AllocGlobal),
@@ -49,10 +61,38 @@ fn tell_fault(
     if fault == RequestFault::EmptyLine || fault == RequestFault::SymbolName {
         return Ok(());
     }
-    let line = String::from_utf8_lossy(rt.alloc(), line)?;
+    let line = String::from_utf8_lossy(rt.alloc(), shown_part(line))?;
     let program = arguments.program.as_str();
     let _ = eprintln!(rt; "{program}: error: '{line}': {fault}");
     Ok(())
+}
+
+/// Appends the answer to a request for which no file is loaded, for this reason, which is written
+/// in JSON alone.
+fn append_failure(
+    alloc: Global,
+    output: &mut Vec<u8>,
+    arguments: &Arguments,
+    asked: AskedAddress<'_>,
+    reason: &str,
+) -> Result<(), AllocError> {
+    let texts = arguments.texts;
+    let AskedAddress {
+        command,
+        file,
+        address,
+    } = asked;
+    match command {
+        Command::Data if texts.style != Style::Json => {
+            append_no_data(alloc, output, texts, file, address)
+        }
+        Command::Frame if texts.style != Style::Json => {
+            append_no_locals(alloc, output, texts, file, address)
+        }
+        Command::Code | Command::Data | Command::Frame => {
+            append_error(alloc, output, texts, file, address, reason)
+        }
+    }
 }
 
 /// What answers a file's addresses, or why it can't be loaded, as a text. Where memory runs out,
@@ -132,17 +172,14 @@ impl<'a, F: FileExt + Drop> AskedFile<'a, F> {
             address,
             ..
         } = request;
-        let file = self.text.as_str();
+        let asked = AskedAddress {
+            command,
+            file: self.text.as_str(),
+            address,
+        };
         match &mut self.loaded {
-            Ok(loaded) => {
-                let asked = AskedAddress {
-                    command,
-                    file,
-                    address,
-                };
-                loaded.answer(alloc, arguments, asked, output)
-            }
-            Err(reason) => append_error(alloc, output, arguments.texts, file, address, reason),
+            Ok(loaded) => loaded.answer(alloc, arguments, asked, output),
+            Err(reason) => append_failure(alloc, output, arguments, asked, reason),
         }
     }
 }
@@ -213,20 +250,12 @@ impl<'a, F: FileExt + Drop> AskedFiles<'a, F> {
     fn answer_build_id(
         &self,
         rt: &(impl Eprint + AllocGlobal),
-        hash: &str,
-        address: u64,
+        asked: AskedAddress<'_>,
         output: &mut Vec<u8>,
     ) -> Result<(), AllocError> {
         let reason = "could not find build ID";
-        tell(rt, self.arguments, hash, reason);
-        append_error(
-            rt.alloc(),
-            output,
-            self.arguments.texts,
-            hash,
-            address,
-            reason,
-        )
+        tell(rt, self.arguments, asked.file, reason);
+        append_failure(rt.alloc(), output, self.arguments, asked, reason)
     }
 
     /// Appends the answer to a request.
@@ -240,7 +269,12 @@ impl<'a, F: FileExt + Drop> AskedFiles<'a, F> {
         let name = match answered_by(rt.alloc(), &request, arguments)? {
             AnsweredBy::File(name) => name,
             AnsweredBy::BuildId(hash) => {
-                return self.answer_build_id(rt, hash.as_str(), request.address, output);
+                let asked = AskedAddress {
+                    command: request.command,
+                    file: hash.as_str(),
+                    address: request.address,
+                };
+                return self.answer_build_id(rt, asked, output);
             }
         };
         let number = self.ask(rt, name)?;
@@ -266,8 +300,8 @@ impl<'a, F: FileExt + Drop> AskedFiles<'a, F> {
             Err(fault) => {
                 tell_fault(rt, arguments, line, fault)?;
                 let file = match &arguments.object {
-                    Some(object) => object.as_str(),
-                    None => "",
+                    Some(object) if fault != RequestFault::EmptyLine => object.as_str(),
+                    Some(_) | None => "",
                 };
                 let unknown = [ReportedFrame::unknown()];
                 append_frames(rt.alloc(), output, arguments.texts, file, None, &unknown)

@@ -52,7 +52,7 @@ Taken, and without effect, are --cache-size, --color, --debug-file-directory, --
 Where the name of the program has addr2line in it, addresses are hexadecimal, and the defaults are
 --output-style=GNU, --no-inlines, --no-demangle and --functions=none. The words of
 LLVM_SYMBOLIZER_OPTS, or of LLVM_ADDR2LINE_OPTS, come before the arguments. Of options that exclude
-each other the last one counts.
+each other the last one counts, but that --functions without NAME counts before any with it.
 
 Examples:
   pdb_llvm_symbolizer --obj=program.exe 0x140001148
