@@ -74,8 +74,8 @@ over_nothing refused_requests/sweep.py 4 row_one-line_F 'llvm llvm' \
     'read sections plain.pdb 2608:0b' 'formatter signatures.hex 23'
 over_nothing commands.sh 5 --quick README.md
 over_nothing manual.sh 1
-over_nothing llvm_symbolizer.sh 5 llvm
-over_nothing llvm_protocol.py 212
+over_nothing llvm_symbolizer.sh 6 llvm
+over_nothing llvm_protocol.py 221
 over_nothing llvm_clients.py 1
 over_nothing stack.py 16
 over_nothing costly_files.py 6
@@ -102,8 +102,8 @@ stale clause docs/PROVED.md '`loaded`, `refused`' '`loaded`, `turned_away`'
 stale clause docs/PROVED.md '`status`, `output`, `failed`' '`status`, `output`'
 stale clause docs/PROVED.md '`laws::frames_as_deep`' '`laws::frames_so_deep`'
 stale clause docs/PROVED.md '`isolated`, `exchanged` | Every' '`isolated` | Every'
-stale count docs/PROVED.md '792 whole' '791 whole'
-stale count docs/RELEASING.md '108 edits' '100 edits'
+stale count docs/PROVED.md '798 whole' '791 whole'
+stale count docs/RELEASING.md '122 edits' '100 edits'
 stale date docs/DECISIONS.md 'need no memory. (28 Nov)' 'need no memory.'
 stale date docs/DECISIONS.md 'rattle-kit-' 'kit-'
 stale script docs/RELEASING.md '`tests/stack.py`' '`tests/stacks.py`'
