@@ -9,13 +9,14 @@ Each DATABASE is a file, or a folder whose files ending in .pdb are taken; if le
 the repository has are. An image is made for each, which names the database and has its sections.
 Both programs are asked for N addresses of its code (2,000 if left out): all, if there are no more,
 or else addresses at equal distances. Compared are the depth of the answer, and of each frame
-function, file, line and column. Of an answer that differs the first of these that does is its
-class; the script prints how many addresses each class has, and N of --show of each.
+function, file, line and column. Where answers differ, the script names the first of these that
+does, and puts every frame that differs into a class. A class is a row of docs/DIFFERENCES.md: an
+address is in it only where the database's own rows (stored_rows.py) are as the row says. The script
+prints how many addresses each has, and N of --show of each.
 
 Nothing is compared where llvm-symbolizer-19 isn't installed (Debian: llvm-19); LLVM_SYMBOLIZER in
-the environment may name another file. Whatever is installed, the program has to answer at each
-address of a database that it takes. That is one test for each; the last line is `N passed, M
-failed`.
+the environment may name another file. Each database is one test: it fails where the program doesn't
+answer each address, or differs in a way that is in no class. The last line is `N passed, M failed`.
 """
 import json
 import os
@@ -29,46 +30,13 @@ sys.dont_write_bytecode = True
 HERE = os.path.dirname(os.path.realpath(__file__))
 sys.path.insert(0, f"{os.path.dirname(HERE)}/tests")
 import built
+from stored_rows import Rows, Unreadable, streams
 
-MAGIC = b"Microsoft C/C++ MSF 7.00\r\n\x1aDS\0\0\0"
 EXECUTE = 0x2000_0000
 BASE = 0x1_4000_0000
 X86 = 0x14C
 SECONDS = 600
 NUMBERS = {"--addresses": 2000, "--show": 0}
-
-
-class Unreadable(Exception):
-    """A database from which no image can be made."""
-
-
-def words(data):
-    """The numbers of four bytes each."""
-    return struct.unpack(f"<{len(data) // 4}I", data[: len(data) // 4 * 4])
-
-
-def streams(data):
-    """The streams of a container."""
-    if not data.startswith(MAGIC):
-        raise Unreadable
-    size, _, _, length, _, front = words(data[32:56])
-    if not size:
-        raise Unreadable
-
-    def joined(pages, length):
-        return b"".join(data[it * size : (it + 1) * size] for it in pages)[:length]
-
-    count = -(-length // size)
-    listed = joined([front + it for it in range(-(-4 * count // size))], 4 * count)
-    numbers = words(joined(words(listed), length))
-    sizes = [0 if it == 0xFFFF_FFFF else it for it in numbers[1 : 1 + numbers[0]]]
-    at = 1 + numbers[0]
-    made = []
-    for length in sizes:
-        count = -(-length // size)
-        made.append(joined(numbers[at : at + count], length))
-        at += count
-    return made
 
 
 def described(data):
@@ -171,6 +139,67 @@ def is_known(answer):
     return isinstance(answer, list) and any(it["FunctionName"] or it["FileName"] for it in answer)
 
 
+# The rows of DIFFERENCES that are classes of answers that differ, and one that is none.
+DAMAGED = "a module whose lines can't be read"
+LONG_CALL = "the row of an inlined call whose length isn't stored"
+UNDERSCORE = "an inlined call whose name begins with `_`"
+FOREIGN = "a name of Rust or of Itanium (`_R..`, `_ZN..`)"
+NO_LINE = "a row of the line 0xfeefee or 0xf00f00"
+TWO_ROWS = "two rows of lines at one place"
+FOLDED = "equal functions that a linker folded into one"
+UNKNOWN = "no class"
+NO_LINES = (0xFEEFEE, 0xF00F00)
+
+
+def row_class(ours, theirs, offset, over):
+    """The class of two places of a function's own frame, by the rows over its offset of each
+    subsection of lines."""
+    rows = [row for _, rows in over for row in rows]
+    if len(over) > 1:
+        return FOLDED if {ours[1:], theirs[1:]} <= set(rows) else UNKNOWN
+    is_first = len(rows) > 1 and over[0][0] == offset and rows[0] == theirs[1:]
+    return TWO_ROWS if is_first and rows[-1] == ours[1:] else UNKNOWN
+
+
+def name_class(ours, theirs, is_call, is_x86):
+    """The class of two names that differ, of a call or the function itself."""
+    if is_call:
+        return UNDERSCORE if is_x86 and ours == f"_{theirs}" else UNKNOWN
+    return FOREIGN if ours.startswith(("_R", "_Z")) else UNKNOWN
+
+
+def frame_classes(ours, theirs, is_call, is_x86, offset, over):
+    """The classes of two frames, of a call or the function itself: none if they are alike."""
+    names = ours["FunctionName"], theirs["FunctionName"]
+    given, wanted = place_of(ours), place_of(theirs)
+    found = {name_class(*names, is_call, is_x86)} if names[0] != names[1] else set()
+    if given == wanted:
+        return found
+    if theirs["Line"] in NO_LINES:
+        return found | {NO_LINE if given == ("", 0, 0) else UNKNOWN}
+    return found | {UNKNOWN if is_call else row_class(given, wanted, offset, over)}
+
+
+def place_of(frame):
+    """File, line and column of a frame."""
+    return frame["FileName"], frame["Line"], frame["Column"]
+
+
+def classes(ours, theirs, rows, is_x86, place):
+    """The classes of all that differs of two answers at a section and offset."""
+    if rows.is_damaged(*place):
+        is_bare = not any(it["FileName"] for it in ours + theirs)
+        return {DAMAGED if is_bare and len(ours) == 1 else UNKNOWN}
+    if len(ours) != len(theirs):
+        return {LONG_CALL if len(ours) > len(theirs) and rows.is_open_at(*place) else UNKNOWN}
+    last = len(ours) - 1
+    over = list(rows.rows_over(*place))
+    found = set()
+    for it, (a, b) in enumerate(zip(ours, theirs)):
+        found |= frame_classes(a, b, it < last, is_x86, place[1], over)
+    return found
+
+
 def kind(ours, theirs):
     """The first that differs of two answers; None if none does."""
     if len(ours) != len(theirs):
@@ -189,22 +218,37 @@ def shown(answer):
 
 
 def asked_of(path, room, count):
-    """An image that names a copy of a database, and addresses of its code."""
+    """An image that names a copy of a database, what describes that, and addresses of its code."""
     with open(path, "rb") as file:
         described_by = described(file.read())
     shutil.copyfile(path, f"{room}/it.pdb")
     with open(f"{room}/it.exe", "wb") as file:
         file.write(image(f"{room}/it.pdb", *described_by))
-    return f"{room}/it.exe", places(described_by[3], count)
+    return f"{room}/it.exe", described_by, places(described_by[3], count)
 
 
-def compare(asked, answers, show):
-    """How many addresses of a database each class has."""
-    counts = {}
+def placed(at, headers):
+    """The section of an address, and the offset in it."""
+    for number, it in enumerate(headers, 1):
+        size, start = struct.unpack_from("<2I", it, 8)
+        if start <= at < start + size:
+            return number, at - start
+    raise Unreadable
+
+
+def compare(path, described_by, asked, answers, show):
+    """How many addresses of a database each kind of difference has, with its classes."""
+    counts, rows = {}, None
+    machine, _, _, headers = described_by
     for at, ours, theirs in zip(asked, *answers):
         it = kind(ours, theirs)
         if it is None:
             continue
+        if rows is None:
+            with open(path, "rb") as file:
+                rows = Rows(file.read())
+        of = classes(ours, theirs, rows, machine == X86, placed(at, headers))
+        it += ": " + "; ".join(sorted(of))
         counts[it] = counts.get(it, 0) + 1
         if counts[it] <= show:
             print(f"  {it} at {at:x}\n    here:  {shown(ours)}\n    there: {shown(theirs)}")
@@ -248,7 +292,7 @@ totals, whole, passed, failed = {}, {}, 0, 0
 for path in files:
     with tempfile.TemporaryDirectory() as room:
         try:
-            it, asked = asked_of(path, room, numbers["--addresses"])
+            it, described_by, asked = asked_of(path, room, numbers["--addresses"])
         except Unreadable:
             whole["without an image"] = whole.get("without an image", 0) + 1
             continue
@@ -258,15 +302,20 @@ for path in files:
         failed += 1
         print(f"{path}: an address has no answer")
         continue
-    passed += 1
     name = WHOLE.get(tuple(is_answered))
     if name:
+        passed += 1
         whole[name] = whole.get(name, 0) + 1
         continue
-    counts = compare(asked, answers, numbers["--show"])
+    counts = compare(path, described_by, asked, answers, numbers["--show"])
+    is_told = not any(UNKNOWN in it for it in counts)
+    passed += is_told
+    failed += not is_told
     for name, number in [("addresses", len(asked)), *counts.items()]:
         totals[name] = totals.get(name, 0) + number
     if counts:
         print(f"{path}: {len(asked)} addresses; {counts}")
-print(f"databases: {whole}; of the others: {totals}")
+print(f"databases: {whole}; of the others:")
+for name, number in totals.items():
+    print(f"  {number} {name}")
 built.end(passed, failed)
