@@ -6,11 +6,15 @@
 FILE is where the program lies, with NAME in it for its name; if left out, the proved one is run,
 with --unproved one that `rt try` compiles, which answers a sanitizer's request and no client.
 The clients are asan_symbolize, over a report of a sanitizer, and pprof, over a profile, both of
-x64.exe. Each prints what llvm-symbolizer-19 has it print. A client that isn't installed is passed
-over, and all are where llvm-symbolizer-19 isn't (Debian: llvm-19 has both it and asan_symbolize-19;
-pprof is Google's, `go install github.com/google/pprof@latest`, or built of Debian's
-golang-github-google-pprof-dev). Whatever is installed, the program has to answer a sanitizer's
-request. All that is one test; the last line is `N passed, M failed`.
+x64.exe. Each has to print what it prints with llvm-symbolizer-19. A client that isn't installed is
+passed over, and all are where llvm-symbolizer-19 isn't. On Debian 12, clang-19 and llvm-19 have
+asan_symbolize-19 and llvm-symbolizer-19; with golang-go and golang-github-google-pprof-dev
+
+    GO111MODULE=off GOPATH=/usr/share/gocode go build github.com/google/pprof
+
+makes pprof, as `go install github.com/google/pprof@latest` does elsewhere. Whatever is installed,
+the program has to answer a sanitizer's request. All that is one test; the last line is `N passed,
+M failed`.
 """
 import gzip
 import os
