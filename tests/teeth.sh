@@ -99,7 +99,7 @@ stale place docs/ARCHITECTURE.md loading.rt loadings.rt
 stale place docs/GLOSSARY.md pdb_report/specs/Answer pdb_report/specs/Reply
 stale clause docs/PROVED.md '`Source::may_list`' '`Source::may_cut`'
 stale clause docs/PROVED.md '`loaded`, `refused`' '`loaded`, `turned_away`'
-stale clause docs/PROVED.md '`status`, `output`, `failed`' '`status`, `output`'
+stale clause docs/PROVED.md '`kept`, `text`' '`kept`'
 stale clause docs/PROVED.md '`laws::frames_as_deep`' '`laws::frames_so_deep`'
 stale clause docs/PROVED.md '`isolated`, `exchanged` | Every' '`isolated` | Every'
 stale count docs/PROVED.md '798 whole' '791 whole'
