@@ -19,8 +19,12 @@ use crate::watched::Watched;
 use std::alloc::Global;
 use std::io::{ErrorKind, Read, Write};
 
-/// The number of bytes that a read asks for, and that gathered answers reach before they are
-/// written: what a pipe of Linux holds.
+/// The number of bytes that a read asks for. The answers to the lines of one read are made before
+/// any of them is written, so this bounds the memory that they take.
+const READ_SIZE: usize = 32_768;
+
+/// The number of bytes that gathered answers reach before they are written: what a pipe of Linux
+/// holds.
 const CHUNK_SIZE: usize = 65_536;
 
 /// The number of bytes from which on the room of what was written is given back: 1 MB. Answers are
@@ -87,7 +91,7 @@ pub fn run<A: Answers, R: Read, W: Write>(
         (IfSome (R.remaining (inner_of reader.old)) (λ input.
         WritesFront W.contents writer.old writer.new (report (A.text answers.old) input))) }
 {
-    let Ok(chunk) = vec![in alloc; 0u8; CHUNK_SIZE] else {
+    let Ok(chunk) = vec![in alloc; 0u8; READ_SIZE] else {
         return Err(InputFault::OutOfMemory);
     };
     let texts = Vec::new(alloc);

@@ -13,7 +13,7 @@ use std::mem::replace;
 
 /// The number of bytes, taken together, from which on no more texts are made before their turn: 8
 /// MB. A file chooses how long its texts are, so something has to bound what waits. With lines and
-/// answers as in the program's stored run, the answers to one read take 1 to 4 MB; docs/COSTS.md
+/// answers as in the program's stored run, the answers to one read take 0.5 to 2 MB; docs/COSTS.md
 /// has an answer of 60 MB.
 const AHEAD_SIZE: usize = 8_388_608;
 

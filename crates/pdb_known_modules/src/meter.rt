@@ -20,10 +20,10 @@ const FOR_EACH_BYTE: u64 = 4;
 /// is asked for, but only the first time.
 const ALLOWED_MODULES: u64 = 512 << 10;
 
-/// How many bytes may be cached of procedures, beside three for each two bytes of the symbols and
-/// lines that were read: 1.5 MB. Past that the procedures of a module are forgotten once another
-/// module is asked for. As is counted what they take at most, they take about a third of it.
-const ALLOWED_PROCEDURES: u64 = 3 << 19;
+/// How many bytes may be cached of procedures, beside one for each two bytes of the symbols and
+/// lines that were read: 768 KB. Past that the procedures of a module are forgotten once another
+/// module is asked for.
+const ALLOWED_PROCEDURES: u64 = 768 << 10;
 
 /// Counts the bytes that are cached of modules.
 #[derive(Drop)]
@@ -114,7 +114,7 @@ impl Meter {
             let allowed = self.allowed.saturating_add(bytes * FOR_EACH_BYTE);
             self.allowed = allowed.min(self.most_allowed);
             self.allowed_modules = self.allowed_modules.saturating_add(bytes / 8);
-            self.allowed_procedures = self.allowed_procedures.saturating_add(bytes / 2 * 3);
+            self.allowed_procedures = self.allowed_procedures.saturating_add(bytes / 2);
         }
         self.count(known.memory_size());
         Ok(())

@@ -14,7 +14,7 @@ use Rattle.pdb_pieces.proofs.Covers.{best-append}
 use Rattle.pdb_module_data.specs.Forest.{Site}
 use Rattle.pdb_module_data.specs.InlinedCalls.{is_over, deeper, deepest_from}
 use Rattle.pdb_module_data.specs.declared.call_rows.CallRow.{CallRow}
-use Rattle.pdb_module_data.specs.InlinePieces.{kept_rows, rows_of_sites, starts_of_sites, site_row_span, site_spans, covers_kept, IsShortRow, AreShortRows, AreShortSites, StandForSites}
+use Rattle.pdb_module_data.specs.InlinePieces.{kept_rows, rows_of_sites, starts_of_sites, site_row_span, site_spans, covers_kept, IsShortRow, AreShortRows, AreShortSites, HaveDeepest, StandForDeepest, StandForSites}
 use Rattle.pdb_module_data.proofs.KeptRows.{any_kept}
 
 -- a site that was found, by its number and depth, as a mark
@@ -69,14 +69,17 @@ by_number : (o : Option (ℕ × ℕ)) → option_map (λ (m : Mark). m.value) (o
 by_number None = refl
 by_number (Some f) = refl
 
--- pieces that stand with the best of what sites cover stand for these
-stand_for_sites : (rows : InlineSiteForm → List LineInfo) (sites : List Site) (kept : List CallRow) (starts : List ℕ) (pieces : List Span) → AreShortSites rows sites → kept ≡ rows_of_sites rows sites → starts ≡ starts_of_sites rows 0 sites
-    → ((p : ℕ) → best pieces p ≡ best (site_spans rows 0 sites) p) → StandForSites rows record { sites = sites; rows = kept; starts = starts; pieces = pieces }
-stand_for_sites rows sites kept starts pieces short alike cut same =
-    record { kept = alike; starts = cut; each = λ place small. ap (option_map (λ (m : Mark). m.value)) (same (place_number place) ∙ sites_over rows place small 0 sites short) ∙ by_number (deepest_from rows place 0 sites) }
+-- pieces that stand with the best of what sites cover have the deepest of these
+have_deepest : (rows : InlineSiteForm → List LineInfo) (sites : List Site) (pieces : List Span) → AreShortSites rows sites → ((p : ℕ) → best pieces p ≡ best (site_spans rows 0 sites) p) → HaveDeepest rows sites pieces
+have_deepest rows sites pieces short same =
+    record { each = λ place small. ap (option_map (λ (m : Mark). m.value)) (same (place_number place) ∙ sites_over rows place small 0 sites short) ∙ by_number (deepest_from rows place 0 sites) }
 
--- the same by what was read of the sites
-pub stand_as_read : (rows : InlineSiteForm → List LineInfo) (sites read : List Site) (kept : List CallRow) (starts : List ℕ) (spans ordered pieces : List Span) → read ≡ sites → AreShortSites rows read → kept ≡ rows_of_sites rows read → starts ≡ starts_of_sites rows 0 read
-    → spans ≡ site_spans rows 0 read → ordered ≡ spans → ((p : ℕ) → best pieces p ≡ best ordered p) → StandForSites rows record { sites = sites; rows = kept; starts = starts; pieces = pieces }
-stand_as_read rows sites read kept starts spans ordered pieces e short alike cut f g same =
-    subst (λ s. StandForSites rows record { sites = s; rows = kept; starts = starts; pieces = pieces }) e (stand_for_sites rows read kept starts pieces short alike cut (λ p. same p ∙ ap (λ ys. best ys p) (g ∙ f)))
+-- the same by the spans that pieces were cut from
+pub stand_for_deepest : (rows : InlineSiteForm → List LineInfo) (sites : List Site) (spans ordered pieces : List Span) → AreShortSites rows sites → spans ≡ site_spans rows 0 sites → ordered ≡ spans → ((p : ℕ) → best pieces p ≡ best ordered p) → HaveDeepest rows sites pieces
+stand_for_deepest rows sites spans ordered pieces short f g same = have_deepest rows sites pieces short (λ p. same p ∙ ap (λ ys. best ys p) (g ∙ f))
+
+-- what was read of the sites stands for these
+pub stand_as_read : (rows : InlineSiteForm → List LineInfo) (sites read : List Site) (kept : List CallRow) (starts : List ℕ) (pieces : Option (List Span)) → read ≡ sites → kept ≡ rows_of_sites rows read → starts ≡ starts_of_sites rows 0 read
+    → StandForDeepest rows read pieces → StandForSites rows record { sites = sites; rows = kept; starts = starts; pieces = pieces }
+stand_as_read rows sites read kept starts pieces e alike cut stand =
+    subst (λ s. StandForSites rows record { sites = s; rows = kept; starts = starts; pieces = pieces }) e record { pieces = stand; kept = alike; starts = cut }

@@ -22,4 +22,5 @@ pub mod ProcedureSteps
 pub mod RowPieceSteps
 pub mod RowSteps
 pub mod SiteRowSteps
+pub mod SitesGoneOver
 pub mod SubsectionRows

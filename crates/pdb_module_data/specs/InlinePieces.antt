@@ -156,18 +156,28 @@ call_by_kept id None (first ∷ rows) =
     record { inlinee = id; file = Some first.file_index; line = None; row = None }
 
 -- the sites of a procedure, what is stored of their rows, where those of each start, and pieces for
--- a search among them
+-- a search among them, unless they are few
 pub record Ranges : Type 0 where
   pub sites : List Site
   pub rows : List CallRow
   pub starts : List ℕ
-  pub pieces : List Span
+  pub pieces : Option (List Span)
 
--- By the rows of calls, at each place of a section stands the number of the deepest site over it,
--- and what is stored is that of the rows of each site.
-pub record StandForSites (rows : InlineSiteForm → List LineInfo) (ranges : Ranges) : Type 0 where
+-- by the rows of calls, at each place of a section stands the number of the deepest site over it
+pub record HaveDeepest (rows : InlineSiteForm → List LineInfo) (sites : List Site)
+    (pieces : List Span) : Type 0 where
   pub each : (place : PdbInternalSectionOffset) → place.offset < 2 ^ 32
-      → option_map (λ m. m.value) (best ranges.pieces (place_number place))
-      ≡ deepest rows ranges.sites place
+      → option_map (λ m. m.value) (best pieces (place_number place)) ≡ deepest rows sites place
+
+-- pieces have the deepest sites; without pieces sites and rows are gone over
+abbrev pub StandForDeepest : (InlineSiteForm → List LineInfo) → List Site → Option (List Span)
+    → Type 0
+StandForDeepest rows sites None = Unit {0}
+StandForDeepest rows sites (Some pieces) = HaveDeepest rows sites pieces
+
+-- By the rows of calls, pieces have the deepest sites if there are pieces, and what is stored is
+-- that of the rows of each site.
+pub record StandForSites (rows : InlineSiteForm → List LineInfo) (ranges : Ranges) : Type 0 where
+  pub pieces : StandForDeepest rows ranges.sites ranges.pieces
   pub kept : ranges.rows ≡ rows_of_sites rows ranges.sites
   pub starts : ranges.starts ≡ starts_of_sites rows 0 ranges.sites

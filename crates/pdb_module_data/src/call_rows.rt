@@ -152,7 +152,7 @@ pub fn to_next_cut_of(rows: &[CallRow], offset: u32, far: u32) -> u32
 }
 
 /// Whether a row covers a place.
-fn covers(row: &CallRow, place: PdbInternalSectionOffset) -> bool
+pub fn covers(row: &CallRow, place: PdbInternalSectionOffset) -> bool
     ensures { result ≡ covers_kept place row.now }
 {
     row.offset.section == place.section

@@ -1,24 +1,28 @@
-//! The inline sites of a procedure, and a search of the deepest one over a place by halving.
+//! The inline sites of a procedure, and a search of the deepest one over a place.
 
-ghost use Rattle.std.specs.Prelude.{◌≡◌, ◌++◌, IfOk, OnOk, map};
+ghost use Rattle.std.specs.Prelude.{◌≡◌, List, IfOk, length};
+ghost use Rattle.pdb_symbol_records.specs.Forms.{InlineSiteForm};
+ghost use Rattle.pdb_subsections.specs.declared.line_info.LineInfo.{LineInfo};
 ghost use Rattle.pdb_addresses.specs.SectionRun.{up_to_next};
 ghost use Rattle.pdb_module_data.specs.Forest.{sites_of};
 ghost use Rattle.pdb_module_data.specs.InlinedCalls.{given_by, call_rows};
-ghost use Rattle.pdb_module_data.specs.InlinedCalls.{calls_over as calls_over_place};
-ghost use Rattle.pdb_module_data.specs.InlinePieces.{kept_rows, rows_of_sites, starts_of_sites};
+ghost use Rattle.pdb_module_data.specs.InlinedCalls.{calls_over as calls_over_place, deepest};
+ghost use Rattle.pdb_module_data.specs.InlinePieces.{rows_of_sites, starts_of_sites};
 ghost use Rattle.pdb_module_data.specs.InlinePieces.{cuts_of};
-ghost use Rattle.pdb_module_data.specs.InlinePieces.{site_row_span, site_spans as spans_of_sites};
-ghost use Rattle.pdb_module_data.specs.InlinePieces.{AreShortRows, AreShortSites, StandForSites};
+ghost use Rattle.pdb_module_data.specs.InlinePieces.{site_spans as spans_of_sites};
+ghost use Rattle.pdb_module_data.specs.InlinePieces.{AreCut, AreShortSites, StandForDeepest};
+ghost use Rattle.pdb_module_data.specs.InlinePieces.{StandForSites};
 ghost use Rattle.pdb_module_data.specs.SitesFaults.{Reads};
 
 use crate::brief_sites::{BriefSite, briefs_of, short_number};
 use crate::call_rows::{CallRow, push_site_rows, push_spans, to_next_cut_of};
+use crate::deepest_site::deepest_of;
 use crate::inline_sites::{InlineSites, Site, SitesError};
 use crate::inlined_calls::{InlinedCall, calls_from};
 use crate::inlinees::Inlinees;
 use crate::memory::{PIECES_OF_SPAN, memory_of};
 use crate::procedures::Procedure;
-use crate::site_rows::{SiteRows, site_pieces};
+use crate::site_rows::{SiteRows, rows_of_site, site_pieces};
 use pdb_addresses::PdbInternalSectionOffset;
 use pdb_indices::SymbolIndex;
 use pdb_pieces::{Pieces, Span};
@@ -29,9 +33,13 @@ use std::marker::Model;
 /// How many rows most sites have, so that lists of them aren't moved as they grow.
 const ROWS_OF_SITE: usize = 4;
 
+/// How many sites and rows are gone over in a search of the deepest site over a place. Past that
+/// the rows are cut into pieces, which costs more than some such searches.
+const GONE_OVER: usize = 128;
+
 /// The inline sites of a procedure (`S_INLINESITE`, `S_INLINESITE2`) in the order of the file, what
-/// is stored of the rows of all of them, and pieces of places for a search of the deepest one over
-/// a place.
+/// is stored of the rows of all of them, and, where these aren't few, pieces of places for a search
+/// of the deepest one over a place.
 #[derive(Drop)]
 pub struct InlineRanges<'t> {
     /// The module's symbols, from which the sites were read.
@@ -42,7 +50,7 @@ pub struct InlineRanges<'t> {
     end: SymbolIndex,
     sites: Vec<BriefSite>,
     rows: SiteRows,
-    pieces: Pieces,
+    pieces: Option<Pieces>,
 }
 
 impl<'t> Model for InlineRanges<'t> {
@@ -70,71 +78,82 @@ impl<'t> Model for InlineRanges<'t> {
         × IsNested (sites_if_read (sites_of r.symbols.bytes r.start.0 r.end.0)) };
 }
 
-/// What is stored of the rows of sites, where those of each start, and what they cover, each ranked
-/// by its site's depth.
+/// What is stored of the rows of sites, and where those of each start.
 #[derive(Drop)]
-struct RowsAndSpans {
+struct RowsAndStarts {
     rows: Vec<CallRow>,
     starts: Vec<u32>,
-    spans: Vec<Span>,
 }
 
-/// Appends what is stored of the rows of the site with this number, and what they cover.
-fn push_site<'a>(
-    rows: &mut Vec<CallRow>,
-    spans: &mut Vec<Span>,
-    number: usize,
-    site: &Site<'a>,
-    inlinees: &Inlinees<'a>,
-    start: PdbInternalSectionOffset,
-) -> Result<(), AllocError>
-    ensures rows { OnOk result
-        (rows.new.items ≡ rows.old.items
-        ++ kept_rows (call_rows (given_by inlinees.now) start (site.now).call)) }
-    ensures spans { OnOk result
-        (spans.new.items ≡ spans.old.items
-        ++ map (site_row_span number (site.now).depth)
-        (kept_rows (call_rows (given_by inlinees.now) start (site.now).call))) }
-    ensures short { OnOk result
-        (AreShortRows (kept_rows (call_rows (given_by inlinees.now) start (site.now).call))) }
-{
-    let from = rows.len();
-    push_site_rows(rows, site, inlinees, start)?;
-    push_spans(spans, number, site.depth, &rows.as_slice()[from..])
-}
-
-/// The rows of sites, where those of each start, and what they cover.
-fn rows_and_spans<'a>(
+/// The rows of sites, and where those of each start.
+fn rows_and_starts<'a>(
     alloc: Global,
     sites: &[Site<'a>],
     inlinees: &Inlinees<'a>,
     start: PdbInternalSectionOffset,
-) -> Result<RowsAndSpans, AllocError>
+) -> Result<RowsAndStarts, AllocError>
     ensures rows { IfOk result
         (λ r. r.rows.items ≡ rows_of_sites (call_rows (given_by inlinees.now) start) sites.now) }
     ensures starts { IfOk result
         (λ r. r.starts.items
         ≡ starts_of_sites (call_rows (given_by inlinees.now) start) 0 sites.now) }
-    ensures spans { IfOk result
-        (λ r. r.spans.items ≡ spans_of_sites (call_rows (given_by inlinees.now) start) 0
-        sites.now) }
-    ensures short { IfOk result
-        (λ r. AreShortSites (call_rows (given_by inlinees.now) start) sites.now) }
 {
     let usual = sites.len().saturating_mul(ROWS_OF_SITE);
     let mut rows = Vec::with_capacity(alloc, usual)?;
     let mut starts = Vec::with_capacity(alloc, sites.len() + 1)?;
-    let mut spans = Vec::with_capacity(alloc, usual)?;
-    for (number, site) in sites.iter().enumerate() {
+    for site in sites {
         starts.push(short_number(rows.len())?)?;
-        push_site(&mut rows, &mut spans, number, site, inlinees, start)?;
+        push_site_rows(&mut rows, site, inlinees, start)?;
     }
     starts.push(short_number(rows.len())?)?;
-    Ok(RowsAndSpans {
+    Ok(RowsAndStarts {
         rows: Vec::from_slice(alloc, rows.as_slice())?,
         starts,
-        spans,
     })
+}
+
+/// What sites cover by their rows, each span ranked by its site's depth.
+fn spans_of(
+    alloc: Global,
+    sites: &[Site<'_>],
+    rows: &[CallRow],
+    starts: &[u32],
+) -> Result<Vec<Span>, AllocError>
+    requires { AreCut (length sites.now) starts.now (length rows.now) }
+    ensures spans { IfOk result (λ v. (lines : InlineSiteForm → List LineInfo)
+        → rows.now ≡ rows_of_sites lines sites.now → starts.now ≡ starts_of_sites lines 0 sites.now
+        → v.items ≡ spans_of_sites lines 0 sites.now) }
+    ensures short { IfOk result (λ v. (lines : InlineSiteForm → List LineInfo)
+        → rows.now ≡ rows_of_sites lines sites.now → starts.now ≡ starts_of_sites lines 0 sites.now
+        → AreShortSites lines sites.now) }
+{
+    let mut spans = Vec::with_capacity(alloc, rows.len())?;
+    for (number, site) in sites.iter().enumerate() {
+        let of_site = rows_of_site(rows, starts, number);
+        push_spans(&mut spans, number, site.depth, of_site)?;
+    }
+    Ok(spans)
+}
+
+/// Pieces of places for a search of the deepest site over one, unless sites and rows are few.
+#[tactic(auto, using(crate::proofs::InlineSteps::stand_for_deepest))]
+fn pieces_unless_few(
+    alloc: Global,
+    sites: &[Site<'_>],
+    rows: &[CallRow],
+    starts: &[u32],
+) -> Result<Option<Pieces>, AllocError>
+    requires { AreCut (length sites.now) starts.now (length rows.now) }
+    ensures { IfOk result (λ pieces. (lines : InlineSiteForm → List LineInfo)
+        → rows.now ≡ rows_of_sites lines sites.now → starts.now ≡ starts_of_sites lines 0 sites.now
+        → StandForDeepest lines sites.now pieces) }
+{
+    if sites.len().saturating_add(rows.len()) <= GONE_OVER {
+        return Ok(None);
+    }
+    let spans = spans_of(alloc, sites, rows, starts)?;
+    let pieces = Pieces::new(alloc, spans.as_slice())?;
+    Ok(Some(pieces))
 }
 
 impl<'t> InlineRanges<'t> {
@@ -157,10 +176,11 @@ impl<'t> InlineRanges<'t> {
             (λ r. StandForSites (call_rows (given_by inlinees.now) procedure.now.offset) r) }
     {
         let sites = InlineSites::read_by(alloc, &mut symbols, procedure)?;
-        let read = rows_and_spans(alloc, sites.as_slice(), inlinees, procedure.offset)?;
-        let pieces = Pieces::new(alloc, read.spans.as_slice())?;
-        let count = sites.as_slice().len();
-        let of_sites = site_pieces(alloc, count, read.rows.as_slice(), read.starts.as_slice())?;
+        let read = rows_and_starts(alloc, sites.as_slice(), inlinees, procedure.offset)?;
+        let rows = read.rows.as_slice();
+        let starts = read.starts.as_slice();
+        let pieces = pieces_unless_few(alloc, sites.as_slice(), rows, starts)?;
+        let of_sites = site_pieces(alloc, sites.as_slice().len(), rows, starts)?;
         let briefs = briefs_of(alloc, sites.as_slice())?;
         Ok(InlineRanges {
             symbols,
@@ -176,11 +196,30 @@ impl<'t> InlineRanges<'t> {
         })
     }
 
+    /// The number of the deepest site with a row over a place, of equals the first.
+    #[tactic(auto, using(crate::proofs::BriefSteps::briefs_cut))]
+    fn deepest_over(
+        &self,
+        inlinees: &Inlinees<'t>,
+        start: PdbInternalSectionOffset,
+        place: PdbInternalSectionOffset,
+    ) -> Option<usize>
+        requires { StandForSites (call_rows (given_by inlinees.now) start) self.now }
+        ensures { result ≡ deepest (call_rows (given_by inlinees.now) start) (self.now).sites
+            place }
+    {
+        match &self.pieces {
+            None => deepest_of(self.sites.as_slice(), &self.rows, place),
+            Some(pieces) => pieces.value_at(place),
+        }
+    }
+
     /// The inlined calls over a place, innermost first: that of the deepest site with a row over
     /// the place, and those of the sites that it lies in. Of equally deep sites the first in the
     /// order of the file counts. There are none where no row covers the place. The procedure has to
-    /// begin at `start`, and `inlinees` have to be those that the pieces were made by. The deepest
-    /// site is found by halving, and so is the row of each over the place.
+    /// begin at `start`, and `inlinees` have to be those that the pieces were made by. The row of
+    /// each over the place is found by halving, and so is the deepest site where sites and rows are
+    /// more than 128; else these are gone over.
     ///
     /// # Errors
     /// `AllocError` when memory runs out.
@@ -197,7 +236,7 @@ impl<'t> InlineRanges<'t> {
             (λ v. v.items ≡ calls_over_place (call_rows (given_by inlinees.now) start)
             (self.now).sites place) }
     {
-        match self.pieces.value_at(place) {
+        match self.deepest_over(inlinees, start, place) {
             None => Ok(Vec::new(alloc)),
             Some(number) => {
                 let calls = calls_from(alloc, self.sites.as_slice(), &self.rows, number, place)?;
@@ -217,7 +256,16 @@ impl<'t> InlineRanges<'t> {
     /// About how many bytes of memory they take, at most.
     pub fn memory_size(&self) -> u64 {
         let site_size = size_of::<BriefSite>() + size_of::<u32>();
-        let row_size = size_of::<CallRow>() + 2 * PIECES_OF_SPAN;
+        let of_all = match &self.pieces {
+            None => 0,
+            Some(_) => PIECES_OF_SPAN,
+        };
+        let of_sites = if self.rows.pieces.is_empty() {
+            0
+        } else {
+            PIECES_OF_SPAN
+        };
+        let row_size = size_of::<CallRow>() + of_all + of_sites;
         let sites = memory_of(self.sites.len(), site_size);
         sites.saturating_add(memory_of(self.rows.rows.len(), row_size))
     }

@@ -41,7 +41,7 @@ pub struct InlinedCall {
 }
 
 /// What is stored of the site with that number.
-fn site_numbered(sites: &[BriefSite], number: usize) -> BriefSite
+pub fn site_numbered(sites: &[BriefSite], number: usize) -> BriefSite
     requires { number < length sites.now }
     ensures { slice_get sites.now number ≡ Some result }
 {

@@ -8,6 +8,7 @@
 
 mod brief_sites;
 mod call_rows;
+mod deepest_site;
 mod file_names;
 mod function_line;
 mod function_rows;

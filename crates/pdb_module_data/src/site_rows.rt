@@ -46,7 +46,7 @@ impl SiteRows {
 }
 
 /// The rows of the site with that number, by where those of each site start.
-fn rows_of_site<'r>(rows: &'r [CallRow], starts: &[u32], number: usize) -> &'r [CallRow]
+pub fn rows_of_site<'r>(rows: &'r [CallRow], starts: &[u32], number: usize) -> &'r [CallRow]
     requires there { number + 1 < length starts.now }
     requires ascend { slice_index starts.now number ≤ slice_index starts.now (number + 1) }
     requires bound { slice_index starts.now (number + 1) ≤ length rows.now }
