@@ -121,6 +121,26 @@ fn forget_procedures_at<'a, I: ModuleTables>(place: &mut KeptModule<'a, I>) -> u
     }
 }
 
+/// Forgets the line rows that are cached of a module, if its data are cached there. Returns about how
+/// many bytes they took.
+fn forget_rows_at<'a, I: ModuleTables>(place: &mut KeptModule<'a, I>) -> u64
+    ensures { place.new ≡ place.old }
+{
+    match place {
+        Some(Some(known)) => known.forget_rows(),
+        _ => 0,
+    }
+}
+
+/// Forgets the line rows that are cached of the module with that index.
+fn forget_rows<'a, I: ModuleTables>(cached: &mut CachedModules<'a, I>, number: usize)
+    requires { number < length cached.old }
+    ensures { cached.new ≡ cached.old }
+{
+    let bytes = forget_rows_at(&mut cached.slots[number]);
+    cached.meter.give_back(bytes, bytes);
+}
+
 /// Forgets what is cached of the procedures of the module with that index.
 fn forget_procedures<'a, I: ModuleTables>(cached: &mut CachedModules<'a, I>, number: usize)
     requires { number < length cached.old }
@@ -143,6 +163,20 @@ fn note_left(left: &mut Vec<bool>, number: usize) -> bool {
     }
 }
 
+/// Forgets of the procedures of the module with that index as much as they take too many bytes: line
+/// rows first, which take the least time to be read again.
+fn forget_of_procedures<'a, I: ModuleTables>(cached: &mut CachedModules<'a, I>, number: usize)
+    requires { number < length cached.old }
+    ensures { cached.new ≡ cached.old }
+{
+    if cached.meter.has_many_rows() {
+        forget_rows(cached, number);
+    }
+    if cached.meter.has_many_procedures() {
+        forget_procedures(cached, number);
+    }
+}
+
 /// Leaves the module that was asked for last, where another one is asked for now. Where much is
 /// cached, the module is forgotten if it is left for the first time: most modules are asked for
 /// once. Else, where procedures take more bytes than they may, its procedures are. Questions that go
@@ -159,8 +193,8 @@ fn leave_last<'a, I: ModuleTables>(cached: &mut CachedModules<'a, I>, module_ind
     let is_first = note_left(&mut cached.left, last);
     if is_first && cached.meter.has_many_modules() {
         forget_module(cached, last);
-    } else if cached.meter.has_many_procedures() {
-        forget_procedures(cached, last);
+    } else {
+        forget_of_procedures(cached, last);
     }
 }
 

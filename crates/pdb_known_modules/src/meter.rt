@@ -20,10 +20,10 @@ const FOR_EACH_BYTE: u64 = 4;
 /// is asked for, but only the first time.
 const ALLOWED_MODULES: u64 = 512 << 10;
 
-/// How many bytes may be cached of procedures, beside one for each two bytes of the symbols and
-/// lines that were read: 768 KB. Past that the procedures of a module are forgotten once another
-/// module is asked for.
-const ALLOWED_PROCEDURES: u64 = 768 << 10;
+/// How many bytes may be cached of procedures, beside five for each eight bytes of the symbols and
+/// lines that were read: 256 KB. Past half of that the line rows of a module are forgotten once
+/// another module is asked for; past all of it also its procedures are.
+const ALLOWED_PROCEDURES: u64 = 256 << 10;
 
 /// Counts the bytes that are cached of modules.
 #[derive(Drop)]
@@ -81,6 +81,11 @@ impl Meter {
         self.procedures = self.procedures.saturating_add(bytes);
     }
 
+    /// Whether procedures take more bytes than they may with their line rows.
+    pub fn has_many_rows(&self) -> bool {
+        self.procedures > self.allowed_procedures / 2
+    }
+
     /// Whether procedures take more bytes than they may.
     pub fn has_many_procedures(&self) -> bool {
         self.procedures > self.allowed_procedures
@@ -114,7 +119,7 @@ impl Meter {
             let allowed = self.allowed.saturating_add(bytes * FOR_EACH_BYTE);
             self.allowed = allowed.min(self.most_allowed);
             self.allowed_modules = self.allowed_modules.saturating_add(bytes / 8);
-            self.allowed_procedures = self.allowed_procedures.saturating_add(bytes / 2);
+            self.allowed_procedures = self.allowed_procedures.saturating_add(bytes / 8 * 5);
         }
         self.count(known.memory_size());
         Ok(())

@@ -56,6 +56,8 @@ pub struct BasicModuleInfo<'a, I: ModuleTables> {
     extended_size: u64,
     /// About how many bytes its procedures take that are cached, and the rows of subsections.
     procedures_size: u64,
+    /// How many of these the rows of subsections take.
+    rows_size: u64,
 }
 
 impl<'a, I: ModuleTables> Model for BasicModuleInfo<'a, I> {
@@ -89,6 +91,7 @@ impl<'a, I: ModuleTables> Drop for BasicModuleInfo<'a, I> {
             line_data_size: _,
             extended_size: _,
             procedures_size: _,
+            rows_size: _,
         } = self;
         drop(procedures);
         drop(bounds);
@@ -122,6 +125,7 @@ impl<'a, I: ModuleTables> BasicModuleInfo<'a, I> {
             line_data_size,
             extended_size: 0,
             procedures_size: 0,
+            rows_size: 0,
         })
     }
 
@@ -135,6 +139,18 @@ impl<'a, I: ModuleTables> BasicModuleInfo<'a, I> {
         self.subsection_rows.forget();
         let bytes = self.procedures_size;
         self.procedures_size = 0;
+        self.rows_size = 0;
+        bytes
+    }
+
+    /// Forgets what is cached of the rows of subsections. Returns about how many bytes that took.
+    pub(crate) fn forget_rows(&mut self) -> u64
+        ensures { self.new ≡ self.old }
+    {
+        self.subsection_rows.forget();
+        let bytes = self.rows_size;
+        self.procedures_size = self.procedures_size.saturating_sub(bytes);
+        self.rows_size = 0;
         bytes
     }
 
@@ -215,7 +231,7 @@ impl<'a, I: ModuleTables> BasicModuleInfo<'a, I> {
     ) -> std::result::Result<u64, AllocError>
         ensures { self.new ≡ self.old }
     {
-        if !is_empty_at(&self.kept_procedures, number) {
+        if self.is_kept(number) {
             return Ok(0);
         }
         let Some(procedure) = self.procedures.as_slice().get(number) else {
@@ -225,6 +241,14 @@ impl<'a, I: ModuleTables> BasicModuleInfo<'a, I> {
         let bytes = self.keep_rows(alloc, start)?;
         let more = self.keep_sites(alloc, number)?;
         Ok(bytes.saturating_add(more))
+    }
+
+    /// Whether the inline sites of the procedure with that index are cached, and its line rows.
+    fn is_kept(&self, number: usize) -> bool {
+        match slot_at(&self.kept_procedures, number) {
+            Some(Some(data)) => self.subsection_rows.get(data.subsection).is_some(),
+            _ => false,
+        }
     }
 
     /// Reads the inline sites of the procedure with that index, if its line rows are cached, and
@@ -342,6 +366,7 @@ impl<'a, I: ModuleTables> BasicModuleInfo<'a, I> {
                 let bytes = rows.memory_size().saturating_add(SUBSECTION_ROWS_SIZE);
                 let rows = Box::new(alloc, rows)?;
                 self.procedures_size = self.procedures_size.saturating_add(bytes);
+                self.rows_size = self.rows_size.saturating_add(bytes);
                 self.subsection_rows.keep(number, rows);
                 Ok(bytes)
             }

@@ -256,16 +256,12 @@ impl<'t> InlineRanges<'t> {
     /// About how many bytes of memory they take, at most.
     pub fn memory_size(&self) -> u64 {
         let site_size = size_of::<BriefSite>() + size_of::<u32>();
-        let of_all = match &self.pieces {
-            None => 0,
-            Some(_) => PIECES_OF_SPAN,
-        };
-        let of_sites = if self.rows.pieces.is_empty() {
+        let pieces = if self.pieces.is_none() && self.rows.pieces.is_empty() {
             0
         } else {
-            PIECES_OF_SPAN
+            2 * PIECES_OF_SPAN
         };
-        let row_size = size_of::<CallRow>() + of_all + of_sites;
+        let row_size = size_of::<CallRow>() + pieces;
         let sites = memory_of(self.sites.len(), site_size);
         sites.saturating_add(memory_of(self.rows.rows.len(), row_size))
     }
