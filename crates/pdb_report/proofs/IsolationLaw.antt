@@ -17,7 +17,7 @@ use Rattle.pdb_addresses.specs.declared.internal_section_offset.PdbInternalSecti
 use Rattle.pdb_container.specs.Fault as container
 use Rattle.pdb_container.specs.Fault.{refuse}
 use Rattle.pdb_contributions.specs.declared.contribution.ModuleSectionContribution.{ModuleSectionContribution}
-use Rattle.pdb_report.specs.Answer.{given_in, formatting_in, scope, answer_with, answer_by, function_with, function_by}
+use Rattle.pdb_report.specs.Answer.{given_in, formatting_in, scope, answer_with, answer_by, function_with, function_by, answer_named, function_named, scope_named}
 use Rattle.pdb_report.specs.Isolation.{AreAlikeFor, IsRelated, modules_in, holder_by, holder_with, IsIsolated, exchanged_with, exchanged_if}
 use Rattle.pdb_report.specs.Isolation.IsRelated.{Itself, Reached}
 use Rattle.pdb_report_texts.specs.AddressText.{line_text, Answers}
@@ -63,7 +63,7 @@ given_in_alike a b m k h related = λ i. λ entry. given_alike a b m k h related
 
 -- what types and ids are read from in a file that was loaded
 abbrev reading_in : Streams → Loaded → Reading
-reading_in s l = parts_by given_in (formatting_in s l).reading
+reading_in s l = parts_by given_in (formatting_in 23 s l).reading
 
 -- the modules of a file that was loaded
 abbrev modules_loaded : Streams → Loaded → Modules
@@ -89,12 +89,12 @@ if_listed given None = Ok None
 if_listed given (Some entry) = given
 
 own_alike : (a b : Streams) (m : ℕ) (l : Loaded) → given a m ≡ given b m → (scope a l m).own ≡ (scope b l m).own
-unfolding scope
+unfolding scope_named
 own_alike a b m l same = ap (λ given. if_listed given (slice_get (modules_of l.debug_information.modules).items m)) same
 
 -- an answer in the module depends on the same
 pub scope_alike : (order : ContributionOrder) (a b : Streams) (m : ℕ) (l : Loaded) → NeedsAlike m a b → loaded_with order (shared a) ≡ Ok l → scope a l m ≡ scope b l m
-unfolding scope
+unfolding scope_named
 scope_alike order a b m l h e =
     let same = indices_alike order a b m l h e in
     λ i. record {
@@ -103,7 +103,7 @@ scope_alike order a b m l h e =
         read = types_alike (reading_in a l) (reading_in b l) m refl refl refl same i;
         read_id = ids_alike (reading_in a l) (reading_in b l) m refl refl refl same i;
         size = sizes_alike (reading_in a l) (reading_in b l) m refl refl refl same 1024 i;
-        flags = (formatting_in a l).flags;
+        flags = (formatting_in 23 a l).flags;
       };
     }
 
@@ -126,25 +126,25 @@ function_held p f g m (Some held) e same =
     let is : (held.0).module_index ≡ m = cc in
     rw (is, same) refl
 
-by_frames : (a b : Streams) (m x : ℕ) (r : Result Loaded LoadingFault) → holder_by r x ≡ Some m → ((l : Loaded) → r ≡ Ok l → scope a l m ≡ scope b l m) → answer_by a r x ≡ answer_by b r x
+by_frames : (a b : Streams) (m x : ℕ) (r : Result Loaded LoadingFault) → holder_by r x ≡ Some m → ((l : Loaded) → r ≡ Ok l → scope a l m ≡ scope b l m) → answer_by 23 a r x ≡ answer_by 23 b r x
 unfolding frames
 by_frames a b m x (Err e) held same = refl
 by_frames a b m x (Ok l) held same = frames_held l.parts (scope a l) (scope b l) m (held_at l.parts (place_of l.parts x)) held (same l refl)
 
-by_function : (a b : Streams) (m x : ℕ) (r : Result Loaded LoadingFault) → holder_by r x ≡ Some m → ((l : Loaded) → r ≡ Ok l → scope a l m ≡ scope b l m) → function_by a r x ≡ function_by b r x
+by_function : (a b : Streams) (m x : ℕ) (r : Result Loaded LoadingFault) → holder_by r x ≡ Some m → ((l : Loaded) → r ≡ Ok l → scope a l m ≡ scope b l m) → function_by 23 a r x ≡ function_by 23 b r x
 unfolding function
 by_function a b m x (Err e) held same = refl
 by_function a b m x (Ok l) held same = function_held l.parts (scope a l) (scope b l) m (held_at l.parts (place_of l.parts x)) held (same l refl)
 
 answer_alike : (order : ContributionOrder) (a b : Streams) (m x : ℕ) → NeedsAlike m a b → holder_with order a x ≡ Some m → answer_with order a x ≡ answer_with order b x
-unfolding holder_with answer_with
+unfolding holder_with answer_named
 answer_alike order a b m x h held =
-    by_frames a b m x (loaded_with order (shared a)) held (λ l e. scope_alike order a b m l h e) ∙ ap (λ c. answer_by b (loaded_with order c) x) (shared_alike a b m h)
+    by_frames a b m x (loaded_with order (shared a)) held (λ l e. scope_alike order a b m l h e) ∙ ap (λ c. answer_by 23 b (loaded_with order c) x) (shared_alike a b m h)
 
 function_alike : (order : ContributionOrder) (a b : Streams) (m x : ℕ) → NeedsAlike m a b → holder_with order a x ≡ Some m → function_with order a x ≡ function_with order b x
-unfolding holder_with function_with
+unfolding holder_with function_named
 function_alike order a b m x h held =
-    by_function a b m x (loaded_with order (shared a)) held (λ l e. scope_alike order a b m l h e) ∙ ap (λ c. function_by b (loaded_with order c) x) (shared_alike a b m h)
+    by_function a b m x (loaded_with order (shared a)) held (λ l e. scope_alike order a b m l h e) ∙ ap (λ c. function_by 23 b (loaded_with order c) x) (shared_alike a b m h)
 
 line_alike : (f g : Answers) (x : ℕ) (line : List ℕ) → f x ≡ g x → address_of line ≡ Some x → line_text f line ≡ line_text g line
 unfolding line_text

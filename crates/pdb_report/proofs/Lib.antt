@@ -1,11 +1,10 @@
 pub mod AnyOrder
 pub mod FileFaults
-pub mod FileSteps
+pub mod FileLines
 pub mod FrameSteps
 pub mod IsolationLaw
 pub mod NeededStreams
 pub mod OtherFiles
-pub mod OpeningSteps
 pub mod SizeSums
 pub mod PageLayout
 pub mod SizesSteps

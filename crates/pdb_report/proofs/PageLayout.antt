@@ -10,8 +10,8 @@ use Rattle.pdb_frames.specs.Runs.{database_of}
 use Rattle.pdb_container.specs.Alike.{OpenAlike, ReadAlike}
 use Rattle.pdb_functions.specs.Databases.{Database}
 use Rattle.pdb_functions.specs.FileReport.{IsFileReport}
-use Rattle.pdb_report.specs.Answer.{scope, answer_with, answer_by, function_with, function_by, database_with, database_by, files_with, files_by}
-use Rattle.pdb_report.specs.Answer.{listing_with, listing_by, map_with, map_by}
+use Rattle.pdb_report.specs.Answer.{scope, answer_with, answer_by, function_with, function_by, database_with, database_by, files_with, files_by, answer_named, function_named, database_named, files_named}
+use Rattle.pdb_report.specs.Answer.{listing_with, listing_by, map_with, map_by, listing_named}
 use Rattle.pdb_loading.specs.Loading.{Loaded, loaded_with, LoadingFault}
 use Rattle.pdb_report.specs.SameReports.{HaveSameReports, HaveSameReportsWith}
 use Rattle.pdb_report.specs.SizesReport.{IsReportOn}
@@ -35,24 +35,24 @@ module _ (order : ContributionOrder) (a b : Streams) (h : (m : ℕ) → NeedsAli
       by_result (Ok l) same = read l (same l refl)
 
   answer_same : answer_with order a ≡ answer_with order b
-  unfolding answer_with
-  answer_same = by_loaded answer_by (λ e. refl) (λ l same. ap (frames l.parts) same)
+  unfolding answer_named
+  answer_same = by_loaded (answer_by 23) (λ e. refl) (λ l same. ap (frames l.parts) same)
 
   function_same : function_with order a ≡ function_with order b
-  unfolding function_with
-  function_same = by_loaded function_by (λ e. refl) (λ l same. ap (function l.parts) same)
+  unfolding function_named
+  function_same = by_loaded (function_by 23) (λ e. refl) (λ l same. ap (function l.parts) same)
 
   database_same : database_with order a ≡ database_with order b
-  unfolding database_with
-  database_same = by_loaded database_by (λ e. refl) (λ l same. ap (database_of l.parts) same)
+  unfolding database_named
+  database_same = by_loaded (database_by 23) (λ e. refl) (λ l same. ap (database_of l.parts) same)
 
   files_same : files_with order a ≡ files_with order b
-  unfolding files_with
-  files_same = by_loaded files_by (λ e. refl) (λ l same. ap (files_of l.parts) same)
+  unfolding files_named
+  files_same = by_loaded (files_by 23) (λ e. refl) (λ l same. ap (files_of l.parts) same)
 
   listing_same : listing_with order a ≡ listing_with order b
-  unfolding listing_with
-  listing_same = by_loaded listing_by (λ e. refl) (λ l same. rw same refl)
+  unfolding listing_named
+  listing_same = by_loaded (listing_by 23) (λ e. refl) (λ l same. rw same refl)
 
   map_same : map_with order a ≡ map_with order b
   unfolding map_with

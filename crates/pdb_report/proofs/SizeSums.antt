@@ -17,7 +17,7 @@ use Rattle.pdb_functions.specs.Texts.{by_file_text}
 use Rattle.pdb_functions.proofs.HowMany.{how_many-split}
 use Rattle.pdb_symbols_modules.specs.Shared.{shared}
 use Rattle.pdb_symbols_modules.specs.Streams.{Streams}
-use Rattle.pdb_report.specs.Answer.{map_with, database_with, database_by, files_with, files_by, scope}
+use Rattle.pdb_report.specs.Answer.{map_with, database_with, database_by, files_with, files_by, scope, database_named, files_named}
 use Rattle.pdb_loading.specs.Loading.{Loaded, loaded_with, LoadingFault}
 
 same_some : (m n : Map) → Some m ≡ Some n → m ≡ n
@@ -49,15 +49,15 @@ module _ {A : Type 0} (cmp : A → A → Ordering) (order : ContributionOrder) (
 
 -- where a file has a function, it has a file of it, no known file, or frames that can't be read
 files_loaded : (s : Streams) (r : Result Loaded LoadingFault) (place : Place)
-    → is_some ((database_by s r).answer place) ≡ true
-    → is_some ((files_by s r).answer place) ≡ true
+    → is_some ((database_by 23 s r).answer place) ≡ true
+    → is_some ((files_by 23 s r).answer place) ≡ true
 files_loaded s (Err e) place h = h
 files_loaded s (Ok l) place h = functions_have_files l.parts (scope s l) place h
 
 pub have_files : (order : ContributionOrder) (s : Streams) (place : Place)
     → is_some ((database_with order s).answer place) ≡ true
     → is_some ((files_with order s).answer place) ≡ true
-unfolding database_with files_with
+unfolding database_named files_named
 have_files order s place h = files_loaded s (loaded_with order (shared s)) place h
 
 -- a report by file goes by the address map of any other report of the file

@@ -11,7 +11,7 @@ use Rattle.pdb_loading.specs.declared.order.ContributionOrder.TheVariants.{InOrd
 use Rattle.pdb_loading.specs.LoadedFile.{FileBytes}
 use Rattle.pdb_loading.specs.Loading.{LoadingFault, load_fault_with}
 use Rattle.pdb_report.specs.Answer.{answer_with}
-use Rattle.pdb_report.specs.FileAnswers.{IfRefused}
+use Rattle.pdb_report.specs.FileReports.{IfRefused}
 use Rattle.pdb_report.specs.Isolation.{AreAlikeFor, IsIsolated, exchanged_with}
 use Rattle.pdb_report_texts.specs.AddressText.{Answers, line_text}
 use Rattle.pdb_report_texts.specs.declared.fault.RunFault.{RunFault}

@@ -1,12 +1,13 @@
-pub mod Answer
 pub mod AnyOrder
-pub mod FileAnswers
-pub mod FileFrames
+pub mod FileReports
 pub mod FrameReports
 pub mod Isolation
 pub mod SameReports
 pub mod SizesByFile
 pub mod SizesReport
+pub use Rattle.pdb_databases.specs.Answer
+pub use Rattle.pdb_databases.specs.FileAnswers
+pub use Rattle.pdb_databases.specs.FileFrames
 pub use Rattle.pdb_report_texts.specs.AddressText
 pub use Rattle.pdb_loading.specs.LoadFaults
 pub use Rattle.pdb_report_texts.specs.FaultText

@@ -12,16 +12,14 @@ ghost use Rattle.pdb_report.specs.Answer.{AnswersWith, answered_in};
 ghost use Rattle.pdb_report.specs.SizesReport.{AreSizes};
 ghost use Rattle.pdb_symbols_modules.specs.Streams.{Streams};
 
-use pdb_addr2line::{Context, Function, KeptModules};
+use pdb_addr2line::Function;
 use pdb_addresses::PdbInternalSectionOffset;
+use pdb_databases::FileContext;
 use pdb_functions::{
     Answer, CountedFile, FileKey, FunctionKey, Runs, Sizes, by_file_text, sizes_text,
 };
 use std::alloc::{AllocError, Global};
 use std::marker::PhantomData;
-
-/// A context over a file that was loaded.
-pub(crate) type FileContext<'a> = Context<'a, 'static, KeptModules<'static>>;
 
 /// What a report of sizes counts at addresses, with the text of its counts.
 pub(crate) trait Counted: Answer {

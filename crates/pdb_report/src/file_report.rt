@@ -1,7 +1,7 @@
 //! The report on an input, by a file that is read on demand.
 
 ghost use Rattle.std.specs.Prelude.{◌≡◌, ◌^◌, ◌<◌, ◌≤◌, ◌⊎◌, List, ℕ, length, take, true, None};
-ghost use Rattle.std.specs.Prelude.{IfErr, IfSome, OnErr, OnOk};
+ghost use Rattle.std.specs.Prelude.{◌++◌, IfErr, IfSome, OnErr, OnOk, string_bytes};
 ghost use Rattle.pdb_engine.specs.InputLines.{report, report_of_ended};
 ghost use Rattle.pdb_engine.specs.Watched.{inner_of, CountsFailure, IsQuiet, Writes, WritesFront};
 ghost use Rattle.pdb_engine.specs.Watched.{Takes};
@@ -9,44 +9,86 @@ ghost use Rattle.pdb_file_views.specs.Views.{agrees, Grows};
 ghost use Rattle.pdb_loading.specs.LoadFaults.{IsFileFault};
 ghost use Rattle.pdb_loading.specs.Loading.{load_fault_with};
 ghost use Rattle.pdb_report.specs.Answer.{answer_with};
-ghost use Rattle.pdb_report.specs.FileAnswers.{IfRefused, IsKnown};
+ghost use Rattle.pdb_databases.specs.FileAnswers.{IsKnown};
+ghost use Rattle.pdb_report.specs.FileReports.{IfRefused};
 ghost use Rattle.pdb_report_texts.specs.AddressText.{line_text};
 ghost use Rattle.pdb_report.specs.Isolation.{AreAlikeFor, IsIsolated, exchanged_with};
 ghost use Rattle.pdb_report_texts.specs.RunFaults.{OnLoad, OnRead, OnWrite, OnTooLong};
 ghost use Rattle.pdb_report_texts.specs.RunFaults.{IsOfFileFrames, OnMemoryOrFile, UnlessLoad};
 ghost use Rattle.pdb_symbols_modules.specs.Streams.{streams};
 
-use crate::file_symbolizer::{FileOnDemand, FileSymbolizer, NotLoaded, TRIES};
-use crate::lines::append_text;
+use crate::lines::{append_line, append_text};
 use crate::report::{AtEnd, let_go};
+use pdb_databases::{FileOnDemand, FileSymbolizer, NotLoaded, TRIES};
 use pdb_engine::{
     AddressStart, Answers, InputFault, LineStart, Request, Watched, parse_address, run,
 };
 use pdb_report_texts::RunFault;
 use std::alloc::{AllocError, Global};
 use std::io::{ErrorKind, Read, Write};
+use std::marker::Model;
 use std::os::unix::fs::FileExt;
 
 /// The most bytes of input that a run reads, as of a file that is in memory.
 const INPUT_LIMIT: u64 = 1 << 30;
 
-/// A file that is asked for the answers to lines, room for a text, whether nothing was missing when
-/// it was last to be read, and how reading it failed, if it did.
+/// A file that is asked for the answers to lines, whose names are made with the default flags; room
+/// for a text; whether nothing was missing when the file was last to be read; and how reading it
+/// failed, if it did.
 #[derive(Drop)]
-pub(crate) struct FileLines<'a, F> {
-    pub symbolizer: FileSymbolizer<'a, F>,
-    pub room: String,
-    pub is_ready: bool,
-    pub failed: Option<ErrorKind>,
+struct FileLines<'a, F: Drop> {
+    symbolizer: FileSymbolizer<'a, F>,
+    room: String,
+    is_ready: bool,
+    failed: Option<ErrorKind>,
 }
 
-impl<'a, F: FileExt> FileLines<'a, F> {
+impl<'a, F: Drop> Model for FileLines<'a, F> {
+    ghost use Rattle.std.specs.Prelude.{◌≡◌};
+    ghost use Rattle.pdb_databases.specs.FileAnswers.{FileAnswers};
+
+    ghost Value = { FileAnswers };
+
+    ghost view = { λ lines. lines.symbolizer };
+
+    ghost invariant = { λ lines. lines.symbolizer.flags ≡ 23 };
+}
+
+/// Appends what is written for a line by what was read of a file.
+///
+/// # Errors
+/// `AllocError` where memory runs out, or where something has to be read first.
+#[tactic(auto, using(pdb_databases::proofs::FileSteps::context_asked, crate::proofs::FileLines::line_answered))]
+fn append_held_line<F: Drop>(
+    alloc: Global,
+    symbolizer: &mut FileSymbolizer<'_, F>,
+    line: &[u8],
+    room: &mut String,
+) -> Result<(), AllocError>
+    requires { symbolizer.old.flags ≡ 23 }
+    ensures contents { symbolizer.new.contents ≡ symbolizer.old.contents }
+    ensures order { symbolizer.new.order ≡ symbolizer.old.order }
+    ensures flags { symbolizer.new.flags ≡ symbolizer.old.flags }
+    ensures views { symbolizer.new.views ≡ symbolizer.old.views }
+    ensures text { IsKnown symbolizer.new → OnOk result (string_bytes room.new
+        ≡ string_bytes room.old
+        ++ line_text (answer_with symbolizer.old.order (streams symbolizer.old.contents)) line.now) }
+{
+    let Some(mut context) = symbolizer.take_context() else {
+        return Err(AllocError);
+    };
+    let appended = append_line(alloc, &mut context, line, room);
+    symbolizer.put_context(context);
+    appended
+}
+
+impl<'a, F: FileExt + Drop> FileLines<'a, F> {
     /// Reads what was asked for and is missing, unless reading the file failed before; returns
     /// whether there is more now.
     fn go_on(&mut self, alloc: Global) -> bool
-        ensures contents { self.new.symbolizer.contents ≡ self.old.symbolizer.contents }
-        ensures order { self.new.symbolizer.order ≡ self.old.symbolizer.order }
-        ensures grows { Grows self.old.symbolizer.views self.new.symbolizer.views }
+        ensures contents { self.new.contents ≡ self.old.contents }
+        ensures order { self.new.order ≡ self.old.order }
+        ensures grows { Grows self.old.views self.new.views }
     {
         if self.failed.is_some() {
             return false;
@@ -65,7 +107,7 @@ impl<'a, F: FileExt> FileLines<'a, F> {
 }
 
 /// The numbers of the modules that hold the addresses of requests; some may be repeated.
-fn modules_of<F>(
+fn modules_of<F: Drop>(
     alloc: Global,
     symbolizer: &FileSymbolizer<'_, F>,
     requests: &[Request<AddressStart>],
@@ -82,20 +124,20 @@ fn modules_of<F>(
     Ok(numbers)
 }
 
-impl<'a, F: FileExt> Answers for FileLines<'a, F> {
+impl<'a, F: FileExt + Drop> Answers for FileLines<'a, F> {
     type Start = AddressStart;
 
     ghost use Rattle.pdb_report_texts.specs.AddressText.{line_text};
     ghost use Rattle.pdb_report.specs.Answer.{answer_with};
-    ghost use Rattle.pdb_report.specs.FileAnswers.{IsKnown};
+    ghost use Rattle.pdb_databases.specs.FileAnswers.{IsKnown};
     ghost use Rattle.pdb_symbols_modules.specs.Streams.{streams};
 
-    ghost known = { λ lines. IsKnown lines.symbolizer };
+    ghost known = { λ lines. IsKnown lines };
 
     ghost text = { λ lines line. line_text
-        (answer_with lines.symbolizer.order (streams lines.symbolizer.contents)) line };
+        (answer_with lines.order (streams lines.contents)) line };
 
-    ghost subject = { λ lines. lines.symbolizer.contents };
+    ghost subject = { λ lines. lines.contents };
 
     fn place(&self, line: &[u8]) -> u32 {
         parse_address(line).unwrap_or(0)
@@ -119,7 +161,7 @@ impl<'a, F: FileExt> Answers for FileLines<'a, F> {
     ) -> Result<(), AllocError> {
         for _ in 0..TRIES {
             self.room.clear();
-            match self.symbolizer.append_line(alloc, line, &mut self.room) {
+            match append_held_line(alloc, &mut self.symbolizer, line, &mut self.room) {
                 Ok(()) => return append_text(alloc, &mut self.room, output),
                 Err(_) => {}
             }
@@ -137,43 +179,43 @@ impl<'a, F: FileExt> Answers for FileLines<'a, F> {
 /// `Read` and `Write` where that end failed in this call; `File` where the file couldn't be read;
 /// `InputTooLong` past 2^30 bytes of input; `OutOfMemory`.
 #[tactic(auto, using(pdb_report_texts::proofs::ShortLines::line_short, pdb_report_texts::proofs::InputFaultSteps::on_read, pdb_report_texts::proofs::InputFaultSteps::on_write, pdb_report_texts::proofs::InputFaultSteps::on_too_long, crate::proofs::FileFaults::of_file_frames))]
-fn answer_file_lines<F: FileExt, R: Read, W: Write>(
+fn answer_file_lines<F: FileExt + Drop, R: Read, W: Write>(
     alloc: Global,
     lines: &mut FileLines<'_, F>,
     reader: &mut Watched<R>,
     writer: &mut Watched<W>,
 ) -> Result<(), RunFault>
-    ensures contents { lines.new.symbolizer.contents ≡ lines.old.symbolizer.contents }
-    ensures grows { IsKnown lines.new.symbolizer → IsKnown lines.old.symbolizer }
+    ensures contents { lines.new.contents ≡ lines.old.contents }
+    ensures grows { IsKnown lines.new → IsKnown lines.old }
     ensures load { IfErr result (λ fault. OnLoad fault (λ _. ⊥)) }
     ensures kind { IfErr result IsOfFileFrames }
-    ensures ok { IsKnown lines.new.symbolizer → OnOk result
+    ensures ok { IsKnown lines.new → OnOk result
         (IfSome (R.remaining (inner_of reader.old)) (λ input. (length input ≤ 2 ^ 30)
         × Writes W.contents writer.old writer.new
-        (report (line_text (answer_with lines.old.symbolizer.order
-        (streams lines.old.symbolizer.contents))) input))) }
+        (report (line_text (answer_with lines.old.order
+        (streams lines.old.contents))) input))) }
     ensures quiet { OnOk result (IsQuiet reader.old reader.new × IsQuiet writer.old writer.new) }
     ensures read_fails { IfErr result
         (λ fault. OnRead fault (λ kind. CountsFailure reader.old reader.new kind)) }
     ensures write_fails { IfErr result
         (λ fault. OnWrite fault (λ kind. CountsFailure writer.old writer.new kind)) }
-    ensures read_out { IsKnown lines.new.symbolizer → IfErr result
+    ensures read_out { IsKnown lines.new → IfErr result
         (λ fault. OnRead fault
         (λ _. (taken : List ℕ) × Takes R.remaining reader.old reader.new taken
         × Writes W.contents writer.old writer.new (report_of_ended
-        (line_text (answer_with lines.old.symbolizer.order
-        (streams lines.old.symbolizer.contents))) taken))) }
-    ensures too_long { IsKnown lines.new.symbolizer → IfErr result
+        (line_text (answer_with lines.old.order
+        (streams lines.old.contents))) taken))) }
+    ensures too_long { IsKnown lines.new → IfErr result
         (λ fault. OnTooLong fault
         (IfSome (R.remaining (inner_of reader.old)) (λ input. (2 ^ 30 < length input)
         × Writes W.contents writer.old writer.new (report_of_ended
-        (line_text (answer_with lines.old.symbolizer.order
-        (streams lines.old.symbolizer.contents))) (take (2 ^ 30) input))))) }
-    ensures part { IsKnown lines.new.symbolizer → OnErr result
+        (line_text (answer_with lines.old.order
+        (streams lines.old.contents))) (take (2 ^ 30) input))))) }
+    ensures part { IsKnown lines.new → OnErr result
         (IfSome (R.remaining (inner_of reader.old))
         (λ input. WritesFront W.contents writer.old writer.new
-        (report (line_text (answer_with lines.old.symbolizer.order
-        (streams lines.old.symbolizer.contents))) input))) }
+        (report (line_text (answer_with lines.old.order
+        (streams lines.old.contents))) input))) }
 {
     match run(alloc, lines, reader, writer, INPUT_LIMIT) {
         Ok(()) => Ok(()),
@@ -195,7 +237,7 @@ pub(crate) fn memory_fault(failed: Option<ErrorKind>) -> RunFault
 
 /// How a run ended, over a file that is read on demand, and the file.
 #[derive(Drop)]
-pub struct FileRun<'a, F> {
+pub struct FileRun<'a, F: Drop> {
     /// How it ended.
     pub outcome: Result<(), RunFault>,
     /// The file, with what was read of it.
@@ -207,13 +249,14 @@ pub struct FileRun<'a, F> {
 ///
 /// # Errors
 /// As [`answer_file_lines`].
-fn answer_file<'a, F: FileExt, R: Read, W: Write>(
+fn answer_file<'a, F: FileExt + Drop, R: Read, W: Write>(
     alloc: Global,
     symbolizer: FileSymbolizer<'a, F>,
     reader: &mut Watched<R>,
     writer: &mut Watched<W>,
     at_end: AtEnd,
 ) -> FileRun<'a, F>
+    requires { symbolizer.flags ≡ 23 }
     ensures contents { result.source.contents.numbers ≡ symbolizer.entry.contents }
     ensures grows { agrees result.source.views symbolizer.entry.contents ≡ true
         → IsKnown symbolizer.entry }
@@ -274,7 +317,7 @@ fn answer_file<'a, F: FileExt, R: Read, W: Write>(
 /// # Errors
 /// As [`run_frames`](crate::run_frames); `File` where the file couldn't be read, and then a prefix
 /// of the report is out.
-pub fn run_file_frames<'a, F: FileExt, R: Read, W: Write>(
+pub fn run_file_frames<'a, F: FileExt + Drop, R: Read, W: Write>(
     alloc: Global,
     source: FileOnDemand<'a, F>,
     reader: &mut Watched<R>,

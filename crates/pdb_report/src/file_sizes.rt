@@ -6,7 +6,8 @@ ghost use Rattle.pdb_engine.specs.Watched.{CountsFailure, IsQuiet, Writes, Write
 ghost use Rattle.pdb_file_views.specs.Views.{agrees, Grows};
 ghost use Rattle.pdb_loading.specs.LoadFaults.{IsFileFault};
 ghost use Rattle.pdb_loading.specs.Loading.{load_fault_with};
-ghost use Rattle.pdb_report.specs.FileAnswers.{IfRefused, IsKnown, IsUnasked};
+ghost use Rattle.pdb_databases.specs.FileAnswers.{IsKnown, IsUnasked};
+ghost use Rattle.pdb_report.specs.FileReports.{IfRefused};
 ghost use Rattle.pdb_report.specs.SizesByFile.{IsSizesByFileWith, IsWithinFilePiecesWith};
 ghost use Rattle.pdb_report.specs.SizesReport.{AreWithinPieces, IsReportOn};
 ghost use Rattle.pdb_report.specs.SizesReport.{IsSizesReportWith, IsWithinPiecesWith};
@@ -17,31 +18,72 @@ ghost use Rattle.pdb_symbols_modules.specs.Streams.{streams};
 
 use crate::counted::Counted;
 use crate::file_report::memory_fault;
-use crate::file_symbolizer::{FileOnDemand, FileSymbolizer, NotLoaded, TRIES};
-use crate::sizes::Tally;
+use crate::sizes::{Tally, count_text};
 use pdb_addr2line::Function;
+use pdb_databases::{FileOnDemand, FileSymbolizer, NotLoaded, TRIES};
 use pdb_engine::{Watched, write_all, write_fault};
 use pdb_functions::CountedFile;
 use pdb_report_texts::RunFault;
-use std::alloc::Global;
+use std::alloc::{AllocError, Global};
 use std::io::Write;
 use std::os::unix::fs::FileExt;
+
+/// The text of the report on a range by what was read of a file, and what counting took. The context
+/// is let go.
+///
+/// # Errors
+/// `AllocError` where memory runs out, where something has to be read first, or where there is no
+/// context.
+fn count_held<A: Counted, F: Drop>(
+    alloc: Global,
+    symbolizer: &mut FileSymbolizer<'_, F>,
+    start: u32,
+    end: u32,
+) -> Result<(String, Tally), AllocError>
+    requires order { start ≤ end }
+    requires flags { symbolizer.old.flags ≡ 23 }
+    requires unasked { IsUnasked symbolizer.old }
+    ensures contents { symbolizer.new.contents ≡ symbolizer.old.contents }
+    ensures order { symbolizer.new.order ≡ symbolizer.old.order }
+    ensures flags { symbolizer.new.flags ≡ symbolizer.old.flags }
+    ensures views { symbolizer.new.views ≡ symbolizer.old.views }
+    ensures unasked { IsUnasked symbolizer.new }
+    ensures text { IsKnown symbolizer.new → IfOk result (λ counted. IsReportOn A.is_report
+        (A.places symbolizer.old.order (streams symbolizer.old.contents))
+        symbolizer.old.order (streams symbolizer.old.contents) start end
+        (string_bytes counted.0)) }
+    ensures lookups { IsKnown symbolizer.new → IfOk result (λ counted. AreWithinPieces
+        (A.places symbolizer.old.order (streams symbolizer.old.contents))
+        symbolizer.old.order (streams symbolizer.old.contents) start end
+        counted.1.lookups) }
+    ensures answered { IsKnown symbolizer.new → IfOk result (λ counted. AreWithinPieces
+        (A.places symbolizer.old.order (streams symbolizer.old.contents))
+        symbolizer.old.order (streams symbolizer.old.contents) start end
+        counted.1.answered) }
+{
+    let Some(context) = symbolizer.take_context() else {
+        return Err(AllocError);
+    };
+    count_text::<A>(alloc, symbolizer.address_map(), context, start, end)
+}
 
 /// The text of the report on a range by a file that was loaded and is read on demand, and what
 /// counting took the last time.
 ///
 /// # Errors
 /// `File` where the file couldn't be read; `OutOfMemory`.
-fn count_file<A: Counted, F: FileExt>(
+fn count_file<A: Counted, F: FileExt + Drop>(
     alloc: Global,
     symbolizer: &mut FileSymbolizer<'_, F>,
     start: u32,
     end: u32,
 ) -> Result<(String, Tally), RunFault>
     requires order { start ≤ end }
+    requires flags { symbolizer.old.flags ≡ 23 }
     requires unasked { IsUnasked symbolizer.old }
     ensures contents { symbolizer.new.contents ≡ symbolizer.old.contents }
     ensures order { symbolizer.new.order ≡ symbolizer.old.order }
+    ensures flags { symbolizer.new.flags ≡ symbolizer.old.flags }
     ensures grows { Grows symbolizer.old.views symbolizer.new.views }
     ensures kind { IfErr result OnMemoryOrFile }
     ensures text { IsKnown symbolizer.new → IfOk result (λ counted. IsReportOn A.is_report
@@ -63,7 +105,7 @@ fn count_file<A: Counted, F: FileExt>(
         Err(kind) => return Err(memory_fault(Some(kind))),
     }
     for _ in 0..TRIES {
-        match symbolizer.count::<A>(alloc, start, end) {
+        match count_held::<A, F>(alloc, symbolizer, start, end) {
             Ok(counted) => return Ok(counted),
             Err(_) => {}
         }
@@ -78,7 +120,7 @@ fn count_file<A: Counted, F: FileExt>(
 
 /// How a run on a range ended, over a file that is read on demand, and the file.
 #[derive(Drop)]
-pub struct FileSizes<'a, F> {
+pub struct FileSizes<'a, F: Drop> {
     /// How it ended.
     pub outcome: Result<Tally, RunFault>,
     /// The file, with what was read of it.
@@ -91,13 +133,14 @@ pub struct FileSizes<'a, F> {
 /// # Errors
 /// `ReversedRange`; `Write` where a write failed; `File` where the file couldn't be read;
 /// `OutOfMemory`.
-fn write_file_report<A: Counted, F: FileExt, W: Write>(
+fn write_file_report<A: Counted, F: FileExt + Drop, W: Write>(
     alloc: Global,
     symbolizer: &mut FileSymbolizer<'_, F>,
     start: u32,
     end: u32,
     writer: &mut Watched<W>,
 ) -> Result<Tally, RunFault>
+    requires flags { symbolizer.old.flags ≡ 23 }
     requires unasked { IsUnasked symbolizer.old }
     ensures contents { symbolizer.new.contents ≡ symbolizer.old.contents }
     ensures same { symbolizer.new.order ≡ symbolizer.old.order }
@@ -144,7 +187,7 @@ fn write_file_report<A: Counted, F: FileExt, W: Write>(
 ///
 /// # Errors
 /// As [`run_file_sizes`].
-fn run_file_report<'a, A: Counted, F: FileExt, W: Write>(
+fn run_file_report<'a, A: Counted, F: FileExt + Drop, W: Write>(
     alloc: Global,
     source: FileOnDemand<'a, F>,
     start: u32,
@@ -221,7 +264,7 @@ fn run_file_report<'a, A: Counted, F: FileExt, W: Write>(
 ///
 /// # Errors
 /// As [`run_sizes`](crate::run_sizes); `File` where the file couldn't be read.
-pub fn run_file_sizes<'a, F: FileExt, W: Write>(
+pub fn run_file_sizes<'a, F: FileExt + Drop, W: Write>(
     alloc: Global,
     source: FileOnDemand<'a, F>,
     start: u32,
@@ -282,7 +325,7 @@ pub fn run_file_sizes<'a, F: FileExt, W: Write>(
 ///
 /// # Errors
 /// As [`run_file_sizes`].
-pub fn run_file_sizes_by_file<'a, F: FileExt, W: Write>(
+pub fn run_file_sizes_by_file<'a, F: FileExt + Drop, W: Write>(
     alloc: Global,
     source: FileOnDemand<'a, F>,
     start: u32,

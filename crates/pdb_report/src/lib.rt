@@ -43,23 +43,19 @@
 #![tactic(auto)]
 
 mod counted;
-mod file_frames;
 mod file_report;
 mod file_sizes;
-mod file_symbolizer;
 mod finish;
 pub mod laws;
 mod lines;
 mod report;
 mod sizes;
-mod symbolizer;
 
-pub use file_frames::FileFramesFault;
 pub use file_report::{FileRun, run_file_frames};
 pub use file_sizes::{FileSizes, run_file_sizes, run_file_sizes_by_file};
-pub use file_symbolizer::{FileOnDemand, FileSymbolizer, NotLoaded};
 pub use finish::finish_run;
 pub use pdb_addr2line::{Context, Error};
+pub use pdb_databases::{FileFramesFault, FileOnDemand, FileSymbolizer, NotLoaded, Symbolizer};
 pub use pdb_engine::{ErrorOutput, Watched, parse_address};
 pub use pdb_loading::{ContributionOrder, LoadFault, read_file};
 pub use pdb_report_texts::RunFault;
@@ -67,4 +63,3 @@ pub use report::{AtEnd, answer_lines, run_frames, run_frames_ending, run_frames_
 pub use sizes::{
     Tally, run_sizes, run_sizes_by_file, run_sizes_by_file_with_order, run_sizes_with_order,
 };
-pub use symbolizer::Symbolizer;

@@ -5,7 +5,7 @@ ghost use Rattle.pdb_report.specs.FrameReports.{ReportsFrames, frames_in, frames
 ghost use Rattle.pdb_report.specs.FrameReports.{frames_with};
 
 use crate::lines::LineAnswers;
-use crate::symbolizer::Symbolizer;
+use pdb_databases::Symbolizer;
 use pdb_engine::{Watched, run};
 use pdb_loading::ContributionOrder;
 use pdb_report_texts::RunFault;

@@ -17,10 +17,10 @@ ghost use Rattle.pdb_report_texts.specs.RunFaults.{OnReversed, OnWrite, UnlessLo
 ghost use Rattle.pdb_functions.specs.Counts.{pieces};
 ghost use Rattle.pdb_symbols_modules.specs.Streams.{streams};
 
-use crate::counted::{ContextRuns, Counted, FileContext};
-use crate::symbolizer::Symbolizer;
+use crate::counted::{ContextRuns, Counted};
 use pdb_addr2line::Function;
 use pdb_addresses::AddressMap;
+use pdb_databases::{FileContext, Symbolizer};
 use pdb_engine::{InputFault, Watched, write_all, write_fault};
 use pdb_functions::{CountedFile, count_runs};
 use pdb_loading::ContributionOrder;

@@ -54,14 +54,17 @@ fn failing(alloc: Global, fails: u64) -> Result<InMemory, Fail> {
 fn unread<'a>(
     alloc: Global,
     arena: &'a Bump,
-    file: &'a InMemory,
+    file: InMemory,
 ) -> Result<FileOnDemand<'a, InMemory>, Fail> {
     let size = file.bytes.len() as u64;
     Ok(FileOnDemand::new(alloc, arena, file, size)?)
 }
 
-/// What is written for the input, and how the run ends.
-fn frames_of(alloc: Global, file: &InMemory) -> Result<(Vec<u8>, Result<(), RunFault>), Fail> {
+/// What is written for the input, how the run ends, and how often the file was read.
+fn frames_of(
+    alloc: Global,
+    file: InMemory,
+) -> Result<(Vec<u8>, Result<(), RunFault>, u64), Fail> {
     let arena = Bump::new(alloc);
     let source = unread(alloc, &arena, file)?;
     let mut report = Vec::new(alloc);
@@ -74,8 +77,9 @@ fn frames_of(alloc: Global, file: &InMemory) -> Result<(Vec<u8>, Result<(), RunF
         &mut writer,
         AtEnd::GiveBack,
     );
+    let reads = source.file.reads.get();
     drop(source);
-    Ok((report, outcome))
+    Ok((report, outcome, reads))
 }
 
 /// The reports on a range by a whole file: by function, and by source file.
@@ -93,18 +97,17 @@ fn whole_sizes(alloc: Global) -> Result<[Vec<u8>; 2], Fail> {
 
 /// The same by a file that is read on demand.
 fn demanded_sizes(alloc: Global) -> Result<[Vec<u8>; 2], Fail> {
-    let file = failing(alloc, 0)?;
     let arena = Bump::new(alloc);
     let mut by_function = Vec::new(alloc);
     let mut writer = Watched::new(&mut by_function);
-    let source = unread(alloc, &arena, &file)?;
+    let source = unread(alloc, &arena, failing(alloc, 0)?)?;
     let FileSizes { outcome, source } = run_file_sizes(alloc, source, 0, 0x3000, &mut writer);
     drop(source);
     outcome?;
     drop(writer);
     let mut by_file = Vec::new(alloc);
     let mut writer = Watched::new(&mut by_file);
-    let source = unread(alloc, &arena, &file)?;
+    let source = unread(alloc, &arena, failing(alloc, 0)?)?;
     let FileSizes { outcome, source } = run_file_sizes_by_file(
         alloc,
         source,
@@ -121,7 +124,7 @@ fn demanded_sizes(alloc: Global) -> Result<[Vec<u8>; 2], Fail> {
 #[test]
 fn frames_on_demand(rt: HostRuntime) -> Result<(), Fail> {
     let file = failing(rt.alloc(), 0)?;
-    let (report, outcome) = frames_of(rt.alloc(), &file)?;
+    let (report, outcome, _) = frames_of(rt.alloc(), file)?;
     let (whole, _) = run_over(rt.alloc(), F0.bytes(rt.alloc())?, INPUT);
     assert_eq!(rt; outcome, Ok(()));
     assert!(rt; !report.is_empty() && report == whole);
@@ -139,13 +142,12 @@ fn sizes_on_demand(rt: HostRuntime) -> Result<(), Fail> {
 
 #[test]
 fn failed_read(rt: HostRuntime) -> Result<(), Fail> {
-    let whole = failing(rt.alloc(), 0)?;
-    frames_of(rt.alloc(), &whole)?.1?;
-    let reads = whole.reads.get();
+    let (_, outcome, reads) = frames_of(rt.alloc(), failing(rt.alloc(), 0)?)?;
+    outcome?;
     assert!(rt; reads > 1);
     for fails in 1..=reads {
         let file = failing(rt.alloc(), fails)?;
-        let (report, outcome) = frames_of(rt.alloc(), &file)?;
+        let (report, outcome, _) = frames_of(rt.alloc(), file)?;
         assert_eq!(rt; outcome, Err(RunFault::File(ErrorKind::PermissionDenied)));
         assert!(rt; report.is_empty());
     }

@@ -156,7 +156,7 @@ where
         Err(error) => return Ok(Err(RunFault::File(error.kind()))),
     };
     let arena = Bump::new(rt.alloc());
-    let mut source = FileOnDemand::new(rt.alloc(), &arena, &file, size)?;
+    let mut source = FileOnDemand::new(rt.alloc(), &arena, file, size)?;
     source.order = order_of(task);
     let FileRun { outcome, source } = run_task_on_demand(rt.alloc(), task, source, reader, writer);
     forget(source);

@@ -33,7 +33,7 @@ pub fn size_of(file: &impl OpenFile) -> Option<u64> {
 /// Writes the report that is asked for by a file that is read on demand. What is said of the file's
 /// bytes holds of those that `source` takes the file to have, where they agree with everything that
 /// was read.
-pub fn run_task_on_demand<'a, F: FileExt, R: Read, W: Write>(
+pub fn run_task_on_demand<'a, F: FileExt + Drop, R: Read, W: Write>(
     alloc: Global,
     task: &Task,
     source: FileOnDemand<'a, F>,
@@ -78,7 +78,7 @@ pub fn run_task_on_demand<'a, F: FileExt, R: Read, W: Write>(
 
 /// Writes the report on a range, by source file or by function, by a file that is read on demand;
 /// how much was looked up for it isn't reported.
-fn count_sizes_on_demand<'a, F: FileExt, W: Write>(
+fn count_sizes_on_demand<'a, F: FileExt + Drop, W: Write>(
     alloc: Global,
     source: FileOnDemand<'a, F>,
     start: u32,

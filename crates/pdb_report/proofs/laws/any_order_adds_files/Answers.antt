@@ -1,5 +1,5 @@
 use Rattle.std.proofs.Common.{ap}
-use Rattle.pdb_report.specs.Answer.{answer_by, answer_with, database_by, database_with, files_by, files_with, map_by, map_with}
+use Rattle.pdb_report.specs.Answer.{answer_by, answer_with, database_by, database_with, files_by, files_with, map_by, map_with, answer_named, database_named, files_named}
 use Rattle.pdb_report.proofs.AnyOrder.{faults_same, loads_same, none_for_order}
 use Rattle.pdb_report.proofs.laws.any_order_adds_files.Goals as goal
 
@@ -7,16 +7,16 @@ pub returns-clause-loads : goal.returns-clause-loads
 returns-clause-loads c = loads_same
 
 pub returns-clause-frames : goal.returns-clause-frames
-unfolding answer_with
-returns-clause-frames c = λ s none. ap (answer_by s) (loads_same s none)
+unfolding answer_named
+returns-clause-frames c = λ s none. ap (answer_by 23 s) (loads_same s none)
 
 pub returns-clause-places : goal.returns-clause-places
-unfolding database_with
-returns-clause-places c = λ s none. ap (database_by s) (loads_same s none)
+unfolding database_named
+returns-clause-places c = λ s none. ap (database_by 23 s) (loads_same s none)
 
 pub returns-clause-by_file : goal.returns-clause-by_file
-unfolding files_with
-returns-clause-by_file c = λ s none. ap (files_by s) (loads_same s none)
+unfolding files_named
+returns-clause-by_file c = λ s none. ap (files_by 23 s) (loads_same s none)
 
 pub returns-clause-map : goal.returns-clause-map
 unfolding map_with

@@ -5,8 +5,8 @@ use Rattle.pdb_report.proofs.file_report.FileLinesAnswers.answer.Given as goal
 -- so far only the file was read
 abbrev pub invariant-loop : goal.invariant-loop
 invariant-loop g l = record {
-  contents : l.self.symbolizer.contents ≡ l.fn.self.symbolizer.contents;
-  order : l.self.symbolizer.order ≡ l.fn.self.symbolizer.order;
-  grows : Grows l.fn.self.symbolizer.views l.self.symbolizer.views;
+  contents : l.self.contents ≡ l.fn.self.contents;
+  order : l.self.order ≡ l.fn.self.order;
+  grows : Grows l.fn.self.views l.self.views;
   output : l.output.items ≡ l.fn.output.items;
 }

@@ -1,0 +1,3 @@
+pub mod FileSteps
+pub mod IdentitySteps
+pub mod OpeningSteps

@@ -1,0 +1,5 @@
+pub mod Answer
+pub mod FileAnswers
+pub mod FileFrames
+pub mod Identity
+pub use Rattle.pdb_loading.specs.LoadFaults
