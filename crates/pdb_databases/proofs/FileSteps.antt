@@ -10,7 +10,7 @@ use Rattle.pdb_addresses.specs.declared.internal_section_offset.PdbInternalSecti
 use Rattle.pdb_addr2line.specs.Formatters.{context_with, with_modules}
 use Rattle.pdb_addr2line.proofs.HeldModules.{parts_last, parts_of_context}
 use Rattle.pdb_file_views.specs.Views.{Grows, Views, agrees}
-use Rattle.pdb_loading.specs.Held.{Held, kept_infos, parts_held_with}
+use Rattle.pdb_loading.specs.Held.{Held, kept_infos}
 use Rattle.pdb_loading.specs.LoadedFile.{IsLoadedWith}
 use Rattle.pdb_loading.specs.ModuleInfos.{KeptInfo}
 use Rattle.pdb_loading.proofs.OnDemand.{modules_of_loaded}
@@ -24,7 +24,7 @@ use Rattle.pdb_resolving.specs.declared.error.Error.TheVariants as errors
 use Rattle.pdb_resolving.specs.Fault.{Answers, Fault}
 use Rattle.pdb_databases.specs.FileFrames.{FindsHeldFrames, found_by}
 use Rattle.pdb_databases.specs.Answer.{AnswersNamed, map_with, answer_named, answer_of, answered_in, frames_named}
-use Rattle.pdb_databases.specs.FileAnswers.{FileAnswers, IsContextOf, IsKnown, IsOfContents, IsUnasked, with_context}
+use Rattle.pdb_databases.specs.FileAnswers.{FileAnswers, IsContextOf, IsKnown, IsOfContents, with_context}
 use Rattle.pdb_databases.proofs.OpeningSteps.{context_answers, map_kept}
 
 -- a file that was loaded, and its first context
@@ -109,14 +109,10 @@ asked f c d there same is = context_put f d is (context_asked f c d same (contex
 pub map_known : (f : FileAnswers) → IsOfContents f → IsKnown f → map_with f.order (streams f.contents) ≡ Some f.held.tables.map
 map_known f is known = map_kept f.order f.contents f.held (is.held_is known)
 
--- a context that was asked nothing
-pub unasked_context : (f : FileAnswers) (c : Context (List KeptInfo)) → f.context ≡ Some c → IsUnasked f → c.lookups ≡ 0
-unasked_context f c there unasked = subst (λ (x : Option (Context (List KeptInfo))). IfSome x (λ k. k.lookups ≡ 0)) there unasked
-
 -- ---- frames
 
 -- a part that stands as failed has another fault, and is a fault
-told_found : (r : Result (Option FunctionFrames) Error) (failures : Failures) (part : Option _) (answered : Result (Option FunctionFrames) Fault) → Answers (λ x. x) r (told failures part answered) → FindsHeldFrames r answered
+pub told_found : (r : Result (Option FunctionFrames) Error) (failures : Failures) (part : Option _) (answered : Result (Option FunctionFrames) Fault) → Answers (λ x. x) r (told failures part answered) → FindsHeldFrames r answered
 told_found (Ok found) failures part (Ok x) h = h
 told_found (Ok found) failures part (Err e) h = absurd cc
 told_found (Err errors.OutOfMemory) failures part answered h = tt

@@ -1,8 +1,8 @@
 -- Where the identity of a database can't be read.
 use Rattle.std.proofs.Common.{◌≡◌, ℕ, List, Result, Ok, Err, ap, ◌∙◌}
-use Rattle.std.specs.Prelude.{◌⊎◌, None, Option, Some}
+use Rattle.std.specs.Prelude.{◌⊎◌, None, Some}
 use Rattle.pdb_container.specs.declared.error.Error.{Error}
-use Rattle.pdb_container.specs.Fault.{Fault, fault_of, HasRisen, IsOutside, ◌>>=◌}
+use Rattle.pdb_container.specs.Fault.{fault_of, HasRisen, IsOutside, ◌>>=◌}
 use Rattle.pdb_databases.specs.Identity.{identity_by, identity_in}
 use Rattle.pdb_image.specs.declared.identity.PdbIdentity.{PdbIdentity}
 use Rattle.pdb_loading.proofs.Lifting.{fails_on, loads_on, opening_fails}

@@ -28,7 +28,7 @@ use Rattle.pdb_loading.specs.declared.load_fault.LoadFault.TheVariants as faults
 use Rattle.pdb_loading.specs.Held.{Held, given, names_in, parts_held_with}
 use Rattle.pdb_loading.specs.LoadFaults.{load_fault_in_context}
 use Rattle.pdb_loading.specs.LoadedFile.{FileBytes, IsLoadedWith}
-use Rattle.pdb_loading.specs.Loading.{LoadingFault, Loaded, loaded_with}
+use Rattle.pdb_loading.specs.Loading.{Loaded, loaded_with}
 use Rattle.pdb_loading.specs.ModuleInfos.{KeptInfo, answered_at}
 use Rattle.pdb_databases.specs.Answer.{AnswersNamed, Listing, answer_named, answer_by, answered_in, database_named, database_by, files_named, files_by, frames_named, frames_by, function_named, function_by, given_in, listing_named, listing_by, map_with, map_by, scope_named}
 use Rattle.pdb_frames.specs.FrameRuns.{frames_of_places}

@@ -1,5 +1,5 @@
 -- The answer for an address of a file's image: its function with its frames. Each definition is
--- there three times: with the flags of the formatter that makes names, and the order in which section
+-- there three times: with the flags by which names are made and the order in which section
 -- contributions have to stand; with the default flags, which are 23; and with these, where section
 -- contributions have to stand in order.
 use Rattle.std.specs.Prelude.{◌≡◌, ℕ, false, List, Option, None, Some, Result, Ok, Err}

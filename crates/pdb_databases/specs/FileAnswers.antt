@@ -1,5 +1,5 @@
 -- A file that is read on demand, and a context over what was read of it.
-use Rattle.std.specs.Prelude.{◌≡◌, true, List, ℕ, Option, None, IfSome, Ok}
+use Rattle.std.specs.Prelude.{◌≡◌, true, List, ℕ, Option, IfSome, Ok}
 use Rattle.pdb_addresses.specs.Addresses.{IsOrdered}
 use Rattle.pdb_addr2line.specs.Context.{Context}
 use Rattle.pdb_databases.specs.Answer.{AnswersNamed, answered_in}

@@ -11,7 +11,7 @@ ghost use Rattle.pdb_resolving.specs.Fault.{Fault};
 ghost use Rattle.pdb_symbols_modules.specs.Streams.{streams};
 
 use crate::file_symbolizer::{FileSymbolizer, TRIES};
-use pdb_addr2line::{Error, FunctionFrames};
+use pdb_addr2line::{Error, FunctionFrames, SharedFunctionFrames};
 use pdb_addresses::PdbInternalSectionOffset;
 use std::alloc::Global;
 use std::io::ErrorKind;
@@ -62,6 +62,33 @@ impl<'a, F: Drop> FileSymbolizer<'a, F> {
     {
         match &mut self.context {
             Some(context) => context.find_frames(alloc, probe),
+            None => Err(Error::OutOfMemory),
+        }
+    }
+
+    /// The frames at an RVA by what was read, with names that are shared with the context's cache,
+    /// so that none is copied. What is missing is read by [`FileSymbolizer::go_on`].
+    ///
+    /// # Errors
+    /// As [`Context::find_shared_frames`](crate::Context::find_shared_frames); `OutOfMemory`, too,
+    /// where something has to be read first.
+    #[tactic(auto, using(crate::proofs::FileSteps::frames_found))]
+    pub fn find_held_shared_frames(
+        &mut self,
+        alloc: Global,
+        probe: u32,
+    ) -> Result<Option<SharedFunctionFrames<'a>>, Error>
+        ensures contents { self.new.contents ≡ self.old.contents }
+        ensures order { self.new.order ≡ self.old.order }
+        ensures flags { self.new.flags ≡ self.old.flags }
+        ensures held { self.new.held ≡ self.old.held }
+        ensures views { self.new.views ≡ self.old.views }
+        ensures frames { IsKnown self.new
+            → FindsHeldFrames result
+            (answer_named self.old.flags self.old.order (streams self.old.contents) probe) }
+    {
+        match &mut self.context {
+            Some(context) => context.find_shared_frames(alloc, probe),
             None => Err(Error::OutOfMemory),
         }
     }

@@ -1,6 +1,6 @@
 //! A file that is read on demand.
 
-ghost use Rattle.std.specs.Prelude.{◌≡◌, ◌≤◌, [], true, None, Ok, IfErr, IfOk};
+ghost use Rattle.std.specs.Prelude.{◌≡◌, [], true, None, Ok, IfErr, IfOk};
 ghost use Rattle.pdb_databases.specs.Identity.{identity_in};
 ghost use Rattle.pdb_file_views.specs.Views.{agrees, Grows};
 ghost use Rattle.pdb_loading.specs.FileFaults.{OnLoadFault};
@@ -18,8 +18,8 @@ use std::alloc::{AllocError, Global};
 use std::io::{self, ErrorKind};
 use std::os::unix::fs::FileExt;
 
-/// How often the identity is asked for again after what it lacked was read. It lacks the container's
-/// directory and two streams.
+/// How often the identity is asked for again after what it lacked was read: the container's
+/// directory, and two streams.
 const ROUNDS: u32 = 32;
 
 /// A file that is read on demand.

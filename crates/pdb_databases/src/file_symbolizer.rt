@@ -1,7 +1,6 @@
 //! A symbolizer of a file that is read on demand.
 
-ghost use Rattle.std.specs.Prelude.{◌≡◌, true, None, Ok, Some, IfErr, IfOk, IfSome, is_some};
-ghost use Rattle.pdb_addr2line.specs.Context.{lasting};
+ghost use Rattle.std.specs.Prelude.{◌≡◌, true, None, Ok, Some, IfErr, IfOk, IfSome};
 ghost use Rattle.pdb_addr2line.specs.Formatters.{context_with, with_modules};
 ghost use Rattle.pdb_addresses.specs.Addresses.{IsOrdered};
 ghost use Rattle.pdb_databases.specs.Answer.{map_with};
@@ -272,7 +271,8 @@ impl<'a, F: Drop> FileSymbolizer<'a, F> {
     /// What is held of the file: its tables, of which formatters and contexts are made.
     pub fn held(&self) -> &'a Held
         ensures held { result.now ≡ self.now.held }
-        ensures loaded { IsKnown self.now → IsLoadedWith self.now.order self.now.contents result.now }
+        ensures loaded { IsKnown self.now
+            → IsLoadedWith self.now.order self.now.contents result.now }
         ensures ordered { IsOrdered result.now.tables.map }
     {
         self.held

@@ -4,12 +4,20 @@
 //! How much of a file is read, and how often it is asked again, may change. Which fault keeps it
 //! from being loaded may not, nor what it answers.
 //!
+//! Names of functions are made with the default flags, or with others:
+//!
+//! ```rust
+//! let flags = TypeFormatterFlags::default() | TypeFormatterFlags::NO_ARGUMENTS;
+//! let mut context = symbolizer.context_with_flags(rt.alloc(), flags)?;
+//! ```
+//!
 //! | to | call |
 //! |---|---|
 //! | load a file that is in memory | [`Symbolizer::open`], `open_with_order` |
 //! | have a context or a formatter over it | [`Symbolizer::context`], `type_formatter` |
 //! | load a file that is read on demand | [`FileSymbolizer::open`], `open_with_flags` |
 //! | ask it for frames | [`FileSymbolizer::find_frames`], `find_frames_run` |
+//! | ask it by what was read | `find_held_shared_frames`, then `go_on` |
 //! | ask its context more than one question | `take_context`, `put_context`, `go_on` |
 //! | ask for modules before they are needed | `ask`, `ask_between`, `ask_all` |
 //! | see which image a database belongs to | [`FileOnDemand::identity`], [`Symbolizer::identity`] |

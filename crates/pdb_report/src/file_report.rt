@@ -17,7 +17,7 @@ ghost use Rattle.pdb_report_texts.specs.RunFaults.{OnLoad, OnRead, OnWrite, OnTo
 ghost use Rattle.pdb_report_texts.specs.RunFaults.{IsOfFileFrames, OnMemoryOrFile, UnlessLoad};
 ghost use Rattle.pdb_symbols_modules.specs.Streams.{streams};
 
-use crate::lines::{append_line, append_text};
+use crate::lines::{append_found, append_no_address, append_text};
 use crate::report::{AtEnd, let_go};
 use pdb_databases::{FileOnDemand, FileSymbolizer, NotLoaded, TRIES};
 use pdb_engine::{
@@ -58,7 +58,7 @@ impl<'a, F: Drop> Model for FileLines<'a, F> {
 ///
 /// # Errors
 /// `AllocError` where memory runs out, or where something has to be read first.
-#[tactic(auto, using(pdb_databases::proofs::FileSteps::context_asked, crate::proofs::FileLines::line_answered))]
+#[tactic(auto, using(crate::proofs::FileLines::found_known), unfolding(pdb_report_texts::specs::AddressText::line_text))]
 fn append_held_line<F: Drop>(
     alloc: Global,
     symbolizer: &mut FileSymbolizer<'_, F>,
@@ -72,14 +72,16 @@ fn append_held_line<F: Drop>(
     ensures views { symbolizer.new.views ≡ symbolizer.old.views }
     ensures text { IsKnown symbolizer.new → OnOk result (string_bytes room.new
         ≡ string_bytes room.old
-        ++ line_text (answer_with symbolizer.old.order (streams symbolizer.old.contents)) line.now) }
+        ++ line_text (answer_with symbolizer.old.order
+        (streams symbolizer.old.contents)) line.now) }
 {
-    let Some(mut context) = symbolizer.take_context() else {
-        return Err(AllocError);
-    };
-    let appended = append_line(alloc, &mut context, line, room);
-    symbolizer.put_context(context);
-    appended
+    match parse_address(line) {
+        None => append_no_address(room),
+        Some(address) => {
+            let found = symbolizer.find_held_shared_frames(alloc, address);
+            append_found(address, found, room)
+        }
+    }
 }
 
 impl<'a, F: FileExt + Drop> FileLines<'a, F> {

@@ -28,8 +28,8 @@ use std::alloc::{AllocError, Global};
 use std::io::Write;
 use std::os::unix::fs::FileExt;
 
-/// The text of the report on a range by what was read of a file, and what counting took. The context
-/// is let go.
+/// The text of the report on a range by what was read of a file, and what counting took. The
+/// context is let go.
 ///
 /// # Errors
 /// `AllocError` where memory runs out, where something has to be read first, or where there is no

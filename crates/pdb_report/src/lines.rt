@@ -1,11 +1,13 @@
 //! What is written for a line of the input, by a context.
 
-ghost use Rattle.std.specs.Prelude.{◌≡◌, ◌++◌, [], OnErr, OnOk, Some, string_bytes};
+ghost use Rattle.std.specs.Prelude.{◌≡◌, ◌++◌, [], None, OnErr, OnOk, Some, string_bytes};
 ghost use Rattle.pdb_addr2line.specs.Context.{lasting};
+ghost use Rattle.pdb_databases.specs.FileFrames.{FindsHeldFrames};
 ghost use Rattle.pdb_report.specs.Answer.{answer_of};
+ghost use Rattle.pdb_report_texts.specs.AddressText.{Answers as AnswersTo};
 ghost use Rattle.pdb_report_texts.specs.AddressText.{line_text as text_of_line, text_at};
 
-use pdb_addr2line::{Context, Error, ModuleProvider};
+use pdb_addr2line::{Context, Error, ModuleProvider, SharedFunctionFrames};
 use pdb_engine::{AddressStart, Answers, parse_address};
 use pdb_report_texts::{append_address, append_unreadable};
 use std::alloc::{AllocError, Global};
@@ -16,19 +18,18 @@ use std::mem::replace;
 /// ones is used again.
 const LONG_TEXT: usize = 1_048_576;
 
-/// Appends what is written for an address.
+/// Appends what is written for an address at which this was found.
 #[tactic(auto, using(crate::proofs::ToldSteps::found_text, crate::proofs::ToldSteps::unreadable_text))]
-fn append_address_lines<P: ModuleProvider>(
-    alloc: Global,
-    context: &mut Context<'_, '_, P>,
+pub(crate) fn append_found(
     address: u32,
+    found: Result<Option<SharedFunctionFrames<'_>>, Error>,
     text: &mut String,
 ) -> Result<(), AllocError>
-    ensures same { lasting context.new ≡ lasting context.old }
-    ensures text { OnOk result (string_bytes text.new
-        ≡ string_bytes text.old ++ text_at (answer_of P.provided context.old) (Some address)) }
+    ensures { (answers : AnswersTo) → FindsHeldFrames found.entry (answers address)
+        → OnOk result (string_bytes text.new
+        ≡ string_bytes text.old ++ text_at answers (Some address)) }
 {
-    match context.find_shared_frames(alloc, address) {
+    match found {
         Ok(found) => {
             append_address(text, address, &found)?;
             Ok(())
@@ -41,8 +42,17 @@ fn append_address_lines<P: ModuleProvider>(
     }
 }
 
+/// Appends what is written for a line that isn't an address.
+pub(crate) fn append_no_address(text: &mut String) -> Result<(), AllocError>
+    ensures { (answers : AnswersTo) → OnOk result
+        (string_bytes text.new ≡ string_bytes text.old ++ text_at answers None) }
+{
+    text.push_str("not an address\n")?;
+    Ok(())
+}
+
 /// Appends what is written for a line of the input.
-#[tactic(auto, unfolding(pdb_report_texts::specs::AddressText::line_text))]
+#[tactic(auto, using(pdb_databases::proofs::FileSteps::told_found), unfolding(pdb_report_texts::specs::AddressText::line_text))]
 pub(crate) fn append_line<P: ModuleProvider>(
     alloc: Global,
     context: &mut Context<'_, '_, P>,
@@ -54,11 +64,11 @@ pub(crate) fn append_line<P: ModuleProvider>(
         ≡ string_bytes text.old ++ text_of_line (answer_of P.provided context.old) line.now) }
 {
     match parse_address(line) {
-        None => {
-            text.push_str("not an address\n")?;
-            Ok(())
+        None => append_no_address(text),
+        Some(address) => {
+            let found = context.find_shared_frames(alloc, address);
+            append_found(address, found, text)
         }
-        Some(address) => append_address_lines(alloc, context, address, text),
     }
 }
 

@@ -8,6 +8,7 @@ abbrev pub invariant-loop : goal.invariant-loop
 invariant-loop g l = record {
   contents : l.symbolizer.contents ≡ l.fn.symbolizer.contents;
   order : l.symbolizer.order ≡ l.fn.symbolizer.order;
+  flags : l.symbolizer.flags ≡ l.fn.symbolizer.flags;
   grows : Grows l.fn.symbolizer.views l.symbolizer.views;
   unasked : IsUnasked l.symbolizer;
 }

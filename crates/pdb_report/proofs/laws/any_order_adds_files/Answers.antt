@@ -1,5 +1,5 @@
 use Rattle.std.proofs.Common.{ap}
-use Rattle.pdb_report.specs.Answer.{answer_by, answer_with, database_by, database_with, files_by, files_with, map_by, map_with, answer_named, database_named, files_named}
+use Rattle.pdb_report.specs.Answer.{answer_by, answer_named, database_by, database_named, files_by, files_named, map_by, map_with}
 use Rattle.pdb_report.proofs.AnyOrder.{faults_same, loads_same, none_for_order}
 use Rattle.pdb_report.proofs.laws.any_order_adds_files.Goals as goal
 
