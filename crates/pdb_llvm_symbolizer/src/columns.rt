@@ -1,9 +1,9 @@
 //! The columns of lines.
 
-use crate::on_demand::Held;
 use pdb_addr2line::pdb::{Error, FallibleIterator, LineProgram, Module, PdbInternalSectionOffset};
 use pdb_addr2line::{KeptModules, ModuleProvider};
 use pdb_columns::{column_for, has_columns};
+use pdb_databases::Held;
 use std::alloc::{AllocError, Global};
 use std::collections::BTreeMap;
 

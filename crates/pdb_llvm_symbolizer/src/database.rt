@@ -3,33 +3,27 @@
 use crate::arguments::Arguments;
 use crate::folders::{find_in, unless_memory};
 use crate::image_file::read_image;
-use crate::on_demand::{Held, HeldFile, ReadFile};
 use crate::open_error::OpenError;
 use crate::regular_file::open_regular;
 use crate::stores::find_in_stores;
 use bumpalo::Bump;
-use pdb_addr2line::ContextPdbData;
-use pdb_addr2line::pdb::PDB;
-use pdb_file_views::FileSource;
+use pdb_databases::{ContributionOrder, FileOnDemand, FileSymbolizer, TypeFormatterFlags};
+use pdb_file_views::reach;
 use pdb_image::{Image, PdbIdentity};
 use pdb_llvm_requests::{split_identity, without_architecture};
-use pdb_loading::{ContributionOrder, LoadFault, load_file};
 use std::alloc::{AllocError, Global};
 use std::fs;
 use std::io::{self, ErrorKind};
 use std::os::unix::fs::FileExt;
 use std::rt::Files;
 
-/// How often loading goes on after it read what was missing.
-const ROUNDS: u32 = 32;
-
 /// A database that is read on demand, with where its image wants to be loaded.
 #[derive(Drop)]
 pub struct Database<'a, F: Drop> {
     /// The image base; 0 of a database alone.
     pub image_base: u64,
-    /// What is held of its file, in the arena.
-    pub file: HeldFile<'a, F>,
+    /// What answers by its file. What is held of that lies in the arena.
+    pub file: FileSymbolizer<'a, F>,
 }
 
 /// What is read of an image: its base, and the identity and path of its database.
@@ -87,83 +81,50 @@ fn beside(rt: &(impl Files + AllocGlobal), file: &str, name: &str) -> Result<Str
     }
 }
 
-/// Checks that the database of a source has an identity.
-fn check_build(alloc: Global, source: &FileSource, wanted: PdbIdentity) -> Result<(), OpenError> {
-    let mut pdb = PDB::open(alloc, source.share(source.limits())?)?;
-    let information = pdb.pdb_information(alloc)?;
-    let age = pdb.debug_information(alloc)?.age();
-    if !wanted.matches(&PdbIdentity::of_pdb(information.guid, information.age, age)) {
-        return Err(OpenError::OtherBuild);
-    }
-    Ok(())
-}
-
-/// Reads what contexts are made of, in the order in which all programs do; section contributions
-/// may stand in any. With an identity, that of the database has to match it.
-fn load_source(
-    alloc: Global,
-    source: FileSource,
-    identity: Option<PdbIdentity>,
-) -> Result<Held, OpenError> {
-    if let Some(wanted) = identity {
-        check_build(alloc, &source, wanted)?;
-    }
-    let loaded = load_file(alloc, source, ContributionOrder::Any)?;
-    let (source, held) = loaded.into_parts();
-    drop(source);
-    Ok(ContextPdbData::from_held(held))
-}
-
-/// Loads a database that is read on demand. With an identity, that of the database has to match it.
-fn load_on_demand<F: FileExt + Drop>(
-    alloc: Global,
-    file: &mut ReadFile<F>,
-    identity: Option<PdbIdentity>,
-) -> Result<Held, OpenError> {
-    for _ in 0..ROUNDS {
-        let source = file.source(alloc)?;
-        match load_source(alloc, source, identity) {
-            Err(OpenError::Load(LoadFault::OutOfMemory)) => {}
-            loaded => return loaded,
-        }
-        if !file.read_wanted(alloc)? {
-            return Err(OpenError::Load(LoadFault::OutOfMemory));
-        }
-    }
-    Err(OpenError::Load(LoadFault::OutOfMemory))
+/// The flags of the names of functions: they have no arguments.
+fn flags() -> TypeFormatterFlags {
+    TypeFormatterFlags::default() | TypeFormatterFlags::NO_ARGUMENTS
 }
 
 /// The database of a file. With an identity, that of the database has to match it.
 fn load<'a, F: FileExt + Drop>(
     alloc: Global,
-    arena: &'a Bump,
-    mut file: ReadFile<F>,
+    mut file: FileOnDemand<'a, F>,
     image_base: u64,
     identity: Option<PdbIdentity>,
 ) -> Result<Database<'a, F>, OpenError> {
-    let held = load_on_demand(alloc, &mut file, identity)?;
-    let held = arena.try_alloc(held)?;
-    Ok(Database {
-        image_base,
-        file: HeldFile::new(arena, file, held),
-    })
+    if let Some(wanted) = identity {
+        if !wanted.matches(&file.identity(alloc)?) {
+            return Err(OpenError::OtherBuild);
+        }
+    }
+    match FileSymbolizer::open_with_flags(alloc, file, flags()) {
+        Ok(file) => Ok(Database { image_base, file }),
+        Err(refused) => Err(OpenError::from(refused.fault)),
+    }
 }
 
-/// A regular file at a path, of which nothing was read.
-fn open_read<F: FileExt + Drop>(
+/// A regular file at a path, of which nothing was read. Section contributions may stand in any
+/// order.
+fn open_read<'a, F: FileExt + Drop>(
     rt: &(impl Files<File = F> + AllocGlobal),
+    arena: &'a Bump,
     path: &str,
-) -> Result<ReadFile<F>, OpenError> {
+) -> Result<FileOnDemand<'a, F>, OpenError> {
     let (file, size) = open_regular(rt, path)?;
-    ReadFile::new(rt.alloc(), file, size)
+    let size = reach(&file, size)?;
+    let mut read = FileOnDemand::new(rt.alloc(), arena, file, size)?;
+    read.order = ContributionOrder::Any;
+    Ok(read)
 }
 
 /// The file of an image's database, at a path.
-fn database_at<F: FileExt + Drop>(
+fn database_at<'a, F: FileExt + Drop>(
     rt: &(impl Files<File = F> + AllocGlobal),
+    arena: &'a Bump,
     path: &str,
-) -> Result<ReadFile<F>, OpenError> {
-    match open_read(rt, path) {
+) -> Result<FileOnDemand<'a, F>, OpenError> {
+    match open_read(rt, arena, path) {
         Err(OpenError::File(reason)) => {
             let path = String::from_str(rt.alloc(), path)?;
             Err(OpenError::DatabaseFile(path, reason))
@@ -173,43 +134,45 @@ fn database_at<F: FileExt + Drop>(
 }
 
 /// The file of an image's database in the first store that has it.
-fn database_in_stores<F: FileExt + Drop>(
+fn database_in_stores<'a, F: FileExt + Drop>(
     rt: &(impl Files<File = F> + AllocGlobal),
+    arena: &'a Bump,
     stores: &[String],
     name: &str,
     identity: PdbIdentity,
-) -> Result<Option<ReadFile<F>>, OpenError> {
+) -> Result<Option<FileOnDemand<'a, F>>, OpenError> {
     if stores.is_empty() {
         return Ok(None);
     }
     let identity = format!(in rt.alloc(); "{identity}")?;
     match find_in_stores(rt, stores, name, identity.as_str())? {
-        Some(path) => Ok(Some(database_at(rt, path.as_str())?)),
+        Some(path) => Ok(Some(database_at(rt, arena, path.as_str())?)),
         None => Ok(None),
     }
 }
 
 /// The file of an image's database: the one that is given, or that beside the image, or in a store,
 /// or at the path that the image names.
-fn database_of_image<F: FileExt + Drop>(
+fn database_of_image<'a, F: FileExt + Drop>(
     rt: &(impl Files<File = F> + AllocGlobal),
+    arena: &'a Bump,
     file: &str,
     record: &ImageRecord,
     arguments: &Arguments,
-) -> Result<ReadFile<F>, OpenError> {
+) -> Result<FileOnDemand<'a, F>, OpenError> {
     if let Some(given) = &arguments.database {
-        return database_at(rt, given.as_str());
+        return database_at(rt, arena, given.as_str());
     }
     let path = record.path.as_str();
     let name = file_name(path);
     let near = beside(rt, file, name)?;
-    match database_at(rt, near.as_str()) {
+    match database_at(rt, arena, near.as_str()) {
         Err(OpenError::DatabaseFile(_, _)) => {}
         found => return found,
     }
-    match database_in_stores(rt, &arguments.stores, name, record.identity)? {
+    match database_in_stores(rt, arena, &arguments.stores, name, record.identity)? {
         Some(file) => Ok(file),
-        None => database_at(rt, path),
+        None => database_at(rt, arena, path),
     }
 }
 
@@ -222,14 +185,8 @@ fn open_image<'a, F: FileExt + Drop>(
 ) -> Result<Database<'a, F>, OpenError> {
     let image = read_image(rt, file)?;
     let record = image_record(rt.alloc(), image.as_slice())?;
-    let database = database_of_image(rt, file, &record, arguments)?;
-    load(
-        rt.alloc(),
-        arena,
-        database,
-        record.base,
-        Some(record.identity),
-    )
+    let database = database_of_image(rt, arena, file, &record, arguments)?;
+    load(rt.alloc(), database, record.base, Some(record.identity))
 }
 
 /// Reads the database of a file into an arena: of an image, or the file itself.
@@ -239,11 +196,11 @@ fn open_file<'a, F: FileExt + Drop>(
     file: &str,
     arguments: &Arguments,
 ) -> Result<Database<'a, F>, OpenError> {
-    let opened = open_read(rt, file)?;
+    let opened = open_read(rt, arena, file)?;
     if is_image(&opened.file)? {
         return open_image(rt, arena, file, arguments);
     }
-    load(rt.alloc(), arena, opened, 0, None)
+    load(rt.alloc(), opened, 0, None)
 }
 
 /// Whether a file begins as an image does.

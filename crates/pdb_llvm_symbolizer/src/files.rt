@@ -4,11 +4,11 @@ use crate::arguments::Arguments;
 use crate::loaded::{AskedAddress, FileAnswers, load};
 use crate::open_error::OpenError;
 use bumpalo::Bump;
+use pdb_databases::LoadFault;
 use pdb_llvm_requests::{Command, LineRequest, RequestFault, RequestedFile, read_request};
 use pdb_llvm_texts::{
     ReportedFrame, Style, append_error, append_frames, append_no_data, append_no_locals,
 };
-use pdb_loading::LoadFault;
 use std::alloc::{AllocError, Global};
 use std::collections::BTreeMap;
 use std::os::unix::fs::FileExt;

@@ -1,7 +1,11 @@
 //! The first row of a function whose first row lies after its start.
 
-use crate::loaded::{FileContext, frames_at};
+ghost use Rattle.std.specs.Prelude.{◌≡◌};
+ghost use Rattle.pdb_addr2line.specs.Context.{lasting};
+
+use crate::loaded::frames_at;
 use pdb_addr2line::{Function, SharedFunctionFrames};
+use pdb_databases::FileContext;
 use pdb_llvm_texts::{Asked, ReportOptions, ReportedFrame, report_frame};
 use std::alloc::{AllocError, Global};
 
@@ -31,7 +35,9 @@ fn has_begun_at(
     context: &mut FileContext<'_>,
     start: u32,
     rva: u32,
-) -> Result<bool, AllocError> {
+) -> Result<bool, AllocError>
+    ensures { lasting context.new ≡ lasting context.old }
+{
     let found = frames_at(context, alloc, rva)?;
     Ok(has_begun(&found, start))
 }
@@ -44,7 +50,9 @@ fn first_begun(
     start: u32,
     before: u32,
     last: u32,
-) -> Result<u32, AllocError> {
+) -> Result<u32, AllocError>
+    ensures { lasting context.new ≡ lasting context.old }
+{
     let mut before = before;
     let mut begun = last;
     for _ in 0..u32::BITS {
@@ -73,7 +81,9 @@ pub fn with_first_row<'a>(
     function: &Option<Function>,
     found: &Option<SharedFunctionFrames<'a>>,
     rva: u32,
-) -> Result<Option<FirstRow<'a>>, AllocError> {
+) -> Result<Option<FirstRow<'a>>, AllocError>
+    ensures { lasting context.new ≡ lasting context.old }
+{
     let Some(
         Function {
             start_rva,

@@ -1,43 +1,38 @@
 //! A file that is loaded, and the answers for its addresses.
 
+ghost use Rattle.std.specs.Prelude.{◌≡◌};
+ghost use Rattle.pdb_addr2line.specs.Context.{lasting};
+
 use crate::arguments::Arguments;
 use crate::choices::FunctionName;
 use crate::columns::Columns;
 use crate::database::{Database, open};
 use crate::first_row::{FirstRow, with_first_row};
 use crate::names::FunctionNames;
-use crate::on_demand::{Held, HeldFile};
 use crate::open_error::OpenError;
 use crate::ordered_map::OrderedMap;
 use bumpalo::Bump;
-use pdb_addr2line::maybe_owned::MaybeOwned;
-use pdb_addr2line::{
-    Context, ContributionOrder, Error, Function, KeptModules, SharedFunctionFrames,
-    TypeFormatterFlags,
-};
+use pdb_addr2line::{Error, Function, SharedFunctionFrames};
+use pdb_databases::{FileContext, FileSymbolizer, TRIES};
 use pdb_llvm_requests::{Command, rva_of};
 use pdb_llvm_texts::{
     OwnFrame, ReportedFrame, append_frames, append_no_data, append_no_locals, report_frames,
 };
-use pdb_loading::LoadFault;
 use std::alloc::{AllocError, Global};
 use std::os::unix::fs::FileExt;
 use std::rt::Files;
-
-/// A context over what is held of a file. It names functions without arguments.
-pub type FileContext<'a> = Context<'a, 'static, KeptModules<'static>>;
-
-/// How often an address is asked for again after what it lacked was read. A file of which all was
-/// read lacks nothing.
-const TRIES: u32 = 8;
 
 /// What answers the addresses of a file.
 #[derive(Drop)]
 pub struct FileAnswers<'a, F: Drop> {
     image_base: u64,
-    file: HeldFile<'a, F>,
-    /// `None` once memory ran out while one was made.
-    context: Option<FileContext<'a>>,
+    file: FileSymbolizer<'a, F>,
+    texts: AddressTexts<'a>,
+}
+
+/// What names the functions of a file, and the columns of its lines.
+#[derive(Drop)]
+struct AddressTexts<'a> {
     names: FunctionNames<'a>,
     columns: Columns<'a>,
 }
@@ -91,50 +86,18 @@ impl<'a> KnownAddress<'a> {
 }
 
 /// What answers the addresses of a database.
-fn over<'a, F: FileExt + Drop>(
-    alloc: Global,
-    database: Database<'a, F>,
-) -> Result<FileAnswers<'a, F>, OpenError> {
+fn over<'a, F: FileExt + Drop>(alloc: Global, database: Database<'a, F>) -> FileAnswers<'a, F> {
     let Database { image_base, file } = database;
     let held = file.held();
-    let (context, names) = context_and_names(alloc, held)?;
-    Ok(FileAnswers {
+    let map = OrderedMap::new(file.address_map());
+    FileAnswers {
         image_base,
         file,
-        context: Some(context),
-        names,
-        columns: Columns::new(alloc, held),
-    })
-}
-
-/// A context over what is held of a file, and what names its functions. Section contributions may
-/// stand in any order.
-fn context_and_names<'a>(
-    alloc: Global,
-    held: &'a Held,
-) -> Result<(FileContext<'a>, FunctionNames<'a>), OpenError> {
-    let Some(map) = OrderedMap::of(held.address_map()) else {
-        return Err(OpenError::Load(LoadFault::AddressTableDecreases));
-    };
-    let context = held.make_context_with_order(alloc, flags(), ContributionOrder::Any)?;
-    Ok((context, FunctionNames::new(held, map)))
-}
-
-/// The flags of the names of functions: they have no arguments.
-fn flags() -> TypeFormatterFlags {
-    TypeFormatterFlags::default() | TypeFormatterFlags::NO_ARGUMENTS
-}
-
-/// A context over other modules, of the parts of a context that is let go.
-fn over_modules<'a>(
-    alloc: Global,
-    held: &'a Held,
-    modules: &'a KeptModules<'static>,
-    context: FileContext<'a>,
-) -> Result<FileContext<'a>, Error> {
-    let formatter = held.make_type_formatter_over(alloc, modules, flags())?;
-    let parts = context.into_parts();
-    Context::with_parts(alloc, modules, parts, MaybeOwned::Owned(formatter))
+        texts: AddressTexts {
+            names: FunctionNames::new(held, map),
+            columns: Columns::new(alloc, held),
+        },
+    }
 }
 
 /// Loads a file into an arena, which holds its memory.
@@ -148,7 +111,7 @@ pub fn load<'a, F: FileExt + Drop>(
     file: &str,
 ) -> Result<FileAnswers<'a, F>, OpenError> {
     let database = open(rt, arena, file, arguments)?;
-    over(rt.alloc(), database)
+    Ok(over(rt.alloc(), database))
 }
 
 /// The frame of an address without a function.
@@ -166,7 +129,9 @@ pub fn frames_at<'a>(
     context: &mut FileContext<'a>,
     alloc: Global,
     rva: u32,
-) -> Result<Option<SharedFunctionFrames<'a>>, AllocError> {
+) -> Result<Option<SharedFunctionFrames<'a>>, AllocError>
+    ensures { lasting context.new ≡ lasting context.old }
+{
     match context.find_shared_frames(alloc, rva) {
         Ok(found) => Ok(found),
         Err(Error::OutOfMemory) => Err(AllocError),
@@ -174,7 +139,7 @@ pub fn frames_at<'a>(
     }
 }
 
-impl<'a, F: FileExt + Drop> FileAnswers<'a, F> {
+impl<'a> AddressTexts<'a> {
     /// The name of the function at an address, by the names that are asked for.
     fn name_of(
         &mut self,
@@ -190,36 +155,6 @@ impl<'a, F: FileExt + Drop> FileAnswers<'a, F> {
             FunctionName::Linkage => self.names.linkage_name(alloc, function, demangle, rva)?,
         };
         Ok(Some(name))
-    }
-
-    /// Appends the answer for an address that has an RVA, by what was read.
-    fn append_at(
-        &mut self,
-        alloc: Global,
-        arguments: &Arguments,
-        asked: AskedAddress<'_>,
-        rva: u32,
-        output: &mut Vec<u8>,
-    ) -> Result<(), AllocError> {
-        let Some(mut context) = self.context.take() else {
-            return Err(AllocError);
-        };
-        let appended = self.append_by(alloc, &mut context, arguments, (asked, rva), output);
-        self.context = Some(context);
-        appended
-    }
-
-    /// Appends the answer for an address that has an RVA, by a context.
-    fn append_by(
-        &mut self,
-        alloc: Global,
-        context: &mut FileContext<'a>,
-        arguments: &Arguments,
-        (asked, rva): (AskedAddress<'_>, u32),
-        output: &mut Vec<u8>,
-    ) -> Result<(), AllocError> {
-        let known = self.known_at(alloc, context, arguments, rva)?;
-        known.append(alloc, arguments, (asked, rva), output)
     }
 
     /// The column of the line of the function's own frame at an address, 0 where it isn't known.
@@ -249,7 +184,9 @@ impl<'a, F: FileExt + Drop> FileAnswers<'a, F> {
         context: &mut FileContext<'a>,
         arguments: &Arguments,
         rva: u32,
-    ) -> Result<KnownAddress<'a>, AllocError> {
+    ) -> Result<KnownAddress<'a>, AllocError>
+        ensures { lasting context.new ≡ lasting context.old }
+    {
         let found = frames_at(context, alloc, rva)?;
         let function = self.names.function_at(alloc, context, rva)?;
         let first = with_first_row(alloc, context, &function, &found, rva)?;
@@ -266,27 +203,35 @@ impl<'a, F: FileExt + Drop> FileAnswers<'a, F> {
             column,
         })
     }
+}
 
-    /// Reads what was asked for and is missing, and makes a context over it. Returns whether
-    /// anything was missing. What keeps the file from being read is reported as out of memory.
-    fn go_on(&mut self, alloc: Global) -> Result<bool, AllocError> {
-        let Some(context) = &self.context else {
+impl<'a, F: FileExt + Drop> FileAnswers<'a, F> {
+    /// What is known of an address, by what was read.
+    fn known_at(
+        &mut self,
+        alloc: Global,
+        arguments: &Arguments,
+        rva: u32,
+    ) -> Result<KnownAddress<'a>, AllocError> {
+        let Some(mut context) = self.file.take_context() else {
             return Err(AllocError);
         };
-        let Ok(more) = self.file.read_more(alloc, context.provider()) else {
-            return Err(AllocError);
-        };
-        let Some(modules) = more else {
-            return Ok(false);
-        };
-        let Some(context) = self.context.take() else {
-            return Err(AllocError);
-        };
-        let Ok(context) = over_modules(alloc, self.file.held(), modules, context) else {
-            return Err(AllocError);
-        };
-        self.context = Some(context);
-        Ok(true)
+        let known = self.texts.known_at(alloc, &mut context, arguments, rva);
+        self.file.put_context(context);
+        known
+    }
+
+    /// Appends the answer for an address that has an RVA, by what was read.
+    fn append_at(
+        &mut self,
+        alloc: Global,
+        arguments: &Arguments,
+        asked: AskedAddress<'_>,
+        rva: u32,
+        output: &mut Vec<u8>,
+    ) -> Result<(), AllocError> {
+        let known = self.known_at(alloc, arguments, rva)?;
+        known.append(alloc, arguments, (asked, rva), output)
     }
 
     /// Appends the answer for an address that has an RVA. What it lacks is read first.
@@ -304,8 +249,10 @@ impl<'a, F: FileExt + Drop> FileAnswers<'a, F> {
                 Ok(()) => return Ok(()),
                 Err(_) => output.truncate(before),
             }
-            if !self.go_on(alloc)? {
-                return Err(AllocError);
+            // What keeps the file from being read is reported as out of memory.
+            match self.file.go_on(alloc) {
+                Ok(true) => {}
+                Ok(false) | Err(_) => return Err(AllocError),
             }
         }
         Err(AllocError)

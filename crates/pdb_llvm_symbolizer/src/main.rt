@@ -19,7 +19,6 @@ mod image_file;
 mod lines;
 mod loaded;
 mod names;
-mod on_demand;
 mod open_error;
 mod ordered_map;
 mod publics;

@@ -1,12 +1,14 @@
 //! The names of functions at addresses, as llvm-symbolizer chooses them.
 
-use crate::loaded::FileContext;
-use crate::on_demand::Held;
+ghost use Rattle.std.specs.Prelude.{◌≡◌};
+ghost use Rattle.pdb_addr2line.specs.Context.{lasting};
+
 use crate::ordered_map::OrderedMap;
 use crate::publics::Publics;
 use crate::undecorated::undecorated;
 use pdb_addr2line::Function;
 use pdb_addr2line::pdb::{MachineType, PdbInternalSectionOffset};
+use pdb_databases::{FileContext, Held};
 use pdb_functions::FunctionKey;
 use std::alloc::{AllocError, Global};
 
@@ -56,12 +58,15 @@ impl<'a> FunctionNames<'a> {
     ///
     /// # Errors
     /// Where memory ran out.
+    #[tactic(auto, using(crate::proofs::ContextSteps::lasting_same))]
     pub fn function_at(
         &self,
         alloc: Global,
         context: &mut FileContext<'a>,
         rva: u32,
-    ) -> Result<Option<Function>, AllocError> {
+    ) -> Result<Option<Function>, AllocError>
+        ensures { lasting context.new ≡ lasting context.old }
+    {
         let Some(place) = self.map.place(rva) else {
             return Ok(None);
         };

@@ -1,8 +1,7 @@
 //! Why a file can't be loaded.
 
-use pdb_addr2line::Error as ContextError;
+use pdb_databases::{FileFault, LoadFault};
 use pdb_image::ImageError;
-use pdb_loading::LoadFault;
 use std::alloc::{AllocError, AllocFailed};
 use std::io::{self, ErrorKind};
 use thiserror::Error;
@@ -42,15 +41,12 @@ impl From<pdb_container::Error> for OpenError {
     }
 }
 
-impl From<LoadFault> for OpenError {
-    fn from(cause: LoadFault) -> OpenError {
-        OpenError::Load(cause)
-    }
-}
-
-impl From<ContextError> for OpenError {
-    fn from(cause: ContextError) -> OpenError {
-        OpenError::Load(LoadFault::from(cause))
+impl From<FileFault> for OpenError {
+    fn from(cause: FileFault) -> OpenError {
+        match cause {
+            FileFault::Load(fault) => OpenError::Load(fault),
+            FileFault::File(kind) => OpenError::from(io::Error::from(kind)),
+        }
     }
 }
 

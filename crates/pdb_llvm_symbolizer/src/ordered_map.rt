@@ -1,6 +1,6 @@
 //! Address maps that can be asked for the places of addresses.
 
-ghost use Rattle.std.specs.Prelude.{◌≡◌, IfSome};
+ghost use Rattle.std.specs.Prelude.{◌≡◌};
 ghost use Rattle.pdb_addresses.specs.Addresses.{IsOrdered};
 
 use pdb_addr2line::pdb::{AddressMap, PdbInternalSectionOffset, Rva};
@@ -23,16 +23,12 @@ impl<'a> Model for OrderedMap<'a> {
 }
 
 impl<'a> OrderedMap<'a> {
-    /// An address map, if it is in order.
-    pub fn of(map: &'a AddressMap<'static>) -> Option<OrderedMap<'a>>
-        ensures map { IfSome result (λ m. m ≡ map.now) }
-        ensures ordered { IfSome result (λ _. IsOrdered map.now) }
+    /// An address map that is in order.
+    pub fn new(map: &'a AddressMap<'static>) -> OrderedMap<'a>
+        requires { IsOrdered map.now }
+        ensures { result ≡ map.now }
     {
-        if map.is_ordered() {
-            Some(OrderedMap { map })
-        } else {
-            None
-        }
+        OrderedMap { map }
     }
 
     /// The place of an RVA in the space in which the database was written, if it has one.
