@@ -10,7 +10,8 @@ PROGRAMS = ["pdb_symbolizer", "pdb_llvm_symbolizer"]
 # The gate proves, compiles and runs the examples, which stand in these crates; and the crates that
 # users of the library name.
 EXAMPLES = ["example_calls", "list_lines", "recorded_cases", "pdb_report_tests"]
-CALLED = ["pdb_addr2line", "pdb_report", "pdb_symbols_modules", "pdb_container_types", "pdb_image"]
+CALLED = ["pdb_addr2line", "pdb_databases", "pdb_report", "pdb_symbols_modules"]
+CALLED += ["pdb_container_types", "pdb_image"]
 top = built.ROOT
 is_unproved = "--unproved" in words
 words += ["--quick"] * is_unproved

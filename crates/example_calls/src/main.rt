@@ -11,12 +11,10 @@
 
 use anyhow::{Context as _, Result, bail};
 use bumpalo::Bump;
-use pdb_addr2line::pdb::{PDB, SharedBytes, TypeIndex};
+use pdb_addr2line::pdb::TypeIndex;
 use pdb_addr2line::{
-    Context, ContextPdbData, Frame, FrameRow, Function, ModuleProvider, TypeFormatter,
-    TypeFormatterFlags,
+    Context, Frame, FrameRow, Function, ModuleProvider, TypeFormatter, TypeFormatterFlags,
 };
-use pdb_file_views::FileSource;
 use pdb_report::{
     FileOnDemand, FileSymbolizer, RunFault, Symbolizer, Watched, parse_address, run_sizes,
 };
@@ -27,21 +25,19 @@ use std::os::unix::fs::FileExt;
 use std::rt::{Env, Files};
 use std::{env, fs};
 
-/// A database that is held for formatters.
-type Held = ContextPdbData<'static, 'static, FileSource>;
-
 fn main(rt: HostRuntime) -> Result<()> {
     let file = env::args(&rt)?
         .nth(1)
         .context("usage: example_calls FILE ADDRESS..")?;
-    tell_addresses(&rt, file.as_str())?;
+    let symbolizer = load(&rt, file.as_str())?;
+    tell_addresses(&rt, &symbolizer)?;
     tell_on_demand(&rt, file.as_str())?;
-    tell_types(&rt, file.as_str())?;
+    tell_types(&rt, &symbolizer)?;
     let bytes = fs::read(&rt, file.as_str())?;
     write_sizes(rt.alloc(), bytes, &mut Watched::new(rt.stdout()))
 }
 
-/// Loads a file for questions about addresses.
+/// Loads a file for questions about addresses and types.
 fn load(rt: &(impl Files + AllocGlobal), file: &str) -> Result<Symbolizer> {
     let bytes = fs::read(rt, file)?;
     match Symbolizer::open(rt.alloc(), bytes) {
@@ -51,16 +47,11 @@ fn load(rt: &(impl Files + AllocGlobal), file: &str) -> Result<Symbolizer> {
 }
 
 /// Prints what is at each address of the program's arguments, and all functions.
-fn tell_addresses(rt: &(impl Env + Files + Print + AllocGlobal), file: &str) -> Result<()> {
-    let symbolizer = load(rt, file)?;
-    match symbolizer.context(rt.alloc()) {
-        Ok(mut context) => {
-            tell_words(rt, &mut context)?;
-            tell_functions(rt, &mut context)?;
-            tell_files(rt, &mut context)
-        }
-        Err(fault) => bail!("{file}: {fault}"),
-    }
+fn tell_addresses(rt: &(impl Env + Print + AllocGlobal), symbolizer: &Symbolizer) -> Result<()> {
+    let mut context = symbolizer.context(rt.alloc())?;
+    tell_words(rt, &mut context)?;
+    tell_functions(rt, &mut context)?;
+    tell_files(rt, &mut context)
 }
 
 /// Prints the function and the frames at each address of the program's arguments.
@@ -175,7 +166,7 @@ where
     let file = fs::open(rt, path)?;
     let size = file.metadata()?.len();
     let arena = Bump::new(rt.alloc());
-    let source = FileOnDemand::new(rt.alloc(), &arena, &file, size)?;
+    let source = FileOnDemand::new(rt.alloc(), &arena, file, size)?;
     match FileSymbolizer::open(rt.alloc(), source) {
         Ok(mut symbolizer) => tell_demanded(rt, &mut symbolizer),
         Err(refused) => bail!("{path}: {}", RunFault::from(refused.fault)),
@@ -183,7 +174,7 @@ where
 }
 
 /// Prints the frames at each address of the program's arguments, by a file that is read on demand.
-fn tell_demanded<F: FileExt>(
+fn tell_demanded<F: FileExt + Drop>(
     rt: &(impl Env + Print + AllocGlobal),
     symbolizer: &mut FileSymbolizer<'_, F>,
 ) -> Result<()> {
@@ -199,31 +190,15 @@ fn tell_demanded<F: FileExt>(
     Ok(())
 }
 
-/// Prints what formatters say of types.
-fn tell_types(rt: &(impl Files + Print + AllocGlobal), file: &str) -> Result<()> {
-    let bytes = SharedBytes::new(fs::read(rt, file)?)?;
-    let pdb = PDB::open(rt.alloc(), FileSource::whole(bytes))?;
-    let held: Held = ContextPdbData::try_from_file(rt.alloc(), pdb)?;
-    tell_held(rt, &held)
-}
-
-/// Prints what formatters over a database say of types, and all functions without their arguments.
-fn tell_held(rt: &(impl Print + AllocGlobal), held: &Held) -> Result<()> {
-    tell_texts(rt, held.make_type_formatter(rt.alloc())?)?;
+/// Prints what formatters say of types, and all functions without their arguments.
+fn tell_types(rt: &(impl Print + AllocGlobal), symbolizer: &Symbolizer) -> Result<()> {
+    let flags = TypeFormatterFlags::default();
+    tell_texts(rt, symbolizer.type_formatter(rt.alloc(), flags)?)?;
     // Flags replace the default ones, so those that are to stay are named too.
     let flags = TypeFormatterFlags::default() - TypeFormatterFlags::NO_FUNCTION_RETURN;
-    tell_texts(rt, held.make_type_formatter_with_flags(rt.alloc(), flags)?)?;
-    tell_bare_names(rt, held)
-}
-
-/// Prints all functions without their arguments, by a context that is made by hand.
-fn tell_bare_names(rt: &(impl Print + AllocGlobal), held: &Held) -> Result<()> {
-    // A `Symbolizer` refuses a file whose address map is out of order; by hand one has to ask.
-    if !held.address_map().is_ordered() {
-        bail!("the address map is out of order");
-    }
+    tell_texts(rt, symbolizer.type_formatter(rt.alloc(), flags)?)?;
     let flags = TypeFormatterFlags::default() | TypeFormatterFlags::NO_ARGUMENTS;
-    let mut context = held.make_context_with_formatter_flags(rt.alloc(), flags)?;
+    let mut context = symbolizer.context_with_flags(rt.alloc(), flags)?;
     tell_functions(rt, &mut context)
 }
 

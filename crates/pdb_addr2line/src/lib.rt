@@ -6,35 +6,24 @@
 //! the crate pdb-addr2line where it has them.
 //!
 //! A database is read once, and modules of a file when they are first asked for
-//! ([`ContextPdbData`]); contexts and formatters are made of what is held then:
+//! ([`ContextPdbData`]); contexts and formatters are made of what is held then. `Symbolizer` of
+//! `pdb_databases` does so for a file, and refuses one whose address map is out of order. A context
+//! is asked:
 //!
 //! ```rust
-//! let bytes = SharedBytes::new(fs::read(rt, file)?)?;
-//! let pdb = PDB::open(rt.alloc(), FileSource::whole(bytes))?;
-//! let held: Held = ContextPdbData::try_from_file(rt.alloc(), pdb)?;
-//! ```
-//!
-//! `Held` is `ContextPdbData<'static, 'static, FileSource>`, and `FileSource` is of
-//! `pdb_file_views`.
-//!
-//! ```rust
-//! if !held.address_map().is_ordered() {
-//!     bail!("the address map is out of order");
+//! if let Some(found) = context.find_frames(rt.alloc(), address)? {
+//!     for frame in found.frames.iter() {
+//!         tell_frame(rt, frame)?;
+//!     }
 //! }
-//! let flags = TypeFormatterFlags::default() | TypeFormatterFlags::NO_ARGUMENTS;
-//! let mut context = held.make_context_with_formatter_flags(rt.alloc(), flags)?;
 //! ```
 //!
-//! A formatter is handed on by `tell_texts(rt, held.make_type_formatter(rt.alloc())?)`, and asked
-//! there:
+//! And so is a formatter:
 //!
 //! ```rust
 //! let text = formatter.format_function(rt.alloc(), "read", 0, TypeIndex(0x1007))?;
 //! let size = formatter.get_type_size(rt.alloc(), 0, TypeIndex(0x1016))?;
 //! ```
-//!
-//! `Symbolizer` of `pdb_report` does the first half, and refuses a file whose address map is out of
-//! order.
 //!
 //! | to | call |
 //! |---|---|
