@@ -121,8 +121,8 @@ fn forget_procedures_at<'a, I: ModuleTables>(place: &mut KeptModule<'a, I>) -> u
     }
 }
 
-/// Forgets the line rows that are cached of a module, if its data are cached there. Returns about how
-/// many bytes they took.
+/// Forgets the line rows that are cached of a module, if its data are cached there. Returns about
+/// how many bytes they took.
 fn forget_rows_at<'a, I: ModuleTables>(place: &mut KeptModule<'a, I>) -> u64
     ensures { place.new ≡ place.old }
 {
@@ -163,8 +163,8 @@ fn note_left(left: &mut Vec<bool>, number: usize) -> bool {
     }
 }
 
-/// Forgets of the procedures of the module with that index as much as they take too many bytes: line
-/// rows first, which take the least time to be read again.
+/// Forgets what is cached of the procedures of the module with that index, where procedures take
+/// more bytes than they may: line rows first, which take the least time to be read again.
 fn forget_of_procedures<'a, I: ModuleTables>(cached: &mut CachedModules<'a, I>, number: usize)
     requires { number < length cached.old }
     ensures { cached.new ≡ cached.old }
@@ -179,8 +179,9 @@ fn forget_of_procedures<'a, I: ModuleTables>(cached: &mut CachedModules<'a, I>, 
 
 /// Leaves the module that was asked for last, where another one is asked for now. Where much is
 /// cached, the module is forgotten if it is left for the first time: most modules are asked for
-/// once. Else, where procedures take more bytes than they may, its procedures are. Questions that go
-/// from module to module, in turn and again, then find those that were cached first.
+/// once. Else, where procedures take more bytes than they may, its line rows are, or all of its
+/// procedures. Questions that go from module to module, in turn and again, then find those that were
+/// cached first.
 #[tactic(auto, using(crate::proofs::KeptSteps::one_forgotten))]
 fn leave_last<'a, I: ModuleTables>(cached: &mut CachedModules<'a, I>, module_index: usize)
     ensures { (own : ℕ → Option ModuleData) → AreKept own cached.old → AreKept own cached.new }
