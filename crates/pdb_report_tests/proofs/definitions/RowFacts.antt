@@ -50,7 +50,7 @@ use Rattle.pdb_frames.specs.FramesAt.{frames_in_data, row_and_calls, frames_at, 
 use Rattle.pdb_known_modules.specs.KnownModules.{data_of_stream, extended_of, procedure_calls}
 use Rattle.pdb_addr2line.specs.Loading.{tables as tables_read, listed as listed_read, Pdb, load_fault, loaded_with}
 use Rattle.pdb_report.specs.AddressText.{answer_text, line_text}
-use Rattle.pdb_report.specs.Answer.{scope, answer, answer_with, answer_named, scope_named}
+use Rattle.pdb_report.specs.Answer.{answer, answer_named, scope_named}
 use Rattle.pdb_engine.specs.InputLines.{report}
 use Rattle.pdb_report_tests.specs.Samples as samples
 

@@ -6,7 +6,7 @@ use Rattle.pdb_symbols_modules.specs.Streams.{Streams}
 use Rattle.pdb_frames.specs.Depth.{AreAsDeep}
 use Rattle.pdb_frames.proofs.FramesDeep.{frames_deep}
 use Rattle.pdb_resolving.specs.Fault.{Fault}
-use Rattle.pdb_report.specs.Answer.{answer, answer_by, answer_with, scope, answer_named}
+use Rattle.pdb_report.specs.Answer.{answer, answer_by, answer_named, scope}
 use Rattle.pdb_addr2line.specs.Loading.{LoadingFault, Loaded, loaded}
 
 none_is_not_found : {A : Type 0} {x : A} → (let r : Result (Option A) Fault = Ok None in r) ≡ Ok (Some x) → ⊥
