@@ -9,3 +9,5 @@ pub mod PieceRecords
 pub mod Lookup
 pub mod Reading
 pub mod Output
+pub mod Code
+pub mod ToldRanges

@@ -12,6 +12,7 @@
 //! of it, and [`laws::reads_back`], that the text of records reads as these.
 #![tactic(auto)]
 
+mod addresses;
 mod functions;
 mod heads;
 mod inlines;
@@ -22,10 +23,13 @@ mod output;
 mod pieces;
 mod texts;
 mod told;
+mod told_runs;
 
+pub use addresses::{AddressRange, code_ranges, size_of_all};
 pub use functions::FunctionRecords;
 pub use heads::{append_code_id, append_module};
 pub use output::{SymbolsText, write_text};
 pub use pieces::{Call, Piece, Told};
 pub use texts::told_text;
 pub use told::told_of;
+pub use told_runs::{ToldFault, ToldRun, ToldRuns, append_functions};

@@ -1,0 +1,14 @@
+use Rattle.std.proofs.Common.{rules, sym}
+use Rattle.std.proofs.lemmas.List.Sorted.{IsNonDecreasingBy-from_sort_by_key, list_any-IsPermutation}
+use Rattle.pdb_symbol_files.specs.Code.{is_within, start_of}
+use Rattle.pdb_symbol_files.proofs.addresses.in_order.Goals as goal
+
+pub returns-clause-order : goal.returns-clause-order
+returns-clause-order c =
+    IsNonDecreasingBy-from_sort_by_key start_of _ c.sort_unstable_by_key.ensures.sorted
+    (λ a r q k. search rules)
+
+pub returns-clause-same : goal.returns-clause-same
+returns-clause-same c =
+    λ address. sym (list_any-IsPermutation (is_within address) c.args.ranges.items
+    c.sort_unstable_by_key.new.self.items c.sort_unstable_by_key.ensures.permutation)

@@ -1,0 +1,29 @@
+use Rattle.std.proofs.Common.{◌≡◌, ◌++◌, ◌-◌, ◌∙◌, List, ap, get_or, sym, subst, take, ℕ}
+use Rattle.std.specs.Prelude.{Option}
+use Rattle.pdb_symbol_files.specs.Code.{answers_along}
+use Rattle.pdb_symbol_files.specs.PieceRecords.{AreOf}
+use Rattle.pdb_symbol_files.specs.Told.{Answer, Told}
+use Rattle.pdb_symbol_files.specs.ToldRanges.{answers_of_ranges}
+use Rattle.pdb_symbol_files.specs.declared.addresses.AddressRange.{AddressRange}
+use Rattle.pdb_symbol_files.proofs.CodeRanges.{ranges_more}
+use Rattle.pdb_symbol_files.proofs.told_runs.records_of_ranges.Goals as goal
+
+pub loop-range-preserved : goal.loop-range-preserved
+loop-range-preserved g c =
+    let told : ℕ → Option Told = g.R.ToldRuns.told c.args.runs.now in
+    let i = c.loop-range.invariant in
+    let ranges = c.args.ranges.now in
+    let index = c.loop-range.range-index in
+    let none : AddressRange = record { start = 0; end = 0 } in
+    let r = get_or ranges index none in
+    let so_far = answers_of_ranges told (take index ranges) in
+    record {
+      grows = λ known. i.grows (c.add_range.ensures.grows known);
+      same = c.add_range.ensures.same ∙ i.same;
+      of = λ known.
+          subst (λ (xs : List Answer). AreOf c.add_range.new.records xs)
+          (ap (λ (t : ℕ → Option Told). so_far ++ answers_along t r.start (r.end - r.start)) i.same
+          ∙ sym (ranges_more told ranges index none c.loop-range-test.true))
+          (c.in_ok-add_range.ensures.added known so_far
+          (i.of (c.add_range.ensures.grows known)));
+    }

@@ -1,0 +1,16 @@
+use Rattle.std.proofs.Common.{◌≡◌, take}
+use Rattle.pdb_symbol_files.specs.PieceRecords.{AreOf}
+use Rattle.pdb_symbol_files.specs.ToldRanges.{answers_of_ranges}
+use Rattle.pdb_symbol_files.proofs.told_runs.records_of_ranges.Given as goal
+
+-- the records are those of what is told of the ranges so far
+abbrev pub invariant-loop-range : goal.invariant-loop-range
+invariant-loop-range g l =
+    let known = g.R.ToldRuns.known in
+    let told = g.R.ToldRuns.told in
+    record {
+      grows : known l.runs → known l.fn.runs;
+      same : told l.runs ≡ told l.fn.runs;
+      of : known l.runs
+          → AreOf l.records (answers_of_ranges (told l.fn.runs) (take l.range-index l.ranges));
+    }

@@ -1,0 +1,156 @@
+//! What is told of the addresses of an image, run by run.
+
+ghost use Rattle.std.specs.Prelude.{◌≡◌, ◌++◌, ◌-◌, ◌+◌, ◌<◌, ◌≤◌, [], ℕ, IfOk, List, OnOk, Option};
+ghost use Rattle.std.specs.Prelude.{string_bytes};
+ghost use Rattle.pdb_symbol_files.specs.Code.{AreAscending, answers_along, answers_of_code};
+ghost use Rattle.pdb_symbol_files.specs.Code.{in_ranges};
+ghost use Rattle.pdb_symbol_files.specs.PieceRecords.{AreOf};
+ghost use Rattle.pdb_symbol_files.specs.Records.{symbol_records};
+ghost use Rattle.pdb_symbol_files.specs.RecordTexts.{functions_text, numbers_text};
+ghost use Rattle.pdb_symbol_files.specs.Told.{Answer, Told as ToldOf};
+ghost use Rattle.pdb_symbol_files.specs.ToldRanges.{answers_of_ranges};
+
+use crate::addresses::{AddressRange, code_ranges, size_of_all};
+use crate::functions::FunctionRecords;
+use crate::pieces::{Piece, Told};
+use pdb_addresses::ImageSectionHeader;
+use std::alloc::{AllocError, Global};
+use std::io::ErrorKind;
+
+/// What is told of so many addresses from one on.
+#[derive(Debug, Drop)]
+pub struct ToldRun {
+    /// What is told of each of them, if anything is.
+    pub told: Option<Told>,
+    /// How many addresses it is told of.
+    pub count: u32,
+}
+
+/// Why it isn't known what is told of an address.
+#[derive(Debug, Drop)]
+pub enum ToldFault {
+    /// Out of memory.
+    OutOfMemory,
+    /// The database's file couldn't be read, with that kind.
+    File(ErrorKind),
+}
+
+impl From<AllocError> for ToldFault {
+    fn from(_cause: AllocError) -> ToldFault {
+        ToldFault::OutOfMemory
+    }
+}
+
+/// Tells what a symbol file says of addresses, run by run.
+pub trait ToldRuns {
+    // Whether what is told is known. That may be lost, and is never gained: fewer files agree with
+    // more of a file's bytes.
+    ghost known: { Self → Type 0 };
+    // what is told of an address, where that is known
+    ghost told: { Self → ℕ → Option ToldOf };
+
+    /// Makes ready for so many addresses, before the first of them is asked for. Nothing that is
+    /// told depends on it. An implementation that doesn't need it leaves it out.
+    fn prepare(&mut self, _addresses: u64)
+        ensures grows { known self.new → known self.old }
+        ensures same { told self.new ≡ told self.old }
+    {}
+
+    /// What is told of an address, and over how many from there on, before `end`, the same is.
+    ///
+    /// # Errors
+    /// `File` where the database's file couldn't be read; `OutOfMemory`.
+    fn told_run(&mut self, alloc: Global, address: u32, end: u32) -> Result<ToldRun, ToldFault>
+        requires { address < end }
+        ensures some { IfOk result (λ run. 1 ≤ run.count) }
+        ensures within { IfOk result (λ run. address + run.count ≤ end) }
+        ensures told { known self.new → IfOk result (λ run. (a : ℕ) → address ≤ a
+            → a < address + run.count → told self.old a ≡ run.told) }
+        ensures grows { known self.new → known self.old }
+        // Asking changes nothing that is told.
+        ensures same { told self.new ≡ told self.old };
+}
+
+/// Adds a run from an address on.
+fn add_run(records: &mut FunctionRecords, address: u32, run: ToldRun) -> Result<(), AllocError>
+    ensures { (told : ℕ → Option ToldOf) → ((a : ℕ) → address ≤ a → a < address + run.count
+        → told a ≡ run.told) → (answers : List Answer) → AreOf records.old answers
+        → OnOk result (AreOf records.new (answers ++ answers_along told address run.count)) }
+{
+    let ToldRun { told, count } = run;
+    match told {
+        Some(told) => records.add(Piece {
+            address,
+            size: count,
+            told,
+        }),
+        None => Ok(()),
+    }
+}
+
+/// Adds what is told of a range of addresses.
+fn add_range<R: ToldRuns>(
+    alloc: Global,
+    runs: &mut R,
+    range: AddressRange,
+    records: &mut FunctionRecords,
+) -> Result<(), ToldFault>
+    ensures grows { R.known runs.new → R.known runs.old }
+    ensures same { R.told runs.new ≡ R.told runs.old }
+    ensures added { R.known runs.new → (answers : List Answer) → AreOf records.old answers
+        → OnOk result (AreOf records.new (answers
+        ++ answers_along (R.told runs.old) range.start (range.end - range.start))) }
+{
+    let mut address = range.start;
+    while address < range.end {
+        let run = runs.told_run(alloc, address, range.end)?;
+        let count = run.count;
+        add_run(records, address, run)?;
+        address += count;
+    }
+    Ok(())
+}
+
+/// The records of what is told of ranges of addresses.
+fn records_of_ranges<R: ToldRuns>(
+    alloc: Global,
+    runs: &mut R,
+    ranges: &[AddressRange],
+) -> Result<FunctionRecords, ToldFault>
+    ensures grows { R.known runs.new → R.known runs.old }
+    ensures same { R.told runs.new ≡ R.told runs.old }
+    ensures of { R.known runs.new → IfOk result
+        (λ records. AreOf records (answers_of_ranges (R.told runs.old) ranges.now)) }
+{
+    let mut records = FunctionRecords::new(alloc);
+    for range in ranges {
+        add_range(alloc, runs, *range, &mut records)?;
+    }
+    Ok(records)
+}
+
+/// Appends the FILE and INLINE_ORIGIN records of what is told of the addresses at which code may
+/// run, by the image's section headers, and returns the text of the FUNC records with what is below
+/// them.
+///
+/// # Errors
+/// `File` where the database's file couldn't be read; `OutOfMemory`.
+pub fn append_functions<R: ToldRuns>(
+    alloc: Global,
+    runs: &mut R,
+    sections: &[ImageSectionHeader],
+    output: &mut String,
+) -> Result<String, ToldFault>
+    ensures grows { R.known runs.new → R.known runs.old }
+    ensures same { R.told runs.new ≡ R.told runs.old }
+    ensures numbers { R.known runs.new → OnOk result (string_bytes output.new
+        ≡ string_bytes output.old
+        ++ numbers_text (symbol_records (answers_of_code sections.now (R.told runs.old)))) }
+    ensures functions { R.known runs.new → IfOk result (λ text. string_bytes text
+        ≡ functions_text (symbol_records (answers_of_code sections.now (R.told runs.old)))) }
+{
+    let ranges = code_ranges(alloc, sections)?;
+    runs.prepare(size_of_all(ranges.as_slice()));
+    let records = records_of_ranges(alloc, runs, ranges.as_slice())?;
+    Ok(records.finish(output)?)
+}
