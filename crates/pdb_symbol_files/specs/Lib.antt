@@ -11,3 +11,4 @@ pub mod Reading
 pub mod Output
 pub mod Code
 pub mod ToldRanges
+pub mod Heads

@@ -1,12 +1,19 @@
 //! The first records of a symbol file: whose it is.
 
-ghost use Rattle.std.specs.Prelude.{◌≡◌};
+ghost use Rattle.std.specs.Prelude.{◌≡◌, ◌++◌, OnOk, string_bytes};
+ghost use Rattle.pdb_symbol_files.specs.Heads.{code_id_text, file_name as file_name_of};
+ghost use Rattle.pdb_symbol_files.specs.Heads.{identity_text, machine_text};
+ghost use Rattle.pdb_symbol_files.specs.Heads.{machine_name as machine_name_of};
+ghost use Rattle.pdb_symbol_files.specs.Heads.{module_text};
 
 use crate::texts::told_text;
 use std::alloc::{AllocError, Global};
 
 /// The machine's name, by its number (`IMAGE_FILE_MACHINE_*`).
-fn machine_name(machine: u16) -> &'static str {
+#[tactic(auto, unfolding(crate::specs::Heads::machine_name))]
+fn machine_name(machine: u16) -> &'static str
+    ensures { result.now ≡ machine_name_of machine }
+{
     match machine {
         0x8664 => "x86_64",
         0x14c => "x86",
@@ -17,11 +24,30 @@ fn machine_name(machine: u16) -> &'static str {
 }
 
 /// What stands after the last slash of a path.
-fn file_name(path: &str) -> &str {
+
+fn file_name(path: &str) -> &str
+    ensures { result.now ≡ file_name_of path.now }
+{
     match path.rsplit_once('/') {
         Some((_, name)) => name,
         None => path,
     }
+}
+
+/// Appends the MODULE record up to the identity.
+fn append_machine(machine: &str, output: &mut String) -> Result<(), AllocError>
+    ensures { OnOk result (string_bytes output.new ≡ string_bytes output.old
+        ++ machine_text machine.now) }
+{
+    write!(output, "MODULE windows {machine} ")
+}
+
+/// Appends the identity and the database's name, at the end of the MODULE record.
+fn append_identity(identity: &str, name: &str, output: &mut String) -> Result<(), AllocError>
+    ensures { OnOk result (string_bytes output.new ≡ string_bytes output.old
+        ++ identity_text identity.now name.now) }
+{
+    write!(output, "{identity} {name}\n")
 }
 
 /// Appends the MODULE record: the machine, by its number, the identity, as symbol servers name it,
@@ -35,10 +61,14 @@ pub fn append_module(
     identity: &str,
     path: &str,
     output: &mut String,
-) -> Result<(), AllocError> {
+) -> Result<(), AllocError>
+    ensures { OnOk result (string_bytes output.new ≡ string_bytes output.old
+        ++ module_text machine identity.now path.now) }
+{
     let machine = machine_name(machine);
     let name = told_text(alloc, Some(file_name(path)))?;
-    write!(output, "MODULE windows {machine} {identity} {name}\n")
+    append_machine(machine, output)?;
+    append_identity(identity, name.as_str(), output)
 }
 
 /// Appends the INFO record of an image: its time stamp and its size, and the name of its file.
@@ -51,7 +81,10 @@ pub fn append_code_id(
     size_of_image: u32,
     path: &str,
     output: &mut String,
-) -> Result<(), AllocError> {
+) -> Result<(), AllocError>
+    ensures { OnOk result (string_bytes output.new ≡ string_bytes output.old
+        ++ code_id_text time_stamp size_of_image path.now) }
+{
     let name = told_text(alloc, Some(file_name(path)))?;
     write!(
         output,
