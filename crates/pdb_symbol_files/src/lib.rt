@@ -5,6 +5,7 @@
 //! |---|---|
 //! | say an answer as a symbol file does | [`told_of`] |
 //! | make the records of a module's functions | [`FunctionRecords`] |
+//! | make those of all addresses at which code may run | [`append_functions`], by a [`ToldRuns`] |
 //! | make the lines before them | [`append_module`], [`append_code_id`] |
 //! | write a text | [`SymbolsText::write`], [`write_text`] |
 //!

@@ -2,7 +2,6 @@
 //! `pdb_symbols FILE [IMAGE]`.
 #![tactic(auto)]
 
-mod addresses;
 mod answers;
 mod destination;
 mod fault;

@@ -1,6 +1,5 @@
 //! The symbol file's text.
 
-use crate::addresses::{AddressRange, code_ranges, size_of_all};
 use crate::answers::Answers;
 use crate::fault::SymbolsFault;
 use crate::image::{check_build, write_unwinding};
@@ -11,7 +10,8 @@ use crate::undecorated::append_undecorated;
 use pdb_addr2line::pdb::MachineType;
 use pdb_image::{Image, PdbIdentity};
 use pdb_symbol_files::{
-    FunctionRecords, Piece, SymbolsText, append_code_id, append_module, write_text,
+    AddressRange, FunctionRecords, Piece, SymbolsText, append_code_id, append_module, code_ranges,
+    size_of_all, write_text,
 };
 use std::alloc::Global;
 use std::io::Write;
