@@ -1,0 +1,16 @@
+use Rattle.std.proofs.Common.{ℕ, ◌+◌, List, ap, ◌∙◌}
+use Rattle.std.specs.Prelude.{Bool}
+use Rattle.pdb_listings.specs.Sizes.{new_in, new_where, old_in, old_where, size_in}
+use Rattle.pdb_listings.proofs.Sums.{all_taken, pushed_more, pushed_none}
+use Rattle.pdb_listings.proofs.changes.append_came.Goals as goal
+
+pub loop-size-preserved : goal.loop-size-preserved
+loop-size-preserved c = record {
+  these = λ test. rw c.in_ok-push.ensures.items (pushed_more (new_in test) (size_in test) c.loop-size.changes.items c.in_ok-came.field-0 c.args.new.now c.loop-size.size-index c.size-item.result (new_where test c.args.changes.now.items)
+      c.loop-size-test.true c.size-item.is (c.in_ok-came.ensures.new test) (c.loop-size.invariant.these test));
+  others = λ test. rw c.in_ok-push.ensures.items (pushed_none (old_in test) c.loop-size.changes.items c.in_ok-came.field-0 _ (c.in_ok-came.ensures.old test) (c.loop-size.invariant.others test));
+}
+
+pub returns-clause-new : goal.returns-clause-new
+returns-clause-new c = λ test. c.loop-size.invariant.these test
+    ∙ ap (λ n. new_where test c.args.changes.now.items + n) (all_taken (size_in test) c.args.new.now c.loop-size.size-index c.loop-size-test.false)

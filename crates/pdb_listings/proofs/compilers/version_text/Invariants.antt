@@ -1,0 +1,6 @@
+use Rattle.std.proofs.Common.{length}
+use Rattle.pdb_listings.proofs.compilers.version_text.Given as goal
+
+-- the bytes that are left
+abbrev pub decreases-loop-rest : goal.decreases-loop-rest
+decreases-loop-rest l = length l.rest

@@ -1,0 +1,8 @@
+pub mod Contributed
+pub mod Json
+pub mod Names
+pub mod Rows
+pub mod Sizes
+pub mod Sources
+pub mod Symbols
+pub mod Values

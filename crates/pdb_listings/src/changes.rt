@@ -1,0 +1,141 @@
+//! What changed between the sizes of two databases.
+
+ghost use Rattle.std.specs.Prelude.{◌≡◌, ℕ, ◌+◌, ◌||◌, Bool, false, true, List, IfOk, OnOk, string_bytes};
+ghost use Rattle.std.specs.Prelude.{if◌then◌else◌};
+ghost use Rattle.pdb_listings.specs.Sizes.{bytes_where, new_in, new_where, old_in, old_where};
+ghost use Rattle.pdb_listings.specs.Sizes.{size_in};
+
+use crate::sizes::Size;
+use std::alloc::{AllocError, Global};
+use std::cmp::Ordering;
+
+/// How many bytes a name had, and how many it has.
+#[derive(Debug, Drop, PartialEq)]
+pub struct Change {
+    /// The name.
+    pub name: String,
+    /// The bytes that it had; 0 where it came.
+    pub old: u64,
+    /// The bytes that it has; 0 where it went.
+    pub new: u64,
+}
+
+impl Change {
+    /// Whether it grew, and by how many bytes it grew or shrank.
+    pub fn difference(&self) -> (bool, u64)
+        ensures grew { result.0 ≡ true → self.now.old + result.1 ≡ self.now.new }
+        ensures shrank { result.0 ≡ false → self.now.new + result.1 ≡ self.now.old }
+    {
+        if self.old <= self.new {
+            (true, self.new - self.old)
+        } else {
+            (false, self.old - self.new)
+        }
+    }
+}
+
+/// The change of a name.
+fn named_change(alloc: Global, name: &str, old: u64, new: u64) -> Result<Change, AllocError>
+    ensures name { IfOk result (λ c. string_bytes c.name ≡ name.now) }
+    ensures old { IfOk result (λ c. c.old ≡ old) }
+    ensures new { IfOk result (λ c. c.new ≡ new) }
+{
+    let name = String::from_str(alloc, name)?;
+    Ok(Change { name, old, new })
+}
+
+/// The change of a name that went.
+#[tactic(auto, using(crate::proofs::Sums::old_as, crate::proofs::Sums::none_if))]
+fn gone(alloc: Global, size: &Size) -> Result<Change, AllocError>
+    ensures old { IfOk result (λ c. (test : List ℕ → Bool) → old_in test c ≡ size_in test size.now) }
+    ensures new { IfOk result (λ c. (test : List ℕ → Bool) → new_in test c ≡ 0) }
+{
+    named_change(alloc, size.name.as_str(), size.bytes, 0)
+}
+
+/// The change of a name that came.
+#[tactic(auto, using(crate::proofs::Sums::new_as, crate::proofs::Sums::none_if))]
+fn came(alloc: Global, size: &Size) -> Result<Change, AllocError>
+    ensures old { IfOk result (λ c. (test : List ℕ → Bool) → old_in test c ≡ 0) }
+    ensures new { IfOk result (λ c. (test : List ℕ → Bool) → new_in test c ≡ size_in test size.now) }
+{
+    named_change(alloc, size.name.as_str(), 0, size.bytes)
+}
+
+/// The change of a name that both have.
+#[tactic(auto, using(crate::proofs::Sums::old_as, crate::proofs::Sums::new_as))]
+fn stayed(alloc: Global, old: &Size, new: &Size) -> Result<Change, AllocError>
+    requires { string_bytes old.now.name ≡ string_bytes new.now.name }
+    ensures old { IfOk result (λ c. (test : List ℕ → Bool) → old_in test c ≡ size_in test old.now) }
+    ensures new { IfOk result (λ c. (test : List ℕ → Bool) → new_in test c ≡ size_in test new.now) }
+{
+    named_change(alloc, old.name.as_str(), old.bytes, new.bytes)
+}
+
+/// Appends changes of names that went.
+fn append_gone(alloc: Global, changes: &mut Vec<Change>, old: &[Size]) -> Result<(), AllocError>
+    ensures old { OnOk result ((test : List ℕ → Bool) → old_where test changes.new.items
+        ≡ old_where test changes.old.items + bytes_where test old.now) }
+    ensures new { OnOk result ((test : List ℕ → Bool) → new_where test changes.new.items
+        ≡ new_where test changes.old.items) }
+{
+    for size in old {
+        changes.push(gone(alloc, size)?)?;
+    }
+    Ok(())
+}
+
+/// Appends changes of names that came.
+fn append_came(alloc: Global, changes: &mut Vec<Change>, new: &[Size]) -> Result<(), AllocError>
+    ensures old { OnOk result ((test : List ℕ → Bool) → old_where test changes.new.items
+        ≡ old_where test changes.old.items) }
+    ensures new { OnOk result ((test : List ℕ → Bool) → new_where test changes.new.items
+        ≡ new_where test changes.old.items + bytes_where test new.now) }
+{
+    for size in new {
+        changes.push(came(alloc, size)?)?;
+    }
+    Ok(())
+}
+
+/// The change at a place of each list: of the lesser name, or of both where the names are equal;
+/// and whether each list's entry is in it.
+fn change_at(alloc: Global, old: &Size, new: &Size) -> Result<(Change, bool, bool), AllocError>
+    ensures old { IfOk result (λ r. (test : List ℕ → Bool)
+        → old_in test r.0 ≡ (if r.1 then size_in test old.now else 0)) }
+    ensures new { IfOk result (λ r. (test : List ℕ → Bool)
+        → new_in test r.0 ≡ (if r.2 then size_in test new.now else 0)) }
+    ensures some { IfOk result (λ r. (r.1 || r.2) ≡ true) }
+{
+    match old.name.cmp(&new.name) {
+        Ordering::Less => Ok((gone(alloc, old)?, true, false)),
+        Ordering::Equal => Ok((stayed(alloc, old, new)?, true, true)),
+        Ordering::Greater => Ok((came(alloc, new)?, false, true)),
+    }
+}
+
+/// The changes of all names, where both lists are in the order of their names and each has a name
+/// once: then the result has each name once. Whatever their order, each name has the bytes in the
+/// changes that it has in the lists. So the sum of all changes is the difference of the totals.
+///
+/// # Errors
+/// `AllocError` when memory runs out.
+pub fn changes_of(alloc: Global, old: &[Size], new: &[Size]) -> Result<Vec<Change>, AllocError>
+    ensures old { IfOk result (λ changes. (test : List ℕ → Bool)
+        → old_where test changes.items ≡ bytes_where test old.now) }
+    ensures new { IfOk result (λ changes. (test : List ℕ → Bool)
+        → new_where test changes.items ≡ bytes_where test new.now) }
+{
+    let mut changes = Vec::new(alloc);
+    let mut i = 0;
+    let mut j = 0;
+    while i < old.len() && j < new.len() {
+        let (change, from_old, from_new) = change_at(alloc, &old[i], &new[j])?;
+        changes.push(change)?;
+        i += usize::from(from_old);
+        j += usize::from(from_new);
+    }
+    append_gone(alloc, &mut changes, &old[i..])?;
+    append_came(alloc, &mut changes, &new[j..])?;
+    Ok(changes)
+}

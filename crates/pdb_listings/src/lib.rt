@@ -1,0 +1,48 @@
+//! What a database has, as rows: the bytes of its modules, its source files, names of functions,
+//! and sizes by name with the change between two databases; and the texts that stand for rows:
+//! lines for people, in which numbers are aligned, CSV, and JSON Lines.
+//!
+//! A row is a list of [`Field`]s, and each names its column. Forms of rows may gain values, and a
+//! listing columns at its end; what is there may not change.
+//!
+//! | to | call |
+//! |---|---|
+//! | write the columns' names, where a form has them, and rows | [`append_header`], [`append_row`] |
+//! | sum the contributions of each module | [`module_sizes`] |
+//! | count procedures and public symbols | [`SymbolCounts`] |
+//! | list the source files of a module, with their checksums | [`append_sources`] |
+//! | compare a file's bytes with its checksum | [`verdict_of`] |
+//! | ask whether a function is called so | [`has_name`] |
+//! | read which compiler made a module | [`compiler_of`] |
+//! | count bytes by a name | [`ByteCounts`], [`add_bytes`], [`listed`], [`largest_first`] |
+//! | compare the bytes of two databases by name | [`changes_of`] |
+#![tactic(auto)]
+
+mod by_name;
+mod byte_counts;
+mod changes;
+mod compilers;
+mod csv;
+mod json;
+mod modules;
+mod named;
+mod names;
+mod plain;
+mod rows;
+mod sizes;
+mod sources;
+mod symbol_counts;
+mod value;
+
+pub use by_name::{file_name, function_name};
+pub use byte_counts::ByteCounts;
+pub use changes::{Change, changes_of};
+pub use compilers::compiler_of;
+pub use modules::{ModulePart, Part, module_sizes, part_of};
+pub use named::Named;
+pub use names::{has_name, is_called, listed_name, without_arguments};
+pub use rows::{Format, append_header, append_row};
+pub use sizes::{Size, add_bytes, folder_of, largest_first, listed, total_of};
+pub use sources::{SourceFile, StoredSum, Verdict, append_sources, verdict_of};
+pub use symbol_counts::SymbolCounts;
+pub use value::{Column, Field, Value};

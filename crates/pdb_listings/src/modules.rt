@@ -1,0 +1,169 @@
+//! The bytes of modules, by their contributions to sections.
+
+ghost use Rattle.std.specs.Prelude.{◌≡◌, ◌+◌, ◌^◌, ◌<◌, ◌≤◌, Bool, IfOk, OnOk, Some, length, refl};
+ghost use Rattle.std.specs.Cmp.{eq_by_cmp_equiv, partial_equiv_from_equiv};
+ghost use Rattle.std.specs.Cmp.{partial_order_from_total};
+ghost use Rattle.std.specs.List.{sum_by};
+ghost use Rattle.pdb_functions.specs.Answers.{is_same};
+ghost use Rattle.pdb_functions.specs.Table.{sum_of, sum_where};
+ghost use Rattle.pdb_listings.specs.Contributed.{contributed, module_part as module_part_of};
+ghost use Rattle.pdb_listings.specs.Contributed.{part_by, part_cmp, part_exact, part_number};
+ghost use Rattle.pdb_listings.specs.Contributed.{part_total};
+
+use crate::byte_counts::ByteCounts;
+use pdb_addresses::SectionCharacteristics;
+use pdb_functions::Answer;
+use pdb_symbols_modules::DBISectionContribution;
+use std::alloc::{AllocError, Global};
+use std::cmp::Ordering;
+
+/// What a contribution is, by what may be done in its section.
+#[derive(Clone, Copy, Debug)]
+pub enum Part {
+    /// Code, or what may run.
+    Code,
+    /// Data that may be read alone.
+    ReadOnly,
+    /// Data that may be written.
+    Written,
+    /// Data that are zero when the program starts, and have no bytes in the image's file.
+    Zeroed,
+}
+
+impl Part {
+    /// Its number, counted from 0 in the order above.
+    fn number(self) -> u8
+        ensures { result ≡ part_number self }
+    {
+        match self {
+            Part::Code => 0,
+            Part::ReadOnly => 1,
+            Part::Written => 2,
+            Part::Zeroed => 3,
+        }
+    }
+}
+
+/// A part of a module.
+#[derive(Clone, Copy, Debug)]
+pub struct ModulePart {
+    /// The module's number, counted from 0.
+    pub module: u16,
+    /// The part.
+    pub part: Part,
+}
+
+/// Two are equal where module and part are.
+impl PartialEq for ModulePart {
+    ghost eq = { is_same part_cmp };
+
+    ghost laws = { partial_equiv_from_equiv (eq_by_cmp_equiv part_total) };
+
+    fn eq(&self, other: &ModulePart) -> bool {
+        self.cmp(other).is_eq()
+    }
+}
+
+impl Eq for ModulePart {
+    ghost laws = { eq_by_cmp_equiv part_total };
+}
+
+/// By module, and then in the order of the parts.
+impl PartialOrd for ModulePart {
+    ghost partial_cmp = { λ a b. Some (part_cmp a b) };
+
+    ghost laws = { partial_order_from_total part_total };
+
+    fn partial_cmp(&self, other: &ModulePart) -> Option<Ordering> {
+        Some(self.cmp(other))
+    }
+}
+
+/// By module, and then in the order of the parts.
+impl Ord for ModulePart {
+    ghost cmp = { part_cmp };
+
+    ghost total = { part_total };
+
+    ghost matches_partial_cmp = { λ a b. refl };
+
+    ghost matches_eq = { λ a b. refl };
+
+    fn cmp(&self, other: &ModulePart) -> Ordering {
+        let parts = self.part.number().cmp(&other.part.number());
+        self.module.cmp(&other.module).then(parts)
+    }
+}
+
+/// Two that compare as equal are one.
+impl Answer for ModulePart {
+    ghost exact = { part_exact };
+}
+
+/// What a contribution to a section with these characteristics is: code where they have
+/// `IMAGE_SCN_CNT_CODE` or `IMAGE_SCN_MEM_EXECUTE`, else zeroed where they have
+/// `IMAGE_SCN_CNT_UNINITIALIZED_DATA`, else written where they have `IMAGE_SCN_MEM_WRITE`.
+pub fn part_of(characteristics: SectionCharacteristics) -> Part
+    ensures { result ≡ part_by characteristics.0 }
+{
+    let flags = characteristics.0;
+    if flags & 0x2000_0020 != 0 {
+        Part::Code
+    } else if flags & 0x80 != 0 {
+        Part::Zeroed
+    } else if flags & 0x8000_0000 != 0 {
+        Part::Written
+    } else {
+        Part::ReadOnly
+    }
+}
+
+/// The part of a module that a contribution belongs to.
+fn module_part(contribution: &DBISectionContribution) -> ModulePart
+    ensures { result ≡ module_part_of contribution.now }
+{
+    ModulePart {
+        module: contribution.module,
+        part: part_of(contribution.characteristics),
+    }
+}
+
+/// How many bytes each part of a module contributes; a part without a byte isn't there.
+///
+/// # Errors
+/// `AllocError` when memory runs out.
+pub fn module_sizes(
+    alloc: Global,
+    contributions: &[DBISectionContribution],
+) -> Result<ByteCounts<ModulePart>, AllocError>
+    requires { length contributions.now < 2 ^ 32 }
+    // The bytes of the parts that pass a test are those of their contributions.
+    ensures each { IfOk result (λ table. (test : ModulePart → Bool)
+        → sum_where test table ≡ sum_by (contributed test) contributions.now) }
+    // All of them together are the bytes of all contributions.
+    ensures total { IfOk result (λ table. sum_of table ≡ sum_by (λ c. c.size) contributions.now) }
+{
+    let mut table = ByteCounts::new(alloc);
+    for contribution in contributions {
+        add_contribution(&mut table, contribution)?;
+    }
+    Ok(table)
+}
+
+/// Adds the bytes of a contribution to those of its module's part.
+fn add_contribution(
+    table: &mut ByteCounts<ModulePart>,
+    contribution: &DBISectionContribution,
+) -> Result<(), AllocError>
+    requires { sum_of table.old + 2 ^ 32 ≤ 2 ^ 64 }
+    ensures each { OnOk result ((test : ModulePart → Bool)
+        → sum_where test table.new ≡ sum_where test table.old + contributed test contribution.now) }
+    ensures total { OnOk result (sum_of table.new ≡ sum_of table.old + contribution.now.size) }
+    ensures room { OnOk result (sum_of table.new < sum_of table.old + 2 ^ 32) }
+{
+    let bytes = u64::from(contribution.size);
+    if bytes == 0 {
+        return Ok(());
+    }
+    table.add(module_part(contribution), bytes)
+}

@@ -1,0 +1,104 @@
+//! Bytes by name.
+
+ghost use Rattle.std.specs.Prelude.{◌≡◌, ℕ, ◌+◌, ◌-◌, ◌^◌, ◌<◌, Bool, List, IfOk, OnOk, map, min};
+ghost use Rattle.std.specs.Prelude.{if◌then◌else◌};
+ghost use Rattle.std.specs.List.Sorted.{IsNonDecreasingBy, IsPermutation};
+ghost use Rattle.pdb_functions.specs.Table.{sum_of, sum_where};
+ghost use Rattle.pdb_listings.specs.Sizes.{bytes_of, lack_of, size_seen};
+
+use crate::byte_counts::ByteCounts;
+use crate::named::Named;
+use std::alloc::{AllocError, Global};
+
+/// How many bytes a name has.
+#[derive(Debug, Drop, PartialEq)]
+pub struct Size {
+    /// The name.
+    pub name: String,
+    /// The bytes.
+    pub bytes: u64,
+}
+
+/// Adds bytes to a name.
+///
+/// # Errors
+/// `AllocError` when memory runs out.
+pub fn add_bytes(
+    alloc: Global,
+    table: &mut ByteCounts<Named>,
+    name: &str,
+    bytes: u64,
+) -> Result<(), AllocError>
+    requires room { sum_of table.old + bytes < 2 ^ 64 }
+    ensures each { OnOk result ((test : List ℕ → Bool)
+        → sum_where test table.new ≡ sum_where test table.old + (if test name.now then bytes else 0)) }
+    ensures total { OnOk result (sum_of table.new ≡ sum_of table.old + bytes) }
+{
+    if bytes == 0 {
+        return Ok(());
+    }
+    let name = String::from_str(alloc, name)?;
+    table.add(Named { name }, bytes)
+}
+
+/// The folder of a path: what stands before its last slash or backslash; empty where it has none.
+pub fn folder_of(path: &str) -> &str {
+    match last_separator(path.as_bytes()) {
+        Some(place) => path.get(..place).unwrap_or(""),
+        None => "",
+    }
+}
+
+/// The place of the last slash or backslash.
+fn last_separator(path: &[u8]) -> Option<usize> {
+    let mut place = path.len();
+    while place > 0 {
+        place -= 1;
+        if path[place] == b'/' || path[place] == b'\\' {
+            return Some(place);
+        }
+    }
+    None
+}
+
+/// What a table has, in the order of its names.
+///
+/// # Errors
+/// `AllocError` when memory runs out.
+#[tactic(auto, using(crate::proofs::Sums::listed_more))]
+pub fn listed(alloc: Global, table: &ByteCounts<Named>) -> Result<Vec<Size>, AllocError>
+    ensures { IfOk result (λ sizes. map size_seen sizes.items ≡ table.now) }
+{
+    let mut sizes = Vec::new(alloc);
+    for (named, bytes) in table.by_answer() {
+        let name = String::from_str(alloc, named.name.as_str())?;
+        sizes.push(Size {
+            name,
+            bytes: *bytes,
+        })?;
+    }
+    Ok(sizes)
+}
+
+/// All bytes together; at `u64::MAX` the sum stays.
+pub fn total_of(sizes: &[Size]) -> u64
+    ensures { result ≡ min (bytes_of sizes.now) (2 ^ 64 - 1) }
+{
+    let mut total: u64 = 0;
+    for size in sizes {
+        total = total.saturating_add(size.bytes);
+    }
+    total
+}
+
+/// Puts the largest first. Those of one size stay in their order.
+///
+/// # Errors
+/// `AllocError` when memory runs out.
+pub fn largest_first(sizes: &mut Vec<Size>) -> Result<(), AllocError>
+    ensures same { IsPermutation sizes.old.items sizes.new.items }
+    ensures order { OnOk result (IsNonDecreasingBy lack_of sizes.new.items) }
+{
+    sizes.sort_by_key(|size: &Size| u64::MAX - size.bytes)?;
+    Ok(())
+}

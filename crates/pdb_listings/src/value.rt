@@ -1,0 +1,38 @@
+//! Values, and the columns that they stand in.
+
+/// A value of a row.
+#[derive(Debug, Drop, PartialEq)]
+pub enum Value {
+    /// It isn't known.
+    Unknown,
+    /// A number, in decimal digits.
+    Number(u64),
+    /// An address: `0x` and eight hexadecimal digits or more.
+    Address(u32),
+    /// A change: whether a number rose, and by how much it rose or fell.
+    Change(bool, u64),
+    /// A share of a whole, in tenths of a percent.
+    Share(u64),
+    /// A text.
+    Text(String),
+}
+
+/// A column of a listing.
+#[derive(Clone, Copy, Debug, PartialEq)]
+pub struct Column {
+    /// Its name.
+    pub name: &'static str,
+    /// What stands before a value in a line for people.
+    pub before: &'static str,
+    /// How many bytes a value has in such a line at least: blanks before it fill it up.
+    pub width: usize,
+}
+
+/// A value in a column.
+#[derive(Debug, Drop, PartialEq)]
+pub struct Field {
+    /// The column.
+    pub column: Column,
+    /// The value.
+    pub value: Value,
+}
