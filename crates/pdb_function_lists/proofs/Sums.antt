@@ -1,0 +1,57 @@
+-- Sums over tables of keys, entry by entry.
+use Rattle.std.proofs.Common.{◌≡◌, ℕ, ◌+◌, ◌<◌, ◌≤◌, Bool, true, false, List, [], ◌∷◌, refl, ap, ◌∙◌, subst, arith}
+use Rattle.std.specs.Prelude.{Option, Result, Ok, Err, IfOk, if◌then◌else◌}
+use Rattle.std.specs.Map.{values_of}
+use Rattle.std.proofs.lemmas.List.Sums.{sum_by-cons}
+use Rattle.pdb_addresses.specs.Addresses.{Map}
+use Rattle.pdb_functions.specs.Answers.{picked}
+use Rattle.pdb_functions.specs.Counts.{counted_at, how_many}
+use Rattle.pdb_functions.specs.Databases.{Keyed}
+use Rattle.pdb_functions.specs.Table.{IsCounted, sum_found, sum_of}
+
+-- one entry more was added
+pub entry_added : {K A : Type 0} (kd now : Keyed K A) (test : A → Bool) (key : K) (bytes : ℕ) (rest left : List (K × ℕ)) (old new all : ℕ)
+    → left ≡ (key, bytes) ∷ rest → now ≡ kd → new ≡ old + (if picked test (now.answer_of key) then bytes else 0)
+    → old + sum_found kd.answer_of test left ≡ all → new + sum_found kd.answer_of test rest ≡ all
+entry_added {K} {A} kd now test key bytes rest left old new all steps same added so_far =
+    let here : new ≡ old + (if picked test (kd.answer_of key) then bytes else 0) =
+    subst (λ (k : Keyed K A). new ≡ old + (if picked test (k.answer_of key) then bytes else 0)) same added in
+    let whole : old + sum_found kd.answer_of test ((key, bytes) ∷ rest) ≡ all =
+    subst (λ (l : List (K × ℕ)). old + sum_found kd.answer_of test l ≡ all) steps so_far in
+    omega (arith, here, whole)
+
+most_of : (b : Bool) (n : ℕ) → (if b then n else 0) ≤ n
+most_of true n = omega arith
+most_of false n = omega arith
+
+-- the sum stays in its bounds
+pub entry_room : {K : Type 0} (b : Bool) (key : K) (bytes : ℕ) (rest left : List (K × ℕ)) (old new all : ℕ)
+    → left ≡ (key, bytes) ∷ rest → new ≡ old + (if b then bytes else 0)
+    → old + sum_of left ≤ all → new + sum_of rest ≤ all
+entry_room {K} b key bytes rest left old new all steps added so_far =
+    let most = most_of b bytes in
+    let one = sum_by-cons (λ (n : ℕ). n) bytes (values_of rest) in
+    let whole : old + sum_of ((key, bytes) ∷ rest) ≤ all = subst (λ (l : List (K × ℕ)). old + sum_of l ≤ all) steps so_far in
+    omega (arith, most, one, added, whole)
+
+-- one entry fits
+pub entry_fits : {K : Type 0} (e : K × ℕ) (rest : List (K × ℕ)) (old all : ℕ) → old + sum_of (e ∷ rest) ≤ all → old + e.1 ≤ all
+entry_fits e rest old all so_far =
+    let one = sum_by-cons (λ (n : ℕ). n) e.1 (values_of rest) in
+    omega (arith, one, so_far)
+
+-- the counts of the keys of addresses are those of the addresses
+pub sum_counted : {K A : Type 0} (kd mid last : Keyed K A) (m : Map) (s n : ℕ) (test : A → Bool) (keys : List (K × ℕ)) (sum : ℕ)
+    → mid ≡ kd → last ≡ mid → IsCounted mid.answer_of (counted_at m mid.places) s n [] keys → sum ≡ sum_found last.answer_of test keys
+    → sum ≡ how_many (λ a. picked test (counted_at m kd.places a)) s n
+sum_counted {K} {A} kd mid last m s n test keys sum first second counted is =
+    let here : IsCounted kd.answer_of (counted_at m kd.places) s n [] keys =
+    subst (λ (k : Keyed K A). IsCounted k.answer_of (counted_at m k.places) s n [] keys) first counted in
+    let all : sum_found kd.answer_of test keys ≡ 0 + how_many (λ a. picked test (counted_at m kd.places a)) s n = here.each test in
+    let same : sum ≡ sum_found kd.answer_of test keys = is ∙ ap (λ (k : Keyed K A). sum_found k.answer_of test keys) (second ∙ first) in
+    omega (arith, all, same)
+
+-- what follows of a value, if there is one
+pub if_ok_then : {T E : Type 0} (r : Result T E) (p q : T → Type 0) → ((x : T) → p x → q x) → IfOk r p → IfOk r q
+if_ok_then (Ok x) p q f h = f x h
+if_ok_then (Err e) p q f h = tt

@@ -1,0 +1,23 @@
+use Rattle.std.proofs.Common.{◌∙◌, true}
+use Rattle.pdb_functions.specs.Answers.{picked}
+use Rattle.pdb_functions.specs.FileAnswers.{FileAnswer}
+use Rattle.pdb_listings.specs.Sizes.{file_name}
+use Rattle.pdb_function_lists.specs.Functions.{files_by_key}
+use Rattle.pdb_function_lists.proofs.Sums.{entry_added, entry_room}
+use Rattle.pdb_function_lists.proofs.sizes.name_files.Goals as goal
+
+pub loop-key-preserved : goal.loop-key-preserved
+loop-key-preserved g c =
+    let keyed = files_by_key g.P.ModuleProvider.provided in
+    let kd = keyed c.args.runs.now.context in
+    let now = keyed c.loop-key.runs.context in
+    let i = c.loop-key.invariant in
+    record {
+      each = λ whole test. entry_added kd now (λ (f : FileAnswer). test (file_name f)) c.in-Some.key.now c.in-Some.bytes.now c.next.new.self c.loop-key.key-iterator
+          _ _ _ c.in-Some.ensures.steps i.same (c.in_ok-add_file.ensures.each whole test) (i.each whole test);
+      total = entry_added kd now (λ (f : FileAnswer). true) c.in-Some.key.now c.in-Some.bytes.now c.next.new.self c.loop-key.key-iterator
+          _ _ _ c.in-Some.ensures.steps i.same c.in_ok-add_file.ensures.total i.total;
+      room = entry_room (picked (λ (f : FileAnswer). true) (now.answer_of c.in-Some.key.now)) c.in-Some.key.now c.in-Some.bytes.now c.next.new.self c.loop-key.key-iterator
+          _ _ _ c.in-Some.ensures.steps c.in_ok-add_file.ensures.total i.room;
+      same = c.add_file.ensures.same ∙ i.same;
+    }
