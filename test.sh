@@ -28,6 +28,7 @@ count python3 tests/stack.py
 count python3 tests/costly_files.py
 count python3 tests/undecorated.py
 count python3 tests/symbols.py
+count python3 tests/inspect.py
 count tests/version.sh
 count python3 tests/documents.py
 count tests/teeth.sh

@@ -6,7 +6,7 @@ import built
 
 words = sys.argv[1:]
 DOCUMENTS = ["README.md", "docs/GUIDE.md", "docs/RELEASING.md"]
-PROGRAMS = ["pdb_symbolizer", "pdb_llvm_symbolizer"]
+PROGRAMS = ["pdb_symbolizer", "pdb_inspect", "pdb_llvm_symbolizer"]
 # The gate proves, compiles and runs the examples, which stand in these crates; and the crates that
 # users of the library name.
 EXAMPLES = ["example_calls", "list_lines", "recorded_cases", "pdb_report_tests"]
@@ -66,6 +66,8 @@ def run_transcript(lines, room, name):
         return None, "with --quick"
     if slow and name == "docs/RELEASING.md" and "--slow" not in flags:
         return None, "without --slow"
+    if any("parallel " in it for it, _ in commands) and not shutil.which("parallel"):
+        return None, "GNU parallel isn't installed"
     os.makedirs(f"{room}/bin")
     for program, file in programs.items():
         os.symlink(file, f"{room}/bin/{program}")
@@ -179,7 +181,7 @@ def copies_differ():
     read = lambda file: open(f"{top}/crates/{file}", "rb").read()
     for name in os.listdir(f"{top}/crates/pdb_symbolizer/data"):
         others = [f"recorded_cases/data/real_{name}"]
-        others += [f"{it}/data/{name}" for it in ("example_calls", "pdb_llvm_symbolizer")]
+        others += [f"{it}/data/{name}" for it in ("example_calls", "pdb_inspect", "pdb_llvm_symbolizer")]
         for other in others:
             there = os.path.exists(f"{top}/crates/{other}")
             if there and read(other) != read(f"pdb_symbolizer/data/{name}"):
@@ -190,6 +192,7 @@ def unwritten_texts():
     """Each text that is asked for on a full disk, and what came where that isn't reported."""
     # A full disk's kind has no name of its own in reports.
     answers = {"pdb_symbolizer": "fault: Write(Other)\n"}
+    answers["pdb_inspect"] = "pdb_inspect: cannot write to standard output\n"
     answers["pdb_llvm_symbolizer"] = "Error: standard output can't be written\n"
     for name, wanted in answers.items():
         for word in ("--help", "--version"):

@@ -7,7 +7,11 @@ import built
 words = sys.argv[1:]
 is_unproved = "--unproved" in words
 place, words = built.taken(words)
-program = built.program(place, "pdb_symbolizer")
+# What a program with commands does, by its name.
+COMMANDS = {
+    "pdb_symbolizer": "functions and lines by a program database (PDB)",
+    "pdb_inspect": "lists what a program database (PDB) has",
+}
 # What a program without commands does, by its name.
 SINGLE = {
     "pdb_llvm_symbolizer": "answers addresses by PDBs, as llvm-symbolizer does",
@@ -15,9 +19,9 @@ SINGLE = {
 }
 
 
-def help_of(*words):
-    """The lines of a help text of pdb_symbolizer."""
-    return lines_of(program, "help", *words)
+def help_of(name, *words):
+    """The lines of a help text of a program with commands."""
+    return lines_of(built.program(place, name), "help", *words)
 
 
 def lines_of(*words):
@@ -50,9 +54,9 @@ def paragraphs(lines):
     return made
 
 
-def command(name):
+def command(program, name):
     """The section of a command: what it does, its usage and arguments, what it reads and writes."""
-    about, _, usage, *rest = help_of(name)
+    about, _, usage, *rest = help_of(program, name)
     usage = usage.removeprefix("Usage: ").removesuffix(" [OPTIONS]")
     return [f".SS {roff(usage)}", f"{roff(about)}.", *paragraphs(rest)]
 
@@ -63,19 +67,20 @@ def page_of(made):
     return "".join(f"{line}\n" for line, next_one in following if (line, next_one) != (".PP", ".PP"))
 
 
-def whole():
-    about, _, usage, *rest = help_of()
+def whole(program):
+    """The page of a program with commands."""
+    about, _, usage, *rest = help_of(program)
     version = open(f"{built.ROOT}/VERSION").read().strip()
     at = rest.index("Examples:")
     last = next(it for it, line in enumerate(rest) if line.startswith("The exit status is "))
     names = [it.split()[0] for it in rest if re.match(r"  [a-z]+ {2,}[A-Z]", it)]
     names = [it for it in names if it != "help"]
-    made = [f'.TH PDB_SYMBOLIZER 1 "" "pdb_symbolizer {version}"']
-    made += [".SH NAME", "pdb_symbolizer \\- functions and lines by a program database (PDB)"]
+    made = [f'.TH {program.upper()} 1 "" "{program} {version}"']
+    made += [".SH NAME", f"{program} \\- {roff(COMMANDS[program])}"]
     made += [".SH SYNOPSIS", f".B {roff(usage.removeprefix('Usage: '))}"]
     made += [".SH DESCRIPTION", roff(about), ".SH COMMANDS"]
     for name in names:
-        made += command(name)
+        made += command(program, name)
     made += [".SH OPTIONS", *paragraphs(rest[rest.index("Options:") + 1 : at - 1])]
     made += [".SH EXAMPLES", *paragraphs(rest[at + 1 : last])]
     made += [".SH EXIT STATUS", *paragraphs(rest[last:])]
@@ -106,16 +111,18 @@ def ask_ahead(names):
     """Asks for all help texts, of the commands that the page has now, since a run without proof
     answers what was asked before (unproved.py)."""
     asked = [[built.program(place, name), "--help"] for name in SINGLE if name in names]
-    if "pdb_symbolizer" in names:
-        page = open(f"{built.ROOT}/docs/pdb_symbolizer.1").read()
-        commands = re.findall(r"(?m)^\.SS \S+ (\w+)", page)
-        asked += [[program, "help", *it] for it in ([], *([it] for it in commands))]
+    for name in names:
+        if name in COMMANDS:
+            page = open(f"{built.ROOT}/docs/{name}.1").read()
+            commands = re.findall(r"(?m)^\.SS \S+ (\w+)", page)
+            program = built.program(place, name)
+            asked += [[program, "help", *it] for it in ([], *([it] for it in commands))]
     for words in asked:
         subprocess.run(words, stdin=subprocess.DEVNULL, capture_output=True)
 
 
 alike = 0
-PAGES = ["pdb_symbolizer", *SINGLE]
+PAGES = [*COMMANDS, *SINGLE]
 names = [it for it in words if it != "--write"] or list(PAGES)
 for name in names:
     if name not in PAGES:
@@ -123,7 +130,7 @@ for name in names:
 if is_unproved:
     ask_ahead(names)
 for name in names:
-    text = single(name) if name in SINGLE else whole()
+    text = single(name) if name in SINGLE else whole(name)
     page = f"{built.ROOT}/docs/{name}.1"
     if "--write" in words:
         open(page, "w").write(text)

@@ -1,6 +1,6 @@
 #!/usr/bin/env bash
-# Checks that docs/pdb_symbolizer.1, docs/pdb_llvm_symbolizer.1 and docs/pdb_symbols.1 are the
-# manual pages of the programs' own help:
+# Checks that docs/pdb_symbolizer.1, docs/pdb_inspect.1, docs/pdb_llvm_symbolizer.1 and
+# docs/pdb_symbols.1 are the manual pages of the programs' own help:
 #
 #   tests/manual.sh [--built FILE | --unproved] [--write] [PROGRAM..]
 #

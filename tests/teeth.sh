@@ -6,7 +6,7 @@
 # Each script that takes --built is run over /bin/true, over /bin/cat and over no program, on a few
 # of its cases where it takes names of cases: a script that fails on these fails on all. It has to
 # end with status 1 and the line `0 passed, M failed`, in which M is the number below, and 1 over no
-# program. (version.sh has five places that no program prints.) Then tests/documents.py is given a
+# program. (version.sh has six places that no program prints.) Then tests/documents.py is given a
 # document with a stale row of each kind, which it has to find. Then what test.sh counts
 # (tests/count.sh) is tried on commands that pass and fail in all ways. The last line is
 # `N passed, M failed`.
@@ -36,7 +36,7 @@ is_like() { # TEXT FORM
 # Runs a script over each program that does nothing: so many have to fail.
 over_nothing() { # SCRIPT FAILED WORD..
     local program said ended wanted passed=0 none=1
-    [ "$1" = version.sh ] && passed=5 none=3
+    [ "$1" = version.sh ] && passed=6 none=4
     tried+="$1 "
     for program in /bin/true /bin/cat /nonexistent; do
         wanted="1 $passed passed, $2 failed"
@@ -72,7 +72,7 @@ counted() { # NAME DOES PASSED FAILED
 over_nothing recorded_reports.py 2 row_before-first-function_F row_one-line_F
 over_nothing refused_requests/sweep.py 4 row_one-line_F 'llvm llvm' \
     'read sections plain.pdb 2608:0b' 'formatter signatures.hex 23'
-over_nothing commands.sh 5 --quick README.md
+over_nothing commands.sh 7 --quick README.md
 over_nothing manual.sh 1
 over_nothing llvm_symbolizer.sh 6 llvm
 over_nothing llvm_protocol.py 221
@@ -81,7 +81,8 @@ over_nothing stack.py 16
 over_nothing costly_files.py 6
 over_nothing undecorated.py 1
 over_nothing symbols.py 3 x64
-over_nothing version.sh 3
+over_nothing inspect.py 1
+over_nothing version.sh 4
 over_nothing fuzz.sh 24 20
 for script in $(cd tests && grep -l -- --built *.sh *.py */*.py); do
     expect "tests/$script isn't tried here" is_like "$tried" ".* $script .*"

@@ -17,7 +17,8 @@ import subprocess
 import sys
 import tempfile
 
-PROGRAMS = ["pdb_symbolizer", "pdb_llvm_symbolizer", "pdb_symbols", "recorded_cases"]
+PROGRAMS = ["pdb_symbolizer", "pdb_inspect", "pdb_llvm_symbolizer", "pdb_symbols"]
+PROGRAMS += ["recorded_cases"]
 STAND_IN = '''#!/usr/bin/env python3
 import hashlib, json, os, re, shutil, sys
 FOLDER, NAME = {folder!r}, {name!r}
@@ -54,7 +55,7 @@ if words:
 print("not run without proof: it depends on an earlier run", file=sys.stderr)
 sys.exit(3)
 '''
-OTHERS = rb"Warning: |--[a-z-]+=: expected |pdb_llvm_symbolizer: error: "
+OTHERS = rb"Warning: |--[a-z-]+=: expected |pdb_llvm_symbolizer: error: |pdb_inspect: "
 ERROR = re.compile(rb"(?m)^(?:fault: |error: |Error: |" + OTHERS + rb").*\n?")
 # The file of a program that `rt try` compiled, where it stands for the program's name.
 COMPILED = re.compile(rb"(?m)^/\S*/program(?=: error: )")

@@ -10,7 +10,7 @@
 set -u
 cd "$(dirname "$0")/.."
 built=crates/NAME/out/NAME
-programs="pdb_symbolizer pdb_llvm_symbolizer pdb_symbols"
+programs="pdb_symbolizer pdb_inspect pdb_llvm_symbolizer pdb_symbols"
 [ "${1:-}" = --built ] && built=$2
 [ "${1:-}" = --unproved ] && programs=
 version=$(cat VERSION)
@@ -30,7 +30,8 @@ same() { # WHAT FOUND WANTED
 
 newest=$(grep -m1 '^## ' CHANGELOG.md | sed -E 's/ \((not released|[0-9][^)]*)\)$//')
 same "CHANGELOG.md's newest heading" "$newest" "## $version"
-for file in crates/pdb_arguments/src/command.rt crates/pdb_{llvm_symbolizer,symbols}/src/help.rt; do
+for file in crates/pdb_arguments/src/command.rt crates/pdb_inspect/src/arguments.rt \
+    crates/pdb_{llvm_symbolizer,symbols}/src/help.rt; do
     said=$(grep -o 'const VERSION: &str.*' "$file" | sed -E 's/"pdb_[a-z]+ /"/; s/\\n"/"/')
     same "$file" "$said" "const VERSION: &str = \"$version\";"
 done

@@ -21,6 +21,8 @@ nothing refused.
   before stays as it was, and nothing is left beside it.
 - `recorded_cases reads`, on recorded reads of records, streams and tables: the call that finds no
   memory says so, and is made again.
+- `pdb_inspect`, on each of its commands: such a run ends with status 1 and `pdb_inspect: out of
+  memory`, and what is out is a prefix.
 - `recorded_cases again`, on the files of the same rows and on the recorded texts: the call that
   finds no memory says so. The same context or formatter then answers it, and all other questions of
   its file, as if nothing was refused.
@@ -223,6 +225,39 @@ class SymbolsFile(Symbols):
     def is_right(self, wanted, came):
         """Whether a run in which a request was refused is as it has to be."""
         return came == (1, b"", b"fault: OutOfMemory\n") and self.stays()
+
+
+# Commands of pdb_inspect, over a file F.
+COMMANDS = [
+    "functions F",
+    "functions F --demangle --format json",
+    "lines F --format csv",
+    "modules F",
+    "sources F ../../../examples/source",
+    "info F",
+    "locate F plain start+16",
+    "sizes F --by file",
+    "sizes F --by folder",
+    "sizes F --by library",
+    "sizes F --join-padding --top 3",
+    "diff F i386.pdb --by section",
+    "help sizes",
+    "sizes F --top a",
+]
+
+
+class Inspected(Case):
+    """A run of pdb_inspect."""
+
+    program, folder = "pdb_inspect", f"{ROOT}/crates/pdb_symbolizer/data"
+
+    def __init__(self, words):
+        super().__init__(f"inspect {words}", words.replace("F", "x64.pdb").split())
+
+    def is_right(self, wanted, came):
+        """Whether a run in which a request was refused is as it has to be."""
+        said = came[2] == b"pdb_inspect: out of memory\n"
+        return came[0] == 1 and said and wanted[1].startswith(came[1])
 
 
 class Repeating(Case):
@@ -471,7 +506,7 @@ def shown(came):
 
 # All
 
-KINDS = Report, DropIn, Symbols, Read, Asked
+KINDS = Report, Inspected, DropIn, Symbols, Read, Asked
 
 
 def exceptions_of():
@@ -498,7 +533,8 @@ def main(words):
         for kind in KINDS:
             file = built.program(place, kind.program)
             programs[kind.program] = Program(file, library, issubclass(kind, Repeating))
-        cases = [*reports(folder), *drop_ins(), *symbols(folder), *reads(folder), *asked(folder)]
+        cases = [*reports(folder), *map(Inspected, COMMANDS), *drop_ins(), *symbols(folder)]
+        cases += [*reads(folder), *asked(folder)]
         unknown = set(words) - {it.name for it in cases}
         if unknown:
             stop(f"no case has the name {', '.join(sorted(unknown))}")

@@ -1,0 +1,80 @@
+//! The contributions and modules of a database.
+
+use crate::fault::{Fault, load_fault};
+use crate::loaded::Loaded;
+use pdb_container::{Error, FallibleIterator};
+use pdb_listings::{ByteCounts, ModulePart, module_sizes};
+use pdb_loading::LoadFault;
+use pdb_resolving::ModuleProvider;
+use pdb_symbols_modules::{DBISectionContribution, Module, ModuleInfo};
+use std::alloc::{AllocError, Global};
+
+/// The section contributions of a database, in the order of its list.
+///
+/// # Errors
+/// `Load`, `OutOfMemory`.
+pub fn contributions_of(
+    alloc: Global,
+    loaded: &Loaded,
+) -> Result<Vec<DBISectionContribution>, Fault> {
+    let path = loaded.path.as_str();
+    let mut found = Vec::new(alloc);
+    let mut list = match loaded.held.debug_information().section_contributions() {
+        Ok(list) => list,
+        Err(error) => return Err(load_fault(alloc, path, LoadFault::from(error))),
+    };
+    for _ in 0..u64::MAX {
+        match list.next() {
+            Ok(Some(contribution)) => found.push(contribution)?,
+            Ok(None) => break,
+            Err(error) => return Err(load_fault(alloc, path, LoadFault::from(error))),
+        }
+    }
+    Ok(found)
+}
+
+/// The modules of a database, in the order of its list.
+///
+/// # Errors
+/// `Load`, `OutOfMemory`.
+pub fn modules_of<'l>(alloc: Global, loaded: &'l Loaded) -> Result<Vec<Module<'l>>, Fault> {
+    let path = loaded.path.as_str();
+    let mut found = Vec::new(alloc);
+    let mut list = loaded.held.debug_information().modules();
+    for _ in 0..u64::MAX {
+        match list.next() {
+            Ok(Some(module)) => found.push(module)?,
+            Ok(None) => break,
+            Err(error) => return Err(load_fault(alloc, path, LoadFault::from(error))),
+        }
+    }
+    Ok(found)
+}
+
+/// What a module's own stream holds; `None` where it has none, or it can't be read.
+///
+/// # Errors
+/// `AllocError` when memory runs out.
+pub fn information_of<'l>(
+    loaded: &'l Loaded,
+    number: usize,
+    module: &Module<'_>,
+) -> Result<Option<&'l ModuleInfo<'static>>, AllocError> {
+    match loaded.held.modules().get_module_info(number, module) {
+        Ok(information) => Ok(information),
+        Err(Error::OutOfMemory) => Err(AllocError),
+        Err(_) => Ok(None),
+    }
+}
+
+/// How many bytes each part of each module contributes.
+///
+/// # Errors
+/// `Load`, `OutOfMemory`.
+pub fn sizes_of_modules(alloc: Global, loaded: &Loaded) -> Result<ByteCounts<ModulePart>, Fault> {
+    let contributions = contributions_of(alloc, loaded)?;
+    if contributions.len() >= 1 << 32 {
+        return Err(Fault::OutOfMemory);
+    }
+    Ok(module_sizes(alloc, &contributions)?)
+}

@@ -1,0 +1,75 @@
+//! Why a listing isn't written.
+
+use pdb_addr2line::Error as ContextError;
+use pdb_loading::LoadFault;
+use std::alloc::{AllocError, AllocFailed, Global};
+use std::io::ErrorKind;
+use thiserror::Error;
+
+/// Why a listing isn't written. It prints as it is reported.
+#[derive(Debug, Drop, Error)]
+pub enum Fault {
+    /// A file can't be read: its path, and why.
+    #[error("cannot read {0}: {1}")]
+    Read(String, &'static str),
+    /// A file is no database that can be loaded: its path, and why.
+    #[error("cannot load {0}: {1}")]
+    Load(String, LoadFault),
+    /// A file is no image: its path, and why.
+    #[error("cannot read the image {0}: {1}")]
+    Image(String, String),
+    /// Options that don't go together, or words that stand for nothing.
+    #[error("{0}")]
+    Words(String),
+    /// The output can't be written.
+    #[error("cannot write to standard output")]
+    Write,
+    /// Out of memory.
+    #[error("out of memory")]
+    OutOfMemory,
+}
+
+impl From<AllocError> for Fault {
+    fn from(_cause: AllocError) -> Fault {
+        Fault::OutOfMemory
+    }
+}
+
+impl<T: Drop> From<AllocFailed<T>> for Fault {
+    fn from(_cause: AllocFailed<T>) -> Fault {
+        Fault::OutOfMemory
+    }
+}
+
+/// A fault of loading a file, with its path.
+pub fn load_fault(alloc: Global, path: &str, fault: LoadFault) -> Fault {
+    match (fault, String::from_str(alloc, path)) {
+        (LoadFault::OutOfMemory, _) | (_, Err(_)) => Fault::OutOfMemory,
+        (fault, Ok(path)) => Fault::Load(path, fault),
+    }
+}
+
+/// A fault of a context over a file, with the file's path.
+pub fn context_fault(alloc: Global, path: &str, error: ContextError) -> Fault {
+    load_fault(alloc, path, LoadFault::from(error))
+}
+
+/// A fault of reading a file, with its path.
+pub fn read_fault(alloc: Global, path: &str, kind: ErrorKind) -> Fault {
+    match (reason(kind), String::from_str(alloc, path)) {
+        (None, _) | (_, Err(_)) => Fault::OutOfMemory,
+        (Some(reason), Ok(path)) => Fault::Read(path, reason),
+    }
+}
+
+/// Why a file can't be read, as the system says it; `None` where memory ran out.
+fn reason(kind: ErrorKind) -> Option<&'static str> {
+    match kind {
+        ErrorKind::OutOfMemory => None,
+        ErrorKind::NotFound => Some("No such file or directory"),
+        ErrorKind::IsADirectory => Some("Is a directory"),
+        ErrorKind::NotADirectory => Some("Not a directory"),
+        ErrorKind::PermissionDenied => Some("Permission denied"),
+        _ => Some("Input/output error"),
+    }
+}

@@ -1,0 +1,112 @@
+//! The addresses of functions by their names.
+
+use crate::fault::Fault;
+use crate::loaded::Loaded;
+use crate::output::{Output, text_value};
+use pdb_function_lists::{FunctionRow, functions_named, list_functions};
+use pdb_listings::{Column, Value};
+use std::alloc::Global;
+use std::io::Write;
+
+const COLUMNS: &[Column] = &[
+    Column {
+        name: "address",
+        before: "",
+        width: 10,
+    },
+    Column {
+        name: "name",
+        before: " ",
+        width: 0,
+    },
+];
+
+/// A name that is looked for, and an offset from its address.
+#[derive(Clone, Copy)]
+struct Asked<'n> {
+    name: &'n str,
+    offset: u32,
+}
+
+/// The number of an offset: in hexadecimal digits after `0x`, else in decimal ones.
+fn offset_in(word: &str) -> Option<u32> {
+    let parsed = match word.strip_prefix("0x") {
+        Some(digits) => u32::from_str_radix(digits, 16),
+        None => word.parse::<u32>(),
+    };
+    match parsed {
+        Ok(offset) => Some(offset),
+        Err(_) => None,
+    }
+}
+
+/// The name and the offset of a word.
+fn asked_by(word: &str) -> Asked<'_> {
+    if let Some((name, digits)) = word.rsplit_once('+') {
+        if let Some(offset) = offset_in(digits) {
+            return Asked { name, offset };
+        }
+    }
+    Asked {
+        name: word,
+        offset: 0,
+    }
+}
+
+/// Writes the row of a function.
+fn write_row<W: Write + Drop>(
+    alloc: Global,
+    row: &FunctionRow,
+    offset: u32,
+    output: &mut Output<W>,
+) -> Result<(), Fault> {
+    let address = Value::Address(row.function.start_rva.saturating_add(offset));
+    let name = match &row.function.name {
+        Some(name) => text_value(alloc, name.as_str())?,
+        None => Value::Unknown,
+    };
+    output.row(COLUMNS, vec![in alloc; address, name]?)
+}
+
+/// Writes the functions with a name, and returns whether there is one.
+fn write_named<W: Write + Drop>(
+    alloc: Global,
+    rows: &[FunctionRow],
+    asked: Asked<'_>,
+    output: &mut Output<W>,
+) -> Result<bool, Fault> {
+    let mut found = false;
+    let marks = functions_named(alloc, rows, asked.name.as_bytes())?;
+    for (row, mark) in rows.iter().zip(marks) {
+        if mark {
+            write_row(alloc, row, asked.offset, output)?;
+            found = true;
+        }
+    }
+    Ok(found)
+}
+
+/// Writes the functions with each of the names, and returns whether there is one of each; a name
+/// that no function has is reported.
+///
+/// # Errors
+/// Why not all are written.
+pub fn write<W: Write + Drop>(
+    rt: &(impl Eprint + AllocGlobal),
+    loaded: &Loaded,
+    names: &[String],
+    output: &mut Output<W>,
+) -> Result<bool, Fault> {
+    let alloc = rt.alloc();
+    let mut context = loaded.context(alloc)?;
+    let rows = list_functions(alloc, loaded.context(alloc)?, &mut context)?;
+    output.header(COLUMNS)?;
+    let mut all = true;
+    for name in names {
+        if !write_named(alloc, &rows, asked_by(name.as_str()), output)? {
+            let _ = eprintln!(rt; "pdb_inspect: no function is called {name}");
+            all = false;
+        }
+    }
+    Ok(all)
+}

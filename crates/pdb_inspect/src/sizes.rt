@@ -1,0 +1,211 @@
+//! Bytes by function, source file, folder, module, library or section.
+
+use crate::arguments::{By, SizeOptions};
+use crate::contributions::{contributions_of, modules_of, sizes_of_modules};
+use crate::fault::Fault;
+use crate::loaded::Loaded;
+use crate::modules::{library_of, name_of};
+use crate::output::{Output, share_of, text_value};
+use pdb_addresses::{AddressMap, ImageSectionHeader};
+use pdb_function_lists::{file_sizes, function_sizes, joined_sizes};
+use pdb_listings::{
+    ByteCounts, Column, Named, Size, Value, add_bytes, largest_first, listed, total_of,
+};
+use pdb_symbols_modules::Module;
+use std::alloc::{AllocError, Global};
+use std::io::Write;
+
+const COLUMNS: &[Column] = &[
+    Column {
+        name: "bytes",
+        before: "",
+        width: 10,
+    },
+    Column {
+        name: "share",
+        before: " ",
+        width: 6,
+    },
+    Column {
+        name: "name",
+        before: " ",
+        width: 0,
+    },
+];
+
+/// The address after the last of an image's sections.
+fn end_of(map: &AddressMap<'_>) -> u32 {
+    let mut end = 0;
+    for header in map.image_section_headers() {
+        let last = header.virtual_address.saturating_add(header.virtual_size);
+        end = end.max(last);
+    }
+    end
+}
+
+/// Adds bytes to a name, unless all names together would have more than 2^64 - 1.
+fn add(
+    alloc: Global,
+    table: &mut ByteCounts<Named>,
+    name: &str,
+    bytes: u64,
+) -> Result<(), AllocError> {
+    if table.total().checked_add(bytes).is_none() {
+        return Ok(());
+    }
+    add_bytes(alloc, table, name, bytes)
+}
+
+/// Bytes by function.
+fn by_function(
+    alloc: Global,
+    loaded: &Loaded,
+    undecorate: bool,
+) -> Result<ByteCounts<Named>, Fault> {
+    let context = loaded.context(alloc)?;
+    let map = loaded.held.address_map();
+    if !map.is_ordered() {
+        return Ok(ByteCounts::new(alloc));
+    }
+    let end = end_of(map);
+    Ok(function_sizes(alloc, map, context, 0, end, undecorate)?)
+}
+
+/// Bytes by function, where padding counts for the function before it in its contribution.
+fn by_function_joined(
+    alloc: Global,
+    loaded: &Loaded,
+    undecorate: bool,
+) -> Result<ByteCounts<Named>, Fault> {
+    let context = loaded.context(alloc)?;
+    let contributions = contributions_of(alloc, loaded)?;
+    Ok(joined_sizes(alloc, context, &contributions, undecorate)?)
+}
+
+/// Bytes by source file, or by its folder.
+fn by_file(alloc: Global, loaded: &Loaded, by_folder: bool) -> Result<ByteCounts<Named>, Fault> {
+    let context = loaded.context(alloc)?;
+    let map = loaded.held.address_map();
+    if !map.is_ordered() {
+        return Ok(ByteCounts::new(alloc));
+    }
+    Ok(file_sizes(alloc, map, context, 0, end_of(map), by_folder)?)
+}
+
+/// The name that bytes of a module count for: its own, or that of its library.
+fn counted_name(
+    alloc: Global,
+    module: Option<&Module<'_>>,
+    by_library: bool,
+) -> Result<String, AllocError> {
+    let Some(module) = module else {
+        return String::from_str(alloc, "(no module)");
+    };
+    if !by_library {
+        return name_of(alloc, module);
+    }
+    let library = library_of(alloc, module)?;
+    if library.is_empty() {
+        return String::from_str(alloc, "(no library)");
+    }
+    Ok(library)
+}
+
+/// Bytes that modules contribute, by the module or by its library.
+fn by_module(alloc: Global, loaded: &Loaded, by_library: bool) -> Result<ByteCounts<Named>, Fault> {
+    let mut table = ByteCounts::new(alloc);
+    let modules = modules_of(alloc, loaded)?;
+    let sizes = sizes_of_modules(alloc, loaded)?;
+    for (key, bytes) in sizes.by_answer() {
+        let module = modules.get(usize::from(key.module));
+        let name = counted_name(alloc, module, by_library)?;
+        add(alloc, &mut table, name.as_str(), *bytes)?;
+    }
+    Ok(table)
+}
+
+/// Bytes that are contributed to sections.
+fn by_section(alloc: Global, loaded: &Loaded) -> Result<ByteCounts<Named>, Fault> {
+    let mut table = ByteCounts::new(alloc);
+    let headers = loaded.held.address_map().image_section_headers();
+    for contribution in contributions_of(alloc, loaded)? {
+        let number = usize::from(contribution.offset.section);
+        let name = section_name(headers, number);
+        add(alloc, &mut table, name, u64::from(contribution.size))?;
+    }
+    Ok(table)
+}
+
+/// The name of the section of a number, counted from 1.
+fn section_name(headers: &[ImageSectionHeader], number: usize) -> &str {
+    let Some(place) = number.checked_sub(1) else {
+        return "(no section)";
+    };
+    match headers.get(place) {
+        Some(header) => header.name(),
+        None => "(no section)",
+    }
+}
+
+/// The sizes of a database, in the order of their names.
+///
+/// # Errors
+/// Why they can't be counted.
+pub fn sizes_of(
+    alloc: Global,
+    loaded: &Loaded,
+    options: SizeOptions,
+    undecorate: bool,
+) -> Result<Vec<Size>, Fault> {
+    let table = match options.by {
+        By::Function if options.join_padding => by_function_joined(alloc, loaded, undecorate)?,
+        By::Function => by_function(alloc, loaded, undecorate)?,
+        By::File => by_file(alloc, loaded, false)?,
+        By::Folder => by_file(alloc, loaded, true)?,
+        By::Module => by_module(alloc, loaded, false)?,
+        By::Library => by_module(alloc, loaded, true)?,
+        By::Section => by_section(alloc, loaded)?,
+    };
+    Ok(listed(alloc, &table)?)
+}
+
+/// Writes a row.
+fn write_row<W: Write + Drop>(
+    alloc: Global,
+    (bytes, total, name): (u64, u64, &str),
+    output: &mut Output<W>,
+) -> Result<(), Fault> {
+    let share = share_of(bytes, total);
+    let name = text_value(alloc, name)?;
+    output.row(COLUMNS, vec![in alloc; Value::Number(bytes), share, name]?)
+}
+
+/// Writes the sizes of a database, the largest first; in lines for people then those that are left
+/// out, and the total.
+///
+/// # Errors
+/// Why not all are written.
+pub fn write<W: Write + Drop>(
+    alloc: Global,
+    loaded: &Loaded,
+    options: SizeOptions,
+    undecorate: bool,
+    output: &mut Output<W>,
+) -> Result<(), Fault> {
+    let mut sizes = sizes_of(alloc, loaded, options, undecorate)?;
+    let total = total_of(&sizes);
+    largest_first(&mut sizes)?;
+    let count = options.top.unwrap_or(sizes.len()).min(sizes.len());
+    let (listed, others) = sizes.split_at(count);
+    output.header(COLUMNS)?;
+    for size in listed {
+        write_row(alloc, (size.bytes, total, size.name.as_str()), output)?;
+    }
+    if !output.is_text() {
+        return Ok(());
+    }
+    if !others.is_empty() {
+        write_row(alloc, (total_of(others), total, "(others)"), output)?;
+    }
+    write_row(alloc, (total, total, "(total)"), output)
+}

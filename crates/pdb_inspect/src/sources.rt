@@ -1,0 +1,192 @@
+//! Source files, compared with those that a database was built of.
+
+use crate::contributions::{information_of, modules_of};
+use crate::fault::Fault;
+use crate::loaded::Loaded;
+use crate::output::{Output, text_value};
+use crate::progress::Progress;
+use pdb_listings::{Column, SourceFile, StoredSum, Value, Verdict, append_sources, verdict_of};
+use std::alloc::{AllocError, Global};
+use std::fs::{self, OpenFile};
+use std::io::{ErrorKind, Read, Write};
+use std::rt::Files;
+
+const COLUMNS: &[Column] = &[
+    Column {
+        name: "verdict",
+        before: "",
+        width: 11,
+    },
+    Column {
+        name: "path",
+        before: " ",
+        width: 0,
+    },
+];
+
+/// The word for a verdict.
+fn word_of(verdict: Verdict) -> &'static str {
+    match verdict {
+        Verdict::Right => "right",
+        Verdict::Changed => "changed",
+        Verdict::Missing => "missing",
+        Verdict::NoChecksum => "no checksum",
+    }
+}
+
+/// A checksum as it is compared with others: its kind, and its bytes.
+fn sum_key(sum: &StoredSum) -> (u8, &[u8]) {
+    match sum {
+        StoredSum::None => (0, b""),
+        StoredSum::Md5(bytes) => (1, bytes.as_slice()),
+        StoredSum::Sha1(bytes) => (2, bytes.as_slice()),
+        StoredSum::Sha256(bytes) => (3, bytes.as_slice()),
+    }
+}
+
+/// The source files of all modules, by path, and each with each of its checksums once.
+fn all_sources(alloc: Global, loaded: &Loaded) -> Result<Vec<SourceFile>, Fault> {
+    let mut sources = Vec::new(alloc);
+    let Some(names) = loaded.names(alloc)? else {
+        return Ok(sources);
+    };
+    let modules = modules_of(alloc, loaded)?;
+    for (number, module) in modules.iter().enumerate() {
+        if let Some(module) = information_of(loaded, number, module)? {
+            append_sources(alloc, &names, module, &mut sources)?;
+        }
+    }
+    sources.sort_by(|a: &SourceFile, b: &SourceFile| {
+        let (a_kind, a_bytes) = sum_key(&a.sum);
+        let (b_kind, b_bytes) = sum_key(&b.sum);
+        let paths = a.path.cmp(&b.path);
+        paths.then(a_kind.cmp(&b_kind)).then(a_bytes.cmp(b_bytes))
+    })?;
+    sources.dedup_by(|a: &mut SourceFile, b: &mut SourceFile| a == b);
+    Ok(sources)
+}
+
+/// The bytes of a regular file at a path; `None` where there is none that can be read.
+fn bytes_at(rt: &(impl Files + AllocGlobal), path: &str) -> Result<Option<Vec<u8>>, AllocError> {
+    let mut file = match fs::open(rt, path) {
+        Ok(file) => file,
+        Err(error) if error.kind() == ErrorKind::OutOfMemory => return Err(AllocError),
+        Err(_) => return Ok(None),
+    };
+    match file.metadata() {
+        Ok(metadata) if metadata.is_file() => {}
+        _ => return Ok(None),
+    }
+    let mut bytes = Vec::new(rt.alloc());
+    match Read::by_ref(&mut file).read_to_end(&mut bytes) {
+        Ok(_) => Ok(Some(bytes)),
+        Err(error) if error.kind() == ErrorKind::OutOfMemory => Err(AllocError),
+        Err(_) => Ok(None),
+    }
+}
+
+/// The better one of two verdicts: that of a file that is right, else of one that is there.
+fn better(a: Verdict, b: Verdict) -> Verdict {
+    match (a, b) {
+        (Verdict::Right, _) | (_, Verdict::Right) => Verdict::Right,
+        (Verdict::Missing, other) => other,
+        (other, _) => other,
+    }
+}
+
+/// What is said of a source file by the file at a path.
+fn verdict_at(
+    rt: &(impl Files + AllocGlobal),
+    source: &SourceFile,
+    path: &str,
+) -> Result<Verdict, AllocError> {
+    match bytes_at(rt, path)? {
+        Some(bytes) => Ok(verdict_of(&source.sum, Some(&bytes))),
+        None => Ok(verdict_of(&source.sum, None)),
+    }
+}
+
+/// A path with slashes in place of backslashes.
+fn with_slashes(alloc: Global, path: &str) -> Result<String, AllocError> {
+    let mut bytes = Vec::new(alloc);
+    for byte in path.as_bytes() {
+        bytes.push(if *byte == b'\\' { b'/' } else { *byte })?;
+    }
+    String::from_utf8_lossy(alloc, &bytes)
+}
+
+/// The end of a path after its first slash, if it has one.
+fn after_slash(path: &str) -> Option<&str> {
+    match path.split_once('/') {
+        Some((_, end)) => Some(end),
+        None => None,
+    }
+}
+
+/// What is said of a source file by those in a folder that lie where an end of its path says, the
+/// longest end first, up to the first that is right.
+fn verdict_in(
+    rt: &(impl Files + AllocGlobal),
+    source: &SourceFile,
+    folder: &str,
+) -> Result<Verdict, AllocError> {
+    let path = with_slashes(rt.alloc(), source.path.as_str())?;
+    let mut rest = Some(path.as_str());
+    let mut verdict = Verdict::Missing;
+    for _ in 0..u64::MAX {
+        let Some(end) = rest else {
+            break;
+        };
+        let file = format!(in rt.alloc(); "{folder}/{end}")?;
+        verdict = better(verdict, verdict_at(rt, source, file.as_str())?);
+        if verdict == Verdict::Right {
+            return Ok(verdict);
+        }
+        rest = after_slash(end);
+    }
+    Ok(verdict)
+}
+
+/// What is said of a source file by those in folders; without folders by the file at its path.
+fn verdict_by(
+    rt: &(impl Files + AllocGlobal),
+    source: &SourceFile,
+    folders: &[String],
+) -> Result<Verdict, AllocError> {
+    if source.sum == StoredSum::None {
+        return Ok(Verdict::NoChecksum);
+    }
+    if folders.is_empty() {
+        return verdict_at(rt, source, source.path.as_str());
+    }
+    let mut verdict = Verdict::Missing;
+    for folder in folders {
+        verdict = better(verdict, verdict_in(rt, source, folder.as_str())?);
+    }
+    Ok(verdict)
+}
+
+/// Writes what is said of each source file of a database.
+///
+/// # Errors
+/// Why not all are written.
+pub fn write<W: Write + Drop, E: Write>(
+    rt: &(impl Files + AllocGlobal),
+    loaded: &Loaded,
+    folders: &[String],
+    output: &mut Output<W>,
+    progress: &mut Progress<E>,
+) -> Result<(), Fault> {
+    let alloc = rt.alloc();
+    let sources = all_sources(alloc, loaded)?;
+    output.header(COLUMNS)?;
+    for (done, source) in sources.iter().enumerate() {
+        progress.files(done, sources.len());
+        let verdict = verdict_by(rt, source, folders)?;
+        let word = text_value(alloc, word_of(verdict))?;
+        let path = text_value(alloc, source.path.as_str())?;
+        output.row(COLUMNS, vec![in alloc; word, path]?)?;
+    }
+    progress.end();
+    Ok(())
+}
