@@ -97,7 +97,7 @@ stale word docs/GUIDE.md '`find_shared_frames`' '`find_joined_frames`'
 stale place docs/ARCHITECTURE.md '(`read_stream`)' '(`read_streams`)'
 stale place docs/ARCHITECTURE.md '`Procedures` (`over`)' '`Procedures` (`beneath`)'
 stale place docs/ARCHITECTURE.md loading.rt loadings.rt
-stale place docs/GLOSSARY.md pdb_report/specs/Answer pdb_report/specs/Reply
+stale place docs/GLOSSARY.md pdb_databases/specs/Answer pdb_databases/specs/Reply
 stale clause docs/PROVED.md '`Source::may_list`' '`Source::may_cut`'
 stale clause docs/PROVED.md '`loaded`, `refused`' '`loaded`, `turned_away`'
 stale clause docs/PROVED.md '`kept`, `text`' '`kept`'
