@@ -1,12 +1,15 @@
 //! Where a symbol file is written.
 
 use crate::fault::SymbolsFault;
+use crate::file_told::{FileTold, text_on_demand};
 use crate::image::read_image;
-use crate::loaded::{Loaded, load_bytes, load_views};
+use crate::memory_told::{MemoryTold, text_in_memory};
 use crate::options::{Options, Target};
 use crate::progress::Progress;
-use crate::writing::{text_of, write_symbols_text};
+use crate::writing::{describe, head_of, write_symbols_text};
 use bumpalo::Bump;
+use pdb_databases::{ContributionOrder, FileOnDemand, FileSymbolizer, NotLoaded, Symbolizer};
+use pdb_file_views::reach;
 use pdb_image::{Image, PdbIdentity};
 use pdb_loading::read_file;
 use pdb_symbol_files::SymbolsText;
@@ -118,71 +121,114 @@ fn read_bytes(alloc: Global, file: &mut impl Read) -> Result<Vec<u8>, SymbolsFau
     }
 }
 
-/// Writes a symbol file by its database, which is loaded, and its image.
-fn write_by_image<S: Files + AllocGlobal, F: FileExt, W: Write, E: Write>(
+/// The bytes of the image's file, if it is given.
+fn image_bytes<S: Files + AllocGlobal>(
     rt: &S,
-    loaded: Loaded<'_, '_, F>,
     options: &Options,
-    image: Option<&Image<'_>>,
-    output: &mut W,
-    progress: &mut Progress<E>,
-) -> Result<(), SymbolsFault> {
-    let identity = loaded.identity;
-    let text = text_of(rt.alloc(), loaded, options, image, progress)?;
-    progress.end();
-    write_to(rt, options, &identity, &text, image, output)
+) -> Result<Option<Vec<u8>>, SymbolsFault> {
+    match &options.image {
+        Some(path) => Ok(Some(read_image(rt, path.as_str())?)),
+        None => Ok(None),
+    }
 }
 
-/// Writes a symbol file by its database, which is loaded.
-fn write_loaded<S: Files + AllocGlobal, F: FileExt, W: Write, E: Write>(
+/// The image in the bytes of its file, if it is given.
+fn image_in(bytes: &Option<Vec<u8>>) -> Result<Option<Image<'_>>, SymbolsFault> {
+    match bytes {
+        Some(bytes) => Ok(Some(Image::parse(bytes.as_slice())?)),
+        None => Ok(None),
+    }
+}
+
+/// Writes a symbol file by a database's file that is read on demand.
+fn write_on_demand<S: Files + AllocGlobal, F: FileExt + Drop, W: Write, E: Write + Drop>(
     rt: &S,
-    loaded: Loaded<'_, '_, F>,
     options: &Options,
+    source: FileOnDemand<'_, F>,
     output: &mut W,
-    progress: &mut Progress<E>,
+    progress: Progress<E>,
 ) -> Result<(), SymbolsFault> {
-    let Some(path) = &options.image else {
-        return write_by_image(rt, loaded, options, None, output, progress);
+    let mut symbolizer = match FileSymbolizer::open(rt.alloc(), source) {
+        Ok(symbolizer) => symbolizer,
+        Err(NotLoaded { fault, source }) => {
+            drop(source);
+            return Err(SymbolsFault::from(fault));
+        }
     };
-    let bytes = read_image(rt, path.as_str())?;
-    let image = Image::parse(bytes.as_slice())?;
-    write_by_image(rt, loaded, options, Some(&image), output, progress)
+    let identity = symbolizer.identity(rt.alloc())?;
+    let database = describe(rt.alloc(), symbolizer.held(), identity)?;
+    let bytes = image_bytes(rt, options)?;
+    let image = image_in(&bytes)?;
+    let head = head_of(rt.alloc(), options, &database, image.as_ref())?;
+    let mut runs = FileTold {
+        symbolizer,
+        inlines: options.inlines,
+        progress,
+    };
+    let text = text_on_demand(rt.alloc(), head, database.sections.as_slice(), &mut runs)?;
+    write_to(
+        rt,
+        options,
+        &database.identity,
+        &text,
+        image.as_ref(),
+        output,
+    )
 }
 
 /// Writes a symbol file by a database's file of `size` bytes, which is read on demand. The process
 /// is left to give its memory back.
-fn write_by_views<S: Files + AllocGlobal, F: FileExt, W: Write, E: Write>(
+fn write_by_views<S: Files + AllocGlobal, F: FileExt + Drop, W: Write, E: Write + Drop>(
     rt: &S,
     options: &Options,
-    file: &F,
+    file: F,
     size: u64,
     output: &mut W,
-    progress: &mut Progress<E>,
+    progress: Progress<E>,
 ) -> Result<(), SymbolsFault> {
+    let size = match reach(&file, size) {
+        Ok(size) => size,
+        Err(error) => return Err(SymbolsFault::of_file(&error)),
+    };
     let arena = Bump::new(rt.alloc());
-    let loaded = load_views(rt.alloc(), &arena, file, size)?;
-    let outcome = write_loaded(rt, loaded, options, output, progress);
+    let mut source = FileOnDemand::new(rt.alloc(), &arena, file, size)?;
+    source.order = ContributionOrder::Any;
+    let outcome = write_on_demand(rt, options, source, output, progress);
     forget(arena);
     outcome
 }
 
 /// Writes a symbol file by the bytes of a database's file. The process is left to give its memory
 /// back.
-fn write_by_bytes<S: Files + AllocGlobal, W: Write, E: Write>(
+fn write_by_bytes<S: Files + AllocGlobal, W: Write, E: Write + Drop>(
     rt: &S,
     options: &Options,
     bytes: Vec<u8>,
     output: &mut W,
-    progress: &mut Progress<E>,
-) -> Result<(), SymbolsFault>
-where
-    S::File: FileExt,
-{
-    let arena = Bump::new(rt.alloc());
-    let loaded: Loaded<'_, '_, S::File> = load_bytes(rt.alloc(), &arena, bytes)?;
-    let outcome = write_loaded(rt, loaded, options, output, progress);
-    forget(arena);
-    outcome
+    progress: Progress<E>,
+) -> Result<(), SymbolsFault> {
+    let symbolizer = Symbolizer::open_with_order(rt.alloc(), bytes, ContributionOrder::Any)?;
+    let identity = symbolizer.identity(rt.alloc())?;
+    let database = describe(rt.alloc(), symbolizer.held(), identity)?;
+    let given = image_bytes(rt, options)?;
+    let image = image_in(&given)?;
+    let head = head_of(rt.alloc(), options, &database, image.as_ref())?;
+    let context = symbolizer.context(rt.alloc())?;
+    let mut runs = MemoryTold {
+        symbolizer: &symbolizer,
+        context,
+        inlines: options.inlines,
+        progress,
+    };
+    let text = text_in_memory(rt.alloc(), head, database.sections.as_slice(), &mut runs)?;
+    write_to(
+        rt,
+        options,
+        &database.identity,
+        &text,
+        image.as_ref(),
+        output,
+    )
 }
 
 /// Opens the database's file.
@@ -199,11 +245,11 @@ fn open_file<S: Files + AllocGlobal>(rt: &S, path: &str) -> Result<S::File, Symb
 ///
 /// # Errors
 /// Why it isn't written.
-pub fn write_symbols<S: Files + AllocGlobal, W: Write, E: Write>(
+pub fn write_symbols<S: Files + AllocGlobal, W: Write, E: Write + Drop>(
     rt: &S,
     options: &Options,
     output: &mut W,
-    progress: &mut Progress<E>,
+    progress: Progress<E>,
 ) -> Result<(), SymbolsFault>
 where
     S::File: FileExt,
@@ -213,5 +259,5 @@ where
         let bytes = read_bytes(rt.alloc(), &mut file)?;
         return write_by_bytes(rt, options, bytes, output, progress);
     };
-    write_by_views(rt, options, &file, size, output, progress)
+    write_by_views(rt, options, file, size, output, progress)
 }

@@ -3,7 +3,8 @@
 use pdb_container::kind_name;
 use pdb_image::ImageError;
 use pdb_loading::{FileFault, LoadFault};
-use std::alloc::{AllocError, AllocFailed};
+use pdb_symbol_files::ToldFault;
+use std::alloc::AllocError;
 use std::fmt;
 use std::io::{self, ErrorKind};
 
@@ -72,21 +73,9 @@ impl From<AllocError> for SymbolsFault {
     }
 }
 
-impl<T: Drop> From<AllocFailed<T>> for SymbolsFault {
-    fn from(_cause: AllocFailed<T>) -> SymbolsFault {
-        SymbolsFault::out_of_memory()
-    }
-}
-
 impl From<LoadFault> for SymbolsFault {
     fn from(cause: LoadFault) -> SymbolsFault {
         SymbolsFault::Load(cause)
-    }
-}
-
-impl From<pdb_container::Error> for SymbolsFault {
-    fn from(cause: pdb_container::Error) -> SymbolsFault {
-        SymbolsFault::Load(LoadFault::from(cause))
     }
 }
 
@@ -96,6 +85,15 @@ impl From<FileFault> for SymbolsFault {
             FileFault::Load(fault) => SymbolsFault::Load(fault),
             FileFault::File(ErrorKind::OutOfMemory) => SymbolsFault::out_of_memory(),
             FileFault::File(kind) => SymbolsFault::File(kind),
+        }
+    }
+}
+
+impl From<ToldFault> for SymbolsFault {
+    fn from(cause: ToldFault) -> SymbolsFault {
+        match cause {
+            ToldFault::OutOfMemory => SymbolsFault::out_of_memory(),
+            ToldFault::File(kind) => SymbolsFault::File(kind),
         }
     }
 }

@@ -1,5 +1,10 @@
 //! The image of a database: its code ID, and how its functions are unwound.
 
+ghost use Rattle.std.specs.Prelude.{◌≡◌, [], OnErr, OnOk, string_bytes};
+ghost use Rattle.std.specs.Io.KnownBytes.{Appends};
+ghost use Rattle.pdb_symbol_files.specs.Output.{AppendsFront};
+ghost use Rattle.pdb_symbols.specs.UnwindingText.{IsPassedOn, unwinding_text, unwound_text};
+
 use crate::fault::SymbolsFault;
 use pdb_image::{Image, PdbIdentity};
 use pdb_symbol_files::write_text;
@@ -46,7 +51,13 @@ pub fn check_build(image: &Image<'_>, identity: &PdbIdentity) -> Result<(), Symb
 }
 
 /// Writes a text, and empties it.
-fn write_part<W: Write>(text: &mut String, output: &mut W) -> Result<(), SymbolsFault> {
+fn write_part<W: Write>(text: &mut String, output: &mut W) -> Result<(), SymbolsFault>
+    ensures ok { OnOk result
+        (Appends (W.contents output.old) (W.contents output.new) (string_bytes text.old)) }
+    ensures emptied { OnOk result (string_bytes text.new ≡ []) }
+    ensures part { OnErr result
+        (AppendsFront (W.contents output.old) (W.contents output.new) (string_bytes text.old)) }
+{
     match write_text(text.as_str(), output) {
         Ok(()) => {}
         Err(kind) => return Err(SymbolsFault::of_write(kind)),
@@ -55,21 +66,33 @@ fn write_part<W: Write>(text: &mut String, output: &mut W) -> Result<(), Symbols
     Ok(())
 }
 
+/// Writes a text, and empties it, if it is long.
+fn write_if_long<W: Write>(text: &mut String, output: &mut W) -> Result<(), SymbolsFault>
+    ensures { IsPassedOn (W.contents output.old) (W.contents output.new) (string_bytes text.old)
+        (string_bytes text.new) result }
+{
+    if text.len() < AT_ONCE {
+        return Ok(());
+    }
+    write_part(text, output)
+}
+
 /// Writes the records of functions.
 fn write_functions<W: Write>(
     alloc: Global,
     functions: &mut UnwoundFunctions<'_, '_>,
     output: &mut W,
-) -> Result<(), SymbolsFault> {
+) -> Result<(), SymbolsFault>
+    ensures ok { OnOk result
+        (Appends (W.contents output.old) (W.contents output.new) (unwound_text functions.old)) }
+    ensures part { OnErr result
+        (AppendsFront (W.contents output.old) (W.contents output.new)
+        (unwound_text functions.old)) }
+{
     let mut text = String::new(alloc);
-    for _ in 0..u32::MAX {
-        let Some(function) = functions.next(alloc)? else {
-            break;
-        };
+    while let Some(function) = functions.next(alloc)? {
         function.append_records(&mut text)?;
-        if AT_ONCE <= text.len() {
-            write_part(&mut text, output)?;
-        }
+        write_if_long(&mut text, output)?;
     }
     write_part(&mut text, output)
 }
@@ -78,12 +101,18 @@ fn write_functions<W: Write>(
 /// exception directory can't be read.
 ///
 /// # Errors
-/// `Write` where a write failed, or out of memory.
+/// `Write` where a write failed, or out of memory; a prefix of the text was written.
 pub fn write_unwinding<W: Write>(
     alloc: Global,
     image: &Image<'_>,
     output: &mut W,
-) -> Result<(), SymbolsFault> {
+) -> Result<(), SymbolsFault>
+    ensures ok { OnOk result
+        (Appends (W.contents output.old) (W.contents output.new) (unwinding_text image.now)) }
+    ensures part { OnErr result
+        (AppendsFront (W.contents output.old) (W.contents output.new)
+        (unwinding_text image.now)) }
+{
     match UnwoundFunctions::of_image(image) {
         Ok(mut functions) => write_functions(alloc, &mut functions, output),
         Err(_) => Ok(()),

@@ -2,16 +2,16 @@
 //! `pdb_symbols FILE [IMAGE]`.
 #![tactic(auto)]
 
-mod answers;
+mod address_runs;
 mod destination;
 mod fault;
-mod frames_run;
+mod file_told;
 mod help;
 mod image;
-mod loaded;
+mod memory_told;
 mod options;
-mod ordered_map;
 mod progress;
+mod told_places;
 mod undecorated;
 mod words;
 mod writing;
@@ -20,7 +20,7 @@ use destination::write_symbols;
 use fault::SymbolsFault;
 use help::{HELP, NOT_UTF8, VERSION};
 use options::{Options, Words, read_options};
-use progress::Progress;
+use progress::{ERASED, Progress};
 use std::io::{ErrorKind, IsTerminal, Write};
 use std::process::ExitCode;
 use words::given_words;
@@ -49,12 +49,15 @@ fn main(rt: HostRuntime) -> ExitCode {
 fn run(rt: &HostRuntime, options: &Options) -> ExitCode {
     let mut errors = rt.stderr();
     let shows = errors.is_terminal();
-    let mut progress = Progress::new(rt.stderr(), shows);
-    let outcome = write_symbols(rt, options, &mut rt.stdout(), &mut progress);
-    progress.end();
-    match outcome {
+    let progress = Progress::new(rt.stderr(), shows);
+    match write_symbols(rt, options, &mut rt.stdout(), progress) {
         Ok(()) => ExitCode::SUCCESS,
-        Err(fault) => report(&mut errors, &fault),
+        Err(fault) => {
+            if shows {
+                let _ = errors.write_all(ERASED);
+            }
+            report(&mut errors, &fault)
+        }
     }
 }
 

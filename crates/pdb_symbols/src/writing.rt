@@ -1,21 +1,26 @@
 //! The symbol file's text.
 
-use crate::answers::Answers;
+ghost use Rattle.std.specs.Prelude.{◌≡◌, ◌++◌, IfOk, OnErr, OnOk, false, option_copied, string_bytes};
+ghost use Rattle.std.specs.Io.KnownBytes.{Appends};
+ghost use Rattle.pdb_symbol_files.specs.Code.{answers_of_code};
+ghost use Rattle.pdb_symbol_files.specs.Records.{symbol_records};
+ghost use Rattle.pdb_symbol_files.specs.Output.{AppendsFront};
+ghost use Rattle.pdb_symbols.specs.SymbolsText.{records_text};
+ghost use Rattle.pdb_symbols.specs.UnwindingText.{text_of_image};
+
 use crate::fault::SymbolsFault;
 use crate::image::{check_build, write_unwinding};
-use crate::loaded::Loaded;
 use crate::options::Options;
-use crate::progress::Progress;
 use crate::undecorated::append_undecorated;
 use pdb_addr2line::pdb::MachineType;
+use pdb_addresses::ImageSectionHeader;
+use pdb_databases::Held;
 use pdb_image::{Image, PdbIdentity};
 use pdb_symbol_files::{
-    AddressRange, FunctionRecords, Piece, SymbolsText, append_code_id, append_module, code_ranges,
-    size_of_all, write_text,
+    SymbolsText, ToldFault, ToldRuns, append_code_id, append_functions, append_module, write_text,
 };
-use std::alloc::Global;
+use std::alloc::{AllocError, Global};
 use std::io::Write;
-use std::os::unix::fs::FileExt;
 
 /// A machine's number (`IMAGE_FILE_MACHINE_*`), of those that records name.
 fn machine_number(machine: MachineType) -> u16 {
@@ -27,50 +32,30 @@ fn machine_number(machine: MachineType) -> u16 {
     }
 }
 
-/// Adds what is said of a range of addresses.
-fn add_range<F: FileExt, E: Write>(
-    alloc: Global,
-    answers: &mut Answers<'_, '_, F>,
-    range: AddressRange,
-    records: &mut FunctionRecords,
-    progress: &mut Progress<E>,
-    (done, all): (u64, u64),
-) -> Result<(), SymbolsFault> {
-    let mut address = range.start;
-    while address < range.end {
-        progress.show(
-            done.saturating_add(u64::from(address.saturating_sub(range.start))),
-            all,
-        );
-        let run = answers.told_at(alloc, address, range.end)?;
-        let size = run.count.max(1).min(range.end - address);
-        if let Some(told) = run.told {
-            records.add(Piece {
-                address,
-                size,
-                told,
-            })?;
-        }
-        address += size;
-    }
-    Ok(())
+/// What the first records say of a database.
+#[derive(Drop)]
+pub struct Described {
+    /// The number of its machine (`IMAGE_FILE_MACHINE_*`).
+    pub machine: u16,
+    /// The headers of the image's sections.
+    pub sections: Vec<ImageSectionHeader>,
+    /// Its identity.
+    pub identity: PdbIdentity,
 }
 
-/// Adds what is said of ranges of addresses.
-fn add_ranges<F: FileExt, E: Write>(
-    alloc: Global,
-    answers: &mut Answers<'_, '_, F>,
-    ranges: &[AddressRange],
-    records: &mut FunctionRecords,
-    progress: &mut Progress<E>,
-) -> Result<(), SymbolsFault> {
-    let all = size_of_all(ranges);
-    let mut done: u64 = 0;
-    for range in ranges {
-        add_range(alloc, answers, *range, records, progress, (done, all))?;
-        done = done.saturating_add(u64::from(range.end.saturating_sub(range.start)));
-    }
-    Ok(())
+/// What the first records say of a database, by what is held of it.
+///
+/// # Errors
+/// `AllocError` when memory runs out.
+pub fn describe(alloc: Global, held: &Held, identity: PdbIdentity) -> Result<Described, AllocError>
+    ensures sections { IfOk result (λ d. d.sections.items ≡ held.now.tables.map.image) }
+    ensures identity { IfOk result (λ d. d.identity ≡ identity) }
+{
+    Ok(Described {
+        machine: machine_number(held.debug_information().machine_type()),
+        sections: held.address_map().image_section_headers().to_vec(alloc)?,
+        identity,
+    })
 }
 
 /// Appends the records that say whose a symbol file is.
@@ -102,35 +87,47 @@ fn append_heads(
     Ok(())
 }
 
-/// The text of the records of a database's functions, after that of the records before them.
+/// The text of the records that say whose a symbol file is. An image that is given is one that
+/// names the database.
 ///
 /// # Errors
-/// Why it can't be read, or where memory ran out.
-pub fn text_of<F: FileExt, E: Write>(
+/// As [`check_build`], or out of memory.
+pub fn head_of(
     alloc: Global,
-    loaded: Loaded<'_, '_, F>,
     options: &Options,
+    database: &Described,
     image: Option<&Image<'_>>,
-    progress: &mut Progress<E>,
-) -> Result<SymbolsText, SymbolsFault> {
+) -> Result<String, SymbolsFault> {
+    let Described {
+        machine,
+        identity,
+        ..
+    } = database;
     if let Some(image) = image {
-        check_build(image, &loaded.identity)?;
+        check_build(image, identity)?;
     }
-    let held = loaded.held;
-    let machine = machine_number(held.debug_information().machine_type());
     let mut head = String::new(alloc);
-    append_heads(alloc, machine, &loaded.identity, options, image, &mut head)?;
-    let ranges = code_ranges(alloc, held.address_map().image_section_headers())?;
-    let mut answers = Answers::new(alloc, loaded, options.inlines)?;
-    let mut records = FunctionRecords::new(alloc);
-    add_ranges(
-        alloc,
-        &mut answers,
-        ranges.as_slice(),
-        &mut records,
-        progress,
-    )?;
-    let functions = records.finish(&mut head)?;
+    append_heads(alloc, *machine, identity, options, image, &mut head)?;
+    Ok(head)
+}
+
+/// The text of the records of a database's functions, by what is told of the addresses at which
+/// code may run, behind a head.
+///
+/// # Errors
+/// `File` where the database's file couldn't be read; `OutOfMemory`.
+pub fn text_of<R: ToldRuns>(
+    alloc: Global,
+    mut head: String,
+    sections: &[ImageSectionHeader],
+    runs: &mut R,
+) -> Result<SymbolsText, ToldFault>
+    ensures grows { R.known runs.new → R.known runs.old }
+    ensures same { R.told runs.new ≡ R.told runs.old }
+    ensures records { R.known runs.new → IfOk result (λ text. text ≡ string_bytes head
+        ++ records_text (symbol_records (answers_of_code sections.now (R.told runs.old)))) }
+{
+    let functions = append_functions(alloc, runs, sections, &mut head)?;
     Ok(SymbolsText { head, functions })
 }
 
@@ -163,10 +160,31 @@ fn write_undecorated<W: Write>(
 }
 
 /// Writes a text as it is.
-fn write_plain<W: Write>(text: &SymbolsText, output: &mut W) -> Result<(), SymbolsFault> {
+fn write_plain<W: Write>(text: &SymbolsText, output: &mut W) -> Result<(), SymbolsFault>
+    ensures ok { OnOk result (Appends (W.contents output.old) (W.contents output.new) text.now) }
+    ensures part { OnErr result
+        (AppendsFront (W.contents output.old) (W.contents output.new) text.now) }
+{
     match text.write(output) {
         Ok(()) => Ok(()),
         Err(kind) => Err(SymbolsFault::of_write(kind)),
+    }
+}
+
+/// Writes how the functions of an image are unwound, if there is one.
+fn write_image<W: Write>(
+    alloc: Global,
+    image: Option<&Image<'_>>,
+    output: &mut W,
+) -> Result<(), SymbolsFault>
+    ensures ok { OnOk result (Appends (W.contents output.old) (W.contents output.new)
+        (text_of_image (option_copied image.entry))) }
+    ensures part { OnErr result (AppendsFront (W.contents output.old) (W.contents output.new)
+        (text_of_image (option_copied image.entry))) }
+{
+    match image {
+        Some(image) => write_unwinding(alloc, image, output),
+        None => Ok(()),
     }
 }
 
@@ -175,21 +193,24 @@ fn write_plain<W: Write>(text: &SymbolsText, output: &mut W) -> Result<(), Symbo
 ///
 /// # Errors
 /// `Write` where a write failed, or out of memory.
+#[tactic(auto, using(crate::proofs::WritingSteps::both_out, crate::proofs::WritingSteps::second_front, crate::proofs::WritingSteps::first_front))]
 pub fn write_symbols_text<W: Write>(
     alloc: Global,
     text: &SymbolsText,
     demangle: bool,
     image: Option<&Image<'_>>,
     output: &mut W,
-) -> Result<(), SymbolsFault> {
+) -> Result<(), SymbolsFault>
+    ensures ok { demangle ≡ false → OnOk result (Appends (W.contents output.old)
+        (W.contents output.new) (text.now ++ text_of_image (option_copied image.entry))) }
+    ensures part { demangle ≡ false → OnErr result (AppendsFront (W.contents output.old)
+        (W.contents output.new) (text.now ++ text_of_image (option_copied image.entry))) }
+{
     if demangle {
         write_undecorated(alloc, text.head.as_str(), output)?;
         write_undecorated(alloc, text.functions.as_str(), output)?;
-    } else {
-        write_plain(text, output)?;
+        return write_image(alloc, image, output);
     }
-    match image {
-        Some(image) => write_unwinding(alloc, image, output),
-        None => Ok(()),
-    }
+    write_plain(text, output)?;
+    write_image(alloc, image, output)
 }

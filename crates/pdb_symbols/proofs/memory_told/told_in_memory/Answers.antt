@@ -1,0 +1,31 @@
+use Rattle.pdb_symbols_modules.specs.Streams.{streams}
+use Rattle.pdb_symbols.proofs.ToldSteps.{answers_on, context_told, none_told, run_told}
+use Rattle.pdb_functions.specs.Databases.{on, place_of}
+use Rattle.pdb_symbols.proofs.memory_told.told_in_memory.Goals as goal
+
+pub returns-in-None-clause-told : goal.returns-in-None-clause-told
+returns-in-None-clause-told c =
+    none_told c.args.inlines 23 c.args.symbolizer.now.order (streams c.args.symbolizer.now.bytes)
+    c.address_map.result.now c.args.address c.address_run-place.result.1
+    c.address_run-place.result.0 c.address_map.ensures.map c.in-None.is
+    c.address_run-place.ensures.along
+
+pub returns-in-Ok-clause-answers : goal.returns-in-Ok-clause-answers
+returns-in-Ok-clause-answers c =
+    answers_on 23 c.args.symbolizer.now.order (streams c.args.symbolizer.now.bytes)
+    c.args.context.now c.told_at_place.new.context c.told_at_place.ensures.same c.requires.answers
+
+pub returns-in-Ok-clause-told : goal.returns-in-Ok-clause-told
+returns-in-Ok-clause-told c =
+    run_told c.args.inlines 23 c.args.symbolizer.now.order (streams c.args.symbolizer.now.bytes)
+    c.address_map.result.now c.args.address c.address_run-place.result.1 c.in-Ok.run'.count
+    c.address_run-place.result.0 c.in-Some.place c.in-Ok.run'.told c.address_map.ensures.map
+    c.in-Some.is c.address_run-place.ensures.along c.in-Ok.ensures.within
+    (λ k lt. context_told c.args.inlines 23 c.args.symbolizer.now.order
+    (streams c.args.symbolizer.now.bytes) c.args.context.now (on (place_of c.in-Some.place) k)
+    c.in-Ok.run'.told c.requires.answers (c.in-Ok.ensures.told k lt))
+
+pub returns-clause-answers : goal.returns-clause-answers
+returns-clause-answers c =
+    answers_on 23 c.args.symbolizer.now.order (streams c.args.symbolizer.now.bytes)
+    c.args.context.now c.told_at_place.new.context c.told_at_place.ensures.same c.requires.answers

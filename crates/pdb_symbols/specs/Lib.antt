@@ -1,0 +1,3 @@
+pub mod Told
+pub mod SymbolsText
+pub mod UnwindingText

@@ -1,0 +1,113 @@
+//! What is told of the addresses of a file that is in memory.
+
+ghost use Rattle.std.specs.Prelude.{◌≡◌, ◌++◌, ◌+◌, ◌<◌, ◌≤◌, ℕ, IfOk, string_bytes};
+ghost use Rattle.pdb_databases.specs.Answer.{AnswersWith, answered_in};
+ghost use Rattle.pdb_symbol_files.specs.Code.{answers_of_code};
+ghost use Rattle.pdb_symbol_files.specs.Records.{symbol_records};
+ghost use Rattle.pdb_symbols.specs.SymbolsText.{records_text};
+ghost use Rattle.pdb_symbols.specs.Told.{told_named};
+ghost use Rattle.pdb_symbols_modules.specs.Streams.{streams};
+
+use crate::address_runs::address_run;
+use crate::fault::SymbolsFault;
+use crate::progress::Progress;
+use crate::told_places::told_at_place;
+use crate::writing::text_of;
+use pdb_addresses::ImageSectionHeader;
+use pdb_databases::{FileContext, Symbolizer};
+use pdb_symbol_files::{SymbolsText, ToldFault, ToldRun, ToldRuns};
+use std::alloc::Global;
+use std::io::Write;
+
+/// What is told of an address by a context over a file that is in memory, and over how many
+/// addresses from there on, before `end`.
+///
+/// # Errors
+/// `OutOfMemory` alone.
+fn told_in_memory(
+    alloc: Global,
+    symbolizer: &Symbolizer,
+    context: &mut FileContext<'_>,
+    inlines: bool,
+    address: u32,
+    end: u32,
+) -> Result<ToldRun, ToldFault>
+    requires answers { AnswersWith symbolizer.now.order answered_in (streams symbolizer.now.bytes)
+        context.old }
+    requires some { address < end }
+    ensures answers { AnswersWith symbolizer.now.order answered_in (streams symbolizer.now.bytes)
+        context.new }
+    ensures some { IfOk result (λ run. 1 ≤ run.count) }
+    ensures within { IfOk result (λ run. address + run.count ≤ end) }
+    ensures told { IfOk result (λ run. (a : ℕ) → address ≤ a → a < address + run.count
+        → told_named inlines 23 symbolizer.now.order (streams symbolizer.now.bytes) a
+        ≡ run.told) }
+{
+    let (place, count) = address_run(symbolizer.address_map(), address, end);
+    let place = match place {
+        None => return Ok(ToldRun { told: None, count }),
+        Some(place) => place,
+    };
+    match told_at_place(alloc, context, inlines, place, count) {
+        Ok(run) => Ok(run),
+        Err(_) => Err(ToldFault::OutOfMemory),
+    }
+}
+
+/// Tells of the addresses of a file that is in memory, by a context over it.
+#[derive(Drop)]
+pub struct MemoryTold<'a, E> {
+    /// The file.
+    pub symbolizer: &'a Symbolizer,
+    /// A context over it.
+    pub context: FileContext<'a>,
+    /// Whether inlined calls are told.
+    pub inlines: bool,
+    /// How far the work is.
+    pub progress: Progress<E>,
+    ghost answers: { AnswersWith symbolizer.now.order answered_in (streams symbolizer.now.bytes)
+        context },
+}
+
+impl<'a, E: Write + Drop> ToldRuns for MemoryTold<'a, E> {
+    ghost use Rattle.pdb_symbols.specs.Told.{told_named};
+    ghost use Rattle.pdb_symbols_modules.specs.Streams.{streams};
+
+    ghost known = { λ t. Unit {0} };
+
+    ghost told = { λ t. told_named t.inlines 23 t.symbolizer.now.order
+        (streams t.symbolizer.now.bytes) };
+
+    fn prepare(&mut self, addresses: u64) {
+        self.progress.begin(addresses);
+    }
+
+    fn told_run(&mut self, alloc: Global, address: u32, end: u32) -> Result<ToldRun, ToldFault> {
+        let (symbolizer, inlines) = (self.symbolizer, self.inlines);
+        let run = told_in_memory(alloc, symbolizer, &mut self.context, inlines, address, end)?;
+        self.progress.advance(run.count);
+        Ok(run)
+    }
+}
+
+/// The text of the records of the functions of a file that is in memory, behind a head: those of
+/// its frames at the addresses at which code may run.
+///
+/// # Errors
+/// Out of memory.
+pub fn text_in_memory<E: Write + Drop>(
+    alloc: Global,
+    head: String,
+    sections: &[ImageSectionHeader],
+    runs: &mut MemoryTold<'_, E>,
+) -> Result<SymbolsText, SymbolsFault>
+    ensures records { IfOk result (λ text. text ≡ string_bytes head
+        ++ records_text (symbol_records (answers_of_code sections.now
+        (told_named runs.old.inlines 23 runs.old.symbolizer.now.order
+        (streams runs.old.symbolizer.now.bytes))))) }
+{
+    match text_of(alloc, head, sections, runs) {
+        Ok(text) => Ok(text),
+        Err(fault) => Err(SymbolsFault::from(fault)),
+    }
+}

@@ -1,0 +1,87 @@
+//! What a symbol file tells of the places of a database's sections.
+
+ghost use Rattle.std.specs.Prelude.{◌≡◌, ◌<◌, ◌≤◌, ℕ, IfOk, option_and_then};
+ghost use Rattle.pdb_addr2line.specs.Context.{lasting};
+ghost use Rattle.pdb_databases.specs.Answer.{answered_in, database_in, frames_in, keyed_in};
+ghost use Rattle.pdb_functions.specs.Databases.{on, place_of};
+ghost use Rattle.pdb_symbols.specs.Told.{frames_shown, start_of as start_in, told_found};
+ghost use Rattle.pdb_symbols.specs.Told.{told_place};
+
+use pdb_addresses::PdbInternalSectionOffset;
+use pdb_databases::{Error, FileContext};
+use pdb_functions::{Frame, FunctionFrames, FunctionKey};
+use pdb_symbol_files::{Told, ToldRun, told_of};
+use std::alloc::{AllocError, Global};
+
+/// Frames as a symbol file has them: with inlined calls, or the outermost one alone.
+fn shown<'f, 'a>(inlines: bool, frames: &'f [Frame<'a>]) -> &'f [Frame<'a>]
+    ensures { result.now ≡ frames_shown inlines frames.now }
+{
+    if inlines {
+        return frames;
+    }
+    &frames[frames.len().saturating_sub(1)..]
+}
+
+/// What is told of frames that were found, in a function that begins at an address, if that is
+/// known.
+fn tell(
+    alloc: Global,
+    inlines: bool,
+    start: Option<u32>,
+    found: &Option<FunctionFrames<'_>>,
+) -> Result<Option<Told>, AllocError>
+    ensures { IfOk result (λ told. told ≡ told_found inlines start found.now) }
+{
+    match found {
+        Some(found) => told_of(alloc, start, shown(inlines, found.frames.as_slice())),
+        None => Ok(None),
+    }
+}
+
+/// Where the function begins that a key stands for, if there is one.
+fn start_of(
+    alloc: Global,
+    context: &mut FileContext<'_>,
+    key: &Option<FunctionKey>,
+) -> Result<Option<u32>, Error>
+    ensures same { context.new ≡ context.old }
+    ensures start { IfOk result (λ start. start ≡ start_in
+        (option_and_then (keyed_in answered_in context.old).answer_of key.now)) }
+{
+    let Some(key) = key else {
+        return Ok(None);
+    };
+    let function = context.function_by_key(alloc, key)?;
+    Ok(function.map(|function| function.start_rva))
+}
+
+/// What is told of a place, with inlined calls or without, and of how many places from there on,
+/// `limit` at most. Nothing is told where frames can't be read.
+///
+/// # Errors
+/// `OutOfMemory` alone, also where something has to be read first.
+pub fn told_at_place(
+    alloc: Global,
+    context: &mut FileContext<'_>,
+    inlines: bool,
+    place: PdbInternalSectionOffset,
+    limit: u32,
+) -> Result<ToldRun, Error>
+    requires { 1 ≤ limit }
+    ensures same { lasting context.new ≡ lasting context.old }
+    ensures some { IfOk result (λ run. 1 ≤ run.count) }
+    ensures within { IfOk result (λ run. run.count ≤ limit) }
+    ensures told { IfOk result (λ run. (k : ℕ) → k < run.count
+        → told_place inlines (database_in answered_in context.old)
+        (frames_in answered_in context.old) (on (place_of place) k) ≡ run.told) }
+{
+    let (key, of_function) = context.find_key_run(alloc, place, limit)?;
+    let start = start_of(alloc, context, &key)?;
+    let (found, count) = context.find_frames_run(alloc, place, limit)?;
+    let told = tell(alloc, inlines, start, &found)?;
+    Ok(ToldRun {
+        told,
+        count: count.min(of_function),
+    })
+}
