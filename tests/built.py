@@ -2,12 +2,14 @@
 
 With `--built FILE` among its words a script runs the programs that FILE names, NAME in it standing
 for the name of one. With `--unproved` it runs stand-ins, whose answers are those of programs that
-`rt try` compiles without proof (unproved.py). Otherwise it runs the proved ones: `rt ci` builds
+`rt try` compiles without proof (unproved.py), or such programs themselves where a script measures
+them, refuses their requests or asks by earlier answers (compiled.py). Otherwise it runs the proved ones: `rt ci` builds
 these, or `rt run` in the folder of a program.
 """
 import os
 import sys
 
+import compiled
 import unproved
 
 ROOT = os.path.dirname(os.path.dirname(os.path.realpath(__file__)))
@@ -29,10 +31,8 @@ def stop(why):
 
 def taken(words, unproved_by=unproved.place):
     """Where the programs lie, with NAME for a program's name, and the words but for that.
-    `unproved_by` makes those without proof; with None the script can't run any."""
+    `unproved_by` makes those without proof."""
     if "--unproved" in words:
-        if unproved_by is None:
-            stop("it measures proved programs alone, or refuses their requests: build them")
         return unproved_by(ROOT), [it for it in words if it != "--unproved"]
     if "--built" not in words:
         return PROVED, words
@@ -45,6 +45,7 @@ def taken(words, unproved_by=unproved.place):
 def program(place, name):
     """The file of the program of that name."""
     file = os.path.abspath(place.replace("NAME", name))
+    compiled.make(file)
     if not os.path.isfile(file) or not os.access(file, os.X_OK):
         stop(f"{file} isn't there: rt ci builds it, or rt run in crates/{name}")
     return file

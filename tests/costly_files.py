@@ -1,7 +1,7 @@
 #!/usr/bin/env python3
 """Checks what files that are built to cost much take, by README's limits:
 
-    tests/costly_files.py [--built FILE]
+    tests/costly_files.py [--built FILE | --unproved]
 
 FILE is where pdb_symbolizer lies, with NAME in it for its name; if left out, the proved one is run.
 bench/costs.py makes the files and measures. Modules whose streams list the same pages have to stay
@@ -14,6 +14,7 @@ import sys
 import tempfile
 
 sys.dont_write_bytecode = True
+import compiled  # noqa: E402
 from built import ROOT, end, program, taken  # noqa: E402
 
 sys.path.insert(0, f"{ROOT}/bench")
@@ -102,7 +103,7 @@ def is_within(which, case, size, answered, limit):
 
 
 def main():
-    place, _ = taken(sys.argv[1:], None)
+    place, _ = taken(sys.argv[1:], compiled.place)
     which = program(place, "pdb_symbolizer")
     passed = sum(is_within(which, *it) for it in CASES) + is_refused(which)
     end(passed, len(CASES) + 1 - passed)

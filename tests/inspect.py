@@ -1,7 +1,7 @@
 #!/usr/bin/env python3
 """Checks pdb_inspect against pdb_symbolizer at every address, and against llvm-pdbutil and md5sum.
 
-    tests/inspect.py [--built BUILT] [FILE ..]
+    tests/inspect.py [--built BUILT | --unproved] [FILE ..]
 
 FILE is a program database; without one the four stored ones are taken. BUILT is where the programs
 lie, with NAME in it for a program's name; if left out, the proved ones are run. Of each file:
@@ -35,6 +35,7 @@ import sys
 import tempfile
 
 sys.dont_write_bytecode = True
+import compiled  # noqa: E402
 from built import ROOT, end, program, stop, taken  # noqa: E402
 
 STORED = [f"{ROOT}/crates/pdb_symbolizer/data/{it}.pdb" for it in ("x64", "i386", "gnu_ld", "damaged")]
@@ -336,7 +337,7 @@ def attempt(what, checks, *words):
 
 
 def main():
-    place_of, files = taken(sys.argv[1:], None)
+    place_of, files = taken(sys.argv[1:], compiled.place)
     inspect, symbolizer = program(place_of, "pdb_inspect"), program(place_of, "pdb_symbolizer")
     if not shutil.which("llvm-pdbutil"):
         print("llvm-pdbutil isn't installed: what is checked by it is left out")

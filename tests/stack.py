@@ -1,13 +1,13 @@
 #!/usr/bin/env python3
 """Shows that a stack of 4 MB is enough for the deepest nests of types and scopes.
 
-    tests/stack.py [--built FILE] [--least]
+    tests/stack.py [--built FILE | --unproved] [--least]
 
 FILE is where pdb_symbolizer lies, with NAME in it for its name; if left out, the proved one is run.
 A file of a nest has 1,023 scopes in one another, and the innermost function has an argument that
 leads through as many levels of types as a path of 1,024 indices holds. With a stack of 4,096 KB the
-whole report has to come, with the text of all levels, and no error output. --least prints how many
-KB each nest needs. The last line is `N passed, M failed`."""
+whole report has to come, with the text of all levels, and no error output; a program without proof
+has twice that stack. --least prints how many KB each nest needs. The last line is `N passed, M failed`."""
 import os
 import resource
 import subprocess
@@ -15,6 +15,7 @@ import sys
 import tempfile
 
 sys.dont_write_bytecode = True
+import compiled  # noqa: E402
 from built import ROOT, end, program, taken  # noqa: E402
 
 sys.path.insert(0, os.path.join(ROOT, "bench"))
@@ -135,8 +136,9 @@ def least(which, file, wanted):
 
 
 def main():
-    place, words = taken(sys.argv[1:], None)
+    place, words = taken(sys.argv[1:], compiled.place)
     which = program(place, "pdb_symbolizer")
+    enough = 2 * ENOUGH if "--unproved" in sys.argv else ENOUGH
     passed = 0
     with tempfile.NamedTemporaryFile(suffix=".pdb") as file:
         for name, (indices, text, level) in NESTS.items():
@@ -146,12 +148,12 @@ def main():
             file.write(nest(level, depth))
             file.flush()
             wanted = 0, report(text, depth), b""
-            good = answer(which, file.name, ENOUGH) == wanted
+            good = answer(which, file.name, enough) == wanted
             passed += good
             if "--least" in words:
                 print(f"{name}, {depth} deep: {least(which, file.name, wanted)} KB", flush=True)
             elif not good:
-                print(f"{name}, {depth} deep: no answer with {ENOUGH} KB of stack", flush=True)
+                print(f"{name}, {depth} deep: no answer with {enough} KB of stack", flush=True)
     end(passed, len(NESTS) - passed)
 
 

@@ -1,8 +1,8 @@
 #!/usr/bin/env python3
-"""Refuses every request for memory of proved programs in turn, and fails every read of a file that
+"""Refuses every request for memory of programs in turn, and fails every read of a file that
 is read on demand; `rt ci` has to have built them.
 
-    tests/refused_requests/sweep.py [--built FILE] [CASE..]
+    tests/refused_requests/sweep.py [--built FILE | --unproved] [CASE..]
 
 Of a case, the Nth request is refused in the Nth of as many runs as there are requests in one with
 nothing refused.
@@ -48,6 +48,7 @@ HERE = os.path.dirname(os.path.realpath(__file__))
 sys.path.insert(0, os.path.dirname(HERE))
 sys.dont_write_bytecode = True
 import built  # noqa: E402
+import compiled  # noqa: E402
 import llvm_cases  # noqa: E402
 from built import ROOT, stop  # noqa: E402
 from recorded import DATA, Malformed, database_of, reports_of  # noqa: E402
@@ -526,7 +527,7 @@ def library_in(folder):
 
 
 def main(words):
-    place, words = built.taken(words, None)
+    place, words = built.taken(words, compiled.place)
     exceptions, passed, failed, where = exceptions_of(), 0, 0, collections.Counter()
     with tempfile.TemporaryDirectory(prefix="refused-requests-") as folder:
         library, programs = library_in(folder), {}
