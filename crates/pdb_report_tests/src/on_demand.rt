@@ -61,10 +61,7 @@ fn unread<'a>(
 }
 
 /// What is written for the input, how the run ends, and how often the file was read.
-fn frames_of(
-    alloc: Global,
-    file: InMemory,
-) -> Result<(Vec<u8>, Result<(), RunFault>, u64), Fail> {
+fn frames_of(alloc: Global, file: InMemory) -> Result<(Vec<u8>, Result<(), RunFault>, u64), Fail> {
     let arena = Bump::new(alloc);
     let source = unread(alloc, &arena, file)?;
     let mut report = Vec::new(alloc);
