@@ -7,4 +7,5 @@ pub mod FrameRunSteps
 pub mod KeptSteps
 pub mod KeySteps
 pub mod KnownSteps
+pub mod StandingParts
 pub mod ToldSteps

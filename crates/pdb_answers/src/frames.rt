@@ -15,13 +15,13 @@ ghost use Rattle.pdb_known_modules.specs.KnownModules.{ModuleData};
 ghost use Rattle.pdb_resolving.specs.Fault.{Answers};
 
 use crate::cached_parts::{HeldPlace, keep_parts};
-use crate::known_failures::KnownFailures;
+use crate::known_failures::{KnownFailures, unsuccessful};
 use crate::symbolizer::PlaceSymbolizer;
 use pdb_addresses::PdbInternalSectionOffset;
 use pdb_contributions::ModuleSectionContribution;
 use pdb_frames::{
     Chosen, ContextParts, Failures, Namer, Part, PlaceInFunction, check_frames, choose, failing_in,
-    frames_in, unsuccessful,
+    frames_in,
 };
 use pdb_functions::SharedFunctionFrames;
 use pdb_known_modules::{BasicModuleInfo, keep_module, known_at, number_over};

@@ -1,7 +1,7 @@
 //! Which part fails in functions that were asked for, so that what can't be read isn't read again.
 
 ghost use Rattle.std.specs.Prelude.{◌≡◌, ◌↔◌, ℕ, true, Option, Some, IfSome};
-ghost use Rattle.pdb_frames.specs.FailingParts.{failing_in};
+ghost use Rattle.pdb_frames.specs.FailingParts.{failing_in, unsuccessful_error};
 ghost use Rattle.pdb_frames.specs.Choice.{start_of};
 ghost use Rattle.pdb_frames.specs.ChosenSeen.{chosen_seen};
 ghost use Rattle.pdb_known_modules.specs.KnownModules.{ModuleData};
@@ -11,8 +11,20 @@ ghost use Rattle.pdb_answers.specs.KnownFailures.{those_like};
 use pdb_addresses::PdbInternalSectionOffset;
 use pdb_frames::{Chosen, Part, number_of};
 use pdb_indices::SymbolIndex;
+use pdb_resolving::Error;
 use std::alloc::{AllocError, Global};
 use std::collections::BTreeMap;
+
+/// Returns the error that says that a part stands as failed.
+pub(crate) fn unsuccessful(part: Part) -> Error
+    ensures { result ≡ unsuccessful_error part }
+{
+    match part {
+        Part::ExtendedModule(_) => Error::ExtendedModuleInfoUnsuccessful,
+        Part::ProcedureLines(_, _) => Error::ProcedureLinesUnsuccessful,
+        Part::ProcedureInlineRanges(_, _) => Error::ProcedureInlineRangesUnsuccessful,
+    }
+}
 
 /// The functions of a module of which something is known.
 #[derive(Clone, Copy)]

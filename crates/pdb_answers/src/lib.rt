@@ -11,6 +11,7 @@ mod frame_runs;
 mod frames;
 mod functions;
 mod known_failures;
+pub mod laws;
 mod symbolizer;
 
 pub use pdb_contributions::ModuleSectionContribution;

@@ -6,8 +6,8 @@ use Rattle.pdb_addresses.specs.Places.{Place, internal_place}
 use Rattle.pdb_addresses.specs.declared.internal_section_offset.PdbInternalSectionOffset.{
   PdbInternalSectionOffset,
 }
-use Rattle.pdb_choice.specs.Choice.{Parts}
-use Rattle.pdb_choice.specs.NearBounds.{public_bounds, bounds_near}
+use Rattle.pdb_frames.specs.Choice.{Parts}
+use Rattle.pdb_frames.specs.NearBounds.{public_bounds, bounds_near}
 use Rattle.pdb_contributions.specs.MergedContributions.{holder}
 use Rattle.pdb_contributions.specs.declared.contribution.ModuleSectionContribution.{
   ModuleSectionContribution,

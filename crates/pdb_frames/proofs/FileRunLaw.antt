@@ -9,8 +9,8 @@ use Rattle.pdb_addresses.specs.SectionRun.{up_to_next}
 use Rattle.pdb_addresses.specs.declared.internal_section_offset.PdbInternalSectionOffset.{
   PdbInternalSectionOffset,
 }
-use Rattle.pdb_choice.specs.Choice.{Parts, Chosen, chosen, start_address, function_end}
-use Rattle.pdb_choice.specs.NearBounds.{bounds_near}
+use Rattle.pdb_frames.specs.Choice.{Parts, Chosen, chosen, start_address, function_end}
+use Rattle.pdb_frames.specs.NearBounds.{bounds_near}
 use Rattle.pdb_container.specs.Fault.{◌>>=◌}
 use Rattle.pdb_contributions.specs.MergedContributions.{holder}
 use Rattle.pdb_contributions.specs.declared.contribution.ModuleSectionContribution.{

@@ -6,7 +6,7 @@ use Rattle.std.specs.List.{list_any}
 use Rattle.pdb_addresses.specs.declared.internal_section_offset.PdbInternalSectionOffset.{
   PdbInternalSectionOffset,
 }
-use Rattle.pdb_choice.specs.Choice.{Parts, Chosen, Proc, Public, start_of, start_address}
+use Rattle.pdb_frames.specs.Choice.{Parts, Chosen, Proc, Public, start_of, start_address}
 use Rattle.pdb_container.specs.Fault as container
 use Rattle.pdb_container.specs.Fault.{◌>>=◌}
 use Rattle.pdb_frames.proofs.RunLaw.{IsClear, on, left_false, right_false, differ, leb_step}

@@ -5,7 +5,7 @@ use Rattle.pdb_addresses.specs.SectionRun.{nearer, up_to_next}
 use Rattle.pdb_addresses.specs.declared.internal_section_offset.PdbInternalSectionOffset.{
   PdbInternalSectionOffset,
 }
-use Rattle.pdb_choice.specs.Choice.{Chosen}
+use Rattle.pdb_frames.specs.Choice.{Chosen}
 use Rattle.pdb_container.specs.Fault as container_fault
 use Rattle.pdb_container.specs.Fault.{◌>>=◌, IsOutside}
 use Rattle.pdb_container.specs.declared.error.Error as container

@@ -22,7 +22,7 @@ use Rattle.pdb_resolving.specs.Fault.{Fault, lifted}
 use Rattle.pdb_names.specs.Env.{Env}
 use Rattle.pdb_functions.specs.Frames.{Frame, FunctionFrames}
 use Rattle.pdb_known_modules.specs.KnownModules.{ModuleData, ExtendedModule, extended_of, module_data, procedure_calls, procedure_sites, procedures_in, sites_lifted}
-use Rattle.pdb_choice.specs.Choice.{Parts, Chosen, Proc, Public, chosen, held_at, place_of, start_address, start_of}
+use Rattle.pdb_frames.specs.Choice.{Parts, Chosen, Proc, Public, chosen, held_at, place_of, start_address, start_of}
 use Rattle.pdb_frames.specs.ChosenNames.{name_of}
 use Rattle.pdb_frames.specs.Depth.{AreAsDeep, depth_at, depth_among, depth_by, depth_in, depth_of}
 use Rattle.pdb_frames.specs.FramesAt.{call_frame, calls_in, found_frames, frames, frames_at, frames_if_held, frames_in, frames_in_data, frames_of_chosen, function_frame, row_and_calls}

@@ -6,7 +6,7 @@ use Rattle.std.specs.Prelude.{Option, None, Some, map}
 use Rattle.pdb_addresses.specs.declared.internal_section_offset.PdbInternalSectionOffset.{
   PdbInternalSectionOffset,
 }
-use Rattle.pdb_choice.specs.Choice.{Parts, Chosen, Proc, Public, start_of, start_address}
+use Rattle.pdb_frames.specs.Choice.{Parts, Chosen, Proc, Public, start_of, start_address}
 use Rattle.pdb_container.specs.Fault as container
 use Rattle.pdb_container.specs.Fault.{◌>>=◌}
 use Rattle.pdb_frames.proofs.CallsStay.{calls_stay}

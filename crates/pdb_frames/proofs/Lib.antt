@@ -1,5 +1,6 @@
 pub mod BoundsLaw
 pub mod CallsStay
+pub mod CheckedParts
 pub mod FileRunLaw
 pub mod FileRunSteps
 pub mod FileStays
@@ -7,5 +8,6 @@ pub mod FrameRunLaw
 pub mod FrameRunSteps
 pub mod FramesDeep
 pub mod FramesStay
+pub mod NextPublic
 pub mod ProcedureSteps
 pub mod RunLaw

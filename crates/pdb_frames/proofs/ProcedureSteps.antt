@@ -14,7 +14,7 @@ use Rattle.pdb_module_data.specs.Procedures.{Procedure}
 use Rattle.pdb_resolving.specs.declared.error.Error.{Error}
 use Rattle.pdb_resolving.specs.Fault.{Fault, Fails, lifted}
 use Rattle.pdb_resolving.proofs.Lifting.{fails_on}
-use Rattle.pdb_choice.specs.Choice.{Proc}
+use Rattle.pdb_frames.specs.Choice.{Proc}
 use Rattle.pdb_frames.specs.FramesAt.{row_and_calls}
 use Rattle.pdb_known_modules.specs.KnownModules.{ExtendedModule, extended_procedure_of, procedure_calls, sites_lifted}
 

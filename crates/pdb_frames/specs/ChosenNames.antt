@@ -3,7 +3,7 @@ use Rattle.std.specs.Prelude.{ℕ, ◌&&◌, not, List, ◌==◌, Option, None, 
 use Rattle.std.specs.Prelude.{if◌then◌else◌}
 use Rattle.std.specs.Str.Lossy.{utf8_lossy}
 use Rattle.pdb_module_data.specs.Procedures.{Procedure}
-use Rattle.pdb_choice.specs.Choice.{Parts, Chosen, Proc, Public, is_decorated, decorated_at}
+use Rattle.pdb_frames.specs.Choice.{Parts, Chosen, Proc, Public, is_decorated, decorated_at}
 use Rattle.pdb_names.specs.Env.{Env}
 use Rattle.pdb_names.specs.StoredNames.{typed_name}
 

@@ -17,7 +17,7 @@ use Rattle.pdb_resolving.specs.Fault.{Fault}
 use Rattle.pdb_functions.specs.Frames.{Frame}
 use Rattle.pdb_known_modules.specs.KnownModules.{ModuleData, ExtendedModule, extended_of}
 use Rattle.pdb_known_modules.specs.KnownModules.{module_data, procedure_sites, procedures_in}
-use Rattle.pdb_choice.specs.Choice.{Parts, Chosen, Proc, Public, chosen, held_at, place_of}
+use Rattle.pdb_frames.specs.Choice.{Parts, Chosen, Proc, Public, chosen, held_at, place_of}
 use Rattle.pdb_frames.specs.Scopes.{Scope}
 
 -- the depth of a site that may be there

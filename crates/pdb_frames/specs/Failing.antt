@@ -13,8 +13,8 @@ pub use Rattle.pdb_resolving.specs.declared.failures.Part.TheVariants.{
   ProcedureLines,
   ProcedureInlineRanges,
 }
-use Rattle.pdb_choice.specs.Choice.{Parts, chosen, held_at, place_of}
-use Rattle.pdb_choice.specs.FailingParts.{failing_of_chosen}
+use Rattle.pdb_frames.specs.Choice.{Parts, chosen, held_at, place_of}
+use Rattle.pdb_frames.specs.FailingParts.{failing_of_chosen}
 use Rattle.pdb_frames.specs.Scopes.{Scope}
 
 -- the first part that fails in the module of a contribution, for a place that it holds

@@ -6,7 +6,7 @@ use Rattle.pdb_addresses.specs.Places.{internal_place}
 use Rattle.pdb_addresses.specs.declared.internal_section_offset.PdbInternalSectionOffset.{
   PdbInternalSectionOffset,
 }
-use Rattle.pdb_choice.specs.Choice.{Parts, Chosen, chosen, held_at, start_of}
+use Rattle.pdb_frames.specs.Choice.{Parts, Chosen, chosen, held_at, start_of}
 use Rattle.pdb_container.specs.Fault as container
 use Rattle.pdb_container.specs.StringTable.{text_in}
 use Rattle.pdb_contributions.specs.MergedContributions.{holder}

@@ -7,7 +7,7 @@ use Rattle.pdb_addresses.specs.SectionRun.{up_to_next}
 use Rattle.pdb_addresses.specs.declared.internal_section_offset.PdbInternalSectionOffset.{
   PdbInternalSectionOffset,
 }
-use Rattle.pdb_choice.specs.Choice.{Parts, Chosen, Proc, Public, chosen, held_at}
+use Rattle.pdb_frames.specs.Choice.{Parts, Chosen, Proc, Public, chosen, held_at}
 use Rattle.pdb_container.specs.Fault.{◌>>=◌}
 use Rattle.pdb_contributions.specs.MergedContributions.{holder}
 use Rattle.pdb_contributions.specs.declared.contribution.ModuleSectionContribution.{

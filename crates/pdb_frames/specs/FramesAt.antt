@@ -25,8 +25,8 @@ use Rattle.pdb_module_data.specs.declared.inlined_calls.CodeSpan.{CodeSpan}
 use Rattle.pdb_functions.specs.FunctionOrder.{Function}
 use Rattle.pdb_known_modules.specs.KnownModules.{ModuleData, ExtendedModule, module_data}
 use Rattle.pdb_known_modules.specs.KnownModules.{procedures_in, extended_of, procedure_calls}
-use Rattle.pdb_choice.specs.Choice.{Parts, Chosen, Proc, Public, chosen, start_of, start_address}
-use Rattle.pdb_choice.specs.Choice.{length_of, end_behind, function_end, place_of, held_at}
+use Rattle.pdb_frames.specs.Choice.{Parts, Chosen, Proc, Public, chosen, start_of, start_address}
+use Rattle.pdb_frames.specs.Choice.{length_of, end_behind, function_end, place_of, held_at}
 use Rattle.pdb_frames.specs.ChosenNames.{name_of}
 use Rattle.pdb_frames.specs.Scopes.{Scope}
 

@@ -1,6 +1,6 @@
 -- Keys of functions, and the functions that they stand for.
 use Rattle.std.specs.Prelude.{ℕ, List, Option, option_map, option_and_then, slice_get}
-use Rattle.pdb_choice.specs.Choice.{Parts, Chosen, Proc, Public}
+use Rattle.pdb_frames.specs.Choice.{Parts, Chosen, Proc, Public}
 use Rattle.pdb_contributions.specs.Publics.{public_over}
 use Rattle.pdb_frames.specs.FramesAt.{function_of}
 use Rattle.pdb_frames.specs.Runs.{database_of}

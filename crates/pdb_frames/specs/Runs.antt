@@ -12,8 +12,8 @@ use Rattle.pdb_contributions.specs.MergedContributions.{holder}
 use Rattle.pdb_module_data.specs.Procedures.{Procedure}
 use Rattle.pdb_functions.specs.Databases.{Database}
 use Rattle.pdb_functions.specs.FunctionOrder.{Function}
-use Rattle.pdb_choice.specs.Choice.{Parts, held_at}
-use Rattle.pdb_choice.specs.NearBounds.{bounds_near}
+use Rattle.pdb_frames.specs.Choice.{Parts, held_at}
+use Rattle.pdb_frames.specs.NearBounds.{bounds_near}
 use Rattle.pdb_frames.specs.FramesAt.{function_at}
 use Rattle.pdb_frames.specs.Scopes.{Scope}
 use Rattle.pdb_known_modules.specs.KnownModules.{module_data, procedures_in}

@@ -6,10 +6,11 @@ ghost use Rattle.pdb_container.specs.RawString.{raw_bytes};
 ghost use Rattle.pdb_frames.specs.ChosenNames.{name_of as name_of_chosen};
 ghost use Rattle.pdb_frames.specs.ChosenNames.{procedure_name as name_of_procedure};
 ghost use Rattle.pdb_frames.specs.ChosenNames.{public_name as public_name_of};
-ghost use Rattle.pdb_choice.specs.ChosenSeen.{chosen_seen};
+ghost use Rattle.pdb_frames.specs.ChosenSeen.{chosen_seen};
 ghost use Rattle.pdb_names.specs.Printing.{env_of};
 
-use pdb_choice::{Chosen, ContextParts, is_decorated};
+use crate::choice::Chosen;
+use crate::parts::{ContextParts, is_decorated};
 use pdb_container::RawString;
 use pdb_module_data::Procedure;
 use pdb_names::{Namer, if_named, shared_raw_name};

@@ -1,8 +1,8 @@
 //! The file at a place in a chosen function, by its key, and how far it goes on.
 
 ghost use Rattle.std.specs.Prelude.{◌≡◌, IfOk, Ok, option_copied};
-ghost use Rattle.pdb_choice.specs.ChosenSeen.{chosen_seen};
-ghost use Rattle.pdb_choice.specs.Choice as choice;
+ghost use Rattle.pdb_frames.specs.ChosenSeen.{chosen_seen};
+ghost use Rattle.pdb_frames.specs.Choice as choice;
 ghost use Rattle.pdb_frames.specs.Files.{file_named as file_of_name, row_key as key_of_row};
 ghost use Rattle.pdb_frames.specs.FileRuns.{file_run_in as file_run_of_stream, file_run_of};
 ghost use Rattle.pdb_frames.specs.FileRuns.{rows_in, run_by_rows, run_if_read};
@@ -12,8 +12,9 @@ ghost use Rattle.pdb_known_modules.specs.Seen.{extended_seen};
 ghost use Rattle.pdb_module_data.specs.FunctionLine.{function_rows};
 ghost use Rattle.pdb_resolving.specs.Fault.{Answers, lifted};
 
+use crate::choice::Chosen;
+use crate::parts::ContextParts;
 use pdb_addresses::PdbInternalSectionOffset;
-use pdb_choice::{Chosen, ContextParts};
 use pdb_container::StringRef;
 use pdb_functions::{FileAnswer, FileKey};
 use pdb_known_modules::{

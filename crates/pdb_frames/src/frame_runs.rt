@@ -2,8 +2,8 @@
 
 ghost use Rattle.std.specs.Prelude.{◌≡◌, ◌++◌, IfOk, Ok, option_copied};
 ghost use Rattle.pdb_addresses.specs.SectionRun.{up_to_next};
-ghost use Rattle.pdb_choice.specs.ChosenSeen.{chosen_seen};
-ghost use Rattle.pdb_choice.specs.Choice as choice;
+ghost use Rattle.pdb_frames.specs.ChosenSeen.{chosen_seen};
+ghost use Rattle.pdb_frames.specs.Choice as choice;
 ghost use Rattle.pdb_frames.specs.FrameRuns.{chosen_cuts, count_if_read, count_in, cuts_in};
 ghost use Rattle.pdb_frames.specs.FrameRuns.{cuts_in_stream, public_cuts};
 ghost use Rattle.pdb_known_modules.specs.KnownModules.{extended_of};
@@ -12,9 +12,9 @@ ghost use Rattle.pdb_module_data.specs.FunctionLine.{row_starts};
 ghost use Rattle.pdb_module_data.specs.InlinePieces.{cuts_of};
 ghost use Rattle.pdb_resolving.specs.Fault.{Answers};
 
+use crate::choice::Chosen;
 use crate::file_runs::Stretch;
 use pdb_addresses::PdbInternalSectionOffset;
-use pdb_choice::Chosen;
 use pdb_known_modules::{
     BasicModuleInfo, ExtendedModuleInfo, read_extended, read_extended_procedure,
 };

@@ -9,21 +9,22 @@ ghost use Rattle.pdb_module_data.specs.InlinedCalls.{call_rows, calls_over};
 ghost use Rattle.pdb_module_data.specs.InlinePieces.{StandForSites};
 ghost use Rattle.pdb_resolving.specs.Fault.{Answers};
 ghost use Rattle.pdb_names.specs.Printing.{env_of};
-ghost use Rattle.pdb_choice.specs.Choice as choice;
+ghost use Rattle.pdb_frames.specs.Choice as choice;
 ghost use Rattle.pdb_frames.specs.FramesAt.{frames_in as frames_of_module, row_and_calls};
 ghost use Rattle.pdb_frames.specs.FramesAt.{frames_in_data as frames_of_data};
 ghost use Rattle.pdb_frames.specs.FramesAt.{frame_row as frame_row_of, call_row as call_row_of};
 ghost use Rattle.pdb_frames.specs.FramesAt.{call_frame as frame_of_call, function_frame_row};
 ghost use Rattle.pdb_frames.specs.FramesAt.{function_frame as frame_of_function, nothing};
 ghost use Rattle.pdb_known_modules.specs.KnownModules.{extended_of};
-ghost use Rattle.pdb_choice.specs.Choice.{Parts};
-ghost use Rattle.pdb_choice.specs.ChosenSeen.{chosen_seen};
+ghost use Rattle.pdb_frames.specs.Choice.{Parts};
+ghost use Rattle.pdb_frames.specs.ChosenSeen.{chosen_seen};
 ghost use Rattle.pdb_names.specs.Env.{Env};
 ghost use Rattle.pdb_known_modules.specs.Seen.{extended_seen};
 
+use crate::choice::{Chosen, rva_of};
 use crate::chosen_name::name_of;
+use crate::parts::ContextParts;
 use pdb_addresses::PdbInternalSectionOffset;
-use pdb_choice::{Chosen, ContextParts, rva_of};
 use pdb_functions::{FrameRow, SharedFrame};
 use pdb_indices::FileIndex;
 use pdb_known_modules::{

@@ -2,7 +2,7 @@
 
 ghost use Rattle.std.specs.Prelude.{◌≡◌, ℕ, true, false, Ok, Some, is_some};
 ghost use Rattle.pdb_addresses.specs.Places.{Place};
-ghost use Rattle.pdb_choice.specs.Choice.{Parts};
+ghost use Rattle.pdb_frames.specs.Choice.{Parts};
 ghost use Rattle.pdb_frames.specs.Depth.{AreAsDeep};
 ghost use Rattle.pdb_frames.specs.Files.{files_of};
 ghost use Rattle.pdb_frames.specs.FrameRuns.{frames_of_places};

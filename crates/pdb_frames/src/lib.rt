@@ -1,22 +1,29 @@
-//! What is answered at a place: the name of what is chosen there, the frames in it, and its file.
-//! Nothing is cached between questions.
+//! What is chosen at a place: a procedure, or an entry of the public list. Then what is answered
+//! there: the name of what is chosen, the frames in it, and its file; which part of an answer can't
+//! be read, and how far one answer goes on. Nothing is cached between questions.
 //!
-//! In which order things are found may change. Which name, frames and file a place has
-//! (`specs/FramesAt`, `specs/FileRuns`) may not.
+//! How a place is searched, and in which order things are found, may change. What is chosen at a
+//! place (`specs/Choice`), and which name, frames and file it has (`specs/FramesAt`,
+//! `specs/FileRuns`) may not, since each answer is stated by them.
 #![tactic(auto)]
 
+mod choice;
 mod chosen_name;
+mod failures;
 mod file_runs;
 mod frame_runs;
 mod frames;
 pub mod laws;
+mod parts;
+mod runs;
 
+pub use choice::{Chosen, FunctionEnd, choose};
 pub use chosen_name::name_of;
+pub use failures::failing_in;
 pub use file_runs::{Stretch, file_named, file_run_in};
 pub use frame_runs::frames_count_in;
 pub use frames::{PlaceInFunction, check_frames, frames_in};
-pub use pdb_choice::{
-    Chosen, ContextParts, Failures, FunctionEnd, Part, choose, failing_in, number_of,
-    to_next_bound, to_next_shared_bound, unsuccessful,
-};
+pub use parts::ContextParts;
 pub use pdb_names::{Namer, TextWriter, TypeFormatter, maybe_owned};
+pub use pdb_resolving::{Failures, Part, number_of};
+pub use runs::{to_next_bound, to_next_shared_bound};

@@ -1,7 +1,7 @@
 -- The function's own frame, whatever fault is told of a part that failed before.
 use Rattle.std.proofs.Common.{◌≡◌, refl}
 use Rattle.std.specs.Prelude.{Option, None, Some, Result, Ok, Err}
-use Rattle.pdb_choice.specs.FailingParts.{Failures, told}
+use Rattle.pdb_frames.specs.FailingParts.{Failures, told}
 use Rattle.pdb_frames.specs.Failing.{Part}
 use Rattle.pdb_functions.specs.Frames.{FunctionFrames}
 use Rattle.pdb_resolving.specs.Fault.{Fault}

@@ -12,7 +12,7 @@ use Rattle.pdb_contributions.specs.UnmergedContributions.{held_in_any_order}
 use Rattle.pdb_contributions.specs.Publics.{publics_among, entries_of_symbols, placeholders, section_ends}
 use Rattle.pdb_resolving.specs.declared.error.Error.{Error}
 use Rattle.pdb_resolving.specs.Fault.{Fault, Answers, lifted}
-use Rattle.pdb_choice.specs.Parts.{outcome, parts_in_any_order}
+use Rattle.pdb_frames.specs.Parts.{outcome, parts_in_any_order}
 use Rattle.pdb_loading.specs.Orders.{checked_in_any_order}
 
 same_outcome : (sections : List ImageSectionHeader) (map : Map) (names : Option (List ℕ)) (read : Result (List Symbol) container.Fault) (found : Result Held Fault)

@@ -6,7 +6,7 @@ use Rattle.pdb_container.specs.declared.error.Error.TheVariants as errors
 use Rattle.pdb_container.specs.Fault.{Fault, fault_of, IsOutside, HasRisen, ◌>>=◌, refuse}
 use Rattle.pdb_addresses.specs.Addresses.{IsOrdered, is_ordered}
 use Rattle.pdb_loading.specs.declared.order.ContributionOrder.{ContributionOrder}
-use Rattle.pdb_choice.specs.Choice.{Parts}
+use Rattle.pdb_frames.specs.Choice.{Parts}
 use Rattle.pdb_symbols_modules.specs.Dbi.{Dbi}
 use Rattle.pdb_symbols_modules.specs.DatabaseCalls.{debug_information}
 use Rattle.pdb_symbols_modules.specs.Shared.{Shared, shared}

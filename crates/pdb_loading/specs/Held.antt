@@ -6,8 +6,8 @@ use Rattle.pdb_loading.specs.Loading.{Tables, DatabaseRead}
 use Rattle.pdb_loading.specs.Orders.{parts_with}
 use Rattle.pdb_loading.specs.declared.order.ContributionOrder.{ContributionOrder}
 use Rattle.pdb_loading.specs.declared.order.ContributionOrder.TheVariants.{InOrder}
-use Rattle.pdb_choice.specs.Choice.{Parts}
-use Rattle.pdb_choice.specs.Parts.{outcome}
+use Rattle.pdb_frames.specs.Choice.{Parts}
+use Rattle.pdb_frames.specs.Parts.{outcome}
 use Rattle.pdb_container.specs.Fault.{Fault}
 use Rattle.pdb_resolving.specs.Fault as answers
 use Rattle.pdb_symbols_modules.specs.ModuleStream.{ModuleStream}

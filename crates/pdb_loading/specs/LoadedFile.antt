@@ -6,7 +6,7 @@ use Rattle.pdb_symbols_modules.specs.DatabaseCalls.{debug_information}
 use Rattle.pdb_symbols_modules.specs.Shared.{shared}
 use Rattle.pdb_symbols_modules.specs.Streams.{Streams, streams}
 use Rattle.pdb_loading.specs.declared.order.ContributionOrder.{ContributionOrder}
-use Rattle.pdb_choice.specs.Choice.{Parts}
+use Rattle.pdb_frames.specs.Choice.{Parts}
 use Rattle.pdb_loading.specs.Held.{Held, given, names_in, parts_held_with}
 use Rattle.pdb_loading.specs.ModuleInfos.{answered_at}
 use Rattle.pdb_loading.specs.Loading.{Tables, tables, loaded_with}

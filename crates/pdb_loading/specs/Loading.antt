@@ -15,7 +15,7 @@ use Rattle.pdb_symbols_modules.specs.Streams.{Streams, fault_in}
 use Rattle.pdb_resolving.specs.Fault as answers
 use Rattle.pdb_loading.specs.declared.order.ContributionOrder.{ContributionOrder}
 use Rattle.pdb_loading.specs.declared.order.ContributionOrder.TheVariants.{InOrder}
-use Rattle.pdb_choice.specs.Choice.{Parts}
+use Rattle.pdb_frames.specs.Choice.{Parts}
 use Rattle.pdb_loading.specs.ModuleInfos.{if_read}
 use Rattle.pdb_loading.specs.Orders.{parts_with}
 

@@ -3,8 +3,8 @@ use Rattle.std.specs.Prelude.{ℕ, List, Option, Result, Ok}
 use Rattle.pdb_addresses.specs.declared.sections.ImageSectionHeader.{ImageSectionHeader}
 use Rattle.pdb_addresses.specs.Addresses.{Map}
 use Rattle.pdb_container.specs.Fault.{◌>>=◌}
-use Rattle.pdb_choice.specs.Choice.{Parts}
-use Rattle.pdb_choice.specs.Parts.{parts_in_any_order, parts_of}
+use Rattle.pdb_frames.specs.Choice.{Parts}
+use Rattle.pdb_frames.specs.Parts.{parts_in_any_order, parts_of}
 use Rattle.pdb_contributions.specs.Publics.{are_whole}
 use Rattle.pdb_contributions.specs.UnmergedContributions.{held_in_any_order}
 use Rattle.pdb_loading.specs.declared.order.ContributionOrder.{ContributionOrder}

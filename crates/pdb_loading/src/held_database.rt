@@ -3,7 +3,7 @@
 
 ghost use Rattle.std.specs.Prelude.{◌≡◌, ℕ, IfOk, List, Ok, Option};
 ghost use Rattle.pdb_addresses.specs.Addresses.{Map};
-ghost use Rattle.pdb_choice.specs.Parts.{outcome, parts_in_any_order};
+ghost use Rattle.pdb_frames.specs.Parts.{outcome, parts_in_any_order};
 ghost use Rattle.pdb_container.specs.Fault.{Gives, HasRisen};
 ghost use Rattle.pdb_container.specs.SourceAnswers.{AnswersFrom};
 ghost use Rattle.pdb_loading.specs.Held.{IsOwn, kept_infos, names_in, parts_checked, read_in};
@@ -21,10 +21,10 @@ use crate::module_infos::{KeptModules, collect_modules, read_module_infos};
 use crate::order::ContributionOrder;
 use crate::tables::{Tables, read_names, read_tables};
 use pdb_addresses::ImageSectionHeader;
-use pdb_choice::ContextParts;
 use pdb_container::{Result, Source, StringTable};
 use pdb_contributions::{check_symbols, compute_section_contributions_in_any_order};
 use pdb_file_views::FileSource;
+use pdb_frames::ContextParts;
 use pdb_resolving::Error;
 use pdb_symbol_records::SymbolTable;
 use pdb_symbols_modules::{DebugInformation, PDB};

@@ -16,8 +16,8 @@ use Rattle.pdb_symbol_files.specs.Told.{Told}
 use Rattle.std.specs.Prelude.{not}
 use Rattle.pdb_addresses.specs.Addresses.{is_ordered}
 use Rattle.pdb_addresses.specs.declared.sections.ImageSectionHeader.{ImageSectionHeader}
-use Rattle.pdb_choice.specs.Choice.{Parts}
-use Rattle.pdb_choice.specs.Parts.{parts_in_any_order, parts_of}
+use Rattle.pdb_frames.specs.Choice.{Parts}
+use Rattle.pdb_frames.specs.Parts.{parts_in_any_order, parts_of}
 use Rattle.pdb_container.specs.Fault.{◌>>=◌, refuse}
 use Rattle.pdb_contributions.specs.MergedContributions.{held_of}
 use Rattle.pdb_contributions.specs.Publics.{entries_read}
@@ -29,7 +29,7 @@ use Rattle.pdb_loading.specs.Loading.{AddressTableDecreases, Loaded, in_loading,
 use Rattle.pdb_loading.specs.Loading.{LoadingFault, none_or, parts_in, tables}
 use Rattle.pdb_addr2line.specs.Context.{Context, lasting}
 use Rattle.pdb_addresses.specs.Places.{internal_place}
-use Rattle.pdb_choice.specs.Choice.{held_at}
+use Rattle.pdb_frames.specs.Choice.{held_at}
 use Rattle.pdb_databases.specs.Answer.{AnswersNamed, answer_by, answer_named, answered_in}
 use Rattle.pdb_databases.specs.Answer.{database_by, database_in, database_named, frames_by}
 use Rattle.pdb_databases.specs.Answer.{frames_in, frames_named, function_by, function_named}

@@ -1,6 +1,6 @@
 use Rattle.std.proofs.Common.{◌≡◌, subst, IfOk, Ok}
 use Rattle.pdb_addr2line.specs.Context.{scope_in}
-use Rattle.pdb_choice.specs.FailingParts.{told}
+use Rattle.pdb_frames.specs.FailingParts.{told}
 use Rattle.pdb_frames.specs.Failing.{failing}
 use Rattle.pdb_frames.specs.FramesAt.{frames}
 use Rattle.pdb_function_lists.specs.Functions.{own_frame}

@@ -1,10 +1,10 @@
 -- What the code chose, as the definitions see it.
 use Rattle.std.specs.Prelude.{ℕ, Option, None, Some}
-use Rattle.pdb_choice.specs.Choice as choice
-use Rattle.pdb_choice.specs.declared.choice.Chosen.{Chosen}
-use Rattle.pdb_choice.specs.declared.choice.Chosen.TheVariants as chosen
-use Rattle.pdb_choice.specs.declared.choice.FunctionEnd.{FunctionEnd}
-use Rattle.pdb_choice.specs.declared.choice.FunctionEnd.TheVariants as ends
+use Rattle.pdb_frames.specs.Choice as choice
+use Rattle.pdb_frames.specs.declared.choice.Chosen.{Chosen}
+use Rattle.pdb_frames.specs.declared.choice.Chosen.TheVariants as chosen
+use Rattle.pdb_frames.specs.declared.choice.FunctionEnd.{FunctionEnd}
+use Rattle.pdb_frames.specs.declared.choice.FunctionEnd.TheVariants as ends
 
 -- what was chosen
 abbrev pub chosen_seen : Chosen → choice.Chosen

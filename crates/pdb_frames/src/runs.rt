@@ -5,7 +5,7 @@ ghost use Rattle.std.specs.List.{flat_map};
 ghost use Rattle.pdb_addresses.specs.SectionRun.{up_to_next};
 ghost use Rattle.pdb_known_modules.specs.KnownModules.{procedures_in};
 ghost use Rattle.pdb_known_modules.specs.SectionBounds.{contribution_bounds, procedure_bounds};
-ghost use Rattle.pdb_choice.specs.NearBounds.{public_bounds, bounds_near};
+ghost use Rattle.pdb_frames.specs.NearBounds.{public_bounds, bounds_near};
 
 use crate::parts::ContextParts;
 use pdb_addresses::PdbInternalSectionOffset;

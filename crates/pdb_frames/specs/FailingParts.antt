@@ -11,7 +11,7 @@ use Rattle.pdb_resolving.specs.declared.error.Error.{Error}
 use Rattle.pdb_resolving.specs.declared.error.Error.TheVariants as errors
 use Rattle.pdb_resolving.specs.Fault.{Fault, ExtendedModuleInfoUnsuccessful}
 use Rattle.pdb_resolving.specs.Fault.{ProcedureLinesUnsuccessful, ProcedureInlineRangesUnsuccessful}
-use Rattle.pdb_choice.specs.Choice.{Chosen, Proc, Public, start_of}
+use Rattle.pdb_frames.specs.Choice.{Chosen, Proc, Public, start_of}
 use Rattle.pdb_known_modules.specs.KnownModules.{ModuleData, ExtendedModule, extended_of}
 use Rattle.pdb_known_modules.specs.KnownModules.{procedure_sites}
 

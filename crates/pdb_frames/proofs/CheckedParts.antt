@@ -10,7 +10,7 @@ use Rattle.pdb_contributions.specs.MergedContributions.{Held, held_of}
 use Rattle.pdb_contributions.specs.Publics.{publics_among, entries_of_symbols, placeholders, section_ends}
 use Rattle.pdb_resolving.specs.declared.error.Error.{Error}
 use Rattle.pdb_resolving.specs.Fault.{Fault, Answers, lifted}
-use Rattle.pdb_choice.specs.Parts.{outcome, parts_of, parts_checked}
+use Rattle.pdb_frames.specs.Parts.{outcome, parts_of, parts_checked}
 
 same_outcome : (sections : List ImageSectionHeader) (map : Map) (names : Option (List ℕ)) (read : Result (List Symbol) container.Fault) (found : Result Held Fault)
     → (lifted (read >>= λ all. Ok (tt {0})) >>= λ checked. found >>= λ held. Ok (tt {0}))

@@ -7,7 +7,7 @@ use Rattle.pdb_addresses.specs.declared.internal_section_offset.PdbInternalSecti
 use Rattle.pdb_contributions.specs.Publics.{PublicFunction}
 use Rattle.pdb_module_data.specs.Procedures.{Procedure}
 use Rattle.pdb_known_modules.specs.SectionBounds.{contribution_bounds, procedure_bounds}
-use Rattle.pdb_choice.specs.Choice.{Parts}
+use Rattle.pdb_frames.specs.Choice.{Parts}
 
 -- where a public entry begins, if it lies in the section of a place
 abbrev pub public_bounds : PdbInternalSectionOffset → PublicFunction → List ℕ

@@ -6,7 +6,7 @@ use Rattle.pdb_resolving.proofs.KeptParts.{kept_part_stands, part_still_stands}
 use Rattle.pdb_resolving.specs.declared.error.Error.{Error}
 use Rattle.pdb_resolving.specs.declared.error.Error.TheVariants as errors
 use Rattle.pdb_resolving.specs.Fault.{Fault}
-use Rattle.pdb_choice.specs.FailingParts.{Failures, failed_after, has_failed, fault_told, unsuccessful, with_failing}
+use Rattle.pdb_frames.specs.FailingParts.{Failures, failed_after, has_failed, fault_told, unsuccessful, with_failing}
 
 after_fault : (A : Type 0) (part : Option Part) (e : Error) (f : Failures) → e ≢ errors.OutOfMemory → failed_after {A = A} part (Err e) f ≡ with_failing f part
 after_fault A part errors.OutOfMemory f h = absurd (h refl)

@@ -7,7 +7,7 @@ use Rattle.std.proofs.lemmas.Bool.Decides.{nat_tests}
 use Rattle.pdb_addresses.specs.declared.internal_section_offset.PdbInternalSectionOffset.{PdbInternalSectionOffset}
 use Rattle.pdb_addresses.specs.SectionRun.{nearer, up_to_next}
 use Rattle.pdb_contributions.specs.Publics.{PublicFunction, Rises, is_before, is_behind, next_public}
-use Rattle.pdb_choice.specs.NearBounds.{public_bounds}
+use Rattle.pdb_frames.specs.NearBounds.{public_bounds}
 use Rattle.pdb_known_modules.proofs.NextBounds.{last_asked}
 
 abbrev Place : Type 0

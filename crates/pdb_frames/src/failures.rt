@@ -1,12 +1,11 @@
 //! The parts of modules that can't be read.
 
 ghost use Rattle.std.specs.Prelude.{◌≡◌, IfOk, option_copied};
-ghost use Rattle.pdb_choice.specs.FailingParts.{failing_by, failing_in as failing_in_module};
-ghost use Rattle.pdb_choice.specs.FailingParts.{failing_procedure as failing_of_procedure};
-ghost use Rattle.pdb_choice.specs.FailingParts.{failing_sites as failing_of_sites};
-ghost use Rattle.pdb_choice.specs.FailingParts.{unsuccessful_error};
+ghost use Rattle.pdb_frames.specs.FailingParts.{failing_by, failing_in as failing_in_module};
+ghost use Rattle.pdb_frames.specs.FailingParts.{failing_procedure as failing_of_procedure};
+ghost use Rattle.pdb_frames.specs.FailingParts.{failing_sites as failing_of_sites};
 ghost use Rattle.pdb_known_modules.specs.KnownModules.{extended_of, procedure_sites};
-ghost use Rattle.pdb_choice.specs.ChosenSeen.{chosen_seen};
+ghost use Rattle.pdb_frames.specs.ChosenSeen.{chosen_seen};
 ghost use Rattle.pdb_known_modules.specs.Seen.{extended_seen};
 ghost use Rattle.pdb_resolving.specs.Fault.{Answers};
 
@@ -15,17 +14,6 @@ use pdb_known_modules::{BasicModuleInfo, ExtendedModuleInfo, read_extended};
 use pdb_module_data::{FunctionRows, InlineSites, Procedure, SitesError};
 use pdb_resolving::{Error, ModuleTables, Part, Result};
 use std::alloc::{AllocError, Global};
-
-/// Returns the error that says that a part stands as failed.
-pub fn unsuccessful(part: Part) -> Error
-    ensures { result ≡ unsuccessful_error part }
-{
-    match part {
-        Part::ExtendedModule(_) => Error::ExtendedModuleInfoUnsuccessful,
-        Part::ProcedureLines(_, _) => Error::ProcedureLinesUnsuccessful,
-        Part::ProcedureInlineRanges(_, _) => Error::ProcedureInlineRangesUnsuccessful,
-    }
-}
 
 /// Reads the inline sites of a procedure to their end. The faults of [`ModuleTables::symbols`] and
 /// of the sites come as `PdbError`; further ones are `ProcedureInlineRangesUnsuccessful` and

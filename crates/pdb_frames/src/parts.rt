@@ -5,10 +5,10 @@ ghost use Rattle.pdb_addresses.specs.Addresses.{IsOrdered, Map};
 ghost use Rattle.pdb_container.specs.RawString.{raw_bytes};
 ghost use Rattle.pdb_contributions.specs.MergedContributions.{holder as holder_of};
 ghost use Rattle.pdb_resolving.specs.Fault.{Answers};
-ghost use Rattle.pdb_choice.specs.Choice.{decorated_at as decorated_name_at};
-ghost use Rattle.pdb_choice.specs.Choice.{is_decorated as is_decorated_name};
-ghost use Rattle.pdb_choice.specs.Parts.{outcome, parts_checked, parts_in_any_order, parts_of};
-ghost use Rattle.pdb_choice.specs.Parts.{parts_over};
+ghost use Rattle.pdb_frames.specs.Choice.{decorated_at as decorated_name_at};
+ghost use Rattle.pdb_frames.specs.Choice.{is_decorated as is_decorated_name};
+ghost use Rattle.pdb_frames.specs.Parts.{outcome, parts_checked, parts_in_any_order, parts_of};
+ghost use Rattle.pdb_frames.specs.Parts.{parts_over};
 
 use pdb_addresses::{AddressMap, ImageSectionHeader, PdbInternalSectionOffset};
 use pdb_container::{RawString, StringTable};
@@ -53,7 +53,7 @@ pub struct ContextParts<'a, 's> {
 impl<'a, 's> Model for ContextParts<'a, 's> {
     ghost use Rattle.pdb_addresses.specs.Addresses.{IsOrdered};
     ghost use Rattle.pdb_known_modules.specs.Bounds.{AreContributionBounds};
-    ghost use Rattle.pdb_choice.specs.Choice as choice;
+    ghost use Rattle.pdb_frames.specs.Choice as choice;
 
     ghost Value = { choice.Parts };
 

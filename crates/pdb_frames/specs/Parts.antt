@@ -9,7 +9,7 @@ use Rattle.pdb_contributions.specs.UnmergedContributions.{held_in_any_order}
 use Rattle.pdb_contributions.specs.Publics.{PublicFunction, are_whole, entries_read, placeholders}
 use Rattle.pdb_contributions.specs.Publics.{publics_among, section_ends}
 use Rattle.pdb_resolving.specs.Fault.{Fault, lifted}
-use Rattle.pdb_choice.specs.Choice.{Parts}
+use Rattle.pdb_frames.specs.Choice.{Parts}
 
 -- the parts over public functions and what modules hold
 abbrev pub parts_over :

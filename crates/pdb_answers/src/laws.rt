@@ -5,8 +5,8 @@ ghost use Rattle.pdb_resolving.specs.declared.failures.Part.{Part};
 ghost use Rattle.pdb_resolving.specs.declared.error.Error.{Error};
 ghost use Rattle.pdb_resolving.specs.declared.error.Error.TheVariants.{OutOfMemory};
 ghost use Rattle.pdb_resolving.specs.Fault.{Fault};
-ghost use Rattle.pdb_choice.specs.FailingParts.{Failures, failed_after, fault_told, has_failed};
-ghost use Rattle.pdb_choice.specs.FailingParts.{unsuccessful};
+ghost use Rattle.pdb_frames.specs.FailingParts.{Failures, failed_after, fault_told, has_failed};
+ghost use Rattle.pdb_frames.specs.FailingParts.{unsuccessful};
 
 /// A question that fails in a part, unless memory runs out, leaves that part as failed. A fault in
 /// it is then reported as its `..Unsuccessful` variant. No question removes a part that stands as

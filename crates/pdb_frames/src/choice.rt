@@ -2,11 +2,11 @@
 
 ghost use Rattle.std.specs.Prelude.{◌≡◌, option_copied, option_map};
 ghost use Rattle.pdb_addresses.specs.Addresses.{outer_of_place};
-ghost use Rattle.pdb_choice.specs.Choice.{chosen as chosen_at, start_of, start_address};
-ghost use Rattle.pdb_choice.specs.Choice.{length_of, end_behind, function_end};
+ghost use Rattle.pdb_frames.specs.Choice.{chosen as chosen_at, start_of, start_address};
+ghost use Rattle.pdb_frames.specs.Choice.{length_of, end_behind, function_end};
 ghost use Rattle.pdb_known_modules.specs.KnownModules.{procedure_if_numbered, procedures_in};
 ghost use Rattle.pdb_module_data.specs.Procedures.{over};
-ghost use Rattle.pdb_choice.specs.ChosenSeen.{chosen_seen, end_seen};
+ghost use Rattle.pdb_frames.specs.ChosenSeen.{chosen_seen, end_seen};
 
 use crate::parts::ContextParts;
 use pdb_addresses::PdbInternalSectionOffset;

@@ -1,3 +1,0 @@
-pub mod CheckedParts
-pub mod NextPublic
-pub mod StandingParts

@@ -1,5 +1,0 @@
-use Rattle.pdb_choice.proofs.StandingParts.{kept_after, told_after, stay_after}
-use Rattle.pdb_choice.proofs.laws.failed_parts_stand.Goals as goal
-
-pub returns : goal.returns
-returns g c = record { kept = kept_after (Unit {0}); again = told_after (Unit {0}); stay = stay_after }
