@@ -9,7 +9,7 @@ DOCUMENTS = ["README.md", "docs/GUIDE.md", "docs/RELEASING.md"]
 PROGRAMS = ["pdb_symbolizer", "pdb_inspect", "pdb_llvm_symbolizer"]
 # The gate proves, compiles and runs the examples, which stand in these crates; and the crates that
 # users of the library name.
-EXAMPLES = ["example_calls", "list_lines", "recorded_cases", "pdb_report_tests"]
+EXAMPLES = ["example_calls", "recorded_cases", "pdb_report_tests"]
 CALLED = ["pdb_addr2line", "pdb_databases", "pdb_report", "pdb_symbols_modules"]
 CALLED += ["pdb_container_types", "pdb_image"]
 top = built.ROOT

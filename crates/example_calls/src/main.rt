@@ -1,14 +1,19 @@
-//! Asks a program database by the library's calls: `example_calls FILE ADDRESS..`.
+//! Asks a program database by the library's calls, and lists the lines of one:
+//! `example_calls FILE LISTED ADDRESS..`.
 //!
 //! For each ADDRESS, which is hexadecimal and image-relative, it prints the function there and its
 //! frames. Then it prints all functions, each with its source file and line; the frames again, by a
 //! file that is read on demand; what formatters say of two types of the file; and the functions
-//! again, without their arguments. At last it prints how many addresses each has.
+//! again, without their arguments. It prints how many addresses each has, and at last the lines of
+//! the file LISTED, module by module (`list_lines.rt`).
 //!
 //! Its stored run asks `x64.pdb`, which examples/make.sh made. There type 0x1007 is the member
 //! function `TextReader::read`, and 0x1016 the class `Entry`.
 #![tactic(auto)]
 
+mod list_lines;
+
+use crate::list_lines::list_file;
 use anyhow::{Context as _, Result, bail};
 use bumpalo::Bump;
 use pdb_addr2line::pdb::TypeIndex;
@@ -25,16 +30,19 @@ use std::os::unix::fs::FileExt;
 use std::rt::{Env, Files};
 use std::{env, fs};
 
+/// How the program is called.
+const USAGE: &str = "usage: example_calls FILE LISTED ADDRESS..";
+
 fn main(rt: HostRuntime) -> Result<()> {
-    let file = env::args(&rt)?
-        .nth(1)
-        .context("usage: example_calls FILE ADDRESS..")?;
+    let file = env::args(&rt)?.nth(1).context(USAGE)?;
+    let listed = env::args(&rt)?.nth(2).context(USAGE)?;
     let symbolizer = load(&rt, file.as_str())?;
     tell_addresses(&rt, &symbolizer)?;
     tell_on_demand(&rt, file.as_str())?;
     tell_types(&rt, &symbolizer)?;
     let bytes = fs::read(&rt, file.as_str())?;
-    write_sizes(rt.alloc(), bytes, &mut Watched::new(rt.stdout()))
+    write_sizes(rt.alloc(), bytes, &mut Watched::new(rt.stdout()))?;
+    list_file(&rt, listed.as_str())
 }
 
 /// Loads a file for questions about addresses and types.
@@ -59,7 +67,7 @@ fn tell_words<P: ModuleProvider>(
     rt: &(impl Env + Print + AllocGlobal),
     context: &mut Context<'_, '_, P>,
 ) -> Result<()> {
-    for word in env::args(rt)?.skip(2) {
+    for word in env::args(rt)?.skip(3) {
         let address = parse_address(word.as_bytes()).context("an address is needed")?;
         println!(rt; "at {address:#x}")?;
         tell_owner(rt, context, address)?;
@@ -178,7 +186,7 @@ fn tell_demanded<F: FileExt + Drop>(
     rt: &(impl Env + Print + AllocGlobal),
     symbolizer: &mut FileSymbolizer<'_, F>,
 ) -> Result<()> {
-    for word in env::args(rt)?.skip(2) {
+    for word in env::args(rt)?.skip(3) {
         let address = parse_address(word.as_bytes()).context("an address is needed")?;
         println!(rt; "on demand, at {address:#x}")?;
         if let Some(found) = symbolizer.find_frames(rt.alloc(), address)? {

@@ -1,7 +1,6 @@
-//! Lists the lines of a program database, module by module: `list_lines FILE`.
+//! Lists the lines of a program database, module by module.
 //!
-//! The head of `pdb_symbols_modules` shows lines of it, so these change in both places. No crate
-//! stands on it.
+//! The head of `pdb_symbols_modules` shows lines of this file, so these change in both places.
 //!
 //! It prints the name of each module, and after it each of its procedures: its place (section and
 //! offset), the length of its code, and its name. After a procedure it prints each row of its
@@ -9,29 +8,29 @@
 //! from which it was made. A length that isn't known is `-`. Places are hexadecimal, and lengths
 //! decimal.
 //!
-//! Its stored run lists a file of two modules. `main.obj` has the procedures `main`, of 0x20 bytes
-//! at 0x10 of section 1, and `helper`, of 0x10 bytes at 0x30. The lines of each are a subsection of
-//! its own. `main` has rows at 0 and 8 for lines 5 and 7 of `main.c`, and at 0x18 for line 3 of
-//! `inline.h`, which ends where the subsection does. `helper` has rows at 0 and 0x14 for lines 12
-//! and 13 of `inline.h`. The second lies past the end of the subsection, so it has no length.
-//! `import.dll` has no stream of its own.
-#![tactic(auto)]
+//! The stored run lists `lines.pdb`, a file of two modules. `main.obj` has the procedures `main`,
+//! of 0x20 bytes at 0x10 of section 1, and `helper`, of 0x10 bytes at 0x30. The lines of each are a
+//! subsection of its own. `main` has rows at 0 and 8 for lines 5 and 7 of `main.c`, and at 0x18 for
+//! line 3 of `inline.h`, which ends where the subsection does. `helper` has rows at 0 and 0x14 for
+//! lines 12 and 13 of `inline.h`. The second lies past the end of the subsection, so it has no
+//! length. `import.dll` has no stream of its own.
 
-use anyhow::{Context, Result};
+use anyhow::Result;
 use pdb_container::{Error, FallibleIterator, RawString, StringTable};
 use pdb_symbols_modules::{
     LineInfo, LineProgram, Module, ModuleInfo, ModuleIter, PDB, ProcedureSymbol, SymbolData,
 };
-use std::{env, fs, io};
+use std::rt::Files;
+use std::{fs, io};
 
 /// An open database over a file's bytes.
 type Database = PDB<'static, Vec<u8>>;
 
-fn main(rt: HostRuntime) -> Result<()> {
-    let file = env::args(&rt)?.nth(1).context("usage: list_lines FILE")?;
-    let bytes = fs::read(&rt, file.as_str())?;
+/// Lists the modules of a file, with the lines of their procedures.
+pub fn list_file(rt: &(impl Files + Print + AllocGlobal), file: &str) -> Result<()> {
+    let bytes = fs::read(rt, file)?;
     let mut database = PDB::open(rt.alloc(), bytes)?;
-    list_database(&rt, &mut database)
+    list_database(rt, &mut database)
 }
 
 /// Lists the modules of a database.
