@@ -71,4 +71,4 @@ pub use pdb_functions::{
 };
 pub use pdb_loading::{ContributionOrder, KeptModules, Tables, read_tables};
 pub use pdb_resolving::{Error, ModuleProvider, Result};
-pub use pdb_text_pieces::{Flags, TypeFormatterFlags};
+pub use pdb_type_pieces::{Flags, TypeFormatterFlags};

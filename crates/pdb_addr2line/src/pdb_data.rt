@@ -25,7 +25,7 @@ use pdb_loading::{
 use pdb_resolving::{Error, ModuleProvider};
 use pdb_symbol_records::SymbolTable;
 use pdb_symbols_modules::{DebugInformation, Module, ModuleInfo, PDB};
-use pdb_text_pieces::TypeFormatterFlags;
+use pdb_type_pieces::TypeFormatterFlags;
 use std::alloc::Global;
 use std::marker::{Model, PhantomData};
 

@@ -26,7 +26,7 @@ use std::alloc::{AllocError, Global};
 use std::marker::Model;
 
 /// How many types a size may lead through, the one that is asked for among them: as many as a path
-/// of a type's text has (`MAX_LENGTH` of `pdb_text_pieces`).
+/// of a type's text has (`MAX_LENGTH` of `pdb_type_pieces`).
 const MOST_STEPS: u32 = 1024;
 
 /// Reads types and ids by their indices, as the modules of a database have them.

@@ -11,7 +11,7 @@ use Rattle.pdb_resolving.specs.declared.stop.Stop.{Stop}
 use Rattle.pdb_resolving.specs.declared.stop.Stop.TheVariants as stops
 use Rattle.pdb_resolving.specs.Cause.{Cause, ByFault, ByTable, Ends}
 use Rattle.pdb_resolving.specs.Fault.{CircularTypeDefinition, fault_of}
-use Rattle.pdb_text_pieces.specs.Paths.{Path, is_on}
+use Rattle.pdb_type_pieces.specs.Paths.{Path, is_on}
 use Rattle.pdb_type_printing.specs.Env.{Env}
 use Rattle.pdb_type_printing.specs.Arrays.{Elements, array_step, elements_behind, elements_from}
 

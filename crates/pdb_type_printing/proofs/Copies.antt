@@ -11,12 +11,12 @@ use Rattle.pdb_container.specs.declared.error.Error.TheVariants as causes
 use Rattle.pdb_resolving.specs.declared.error.Error.TheVariants as errors
 use Rattle.pdb_resolving.specs.declared.stop.Stop.{Stop}
 use Rattle.pdb_resolving.specs.declared.stop.Stop.TheVariants as stops
-use Rattle.pdb_text_pieces.specs.Arguments.{comma, copies}
+use Rattle.pdb_type_pieces.specs.Arguments.{comma, copies}
 use Rattle.pdb_type_printing.specs.Env.{Env}
-use Rattle.pdb_text_pieces.specs.Paths.{Path}
-use Rattle.pdb_text_pieces.specs.Pointers.{ends_in_sigil}
-use Rattle.pdb_text_pieces.specs.Printed.{Text, Printed, Done, Stopped, ◌>>=◌, say}
-use Rattle.pdb_text_pieces.specs.Printed.{Stops, Prints}
+use Rattle.pdb_type_pieces.specs.Paths.{Path}
+use Rattle.pdb_type_pieces.specs.Pointers.{ends_in_sigil}
+use Rattle.pdb_type_pieces.specs.Printed.{Text, Printed, Done, Stopped, ◌>>=◌, say}
+use Rattle.pdb_type_pieces.specs.Printed.{Stops, Prints}
 use Rattle.pdb_type_printing.specs.Types.{Visit, Whole, visit, visiting, arguments}
 use Rattle.pdb_type_printing.specs.Types.{more_arguments}
 use Rattle.pdb_type_printing.proofs.Others.{stops_on}

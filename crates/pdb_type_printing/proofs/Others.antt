@@ -14,10 +14,10 @@ use Rattle.pdb_records.specs.Shapes.{shape}
 use Rattle.pdb_resolving.specs.declared.error.Error.TheVariants as errors
 use Rattle.pdb_resolving.specs.declared.stop.Stop.{Stop}
 use Rattle.pdb_resolving.specs.declared.stop.Stop.TheVariants as stops
-use Rattle.pdb_text_pieces.specs.declared.pointers.PointerLevel.{PointerLevel}
-use Rattle.pdb_text_pieces.specs.Printed.{Text, Printed, ◌>>=◌, say, caught, Stops, Prints}
-use Rattle.pdb_text_pieces.specs.Paths.{Path}
-use Rattle.pdb_text_pieces.specs.Pointers.{pointers_text, ends_in_sigil}
+use Rattle.pdb_type_pieces.specs.declared.pointers.PointerLevel.{PointerLevel}
+use Rattle.pdb_type_pieces.specs.Printed.{Text, Printed, ◌>>=◌, say, caught, Stops, Prints}
+use Rattle.pdb_type_pieces.specs.Paths.{Path}
+use Rattle.pdb_type_pieces.specs.Pointers.{pointers_text, ends_in_sigil}
 use Rattle.pdb_type_printing.specs.Env.{Env}
 use Rattle.pdb_type_printing.specs.Types.{Visit, PointedTo, PointedModified, Modified, visiting}
 use Rattle.pdb_type_printing.specs.Types.{visited, plain_text, record_text, pointed_text}

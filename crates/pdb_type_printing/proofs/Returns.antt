@@ -5,9 +5,9 @@ use Rattle.pdb_indices.specs.Bits.{has_bit}
 use Rattle.pdb_indices.specs.declared.index.TypeIndex.{TypeIndex}
 use Rattle.pdb_records.specs.declared.type_attributes.FunctionAttributes.{FunctionAttributes}
 use Rattle.pdb_records.specs.Attributes.{constructs}
-use Rattle.pdb_text_pieces.specs.Paths.{Path}
-use Rattle.pdb_text_pieces.specs.Printed.{Text, Done}
-use Rattle.pdb_text_pieces.specs.Returns.{shown_return}
+use Rattle.pdb_type_pieces.specs.Paths.{Path}
+use Rattle.pdb_type_pieces.specs.Printed.{Text, Done}
+use Rattle.pdb_type_pieces.specs.Returns.{shown_return}
 use Rattle.pdb_type_printing.specs.Env.{Env}
 use Rattle.pdb_type_printing.specs.Types.{Visit, shown_text, returned, returned_unless}
 

@@ -11,16 +11,16 @@ use Rattle.pdb_records.specs.Forms as forms
 use Rattle.pdb_records.specs.Forms.{TypeForm, Plain, FieldList}
 use Rattle.pdb_resolving.specs.Cause.{ByFault}
 use Rattle.pdb_resolving.specs.Fault.{ArgumentTypeNotArgumentList, CircularTypeDefinition}
-use Rattle.pdb_text_pieces.specs.declared.pointers.PointerLevel.{PointerLevel}
-use Rattle.pdb_text_pieces.specs.Arguments.{comma}
-use Rattle.pdb_text_pieces.specs.FormNames.{unhandled, form_name}
-use Rattle.pdb_text_pieces.specs.Names.{named}
+use Rattle.pdb_type_pieces.specs.declared.pointers.PointerLevel.{PointerLevel}
+use Rattle.pdb_type_pieces.specs.Arguments.{comma}
+use Rattle.pdb_type_pieces.specs.FormNames.{unhandled, form_name}
+use Rattle.pdb_type_pieces.specs.Names.{named}
 use Rattle.std.specs.Str.Lossy.{utf8_lossy}
-use Rattle.pdb_text_pieces.specs.Objects.{This}
-use Rattle.pdb_text_pieces.specs.Paths.{Path, is_on}
-use Rattle.pdb_text_pieces.specs.Pointers.{pointers_text, ends_in_sigil, level_of, leading_to}
-use Rattle.pdb_text_pieces.specs.Printed.{Text, Printed, Done, Stopped, ◌>>=◌, say, unread, caught}
-use Rattle.pdb_text_pieces.specs.Printed.{read_or}
+use Rattle.pdb_type_pieces.specs.Objects.{This}
+use Rattle.pdb_type_pieces.specs.Paths.{Path, is_on}
+use Rattle.pdb_type_pieces.specs.Pointers.{pointers_text, ends_in_sigil, level_of, leading_to}
+use Rattle.pdb_type_pieces.specs.Printed.{Text, Printed, Done, Stopped, ◌>>=◌, say, unread, caught}
+use Rattle.pdb_type_pieces.specs.Printed.{read_or}
 use Rattle.pdb_type_printing.specs.Arrays.{Elements, elements_of}
 use Rattle.pdb_type_printing.specs.Env.{Env}
 use Rattle.pdb_type_printing.specs.This.{this_of}

@@ -11,9 +11,9 @@ use Rattle.pdb_resolving.specs.declared.stop.Stop.{Stop}
 use Rattle.pdb_resolving.specs.declared.stop.Stop.TheVariants as stops
 use Rattle.pdb_resolving.specs.Cause.{Cause, ByFault, Ends}
 use Rattle.pdb_resolving.specs.Fault.{CircularTypeDefinition}
-use Rattle.pdb_text_pieces.specs.Printed.{Text, Printed, Stopped, Prints, PrintsUnread, Stops}
-use Rattle.pdb_text_pieces.specs.Printed.{unread, caught, read_or}
-use Rattle.pdb_text_pieces.specs.Paths.{Path, room, may_enter, Blocked}
+use Rattle.pdb_type_pieces.specs.Printed.{Text, Printed, Stopped, Prints, PrintsUnread, Stops}
+use Rattle.pdb_type_pieces.specs.Printed.{unread, caught, read_or}
+use Rattle.pdb_type_pieces.specs.Paths.{Path, room, may_enter, Blocked}
 use Rattle.pdb_type_printing.specs.Env.{Env}
 use Rattle.pdb_type_printing.specs.Types.{Task, Whole, PointedTo, PointedModified, Modified}
 use Rattle.pdb_type_printing.specs.Types.{MethodArguments, record_text, visit, visiting, visited}

@@ -7,8 +7,8 @@ use Rattle.pdb_records.specs.Forms as forms
 use Rattle.pdb_records.specs.Forms.{TypeForm, Plain, ArrayForm}
 use Rattle.pdb_resolving.specs.Cause.{Cause, ByFault}
 use Rattle.pdb_resolving.specs.Fault.{CircularTypeDefinition}
-use Rattle.pdb_text_pieces.specs.Brackets.{first_or_zero}
-use Rattle.pdb_text_pieces.specs.Paths.{Path, is_on}
+use Rattle.pdb_type_pieces.specs.Brackets.{first_or_zero}
+use Rattle.pdb_type_pieces.specs.Paths.{Path, is_on}
 use Rattle.pdb_type_printing.specs.Env.{Env}
 
 -- arrays of arrays: the first dimension of each, the outer first, the innermost element's index,

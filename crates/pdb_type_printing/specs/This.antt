@@ -5,7 +5,7 @@ use Rattle.pdb_indices.specs.declared.index.TypeIndex.{TypeIndex}
 use Rattle.pdb_records.specs.Forms as forms
 use Rattle.pdb_records.specs.Forms.{TypeForm, Plain}
 use Rattle.pdb_resolving.specs.Cause.{Cause}
-use Rattle.pdb_text_pieces.specs.Objects.{This, this_to_modified}
+use Rattle.pdb_type_pieces.specs.Objects.{This, this_to_modified}
 use Rattle.pdb_type_printing.specs.Env.{Env}
 
 -- a pointer that leads to the class is plain; else what it leads to is read

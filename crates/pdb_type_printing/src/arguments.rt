@@ -2,8 +2,8 @@
 //! text is copied.
 
 ghost use Rattle.std.specs.Prelude.{◌≡◌, ◌≤◌, ◌∷◌, false, length, replicate, string_bytes};
-ghost use Rattle.pdb_text_pieces.specs.Pointers.{ends_in_sigil};
-ghost use Rattle.pdb_text_pieces.specs.Printed.{Prints};
+ghost use Rattle.pdb_type_pieces.specs.Pointers.{ends_in_sigil};
+ghost use Rattle.pdb_type_pieces.specs.Printed.{Prints};
 ghost use Rattle.pdb_type_printing.specs.Level.{KeepsLevel};
 ghost use Rattle.pdb_type_printing.specs.Types.{visiting, arguments, more_arguments, with_extra};
 ghost use Rattle.pdb_type_printing.specs.Printing.{env_of};
@@ -13,7 +13,7 @@ use crate::printer::TypePrinter;
 use pdb_indices::TypeIndex;
 use pdb_resolving::ModuleProvider;
 use pdb_resolving::stop::Result;
-use pdb_text_pieces::{
+use pdb_type_pieces::{
     Seen, emit, emit_comma, emit_copies, ends_in_sigil, first_and_more, first_run, run_within,
 };
 

@@ -17,7 +17,7 @@ use pdb_records::{ArrayType, IdData, TypeData};
 use pdb_resolving::stop::{Result, Stop};
 use pdb_resolving::{Error, ModuleProvider, Table};
 use pdb_symbols_modules::Module;
-use pdb_text_pieces::{IndexPath, TypeFormatterFlags, first_or_zero, this_behind};
+use pdb_type_pieces::{IndexPath, TypeFormatterFlags, first_or_zero, this_behind};
 use std::alloc::AllocError;
 use std::marker::Model;
 

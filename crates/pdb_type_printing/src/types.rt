@@ -7,9 +7,9 @@ ghost use Rattle.pdb_records.specs.Forms.{Plain};
 ghost use Rattle.pdb_records.specs.Shapes.{shape, array_form};
 ghost use Rattle.pdb_resolving.specs.Cause.{ByFault};
 ghost use Rattle.pdb_resolving.specs.Fault.{CircularTypeDefinition};
-ghost use Rattle.pdb_text_pieces.specs.Pointers.{level_of as level_of_pointer};
-ghost use Rattle.pdb_text_pieces.specs.Printed.{Prints, Stopped, caught, read_or};
-ghost use Rattle.pdb_text_pieces.specs.Paths.{may_enter};
+ghost use Rattle.pdb_type_pieces.specs.Pointers.{level_of as level_of_pointer};
+ghost use Rattle.pdb_type_pieces.specs.Printed.{Prints, Stopped, caught, read_or};
+ghost use Rattle.pdb_type_pieces.specs.Paths.{may_enter};
 ghost use Rattle.pdb_type_printing.specs.Arrays.{elements_of};
 ghost use Rattle.pdb_type_printing.specs.Level.{KeepsLevel};
 ghost use Rattle.pdb_type_printing.specs.Types.{Whole, Modified, PointedTo, PointedModified};
@@ -27,7 +27,7 @@ use pdb_records::{
 };
 use pdb_resolving::stop::{Result, Stop};
 use pdb_resolving::{Error, ModuleProvider};
-use pdb_text_pieces::{
+use pdb_type_pieces::{
     PointerLevel, Seen, class_word, emit, emit_bare_function, emit_bare_method, emit_brackets,
     emit_constant, emit_constant_object, emit_missing, emit_named, emit_pointers, emit_primitive,
     emit_unhandled, emit_unread, ends_in_sigil, leading_to, leaves_out_arguments, level_of,

@@ -4,7 +4,7 @@ use Rattle.pdb_resolving.specs.declared.error.Error.{Error}
 use Rattle.pdb_resolving.specs.declared.error.Error.TheVariants as errors
 use Rattle.pdb_resolving.specs.Fault.{Fault, Fails}
 use Rattle.pdb_type_text.specs.Written.{Emits}
-use Rattle.pdb_text_pieces.specs.Printed.{Text}
+use Rattle.pdb_type_pieces.specs.Printed.{Text}
 
 -- a text that wasn't made isn't handed over
 pub fails_emits : {W : Type 0} (taken refused : W → Text → W → Type 0) (old new : W) (e : Error)

@@ -5,7 +5,7 @@ use Rattle.pdb_resolving.specs.declared.error.Error.TheVariants as errors
 use Rattle.pdb_resolving.specs.declared.stop.Stop.{Stop}
 use Rattle.pdb_resolving.specs.declared.stop.Stop.TheVariants as stops
 use Rattle.pdb_resolving.specs.Cause.{Ends}
-use Rattle.pdb_text_pieces.specs.Printed.{Text, Printed, Stops, answered}
+use Rattle.pdb_type_pieces.specs.Printed.{Text, Printed, Stops, answered}
 
 -- a printing that stopped is answered by what stopped it
 pub stops_ends : (s : Stop) (w : Text) (p : Printed) → Stops s w p → Ends s (answered p)

@@ -4,8 +4,8 @@ use Rattle.pdb_records.specs.declared.type_data.ProcedureType.{ProcedureType}
 use Rattle.pdb_records.specs.IdForms.{FunctionForm}
 use Rattle.pdb_resolving.specs.declared.stop.Stop.{Stop}
 use Rattle.std.specs.Str.Lossy.{utf8_lossy}
-use Rattle.pdb_text_pieces.specs.Printed.{Text, Printed, Done, ◌>>=◌, Stops}
-use Rattle.pdb_text_pieces.specs.Paths.{Path}
+use Rattle.pdb_type_pieces.specs.Printed.{Text, Printed, Done, ◌>>=◌, Stops}
+use Rattle.pdb_type_pieces.specs.Paths.{Path}
 use Rattle.pdb_type_printing.specs.Env.{Env}
 use Rattle.pdb_type_printing.specs.Types.{visiting, returned_unless}
 use Rattle.pdb_type_text.specs.Functions.{name_and_arguments}

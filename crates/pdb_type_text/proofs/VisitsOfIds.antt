@@ -9,8 +9,8 @@ use Rattle.pdb_resolving.specs.declared.stop.Stop.{Stop}
 use Rattle.pdb_resolving.specs.declared.stop.Stop.TheVariants as stops
 use Rattle.pdb_resolving.specs.Cause.{ByFault, Ends}
 use Rattle.pdb_resolving.specs.Fault.{CircularTypeDefinition}
-use Rattle.pdb_text_pieces.specs.Printed.{Text, Printed, Stopped, Prints, PrintsUnread}
-use Rattle.pdb_text_pieces.specs.Paths.{Path, room, may_enter}
+use Rattle.pdb_type_pieces.specs.Printed.{Text, Printed, Stopped, Prints, PrintsUnread}
+use Rattle.pdb_type_pieces.specs.Paths.{Path, room, may_enter}
 use Rattle.pdb_type_printing.specs.Env.{Env}
 use Rattle.pdb_type_printing.proofs.Visits.{room_more, never_read}
 use Rattle.pdb_type_text.specs.Ids.{visit_id, visiting_id, entering_id, id_form_text}

@@ -9,12 +9,12 @@ use Rattle.pdb_records.specs.Forms as forms
 use Rattle.pdb_records.specs.Forms.{TypeForm, Plain}
 use Rattle.pdb_resolving.specs.Cause.{Cause, of_any}
 use Rattle.pdb_resolving.specs.Fault.{Fault}
-use Rattle.pdb_text_pieces.specs.Printed.{Text, Printed, Done, Stopped, ◌>>=◌, say, answered}
-use Rattle.pdb_text_pieces.specs.Printed.{read_or}
+use Rattle.pdb_type_pieces.specs.Printed.{Text, Printed, Done, Stopped, ◌>>=◌, say, answered}
+use Rattle.pdb_type_pieces.specs.Printed.{read_or}
 use Rattle.pdb_type_printing.specs.Env.{Env}
-use Rattle.pdb_text_pieces.specs.Paths.{Path}
-use Rattle.pdb_text_pieces.specs.Names.{name_or_omitted}
-use Rattle.pdb_text_pieces.specs.Objects.{static_word}
+use Rattle.pdb_type_pieces.specs.Paths.{Path}
+use Rattle.pdb_type_pieces.specs.Names.{name_or_omitted}
+use Rattle.pdb_type_pieces.specs.Objects.{static_word}
 use Rattle.pdb_type_printing.specs.Types.{Whole, visiting, returned_unless, method_arguments}
 
 -- the class that holds a method, before its name

@@ -13,12 +13,12 @@ use Rattle.pdb_resolving.specs.Cause.{Cause, ByFault, of_any}
 use Rattle.pdb_resolving.specs.Fault.{Fault, FunctionIdIsNotProcedureType}
 use Rattle.pdb_resolving.specs.Fault.{MemberFunctionIdIsNotMemberFunctionType}
 use Rattle.pdb_resolving.specs.Fault.{CircularTypeDefinition}
-use Rattle.pdb_text_pieces.specs.Printed.{Text, Printed, Done, Stopped, ◌>>=◌, say, answered}
-use Rattle.pdb_text_pieces.specs.Printed.{unread, read_or}
+use Rattle.pdb_type_pieces.specs.Printed.{Text, Printed, Done, Stopped, ◌>>=◌, say, answered}
+use Rattle.pdb_type_pieces.specs.Printed.{unread, read_or}
 use Rattle.pdb_type_printing.specs.Env.{Env}
-use Rattle.pdb_text_pieces.specs.Paths.{Path, is_on, room}
-use Rattle.pdb_text_pieces.specs.Names.{string_text}
-use Rattle.pdb_text_pieces.specs.FormNames.{unhandled_id}
+use Rattle.pdb_type_pieces.specs.Paths.{Path, is_on, room}
+use Rattle.pdb_type_pieces.specs.Names.{string_text}
+use Rattle.pdb_type_pieces.specs.FormNames.{unhandled_id}
 use Rattle.pdb_type_printing.specs.Types.{Whole, visiting, returned_unless}
 use Rattle.pdb_type_text.specs.Functions.{method_text, name_and_arguments}
 

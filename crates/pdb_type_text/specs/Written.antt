@@ -3,7 +3,7 @@ use Rattle.std.specs.Prelude.{◌≡◌, Result, Ok, Err}
 use Rattle.pdb_resolving.specs.declared.error.Error.{Error}
 use Rattle.pdb_resolving.specs.declared.error.Error.TheVariants as errors
 use Rattle.pdb_resolving.specs.Fault.{Fault, Fails}
-use Rattle.pdb_text_pieces.specs.Printed.{Text}
+use Rattle.pdb_type_pieces.specs.Printed.{Text}
 
 -- A text was made, of which a fact holds.
 abbrev pub IsMade : Result Text Fault → (Text → Type 0) → Type 0

@@ -24,7 +24,7 @@ use pdb_items::{IdInformation, TypeInformation};
 use pdb_resolving::stop::{self, Stop};
 use pdb_resolving::{Error, ModuleProvider, Result};
 use pdb_symbols_modules::{DebugInformation, Module};
-use pdb_text_pieces::TypeFormatterFlags;
+use pdb_type_pieces::TypeFormatterFlags;
 use pdb_type_printing::{Asker, ItemReader, TypePrinter};
 use std::alloc::Global;
 

@@ -7,8 +7,8 @@ ghost use Rattle.pdb_records.specs.IdForms.{id_shape, function_form, member_func
 ghost use Rattle.pdb_records.specs.IdForms.{Function, MemberFunction};
 ghost use Rattle.pdb_resolving.specs.Cause.{ByFault};
 ghost use Rattle.pdb_resolving.specs.Fault.{CircularTypeDefinition};
-ghost use Rattle.pdb_text_pieces.specs.Printed.{Prints, Stopped, say};
-ghost use Rattle.pdb_text_pieces.specs.Paths.{may_enter};
+ghost use Rattle.pdb_type_pieces.specs.Printed.{Prints, Stopped, say};
+ghost use Rattle.pdb_type_pieces.specs.Paths.{may_enter};
 ghost use Rattle.pdb_type_printing.specs.Level.{KeepsLevel};
 ghost use Rattle.pdb_type_printing.specs.Types.{Whole, visiting, returned_unless};
 ghost use Rattle.pdb_type_text.specs.Functions.{name_and_arguments};
@@ -22,7 +22,7 @@ use pdb_indices::{IdIndex, TypeIndex};
 use pdb_records::{FunctionId, IdData, MemberFunctionId, ProcedureType, TypeData};
 use pdb_resolving::stop::{Result, Stop};
 use pdb_resolving::{Error, ModuleProvider};
-use pdb_text_pieces::{
+use pdb_type_pieces::{
     IndexPath, Seen, emit, emit_between_strings, emit_scope_end, emit_string, emit_unhandled_id,
     emit_unread,
 };

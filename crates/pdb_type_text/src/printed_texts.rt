@@ -10,7 +10,7 @@ use crate::printer::FunctionPrinter;
 use pdb_indices::{IdIndex, TypeIndex};
 use pdb_resolving::ModuleProvider;
 use pdb_resolving::stop::Result;
-use pdb_text_pieces::{IndexPath, Seen};
+use pdb_type_pieces::{IndexPath, Seen};
 use pdb_type_printing::Asker;
 
 /// How many bytes most texts fit into, so that they aren't moved as they grow.

@@ -3,7 +3,7 @@
 ghost use Rattle.std.specs.Prelude.{◌≡◌, ◌≤◌, ◌==◌, ◌++◌, ◌∷◌, [], None, length, string_bytes};
 ghost use Rattle.std.specs.Prelude.{if◌then◌else◌};
 ghost use Rattle.pdb_records.specs.Shapes.{shape};
-ghost use Rattle.pdb_text_pieces.specs.Printed.{Prints, say};
+ghost use Rattle.pdb_type_pieces.specs.Printed.{Prints, say};
 ghost use Rattle.pdb_type_printing.specs.Level.{KeepsLevel};
 ghost use Rattle.pdb_type_printing.specs.Types.{Whole, visiting, returned_unless, method_arguments};
 ghost use Rattle.pdb_type_text.specs.Functions.{parent_text, method_text, arguments_unless};
@@ -16,7 +16,7 @@ use pdb_indices::TypeIndex;
 use pdb_records::{MemberFunctionType, ProcedureType, TypeData};
 use pdb_resolving::ModuleProvider;
 use pdb_resolving::stop::Result;
-use pdb_text_pieces::{
+use pdb_type_pieces::{
     IndexPath, Seen, emit, emit_name, emit_scope_end, emit_static, leaves_out_arguments,
 };
 use pdb_type_printing::Asker;

@@ -2,9 +2,9 @@ use Rattle.std.proofs.Common.{◌≡◌, ℕ, false, [], ◌∷◌, ◌++◌, st
 use Rattle.std.specs.Prelude.{Option}
 use Rattle.std.proofs.lemmas.Result.{err_from_is_err_and}
 use Rattle.pdb_indices.specs.declared.index.TypeIndex.{TypeIndex}
-use Rattle.pdb_text_pieces.specs.Paths.{room}
-use Rattle.pdb_text_pieces.specs.Printed.{Printed, Prints, Stops}
-use Rattle.pdb_text_pieces.specs.Returns.{shown_return}
+use Rattle.pdb_type_pieces.specs.Paths.{room}
+use Rattle.pdb_type_pieces.specs.Printed.{Printed, Prints, Stops}
+use Rattle.pdb_type_pieces.specs.Returns.{shown_return}
 use Rattle.pdb_type_printing.proofs.Copies.{stops_in_copy, copied, first_stops, first_goes_on}
 use Rattle.pdb_type_printing.proofs.Copies.{run_stops, run_goes_on}
 use Rattle.pdb_type_printing.proofs.Failing.{fails_stops, sure_stops}

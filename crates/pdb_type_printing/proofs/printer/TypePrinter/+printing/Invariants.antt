@@ -1,6 +1,6 @@
 use Rattle.std.proofs.Common.{◌≡◌, ◌+◌, ◌*◌, length, string_bytes}
 use Rattle.pdb_type_printing.specs.Level.{KeepsLevel}
-use Rattle.pdb_text_pieces.specs.Paths.{room}
+use Rattle.pdb_type_pieces.specs.Paths.{room}
 use Rattle.pdb_type_printing.specs.Types.{visiting, more_arguments}
 use Rattle.pdb_type_printing.specs.Printing.{env_of}
 use Rattle.pdb_type_printing.proofs.printer.TypePrinter.+printing.Given as goal

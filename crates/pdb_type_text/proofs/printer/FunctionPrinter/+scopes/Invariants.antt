@@ -1,5 +1,5 @@
 use Rattle.std.proofs.Common.{◌+◌, ◌*◌}
-use Rattle.pdb_text_pieces.specs.Paths.{room}
+use Rattle.pdb_type_pieces.specs.Paths.{room}
 use Rattle.pdb_type_text.proofs.printer.FunctionPrinter.+scopes.Given as goal
 
 abbrev pub decreases-emit_entered_id : goal.decreases-emit_entered_id
