@@ -19,12 +19,13 @@ ghost use Rattle.pdb_functions.specs.Databases.{IsOneRun, place_of as as_place};
 
 use pdb_addresses::{AddressMap, ImageSectionHeader, PdbInternalSectionOffset, Rva};
 use pdb_answers::maybe_owned::MaybeOwned;
-use pdb_answers::{ContextParts, Namer, PlaceSymbolizer, TypeFormatter};
+use pdb_answers::{ContextParts, Namer, PlaceSymbolizer};
 use pdb_container::StringTable;
 use pdb_functions::{Function, FunctionFrames, FunctionKey, SharedFunctionFrames};
 use pdb_resolving::{Error, ModuleProvider, Result};
 use pdb_symbol_records::SymbolTable;
 use pdb_symbols_modules::DebugInformation;
+use pdb_type_text::TypeFormatter;
 use std::alloc::Global;
 use std::marker::Model;
 

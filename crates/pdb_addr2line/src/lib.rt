@@ -62,9 +62,7 @@ mod pdb_data;
 
 pub use context::Context;
 pub use functions::FunctionIter;
-pub use pdb_answers::{
-    ContextParts, ModuleSectionContribution, TextWriter, TypeFormatter, maybe_owned,
-};
+pub use pdb_answers::{ContextParts, ModuleSectionContribution, maybe_owned};
 pub use pdb_data::ContextPdbData;
 pub use pdb_functions::{
     FileAnswer, Frame, FrameRow, Function, FunctionFrames, SharedFrame, SharedFunctionFrames,
@@ -72,3 +70,4 @@ pub use pdb_functions::{
 pub use pdb_loading::{ContributionOrder, KeptModules, Tables, read_tables};
 pub use pdb_resolving::{Error, ModuleProvider, Result};
 pub use pdb_type_pieces::{Flags, TypeFormatterFlags};
+pub use pdb_type_text::{TextWriter, TypeFormatter};

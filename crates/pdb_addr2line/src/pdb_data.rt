@@ -15,8 +15,8 @@ ghost use Rattle.pdb_symbols_modules.specs.Streams.{streams};
 
 use crate::context::Context;
 use pdb_addresses::AddressMap;
+use pdb_answers::ContextParts;
 use pdb_answers::maybe_owned::MaybeOwned;
-use pdb_answers::{ContextParts, TypeFormatter};
 use pdb_container::{Result, Source};
 use pdb_file_views::FileSource;
 use pdb_loading::{
@@ -26,6 +26,7 @@ use pdb_resolving::{Error, ModuleProvider};
 use pdb_symbol_records::SymbolTable;
 use pdb_symbols_modules::{DebugInformation, Module, ModuleInfo, PDB};
 use pdb_type_pieces::TypeFormatterFlags;
+use pdb_type_text::TypeFormatter;
 use std::alloc::Global;
 use std::marker::{Model, PhantomData};
 

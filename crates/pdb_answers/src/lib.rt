@@ -15,6 +15,6 @@ pub mod laws;
 mod symbolizer;
 
 pub use pdb_contributions::ModuleSectionContribution;
-pub use pdb_frames::{ContextParts, Namer, TextWriter, TypeFormatter, maybe_owned};
+pub use pdb_frames::{ContextParts, Namer, maybe_owned};
 pub use pdb_known_modules::{get_basic_module_info, procedures_in};
 pub use symbolizer::PlaceSymbolizer;

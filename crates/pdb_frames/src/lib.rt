@@ -24,6 +24,6 @@ pub use file_runs::{Stretch, file_named, file_run_in};
 pub use frame_runs::frames_count_in;
 pub use frames::{PlaceInFunction, check_frames, frames_in};
 pub use parts::ContextParts;
-pub use pdb_names::{Namer, TextWriter, TypeFormatter, maybe_owned};
+pub use pdb_names::{Namer, maybe_owned};
 pub use pdb_resolving::{Failures, Part, number_of};
 pub use runs::{to_next_bound, to_next_shared_bound};

@@ -13,4 +13,3 @@ mod typed_names;
 
 pub use namer::Namer;
 pub use names::{if_named, shared_raw_name};
-pub use pdb_type_text::{TextWriter, TypeFormatter};
