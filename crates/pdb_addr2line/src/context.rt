@@ -212,7 +212,7 @@ impl<'a, 's, P: ModuleProvider> Context<'a, 's, P> {
     }
 
     /// The frames at a place; it isn't counted.
-    fn frames_at(
+    fn find_at(
         &mut self,
         alloc: Global,
         place: PdbInternalSectionOffset,
@@ -258,7 +258,7 @@ impl<'a, 's, P: ModuleProvider> Context<'a, 's, P> {
         let Some(place) = place_at(self.symbolizer.parts(), probe) else {
             return Ok(None);
         };
-        let found = self.frames_at(alloc, place);
+        let found = self.find_at(alloc, place);
         let frames = owned_frames(alloc, found);
         self.counted(frames)
     }
@@ -287,7 +287,7 @@ impl<'a, 's, P: ModuleProvider> Context<'a, 's, P> {
         let Some(place) = place_at(self.symbolizer.parts(), probe) else {
             return Ok(None);
         };
-        let frames = self.frames_at(alloc, place);
+        let frames = self.find_at(alloc, place);
         self.counted(frames)
     }
 

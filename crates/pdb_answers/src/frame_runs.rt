@@ -18,7 +18,7 @@ ghost use Rattle.pdb_resolving.specs.Fault.{Answers};
 
 use crate::cached_parts::HeldPlace;
 use crate::file_runs::{keep_failure, keep_rows};
-use crate::frames::{ChosenPlace, frames_of};
+use crate::frames::{ChosenPlace, chosen_frames};
 use crate::known_failures::KnownFailures;
 use crate::symbolizer::PlaceSymbolizer;
 use pdb_addresses::PdbInternalSectionOffset;
@@ -57,7 +57,7 @@ fn read_run<'a, P: ModuleProvider>(
         place: found.place,
         far,
     };
-    match frames_of(alloc, parts, namer, found) {
+    match chosen_frames(alloc, parts, namer, found) {
         Ok(None) => Ok((None, far)),
         Ok(Some(frames)) => {
             let count = frames_count_in(alloc, found.known, found.chosen, stretch)?;

@@ -41,7 +41,7 @@ pub(crate) struct ChosenPlace<'c, 'a, I: ModuleTables> {
 
 /// Returns the frames at a place in a chosen function, if it has an RVA. Where it has none, its
 /// module's data are read all the same, but no frame is made.
-pub(crate) fn frames_of<'a, P: ModuleProvider>(
+pub(crate) fn chosen_frames<'a, P: ModuleProvider>(
     alloc: Global,
     parts: &ContextParts<'a, '_>,
     namer: &mut Namer<'a, '_, P>,
@@ -100,7 +100,7 @@ fn frames_told<'a, P: ModuleProvider>(
         (env_of P.provided namer.old found.now.module_index) (option_copied found.now.known)
         found.now.place (Some (chosen_seen found.now.chosen)))) }
 {
-    let frames = frames_of(alloc, parts, namer, found);
+    let frames = chosen_frames(alloc, parts, namer, found);
     match frames {
         Ok(frames) => Ok(frames),
         Err(Error::OutOfMemory) => Err(Error::OutOfMemory),

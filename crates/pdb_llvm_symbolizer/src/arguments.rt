@@ -109,7 +109,7 @@ fn texts_of(choices: &Choices, function: FunctionName, style: Style) -> TextOpti
 
 /// Which frames are reported: without inlined calls the function's own, in the style of GNU the
 /// innermost one.
-fn frames_of(choices: &Choices, inlines: bool, style: Style) -> ReportOptions {
+fn report_options(choices: &Choices, inlines: bool, style: Style) -> ReportOptions {
     let asked = if inlines {
         Asked::All
     } else if style == Style::Gnu {
@@ -162,7 +162,7 @@ pub fn read_arguments(
     let style = choices.style.unwrap_or(style);
     let function = function_of(&choices, function);
     let texts = texts_of(&choices, function, style);
-    let frames = frames_of(&choices, choices.inlines.unwrap_or(!is_plain), style);
+    let frames = report_options(&choices, choices.inlines.unwrap_or(!is_plain), style);
     Ok(Ok(Arguments {
         program,
         relative: choices.relative,

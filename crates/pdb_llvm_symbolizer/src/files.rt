@@ -160,7 +160,7 @@ impl<'a, F: FileExt + Drop> AskedFile<'a, F> {
     }
 
     /// Appends the answer to a request.
-    fn answer(
+    fn append_named(
         &mut self,
         alloc: Global,
         arguments: &Arguments,
@@ -178,7 +178,7 @@ impl<'a, F: FileExt + Drop> AskedFile<'a, F> {
             address,
         };
         match &mut self.loaded {
-            Ok(loaded) => loaded.answer(alloc, arguments, asked, output),
+            Ok(loaded) => loaded.append_asked(alloc, arguments, asked, output),
             Err(reason) => append_failure(alloc, output, arguments, asked, reason),
         }
     }
@@ -247,7 +247,7 @@ impl<'a, F: FileExt + Drop> AskedFiles<'a, F> {
     }
 
     /// Appends the answer to a request for an object that is named by its build ID.
-    fn answer_build_id(
+    fn append_build_id(
         &self,
         rt: &(impl Eprint + AllocGlobal),
         asked: AskedAddress<'_>,
@@ -259,7 +259,7 @@ impl<'a, F: FileExt + Drop> AskedFiles<'a, F> {
     }
 
     /// Appends the answer to a request.
-    fn answer_request(
+    fn append_request(
         &mut self,
         rt: &(impl Files<File = F> + Eprint + AllocGlobal),
         request: LineRequest<'_>,
@@ -274,13 +274,13 @@ impl<'a, F: FileExt + Drop> AskedFiles<'a, F> {
                     file: hash.as_str(),
                     address: request.address,
                 };
-                return self.answer_build_id(rt, asked, output);
+                return self.append_build_id(rt, asked, output);
             }
         };
         let number = self.ask(rt, name)?;
         match self.files.get_mut(number) {
             None => Ok(()),
-            Some(file) => file.answer(rt.alloc(), arguments, request, output),
+            Some(file) => file.append_named(rt.alloc(), arguments, request, output),
         }
     }
 
@@ -288,7 +288,7 @@ impl<'a, F: FileExt + Drop> AskedFiles<'a, F> {
     ///
     /// # Errors
     /// Where memory ran out.
-    pub fn answer(
+    pub fn append_line(
         &mut self,
         rt: &(impl Files<File = F> + Eprint + AllocGlobal),
         line: &[u8],
@@ -296,7 +296,7 @@ impl<'a, F: FileExt + Drop> AskedFiles<'a, F> {
     ) -> Result<(), AllocError> {
         let arguments = self.arguments;
         match read_request(line, arguments.form) {
-            Ok(request) => self.answer_request(rt, request, output),
+            Ok(request) => self.append_request(rt, request, output),
             Err(fault) => {
                 tell_fault(rt, arguments, line, fault)?;
                 let file = match &arguments.object {

@@ -3,7 +3,7 @@
 ghost use Rattle.std.specs.Prelude.{◌≡◌};
 ghost use Rattle.pdb_addr2line.specs.Context.{lasting};
 
-use crate::loaded::frames_at;
+use crate::loaded::frames_or_none;
 use pdb_addr2line::{Function, SharedFunctionFrames};
 use pdb_databases::FileContext;
 use pdb_llvm_texts::{Asked, ReportOptions, ReportedFrame, report_frame};
@@ -38,7 +38,7 @@ fn has_begun_at(
 ) -> Result<bool, AllocError>
     ensures { lasting context.new ≡ lasting context.old }
 {
-    let found = frames_at(context, alloc, rva)?;
+    let found = frames_or_none(context, alloc, rva)?;
     Ok(has_begun(&found, start))
 }
 
@@ -104,7 +104,7 @@ pub fn with_first_row<'a>(
         Some(found) => found.frames.len().saturating_sub(1),
         None => 0,
     };
-    match frames_at(context, alloc, first)? {
+    match frames_or_none(context, alloc, first)? {
         Some(found) => Ok(Some(FirstRow {
             found,
             rva: first,

@@ -47,7 +47,7 @@ where
         output: &mut Vec<u8>,
     ) -> Result<(), AllocError> {
         self.room.clear();
-        self.files.answer(self.system, line, &mut self.room)?;
+        self.files.append_line(self.system, line, &mut self.room)?;
         output.extend_from_slice(&self.room)
     }
 }
@@ -84,7 +84,7 @@ where
         self.room.clear();
         append_mark(arguments, &mut self.room, mark, "\n  ")?;
         self.files
-            .answer(self.system, address.as_bytes(), &mut self.room)
+            .append_line(self.system, address.as_bytes(), &mut self.room)
     }
 
     /// Makes the end of an array.

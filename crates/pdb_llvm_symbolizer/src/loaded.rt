@@ -125,7 +125,7 @@ fn no_function<'f>() -> ReportedFrame<'f> {
 }
 
 /// The frames at an address; none where the lines or inlined calls there can't be read.
-pub fn frames_at<'a>(
+pub fn frames_or_none<'a>(
     context: &mut FileContext<'a>,
     alloc: Global,
     rva: u32,
@@ -187,7 +187,7 @@ impl<'a> AddressTexts<'a> {
     ) -> Result<KnownAddress<'a>, AllocError>
         ensures { lasting context.new ≡ lasting context.old }
     {
-        let found = frames_at(context, alloc, rva)?;
+        let found = frames_or_none(context, alloc, rva)?;
         let function = self.names.function_at(alloc, context, rva)?;
         let first = with_first_row(alloc, context, &function, &found, rva)?;
         let name = self.name_of(alloc, arguments, &function, rva)?;
@@ -235,7 +235,7 @@ impl<'a, F: FileExt + Drop> FileAnswers<'a, F> {
     }
 
     /// Appends the answer for an address that has an RVA. What it lacks is read first.
-    fn answer_at(
+    fn append_rva(
         &mut self,
         alloc: Global,
         arguments: &Arguments,
@@ -259,7 +259,7 @@ impl<'a, F: FileExt + Drop> FileAnswers<'a, F> {
     }
 
     /// Appends the answer for an address.
-    fn answer_code(
+    fn append_code(
         &mut self,
         alloc: Global,
         arguments: &Arguments,
@@ -273,7 +273,7 @@ impl<'a, F: FileExt + Drop> FileAnswers<'a, F> {
             arguments.adjust,
             arguments.relative,
         ) {
-            Some(rva) => self.answer_at(alloc, arguments, asked, rva, output),
+            Some(rva) => self.append_rva(alloc, arguments, asked, rva, output),
             None => {
                 let frames = [no_function()];
                 append_frames(alloc, output, arguments.texts, file, Some(address), &frames)
@@ -282,7 +282,7 @@ impl<'a, F: FileExt + Drop> FileAnswers<'a, F> {
     }
 
     /// Appends the answer to a request.
-    pub fn answer(
+    pub fn append_asked(
         &mut self,
         alloc: Global,
         arguments: &Arguments,
@@ -291,7 +291,7 @@ impl<'a, F: FileExt + Drop> FileAnswers<'a, F> {
     ) -> Result<(), AllocError> {
         let AskedAddress { file, address, .. } = asked;
         match asked.command {
-            Command::Code => self.answer_code(alloc, arguments, asked, output),
+            Command::Code => self.append_code(alloc, arguments, asked, output),
             Command::Data => append_no_data(alloc, output, arguments.texts, file, address),
             Command::Frame => append_no_locals(alloc, output, arguments.texts, file, address),
         }

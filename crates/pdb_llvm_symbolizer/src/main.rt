@@ -65,7 +65,7 @@ fn main(rt: HostRuntime) -> Result<ExitCode> {
     push_environment_stores(&rt, &mut arguments.stores)?;
     let mut reader = Watched::new(rt.stdin());
     let mut writer = Watched::new(rt.stdout());
-    match answer(&rt, &arguments, &mut reader, &mut writer) {
+    match answer_requests(&rt, &arguments, &mut reader, &mut writer) {
         Ok(true) => Ok(ExitCode::SUCCESS),
         Ok(false) => Ok(ExitCode::from(1)),
         Err(fault) => bail!("{}", reason(&fault)),
@@ -111,7 +111,7 @@ fn reason(fault: &InputFault) -> &'static str {
 
 /// Answers the addresses among the arguments, or those of the reader's lines. Returns whether the
 /// file of `--obj` is loaded, if it is given. What the files hold is left to the process.
-fn answer<S: Files<File = F> + Eprint + AllocGlobal, F: FileExt + Drop, R: Read, W: Write>(
+fn answer_requests<S: Files<File = F> + Eprint + AllocGlobal, F: FileExt + Drop, R: Read, W: Write>(
     rt: &S,
     arguments: &Arguments,
     reader: &mut Watched<R>,

@@ -87,7 +87,7 @@ fn append_held_line<F: Drop>(
 impl<'a, F: FileExt + Drop> FileLines<'a, F> {
     /// Reads what was asked for and is missing, unless reading the file failed before; returns
     /// whether there is more now.
-    fn go_on(&mut self, alloc: Global) -> bool
+    fn read_missing(&mut self, alloc: Global) -> bool
         ensures contents { self.new.contents ≡ self.old.contents }
         ensures order { self.new.order ≡ self.old.order }
         ensures grows { Grows self.old.views self.new.views }
@@ -151,7 +151,7 @@ impl<'a, F: FileExt + Drop> Answers for FileLines<'a, F> {
         }
         if let Ok(numbers) = modules_of(alloc, &self.symbolizer, requests) {
             self.symbolizer.ask(numbers);
-            self.go_on(alloc);
+            self.read_missing(alloc);
         }
     }
 
@@ -167,7 +167,7 @@ impl<'a, F: FileExt + Drop> Answers for FileLines<'a, F> {
                 Ok(()) => return append_text(alloc, &mut self.room, output),
                 Err(_) => {}
             }
-            if !self.go_on(alloc) {
+            if !self.read_missing(alloc) {
                 return Err(AllocError);
             }
         }

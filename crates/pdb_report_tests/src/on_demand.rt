@@ -61,7 +61,7 @@ fn unread<'a>(
 }
 
 /// What is written for the input, how the run ends, and how often the file was read.
-fn frames_of(alloc: Global, file: InMemory) -> Result<(Vec<u8>, Result<(), RunFault>, u64), Fail> {
+fn report_of(alloc: Global, file: InMemory) -> Result<(Vec<u8>, Result<(), RunFault>, u64), Fail> {
     let arena = Bump::new(alloc);
     let source = unread(alloc, &arena, file)?;
     let mut report = Vec::new(alloc);
@@ -121,7 +121,7 @@ fn demanded_sizes(alloc: Global) -> Result<[Vec<u8>; 2], Fail> {
 #[test]
 fn frames_on_demand(rt: HostRuntime) -> Result<(), Fail> {
     let file = failing(rt.alloc(), 0)?;
-    let (report, outcome, _) = frames_of(rt.alloc(), file)?;
+    let (report, outcome, _) = report_of(rt.alloc(), file)?;
     let (whole, _) = run_over(rt.alloc(), F0.bytes(rt.alloc())?, INPUT);
     assert_eq!(rt; outcome, Ok(()));
     assert!(rt; !report.is_empty() && report == whole);
@@ -139,12 +139,12 @@ fn sizes_on_demand(rt: HostRuntime) -> Result<(), Fail> {
 
 #[test]
 fn failed_read(rt: HostRuntime) -> Result<(), Fail> {
-    let (_, outcome, reads) = frames_of(rt.alloc(), failing(rt.alloc(), 0)?)?;
+    let (_, outcome, reads) = report_of(rt.alloc(), failing(rt.alloc(), 0)?)?;
     outcome?;
     assert!(rt; reads > 1);
     for fails in 1..=reads {
         let file = failing(rt.alloc(), fails)?;
-        let (report, outcome, _) = frames_of(rt.alloc(), file)?;
+        let (report, outcome, _) = report_of(rt.alloc(), file)?;
         assert_eq!(rt; outcome, Err(RunFault::File(ErrorKind::PermissionDenied)));
         assert!(rt; report.is_empty());
     }

@@ -5,7 +5,7 @@ use Rattle.pdb_frames.specs.Failing.{failing_if_held}
 use Rattle.pdb_frames.specs.FramesAt.{frames_if_held}
 use Rattle.pdb_addr2line.specs.Context.{Context, scope_in}
 use Rattle.pdb_resolving.specs.Fault.{Answers}
-use Rattle.pdb_addr2line.proofs.context.Context.frames_at.Goals as goal
+use Rattle.pdb_addr2line.proofs.context.Context.find_at.Goals as goal
 
 -- the symbolizer's answer is the context's
 pub returns-clause-frames : goal.returns-clause-frames
