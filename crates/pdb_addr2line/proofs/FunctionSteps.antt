@@ -7,7 +7,7 @@ use Rattle.pdb_resolving.specs.declared.error.Error.{Error}
 use Rattle.pdb_resolving.specs.declared.error.Error.TheVariants as errors
 use Rattle.pdb_resolving.specs.Fault.{Fault, Fails}
 use Rattle.pdb_resolving.specs.Resolving.{Provided}
-use Rattle.pdb_functions.specs.FunctionOrder.{Function}
+use Rattle.pdb_owners.specs.FunctionOrder.{Function}
 use Rattle.pdb_answers.specs.Choice.{Parts}
 use Rattle.pdb_frames.specs.Scopes.{Scope}
 use Rattle.pdb_frames.specs.FramesAt.{function}

@@ -6,7 +6,7 @@ use Rattle.std.specs.List.{flat_map}
 use Rattle.pdb_symbols_modules.specs.Modules.{Module}
 use Rattle.pdb_resolving.specs.declared.error.Error.{Error}
 use Rattle.pdb_resolving.specs.declared.error.Error.TheVariants as errors
-use Rattle.pdb_functions.specs.FunctionOrder.{Function}
+use Rattle.pdb_owners.specs.FunctionOrder.{Function}
 use Rattle.pdb_answers.specs.Choice.{Parts}
 use Rattle.pdb_frames.specs.Scopes.{Scope}
 use Rattle.pdb_frames.specs.FramesAt.{function}

@@ -12,16 +12,16 @@ ghost use Rattle.pdb_answers.specs.FailingParts.{Failures as FailedParts, failed
 ghost use Rattle.pdb_frames.specs.Failing.{Part, failing, failing_if_held};
 ghost use Rattle.pdb_frames.specs.FramesAt.{frames, frames_if_held, function};
 ghost use Rattle.pdb_frames.specs.Keys.{function_by};
-ghost use Rattle.pdb_functions.specs.Frames.{FunctionFrames as FramesFound};
+ghost use Rattle.pdb_owners.specs.Frames.{FunctionFrames as FramesFound};
 ghost use Rattle.pdb_answers.specs.MaybeOwned.{value_of};
 ghost use Rattle.pdb_frames.specs.Runs.{database_of, function_here as function_at_place};
-ghost use Rattle.pdb_functions.specs.Databases.{IsOneRun, place_of as as_place};
+ghost use Rattle.pdb_owners.specs.Databases.{IsOneRun, place_of as as_place};
 
 use pdb_addresses::{AddressMap, ImageSectionHeader, PdbInternalSectionOffset, Rva};
 use pdb_answers::maybe_owned::MaybeOwned;
 use pdb_answers::{ContextParts, Namer, PlaceSymbolizer};
 use pdb_container::StringTable;
-use pdb_functions::{Function, FunctionFrames, FunctionKey, SharedFunctionFrames};
+use pdb_owners::{Function, FunctionFrames, FunctionKey, SharedFunctionFrames};
 use pdb_resolving::{Error, ModuleProvider, Result};
 use pdb_symbol_records::SymbolTable;
 use pdb_symbols_modules::DebugInformation;

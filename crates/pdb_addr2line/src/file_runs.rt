@@ -3,13 +3,13 @@
 ghost use Rattle.std.specs.Prelude.{◌≡◌, ◌≤◌, true, IfOk, Ok, option_and_then};
 ghost use Rattle.pdb_frames.specs.Files.{file_by, file_here, files_of, if_any};
 ghost use Rattle.pdb_addr2line.specs.Context.{lookups_after, scope_in, uncounted};
-ghost use Rattle.pdb_functions.specs.Databases.{IsOneRun, place_of as as_place};
-ghost use Rattle.pdb_functions.specs.FileAnswers.{file_seen};
+ghost use Rattle.pdb_owners.specs.Databases.{IsOneRun, place_of as as_place};
+ghost use Rattle.pdb_owners.specs.FileAnswers.{file_seen};
 ghost use Rattle.pdb_resolving.specs.Fault.{Answers};
 
 use crate::context::Context;
 use pdb_addresses::PdbInternalSectionOffset;
-use pdb_functions::{CountedFile, FileAnswer, FileKey};
+use pdb_owners::{CountedFile, FileAnswer, FileKey};
 use pdb_resolving::{ModuleProvider, Result};
 use std::alloc::Global;
 

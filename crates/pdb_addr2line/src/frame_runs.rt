@@ -3,13 +3,13 @@
 ghost use Rattle.std.specs.Prelude.{◌≡◌, ◌≤◌, true, IfOk, Ok, Option, Result as Answer};
 ghost use Rattle.pdb_addr2line.specs.Context.{lookups_after, scope_in, uncounted};
 ghost use Rattle.pdb_frames.specs.FrameRuns.{frames_here, frames_of_places, readable};
-ghost use Rattle.pdb_functions.specs.Databases.{IsOneRun, place_of as as_place};
-ghost use Rattle.pdb_functions.specs.Frames.{FunctionFrames as FramesFound};
+ghost use Rattle.pdb_owners.specs.Databases.{IsOneRun, place_of as as_place};
+ghost use Rattle.pdb_owners.specs.Frames.{FunctionFrames as FramesFound};
 ghost use Rattle.pdb_resolving.specs.Fault.{Answers, Fault};
 
 use crate::context::Context;
 use pdb_addresses::PdbInternalSectionOffset;
-use pdb_functions::{FunctionFrames, SharedFunctionFrames};
+use pdb_owners::{FunctionFrames, SharedFunctionFrames};
 use pdb_resolving::{ModuleProvider, Result};
 use std::alloc::Global;
 

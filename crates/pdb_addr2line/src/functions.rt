@@ -11,7 +11,7 @@ ghost use Rattle.pdb_resolving.specs.declared.error.Error.TheVariants as errors;
 
 use crate::context::Context;
 use crate::function_starts::kept_starts;
-use pdb_functions::Function;
+use pdb_owners::Function;
 use pdb_resolving::{ModuleProvider, Result};
 use std::alloc::Global;
 use std::marker::Model;

@@ -64,10 +64,10 @@ pub use context::Context;
 pub use functions::FunctionIter;
 pub use pdb_answers::{ContextParts, ModuleSectionContribution, maybe_owned};
 pub use pdb_data::ContextPdbData;
-pub use pdb_functions::{
+pub use pdb_loading::{ContributionOrder, KeptModules, Tables, read_tables};
+pub use pdb_owners::{
     FileAnswer, Frame, FrameRow, Function, FunctionFrames, SharedFrame, SharedFunctionFrames,
 };
-pub use pdb_loading::{ContributionOrder, KeptModules, Tables, read_tables};
 pub use pdb_resolving::{Error, ModuleProvider, Result};
 pub use pdb_type_pieces::{Flags, TypeFormatterFlags};
 pub use pdb_type_text::{TextWriter, TypeFormatter};

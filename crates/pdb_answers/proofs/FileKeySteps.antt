@@ -13,8 +13,8 @@ use Rattle.pdb_frames.specs.Files.{file_by, file_here, files_of, if_any}
 use Rattle.pdb_frames.specs.NearBounds.{bounds_near}
 use Rattle.pdb_frames.specs.Runs.{procedures_of}
 use Rattle.pdb_frames.specs.Scopes.{Scope}
-use Rattle.pdb_functions.specs.Databases.{IsOneRun, place_of}
-use Rattle.pdb_functions.specs.declared.file_key.FileKey.{FileKey}
+use Rattle.pdb_owners.specs.Databases.{IsOneRun, place_of}
+use Rattle.pdb_owners.specs.declared.file_key.FileKey.{FileKey}
 
 module _ (p : Parts) (scope : ℕ → Scope) (place : PdbInternalSectionOffset) (limit : ℕ)
     (c : ModuleSectionContribution) (run : Option FileKey × ℕ) where

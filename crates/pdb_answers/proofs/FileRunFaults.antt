@@ -9,8 +9,8 @@ use Rattle.pdb_frames.specs.FailingParts.{failing_by, failing_first, failing_in,
 use Rattle.pdb_frames.specs.FailingParts.{failing_sites}
 use Rattle.pdb_frames.specs.Failing.{Part, ProcedureLines, ProcedureInlineRanges}
 use Rattle.pdb_frames.specs.FileRuns.{file_run_in, file_run_of, rows_in, run_by_rows, run_reported}
-use Rattle.pdb_functions.specs.declared.file_key.FileKey.{FileKey}
-use Rattle.pdb_functions.specs.declared.file_key.FileKey.TheVariants as keys
+use Rattle.pdb_owners.specs.declared.file_key.FileKey.{FileKey}
+use Rattle.pdb_owners.specs.declared.file_key.FileKey.TheVariants as keys
 use Rattle.pdb_known_modules.specs.KnownModules.{ModuleData, ExtendedModule, extended_of}
 use Rattle.pdb_known_modules.specs.KnownModules.{extended_procedure_of, procedure_sites}
 use Rattle.pdb_module_data.specs.Forest.{Site}

@@ -2,7 +2,7 @@
 use Rattle.std.proofs.Common.{◌≡◌, refl}
 use Rattle.pdb_frames.specs.Files.{if_any}
 use Rattle.pdb_answers.specs.FileOrNothing.{file_or_nothing}
-use Rattle.pdb_functions.specs.FileAnswers.{FileAnswer, Nothing, Unreadable, NoFile, File}
+use Rattle.pdb_owners.specs.FileAnswers.{FileAnswer, Nothing, Unreadable, NoFile, File}
 
 pub nothing_or_file : (f : FileAnswer) → file_or_nothing (if_any f) ≡ f
 nothing_or_file Nothing = refl

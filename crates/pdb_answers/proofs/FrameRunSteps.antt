@@ -22,8 +22,8 @@ use Rattle.pdb_frames.specs.NearBounds.{bounds_near}
 use Rattle.pdb_frames.specs.Printing.{Formatting, env_of}
 use Rattle.pdb_frames.specs.Runs.{procedures_of}
 use Rattle.pdb_frames.specs.Scopes.{Scope, scope_of}
-use Rattle.pdb_functions.specs.Databases.{IsOneRun, place_of}
-use Rattle.pdb_functions.specs.Frames.{FunctionFrames}
+use Rattle.pdb_owners.specs.Databases.{IsOneRun, place_of}
+use Rattle.pdb_owners.specs.Frames.{FunctionFrames}
 use Rattle.pdb_known_modules.specs.KnownModules.{ModuleData, procedures_in}
 use Rattle.pdb_resolving.specs.Fault.{Fault}
 use Rattle.pdb_resolving.specs.Resolving.{Provided}

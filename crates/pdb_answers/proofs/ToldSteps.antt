@@ -8,7 +8,7 @@ use Rattle.pdb_frames.specs.Failing.{failing_at}
 use Rattle.pdb_frames.specs.FramesAt.{frames_at, frames_of_chosen}
 use Rattle.pdb_frames.specs.Printing.{Formatting, env_of}
 use Rattle.pdb_frames.specs.Scopes.{scope_of}
-use Rattle.pdb_functions.specs.Frames.{FunctionFrames}
+use Rattle.pdb_owners.specs.Frames.{FunctionFrames}
 use Rattle.pdb_known_modules.specs.KnownModules.{ModuleData, procedures_in}
 use Rattle.pdb_resolving.specs.Fault.{Fault}
 use Rattle.pdb_resolving.specs.Resolving.{Provided}

@@ -1,6 +1,6 @@
 -- A file, or nothing where none is counted.
 use Rattle.std.specs.Prelude.{Option, None, Some}
-use Rattle.pdb_functions.specs.FileAnswers.{FileAnswer, Nothing}
+use Rattle.pdb_owners.specs.FileAnswers.{FileAnswer, Nothing}
 
 -- the file that is counted; nothing where none is
 abbrev pub file_or_nothing : Option FileAnswer → FileAnswer

@@ -13,8 +13,8 @@ ghost use Rattle.pdb_frames.specs.Files.{file_by, file_here, files_of, if_any};
 ghost use Rattle.pdb_frames.specs.NearBounds.{bounds_near};
 ghost use Rattle.pdb_frames.specs.Runs.{procedures_of};
 ghost use Rattle.pdb_frames.specs.ChosenSeen.{chosen_seen};
-ghost use Rattle.pdb_functions.specs.Databases.{IsOneRun, place_of as as_place};
-ghost use Rattle.pdb_functions.specs.FileAnswers.{file_seen};
+ghost use Rattle.pdb_owners.specs.Databases.{IsOneRun, place_of as as_place};
+ghost use Rattle.pdb_owners.specs.FileAnswers.{file_seen};
 ghost use Rattle.pdb_known_modules.specs.CachedModules.{known_in};
 ghost use Rattle.pdb_known_modules.specs.KnownModules.{ModuleData};
 ghost use Rattle.pdb_known_modules.specs.KnownModules.{procedure_if_numbered, procedures_in};
@@ -31,8 +31,8 @@ use pdb_frames::{
     Chosen, ContextParts, Failures, Stretch, choose, failing_in, file_named, file_run_in,
     to_next_bound, to_next_shared_bound,
 };
-use pdb_functions::{CountedFile, FileAnswer, FileKey};
 use pdb_known_modules::{BasicModuleInfo, CachedModules, keep_module, known_at, number_over};
+use pdb_owners::{CountedFile, FileAnswer, FileKey};
 use pdb_resolving::{Error, ModuleProvider, ModuleTables, Result};
 use std::alloc::{AllocError, Global};
 

@@ -12,7 +12,7 @@ ghost use Rattle.pdb_frames.specs.FramesAt.{frames_of_chosen};
 ghost use Rattle.pdb_frames.specs.NearBounds.{bounds_near};
 ghost use Rattle.pdb_frames.specs.Printing.{env_of};
 ghost use Rattle.pdb_frames.specs.Runs.{procedures_of};
-ghost use Rattle.pdb_functions.specs.Databases.{IsOneRun, place_of as as_place};
+ghost use Rattle.pdb_owners.specs.Databases.{IsOneRun, place_of as as_place};
 ghost use Rattle.pdb_known_modules.specs.KnownModules.{ModuleData};
 ghost use Rattle.pdb_resolving.specs.Fault.{Answers};
 
@@ -26,8 +26,8 @@ use pdb_contributions::ModuleSectionContribution;
 use pdb_frames::{
     ContextParts, Namer, Stretch, choose, frames_count_in, to_next_bound, to_next_shared_bound,
 };
-use pdb_functions::SharedFunctionFrames;
 use pdb_known_modules::{keep_module, known_at, number_over};
+use pdb_owners::SharedFunctionFrames;
 use pdb_resolving::{Error, ModuleProvider, Result};
 use std::alloc::{AllocError, Global};
 

@@ -23,8 +23,8 @@ use pdb_frames::{
     Chosen, ContextParts, Failures, Namer, Part, PlaceInFunction, check_frames, choose, failing_in,
     frames_in,
 };
-use pdb_functions::SharedFunctionFrames;
 use pdb_known_modules::{BasicModuleInfo, keep_module, known_at, number_over};
+use pdb_owners::SharedFunctionFrames;
 use pdb_resolving::{Error, ModuleProvider, ModuleTables, Result};
 use std::alloc::Global;
 

@@ -13,8 +13,8 @@ ghost use Rattle.pdb_frames.specs.Printing.{env_of};
 ghost use Rattle.pdb_frames.specs.Runs.{database_of, function_here as function_at_place};
 ghost use Rattle.pdb_frames.specs.Runs.{procedures_of};
 ghost use Rattle.pdb_frames.specs.ChosenSeen.{chosen_seen};
-ghost use Rattle.pdb_functions.specs.Databases.{IsOneRun, place_of as as_place};
-ghost use Rattle.pdb_functions.specs.KeyOrder.{key_module};
+ghost use Rattle.pdb_owners.specs.Databases.{IsOneRun, place_of as as_place};
+ghost use Rattle.pdb_owners.specs.KeyOrder.{key_module};
 ghost use Rattle.pdb_known_modules.specs.KnownModules.{procedures_in};
 ghost use Rattle.pdb_resolving.specs.Fault.{Answers};
 
@@ -24,8 +24,8 @@ use pdb_contributions::ModuleSectionContribution;
 use pdb_frames::{
     Chosen, ContextParts, FunctionEnd, Namer, choose, name_of, to_next_bound, to_next_shared_bound,
 };
-use pdb_functions::{Function, FunctionKey, owned_name};
 use pdb_known_modules::{BasicModuleInfo, keep_module, known_at, number_over, procedure_numbered};
+use pdb_owners::{Function, FunctionKey, owned_name};
 use pdb_resolving::{ModuleProvider, ModuleTables, Result};
 use std::alloc::Global;
 

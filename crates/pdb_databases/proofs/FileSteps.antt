@@ -5,7 +5,7 @@ use Rattle.pdb_addr2line.specs.Choice.{Parts}
 use Rattle.pdb_loading.specs.declared.order.ContributionOrder.{ContributionOrder}
 use Rattle.pdb_addr2line.specs.Context.{Context, lasting, scope_in}
 use Rattle.pdb_frames.specs.FrameRuns.{frames_here, frames_of_places, if_answered, readable}
-use Rattle.pdb_functions.specs.Databases.{Database, IsOneRun, place_of}
+use Rattle.pdb_owners.specs.Databases.{Database, IsOneRun, place_of}
 use Rattle.pdb_addresses.specs.declared.internal_section_offset.PdbInternalSectionOffset.{PdbInternalSectionOffset}
 use Rattle.pdb_addr2line.specs.Formatters.{context_with, with_modules}
 use Rattle.pdb_addr2line.proofs.HeldModules.{parts_last, parts_of_context}
@@ -18,7 +18,7 @@ use Rattle.pdb_symbols_modules.specs.Modules.{modules_of}
 use Rattle.pdb_symbols_modules.specs.Streams.{Streams, streams}
 use Rattle.pdb_addr2line.specs.FailingParts.{Failures, told}
 use Rattle.pdb_container.specs.declared.error.Error.TheVariants as causes
-use Rattle.pdb_functions.specs.Frames.{FunctionFrames}
+use Rattle.pdb_owners.specs.Frames.{FunctionFrames}
 use Rattle.pdb_resolving.specs.declared.error.Error.{Error}
 use Rattle.pdb_resolving.specs.declared.error.Error.TheVariants as errors
 use Rattle.pdb_resolving.specs.Fault.{Answers, Fault}

@@ -17,17 +17,17 @@ use Rattle.pdb_loading.specs.declared.order.ContributionOrder.{ContributionOrder
 use Rattle.pdb_loading.specs.declared.order.ContributionOrder.TheVariants.{InOrder}
 use Rattle.pdb_frames.specs.Scopes.{Scope, scope_of, entries_of}
 use Rattle.pdb_addr2line.specs.Context.{Context, scope_in}
-use Rattle.pdb_functions.specs.Frames.{FunctionFrames}
+use Rattle.pdb_owners.specs.Frames.{FunctionFrames}
 use Rattle.pdb_frames.specs.Files.{files_keyed, files_of}
 use Rattle.pdb_frames.specs.FrameRuns.{frames_of_places}
 use Rattle.pdb_frames.specs.FramesAt.{frames, function}
 use Rattle.pdb_frames.specs.Keys.{keyed_of}
-use Rattle.pdb_functions.specs.FileAnswers.{FileAnswer}
-use Rattle.pdb_functions.specs.declared.file_key.FileKey.{FileKey}
-use Rattle.pdb_functions.specs.declared.function_key.FunctionKey.{FunctionKey}
+use Rattle.pdb_owners.specs.FileAnswers.{FileAnswer}
+use Rattle.pdb_owners.specs.declared.file_key.FileKey.{FileKey}
+use Rattle.pdb_owners.specs.declared.function_key.FunctionKey.{FunctionKey}
 use Rattle.pdb_frames.specs.Runs.{database_of}
-use Rattle.pdb_functions.specs.Databases.{Database, Keyed}
-use Rattle.pdb_functions.specs.FunctionOrder.{Function}
+use Rattle.pdb_owners.specs.Databases.{Database, Keyed}
+use Rattle.pdb_owners.specs.FunctionOrder.{Function}
 use Rattle.pdb_loading.specs.Held.{given, names_in}
 use Rattle.pdb_loading.specs.ModuleInfos.{KeptInfo, answered_at}
 use Rattle.pdb_loading.specs.Loading.{LoadingFault, Loaded, loaded_with}

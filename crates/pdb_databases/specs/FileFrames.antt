@@ -1,6 +1,6 @@
 -- The frames that are found in a file that is read on demand.
 use Rattle.std.specs.Prelude.{◌≡◌, Option, None, Some, Result, Ok, Err, IsErr}
-use Rattle.pdb_functions.specs.Frames.{FunctionFrames}
+use Rattle.pdb_owners.specs.Frames.{FunctionFrames}
 use Rattle.pdb_databases.specs.declared.file_frames.FileFramesFault.{FileFramesFault}
 use Rattle.pdb_databases.specs.declared.file_frames.FileFramesFault.TheVariants.{Context, File}
 use Rattle.pdb_resolving.specs.Fault.{Fault}

@@ -5,8 +5,8 @@ ghost use Rattle.pdb_databases.specs.Answer.{answer_named, frames_named};
 ghost use Rattle.pdb_databases.specs.FileAnswers.{IsKnown};
 ghost use Rattle.pdb_databases.specs.FileFrames.{FindsFrames, FindsHeldFrames, found_by};
 ghost use Rattle.pdb_file_views.specs.Views.{Grows};
-ghost use Rattle.pdb_functions.specs.Databases.{IsOneRun, place_of};
-ghost use Rattle.pdb_functions.specs.Frames.{FunctionFrames as Found};
+ghost use Rattle.pdb_owners.specs.Databases.{IsOneRun, place_of};
+ghost use Rattle.pdb_owners.specs.Frames.{FunctionFrames as Found};
 ghost use Rattle.pdb_resolving.specs.Fault.{Fault};
 ghost use Rattle.pdb_symbols_modules.specs.Streams.{streams};
 

@@ -28,10 +28,10 @@ use Rattle.pdb_frames.specs.FramesAt.{frames_in, frames_of_chosen, frames_at, fr
 use Rattle.pdb_frames.specs.FramesAt.{found_frames, function_at, function_of}
 use Rattle.pdb_frames.specs.Runs.{procedures_of, is_bound, database_of}
 use Rattle.pdb_frames.specs.Scopes.{Scope}
-use Rattle.pdb_functions.specs.Databases.{IsOneRun, place_of}
-use Rattle.pdb_functions.specs.FileAnswers.{FileAnswer, Nothing, Unreadable, NoFile, File}
-use Rattle.pdb_functions.specs.Frames.{Frame}
-use Rattle.pdb_functions.specs.FunctionOrder.{Function}
+use Rattle.pdb_owners.specs.Databases.{IsOneRun, place_of}
+use Rattle.pdb_owners.specs.FileAnswers.{FileAnswer, Nothing, Unreadable, NoFile, File}
+use Rattle.pdb_owners.specs.Frames.{Frame}
+use Rattle.pdb_owners.specs.FunctionOrder.{Function}
 use Rattle.pdb_known_modules.specs.KnownModules.{ModuleData, module_data, procedures_in}
 use Rattle.pdb_names.specs.Env.{Env}
 use Rattle.pdb_resolving.specs.Fault.{Fault}

@@ -19,10 +19,10 @@ use Rattle.pdb_frames.specs.FileRuns.{run_reported}
 use Rattle.pdb_frames.specs.FramesAt.{call_frame, found_frames, frames_at, frames_in_data}
 use Rattle.pdb_frames.specs.FramesAt.{frames_of_chosen, function_frame, row_and_calls}
 use Rattle.pdb_frames.specs.Scopes.{Scope}
-use Rattle.pdb_functions.specs.FileAnswers.{FileAnswer}
-use Rattle.pdb_functions.specs.Frames.{Frame}
-use Rattle.pdb_functions.specs.declared.file_key.FileKey.{FileKey}
-use Rattle.pdb_functions.specs.declared.file_key.FileKey.TheVariants as keys
+use Rattle.pdb_owners.specs.FileAnswers.{FileAnswer}
+use Rattle.pdb_owners.specs.Frames.{Frame}
+use Rattle.pdb_owners.specs.declared.file_key.FileKey.{FileKey}
+use Rattle.pdb_owners.specs.declared.file_key.FileKey.TheVariants as keys
 use Rattle.pdb_known_modules.specs.KnownModules.{ModuleData, ExtendedModule, extended_of, module_data}
 use Rattle.pdb_known_modules.specs.KnownModules.{extended_procedure_of, procedure_calls}
 use Rattle.pdb_known_modules.specs.KnownModules.{procedure_sites, procedures_in, sites_lifted}

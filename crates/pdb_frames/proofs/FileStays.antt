@@ -15,8 +15,8 @@ use Rattle.pdb_frames.specs.Files.{file_or_none, last_file, file_of, starts_read
 use Rattle.pdb_frames.specs.Files.{starts_in_extended, starts_if_chosen}
 use Rattle.pdb_frames.specs.FramesAt.{call_frame, function_frame, calls_in, row_and_calls}
 use Rattle.pdb_frames.specs.FramesAt.{frames_in_data, found_frames, frames_of_chosen}
-use Rattle.pdb_functions.specs.FileAnswers.{FileAnswer, Nothing, Unreadable, NoFile, File}
-use Rattle.pdb_functions.specs.Frames.{Frame}
+use Rattle.pdb_owners.specs.FileAnswers.{FileAnswer, Nothing, Unreadable, NoFile, File}
+use Rattle.pdb_owners.specs.Frames.{Frame}
 use Rattle.pdb_inlinees.specs.Inlinees.{InlinedFunction}
 use Rattle.pdb_known_modules.specs.KnownModules.{ModuleData, ExtendedModule, extended_of}
 use Rattle.pdb_known_modules.specs.KnownModules.{procedure_calls, sites_lifted}

@@ -27,9 +27,9 @@ use Rattle.pdb_frames.specs.Files.{file_of, last_file, starts_if_frames}
 use Rattle.pdb_frames.specs.FramesAt.{frames_at, frames_if_held, frames_of_chosen}
 use Rattle.pdb_frames.specs.Runs.{database_of, is_bound, procedures_of}
 use Rattle.pdb_frames.specs.Scopes.{Scope}
-use Rattle.pdb_functions.specs.Databases.{IsOneRun, place_of}
-use Rattle.pdb_functions.specs.FileAnswers.{FileAnswer, Nothing, Unreadable, NoFile}
-use Rattle.pdb_functions.specs.Frames.{Frame, FunctionFrames}
+use Rattle.pdb_owners.specs.Databases.{IsOneRun, place_of}
+use Rattle.pdb_owners.specs.FileAnswers.{FileAnswer, Nothing, Unreadable, NoFile}
+use Rattle.pdb_owners.specs.Frames.{Frame, FunctionFrames}
 use Rattle.pdb_known_modules.specs.KnownModules.{module_data, procedures_in}
 use Rattle.pdb_resolving.specs.Fault.{Fault}
 

@@ -20,7 +20,7 @@ use Rattle.pdb_module_data.proofs.ChainSteps as chains
 use Rattle.pdb_module_data.proofs.NestedSites.{forest_nested}
 use Rattle.pdb_resolving.specs.Fault.{Fault, lifted}
 use Rattle.pdb_names.specs.Env.{Env}
-use Rattle.pdb_functions.specs.Frames.{Frame, FunctionFrames}
+use Rattle.pdb_owners.specs.Frames.{Frame, FunctionFrames}
 use Rattle.pdb_known_modules.specs.KnownModules.{ModuleData, ExtendedModule, extended_of, module_data, procedure_calls, procedure_sites, procedures_in, sites_lifted}
 use Rattle.pdb_frames.specs.Choice.{Parts, Chosen, Proc, Public, chosen, held_at, place_of, start_address, start_of}
 use Rattle.pdb_frames.specs.ChosenNames.{name_of}

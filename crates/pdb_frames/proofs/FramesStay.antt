@@ -18,7 +18,7 @@ use Rattle.pdb_frames.specs.FrameRuns.{chosen_cuts, cuts_if_chosen, cuts_in_stre
 use Rattle.pdb_frames.specs.FrameRuns.{procedure_cuts}
 use Rattle.pdb_frames.specs.FramesAt.{call_frame, function_frame, row_and_calls}
 use Rattle.pdb_frames.specs.FramesAt.{frames_in_data, found_frames, frames_of_chosen}
-use Rattle.pdb_functions.specs.Frames.{Frame}
+use Rattle.pdb_owners.specs.Frames.{Frame}
 use Rattle.pdb_known_modules.specs.KnownModules.{ModuleData, ExtendedModule, extended_of}
 use Rattle.pdb_known_modules.specs.KnownModules.{extended_procedure_of}
 use Rattle.pdb_module_data.specs.Forest.{Site}

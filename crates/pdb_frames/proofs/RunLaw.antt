@@ -11,12 +11,12 @@ use Rattle.pdb_contributions.specs.declared.contribution.ModuleSectionContributi
 use Rattle.pdb_contributions.specs.MergedContributions.{holds, holder}
 use Rattle.pdb_contributions.specs.Publics.{PublicFunction, is_at_or_before, last_at_or_before, not_before, public_over}
 use Rattle.pdb_module_data.specs.Procedures.{Procedure, contains, later, over}
-use Rattle.pdb_functions.specs.FunctionOrder.{Function}
+use Rattle.pdb_owners.specs.FunctionOrder.{Function}
 use Rattle.pdb_frames.specs.Choice.{Parts, Chosen, chosen_of, chosen}
 use Rattle.pdb_frames.specs.Scopes.{Scope}
 use Rattle.pdb_frames.specs.FramesAt.{function_at, function_of}
 use Rattle.pdb_known_modules.specs.KnownModules.{module_data, procedures_in}
-use Rattle.pdb_functions.specs.Databases.{IsOneRun, place_of}
+use Rattle.pdb_owners.specs.Databases.{IsOneRun, place_of}
 use Rattle.pdb_known_modules.specs.SectionBounds.{if_there, contribution_bounds, procedure_bounds}
 use Rattle.pdb_frames.specs.NearBounds.{public_bounds, bounds_near}
 use Rattle.pdb_frames.specs.Runs.{procedures_of, is_bound, database_of}

@@ -11,8 +11,8 @@ use Rattle.pdb_contributions.specs.declared.contribution.ModuleSectionContributi
 }
 use Rattle.pdb_frames.specs.Files.{row_key}
 use Rattle.pdb_frames.specs.Scopes.{Scope}
-use Rattle.pdb_functions.specs.declared.file_key.FileKey.{FileKey}
-use Rattle.pdb_functions.specs.declared.file_key.FileKey.TheVariants as keys
+use Rattle.pdb_owners.specs.declared.file_key.FileKey.{FileKey}
+use Rattle.pdb_owners.specs.declared.file_key.FileKey.TheVariants as keys
 use Rattle.pdb_known_modules.specs.KnownModules.{ModuleData, extended_of, extended_procedure_of}
 use Rattle.pdb_known_modules.specs.KnownModules.{module_data, procedures_in}
 use Rattle.pdb_lines.specs.LinesSubsections.{Program}

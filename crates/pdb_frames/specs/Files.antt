@@ -16,11 +16,11 @@ use Rattle.pdb_contributions.specs.declared.contribution.ModuleSectionContributi
 use Rattle.pdb_frames.specs.FramesAt.{frames_if_held}
 use Rattle.pdb_frames.specs.Runs.{is_bound}
 use Rattle.pdb_frames.specs.Scopes.{Scope}
-use Rattle.pdb_functions.specs.Databases.{Database, Keyed}
-use Rattle.pdb_functions.specs.FileAnswers.{FileAnswer, Nothing, Unreadable, NoFile, File}
-use Rattle.pdb_functions.specs.Frames.{Frame, FunctionFrames}
-use Rattle.pdb_functions.specs.declared.file_key.FileKey.{FileKey}
-use Rattle.pdb_functions.specs.declared.file_key.FileKey.TheVariants as keys
+use Rattle.pdb_owners.specs.Databases.{Database, Keyed}
+use Rattle.pdb_owners.specs.FileAnswers.{FileAnswer, Nothing, Unreadable, NoFile, File}
+use Rattle.pdb_owners.specs.Frames.{Frame, FunctionFrames}
+use Rattle.pdb_owners.specs.declared.file_key.FileKey.{FileKey}
+use Rattle.pdb_owners.specs.declared.file_key.FileKey.TheVariants as keys
 use Rattle.pdb_known_modules.specs.KnownModules.{ModuleData, ExtendedModule, module_data}
 use Rattle.pdb_known_modules.specs.KnownModules.{procedures_in, extended_of}
 use Rattle.pdb_lines.specs.Checksums as checksums

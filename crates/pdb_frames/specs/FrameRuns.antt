@@ -16,8 +16,8 @@ use Rattle.pdb_contributions.specs.declared.contribution.ModuleSectionContributi
 use Rattle.pdb_frames.specs.FramesAt.{frames_at, frames_if_held}
 use Rattle.pdb_frames.specs.Runs.{is_bound}
 use Rattle.pdb_frames.specs.Scopes.{Scope}
-use Rattle.pdb_functions.specs.Databases.{Database}
-use Rattle.pdb_functions.specs.Frames.{FunctionFrames}
+use Rattle.pdb_owners.specs.Databases.{Database}
+use Rattle.pdb_owners.specs.Frames.{FunctionFrames}
 use Rattle.pdb_inlinees.specs.Inlinees.{InlinedFunction}
 use Rattle.pdb_known_modules.specs.KnownModules.{ModuleData, ExtendedModule, extended_of}
 use Rattle.pdb_known_modules.specs.KnownModules.{extended_procedure_of, module_data, procedures_in}

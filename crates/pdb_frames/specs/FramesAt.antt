@@ -18,11 +18,11 @@ use Rattle.pdb_resolving.specs.Fault.{Fault, lifted}
 use Rattle.pdb_names.specs.Env.{Env}
 use Rattle.pdb_names.specs.Ids.{id_text}
 use Rattle.pdb_names.specs.StoredNames.{if_made}
-use Rattle.pdb_functions.specs.Frames.{Frame, FunctionFrames}
-use Rattle.pdb_functions.specs.declared.frames.FrameRow.{FrameRow}
+use Rattle.pdb_owners.specs.Frames.{Frame, FunctionFrames}
+use Rattle.pdb_owners.specs.declared.frames.FrameRow.{FrameRow}
 use Rattle.pdb_addresses.specs.Addresses.{outer_of_place}
 use Rattle.pdb_module_data.specs.declared.inlined_calls.CodeSpan.{CodeSpan}
-use Rattle.pdb_functions.specs.FunctionOrder.{Function}
+use Rattle.pdb_owners.specs.FunctionOrder.{Function}
 use Rattle.pdb_known_modules.specs.KnownModules.{ModuleData, ExtendedModule, module_data}
 use Rattle.pdb_known_modules.specs.KnownModules.{procedures_in, extended_of, procedure_calls}
 use Rattle.pdb_frames.specs.Choice.{Parts, Chosen, Proc, Public, chosen, start_of, start_address}

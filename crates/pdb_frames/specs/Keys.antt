@@ -5,11 +5,11 @@ use Rattle.pdb_contributions.specs.Publics.{public_over}
 use Rattle.pdb_frames.specs.FramesAt.{function_of}
 use Rattle.pdb_frames.specs.Runs.{database_of}
 use Rattle.pdb_frames.specs.Scopes.{Scope}
-use Rattle.pdb_functions.specs.Databases.{Keyed}
-use Rattle.pdb_functions.specs.FunctionOrder.{Function}
-use Rattle.pdb_functions.specs.KeyOrder.{key_module}
-use Rattle.pdb_functions.specs.declared.function_key.FunctionKey.{FunctionKey}
-use Rattle.pdb_functions.specs.declared.function_key.FunctionKey.TheVariants as keys
+use Rattle.pdb_owners.specs.Databases.{Keyed}
+use Rattle.pdb_owners.specs.FunctionOrder.{Function}
+use Rattle.pdb_owners.specs.KeyOrder.{key_module}
+use Rattle.pdb_owners.specs.declared.function_key.FunctionKey.{FunctionKey}
+use Rattle.pdb_owners.specs.declared.function_key.FunctionKey.TheVariants as keys
 use Rattle.pdb_known_modules.specs.KnownModules.{module_data, procedures_in}
 use Rattle.pdb_module_data.specs.Procedures.{Procedure}
 

@@ -10,8 +10,8 @@ use Rattle.pdb_contributions.specs.declared.contribution.ModuleSectionContributi
 }
 use Rattle.pdb_contributions.specs.MergedContributions.{holder}
 use Rattle.pdb_module_data.specs.Procedures.{Procedure}
-use Rattle.pdb_functions.specs.Databases.{Database}
-use Rattle.pdb_functions.specs.FunctionOrder.{Function}
+use Rattle.pdb_owners.specs.Databases.{Database}
+use Rattle.pdb_owners.specs.FunctionOrder.{Function}
 use Rattle.pdb_frames.specs.Choice.{Parts, held_at}
 use Rattle.pdb_frames.specs.NearBounds.{bounds_near}
 use Rattle.pdb_frames.specs.FramesAt.{function_at}

@@ -6,7 +6,7 @@ ghost use Rattle.pdb_frames.specs.Choice as choice;
 ghost use Rattle.pdb_frames.specs.Files.{file_named as file_of_name, row_key as key_of_row};
 ghost use Rattle.pdb_frames.specs.FileRuns.{file_run_in as file_run_of_stream, file_run_of};
 ghost use Rattle.pdb_frames.specs.FileRuns.{rows_in, run_by_rows, run_if_read};
-ghost use Rattle.pdb_functions.specs.FileAnswers.{file_seen};
+ghost use Rattle.pdb_owners.specs.FileAnswers.{file_seen};
 ghost use Rattle.pdb_known_modules.specs.KnownModules.{extended_of};
 ghost use Rattle.pdb_known_modules.specs.Seen.{extended_seen};
 ghost use Rattle.pdb_module_data.specs.FunctionLine.{function_rows};
@@ -16,12 +16,12 @@ use crate::choice::Chosen;
 use crate::parts::ContextParts;
 use pdb_addresses::PdbInternalSectionOffset;
 use pdb_container::StringRef;
-use pdb_functions::{FileAnswer, FileKey};
 use pdb_known_modules::{
     BasicModuleInfo, ExtendedModuleInfo, read_extended, read_extended_procedure,
 };
 use pdb_lines::LineProgram;
 use pdb_module_data::{FunctionRows, LineRow, Procedure};
+use pdb_owners::{FileAnswer, FileKey};
 use pdb_resolving::{ModuleTables, Result};
 use std::alloc::{AllocError, Global};
 

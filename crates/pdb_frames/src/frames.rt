@@ -25,7 +25,6 @@ use crate::choice::{Chosen, rva_of};
 use crate::chosen_name::name_of;
 use crate::parts::ContextParts;
 use pdb_addresses::PdbInternalSectionOffset;
-use pdb_functions::{FrameRow, SharedFrame};
 use pdb_indices::FileIndex;
 use pdb_known_modules::{
     BasicModuleInfo, ExtendedModuleInfo, read_extended, read_extended_procedure,
@@ -34,6 +33,7 @@ use pdb_module_data::{
     CodeSpan, FunctionRows, InlineRanges, InlinedCall, LineRow, Procedure, file_name,
 };
 use pdb_names::Namer;
+use pdb_owners::{FrameRow, SharedFrame};
 use pdb_resolving::{ModuleProvider, ModuleTables, Result};
 use std::alloc::{AllocError, Global};
 use std::borrow::CowStr;

@@ -9,8 +9,8 @@ ghost use Rattle.pdb_frames.specs.FrameRuns.{frames_of_places};
 ghost use Rattle.pdb_frames.specs.FramesAt.{frames};
 ghost use Rattle.pdb_frames.specs.Runs.{database_of};
 ghost use Rattle.pdb_frames.specs.Scopes.{Scope};
-ghost use Rattle.pdb_functions.specs.Databases.{on};
-ghost use Rattle.pdb_functions.specs.Frames.{FunctionFrames};
+ghost use Rattle.pdb_owners.specs.Databases.{on};
+ghost use Rattle.pdb_owners.specs.Frames.{FunctionFrames};
 
 /// There is one frame more at an address than the deepest inline site over its place is deep: one
 /// alone where no site is over it, in a public entry, and in a module without data.

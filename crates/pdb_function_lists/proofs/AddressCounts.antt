@@ -4,10 +4,10 @@ use Rattle.std.specs.Prelude.{Option, None, Some, option_and_then, option_map, i
 use Rattle.pdb_addresses.specs.Addresses.{Map, inner, inner_place}
 use Rattle.pdb_addresses.specs.Places.{Place}
 use Rattle.pdb_addresses.specs.SectionRun.{place_on}
-use Rattle.pdb_functions.specs.Counts.{answer_along, counted_at, is_last}
-use Rattle.pdb_functions.specs.Databases.{Database, Keyed}
-use Rattle.pdb_functions.specs.Table.{IsCounted}
-use Rattle.pdb_functions.proofs.CountLemmas.{counted_along, counted_none}
+use Rattle.pdb_owners.specs.Counts.{answer_along, counted_at, is_last}
+use Rattle.pdb_owners.specs.Databases.{Database, Keyed}
+use Rattle.pdb_owners.specs.Table.{IsCounted}
+use Rattle.pdb_owners.proofs.CountLemmas.{counted_along, counted_none}
 use Rattle.pdb_function_lists.proofs.PlaceLemmas.{range_counted}
 use Rattle.pdb_function_lists.specs.Runs.{counted_place}
 

@@ -10,9 +10,9 @@ use Rattle.pdb_frames.specs.Choice.{Parts, held_at, place_of as place_at}
 use Rattle.pdb_frames.specs.FrameRuns.{frames_here, frames_of_places, if_answered, readable}
 use Rattle.pdb_frames.specs.FramesAt.{frames, frames_if_held}
 use Rattle.pdb_frames.specs.Scopes.{Scope}
-use Rattle.pdb_functions.specs.Counts.{is_last}
-use Rattle.pdb_functions.specs.Databases.{IsOneRun, on, place_of}
-use Rattle.pdb_functions.specs.Frames.{FunctionFrames}
+use Rattle.pdb_owners.specs.Counts.{is_last}
+use Rattle.pdb_owners.specs.Databases.{IsOneRun, on, place_of}
+use Rattle.pdb_owners.specs.Frames.{FunctionFrames}
 use Rattle.pdb_resolving.specs.Fault.{Fault}
 use Rattle.pdb_resolving.specs.Resolving.{Provided}
 use Rattle.pdb_function_lists.specs.Runs.{Line, counted_line, counted_place, line_in, line_seen}

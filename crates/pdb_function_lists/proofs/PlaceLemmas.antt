@@ -9,10 +9,10 @@ use Rattle.pdb_addresses.specs.declared.sections.ImageSectionHeader.{ImageSectio
 use Rattle.pdb_addresses.specs.Places.{Place, internal_place}
 use Rattle.pdb_addresses.specs.SectionRun.{nearer, up_to_next, place_on}
 use Rattle.pdb_addresses.specs.Sections.{place_in, place_from, place}
-use Rattle.pdb_functions.specs.Counts.{answer_at, answer_along, begins, begins_along, is_section_bound, is_bound_in}
-use Rattle.pdb_functions.specs.Databases.{Database, IsOneRun, Keyed, on, place_of}
-use Rattle.pdb_functions.specs.Table.{IsAdded, IsCounted, IsWithin}
-use Rattle.pdb_functions.proofs.CountLemmas.{counted_start, counted_more, counted_run, counted_none, counted_along, within_one, within_more, within_along}
+use Rattle.pdb_owners.specs.Counts.{answer_at, answer_along, begins, begins_along, is_section_bound, is_bound_in}
+use Rattle.pdb_owners.specs.Databases.{Database, IsOneRun, Keyed, on, place_of}
+use Rattle.pdb_owners.specs.Table.{IsAdded, IsCounted, IsWithin}
+use Rattle.pdb_owners.proofs.CountLemmas.{counted_start, counted_more, counted_run, counted_none, counted_along, within_one, within_more, within_along}
 
 pub places_counted : {K A : Type 0} (kd now : Keyed K A) (p : Place) (d limit n : ℕ) (key : Option K) (t u w : List (K × ℕ)) → now ≡ kd → IsOneRun now.places (on p d) limit n
     → option_and_then now.answer_of key ≡ (now.places).answer (on p d) → IsAdded u key n w

@@ -9,8 +9,8 @@ use Rattle.pdb_addresses.specs.SectionRun.{place_on, up_to_next}
 use Rattle.pdb_addresses.specs.Sections.{place}
 use Rattle.pdb_addresses.specs.declared.internal_rva.PdbInternalRva.{PdbInternalRva}
 use Rattle.pdb_addresses.specs.declared.internal_section_offset.PdbInternalSectionOffset.{PdbInternalSectionOffset}
-use Rattle.pdb_functions.specs.Counts.{is_last}
-use Rattle.pdb_functions.specs.Databases.{place_of}
+use Rattle.pdb_owners.specs.Counts.{is_last}
+use Rattle.pdb_owners.specs.Databases.{place_of}
 use Rattle.pdb_function_lists.proofs.PlaceLemmas.{offset_below, up_to_next-le}
 use Rattle.pdb_function_lists.specs.Runs.{counted_place}
 

@@ -4,10 +4,10 @@ use Rattle.std.specs.Prelude.{Option, Result, Ok, Err, IfOk, if◌then◌else◌
 use Rattle.std.specs.Map.{values_of}
 use Rattle.std.proofs.lemmas.List.Sums.{sum_by-cons}
 use Rattle.pdb_addresses.specs.Addresses.{Map}
-use Rattle.pdb_functions.specs.Answers.{picked}
-use Rattle.pdb_functions.specs.Counts.{counted_at, how_many}
-use Rattle.pdb_functions.specs.Databases.{Keyed}
-use Rattle.pdb_functions.specs.Table.{IsCounted, sum_found, sum_of}
+use Rattle.pdb_owners.specs.Answers.{picked}
+use Rattle.pdb_owners.specs.Counts.{counted_at, how_many}
+use Rattle.pdb_owners.specs.Databases.{Keyed}
+use Rattle.pdb_owners.specs.Table.{IsCounted, sum_found, sum_of}
 
 -- one entry more was added
 pub entry_added : {K A : Type 0} (kd now : Keyed K A) (test : A → Bool) (key : K) (bytes : ℕ) (rest left : List (K × ℕ)) (old new all : ℕ)

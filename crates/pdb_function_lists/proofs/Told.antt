@@ -3,7 +3,7 @@ use Rattle.std.proofs.Common.{◌≡◌, refl}
 use Rattle.std.specs.Prelude.{Option, None, Some, Result, Ok, Err}
 use Rattle.pdb_frames.specs.FailingParts.{Failures, told}
 use Rattle.pdb_frames.specs.Failing.{Part}
-use Rattle.pdb_functions.specs.Frames.{FunctionFrames}
+use Rattle.pdb_owners.specs.Frames.{FunctionFrames}
 use Rattle.pdb_resolving.specs.Fault.{Fault}
 use Rattle.pdb_function_lists.specs.Functions.{own_frame}
 

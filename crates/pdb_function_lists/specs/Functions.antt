@@ -4,12 +4,12 @@ use Rattle.std.specs.Prelude.{Option, None, Some, Result, Ok, Err, slice_get, st
 use Rattle.pdb_addr2line.specs.Context.{Context, scope_in}
 use Rattle.pdb_frames.specs.Files.{files_keyed}
 use Rattle.pdb_frames.specs.Keys.{keyed_of}
-use Rattle.pdb_functions.specs.Databases.{Keyed}
-use Rattle.pdb_functions.specs.FileAnswers.{FileAnswer}
-use Rattle.pdb_functions.specs.Frames.{Frame, FunctionFrames}
-use Rattle.pdb_functions.specs.FunctionOrder.{Function}
-use Rattle.pdb_functions.specs.declared.file_key.FileKey.{FileKey}
-use Rattle.pdb_functions.specs.declared.function_key.FunctionKey.{FunctionKey}
+use Rattle.pdb_owners.specs.Databases.{Keyed}
+use Rattle.pdb_owners.specs.FileAnswers.{FileAnswer}
+use Rattle.pdb_owners.specs.Frames.{Frame, FunctionFrames}
+use Rattle.pdb_owners.specs.FunctionOrder.{Function}
+use Rattle.pdb_owners.specs.declared.file_key.FileKey.{FileKey}
+use Rattle.pdb_owners.specs.declared.function_key.FunctionKey.{FunctionKey}
 use Rattle.pdb_frames.specs.FramesAt.{frames}
 use Rattle.pdb_frames.specs.Scopes.{entries_of}
 use Rattle.pdb_addr2line.specs.FunctionList.{AreFunctions}

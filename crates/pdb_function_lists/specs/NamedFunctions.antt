@@ -1,6 +1,6 @@
 -- Functions that have a name.
 use Rattle.std.specs.Prelude.{◌≡◌, ℕ, Bool, true, false, List, [], ◌∷◌, Option, None, Some}
-use Rattle.pdb_functions.specs.FunctionOrder.{Function}
+use Rattle.pdb_owners.specs.FunctionOrder.{Function}
 use Rattle.pdb_listings.specs.Names.{IsCalled, is_decorated}
 use Rattle.pdb_function_lists.specs.declared.functions.FunctionRow.{FunctionRow}
 

@@ -6,8 +6,8 @@ use Rattle.pdb_addresses.specs.Places.{Place}
 use Rattle.pdb_addr2line.specs.Context.{Context, scope_in}
 use Rattle.pdb_frames.specs.FrameRuns.{readable}
 use Rattle.pdb_frames.specs.FramesAt.{frames}
-use Rattle.pdb_functions.specs.Counts.{is_last}
-use Rattle.pdb_functions.specs.Frames.{Frame, FunctionFrames}
+use Rattle.pdb_owners.specs.Counts.{is_last}
+use Rattle.pdb_owners.specs.Frames.{Frame, FunctionFrames}
 use Rattle.pdb_resolving.specs.Resolving.{Provided}
 use Rattle.pdb_function_lists.specs.declared.line_runs.Line.{Line as LineFound}
 

@@ -3,18 +3,18 @@
 ghost use Rattle.std.specs.Prelude.{◌≡◌, ◌+◌, ◌-◌, ◌^◌, ◌<◌, ◌≤◌, [], Some, IfSome, IfOk, OnOk};
 ghost use Rattle.std.specs.Prelude.{option_map};
 ghost use Rattle.pdb_addresses.specs.Addresses.{IsOrdered};
-ghost use Rattle.pdb_functions.specs.Counts.{answer_along, counted_at};
-ghost use Rattle.pdb_functions.specs.Databases.{place_of};
-ghost use Rattle.pdb_functions.specs.Table.{IsAdded, IsCounted, sum_of};
+ghost use Rattle.pdb_owners.specs.Counts.{answer_along, counted_at};
+ghost use Rattle.pdb_owners.specs.Databases.{place_of};
+ghost use Rattle.pdb_owners.specs.Table.{IsAdded, IsCounted, sum_of};
 
 use crate::places::place_run;
 use pdb_addresses::{AddressMap, PdbInternalSectionOffset};
-use pdb_functions::{Answer, Runs};
 use pdb_listings::ByteCounts;
+use pdb_owners::{Countable, Runs};
 use std::alloc::{AllocError, Global};
 
 /// Adds to the count of a key, if there is one.
-pub(crate) fn add_key<K: Answer>(
+pub(crate) fn add_key<K: Countable>(
     keys: &mut ByteCounts<K>,
     key: Option<K>,
     count: u64,

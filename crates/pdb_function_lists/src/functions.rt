@@ -4,8 +4,8 @@ ghost use Rattle.std.specs.Prelude.{◌≡◌, List, IfOk, Ok, Option, map, opti
 ghost use Rattle.std.specs.Prelude.{Result as Answer};
 ghost use Rattle.pdb_addr2line.specs.Context.{lasting, scope_in};
 ghost use Rattle.pdb_frames.specs.FramesAt.{frames};
-ghost use Rattle.pdb_functions.specs.Frames.{FunctionFrames as FramesFound};
-ghost use Rattle.pdb_functions.specs.FunctionOrder.{Function as FunctionValue};
+ghost use Rattle.pdb_owners.specs.Frames.{FunctionFrames as FramesFound};
+ghost use Rattle.pdb_owners.specs.FunctionOrder.{Function as FunctionValue};
 ghost use Rattle.pdb_function_lists.specs.Functions.{AreListed, own_frame, row_by, row_in};
 ghost use Rattle.pdb_function_lists.specs.Functions.{row_seen};
 ghost use Rattle.pdb_resolving.specs.Fault.{Answers, Fault};

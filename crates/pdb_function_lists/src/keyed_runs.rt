@@ -4,7 +4,7 @@ ghost use Rattle.std.specs.Prelude.{◌≡◌};
 
 use pdb_addr2line::{Context, Function};
 use pdb_addresses::PdbInternalSectionOffset;
-use pdb_functions::{CountedFile, FileKey, FunctionKey, Runs};
+use pdb_owners::{CountedFile, FileKey, FunctionKey, Runs};
 use pdb_resolving::ModuleProvider;
 use std::alloc::{AllocError, Global};
 

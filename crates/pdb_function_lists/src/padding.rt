@@ -1,15 +1,15 @@
 //! Bytes by function, where padding counts for the function before it.
 
 ghost use Rattle.std.specs.Prelude.{◌+◌, ◌^◌, ◌<◌, ◌≤◌, IsTrue, OnOk};
-ghost use Rattle.pdb_functions.specs.Table.{sum_of};
+ghost use Rattle.pdb_owners.specs.Table.{sum_of};
 
 use crate::counting::add_key;
 use crate::keyed_runs::FunctionRuns;
 use crate::sizes::name_functions;
 use pdb_addr2line::Context;
 use pdb_addresses::PdbInternalSectionOffset;
-use pdb_functions::FunctionKey;
 use pdb_listings::{ByteCounts, Named};
+use pdb_owners::FunctionKey;
 use pdb_resolving::ModuleProvider;
 use pdb_symbols_modules::DBISectionContribution;
 use std::alloc::{AllocError, Global};

@@ -4,7 +4,7 @@ ghost use Rattle.std.specs.Prelude.{◌≡◌, ℕ, ◌+◌, ◌-◌, ◌^◌, �
 ghost use Rattle.std.specs.Prelude.{option_map};
 ghost use Rattle.pdb_addresses.specs.Addresses.{IsOrdered, inner};
 ghost use Rattle.pdb_addresses.specs.SectionRun.{place_on};
-ghost use Rattle.pdb_functions.specs.Databases.{place_of};
+ghost use Rattle.pdb_owners.specs.Databases.{place_of};
 ghost use Rattle.pdb_function_lists.specs.Runs.{counted_place};
 
 use pdb_addresses::{AddressMap, PdbInternalRva, PdbInternalSectionOffset, Rva};

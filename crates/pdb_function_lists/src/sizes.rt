@@ -3,12 +3,12 @@
 ghost use Rattle.std.specs.Prelude.{◌≡◌, ℕ, ◌-◌, ◌^◌, ◌<◌, ◌≤◌, Bool, true, false, List, IfOk, OnOk};
 ghost use Rattle.std.specs.Prelude.{◌+◌, if◌then◌else◌};
 ghost use Rattle.pdb_addresses.specs.Addresses.{IsOrdered};
-ghost use Rattle.pdb_functions.specs.Answers.{picked};
-ghost use Rattle.pdb_functions.specs.Counts.{counted_at, how_many};
-ghost use Rattle.pdb_functions.specs.FileAnswers.{FileAnswer as FileValue};
-ghost use Rattle.pdb_functions.specs.FunctionOrder.{Function as FunctionValue};
-ghost use Rattle.pdb_functions.specs.Table.{sum_found, sum_of, sum_where};
-ghost use Rattle.pdb_functions.specs.Texts.{text_or};
+ghost use Rattle.pdb_owners.specs.Answers.{picked};
+ghost use Rattle.pdb_owners.specs.Counts.{counted_at, how_many};
+ghost use Rattle.pdb_owners.specs.FileAnswers.{FileAnswer as FileValue};
+ghost use Rattle.pdb_owners.specs.FunctionOrder.{Function as FunctionValue};
+ghost use Rattle.pdb_owners.specs.Table.{sum_found, sum_of, sum_where};
+ghost use Rattle.pdb_owners.specs.Texts.{text_or};
 ghost use Rattle.pdb_function_lists.specs.Functions.{files_by_key, functions_keyed};
 ghost use Rattle.pdb_listings.specs.Sizes.{file_name as name_of_file};
 
@@ -16,8 +16,8 @@ use crate::counting::count_keys;
 use crate::keyed_runs::{FileRuns, FunctionRuns};
 use pdb_addr2line::Context;
 use pdb_addresses::AddressMap;
-use pdb_functions::{FileKey, FunctionKey, Runs};
 use pdb_listings::{ByteCounts, Named, add_bytes, file_name, function_name};
+use pdb_owners::{FileKey, FunctionKey, Runs};
 use pdb_resolving::ModuleProvider;
 use std::alloc::{AllocError, Global};
 

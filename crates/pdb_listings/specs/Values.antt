@@ -3,7 +3,7 @@ use Rattle.std.specs.Prelude.{ℕ, Bool, true, false, ◌-◌, ◌/◌, ◌%◌,
 use Rattle.std.specs.Prelude.{◌∷◌, codes, length, string_bytes, if◌then◌else◌}
 use Rattle.std.specs.Fmt.{decimal}
 use Rattle.std.specs.List.{flat_map, list_any, repeat}
-use Rattle.pdb_functions.specs.Texts.{eight_digits}
+use Rattle.pdb_owners.specs.Texts.{eight_digits}
 use Rattle.pdb_listings.specs.Json.{string_text}
 use Rattle.pdb_listings.specs.declared.value.Field.{Field}
 use Rattle.pdb_listings.specs.declared.value.Value.{Value}

@@ -1,13 +1,13 @@
 //! Names by which functions and source files are counted.
 
 ghost use Rattle.std.specs.Prelude.{◌≡◌, false, IfOk, string_bytes};
-ghost use Rattle.pdb_functions.specs.FileAnswers.{FileAnswer as FileValue};
-ghost use Rattle.pdb_functions.specs.Texts.{text_or};
+ghost use Rattle.pdb_owners.specs.FileAnswers.{FileAnswer as FileValue};
+ghost use Rattle.pdb_owners.specs.Texts.{text_or};
 ghost use Rattle.pdb_listings.specs.Sizes.{file_name as name_of_file};
 
 use crate::names::listed_name;
 use crate::sizes::folder_of;
-use pdb_functions::{CountedFile, FileAnswer, Function};
+use pdb_owners::{CountedFile, FileAnswer, Function};
 use std::alloc::{AllocError, Global};
 
 /// The name of a function as it is counted; `??` where it has none.

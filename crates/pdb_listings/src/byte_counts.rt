@@ -1,23 +1,23 @@
 //! Tables of answers with their bytes.
 
 ghost use Rattle.std.specs.Prelude.{◌≡◌, ◌+◌, ◌^◌, ◌<◌, ◌≤◌, [], Some, OnOk, OnErr};
-ghost use Rattle.pdb_functions.specs.Table.{IsTable, IsAdded, sum_of};
+ghost use Rattle.pdb_owners.specs.Table.{IsTable, IsAdded, sum_of};
 
-use pdb_functions::Answer;
+use pdb_owners::Countable;
 use std::alloc::{AllocError, Global};
 use std::collections::BTreeMap;
 use std::marker::Model;
 
 /// Answers in their order, each with how many bytes it has.
 #[derive(Drop)]
-pub struct ByteCounts<A: Answer> {
+pub struct ByteCounts<A: Countable> {
     by_answer: BTreeMap<A, u64>,
     total: u64,
 }
 
-impl<A: Answer> Model for ByteCounts<A> {
+impl<A: Countable> Model for ByteCounts<A> {
     ghost use Rattle.std.specs.Prelude.{◌≡◌, ℕ, List};
-    ghost use Rattle.pdb_functions.specs.Table.{IsTable, sum_of};
+    ghost use Rattle.pdb_owners.specs.Table.{IsTable, sum_of};
 
     ghost Value = { List (A × ℕ) };
 
@@ -27,7 +27,7 @@ impl<A: Answer> Model for ByteCounts<A> {
         ≡ t.total) };
 }
 
-impl<A: Answer> ByteCounts<A> {
+impl<A: Countable> ByteCounts<A> {
     /// A table without answers.
     pub fn new(alloc: Global) -> ByteCounts<A>
         ensures { result ≡ [] }
@@ -69,7 +69,11 @@ impl<A: Answer> ByteCounts<A> {
 }
 
 /// Adds to the bytes of an answer.
-fn raise<A: Answer>(numbers: &mut BTreeMap<A, u64>, answer: A, count: u64) -> Result<(), AllocError>
+fn raise<A: Countable>(
+    numbers: &mut BTreeMap<A, u64>,
+    answer: A,
+    count: u64,
+) -> Result<(), AllocError>
     requires some { 1 ≤ count }
     requires room { sum_of numbers.old.entries + count < 2 ^ 64 }
     requires table { IsTable A.cmp numbers.old.entries }

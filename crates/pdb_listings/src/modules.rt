@@ -4,15 +4,15 @@ ghost use Rattle.std.specs.Prelude.{◌≡◌, ◌+◌, ◌^◌, ◌<◌, ◌≤
 ghost use Rattle.std.specs.Cmp.{eq_by_cmp_equiv, partial_equiv_from_equiv};
 ghost use Rattle.std.specs.Cmp.{partial_order_from_total};
 ghost use Rattle.std.specs.List.{sum_by};
-ghost use Rattle.pdb_functions.specs.Answers.{is_same};
-ghost use Rattle.pdb_functions.specs.Table.{sum_of, sum_where};
+ghost use Rattle.pdb_owners.specs.Answers.{is_same};
+ghost use Rattle.pdb_owners.specs.Table.{sum_of, sum_where};
 ghost use Rattle.pdb_listings.specs.Contributed.{contributed, module_part as module_part_of};
 ghost use Rattle.pdb_listings.specs.Contributed.{part_by, part_cmp, part_exact, part_number};
 ghost use Rattle.pdb_listings.specs.Contributed.{part_total};
 
 use crate::byte_counts::ByteCounts;
 use pdb_addresses::SectionCharacteristics;
-use pdb_functions::Answer;
+use pdb_owners::Countable;
 use pdb_symbols_modules::DBISectionContribution;
 use std::alloc::{AllocError, Global};
 use std::cmp::Ordering;
@@ -96,7 +96,7 @@ impl Ord for ModulePart {
 }
 
 /// Two that compare as equal are one.
-impl Answer for ModulePart {
+impl Countable for ModulePart {
     ghost exact = { part_exact };
 }
 

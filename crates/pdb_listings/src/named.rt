@@ -5,10 +5,10 @@ ghost use Rattle.std.specs.Cmp.{eq_by_cmp_equiv, partial_equiv_from_equiv};
 ghost use Rattle.std.specs.Cmp.{partial_order_from_total};
 ghost use Rattle.std.specs.Cmp.Lexicographic.{slice_cmp, nat_list_cmp_total};
 ghost use Rattle.std.specs.Ordering.{nat_cmp};
-ghost use Rattle.pdb_functions.specs.Answers.{is_same};
+ghost use Rattle.pdb_owners.specs.Answers.{is_same};
 ghost use Rattle.pdb_listings.specs.Sizes.{name_exact};
 
-use pdb_functions::Answer;
+use pdb_owners::Countable;
 use std::cmp::Ordering;
 use std::marker::Model;
 
@@ -69,6 +69,6 @@ impl Ord for Named {
 }
 
 /// Two that compare as equal are one.
-impl Answer for Named {
+impl Countable for Named {
     ghost exact = { name_exact };
 }

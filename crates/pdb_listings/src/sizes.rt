@@ -3,7 +3,7 @@
 ghost use Rattle.std.specs.Prelude.{◌≡◌, ℕ, ◌+◌, ◌-◌, ◌^◌, ◌<◌, Bool, List, IfOk, OnOk, map, min};
 ghost use Rattle.std.specs.Prelude.{if◌then◌else◌};
 ghost use Rattle.std.specs.List.Sorted.{IsNonDecreasingBy, IsPermutation};
-ghost use Rattle.pdb_functions.specs.Table.{sum_of, sum_where};
+ghost use Rattle.pdb_owners.specs.Table.{sum_of, sum_where};
 ghost use Rattle.pdb_listings.specs.Sizes.{bytes_of, lack_of, size_seen};
 
 use crate::byte_counts::ByteCounts;

@@ -9,7 +9,7 @@ use crate::undecorated::undecorated;
 use pdb_addr2line::Function;
 use pdb_addr2line::pdb::{MachineType, PdbInternalSectionOffset};
 use pdb_databases::{FileContext, Held};
-use pdb_functions::FunctionKey;
+use pdb_owners::FunctionKey;
 use std::alloc::{AllocError, Global};
 
 /// The number of 32-bit x86 among machines.

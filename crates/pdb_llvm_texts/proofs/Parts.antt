@@ -1,7 +1,7 @@
 -- The inlined calls of frames, and the function's own, by where the list is split.
 use Rattle.std.proofs.Common.{◌≡◌, ℕ, ◌+◌, ◌-◌, List, [], ◌∷◌, ◌++◌, length, take, drop, map, sym, ap, ◌∙◌, arith, refl, append_assoc}
 use Rattle.std.proofs.Math.Seq.{take-append_seam, drop-append_seam}
-use Rattle.pdb_functions.specs.Frames.{Frame}
+use Rattle.pdb_owners.specs.Frames.{Frame}
 use Rattle.pdb_llvm_texts.specs.Reported.{calls_of, own_of}
 
 -- the calls are what stands before the last frame, and the last is the function's own

@@ -4,7 +4,7 @@ use Rattle.std.specs.Prelude.{◌++◌, length}
 use Rattle.std.specs.Prelude.{Option, None, Some, codes}
 use Rattle.std.specs.List.{flat_map}
 use Rattle.std.specs.Fmt.{decimal, digits}
-use Rattle.pdb_functions.specs.Texts.{text_or}
+use Rattle.pdb_owners.specs.Texts.{text_or}
 use Rattle.pdb_llvm_texts.specs.ReportedFrames.{ReportedFrame}
 use Rattle.pdb_llvm_texts.specs.declared.options.Style.{Style}
 use Rattle.pdb_llvm_texts.specs.declared.options.Style.TheVariants as styles

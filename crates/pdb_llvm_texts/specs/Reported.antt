@@ -2,8 +2,8 @@
 use Rattle.std.specs.Prelude.{ℕ, Bool, true, ◌+◌, ◌-◌, ◌==◌, nat_lt, nat_le, ◌&&◌, ◌||◌}
 use Rattle.std.specs.Prelude.{if◌then◌else◌, List, [], ◌∷◌, ◌++◌, length, take, drop, map}
 use Rattle.std.specs.Prelude.{Option, None, Some, option_map, unwrap_or}
-use Rattle.pdb_functions.specs.Frames.{Frame, FunctionFrames}
-use Rattle.pdb_functions.specs.declared.frames.FrameRow.{FrameRow}
+use Rattle.pdb_owners.specs.Frames.{Frame, FunctionFrames}
+use Rattle.pdb_owners.specs.declared.frames.FrameRow.{FrameRow}
 use Rattle.pdb_llvm_texts.specs.ReportedFrames.{ReportedFrame}
 use Rattle.pdb_llvm_texts.specs.declared.reported.Asked.{Asked}
 use Rattle.pdb_llvm_texts.specs.declared.reported.Asked.TheVariants as asked

@@ -8,7 +8,7 @@ ghost use Rattle.pdb_llvm_texts.specs.Plain.{address_text, caller_text, column_t
 ghost use Rattle.pdb_llvm_texts.specs.Plain.{frame_text, frames_text, header_text, name_text};
 ghost use Rattle.pdb_llvm_texts.specs.Plain.{number_line};
 ghost use Rattle.pdb_llvm_texts.specs.Plain.{name_or_unknown as name_or, place_text, verbose_text};
-ghost use Rattle.pdb_functions.specs.Texts.{text_or};
+ghost use Rattle.pdb_owners.specs.Texts.{text_or};
 
 use crate::options::{Style, TextOptions};
 use crate::reported::ReportedFrame;

@@ -10,7 +10,7 @@ ghost use Rattle.pdb_llvm_texts.specs.Reported.{calls_asked, function_alone as a
 ghost use Rattle.pdb_llvm_texts.specs.Reported.{named, reported_found};
 ghost use Rattle.pdb_llvm_texts.specs.Reported.{reported, reported as reported_as, reported_frames};
 
-use pdb_functions::{FrameRow, SharedFrame, SharedFunctionFrames};
+use pdb_owners::{FrameRow, SharedFrame, SharedFunctionFrames};
 use std::alloc::{AllocError, Global};
 use std::borrow::CowStr;
 use std::marker::Model;

@@ -6,7 +6,7 @@ use Rattle.pdb_loading.specs.ModuleInfos.{KeptInfo}
 use Rattle.pdb_databases.specs.Answer.{AnswersNamed, AnswersWith, answer_named, answer_with, answered_in}
 use Rattle.pdb_databases.specs.FileAnswers.{FileAnswers, IsContextOf, IsKnown, IsUnasked}
 use Rattle.pdb_databases.specs.FileFrames.{FindsHeldFrames}
-use Rattle.pdb_functions.specs.Frames.{FunctionFrames}
+use Rattle.pdb_owners.specs.Frames.{FunctionFrames}
 use Rattle.pdb_resolving.specs.declared.error.Error.{Error}
 use Rattle.pdb_symbols_modules.specs.Streams.{streams}
 

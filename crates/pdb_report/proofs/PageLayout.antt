@@ -8,14 +8,14 @@ use Rattle.pdb_frames.specs.Files.{files_of}
 use Rattle.pdb_frames.specs.FramesAt.{frames, function}
 use Rattle.pdb_frames.specs.Runs.{database_of}
 use Rattle.pdb_container.specs.Alike.{OpenAlike, ReadAlike}
-use Rattle.pdb_functions.specs.Databases.{Database}
-use Rattle.pdb_functions.specs.FileReport.{IsFileReport}
+use Rattle.pdb_owners.specs.Databases.{Database}
+use Rattle.pdb_owners.specs.FileReport.{IsFileReport}
 use Rattle.pdb_report.specs.Answer.{scope, answer_with, answer_by, function_with, function_by, database_with, database_by, files_with, files_by, answer_named, function_named, database_named, files_named}
 use Rattle.pdb_report.specs.Answer.{listing_with, listing_by, map_with, map_by, listing_named}
 use Rattle.pdb_loading.specs.Loading.{Loaded, loaded_with, LoadingFault}
 use Rattle.pdb_report.specs.SameReports.{HaveSameReports, HaveSameReportsWith}
 use Rattle.pdb_report.specs.SizesReport.{IsReportOn}
-use Rattle.pdb_functions.specs.Report.{IsReport}
+use Rattle.pdb_owners.specs.Report.{IsReport}
 use Rattle.pdb_symbols_modules.specs.Shared.{shared}
 use Rattle.pdb_symbols_modules.specs.Streams.{Streams, streams, fault_in}
 use Rattle.pdb_report.proofs.IsolationLaw.{scope_alike}

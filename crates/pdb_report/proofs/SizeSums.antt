@@ -7,14 +7,14 @@ use Rattle.pdb_addresses.specs.Addresses.{Map}
 use Rattle.pdb_addresses.specs.Places.{Place}
 use Rattle.pdb_loading.specs.declared.order.ContributionOrder.{ContributionOrder}
 use Rattle.pdb_frames.proofs.FileRunLaw.{functions_have_files}
-use Rattle.pdb_functions.specs.Answers.{is_answer}
-use Rattle.pdb_functions.specs.Counts.{counted_at, count, count_of_none}
-use Rattle.pdb_functions.specs.Databases.{Database}
-use Rattle.pdb_functions.specs.FileAnswers.{FileAnswer, file_cmp}
-use Rattle.pdb_functions.specs.FileReport.{IsFileReport}
-use Rattle.pdb_functions.specs.Table.{count_in}
-use Rattle.pdb_functions.specs.Texts.{by_file_text}
-use Rattle.pdb_functions.proofs.HowMany.{how_many-split}
+use Rattle.pdb_owners.specs.Answers.{is_answer}
+use Rattle.pdb_owners.specs.Counts.{counted_at, count, count_of_none}
+use Rattle.pdb_owners.specs.Databases.{Database}
+use Rattle.pdb_owners.specs.FileAnswers.{FileAnswer, file_cmp}
+use Rattle.pdb_owners.specs.FileReport.{IsFileReport}
+use Rattle.pdb_owners.specs.Table.{count_in}
+use Rattle.pdb_owners.specs.Texts.{by_file_text}
+use Rattle.pdb_owners.proofs.HowMany.{how_many-split}
 use Rattle.pdb_symbols_modules.specs.Shared.{shared}
 use Rattle.pdb_symbols_modules.specs.Streams.{Streams}
 use Rattle.pdb_report.specs.Answer.{map_with, database_with, database_by, files_with, files_by, scope, database_named, files_named}

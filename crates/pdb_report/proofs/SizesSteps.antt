@@ -5,8 +5,8 @@ use Rattle.std.proofs.Common.{Global, String}
 use Rattle.std.specs.Prelude.{OnOk, OnErr, IfOk, string_bytes}
 use Rattle.pdb_addresses.specs.Addresses.{Map}
 use Rattle.pdb_loading.specs.declared.order.ContributionOrder.{ContributionOrder}
-use Rattle.pdb_functions.specs.Counts.{pieces}
-use Rattle.pdb_functions.specs.Databases.{Database}
+use Rattle.pdb_owners.specs.Counts.{pieces}
+use Rattle.pdb_owners.specs.Databases.{Database}
 use Rattle.pdb_symbols_modules.specs.Streams.{Streams}
 use Rattle.pdb_report.specs.declared.sizes.Tally.{Tally}
 use Rattle.pdb_report.specs.Answer.{map_with}

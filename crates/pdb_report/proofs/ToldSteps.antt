@@ -3,7 +3,7 @@ use Rattle.std.proofs.Common.{◌≡◌, ◌∙◌, ℕ, List, Result, Ok, Err, 
 use Rattle.std.specs.Prelude.{Option, None, IsErr}
 use Rattle.pdb_engine.specs.Address.{address_of}
 use Rattle.pdb_resolving.specs.Fault.{Fault}
-use Rattle.pdb_functions.specs.Frames.{FunctionFrames}
+use Rattle.pdb_owners.specs.Frames.{FunctionFrames}
 use Rattle.pdb_report_texts.specs.AddressText.{Answers, answer_text, line_text, text_at}
 
 -- what was found is written

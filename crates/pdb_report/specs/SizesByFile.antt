@@ -2,7 +2,7 @@
 use Rattle.std.specs.Prelude.{ℕ, List}
 use Rattle.pdb_loading.specs.declared.order.ContributionOrder.{ContributionOrder}
 use Rattle.pdb_loading.specs.declared.order.ContributionOrder.TheVariants.{InOrder}
-use Rattle.pdb_functions.specs.FileReport.{IsFileReport}
+use Rattle.pdb_owners.specs.FileReport.{IsFileReport}
 use Rattle.pdb_report.specs.Answer.{files_with}
 use Rattle.pdb_report.specs.SizesReport.{AreWithinPieces, IsReportOn}
 use Rattle.pdb_symbols_modules.specs.Streams.{Streams}

@@ -4,10 +4,10 @@ use Rattle.std.specs.declared.cmp.Ordering.{Ordering}
 use Rattle.pdb_addresses.specs.Addresses.{Map}
 use Rattle.pdb_loading.specs.declared.order.ContributionOrder.{ContributionOrder}
 use Rattle.pdb_loading.specs.declared.order.ContributionOrder.TheVariants.{InOrder}
-use Rattle.pdb_functions.specs.Counts.{count, count_of_none, pieces}
-use Rattle.pdb_functions.specs.Databases.{Database}
-use Rattle.pdb_functions.specs.Report.{IsReport}
-use Rattle.pdb_functions.specs.Table.{IsTable, count_in}
+use Rattle.pdb_owners.specs.Counts.{count, count_of_none, pieces}
+use Rattle.pdb_owners.specs.Databases.{Database}
+use Rattle.pdb_owners.specs.Report.{IsReport}
+use Rattle.pdb_owners.specs.Table.{IsTable, count_in}
 use Rattle.pdb_symbols_modules.specs.Streams.{Streams}
 use Rattle.pdb_report.specs.Answer.{map_with, database_with}
 

@@ -6,7 +6,7 @@ ghost use Rattle.std.specs.String.{string_bytes};
 ghost use Rattle.pdb_addresses.specs.Addresses.{Map};
 ghost use Rattle.pdb_addr2line.specs.Context.{Context as ContextValue};
 ghost use Rattle.pdb_loading.specs.ModuleInfos.{KeptInfo};
-ghost use Rattle.pdb_functions.specs.Databases.{Database, IsOneRun, Keyed, place_of};
+ghost use Rattle.pdb_owners.specs.Databases.{Database, IsOneRun, Keyed, place_of};
 ghost use Rattle.pdb_loading.specs.declared.order.ContributionOrder.{ContributionOrder as Order};
 ghost use Rattle.pdb_report.specs.Answer.{AnswersWith, answered_in};
 ghost use Rattle.pdb_report.specs.SizesReport.{AreSizes};
@@ -15,16 +15,16 @@ ghost use Rattle.pdb_symbols_modules.specs.Streams.{Streams};
 use pdb_addr2line::Function;
 use pdb_addresses::PdbInternalSectionOffset;
 use pdb_databases::FileContext;
-use pdb_functions::{
-    Answer, CountedFile, FileKey, FunctionKey, Runs, Sizes, by_file_text, sizes_text,
+use pdb_owners::{
+    Countable, CountedFile, FileKey, FunctionKey, Runs, Sizes, by_file_text, sizes_text,
 };
 use std::alloc::{AllocError, Global};
 use std::marker::PhantomData;
 
 /// What a report of sizes counts at addresses, with the text of its counts.
-pub(crate) trait Counted: Answer {
+pub(crate) trait Counted: Countable {
     /// What tells answers apart run by run; each stands for one answer, or for none.
-    type Key: Answer;
+    type Key: Countable;
 
     ghost keyed: { ContextValue (List KeptInfo) → Keyed Self.Key Self };
 
@@ -71,7 +71,7 @@ pub(crate) trait Counted: Answer {
 
 /// Functions, in the order of start, end and name.
 impl Counted for Function {
-    ghost use Rattle.pdb_functions.specs.Report.{IsReport};
+    ghost use Rattle.pdb_owners.specs.Report.{IsReport};
     ghost use Rattle.pdb_report.specs.Answer.{database_with, keyed_in};
 
     type Key = FunctionKey;
@@ -114,7 +114,7 @@ impl Counted for Function {
 
 /// Files, by their kind, and those that are known in the order of their texts' bytes.
 impl Counted for CountedFile {
-    ghost use Rattle.pdb_functions.specs.FileReport.{IsFileReport};
+    ghost use Rattle.pdb_owners.specs.FileReport.{IsFileReport};
     ghost use Rattle.pdb_report.specs.Answer.{files_with, files_keyed_in};
 
     type Key = FileKey;

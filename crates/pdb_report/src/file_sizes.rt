@@ -22,7 +22,7 @@ use crate::sizes::{Tally, count_text};
 use pdb_addr2line::Function;
 use pdb_databases::{FileOnDemand, FileSymbolizer, NotLoaded, TRIES};
 use pdb_engine::{Watched, write_all, write_fault};
-use pdb_functions::CountedFile;
+use pdb_owners::CountedFile;
 use pdb_report_texts::RunFault;
 use std::alloc::{AllocError, Global};
 use std::io::Write;

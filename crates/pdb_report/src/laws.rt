@@ -3,8 +3,8 @@
 ghost use Rattle.std.specs.Prelude.{◌≡◌, ◌+◌, ◌-◌, ◌<◌, ◌≤◌, ◌^◌, ℕ, List, None, Some, false};
 ghost use Rattle.pdb_container.specs.Alike.{OpenAlike, ReadAlike};
 ghost use Rattle.pdb_loading.specs.FileRead.{IsRead};
-ghost use Rattle.pdb_functions.specs.FileAnswers.{FileAnswer as FileValue, file_cmp};
-ghost use Rattle.pdb_functions.specs.FunctionOrder.{Function as FunctionValue, function_cmp};
+ghost use Rattle.pdb_owners.specs.FileAnswers.{FileAnswer as FileValue, file_cmp};
+ghost use Rattle.pdb_owners.specs.FunctionOrder.{Function as FunctionValue, function_cmp};
 ghost use Rattle.pdb_loading.specs.declared.order.ContributionOrder.{ContributionOrder as Order};
 ghost use Rattle.pdb_loading.specs.declared.order.ContributionOrder.TheVariants.{Any};
 ghost use Rattle.pdb_report.specs.Answer.{address_map, answer, answer_with, database};
@@ -16,12 +16,12 @@ ghost use Rattle.pdb_loading.specs.Loading.{LoadingFault, load_fault, load_fault
 ghost use Rattle.pdb_loading.specs.Loading.{loaded_with};
 ghost use Rattle.pdb_report.specs.SameReports.{HaveSameReports};
 ghost use Rattle.pdb_report.specs.SizesReport.{IsSizesReportWith};
-ghost use Rattle.pdb_functions.specs.Counts.{count_of_none, count_without};
-ghost use Rattle.pdb_functions.specs.Table.{count_in, sum_of};
+ghost use Rattle.pdb_owners.specs.Counts.{count_of_none, count_without};
+ghost use Rattle.pdb_owners.specs.Table.{count_in, sum_of};
 ghost use Rattle.pdb_symbols_modules.specs.Shared.{shared};
 ghost use Rattle.pdb_symbols_modules.specs.Streams.{Streams, streams};
 
-use pdb_functions::laws as functions;
+use pdb_owners::laws as functions;
 
 /// What was read of a file has the streams that the whole file has, each with the same bytes or
 /// fault; so it has the same loading fault or none, and the same answers and reports. What wasn't

@@ -14,7 +14,7 @@ ghost use Rattle.pdb_report.specs.SizesReport.{IsSizesReport, IsSizesReportWith}
 ghost use Rattle.pdb_report.specs.SizesReport.{IsWithinPieces, IsWithinPiecesWith};
 ghost use Rattle.pdb_report_texts.specs.RunFaults.{IsOfSizes, OnCounted, OnLoad, OnMemory};
 ghost use Rattle.pdb_report_texts.specs.RunFaults.{OnReversed, OnWrite, UnlessLoad};
-ghost use Rattle.pdb_functions.specs.Counts.{pieces};
+ghost use Rattle.pdb_owners.specs.Counts.{pieces};
 ghost use Rattle.pdb_symbols_modules.specs.Streams.{streams};
 
 use crate::counted::{ContextRuns, Counted};
@@ -22,8 +22,8 @@ use pdb_addr2line::Function;
 use pdb_addresses::AddressMap;
 use pdb_databases::{FileContext, Symbolizer};
 use pdb_engine::{InputFault, Watched, write_all, write_fault};
-use pdb_functions::{CountedFile, count_runs};
 use pdb_loading::ContributionOrder;
+use pdb_owners::{CountedFile, count_runs};
 use pdb_report_texts::RunFault;
 use std::alloc::{AllocError, Global};
 use std::io::Write;

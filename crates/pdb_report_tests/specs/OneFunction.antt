@@ -1,7 +1,7 @@
 -- A database with one function.
 use Rattle.std.specs.Prelude.{◌==◌, ◌&&◌, ◌||◌, nat_le, nat_lt, None, Some, codes, if◌then◌else◌}
-use Rattle.pdb_functions.specs.FunctionOrder.{Function}
-use Rattle.pdb_functions.specs.Databases.{Database, Keyed}
+use Rattle.pdb_owners.specs.FunctionOrder.{Function}
+use Rattle.pdb_owners.specs.Databases.{Database, Keyed}
 
 -- the function f, at 0x1010 to 0x1030
 abbrev pub function_f : Function

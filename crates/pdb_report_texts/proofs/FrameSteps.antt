@@ -3,7 +3,7 @@ use Rattle.std.proofs.Common.{◌≡◌, ℕ, ◌+◌, ◌<◌, ◌≤◌, List,
 use Rattle.std.specs.List.{flat_map}
 use Rattle.std.proofs.lemmas.List.{append-nil, take_more, take_all}
 use Rattle.std.proofs.lemmas.List.Concat.{flat_map-append}
-use Rattle.pdb_functions.specs.Frames.{Frame}
+use Rattle.pdb_owners.specs.Frames.{Frame}
 use Rattle.pdb_report_texts.specs.AddressText.{frame_text}
 
 -- one frame's line more

@@ -3,9 +3,9 @@ use Rattle.std.specs.Prelude.{ℕ, ◌++◌, List, [], ◌∷◌, Option, None, 
 use Rattle.std.specs.List.{flat_map}
 use Rattle.std.specs.Fmt.{decimal}
 use Rattle.pdb_resolving.specs.Fault.{Fault}
-use Rattle.pdb_functions.specs.Frames.{Frame, FunctionFrames}
-use Rattle.pdb_functions.specs.declared.frames.FrameRow.{FrameRow}
-pub use Rattle.pdb_functions.specs.Texts.{text_or, eight_digits}
+use Rattle.pdb_owners.specs.Frames.{Frame, FunctionFrames}
+use Rattle.pdb_owners.specs.declared.frames.FrameRow.{FrameRow}
+pub use Rattle.pdb_owners.specs.Texts.{text_or, eight_digits}
 use Rattle.pdb_engine.specs.Address.{address_of}
 
 -- a number that may be missing, in decimal

@@ -11,7 +11,7 @@ ghost use Rattle.std.specs.Arc.{arc_str_bytes};
 
 use crate::digits::{append_address_line, append_row_start};
 use itoa::Buffer;
-use pdb_functions::{FrameRow, SharedFrame, SharedFunctionFrames};
+use pdb_owners::{FrameRow, SharedFrame, SharedFunctionFrames};
 use std::alloc::AllocError;
 use std::borrow::CowStr;
 use std::sync::ArcStr;

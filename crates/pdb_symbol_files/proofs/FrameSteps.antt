@@ -3,7 +3,7 @@ use Rattle.std.proofs.Common.{◌≡◌, ℕ, ◌+◌, ◌-◌, ◌<◌, ◌≤�
 use Rattle.std.proofs.Common.{refl, sym, ◌∙◌, ap, arith, suc}
 use Rattle.std.specs.Prelude.{Option, Some, slice_get, unwrap_or}
 use Rattle.std.proofs.lemmas.List.{drop_more}
-use Rattle.pdb_functions.specs.Frames.{Frame}
+use Rattle.pdb_owners.specs.Frames.{Frame}
 use Rattle.pdb_symbol_files.specs.Frames.{call_of, calls_of, calls_over, outermost, told_of}
 use Rattle.pdb_symbol_files.specs.Texts.{told_text}
 use Rattle.pdb_symbol_files.specs.Told.{Call, Told}

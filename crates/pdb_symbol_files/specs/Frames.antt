@@ -1,6 +1,6 @@
 -- What a symbol file tells of the frames at an address.
 use Rattle.std.specs.Prelude.{ℕ, ◌++◌, List, [], ◌∷◌, Option, None, Some, unwrap_or}
-use Rattle.pdb_functions.specs.Frames.{Frame}
+use Rattle.pdb_owners.specs.Frames.{Frame}
 use Rattle.pdb_symbol_files.specs.Texts.{told_text}
 use Rattle.pdb_symbol_files.specs.Told.{Call, Told}
 

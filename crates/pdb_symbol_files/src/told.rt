@@ -7,7 +7,7 @@ ghost use Rattle.pdb_symbol_files.specs.Texts.{told_text as told_text_of};
 
 use crate::pieces::{Call, Told};
 use crate::texts::told_text;
-use pdb_functions::Frame;
+use pdb_owners::Frame;
 use std::alloc::{AllocError, Global};
 use std::borrow::CowStr;
 

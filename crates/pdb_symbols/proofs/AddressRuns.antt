@@ -10,7 +10,7 @@ use Rattle.pdb_addresses.specs.Places.{Place, internal_place}
 use Rattle.pdb_addresses.specs.SectionRun.{bounds, nearer, place_on, up_to_next}
 use Rattle.pdb_addresses.specs.Sections.{place}
 use Rattle.pdb_addresses.specs.declared.internal_section_offset.PdbInternalSectionOffset.{PdbInternalSectionOffset}
-use Rattle.pdb_functions.specs.Databases.{place_of}
+use Rattle.pdb_owners.specs.Databases.{place_of}
 use Rattle.pdb_addresses.specs.Omap.{translated}
 use Rattle.pdb_addresses.specs.Ranges.{TranslatedRun, below, internal_range, internal_ranges, kept}
 use Rattle.pdb_addresses.specs.Ranges.{number_for, runs, runs_by, with_address}

@@ -8,9 +8,9 @@ use Rattle.pdb_addresses.specs.SectionRun.{place_on}
 use Rattle.pdb_addresses.specs.declared.internal_section_offset.PdbInternalSectionOffset.{PdbInternalSectionOffset}
 use Rattle.pdb_databases.specs.FileFrames.{found_by}
 use Rattle.pdb_frames.specs.FrameRuns.{if_answered, readable}
-use Rattle.pdb_functions.specs.Databases.{Database, IsOneRun, on, place_of}
-use Rattle.pdb_functions.specs.Frames.{FunctionFrames}
-use Rattle.pdb_functions.specs.FunctionOrder.{Function}
+use Rattle.pdb_owners.specs.Databases.{Database, IsOneRun, on, place_of}
+use Rattle.pdb_owners.specs.Frames.{FunctionFrames}
+use Rattle.pdb_owners.specs.FunctionOrder.{Function}
 use Rattle.pdb_resolving.specs.Fault.{Fault}
 use Rattle.pdb_symbol_files.specs.Told.{Told}
 use Rattle.std.specs.Prelude.{not}

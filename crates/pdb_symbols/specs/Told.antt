@@ -5,9 +5,9 @@ use Rattle.pdb_addresses.specs.Places.{Place}
 use Rattle.pdb_databases.specs.Answer.{answer_named, function_named}
 use Rattle.pdb_databases.specs.FileFrames.{found_by}
 use Rattle.pdb_frames.specs.FrameRuns.{readable}
-use Rattle.pdb_functions.specs.Databases.{Database}
-use Rattle.pdb_functions.specs.Frames.{Frame, FunctionFrames}
-use Rattle.pdb_functions.specs.FunctionOrder.{Function}
+use Rattle.pdb_owners.specs.Databases.{Database}
+use Rattle.pdb_owners.specs.Frames.{Frame, FunctionFrames}
+use Rattle.pdb_owners.specs.FunctionOrder.{Function}
 use Rattle.pdb_loading.specs.declared.order.ContributionOrder.{ContributionOrder}
 use Rattle.pdb_symbol_files.specs.Frames.{told_of}
 use Rattle.pdb_symbol_files.specs.Told.{Told}

@@ -3,7 +3,7 @@
 ghost use Rattle.std.specs.Prelude.{◌≡◌, ◌+◌, ◌<◌, ◌≤◌, ℕ, Some, option_map};
 ghost use Rattle.pdb_addresses.specs.Addresses.{IsOrdered, inner, inner_place};
 ghost use Rattle.pdb_addresses.specs.SectionRun.{place_on};
-ghost use Rattle.pdb_functions.specs.Databases.{place_of};
+ghost use Rattle.pdb_owners.specs.Databases.{place_of};
 
 use pdb_addresses::{AddressMap, PdbInternalRva, PdbInternalSectionOffset, Rva};
 

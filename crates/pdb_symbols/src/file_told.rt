@@ -4,7 +4,7 @@ ghost use Rattle.std.specs.Prelude.{◌≡◌, ◌++◌, ◌<◌, ◌≤◌, ℕ
 ghost use Rattle.pdb_databases.specs.Answer.{database_named, frames_named};
 ghost use Rattle.pdb_databases.specs.FileAnswers.{IsKnown};
 ghost use Rattle.pdb_file_views.specs.Views.{Grows};
-ghost use Rattle.pdb_functions.specs.Databases.{on, place_of};
+ghost use Rattle.pdb_owners.specs.Databases.{on, place_of};
 ghost use Rattle.pdb_symbol_files.specs.Code.{answers_of_code};
 ghost use Rattle.pdb_symbol_files.specs.Records.{symbol_records};
 ghost use Rattle.pdb_symbols.specs.SymbolsText.{records_text};

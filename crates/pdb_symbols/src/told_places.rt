@@ -3,13 +3,13 @@
 ghost use Rattle.std.specs.Prelude.{◌≡◌, ◌<◌, ◌≤◌, ℕ, IfOk, option_and_then};
 ghost use Rattle.pdb_addr2line.specs.Context.{lasting};
 ghost use Rattle.pdb_databases.specs.Answer.{answered_in, database_in, frames_in, keyed_in};
-ghost use Rattle.pdb_functions.specs.Databases.{on, place_of};
+ghost use Rattle.pdb_owners.specs.Databases.{on, place_of};
 ghost use Rattle.pdb_symbols.specs.Told.{frames_shown, start_of as start_in, told_found};
 ghost use Rattle.pdb_symbols.specs.Told.{told_place};
 
 use pdb_addresses::PdbInternalSectionOffset;
 use pdb_databases::{Error, FileContext};
-use pdb_functions::{Frame, FunctionFrames, FunctionKey};
+use pdb_owners::{Frame, FunctionFrames, FunctionKey};
 use pdb_symbol_files::{Told, ToldRun, told_of};
 use std::alloc::{AllocError, Global};
 

@@ -4,7 +4,7 @@ use Rattle.std.specs.Prelude.{None, Some, ◌==◌, nat_le, nat_lt}
 use Rattle.std.proofs.Math.Bool.{or-true}
 use Rattle.std.proofs.lemmas.Bool.{lt-ltb, le-ltb, eq-eqb, ne_eqb, le-leb, lt-leb}
 use Rattle.pdb_addresses.specs.Places.{Place}
-use Rattle.pdb_functions.specs.Databases.{IsOneRun}
+use Rattle.pdb_owners.specs.Databases.{IsOneRun}
 use Rattle.pdb_report_tests.specs.OneFunction.{one_function, function_f}
 
 -- in another section, or after the function

@@ -1,11 +1,11 @@
 //! A database with one function.
 
 ghost use Rattle.std.specs.Prelude.{◌≡◌, ◌≤◌, IfOk};
-ghost use Rattle.pdb_functions.specs.Databases.{IsOneRun, place_of};
+ghost use Rattle.pdb_owners.specs.Databases.{IsOneRun, place_of};
 ghost use Rattle.pdb_report_tests.specs.OneFunction.{one_function};
 
 use pdb_addresses::PdbInternalSectionOffset;
-use pdb_functions::{Function, Runs};
+use pdb_owners::{Function, Runs};
 use std::alloc::{AllocError, Global};
 
 /// The function f at offsets 0x10 to 0x30 of section 1, how many places were looked up, and how

@@ -2,7 +2,7 @@
 
 use crate::addr2line::one_function::OneFunction;
 use pdb_addresses::{AddressMap, ImageSectionHeader, OMAPRecord};
-use pdb_functions::{count_runs, sizes_text};
+use pdb_owners::{count_runs, sizes_text};
 use std::alloc::{AllocError, Global};
 use std::test::Fail;
 

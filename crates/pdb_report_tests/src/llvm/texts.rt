@@ -1,11 +1,11 @@
 //! The texts of answers. The expected values are what `llvm-symbolizer` 19 wrote of an image,
 //! `x64.exe`, but for a column.
 
-use pdb_functions::{FrameRow, SharedFrame, SharedFunctionFrames};
 use pdb_llvm_texts::{
     Asked, OwnFrame, ReportOptions, ReportedFrame, Style, TextOptions, append_error, append_frames,
     append_no_data, append_no_locals, report_frames,
 };
+use pdb_owners::{FrameRow, SharedFrame, SharedFunctionFrames};
 use std::alloc::Global;
 use std::borrow::CowStr;
 use std::sync::ArcStr;

@@ -1,5 +1,5 @@
 use Rattle.std.proofs.Common.{◌+◌, ◌-◌, ◌∙◌, length, length-drop, sym, get_or, drop, arith, refl, Option, Ok, Err}
-use Rattle.pdb_functions.specs.FunctionOrder.{Function}
+use Rattle.pdb_owners.specs.FunctionOrder.{Function}
 use Rattle.pdb_addr2line.specs.Context.{scope_in}
 use Rattle.pdb_addr2line.specs.FunctionList.{functions_at}
 use Rattle.pdb_addr2line.proofs.FunctionSteps.{function_same, functions_passed, functions_first, counted_more, counted_within, counted_none}

@@ -1,7 +1,7 @@
 use Rattle.std.proofs.Common.{◌-◌, refl, ◌∙◌, arith}
 use Rattle.std.specs.Prelude.{option_map}
-use Rattle.pdb_functions.specs.Counts.{counted_at}
-use Rattle.pdb_functions.specs.Databases.{place_of}
+use Rattle.pdb_owners.specs.Counts.{counted_at}
+use Rattle.pdb_owners.specs.Databases.{place_of}
 use Rattle.pdb_function_lists.proofs.PlaceLemmas.{range_start}
 use Rattle.pdb_function_lists.proofs.AddressCounts.{run_counted}
 use Rattle.pdb_function_lists.proofs.counting.count_keys.Goals as goal

@@ -1,6 +1,6 @@
 use Rattle.std.proofs.Common.{◌≡◌, ◌-◌, ◌≤◌, []}
-use Rattle.pdb_functions.specs.Counts.{counted_at}
-use Rattle.pdb_functions.specs.Table.{IsCounted}
+use Rattle.pdb_owners.specs.Counts.{counted_at}
+use Rattle.pdb_owners.specs.Table.{IsCounted}
 use Rattle.pdb_function_lists.proofs.counting.count_keys.Given as goal
 
 -- the addresses before this one are counted

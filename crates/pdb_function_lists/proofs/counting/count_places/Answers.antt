@@ -1,6 +1,6 @@
 use Rattle.std.proofs.Common.{◌-◌, refl, ◌∙◌, arith}
-use Rattle.pdb_functions.specs.Databases.{place_of}
-use Rattle.pdb_functions.proofs.CountLemmas.{counted_start, added_as}
+use Rattle.pdb_owners.specs.Databases.{place_of}
+use Rattle.pdb_owners.proofs.CountLemmas.{counted_start, added_as}
 use Rattle.pdb_function_lists.proofs.PlaceLemmas.{places_counted}
 use Rattle.pdb_function_lists.proofs.counting.count_places.Goals as goal
 

@@ -1,8 +1,8 @@
 use Rattle.std.proofs.Common.{◌≡◌, ◌-◌, ◌≤◌}
 use Rattle.std.specs.Prelude.{Some}
-use Rattle.pdb_functions.specs.Counts.{answer_along}
-use Rattle.pdb_functions.specs.Databases.{place_of}
-use Rattle.pdb_functions.specs.Table.{IsCounted}
+use Rattle.pdb_owners.specs.Counts.{answer_along}
+use Rattle.pdb_owners.specs.Databases.{place_of}
+use Rattle.pdb_owners.specs.Table.{IsCounted}
 use Rattle.pdb_function_lists.proofs.counting.count_places.Given as goal
 
 -- so many places are counted

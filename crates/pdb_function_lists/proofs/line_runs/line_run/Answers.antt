@@ -2,7 +2,7 @@ use Rattle.std.proofs.Common.{◌≡◌, ℕ, ◌+◌, ◌<◌, subst}
 use Rattle.std.specs.Prelude.{Option, option_map}
 use Rattle.pdb_addresses.specs.SectionRun.{place_on}
 use Rattle.pdb_addresses.specs.declared.internal_section_offset.PdbInternalSectionOffset.{PdbInternalSectionOffset}
-use Rattle.pdb_functions.specs.Databases.{place_of}
+use Rattle.pdb_owners.specs.Databases.{place_of}
 use Rattle.pdb_function_lists.specs.Runs.{counted_place}
 use Rattle.pdb_function_lists.proofs.Lines.{run_line}
 use Rattle.pdb_function_lists.proofs.line_runs.line_run.Goals as goal

@@ -1,5 +1,5 @@
 use Rattle.std.proofs.Common.{◌+◌, ◌-◌, ◌≤◌}
-use Rattle.pdb_functions.specs.Table.{sum_of}
+use Rattle.pdb_owners.specs.Table.{sum_of}
 use Rattle.pdb_function_lists.proofs.padding.count_joined.Given as goal
 
 -- so many bytes are counted

@@ -1,5 +1,5 @@
 use Rattle.std.proofs.Common.{◌-◌, ap, true}
-use Rattle.pdb_functions.specs.FileAnswers.{FileAnswer}
+use Rattle.pdb_owners.specs.FileAnswers.{FileAnswer}
 use Rattle.pdb_listings.specs.Sizes.{file_name}
 use Rattle.pdb_function_lists.specs.Functions.{files_by_key}
 use Rattle.pdb_function_lists.proofs.Sums.{if_ok_then, sum_counted}

@@ -1,6 +1,6 @@
 use Rattle.std.proofs.Common.{◌-◌, ap, true}
-use Rattle.pdb_functions.specs.FunctionOrder.{Function}
-use Rattle.pdb_functions.specs.Texts.{text_or}
+use Rattle.pdb_owners.specs.FunctionOrder.{Function}
+use Rattle.pdb_owners.specs.Texts.{text_or}
 use Rattle.pdb_function_lists.specs.Functions.{functions_keyed}
 use Rattle.pdb_function_lists.proofs.Sums.{if_ok_then, sum_counted}
 use Rattle.pdb_function_lists.proofs.sizes.function_sizes.Goals as goal

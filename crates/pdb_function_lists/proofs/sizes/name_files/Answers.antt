@@ -1,6 +1,6 @@
 use Rattle.std.proofs.Common.{◌∙◌, true}
-use Rattle.pdb_functions.specs.Answers.{picked}
-use Rattle.pdb_functions.specs.FileAnswers.{FileAnswer}
+use Rattle.pdb_owners.specs.Answers.{picked}
+use Rattle.pdb_owners.specs.FileAnswers.{FileAnswer}
 use Rattle.pdb_listings.specs.Sizes.{file_name}
 use Rattle.pdb_function_lists.specs.Functions.{files_by_key}
 use Rattle.pdb_function_lists.proofs.Sums.{entry_added, entry_room}

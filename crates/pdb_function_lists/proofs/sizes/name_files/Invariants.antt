@@ -1,6 +1,6 @@
 use Rattle.std.proofs.Common.{◌≡◌, ℕ, ◌+◌, ◌≤◌, Bool, true, false, List}
-use Rattle.pdb_functions.specs.FileAnswers.{FileAnswer}
-use Rattle.pdb_functions.specs.Table.{sum_found, sum_of, sum_where}
+use Rattle.pdb_owners.specs.FileAnswers.{FileAnswer}
+use Rattle.pdb_owners.specs.Table.{sum_found, sum_of, sum_where}
 use Rattle.pdb_listings.specs.Sizes.{file_name}
 use Rattle.pdb_function_lists.specs.Functions.{files_by_key}
 use Rattle.pdb_function_lists.proofs.sizes.name_files.Given as goal

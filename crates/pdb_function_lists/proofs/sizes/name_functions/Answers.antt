@@ -1,7 +1,7 @@
 use Rattle.std.proofs.Common.{◌∙◌, true}
-use Rattle.pdb_functions.specs.Answers.{picked}
-use Rattle.pdb_functions.specs.FunctionOrder.{Function}
-use Rattle.pdb_functions.specs.Texts.{text_or}
+use Rattle.pdb_owners.specs.Answers.{picked}
+use Rattle.pdb_owners.specs.FunctionOrder.{Function}
+use Rattle.pdb_owners.specs.Texts.{text_or}
 use Rattle.pdb_function_lists.specs.Functions.{functions_keyed}
 use Rattle.pdb_function_lists.proofs.Sums.{entry_added, entry_room}
 use Rattle.pdb_function_lists.proofs.sizes.name_functions.Goals as goal

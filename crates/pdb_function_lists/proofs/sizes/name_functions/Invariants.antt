@@ -1,7 +1,7 @@
 use Rattle.std.proofs.Common.{◌≡◌, ℕ, ◌+◌, ◌≤◌, Bool, true, false, List}
-use Rattle.pdb_functions.specs.FunctionOrder.{Function}
-use Rattle.pdb_functions.specs.Table.{sum_found, sum_of, sum_where}
-use Rattle.pdb_functions.specs.Texts.{text_or}
+use Rattle.pdb_owners.specs.FunctionOrder.{Function}
+use Rattle.pdb_owners.specs.Table.{sum_found, sum_of, sum_where}
+use Rattle.pdb_owners.specs.Texts.{text_or}
 use Rattle.pdb_function_lists.specs.Functions.{functions_keyed}
 use Rattle.pdb_function_lists.proofs.sizes.name_functions.Given as goal
 

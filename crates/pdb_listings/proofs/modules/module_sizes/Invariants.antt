@@ -1,7 +1,7 @@
 use Rattle.std.proofs.Common.{◌≡◌, ◌≤◌, ◌*◌, ◌^◌, take}
 use Rattle.std.specs.Prelude.{Bool}
 use Rattle.std.specs.List.{sum_by}
-use Rattle.pdb_functions.specs.Table.{sum_of, sum_where}
+use Rattle.pdb_owners.specs.Table.{sum_of, sum_where}
 use Rattle.pdb_listings.specs.Contributed.{contributed}
 use Rattle.pdb_listings.specs.declared.modules.ModulePart.{ModulePart}
 use Rattle.pdb_listings.proofs.modules.module_sizes.Given as goal

@@ -1,7 +1,7 @@
 use Rattle.std.proofs.Common.{rules, ◌≡◌, ◌++◌, ap, ◌∙◌, codes}
 use Rattle.std.proofs.lemmas.Result.{on_ok_weaker}
 use Rattle.std.specs.Fmt.{decimal}
-use Rattle.pdb_functions.specs.Texts.{text_or}
+use Rattle.pdb_owners.specs.Texts.{text_or}
 use Rattle.pdb_llvm_texts.specs.Plain.{number_line, verbose_text}
 use Rattle.pdb_llvm_texts.proofs.Lists.{after}
 use Rattle.pdb_llvm_texts.proofs.plain.append_verbose.Goals as goal

@@ -1,10 +1,10 @@
 use Rattle.std.proofs.Common.{◌-◌, arith}
-use Rattle.pdb_functions.specs.Counts.{counted_at}
-use Rattle.pdb_functions.specs.FileAnswers.{file_cmp}
-use Rattle.pdb_functions.specs.FileLaws.{file_total, file_exact}
-use Rattle.pdb_functions.specs.FunctionOrder.{function_cmp}
-use Rattle.pdb_functions.specs.OrderLaws.{function_total, function_exact}
-use Rattle.pdb_functions.proofs.RangeSums.{table_fills}
+use Rattle.pdb_owners.specs.Counts.{counted_at}
+use Rattle.pdb_owners.specs.FileAnswers.{file_cmp}
+use Rattle.pdb_owners.specs.FileLaws.{file_total, file_exact}
+use Rattle.pdb_owners.specs.FunctionOrder.{function_cmp}
+use Rattle.pdb_owners.specs.OrderLaws.{function_total, function_exact}
+use Rattle.pdb_owners.proofs.RangeSums.{table_fills}
 use Rattle.pdb_report.specs.Answer.{database_with, files_with}
 use Rattle.pdb_report.proofs.SizeSums.{by_map, each_joined, have_files, none_joined, one_map}
 use Rattle.pdb_report.proofs.laws.file_reports_add_up.Goals as goal

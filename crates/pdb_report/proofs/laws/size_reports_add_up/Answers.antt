@@ -1,8 +1,8 @@
 use Rattle.std.proofs.Common.{◌-◌}
-use Rattle.pdb_functions.specs.Counts.{counted_at}
-use Rattle.pdb_functions.specs.FunctionOrder.{function_cmp}
-use Rattle.pdb_functions.specs.OrderLaws.{function_total, function_exact}
-use Rattle.pdb_functions.proofs.RangeSums.{table_fills}
+use Rattle.pdb_owners.specs.Counts.{counted_at}
+use Rattle.pdb_owners.specs.FunctionOrder.{function_cmp}
+use Rattle.pdb_owners.specs.OrderLaws.{function_total, function_exact}
+use Rattle.pdb_owners.proofs.RangeSums.{table_fills}
 use Rattle.pdb_report.specs.Answer.{database_with}
 use Rattle.pdb_report.proofs.SizeSums.{each_joined, none_joined}
 use Rattle.pdb_report.proofs.laws.size_reports_add_up.Goals as goal

@@ -1,6 +1,6 @@
 use Rattle.std.proofs.Common.{ap, ◌∙◌, string_bytes}
 use Rattle.std.specs.Prelude.{unwrap_or}
-use Rattle.pdb_functions.specs.Frames.{Frame}
+use Rattle.pdb_owners.specs.Frames.{Frame}
 use Rattle.pdb_symbol_files.proofs.FrameSteps.{told_parts}
 use Rattle.pdb_symbol_files.proofs.told.told_of.Goals as goal
 

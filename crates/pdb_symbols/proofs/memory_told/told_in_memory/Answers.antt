@@ -1,6 +1,6 @@
 use Rattle.pdb_symbols_modules.specs.Streams.{streams}
 use Rattle.pdb_symbols.proofs.ToldSteps.{answers_on, context_told, none_told, run_told}
-use Rattle.pdb_functions.specs.Databases.{on, place_of}
+use Rattle.pdb_owners.specs.Databases.{on, place_of}
 use Rattle.pdb_symbols.proofs.memory_told.told_in_memory.Goals as goal
 
 pub returns-in-None-clause-told : goal.returns-in-None-clause-told

@@ -6,7 +6,7 @@ use Rattle.pdb_answers.proofs.ToldSteps.{told_chosen}
 use Rattle.pdb_frames.specs.FailingParts.{told}
 use Rattle.pdb_frames.specs.Failing.{failing_at}
 use Rattle.pdb_frames.specs.FramesAt.{frames_at}
-use Rattle.pdb_functions.specs.Frames.{FunctionFrames}
+use Rattle.pdb_owners.specs.Frames.{FunctionFrames}
 use Rattle.pdb_resolving.specs.Fault.{Answers, Fault}
 use Rattle.pdb_answers.proofs.symbolizer.PlaceSymbolizer.frames_at.Goals as goal
 

@@ -7,7 +7,7 @@ use Rattle.pdb_answers.proofs.KeptSteps.{data_known, failures_on, kept_on}
 use Rattle.pdb_frames.specs.FrameRuns.{frames_run_at}
 use Rattle.pdb_frames.specs.NearBounds.{bounds_near}
 use Rattle.pdb_frames.specs.Runs.{procedures_of}
-use Rattle.pdb_functions.specs.Frames.{FunctionFrames}
+use Rattle.pdb_owners.specs.Frames.{FunctionFrames}
 use Rattle.pdb_answers.proofs.symbolizer.PlaceSymbolizer.frames_run_at.Goals as goal
 
 -- what is cached is the modules' own, and what is known to fail does

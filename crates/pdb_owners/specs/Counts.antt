@@ -1,0 +1,89 @@
+-- How many addresses each answer has, one by one; and how many pieces a range has.
+use Rattle.std.specs.Prelude.{ℕ, zero, suc, ◌+◌, ◌-◌, ◌^◌, Bool, false, not, ◌==◌, ◌&&◌, ◌||◌}
+use Rattle.std.specs.Prelude.{is_some, List, [], ◌∷◌, Option, None, Some, option_and_then}
+use Rattle.std.specs.Prelude.{if◌then◌else◌}
+use Rattle.std.specs.List.{list_any}
+use Rattle.std.specs.declared.ops.Range.{Range}
+use Rattle.pdb_addresses.specs.declared.internal_rva.PdbInternalRva.{PdbInternalRva}
+use Rattle.pdb_addresses.specs.declared.sections.ImageSectionHeader.{ImageSectionHeader}
+use Rattle.pdb_addresses.specs.Addresses.{Map, inner, inner_place}
+use Rattle.pdb_addresses.specs.Places.{Place}
+use Rattle.pdb_addresses.specs.Ranges.{internal_ranges}
+use Rattle.pdb_addresses.specs.SectionRun.{bounds, place_on}
+use Rattle.pdb_addresses.specs.Sections.{place}
+use Rattle.std.specs.declared.cmp.Ordering.{Ordering}
+use Rattle.pdb_owners.specs.Answers.{is_answer}
+use Rattle.pdb_owners.specs.Databases.{Database}
+
+-- how many of so many numbers from one on pass a test
+unfoldable pub how_many : (ℕ → Bool) → ℕ → ℕ → ℕ
+how_many test from zero = 0
+how_many test from (suc n) = (if test from then 1 else 0) + how_many test (from + 1) n
+
+-- ---- addresses of the image, one by one
+
+-- the answer at an address
+abbrev pub answer_of : {A : Type 0} → Map → Database A → ℕ → Option A
+answer_of m db a = option_and_then db.answer (inner_place m a)
+
+-- an address that is 0xffffffff
+abbrev pub is_last : Option ℕ → Bool
+is_last None = false
+is_last (Some x) = x == 2 ^ 32 - 1
+
+-- what an address counts under: one that becomes 0xffffffff counts under nothing
+abbrev pub counted_at : {A : Type 0} → Map → Database A → ℕ → Option A
+counted_at m db a = if is_last (inner m a) then None else answer_of m db a
+
+-- how many addresses from s on and before e have an answer
+abbrev pub count : {A : Type 0} → (A → A → Ordering) → Map → Database A → ℕ → ℕ → A → ℕ
+count cmp m db s e f = how_many (λ a. is_answer cmp f (counted_at m db a)) s (e - s)
+
+-- how many have none
+abbrev pub count_of_none : {A : Type 0} → Map → Database A → ℕ → ℕ → ℕ
+count_of_none m db s e = how_many (λ a. not (is_some (counted_at m db a))) s (e - s)
+
+-- how many have an answer of one database, and none of another one
+abbrev pub count_without : {A B : Type 0} → Map → Database A → Database B → ℕ → ℕ → ℕ
+count_without m db other s e =
+    how_many (λ a. is_some (counted_at m other a) && not (is_some (counted_at m db a))) s (e - s)
+
+-- ---- internal addresses
+
+-- the answer at an internal address
+abbrev pub answer_at : {A : Type 0} → List ImageSectionHeader → Database A → ℕ → Option A
+answer_at sections db x = option_and_then db.answer (place sections x)
+
+-- whether a section starts or ends at an internal address
+abbrev pub is_section_bound : List ImageSectionHeader → ℕ → Bool
+is_section_bound sections x = list_any (λ b. x == b) (bounds sections)
+
+-- whether answers may change at a place
+abbrev pub is_bound_in : {A : Type 0} → Database A → Option Place → Bool
+is_bound_in db None = false
+is_bound_in db (Some p) = db.is_bound p
+
+-- whether a piece begins at an internal address of a range with this first one
+abbrev pub begins : {A : Type 0} → List ImageSectionHeader → Database A → ℕ → ℕ → Bool
+begins sections db first x =
+    (x == first) || (is_section_bound sections x || is_bound_in db (place sections x))
+
+-- how many addresses of ranges pass a test, which is given the first of their range, too
+abbrev pub in_ranges : (ℕ → ℕ → Bool) → List (Range PdbInternalRva) → ℕ
+in_ranges test [] = 0
+in_ranges test (r ∷ ranges) =
+    how_many (test r.start.0) r.start.0 (r.end.0 - r.start.0) + in_ranges test ranges
+
+-- how many addresses of what the addresses from s on and before e become begin a piece
+abbrev pub pieces : {A : Type 0} → Map → Database A → ℕ → ℕ → ℕ
+pieces m db s e = in_ranges (begins m.internal db) (internal_ranges m.to_internal s e)
+
+-- ---- along the places from one on, or along no places
+
+-- the answer at the place so many bytes after it
+abbrev pub answer_along : {A : Type 0} → Database A → Option Place → ℕ → Option A
+answer_along db p k = option_and_then db.answer (place_on k p)
+
+-- whether a piece begins at the place so many bytes after it
+abbrev pub begins_along : {A : Type 0} → Database A → Option Place → ℕ → Bool
+begins_along db p k = (k == 0) || is_bound_in db (place_on k p)

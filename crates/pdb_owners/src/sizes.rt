@@ -1,0 +1,192 @@
+//! Counts the answers of a range of addresses, run by run.
+
+ghost use Rattle.std.specs.Prelude.{◌≡◌, ℕ, ◌+◌, ◌-◌, ◌^◌, ◌<◌, ◌≤◌, true, Some, IfOk, OnOk};
+ghost use Rattle.std.specs.Prelude.{length};
+ghost use Rattle.pdb_addresses.specs.Addresses.{IsOrdered};
+ghost use Rattle.pdb_owners.specs.Counts.{count, count_of_none, pieces, answer_at, answer_along};
+ghost use Rattle.pdb_owners.specs.Counts.{begins, begins_along, is_section_bound};
+ghost use Rattle.pdb_owners.specs.Databases.{place_of};
+ghost use Rattle.pdb_owners.specs.Table.{IsTable, IsCounted, IsResolved, IsWithin, count_in};
+ghost use Rattle.pdb_owners.specs.Table.{sum_of};
+
+use crate::countable::Countable;
+use crate::runs::Runs;
+use crate::table::Counts;
+use pdb_addresses::laws::ranges_laid_end_to_end;
+use pdb_addresses::{AddressMap, PdbInternalRva, PdbInternalSectionOffset, Rva};
+use std::alloc::{AllocError, Global};
+use std::ops::Range;
+
+/// The sizes of a range: how many of its addresses have each answer, and how many have none.
+#[derive(Drop)]
+pub struct Sizes<A: Countable> {
+    /// Answers in their order, each with how many addresses it has.
+    pub counts: Counts<A>,
+    /// How many addresses have none.
+    pub none: u64,
+}
+
+/// Counts the answers of the addresses from `start` on and before `end`. It asks at most once for
+/// each piece, and once for the answer of each key that it found, of which there are no more.
+///
+/// # Errors
+/// `AllocError` when memory runs out.
+pub fn count_runs<R: Runs>(
+    alloc: Global,
+    map: &AddressMap<'_>,
+    runs: &mut R,
+    start: u32,
+    end: u32,
+) -> Result<Sizes<R::Found>, AllocError>
+    requires ordered { IsOrdered map.now }
+    requires order { start ≤ end }
+    ensures each { IfOk result (λ sizes. (f : R.Found)
+        → count_in R.Found.cmp sizes.counts f
+        ≡ count R.Found.cmp map.now (R.keyed runs.old).places start end f) }
+    ensures table { IfOk result (λ sizes. IsTable R.Found.cmp sizes.counts) }
+    ensures none { IfOk result (λ sizes. sizes.none
+        ≡ count_of_none map.now (R.keyed runs.old).places start end) }
+    ensures all { IfOk result (λ sizes. sum_of sizes.counts + sizes.none ≡ end - start) }
+    ensures lookups { OnOk result (R.lookups runs.new
+        ≤ R.lookups runs.old + pieces map.now (R.keyed runs.old).places start end) }
+    ensures answered { OnOk result (R.answered runs.new
+        ≤ R.answered runs.old + pieces map.now (R.keyed runs.old).places start end) }
+    ensures same { R.keyed runs.new ≡ R.keyed runs.old }
+{
+    ranges_laid_end_to_end();
+    let mut keys = Counts::new(alloc);
+    let mut ranges = map.internal_rva_ranges(Rva(start)..Rva(end));
+    while let Some(range) = ranges.next() {
+        count_range(alloc, map, runs, &mut keys, range)?;
+    }
+    let counts = resolve(alloc, runs, &keys)?;
+    let none = u64::from(end - start) - counts.total();
+    Ok(Sizes { counts, none })
+}
+
+/// Returns the counts of the answers that keys stand for, each of which is asked for once.
+fn resolve<R: Runs>(
+    alloc: Global,
+    runs: &mut R,
+    keys: &Counts<R::Key>,
+) -> Result<Counts<R::Found>, AllocError>
+    requires room { sum_of keys.now < 2 ^ 64 }
+    ensures resolved { IfOk result (λ counts. IsResolved
+        (R.keyed runs.old).answer_of keys.now counts) }
+    ensures lookups { OnOk result (R.lookups runs.new ≡ R.lookups runs.old) }
+    ensures answered { OnOk result (R.answered runs.new
+        ≤ R.answered runs.old + length keys.now) }
+    ensures same { R.keyed runs.new ≡ R.keyed runs.old }
+{
+    let mut counts = Counts::new(alloc);
+    for (key, count) in keys.by_answer() {
+        let answer = runs.answer_of(alloc, key)?;
+        counts.add_answer(answer, *count)?;
+    }
+    Ok(counts)
+}
+
+/// Counts the answers of a range of internal addresses.
+fn count_range<R: Runs>(
+    alloc: Global,
+    map: &AddressMap<'_>,
+    runs: &mut R,
+    keys: &mut Counts<R::Key>,
+    range: Range<PdbInternalRva>,
+) -> Result<(), AllocError>
+    requires room { sum_of keys.old + (range.end.0 - range.start.0) < 2 ^ 64 }
+    ensures counted { OnOk result (IsCounted (R.keyed runs.old).answer_of
+        (answer_at map.now.internal (R.keyed runs.old).places) range.start.0
+        (range.end.0 - range.start.0) keys.old keys.new) }
+    ensures lookups { OnOk result (IsWithin (begins map.now.internal
+        (R.keyed runs.old).places range.start.0) range.start.0 (range.end.0 - range.start.0)
+        (R.lookups runs.old) (R.lookups runs.new)) }
+    ensures keys { OnOk result (IsWithin (begins map.now.internal
+        (R.keyed runs.old).places range.start.0) range.start.0 (range.end.0 - range.start.0)
+        (length keys.old) (length keys.new)) }
+    ensures answered { OnOk result (R.answered runs.new ≡ R.answered runs.old) }
+    ensures same { R.keyed runs.new ≡ R.keyed runs.old }
+{
+    let end = range.end.0;
+    let mut address = range.start.0;
+    while address < end {
+        address += count_section(
+            alloc,
+            map,
+            runs,
+            keys,
+            PdbInternalRva(address),
+            end - address,
+        )?;
+    }
+    Ok(())
+}
+
+/// Counts the answers from an internal address on, to the next start or end of a section, over
+/// `limit` addresses at most.
+fn count_section<R: Runs>(
+    alloc: Global,
+    map: &AddressMap<'_>,
+    runs: &mut R,
+    keys: &mut Counts<R::Key>,
+    address: PdbInternalRva,
+    limit: u32,
+) -> Result<u32, AllocError>
+    requires some { 1 ≤ limit }
+    requires within { address.0 + limit ≤ 2 ^ 32 }
+    requires room { sum_of keys.old + limit < 2 ^ 64 }
+    ensures some { IfOk result (λ n. 1 ≤ n) }
+    ensures within { IfOk result (λ n. n ≤ limit) }
+    ensures counted { IfOk result (λ n. IsCounted (R.keyed runs.old).answer_of
+        (answer_at map.now.internal (R.keyed runs.old).places) address.0 n keys.old keys.new) }
+    ensures lookups { IfOk result (λ n. IsWithin (begins map.now.internal
+        (R.keyed runs.old).places address.0) address.0 n (R.lookups runs.old)
+        (R.lookups runs.new)) }
+    ensures keys { IfOk result (λ n. IsWithin (begins map.now.internal
+        (R.keyed runs.old).places address.0) address.0 n (length keys.old) (length keys.new)) }
+    ensures answered { OnOk result (R.answered runs.new ≡ R.answered runs.old) }
+    ensures ends { IfOk result (λ n. n < limit
+        → is_section_bound map.now.internal (address.0 + n) ≡ true) }
+    ensures same { R.keyed runs.new ≡ R.keyed runs.old }
+{
+    let (place, count) = map.section_run(address, limit);
+    match place {
+        None => Ok(count),
+        Some(place) => {
+            count_places(alloc, runs, keys, place, count)?;
+            Ok(count)
+        }
+    }
+}
+
+/// Counts the answers of that many places from one on.
+fn count_places<R: Runs>(
+    alloc: Global,
+    runs: &mut R,
+    keys: &mut Counts<R::Key>,
+    place: PdbInternalSectionOffset,
+    count: u32,
+) -> Result<(), AllocError>
+    requires within { place.offset + count ≤ 2 ^ 32 }
+    requires room { sum_of keys.old + count < 2 ^ 64 }
+    ensures counted { OnOk result (IsCounted (R.keyed runs.old).answer_of (answer_along
+        (R.keyed runs.old).places (Some (place_of place))) 0 count keys.old keys.new) }
+    ensures lookups { OnOk result (IsWithin (begins_along (R.keyed runs.old).places (Some
+        (place_of place))) 0 count (R.lookups runs.old) (R.lookups runs.new)) }
+    ensures keys { OnOk result (IsWithin (begins_along (R.keyed runs.old).places (Some
+        (place_of place))) 0 count (length keys.old) (length keys.new)) }
+    ensures answered { OnOk result (R.answered runs.new ≡ R.answered runs.old) }
+    ensures same { R.keyed runs.new ≡ R.keyed runs.old }
+{
+    let mut done = 0;
+    while done < count {
+        let next = PdbInternalSectionOffset {
+            offset: place.offset + done,
+            section: place.section,
+        };
+        let (key, length) = runs.run_at(alloc, next, count - done)?;
+        keys.add_answer(key, u64::from(length))?;
+        done += length;
+    }
+    Ok(())
+}
