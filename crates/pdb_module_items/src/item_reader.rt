@@ -1,6 +1,6 @@
 //! Types and ids by their indices as a module has them.
 
-ghost use Rattle.std.specs.Prelude.{◌≡◌, ℕ, Ok, option_map, IfOk, IsOkUnless, OnErr, OnOk};
+ghost use Rattle.std.specs.Prelude.{◌≡◌, ℕ, Ok, option_map, IfOk, IsOkUnless};
 ghost use Rattle.pdb_container.specs.declared.error.Error.TheVariants as causes;
 ghost use Rattle.pdb_records.specs.IdForms.{id_shape};
 ghost use Rattle.pdb_records.specs.Shapes.{shape};
@@ -9,7 +9,6 @@ ghost use Rattle.pdb_resolving.specs.Cause.{Finds};
 ghost use Rattle.pdb_resolving.specs.Fault.{Answers};
 ghost use Rattle.pdb_resolving.specs.Resolving.{modules_by, none_failed, resolve};
 ghost use Rattle.pdb_module_items.specs.Reading.{id_in, type_at, id_at, parts_by, pointer_bytes};
-ghost use Rattle.pdb_module_items.specs.Reading.{with_failed};
 ghost use Rattle.pdb_module_items.specs.Sizes.{resolved_bytes, size_at, stated_bytes};
 
 use crate::item_map::ItemMap;
@@ -20,7 +19,7 @@ use pdb_indices::{IdIndex, TypeIndex};
 use pdb_items::{IdInformation, TypeInformation};
 use pdb_records::{IdData, TypeData};
 use pdb_resolving::stop::{self, Stop};
-use pdb_resolving::{Error, ModuleProvider, Resolver, Result, Table};
+use pdb_resolving::{Error, ModuleProvider, Resolver, Result};
 use pdb_symbols_modules::{DebugInformation, MachineType, Module};
 use std::alloc::{AllocError, Global};
 use std::marker::Model;
@@ -32,7 +31,8 @@ const MOST_STEPS: u32 = 1024;
 /// Reads types and ids by their indices, as the modules of a database have them.
 #[derive(Drop)]
 pub struct ItemReader<'a, 's, P: ModuleProvider> {
-    resolver: Resolver<'a, 's, P>,
+    /// Resolves indices that lead into other modules, and knows the modules.
+    pub resolver: Resolver<'a, 's, P>,
     types: TypeSizeCache<'a>,
     ids: ItemMap<'a, IdIndex>,
     pointer_size: u64,
@@ -89,24 +89,6 @@ impl<'a, 's, P: ModuleProvider> ItemReader<'a, 's, P> {
             ids,
             pointer_size: pointer_size(debug_information.machine_type()),
         })
-    }
-
-    /// The modules in order.
-    pub fn modules(&self) -> &[Module<'a>]
-        ensures { result.now ≡ self.now.modules.entries }
-    {
-        self.resolver.modules()
-    }
-
-    /// Stores a module's table as failed. Nothing changes when memory runs out.
-    ///
-    /// # Errors
-    /// `AllocError` when memory runs out.
-    pub fn keep_failed(&mut self, table: Table) -> std::result::Result<(), AllocError>
-        ensures kept { OnOk result (self.new ≡ with_failed self.old table) }
-        ensures same { OnErr result (self.new ≡ self.old) }
-    {
-        self.resolver.keep_failed(table)
     }
 
     /// The type with that index, as the module at `module_index` (counted from 0) names it.

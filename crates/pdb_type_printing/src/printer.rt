@@ -1,12 +1,12 @@
 //! What prints types, and what it reads.
 
-ghost use Rattle.std.specs.Prelude.{◌≡◌, ◌∷◌, [], Ok, OnErr, OnOk};
+ghost use Rattle.std.specs.Prelude.{◌≡◌, ◌∷◌, [], Ok};
 ghost use Rattle.pdb_records.specs.Shapes.{shape, array_form};
 ghost use Rattle.pdb_records.specs.IdForms.{id_shape};
 ghost use Rattle.pdb_resolving.specs.Cause.{Finds};
 ghost use Rattle.pdb_resolving.specs.Fault.{Answers};
 ghost use Rattle.pdb_type_printing.specs.Arrays.{elements_of};
-ghost use Rattle.pdb_type_printing.specs.Printing.{env_of, with_failed};
+ghost use Rattle.pdb_type_printing.specs.Printing.{env_of};
 ghost use Rattle.pdb_type_printing.specs.This.{this_of, this_to};
 
 use crate::asker::Asker;
@@ -15,15 +15,14 @@ use pdb_indices::{IdIndex, TypeIndex};
 use pdb_module_items::ItemReader;
 use pdb_records::{ArrayType, IdData, TypeData};
 use pdb_resolving::stop::{Result, Stop};
-use pdb_resolving::{Error, ModuleProvider, Table};
-use pdb_symbols_modules::Module;
+use pdb_resolving::{Error, ModuleProvider};
 use pdb_type_pieces::{IndexPath, TypeFormatterFlags, first_or_zero, this_behind};
-use std::alloc::AllocError;
 use std::marker::Model;
 
 /// Prints types by their indices, as the modules of a database have them.
 pub struct TypePrinter<'a, 's, P: ModuleProvider> {
-    pub(crate) reader: ItemReader<'a, 's, P>,
+    /// Reads types and ids.
+    pub reader: ItemReader<'a, 's, P>,
     pub(crate) flags: TypeFormatterFlags,
 }
 
@@ -55,24 +54,6 @@ impl<'a, 's, P: ModuleProvider> TypePrinter<'a, 's, P> {
         ensures { result.bits ≡ self.now.flags }
     {
         self.flags
-    }
-
-    /// The modules in order.
-    pub fn modules(&self) -> &[Module<'a>]
-        ensures { result.now ≡ self.now.reading.modules.entries }
-    {
-        self.reader.modules()
-    }
-
-    /// Stores a module's table as failed. Nothing changes when memory runs out.
-    ///
-    /// # Errors
-    /// `AllocError` when memory runs out.
-    pub fn keep_failed(&mut self, table: Table) -> std::result::Result<(), AllocError>
-        ensures kept { OnOk result (self.new ≡ with_failed self.old table) }
-        ensures same { OnErr result (self.new ≡ self.old) }
-    {
-        self.reader.keep_failed(table)
     }
 
     /// The type with that index, as the module that asks names it.

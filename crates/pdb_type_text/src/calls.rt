@@ -80,7 +80,7 @@ impl<'a, 's, P: ModuleProvider> TypeFormatter<'a, 's, P> {
     pub fn modules(&self) -> &[Module<'a>]
         ensures { result.now ≡ self.now.reading.modules.entries }
     {
-        self.printer.modules()
+        self.printer.printer.reader.resolver.modules()
     }
 
     /// The size in bytes of the type with that index, as the module at `module_index` (counted from
@@ -227,10 +227,13 @@ impl<'a, 's, P: ModuleProvider> TypeFormatter<'a, 's, P> {
         match made {
             Ok(text) => Ok(text),
             Err(Stop::ByError(error)) => Err(error),
-            Err(Stop::ByTable(table, error)) => match self.printer.keep_failed(table) {
-                Ok(()) => Err(error),
-                Err(_) => Err(Error::OutOfMemory),
-            },
+            Err(Stop::ByTable(table, error)) => {
+                let kept = self.printer.printer.reader.resolver.keep_failed(table);
+                match kept {
+                    Ok(()) => Err(error),
+                    Err(_) => Err(Error::OutOfMemory),
+                }
+            }
         }
     }
 }

@@ -1,14 +1,12 @@
 //! What prints functions and ids, over what prints types.
 
-ghost use Rattle.std.specs.Prelude.{◌≡◌, Ok, OnErr, OnOk};
+ghost use Rattle.std.specs.Prelude.{◌≡◌, Ok};
 ghost use Rattle.pdb_resolving.specs.Fault.{Answers};
-ghost use Rattle.pdb_type_printing.specs.Printing.{env_of, with_failed};
+ghost use Rattle.pdb_type_printing.specs.Printing.{env_of};
 
 use pdb_indices::TypeIndex;
-use pdb_resolving::{ModuleProvider, Result, Table};
-use pdb_symbols_modules::Module;
+use pdb_resolving::{ModuleProvider, Result};
 use pdb_type_printing::{Asker, TypePrinter};
-use std::alloc::AllocError;
 use std::marker::Model;
 
 /// Prints functions and ids by their indices, as the modules of a database have them.
@@ -37,24 +35,6 @@ impl<'a, 's, P: ModuleProvider> FunctionPrinter<'a, 's, P> {
         ensures { result ≡ printer.entry }
     {
         FunctionPrinter { printer }
-    }
-
-    /// The modules in order.
-    pub fn modules(&self) -> &[Module<'a>]
-        ensures { result.now ≡ self.now.reading.modules.entries }
-    {
-        self.printer.modules()
-    }
-
-    /// Stores a module's table as failed. Nothing changes when memory runs out.
-    ///
-    /// # Errors
-    /// `AllocError` when memory runs out.
-    pub fn keep_failed(&mut self, table: Table) -> std::result::Result<(), AllocError>
-        ensures kept { OnOk result (self.new ≡ with_failed self.old table) }
-        ensures same { OnErr result (self.new ≡ self.old) }
-    {
-        self.printer.keep_failed(table)
     }
 
     /// The size in bytes of the type with that index, as the module that asks names it.
