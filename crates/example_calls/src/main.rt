@@ -3,9 +3,9 @@
 //!
 //! For each ADDRESS, which is hexadecimal and image-relative, it prints the function there and its
 //! frames. Then it prints all functions, each with its source file and line; the frames again, by a
-//! file that is read on demand; what formatters say of two types of the file; and the functions
-//! again, without their arguments. It prints how many addresses each has, and at last the lines of
-//! the file LISTED, module by module (`list_lines.rt`).
+//! file that is read on demand; what formatters say of two types of the file, that file's first;
+//! and the functions again, without their arguments. It prints how many addresses each has, and at
+//! last the lines of the file LISTED, module by module (`list_lines.rt`).
 //!
 //! Its stored run asks `x64.pdb`, which examples/make.sh made. There type 0x1007 is the member
 //! function `TextReader::read`, and 0x1016 the class `Entry`.
@@ -181,7 +181,8 @@ where
     }
 }
 
-/// Prints the frames at each address of the program's arguments, by a file that is read on demand.
+/// Prints the frames at each address of the program's arguments, by a file that is read on demand,
+/// and what a formatter says of types.
 fn tell_demanded<F: FileExt + Drop>(
     rt: &(impl Env + Print + AllocGlobal),
     symbolizer: &mut FileSymbolizer<'_, F>,
@@ -195,7 +196,8 @@ fn tell_demanded<F: FileExt + Drop>(
             }
         }
     }
-    Ok(())
+    let flags = TypeFormatterFlags::default();
+    tell_texts(rt, symbolizer.type_formatter(rt.alloc(), flags)?)
 }
 
 /// Prints what formatters say of types, and all functions without their arguments.

@@ -7,7 +7,8 @@ use Rattle.pdb_addr2line.specs.Context.{Context, lasting, scope_in}
 use Rattle.pdb_frames.specs.FrameRuns.{frames_here, frames_of_places, if_answered, readable}
 use Rattle.pdb_owners.specs.Databases.{Database, IsOneRun, place_of}
 use Rattle.pdb_addresses.specs.declared.internal_section_offset.PdbInternalSectionOffset.{PdbInternalSectionOffset}
-use Rattle.pdb_addr2line.specs.Formatters.{context_with, with_modules}
+use Rattle.pdb_addr2line.specs.Formatters.{context_with, formatting_of, with_modules}
+use Rattle.pdb_addr2line.specs.Printing.{Formatting}
 use Rattle.pdb_addr2line.proofs.HeldModules.{parts_last, parts_of_context}
 use Rattle.pdb_file_views.specs.Views.{Grows, Views, agrees}
 use Rattle.pdb_loading.specs.Held.{Held, kept_infos}
@@ -81,6 +82,14 @@ renewed f infos c is same made = record {
     answers = λ known. context_answers f.flags f.order f.contents (with_modules f.held infos) c (loaded_over f.order f.contents f.held infos (is.held_is known) (same known)) made;
   };
 }
+
+-- a formatter over new modules is one of the file
+pub formatter_known : (f : FileAnswers) (infos : List KeptInfo) (flags : ℕ) (formatter : Formatting (List KeptInfo)) → IsOfContents f
+    → (agrees f.views f.contents ≡ true → infos ≡ kept_infos (streams f.contents) (modules_of f.held.debug_information.modules).items)
+    → formatter ≡ formatting_of (with_modules f.held infos) flags → IsKnown f
+    → (h : Held) × IsLoadedWith f.order f.contents h × (formatter ≡ formatting_of h flags)
+formatter_known f infos flags formatter is same made known =
+    (with_modules f.held infos, loaded_over f.order f.contents f.held infos (is.held_is known) (same known), made)
 
 -- ---- a context that was asked
 

@@ -1,14 +1,15 @@
 //! A symbolizer of a file that is read on demand.
 
-ghost use Rattle.std.specs.Prelude.{◌≡◌, true, None, Ok, Some, IfErr, IfOk, IfSome};
-ghost use Rattle.pdb_addr2line.specs.Formatters.{context_with, with_modules};
+ghost use Rattle.std.specs.Prelude.{◌≡◌, true, None, Ok, Some, IfErr, IfOk, IfSome, IsOkUnless};
+ghost use Rattle.pdb_addr2line.specs.Formatters.{context_with, formatting_of, with_modules};
 ghost use Rattle.pdb_addresses.specs.Addresses.{IsOrdered};
 ghost use Rattle.pdb_databases.specs.Answer.{map_with};
 ghost use Rattle.pdb_databases.specs.FileAnswers.{IsContextOf, IsKnown, IsUnasked, with_context};
 ghost use Rattle.pdb_databases.specs.Identity.{identity_in};
 ghost use Rattle.pdb_file_views.specs.Views.{agrees, Grows};
+ghost use Rattle.pdb_loading.specs.declared.load_fault.LoadFault.TheVariants as faults;
 ghost use Rattle.pdb_loading.specs.FileFaults.{OnLoadFault};
-ghost use Rattle.pdb_loading.specs.Held.{kept_infos, parts_held_with};
+ghost use Rattle.pdb_loading.specs.Held.{Held as HeldValue, kept_infos, parts_held_with};
 ghost use Rattle.pdb_loading.specs.LoadFaults.{FailsLoading, Refuses};
 ghost use Rattle.pdb_loading.specs.LoadedFile.{IsLoadedWith};
 ghost use Rattle.pdb_loading.specs.Loading.{load_fault_with};
@@ -16,7 +17,9 @@ ghost use Rattle.pdb_symbols_modules.specs.Modules.{modules_of};
 ghost use Rattle.pdb_symbols_modules.specs.Streams.{streams};
 
 use crate::file_on_demand::FileOnDemand;
-use pdb_addr2line::{Context, ContextPdbData, ContributionOrder, KeptModules, TypeFormatterFlags};
+use pdb_addr2line::{
+    Context, ContextPdbData, ContributionOrder, KeptModules, TypeFormatter, TypeFormatterFlags,
+};
 use pdb_addresses::AddressMap;
 use pdb_file_views::{FileSource, Wanted};
 use pdb_image::PdbIdentity;
@@ -287,6 +290,33 @@ impl<'a, F: Drop> FileSymbolizer<'a, F> {
         ensures ordered { IsOrdered result.now }
     {
         self.held.address_map()
+    }
+
+    /// A formatter of types and ids of the file, with these flags. A text that needs a module's
+    /// stream of which not all was read ends with `OutOfMemory`: [`FileSymbolizer::go_on`] reads
+    /// what is missing, and then a new formatter has it.
+    ///
+    /// # Errors
+    /// `OutOfMemory` alone.
+    pub fn type_formatter(
+        &self,
+        alloc: Global,
+        flags: TypeFormatterFlags,
+    ) -> Result<TypeFormatter<'a, 'static, KeptModules<'static>>, LoadFault>
+        ensures formatter { IsKnown self.now → IfOk result (λ f. (h : HeldValue)
+            × IsLoadedWith self.now.order self.now.contents h × (f ≡ formatting_of h flags.bits)) }
+        ensures memory { IsOkUnless result faults.OutOfMemory }
+    {
+        let Ok(modules) = modules_of_file(alloc, &self.source, &self.wanted, self.held) else {
+            return Err(LoadFault::OutOfMemory);
+        };
+        let Ok(modules) = self.source.arena.try_alloc(modules) else {
+            return Err(LoadFault::OutOfMemory);
+        };
+        match self.held.make_type_formatter_over(alloc, modules, flags) {
+            Ok(formatter) => Ok(formatter),
+            Err(error) => Err(LoadFault::from(error)),
+        }
     }
 
     /// Takes the context out, to ask it more than one question; [`FileSymbolizer::put_context`]

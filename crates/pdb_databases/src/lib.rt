@@ -17,6 +17,7 @@
 //! | have a context or a formatter over it | [`Symbolizer::context`], `type_formatter` |
 //! | load a file that is read on demand | [`FileSymbolizer::open`], `open_with_flags` |
 //! | ask it for frames | [`FileSymbolizer::find_frames`], `find_frames_run` |
+//! | have a formatter over it | [`FileSymbolizer::type_formatter`] |
 //! | ask it by what was read | `find_held_shared_frames`, then `go_on` |
 //! | ask its context more than one question | `take_context`, `put_context`, `go_on` |
 //! | ask for modules before they are needed | `ask`, `ask_between`, `ask_all` |
