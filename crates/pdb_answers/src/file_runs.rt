@@ -100,7 +100,7 @@ fn read_run<I: ModuleTables>(
 /// Returns the run at a place in a chosen function. Nothing is read where a part of the function is
 /// known to be unreadable.
 #[tactic(auto, using(crate::proofs::FileRunFaults::known_unreadable))]
-fn chosen_run<I: ModuleTables>(
+fn run_unless_known<I: ModuleTables>(
     alloc: Global,
     parts: &ContextParts<'_, '_>,
     known_failures: &mut KnownFailures,
@@ -210,7 +210,7 @@ impl<'a, 's, P: ModuleProvider> PlaceSymbolizer<'a, 's, P> {
             place,
             far,
         };
-        chosen_run(
+        run_unless_known(
             alloc,
             &self.parts,
             &mut self.known_failures,

@@ -34,7 +34,7 @@ pub(crate) trait Counted: Countable {
 
     /// Returns a key of the answer at a place, and over how many places from it on there is no
     /// bound, `limit` at most. It is counted as a lookup.
-    fn run_at(
+    fn find_run(
         alloc: Global,
         context: &mut FileContext<'_>,
         place: PdbInternalSectionOffset,
@@ -50,7 +50,7 @@ pub(crate) trait Counted: Countable {
             ≡ min (context.old.lookups + 1) (2 ^ 64 - 1)) };
 
     /// Returns the answer that a key stands for, if there is one.
-    fn answer_of(
+    fn find_by_key(
         alloc: Global,
         context: &mut FileContext<'_>,
         key: &Self::Key,
@@ -84,7 +84,7 @@ impl Counted for Function {
 
     ghost of_file = { λ order s c answers. answers.places };
 
-    fn run_at(
+    fn find_run(
         alloc: Global,
         context: &mut FileContext<'_>,
         place: PdbInternalSectionOffset,
@@ -96,7 +96,7 @@ impl Counted for Function {
         }
     }
 
-    fn answer_of(
+    fn find_by_key(
         alloc: Global,
         context: &mut FileContext<'_>,
         key: &FunctionKey,
@@ -127,7 +127,7 @@ impl Counted for CountedFile {
 
     ghost of_file = { λ order s c answers. answers.by_file };
 
-    fn run_at(
+    fn find_run(
         alloc: Global,
         context: &mut FileContext<'_>,
         place: PdbInternalSectionOffset,
@@ -139,7 +139,7 @@ impl Counted for CountedFile {
         }
     }
 
-    fn answer_of(
+    fn find_by_key(
         alloc: Global,
         context: &mut FileContext<'_>,
         key: &FileKey,
@@ -208,11 +208,11 @@ impl<'a, A: Counted> Runs for ContextRuns<'a, A> {
         place: PdbInternalSectionOffset,
         limit: u32,
     ) -> Result<(Option<A::Key>, u32), AllocError> {
-        A::run_at(alloc, &mut self.context, place, limit)
+        A::find_run(alloc, &mut self.context, place, limit)
     }
 
     fn answer_of(&mut self, alloc: Global, key: &A::Key) -> Result<Option<A>, AllocError> {
         self.answered = self.answered.saturating_add(1);
-        A::answer_of(alloc, &mut self.context, key)
+        A::find_by_key(alloc, &mut self.context, key)
     }
 }

@@ -16,6 +16,6 @@ invariant_of-self-2 g c =
       kept_on provided provider namer namer c.modules-modules.result.now c.keep_module.new.kept
           c.keep_rows.new.cached c.in_ok-keep_module.ensures.kept c.modules-modules.ensures refl
           c.keep_rows.ensures,
-      c.chosen_run.ensures.known (data_of_modules provided provider namer) known
+      c.run_unless_known.ensures.known (data_of_modules provided provider namer) known
           c.self.invariant.1,
     )
