@@ -14,7 +14,7 @@ use Rattle.pdb_loading.specs.LoadFaults.{Refuses}
 use Rattle.pdb_loading.specs.Loading.{LoadingFault, load_fault_with}
 use Rattle.pdb_report.specs.Answer.{answer_with}
 use Rattle.pdb_report.specs.FrameReports.{FramesOf, ReportsFrames, frames_with, frames_loaded}
-use Rattle.pdb_report_texts.specs.AddressText.{Answers, line_text}
+use Rattle.pdb_report_texts.specs.AddressText.{AddressAnswers, line_text}
 use Rattle.pdb_report_texts.specs.declared.fault.RunFault.{RunFault}
 use Rattle.pdb_report_texts.specs.declared.fault.RunFault.TheVariants as runs
 use Rattle.pdb_report_texts.specs.RunFaults.{run_fault_of, run_fault_of_input}
@@ -73,13 +73,13 @@ module _ {R W : Type 0} (remaining : R → Option (List ℕ)) (contents : W → 
         (subst (λ (f : FileBytes). ReportsFrames (frames_loaded f) limit remaining contents reader reader' writer writer' result) same r)
 
     -- what a run by answers that are the file's says, where it ends well
-    pub ended_well : (file : FileBytes) (own : Answers) (done : T) → own ≡ answer_with file.order (streams file.bytes)
+    pub ended_well : (file : FileBytes) (own : AddressAnswers) (done : T) → own ≡ answer_with file.order (streams file.bytes)
         → IfSome (remaining (inner_of reader)) (λ input. (length input ≤ limit) × Writes contents writer writer' (report (line_text own) input))
         → IsQuiet reader reader' × IsQuiet writer writer'
         → ReportsFrames (frames_loaded file) limit remaining contents reader reader' writer writer' (Ok done)
     ended_well file own done same ok quiet =
         let out : IfSome (remaining (inner_of reader)) (λ input. (length input ≤ limit) × Writes contents writer writer' (report (line_text (answer_with file.order (streams file.bytes))) input)) =
-        subst (λ (f : Answers). IfSome (remaining (inner_of reader)) (λ input. (length input ≤ limit) × Writes contents writer writer' (report (line_text f) input))) same ok in
+        subst (λ (f : AddressAnswers). IfSome (remaining (inner_of reader)) (λ input. (length input ≤ limit) × Writes contents writer writer' (report (line_text f) input))) same ok in
         record {
           load = tt;
           loaded = refl;
@@ -97,7 +97,7 @@ module _ {R W : Type 0} (remaining : R → Option (List ℕ)) (contents : W → 
         }
 
     -- and where it ends early
-    pub ended_early : (file : FileBytes) (own : Answers) (fault : InputFault) → own ≡ answer_with file.order (streams file.bytes)
+    pub ended_early : (file : FileBytes) (own : AddressAnswers) (fault : InputFault) → own ≡ answer_with file.order (streams file.bytes)
         → inputs.IsOfRunning fault
         → inputs.OnRead fault (λ kind. CountsFailure reader reader' kind)
         → inputs.OnWrite fault (λ kind. CountsFailure writer writer' kind)
@@ -116,7 +116,7 @@ module _ {R W : Type 0} (remaining : R → Option (List ℕ)) (contents : W → 
       isolated = isolated file.bytes;
       read_fails = on_read fault _ read_fails;
       write_fails = on_write fault _ write_fails;
-      read_out = on_read fault _ (subst (λ (f : Answers). inputs.OnRead fault (λ _. (taken : List ℕ) × Takes remaining reader reader' taken × Writes contents writer writer' (report_of_ended (line_text f) taken))) same read_out);
-      too_long = on_too_long fault _ (subst (λ (f : Answers). inputs.OnTooLong fault (IfSome (remaining (inner_of reader)) (λ input. (limit < length input) × Writes contents writer writer' (report_of_ended (line_text f) (take limit input))))) same too_long);
-      part = subst (λ (f : Answers). IfSome (remaining (inner_of reader)) (λ input. WritesFront contents writer writer' (report (line_text f) input))) same part;
+      read_out = on_read fault _ (subst (λ (f : AddressAnswers). inputs.OnRead fault (λ _. (taken : List ℕ) × Takes remaining reader reader' taken × Writes contents writer writer' (report_of_ended (line_text f) taken))) same read_out);
+      too_long = on_too_long fault _ (subst (λ (f : AddressAnswers). inputs.OnTooLong fault (IfSome (remaining (inner_of reader)) (λ input. (limit < length input) × Writes contents writer writer' (report_of_ended (line_text f) (take limit input))))) same too_long);
+      part = subst (λ (f : AddressAnswers). IfSome (remaining (inner_of reader)) (λ input. WritesFront contents writer writer' (report (line_text f) input))) same part;
     }

@@ -20,7 +20,7 @@ use Rattle.pdb_contributions.specs.declared.contribution.ModuleSectionContributi
 use Rattle.pdb_report.specs.Answer.{given_in, formatting_in, scope, answer_with, answer_by, function_with, function_by, answer_named, function_named, scope_named}
 use Rattle.pdb_report.specs.Isolation.{AreAlikeFor, IsRelated, modules_in, holder_by, holder_with, IsIsolated, exchanged_with, exchanged_if}
 use Rattle.pdb_report.specs.Isolation.IsRelated.{Itself, Reached}
-use Rattle.pdb_report_texts.specs.AddressText.{line_text, Answers}
+use Rattle.pdb_report_texts.specs.AddressText.{line_text, AddressAnswers}
 use Rattle.pdb_resolving.specs.Reaches.{Reaches}
 use Rattle.pdb_resolving.specs.Resolving.{Modules, resolve}
 use Rattle.pdb_symbols_modules.specs.DatabaseCalls.{debug_information, names}
@@ -146,7 +146,7 @@ unfolding holder_with function_named
 function_alike order a b m x h held =
     by_function a b m x (loaded_with order (shared a)) held (λ l e. scope_alike order a b m l h e) ∙ ap (λ c. function_by 23 b (loaded_with order c) x) (shared_alike a b m h)
 
-line_alike : (f g : Answers) (x : ℕ) (line : List ℕ) → f x ≡ g x → address_of line ≡ Some x → line_text f line ≡ line_text g line
+line_alike : (f g : AddressAnswers) (x : ℕ) (line : List ℕ) → f x ≡ g x → address_of line ≡ Some x → line_text f line ≡ line_text g line
 unfolding line_text
 line_alike f g x line same is = rw (is, same) refl
 
@@ -180,9 +180,9 @@ exchanged_alike order a b m h = fun_ext λ x.
     exchanged_held m (holder_with order (streams a) x) (answer_with order (streams a) x) (answer_with order (streams b) x) (λ held. (isolated a order b m x h held).frames)
 
 -- what is out by a file's own answers is out by exchanged ones
-pub exchanged_out : {T E : Type 0} (order : ContributionOrder) (a : List ℕ) (result : Result T E) (input : Option (List ℕ)) (Q : List ℕ → Type 0) (P : Answers → List ℕ → Type 0)
+pub exchanged_out : {T E : Type 0} (order : ContributionOrder) (a : List ℕ) (result : Result T E) (input : Option (List ℕ)) (Q : List ℕ → Type 0) (P : AddressAnswers → List ℕ → Type 0)
     → OnOk result (IfSome input (λ input. Q input × P (answer_with order (streams a)) input))
     → OnOk result (IfSome input (λ input. (other : List ℕ) (m : ℕ) → AreAlikeFor m a other → P (exchanged_with order m (streams a) (streams other)) input))
 exchanged_out order a (Err e) input Q P h = tt
 exchanged_out order a (Ok x) None Q P h = tt
-exchanged_out order a (Ok x) (Some input) Q P h = λ other m alike. subst (λ (answers : Answers). P answers input) (exchanged_alike order a other m alike) h.1
+exchanged_out order a (Ok x) (Some input) Q P h = λ other m alike. subst (λ (answers : AddressAnswers). P answers input) (exchanged_alike order a other m alike) h.1

@@ -13,7 +13,7 @@ use Rattle.pdb_loading.specs.Loading.{LoadingFault, load_fault_with}
 use Rattle.pdb_report.specs.Answer.{answer_with}
 use Rattle.pdb_report.specs.FileReports.{IfRefused}
 use Rattle.pdb_report.specs.Isolation.{AreAlikeFor, IsIsolated, exchanged_with}
-use Rattle.pdb_report_texts.specs.AddressText.{Answers, line_text}
+use Rattle.pdb_report_texts.specs.AddressText.{AddressAnswers, line_text}
 use Rattle.pdb_report_texts.specs.declared.fault.RunFault.{RunFault}
 use Rattle.pdb_report_texts.specs.RunFaults.{OnLoad, OnMemory, OnRead, OnTooLong, OnWrite}
 use Rattle.pdb_report_texts.specs.RunFaults.{IsOfFileFrames, IsOfFrames, UnlessLoad}
@@ -25,7 +25,7 @@ pub record FramesOf : Type 0 where
   pub bytes : List ℕ
   pub order : ContributionOrder
   pub fault : Option LoadingFault
-  pub answer : Answers
+  pub answer : AddressAnswers
 
 -- that of a file, where section contributions have to stand in this order
 abbrev pub frames_with : ContributionOrder → List ℕ → FramesOf

@@ -10,7 +10,7 @@ use Rattle.pdb_container.specs.Alike.{OpenAlike, ReadAlike}
 use Rattle.pdb_container.specs.Fault as container
 use Rattle.pdb_report.specs.Answer.{answer_with, function_with, given_in}
 use Rattle.pdb_loading.specs.Loading.{Loaded, loaded_with, LoadingFault}
-use Rattle.pdb_report_texts.specs.AddressText.{line_text, Answers}
+use Rattle.pdb_report_texts.specs.AddressText.{line_text, AddressAnswers}
 use Rattle.pdb_resolving.specs.Reaches.{Reaches}
 use Rattle.pdb_resolving.specs.Resolving.{Modules, none_failed}
 use Rattle.pdb_symbols_modules.specs.DatabaseCalls.{debug_information}
@@ -98,9 +98,9 @@ exchanged_if m None own other = own
 exchanged_if m (Some k) own other = if k == m then other else own
 
 -- the answers of a file, but those of another one at the addresses that module m holds in the first
-abbrev pub exchanged_with : ContributionOrder → ℕ → Streams → Streams → Answers
+abbrev pub exchanged_with : ContributionOrder → ℕ → Streams → Streams → AddressAnswers
 exchanged_with order m a b x =
     exchanged_if m (holder_with order a x) (answer_with order a x) (answer_with order b x)
 
-abbrev pub exchanged : ℕ → Streams → Streams → Answers
+abbrev pub exchanged : ℕ → Streams → Streams → AddressAnswers
 exchanged m a b x = exchanged_with InOrder m a b x

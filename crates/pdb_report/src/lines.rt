@@ -4,7 +4,7 @@ ghost use Rattle.std.specs.Prelude.{◌≡◌, ◌++◌, [], None, OnErr, OnOk, 
 ghost use Rattle.pdb_addr2line.specs.Context.{lasting};
 ghost use Rattle.pdb_databases.specs.FileFrames.{FindsHeldFrames};
 ghost use Rattle.pdb_report.specs.Answer.{answer_of};
-ghost use Rattle.pdb_report_texts.specs.AddressText.{Answers as AnswersTo};
+ghost use Rattle.pdb_report_texts.specs.AddressText.{AddressAnswers};
 ghost use Rattle.pdb_report_texts.specs.AddressText.{line_text as text_of_line, text_at};
 
 use pdb_addr2line::{Context, Error, ModuleProvider, SharedFunctionFrames};
@@ -25,7 +25,7 @@ pub(crate) fn append_found(
     found: Result<Option<SharedFunctionFrames<'_>>, Error>,
     text: &mut String,
 ) -> Result<(), AllocError>
-    ensures { (answers : AnswersTo) → FindsHeldFrames found.entry (answers address)
+    ensures { (answers : AddressAnswers) → FindsHeldFrames found.entry (answers address)
         → OnOk result (string_bytes text.new
         ≡ string_bytes text.old ++ text_at answers (Some address)) }
 {
@@ -44,7 +44,7 @@ pub(crate) fn append_found(
 
 /// Appends what is written for a line that isn't an address.
 pub(crate) fn append_no_address(text: &mut String) -> Result<(), AllocError>
-    ensures { (answers : AnswersTo) → OnOk result
+    ensures { (answers : AddressAnswers) → OnOk result
         (string_bytes text.new ≡ string_bytes text.old ++ text_at answers None) }
 {
     text.push_str("not an address\n")?;

@@ -34,14 +34,14 @@ answer_text (Ok (Some f)) = flat_map frame_text f.frames
 answer_text (Err e) = codes "  unreadable\n"
 
 -- the answers for addresses
-abbrev pub Answers : Type 0
-Answers = ℕ → Result (Option FunctionFrames) Fault
+abbrev pub AddressAnswers : Type 0
+AddressAnswers = ℕ → Result (Option FunctionFrames) Fault
 
 -- what is written for a line that is an address, or isn't one, by the answers
-abbrev pub text_at : Answers → Option ℕ → List ℕ
+abbrev pub text_at : AddressAnswers → Option ℕ → List ℕ
 text_at answer None = codes "not an address\n"
 text_at answer (Some a) = codes "0x" ++ eight_digits a ++ 10 ∷ answer_text (answer a)
 
 -- what is written for a line of the input
-unfoldable pub line_text : Answers → List ℕ → List ℕ
+unfoldable pub line_text : AddressAnswers → List ℕ → List ℕ
 line_text answer line = text_at answer (address_of line)
