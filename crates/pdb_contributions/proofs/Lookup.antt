@@ -3,7 +3,7 @@
 use Rattle.std.proofs.Common.{◌≡◌, ◌≢◌, ℕ, ◌<◌, ◌≤◌, not, get_or, Bool, true, false, cond, List, []}
 use Rattle.std.proofs.Common.{◌∷◌, Option, None, Some, length, zero, suc, refl, sym, ap, ◌∙◌, arith}
 use Rattle.std.proofs.Common.{inl, inr}
-use Rattle.std.specs.Prelude.{slice_get, option_and_then, ◌==◌, if◌then◌else◌}
+use Rattle.std.specs.Prelude.{slice_get, option_and_then, is_some, ◌==◌, if◌then◌else◌}
 use Rattle.std.specs.List.{find}
 use Rattle.std.specs.List.Sorted.{IsPartitionPoint, IsPartitionedBy}
 use Rattle.std.proofs.lemmas.Bool.{cases_Bool, cases_lt, eq-eqb, ne_eqb}
@@ -89,6 +89,18 @@ find_is test (g ∷ others) zero f e h before = let same : f ≡ g = cc in let h
 find_is test (g ∷ others) (suc k) f e h before =
     rw (before 0 g (omega arith) refl)
     (find_is test others k f e h (λ i x lt there. before (suc i) x (omega arith) there))
+
+-- where an entry is at a place, one is found there
+pub one_is_found : (list : List PublicFunction) (p : Place) (k : ℕ) (f : PublicFunction)
+    → slice_get list k ≡ Some f → is_at p f ≡ true → is_some (public_exactly list p) ≡ true
+one_is_found [] p k f e h = absurd (cc)
+one_is_found (g ∷ others) p zero f e h =
+    let same : f ≡ g = cc in let here : is_at p g ≡ true = ap (is_at p) (sym same) ∙ h in
+    rw here refl
+one_is_found (g ∷ others) p (suc k) f e h = elim (cases_Bool (is_at p g)) [
+  | inl here ↦ rw here refl
+  | inr other ↦ rw other (one_is_found others p k f e h)
+]
 
 last_none : (list : List PublicFunction) (p : Place)
     → ((i : ℕ) (f : PublicFunction) → slice_get list i ≡ Some f → is_at_or_before p f ≡ false)

@@ -1,6 +1,7 @@
 //! The public list in order, and looking up in it.
 
 ghost use Rattle.std.specs.Prelude.{◌≡◌, ◌++◌, IfOk, OnOk, is_some, length, option_map, slice_get};
+ghost use Rattle.std.specs.Prelude.{true};
 ghost use Rattle.pdb_contributions.specs.Publics.{placeholders, section_ends, publics_among};
 ghost use Rattle.pdb_contributions.specs.Publics.{missing, public_exactly, public_over, next_public};
 ghost use Rattle.pdb_contributions.specs.Publics.{is_at as at_place, is_before as comes_before};
@@ -153,6 +154,40 @@ fn begins_at(functions: &[PublicFunction<'_>], place: PdbInternalSectionOffset) 
     exactly_at(functions, place).is_some()
 }
 
+/// Whether the entry with that number, counted from 0, is there and begins at a place.
+#[tactic(auto, using(crate::proofs::Lookup::one_is_found))]
+fn is_number_at(
+    functions: &[PublicFunction<'_>],
+    number: usize,
+    place: PdbInternalSectionOffset,
+) -> bool
+    ensures { result ≡ true → is_some (public_exactly functions.now place) ≡ true }
+{
+    match entry_at(functions, number) {
+        None => false,
+        Some(function) => is_at(place, function),
+    }
+}
+
+/// Whether an entry of a list in order begins at a place. The one with the number `next` is looked
+/// at first, and then that number is of the entry after the place: places that are asked for in
+/// order mostly take one step each.
+fn begins_next(
+    functions: &[PublicFunction<'_>],
+    next: &mut usize,
+    place: PdbInternalSectionOffset,
+) -> bool
+    requires { Rises functions.now }
+    ensures { result ≡ is_some (public_exactly functions.now place) }
+{
+    if is_number_at(functions, *next, place) {
+        *next = next.saturating_add(1);
+        return true;
+    }
+    *next = count_up_to(functions, place);
+    begins_at(functions, place)
+}
+
 /// The places at which no entry of a list in order begins.
 #[tactic(auto, using(crate::proofs::Missing::missing_start, crate::proofs::Missing::missing_more, crate::proofs::Missing::missing_passed, crate::proofs::Missing::missing_end))]
 fn missing_among(
@@ -164,8 +199,9 @@ fn missing_among(
     ensures { IfOk result (λ v. v.items ≡ missing functions.now starts.now) }
 {
     let mut places = Vec::new(alloc);
+    let mut next = 0;
     for start in starts {
-        if !begins_at(functions, *start) {
+        if !begins_next(functions, &mut next, *start) {
             places.push(*start)?;
         }
     }
