@@ -60,10 +60,7 @@ fn append_bytes(text: &mut String, bytes: &[u8]) -> Result<(), AllocError>
     requires { IsUtf8 bytes.now }
     ensures { OnOk result (string_bytes text.new ≡ string_bytes text.old ++ bytes.now) }
 {
-    match std::str::from_utf8(bytes) {
-        Ok(bytes) => text.push_str(bytes),
-        Err(_) => unreachable!(),
-    }
+    text.push_str(unsafe { std::str::from_utf8_unchecked(bytes) })
 }
 
 /// Appends the line of an address itself.
