@@ -13,16 +13,16 @@ use std::mem::replace;
 
 /// The number of bytes, taken together, from which on no more texts are made before their turn: 8
 /// MB. A file chooses how long its texts are, so something has to bound what waits. With lines and
-/// answers as in the program's stored run, the answers to one read take 0.5 to 2 MB; docs/COSTS.md
-/// has an answer of 60 MB.
-const AHEAD_SIZE: usize = 8_388_608;
+/// answers as in the program's stored run, the answers to one read take 1 to 4 MB; docs/COSTS.md
+/// has an answer of 60 MB. Where they take more, the next reads ask for less.
+pub const AHEAD_SIZE: usize = 8_388_608;
 
 /// Where the answer to a line stands among texts that were made, as offsets in bytes: from `start`
-/// on, and before `end`.
+/// on, and before `end`. They have 32 bits, since many lines wait.
 #[derive(Clone, Copy)]
 struct Made {
-    start: usize,
-    end: usize,
+    start: u32,
+    end: u32,
 }
 
 /// A line that is to be answered.
@@ -49,7 +49,7 @@ pub fn clear_room(alloc: Global, bytes: &mut Vec<u8>, long: usize)
 #[derive(Clone, Copy, PartialEq, Eq, PartialOrd, Ord)]
 struct Turn {
     place: u32,
-    index: usize,
+    index: u32,
 }
 
 /// Appends the line that the byte ends to the requests, or appends the byte to the line's start.
@@ -74,6 +74,17 @@ fn split_byte<L: LineStart>(
     Ok(())
 }
 
+/// How many newlines there are.
+fn count_newlines(bytes: &[u8]) -> usize {
+    let mut count = 0usize;
+    for byte in bytes {
+        if *byte == b'\n' {
+            count = count.saturating_add(1);
+        }
+    }
+    count
+}
+
 /// Returns the lines that the bytes end, none of them answered yet. The start of the line after
 /// them is stored.
 ///
@@ -90,11 +101,19 @@ pub fn split<L: LineStart>(
         ≡ kept_rest L.limit (L.kept start.old) bytes.now) }
     ensures unanswered { IfOk result (λ requests. AreUnanswered requests.items) }
 {
-    let mut requests = Vec::new(alloc);
+    let mut requests = Vec::with_capacity(alloc, count_newlines(bytes))?;
     for byte in bytes {
         split_byte(alloc, &mut requests, start, *byte)?;
     }
     Ok(requests)
+}
+
+/// A number in 32 bits. No read ends so many lines that their numbers don't fit.
+fn short_number(number: usize) -> Result<u32, AllocError> {
+    match u32::try_from(number) {
+        Ok(short) => Ok(short),
+        Err(_) => Err(AllocError),
+    }
 }
 
 /// Returns the turns of the lines by their places.
@@ -106,13 +125,15 @@ fn turns<A: Answers>(
     let mut turns = Vec::with_capacity(alloc, requests.len())?;
     for (index, request) in requests.iter().enumerate() {
         let place = answers.place(request.line.bytes());
+        let index = short_number(index)?;
         turns.push(Turn { place, index })?;
     }
     Ok(turns)
 }
 
 /// Makes the answer to a line before its turn to be written, and appends it to other texts. If
-/// these are long, it makes none and returns `false`.
+/// these are long, it makes none and returns `false`. A text that ends past 2^32 bytes is refused
+/// like one that memory is too short for.
 #[tactic(auto, using(crate::proofs::RequestSteps::made_later, crate::proofs::RequestSteps::answered_weaker))]
 fn answer_request<A: Answers>(
     alloc: Global,
@@ -144,7 +165,11 @@ fn answer_request<A: Answers>(
         return Ok(false);
     }
     answers.answer(alloc, request.line.bytes(), texts)?;
-    let end = texts.len();
+    let Ok(end) = u32::try_from(texts.len()) else {
+        texts.truncate(start);
+        return Err(AllocError);
+    };
+    let start = start as u32;
     request.made = Some(Made { start, end });
     Ok(true)
 }
@@ -199,7 +224,7 @@ fn answer_in_turn<A: Answers>(
     ensures subject { A.subject answers.new ≡ A.subject answers.old }
 {
     for turn in turns {
-        if !answer_numbered(alloc, answers, requests, turn.index, texts)? {
+        if !answer_numbered(alloc, answers, requests, turn.index as usize, texts)? {
             return Ok(());
         }
     }
@@ -262,7 +287,7 @@ pub fn append_answer<A: Answers>(
     ensures subject { A.subject answers.new ≡ A.subject answers.old }
 {
     match request.made {
-        Some(made) => output.extend_from_slice(&texts[made.start..made.end]),
+        Some(made) => output.extend_from_slice(&texts[made.start as usize..made.end as usize]),
         None => answers.answer(alloc, request.line.bytes(), output),
     }
 }

@@ -15,14 +15,19 @@ const ALLOWED: u64 = 64 << 20;
 /// over and over.
 const FOR_EACH_BYTE: u64 = 4;
 
-/// How many bytes may be cached of modules but for their procedures, beside one for each eight bytes
-/// of the symbols and lines that were read: 512 KB. Past that a module is forgotten once another one
-/// is asked for, but only the first time.
-const ALLOWED_MODULES: u64 = 512 << 10;
+/// How many bytes of the symbols and lines that were read don't count in the two limits below: 2 MB.
+/// The answers that wait take about as much. With it 100,000 addresses at random of the database of
+/// 10 MB in docs/PERFORMANCE.md take a little less memory than the ported crate does.
+const UNCOUNTED: u64 = 2 << 20;
 
-/// How many bytes may be cached of procedures, beside five for each eight bytes of the symbols and
-/// lines that were read: 256 KB. Past half of that the line rows of a module are forgotten once
-/// another module is asked for; past all of it also its procedures are.
+/// How many bytes may be cached of modules but for their procedures, beside one for each eight bytes
+/// that count of the symbols and lines that were read: 64 KB. Past that a module is forgotten once
+/// another one is asked for, but only the first time.
+const ALLOWED_MODULES: u64 = 64 << 10;
+
+/// How many bytes may be cached of procedures, beside five for each eight bytes that count of the
+/// symbols and lines that were read: 256 KB. Past half of that the line rows of a module are
+/// forgotten once another module is asked for; past all of it also its procedures are.
 const ALLOWED_PROCEDURES: u64 = 256 << 10;
 
 /// Counts the bytes that are cached of modules.
@@ -32,6 +37,8 @@ pub struct Meter {
     cached: u64,
     /// How many of them are of procedures.
     procedures: u64,
+    /// How many bytes of symbols and lines were read, each stream's once.
+    read: u64,
     /// How many of the others may be cached of modules that are left for the first time.
     allowed_modules: u64,
     /// How many of them may be of procedures.
@@ -55,6 +62,7 @@ impl Meter {
         Meter {
             cached: 0,
             procedures: 0,
+            read: 0,
             allowed_modules: ALLOWED_MODULES,
             allowed_procedures: ALLOWED_PROCEDURES,
             greatest: 0,
@@ -118,8 +126,10 @@ impl Meter {
             let bytes = u64::from(module.symbols_size()) + u64::from(module.c13_lines_size());
             let allowed = self.allowed.saturating_add(bytes * FOR_EACH_BYTE);
             self.allowed = allowed.min(self.most_allowed);
-            self.allowed_modules = self.allowed_modules.saturating_add(bytes / 8);
-            self.allowed_procedures = self.allowed_procedures.saturating_add(bytes / 8 * 5);
+            self.read = self.read.saturating_add(bytes);
+            let counted = self.read.saturating_sub(UNCOUNTED);
+            self.allowed_modules = ALLOWED_MODULES.saturating_add(counted / 8);
+            self.allowed_procedures = ALLOWED_PROCEDURES.saturating_add(counted / 8 * 5);
         }
         self.count(known.memory_size());
         Ok(())

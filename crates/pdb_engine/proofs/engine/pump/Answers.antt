@@ -6,7 +6,7 @@ use Rattle.pdb_engine.proofs.engine.pump.Goals as goal
 pub reads-preserved : goal.reads-preserved
 reads-preserved g c = record {
   out = λ known. taken_more _ _ _ _ _ _ _ _ _ _ _ _ _ (c.reads.invariant.out (c.answer_read.ensures.grows known)) c.reads.invariant.same _ _ (c.in-Ok.ensures.ok known);
-  room = c.answer_read.ensures.room ∙ c.reads.invariant.room;
+  room = c.answer_read.ensures.room;
   grows = λ known. c.reads.invariant.grows (c.answer_read.ensures.grows known);
   same = c.answer_read.ensures.same ∙ c.reads.invariant.same;
   subject = c.answer_read.ensures.subject ∙ c.reads.invariant.subject;

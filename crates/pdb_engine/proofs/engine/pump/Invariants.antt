@@ -1,4 +1,4 @@
-use Rattle.std.proofs.Common.{◌≡◌, ℕ, ◌+◌, List, length}
+use Rattle.std.proofs.Common.{◌≡◌, ℕ, ◌+◌, ◌<◌, List, length}
 use Rattle.std.specs.List.{flat_map}
 use Rattle.std.specs.Io.KnownBytes.{Appends, Consumes}
 use Rattle.pdb_engine.specs.Watched.{inner_of, IsQuiet}
@@ -16,7 +16,7 @@ invariant-reads g l =
     record {
       out : g.A.Answers.known l.answers → (taken : List ℕ) × Consumes (remaining (inner_of l.fn.reader)) (remaining (inner_of l.reader)) taken × (length taken + l.left ≡ l.limit)
           × Appends (contents (inner_of l.fn.writer)) (contents (inner_of l.writer)) (flat_map (text l.fn.answers) (kept_lines room (kept l.fn.buffers.start) taken)) × (kept l.buffers.start ≡ kept_rest room (kept l.fn.buffers.start) taken);
-      room : length l.buffers.chunk.items ≡ length l.fn.buffers.chunk.items;
+      room : 0 < length l.buffers.chunk.items;
       grows : g.A.Answers.known l.answers → g.A.Answers.known l.fn.answers;
       same : text l.answers ≡ text l.fn.answers;
       subject : g.A.Answers.subject l.answers ≡ g.A.Answers.subject l.fn.answers;
