@@ -6,6 +6,7 @@ pub mod Spans
 pub mod Records
 pub mod RecordTexts
 pub mod PieceRecords
+pub mod CommonCalls
 pub mod Lookup
 pub mod Reading
 pub mod Output

@@ -1,8 +1,10 @@
 //! INLINE records: inlined calls, over addresses where these and those around them are the same.
 
-ghost use Rattle.std.specs.Prelude.{◌≡◌, ◌++◌, ◌∷◌, [], None, IfOk, OnOk, string_bytes};
+ghost use Rattle.std.specs.Prelude.{◌≡◌, ◌++◌, ◌∷◌, [], None, IfOk, IfSome, OnOk, string_bytes};
 ghost use Rattle.std.specs.List.{flat_map};
 ghost use Rattle.std.specs.Option.{option_or, option_to_list};
+ghost use Rattle.pdb_symbol_files.specs.CommonCalls.{common_calls as common_calls_of};
+ghost use Rattle.pdb_symbol_files.specs.CommonCalls.{common_with_last};
 ghost use Rattle.pdb_symbol_files.specs.PieceRecords.{begun as begun_by, depth_of as depth_in};
 ghost use Rattle.pdb_symbol_files.specs.PieceRecords.{ended, inline_records, is_key, level_records};
 ghost use Rattle.pdb_symbol_files.specs.PieceRecords.{level_spans, longer, numbers_after};
@@ -12,7 +14,7 @@ ghost use Rattle.pdb_symbol_files.specs.RecordTexts.{call_text, inline_text, ran
 ghost use Rattle.pdb_symbol_files.specs.Spans.{same_calls};
 
 use crate::numbering::Numbering;
-use crate::pieces::{Call, Piece, is_one_call, is_one_path};
+use crate::pieces::{Call, Piece, is_one_call};
 use std::alloc::{AllocError, Global};
 use std::marker::Model;
 
@@ -62,21 +64,30 @@ fn path_of(piece: &Piece, level: usize) -> Option<Path<'_>>
     }
 }
 
-/// Whether two paths are the same.
-fn is_same(a: &Path<'_>, b: &Path<'_>) -> bool
-    ensures { result ≡ same_calls a.now b.now }
+/// How many calls two lists begin with that are the same in both.
+#[tactic(auto, using(crate::proofs::CommonPaths::one_more, crate::proofs::CommonPaths::differs, crate::proofs::CommonPaths::first_ends, crate::proofs::CommonPaths::second_ends))]
+fn common_calls(a: &[Call], b: &[Call]) -> usize
+    ensures { result ≡ common_calls_of a.now b.now }
 {
-    is_one_call(a.call, b.call) && is_one_path(a.outer, b.outer)
+    let mut common = 0;
+    while common < a.len() && common < b.len() && is_one_call(&a[common], &b[common]) {
+        common += 1;
+    }
+    common
 }
 
-/// Whether a stretch goes on with a path.
-fn goes_on(stretch: &CallStretch<'_>, path: &Option<Path<'_>>) -> bool
-    ensures { result ≡ is_key same_calls (stretch.now).key path.now }
+/// How many calls each piece has in common with the one before it; the first one has none.
+fn commons_of(alloc: Global, pieces: &[Piece]) -> Result<Vec<usize>, AllocError>
+    ensures { IfOk result (λ commons. commons.items ≡ common_with_last [] pieces.now) }
 {
-    match path {
-        Some(path) => is_same(&stretch.path, path),
-        None => false,
+    let mut commons = Vec::new(alloc);
+    let mut last: &[Call] = &[];
+    for piece in pieces {
+        let calls = piece.told.calls.as_slice();
+        commons.push(common_calls(last, calls))?;
+        last = calls;
     }
+    Ok(commons)
 }
 
 /// The stretch of a piece, if it has a path.
@@ -93,12 +104,15 @@ fn begun<'p>(piece: &Piece, path: Option<Path<'p>>) -> Option<CallStretch<'p>>
     }
 }
 
-/// The stretch that ends before a piece, if one does, and that which runs after it.
+/// The stretch that ends before a piece, if one does, and that which runs after it. The one that
+/// runs goes on with the piece, or doesn't.
 fn advanced<'p>(
     running: Option<CallStretch<'p>>,
     piece: &Piece,
     path: Option<Path<'p>>,
+    goes_on: bool,
 ) -> (Option<CallStretch<'p>>, Option<CallStretch<'p>>)
+    requires { IfSome running (λ s. goes_on ≡ is_key same_calls s.key path) }
     ensures ended { option_to_list result.0
         ≡ ended running.entry (longer same_calls running.entry piece.now path.entry) }
     ensures next { result.1 ≡ option_or (longer same_calls running.entry piece.now path.entry)
@@ -107,7 +121,7 @@ fn advanced<'p>(
     let Some(stretch) = running else {
         return (None, begun(piece, path));
     };
-    if goes_on(&stretch, &path) {
+    if goes_on {
         let CallStretch {
             start,
             end: _,
@@ -133,19 +147,22 @@ fn push_if_some<'p>(
     }
 }
 
-/// The stretches of a level of a function's pieces.
-#[tactic(auto, using(crate::proofs::SpanSteps::call_step, crate::proofs::SpanSteps::call_end))]
+/// The stretches of a level of a function's pieces, by how many calls each has in common with the
+/// one before it.
 fn stretches_of<'p>(
     alloc: Global,
     pieces: &'p [Piece],
+    commons: &[usize],
     level: usize,
 ) -> Result<Vec<CallStretch<'p>>, AllocError>
+    requires { commons.now ≡ common_with_last [] pieces.now }
     ensures { IfOk result (λ v. v.items ≡ level_spans level pieces.now) }
 {
     let mut stretches = Vec::new(alloc);
     let mut running: Option<CallStretch<'p>> = None;
-    for piece in pieces {
-        let (ended, next) = advanced(running, piece, path_of(piece, level));
+    for index in 0..pieces.len() {
+        let (piece, goes_on) = (&pieces[index], level < commons[index]);
+        let (ended, next) = advanced(running, piece, path_of(piece, level), goes_on);
         push_if_some(&mut stretches, ended)?;
         running = next;
     }
@@ -215,16 +232,18 @@ fn append_inline(
 fn append_level(
     alloc: Global,
     pieces: &[Piece],
+    commons: &[usize],
     level: usize,
     numbers: &mut Numbers,
     output: &mut String,
 ) -> Result<(), AllocError>
+    requires { commons.now ≡ common_with_last [] pieces.now }
     ensures numbers { OnOk result (numbers.new
         ≡ numbers_after numbers.old (level_spans level pieces.now)) }
     ensures text { OnOk result (string_bytes output.new ≡ string_bytes output.old
         ++ flat_map inline_text (inline_records numbers.old level (level_spans level pieces.now))) }
 {
-    let stretches = stretches_of(alloc, pieces, level)?;
+    let stretches = stretches_of(alloc, pieces, commons, level)?;
     for stretch in stretches.iter() {
         append_inline(stretch, level, numbers, output)?;
     }
@@ -259,8 +278,9 @@ pub(crate) fn append_inlines(
         ++ flat_map inline_text (level_records numbers.old 0 (depth_in pieces.now) pieces.now)) }
 {
     let depth = levels_of(pieces);
+    let commons = commons_of(alloc, pieces)?;
     for level in 0..depth {
-        append_level(alloc, pieces, level, numbers, output)?;
+        append_level(alloc, pieces, commons.as_slice(), level, numbers, output)?;
     }
     Ok(())
 }

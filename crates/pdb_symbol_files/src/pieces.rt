@@ -2,7 +2,7 @@
 
 ghost use Rattle.std.specs.Prelude.{◌≡◌};
 ghost use Rattle.pdb_symbol_files.specs.Told.{continues, same_function as is_same_function};
-ghost use Rattle.pdb_symbol_files.specs.Told.{same_call as is_same_call, same_path as is_same_path};
+ghost use Rattle.pdb_symbol_files.specs.Told.{same_call as is_same_call};
 
 use std::marker::Model;
 
@@ -99,20 +99,4 @@ pub(crate) fn is_one_call(a: &Call, b: &Call) -> bool
     ensures { result ≡ is_same_call a.now b.now }
 {
     a.line == b.line && a.file.as_str() == b.file.as_str() && a.callee.as_str() == b.callee.as_str()
-}
-
-/// Whether two lists of calls are the same.
-#[tactic(auto, using(crate::proofs::Paths::path_more, crate::proofs::Paths::path_differs, crate::proofs::Paths::paths_end, crate::proofs::Paths::paths_unequal))]
-pub(crate) fn is_one_path(a: &[Call], b: &[Call]) -> bool
-    ensures { result ≡ is_same_path a.now b.now }
-{
-    if a.len() != b.len() {
-        return false;
-    }
-    for index in 0..a.len() {
-        if !is_one_call(&a[index], &b[index]) {
-            return false;
-        }
-    }
-    true
 }
