@@ -7,6 +7,26 @@ ghost use Rattle.pdb_symbol_files.specs.Output.{AppendsFront};
 use std::io::{ErrorKind, Write};
 use std::marker::Model;
 
+/// Writes all of some bytes, and stops at the first failure.
+///
+/// # Errors
+/// The kind of that failure; a prefix of the bytes was written.
+pub fn write_bytes<W: Write>(bytes: &[u8], output: &mut W) -> Result<(), ErrorKind>
+    ensures ok { OnOk result (Appends (W.contents output.old) (W.contents output.new) bytes.now) }
+    ensures part { OnErr result
+        (AppendsFront (W.contents output.old) (W.contents output.new) bytes.now) }
+{
+    let mut rest = bytes;
+    while !rest.is_empty() {
+        match output.write(rest) {
+            Ok(0) => return Err(ErrorKind::WriteZero),
+            Ok(count) => rest = &rest[count..],
+            Err(error) => return Err(error.kind()),
+        }
+    }
+    Ok(())
+}
+
 /// Writes all of a text, and stops at the first failure.
 ///
 /// # Errors
@@ -16,15 +36,7 @@ pub fn write_text<W: Write>(text: &str, output: &mut W) -> Result<(), ErrorKind>
     ensures part { OnErr result
         (AppendsFront (W.contents output.old) (W.contents output.new) text.now) }
 {
-    let mut rest = text.as_bytes();
-    while !rest.is_empty() {
-        match output.write(rest) {
-            Ok(0) => return Err(ErrorKind::WriteZero),
-            Ok(count) => rest = &rest[count..],
-            Err(error) => return Err(error.kind()),
-        }
-    }
-    Ok(())
+    write_bytes(text.as_bytes(), output)
 }
 
 /// A text of a symbol file: its head, with FILE and INLINE_ORIGIN records, and then the FUNC

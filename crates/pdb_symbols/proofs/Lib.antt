@@ -1,3 +1,4 @@
 pub mod AddressRuns
 pub mod ToldSteps
 pub mod WritingSteps
+pub mod NamedSteps

@@ -1,3 +1,4 @@
 pub mod Told
 pub mod SymbolsText
 pub mod UnwindingText
+pub mod NamedLines

@@ -6,13 +6,12 @@ use crate::image::read_image;
 use crate::memory_told::{MemoryTold, text_in_memory};
 use crate::options::{Options, Target};
 use crate::progress::Progress;
-use crate::writing::{describe, head_of, write_symbols_text};
+use crate::writing::{FileText, describe, head_of, write_symbols_text};
 use bumpalo::Bump;
 use pdb_databases::{ContributionOrder, FileOnDemand, FileSymbolizer, NotLoaded, Symbolizer};
 use pdb_file_views::reach;
 use pdb_image::{Image, PdbIdentity};
 use pdb_loading::read_file;
-use pdb_symbol_files::SymbolsText;
 use std::alloc::{AllocError, Global};
 use std::fs;
 use std::fs::OpenFile;
@@ -73,7 +72,7 @@ fn write_beside<S: Files + AllocGlobal>(
     rt: &S,
     path: &str,
     demangle: bool,
-    text: &SymbolsText,
+    text: &FileText,
     image: Option<&Image<'_>>,
 ) -> Result<(), SymbolsFault> {
     let beside = format!(in rt.alloc(); "{path}.part")?;
@@ -95,7 +94,7 @@ fn write_to<S: Files + AllocGlobal, W: Write>(
     rt: &S,
     options: &Options,
     identity: &PdbIdentity,
-    text: &SymbolsText,
+    text: &FileText,
     image: Option<&Image<'_>>,
     output: &mut W,
 ) -> Result<(), SymbolsFault> {

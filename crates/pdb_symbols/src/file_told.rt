@@ -1,13 +1,13 @@
 //! What is told of the addresses of a file that is read on demand.
 
-ghost use Rattle.std.specs.Prelude.{◌≡◌, ◌++◌, ◌<◌, ◌≤◌, ℕ, IfOk, string_bytes};
+ghost use Rattle.std.specs.Prelude.{◌≡◌, ◌<◌, ◌≤◌, ℕ, IfOk, string_bytes};
 ghost use Rattle.pdb_databases.specs.Answer.{database_named, frames_named};
 ghost use Rattle.pdb_databases.specs.FileAnswers.{IsKnown};
 ghost use Rattle.pdb_file_views.specs.Views.{Grows};
 ghost use Rattle.pdb_owners.specs.Databases.{on, place_of};
 ghost use Rattle.pdb_symbol_files.specs.Code.{answers_of_code};
 ghost use Rattle.pdb_symbol_files.specs.Records.{symbol_records};
-ghost use Rattle.pdb_symbols.specs.SymbolsText.{records_text};
+ghost use Rattle.pdb_symbols.specs.SymbolsText.{HasRecords};
 ghost use Rattle.pdb_symbols.specs.Told.{told_named, told_place};
 ghost use Rattle.pdb_symbols_modules.specs.Streams.{streams};
 
@@ -15,10 +15,10 @@ use crate::address_runs::address_run;
 use crate::fault::SymbolsFault;
 use crate::progress::Progress;
 use crate::told_places::told_at_place;
-use crate::writing::text_of;
+use crate::writing::{FileText, text_of};
 use pdb_addresses::{ImageSectionHeader, PdbInternalSectionOffset};
 use pdb_databases::{Error, FileSymbolizer, TRIES};
-use pdb_symbol_files::{SymbolsText, ToldFault, ToldRun, ToldRuns};
+use pdb_symbol_files::{ToldFault, ToldRun, ToldRuns};
 use std::alloc::Global;
 use std::io::{ErrorKind, Write};
 use std::os::unix::fs::FileExt;
@@ -152,9 +152,10 @@ pub fn text_on_demand<F: FileExt + Drop, E: Write + Drop>(
     head: String,
     sections: &[ImageSectionHeader],
     runs: &mut FileTold<'_, F, E>,
-) -> Result<SymbolsText, SymbolsFault>
-    ensures records { IsKnown runs.new.symbolizer → IfOk result (λ text. text
-        ≡ string_bytes head ++ records_text (symbol_records (answers_of_code sections.now
+) -> Result<FileText, SymbolsFault>
+    ensures records { IsKnown runs.new.symbolizer → IfOk result (λ text.
+        HasRecords (string_bytes text.head) (string_bytes text.functions) (string_bytes head)
+        (symbol_records (answers_of_code sections.now
         (told_named runs.old.inlines runs.old.symbolizer.flags runs.old.symbolizer.order
         (streams runs.old.symbolizer.contents))))) }
 {

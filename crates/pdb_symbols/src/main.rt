@@ -11,6 +11,7 @@ mod image;
 mod memory_told;
 mod options;
 mod progress;
+mod renaming;
 mod told_places;
 mod undecorated;
 mod words;

@@ -1,10 +1,10 @@
 //! What is told of the addresses of a file that is in memory.
 
-ghost use Rattle.std.specs.Prelude.{◌≡◌, ◌++◌, ◌+◌, ◌<◌, ◌≤◌, ℕ, IfOk, string_bytes};
+ghost use Rattle.std.specs.Prelude.{◌≡◌, ◌+◌, ◌<◌, ◌≤◌, ℕ, IfOk, string_bytes};
 ghost use Rattle.pdb_databases.specs.Answer.{AnswersWith, answered_in};
 ghost use Rattle.pdb_symbol_files.specs.Code.{answers_of_code};
 ghost use Rattle.pdb_symbol_files.specs.Records.{symbol_records};
-ghost use Rattle.pdb_symbols.specs.SymbolsText.{records_text};
+ghost use Rattle.pdb_symbols.specs.SymbolsText.{HasRecords};
 ghost use Rattle.pdb_symbols.specs.Told.{told_named};
 ghost use Rattle.pdb_symbols_modules.specs.Streams.{streams};
 
@@ -12,10 +12,10 @@ use crate::address_runs::address_run;
 use crate::fault::SymbolsFault;
 use crate::progress::Progress;
 use crate::told_places::told_at_place;
-use crate::writing::text_of;
+use crate::writing::{FileText, text_of};
 use pdb_addresses::ImageSectionHeader;
 use pdb_databases::{FileContext, Symbolizer};
-use pdb_symbol_files::{SymbolsText, ToldFault, ToldRun, ToldRuns};
+use pdb_symbol_files::{ToldFault, ToldRun, ToldRuns};
 use std::alloc::Global;
 use std::io::Write;
 
@@ -100,9 +100,10 @@ pub fn text_in_memory<E: Write + Drop>(
     head: String,
     sections: &[ImageSectionHeader],
     runs: &mut MemoryTold<'_, E>,
-) -> Result<SymbolsText, SymbolsFault>
-    ensures records { IfOk result (λ text. text ≡ string_bytes head
-        ++ records_text (symbol_records (answers_of_code sections.now
+) -> Result<FileText, SymbolsFault>
+    ensures records { IfOk result (λ text.
+        HasRecords (string_bytes text.head) (string_bytes text.functions) (string_bytes head)
+        (symbol_records (answers_of_code sections.now
         (told_named runs.old.inlines 23 runs.old.symbolizer.now.order
         (streams runs.old.symbolizer.now.bytes))))) }
 {

@@ -1,23 +1,23 @@
 //! The symbol file's text.
 
-ghost use Rattle.std.specs.Prelude.{◌≡◌, ◌++◌, IfOk, OnErr, OnOk, false, option_copied, string_bytes};
+ghost use Rattle.std.specs.Prelude.{◌≡◌, ◌++◌, ℕ, List, IfOk, OnErr, OnOk, option_copied, string_bytes};
 ghost use Rattle.std.specs.Io.KnownBytes.{Appends};
 ghost use Rattle.pdb_symbol_files.specs.Code.{answers_of_code};
 ghost use Rattle.pdb_symbol_files.specs.Records.{symbol_records};
 ghost use Rattle.pdb_symbol_files.specs.Output.{AppendsFront};
-ghost use Rattle.pdb_symbols.specs.SymbolsText.{records_text};
+ghost use Rattle.pdb_symbols.specs.SymbolsText.{HasRecords, IsNamedInParts, IsNamedText};
 ghost use Rattle.pdb_symbols.specs.UnwindingText.{text_of_image};
 
 use crate::fault::SymbolsFault;
 use crate::image::{check_build, write_unwinding};
 use crate::options::Options;
-use crate::undecorated::append_undecorated;
+use crate::renaming::write_renamed;
 use pdb_addr2line::pdb::MachineType;
 use pdb_addresses::ImageSectionHeader;
 use pdb_databases::Held;
 use pdb_image::{Image, PdbIdentity};
 use pdb_symbol_files::{
-    SymbolsText, ToldFault, ToldRuns, append_code_id, append_functions, append_module, write_text,
+    ToldFault, ToldRuns, append_code_id, append_functions, append_module, write_text,
 };
 use std::alloc::{AllocError, Global};
 use std::io::Write;
@@ -111,6 +111,15 @@ pub fn head_of(
     Ok(head)
 }
 
+/// The text of a symbol file, but for how functions are unwound.
+#[derive(Drop)]
+pub struct FileText {
+    /// The records before the first FUNC record.
+    pub head: String,
+    /// The FUNC records, with what is below them.
+    pub functions: String,
+}
+
 /// The text of the records of a database's functions, by what is told of the addresses at which
 /// code may run, behind a head.
 ///
@@ -121,51 +130,34 @@ pub fn text_of<R: ToldRuns>(
     mut head: String,
     sections: &[ImageSectionHeader],
     runs: &mut R,
-) -> Result<SymbolsText, ToldFault>
+) -> Result<FileText, ToldFault>
     ensures grows { R.known runs.new → R.known runs.old }
     ensures same { R.told runs.new ≡ R.told runs.old }
-    ensures records { R.known runs.new → IfOk result (λ text. text ≡ string_bytes head
-        ++ records_text (symbol_records (answers_of_code sections.now (R.told runs.old)))) }
+    ensures records { R.known runs.new → IfOk result (λ text.
+        HasRecords (string_bytes text.head) (string_bytes text.functions) (string_bytes head)
+        (symbol_records (answers_of_code sections.now (R.told runs.old)))) }
 {
     let functions = append_functions(alloc, runs, sections, &mut head)?;
-    Ok(SymbolsText { head, functions })
+    Ok(FileText { head, functions })
 }
 
-/// How long a text gets before it is written.
-const AT_ONCE: usize = 65_536;
-
-/// Writes a text.
-fn write_part<W: Write>(text: &str, output: &mut W) -> Result<(), SymbolsFault> {
-    match write_text(text, output) {
-        Ok(()) => Ok(()),
-        Err(kind) => Err(SymbolsFault::of_write(kind)),
-    }
-}
-
-/// Writes records with the names of functions as people read them.
-fn write_undecorated<W: Write>(
+/// Writes records, as they are or with the names of functions undecorated.
+#[tactic(auto, using(crate::proofs::NamedSteps::plain_ok, crate::proofs::NamedSteps::plain_err))]
+fn write_records<W: Write>(
     alloc: Global,
     records: &str,
+    demangle: bool,
     output: &mut W,
-) -> Result<(), SymbolsFault> {
-    let mut text = String::new(alloc);
-    for record in records.lines() {
-        append_undecorated(alloc, record, &mut text)?;
-        if AT_ONCE <= text.len() {
-            write_part(text.as_str(), output)?;
-            text.clear();
-        }
-    }
-    write_part(text.as_str(), output)
-}
-
-/// Writes a text as it is.
-fn write_plain<W: Write>(text: &SymbolsText, output: &mut W) -> Result<(), SymbolsFault>
-    ensures ok { OnOk result (Appends (W.contents output.old) (W.contents output.new) text.now) }
-    ensures part { OnErr result
-        (AppendsFront (W.contents output.old) (W.contents output.new) text.now) }
+) -> Result<(), SymbolsFault>
+    ensures ok { OnOk result ((named : List ℕ) × IsNamedText demangle records.now named
+        × Appends (W.contents output.old) (W.contents output.new) named) }
+    ensures part { OnErr result ((named : List ℕ) × IsNamedText demangle records.now named
+        × AppendsFront (W.contents output.old) (W.contents output.new) named) }
 {
-    match text.write(output) {
+    if demangle {
+        return write_renamed(alloc, records, output);
+    }
+    match write_text(records, output) {
         Ok(()) => Ok(()),
         Err(kind) => Err(SymbolsFault::of_write(kind)),
     }
@@ -192,25 +184,25 @@ fn write_image<W: Write>(
 /// the functions of an image are unwound.
 ///
 /// # Errors
-/// `Write` where a write failed, or out of memory.
-#[tactic(auto, using(crate::proofs::WritingSteps::both_out, crate::proofs::WritingSteps::second_front, crate::proofs::WritingSteps::first_front))]
+/// `Write` where a write failed, or out of memory; a prefix of what is to be written was.
+
 pub fn write_symbols_text<W: Write>(
     alloc: Global,
-    text: &SymbolsText,
+    text: &FileText,
     demangle: bool,
     image: Option<&Image<'_>>,
     output: &mut W,
 ) -> Result<(), SymbolsFault>
-    ensures ok { demangle ≡ false → OnOk result (Appends (W.contents output.old)
-        (W.contents output.new) (text.now ++ text_of_image (option_copied image.entry))) }
-    ensures part { demangle ≡ false → OnErr result (AppendsFront (W.contents output.old)
-        (W.contents output.new) (text.now ++ text_of_image (option_copied image.entry))) }
+    ensures ok { OnOk result ((named : List ℕ) × IsNamedInParts demangle
+        (string_bytes text.now.head) (string_bytes text.now.functions) named
+        × Appends (W.contents output.old) (W.contents output.new)
+        (named ++ text_of_image (option_copied image.entry))) }
+    ensures part { OnErr result ((named : List ℕ) × IsNamedInParts demangle
+        (string_bytes text.now.head) (string_bytes text.now.functions) named
+        × AppendsFront (W.contents output.old) (W.contents output.new)
+        (named ++ text_of_image (option_copied image.entry))) }
 {
-    if demangle {
-        write_undecorated(alloc, text.head.as_str(), output)?;
-        write_undecorated(alloc, text.functions.as_str(), output)?;
-        return write_image(alloc, image, output);
-    }
-    write_plain(text, output)?;
+    write_records(alloc, text.head.as_str(), demangle, output)?;
+    write_records(alloc, text.functions.as_str(), demangle, output)?;
     write_image(alloc, image, output)
 }

@@ -1,5 +1,5 @@
 use Rattle.pdb_symbol_files.proofs.Writes.{more_out}
-use Rattle.pdb_symbol_files.proofs.output.write_text.Goals as goal
+use Rattle.pdb_symbol_files.proofs.output.write_bytes.Goals as goal
 
 pub loop-rest-preserved : goal.loop-rest-preserved
 loop-rest-preserved g c =
