@@ -2,8 +2,8 @@
 
 use pdb_addr2line::pdb::{Error, FallibleIterator, LineProgram, Module, PdbInternalSectionOffset};
 use pdb_addr2line::{KeptModules, ModuleProvider};
-use pdb_columns::{column_for, has_columns};
 use pdb_databases::Held;
+use pdb_llvm_texts::{column_for, has_columns};
 use std::alloc::{AllocError, Global};
 use std::collections::BTreeMap;
 

@@ -1,3 +1,5 @@
+pub mod ColumnSteps
 pub mod Lists
 pub mod Names
 pub mod Parts
+pub mod RowOfLine

@@ -1,3 +1,4 @@
+pub mod Columns
 pub mod ReportedFrames
 pub mod Json
 pub mod Plain

@@ -1,7 +1,7 @@
 //! How answers are written.
 
 /// The style of answers.
-#[derive(Clone, Copy, Debug, PartialEq, Eq)]
+#[derive(Clone, Copy, PartialEq, Eq)]
 pub enum Style {
     /// A name, then file, line and column, and an empty line after each answer.
     Llvm,
@@ -12,7 +12,7 @@ pub enum Style {
 }
 
 /// How answers are written.
-#[derive(Clone, Copy, Debug, PartialEq, Eq)]
+#[derive(Clone, Copy)]
 pub struct TextOptions {
     /// The style.
     pub style: Style,

@@ -17,7 +17,7 @@ use std::marker::Model;
 use std::sync::ArcStr;
 
 /// A frame as it is reported: the function's name, its file and line at an address.
-#[derive(Debug, Drop)]
+#[derive(Drop)]
 pub struct ReportedFrame<'f> {
     /// The function's name, in UTF-8. It is empty where there is no function, and `None` where
     /// the function has no name.
@@ -61,7 +61,7 @@ impl<'f> ReportedFrame<'f> {
 }
 
 /// Which frames are asked for.
-#[derive(Clone, Copy, Debug, PartialEq, Eq)]
+#[derive(Clone, Copy, PartialEq, Eq)]
 pub enum Asked {
     /// Inlined calls and the function.
     All,
@@ -72,7 +72,7 @@ pub enum Asked {
 }
 
 /// Which frames are reported, and of their files what.
-#[derive(Clone, Copy, Debug, PartialEq, Eq)]
+#[derive(Clone, Copy)]
 pub struct ReportOptions {
     /// Which frames are reported.
     pub asked: Asked,
@@ -81,7 +81,7 @@ pub struct ReportOptions {
 }
 
 /// What is known of the function's own frame besides what was found.
-#[derive(Clone, Copy, Debug)]
+#[derive(Clone, Copy)]
 pub struct OwnFrame<'f> {
     /// The function's name, in UTF-8, if it has one.
     pub name: Option<&'f [u8]>,

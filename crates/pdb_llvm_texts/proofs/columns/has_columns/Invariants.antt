@@ -1,7 +1,7 @@
 use Rattle.std.specs.Prelude.{◌≡◌, length}
 use Rattle.std.specs.List.{list_any}
-use Rattle.pdb_columns.specs.Columns.{has_column, has_columns}
-use Rattle.pdb_columns.proofs.columns.has_columns.Given as goal
+use Rattle.pdb_llvm_texts.specs.Columns.{has_column, has_columns}
+use Rattle.pdb_llvm_texts.proofs.columns.has_columns.Given as goal
 
 -- a row that is still to come has a column if one has
 abbrev pub invariant-loop-row : goal.invariant-loop-row

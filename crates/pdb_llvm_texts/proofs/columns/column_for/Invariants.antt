@@ -1,6 +1,6 @@
 use Rattle.std.specs.Prelude.{◌≡◌, length}
-use Rattle.pdb_columns.specs.Columns.{column_for, column_onto}
-use Rattle.pdb_columns.proofs.columns.column_for.Given as goal
+use Rattle.pdb_llvm_texts.specs.Columns.{column_for, column_onto}
+use Rattle.pdb_llvm_texts.proofs.columns.column_for.Given as goal
 
 -- the row that was found so far, with those that are still to come, gives the column
 abbrev pub invariant-loop-row : goal.invariant-loop-row

@@ -10,8 +10,8 @@ use Rattle.pdb_lines.specs.LinesSubsections.{Program}
 use Rattle.pdb_lines.specs.LineRows.{lines_for}
 use Rattle.pdb_module_data.specs.declared.function_rows.LineRow.{LineRow}
 use Rattle.pdb_module_data.specs.FunctionLine.{if_begun, later_row, row_at, row_of}
-use Rattle.pdb_columns.specs.Columns.{column_for, column_of, column_onto, found_among, found_with, IsOfLine}
-use Rattle.pdb_columns.proofs.ColumnSteps.{column_end}
+use Rattle.pdb_llvm_texts.specs.Columns.{column_for, column_of, column_onto, found_among, found_with, IsOfLine}
+use Rattle.pdb_llvm_texts.proofs.ColumnSteps.{column_end}
 
 -- the later one of three rows, however they are compared
 later_of_three : (a b c : Option LineRow) → later_row (later_row a b) c ≡ later_row a (later_row b c)

@@ -5,7 +5,7 @@ use Rattle.std.specs.List.{list_any}
 use Rattle.pdb_container.specs.Fault.{Fault, ◌>>=◌}
 use Rattle.pdb_container.specs.Listing.{Listing, ending, before, whole_with}
 use Rattle.pdb_subsections.specs.declared.line_info.LineInfo.{LineInfo}
-use Rattle.pdb_columns.specs.Columns.{column_of, column_onto, found_among, found_with, has_column}
+use Rattle.pdb_llvm_texts.specs.Columns.{column_of, column_onto, found_among, found_with, has_column}
 
 more_with : (offset : ℕ) (found : Option LineInfo) (row : LineInfo) (others : List LineInfo) (fault : Option Fault)
     → (whole_with fault (row ∷ others) >>= λ rows. Ok (column_of (found_among offset found rows)))

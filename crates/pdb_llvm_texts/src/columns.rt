@@ -2,10 +2,10 @@
 
 ghost use Rattle.std.specs.Prelude.{◌≡◌, IfOk};
 ghost use Rattle.pdb_container.specs.Fault.{Parses};
-ghost use Rattle.pdb_columns.specs.Columns.{column_for as column_for_place, column_of as column_in};
-ghost use Rattle.pdb_columns.specs.Columns.{found_with as found_with_row, is_later as is_later_row};
-ghost use Rattle.pdb_columns.specs.Columns.{has_column as has_column_in, IsOfLine};
-ghost use Rattle.pdb_columns.specs.Columns.{has_columns as have_columns};
+ghost use Rattle.pdb_llvm_texts.specs.Columns.{column_for as column_for_place, column_of as column_in};
+ghost use Rattle.pdb_llvm_texts.specs.Columns.{found_with as found_with_row, is_later as is_later_row};
+ghost use Rattle.pdb_llvm_texts.specs.Columns.{has_column as has_column_in, IsOfLine};
+ghost use Rattle.pdb_llvm_texts.specs.Columns.{has_columns as have_columns};
 
 use pdb_addresses::PdbInternalSectionOffset;
 use pdb_container::{FallibleIterator, Result};

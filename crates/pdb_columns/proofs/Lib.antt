@@ -1,2 +1,0 @@
-pub mod ColumnSteps
-pub mod RowOfLine
