@@ -10,29 +10,16 @@ use Rattle.pdb_llvm_requests.specs.declared.option_words.OptionWord.TheVariants 
 use Rattle.pdb_llvm_requests.specs.declared.option_words.Setting.{Setting}
 use Rattle.pdb_llvm_requests.specs.declared.option_words.Setting.TheVariants as settings
 
--- what a text stands for by a table
-abbrev pub named : {X : Type 0} → List (List ℕ × X) → List ℕ → Option X
-named [] text = None
-named (entry ∷ rest) text = if bytes_eq text entry.0 then Some entry.1 else named rest text
+-- what a text stands for by a table, or else another value
+abbrev pub named : {X : Type 0} → List (List ℕ × X) → Option X → List ℕ → Option X
+named [] other text = other
+named (entry ∷ rest) other text =
+    if bytes_eq text entry.0 then Some entry.1 else named rest other text
 
--- options without values
-abbrev pub flag_words : List (List ℕ × Flag)
-flag_words =
-    (codes "--addresses", flags.Addresses) ∷ (codes "--print-address", flags.Addresses)
-    ∷ (codes "-a", flags.Addresses)
-    ∷ (codes "--basenames", flags.BaseNames) ∷ (codes "-s", flags.BaseNames)
-    ∷ (codes "--relativenames", flags.RelativeNames)
-    ∷ (codes "--demangle", flags.Demangle) ∷ (codes "-C", flags.Demangle)
-    ∷ (codes "-demangle=true", flags.Demangle)
-    ∷ (codes "--no-demangle", flags.NoDemangle) ∷ (codes "-demangle=false", flags.NoDemangle)
-    ∷ (codes "--inlines", flags.Inlines) ∷ (codes "--inlining", flags.Inlines)
-    ∷ (codes "-i", flags.Inlines) ∷ (codes "--inlining=true", flags.Inlines)
-    ∷ (codes "--no-inlines", flags.NoInlines) ∷ (codes "--inlining=false", flags.NoInlines)
-    ∷ (codes "--functions", flags.Functions) ∷ (codes "-f", flags.Functions)
-    ∷ (codes "--pretty-print", flags.PrettyPrint) ∷ (codes "-p", flags.PrettyPrint)
-    ∷ (codes "--relative-address", flags.RelativeAddress)
-    ∷ (codes "--verbose", flags.Verbose)
-    ∷ (codes "--help", flags.Help) ∷ (codes "-h", flags.Help)
+-- options without values: of the program, and those that change nothing
+abbrev pub program_words : List (List ℕ × Flag)
+program_words =
+    (codes "--help", flags.Help) ∷ (codes "-h", flags.Help)
     ∷ (codes "--version", flags.Version) ∷ (codes "-v", flags.Version)
     ∷ (codes "--filter-markup", flags.FilterMarkup)
     ∷ (codes "--color", flags.Ignored) ∷ (codes "--debuginfod", flags.Ignored)
@@ -40,8 +27,36 @@ flag_words =
     ∷ (codes "--skip-line-zero", flags.Ignored) ∷ (codes "--untag-addresses", flags.Ignored)
     ∷ (codes "--no-untag-addresses", flags.Ignored) ∷ []
 
+unfoldable pub program_flag_of : List ℕ → Option Flag
+program_flag_of word = named program_words None word
+
+-- ..of addresses and frames
+abbrev pub frame_words : List (List ℕ × Flag)
+frame_words =
+    (codes "--addresses", flags.Addresses) ∷ (codes "--print-address", flags.Addresses)
+    ∷ (codes "-a", flags.Addresses)
+    ∷ (codes "--inlines", flags.Inlines) ∷ (codes "--inlining", flags.Inlines)
+    ∷ (codes "-i", flags.Inlines) ∷ (codes "--inlining=true", flags.Inlines)
+    ∷ (codes "--no-inlines", flags.NoInlines) ∷ (codes "--inlining=false", flags.NoInlines)
+    ∷ (codes "--pretty-print", flags.PrettyPrint) ∷ (codes "-p", flags.PrettyPrint)
+    ∷ (codes "--relative-address", flags.RelativeAddress)
+    ∷ (codes "--verbose", flags.Verbose) ∷ []
+
+unfoldable pub frame_flag_of : List ℕ → Option Flag
+frame_flag_of word = named frame_words (program_flag_of word) word
+
+-- ..of the names of files and functions
+abbrev pub name_words : List (List ℕ × Flag)
+name_words =
+    (codes "--basenames", flags.BaseNames) ∷ (codes "-s", flags.BaseNames)
+    ∷ (codes "--relativenames", flags.RelativeNames)
+    ∷ (codes "--demangle", flags.Demangle) ∷ (codes "-C", flags.Demangle)
+    ∷ (codes "-demangle=true", flags.Demangle)
+    ∷ (codes "--no-demangle", flags.NoDemangle) ∷ (codes "-demangle=false", flags.NoDemangle)
+    ∷ (codes "--functions", flags.Functions) ∷ (codes "-f", flags.Functions) ∷ []
+
 unfoldable pub flag_of : List ℕ → Option Flag
-flag_of word = named flag_words word
+flag_of word = named name_words (frame_flag_of word) word
 
 -- options whose value is the next word
 abbrev pub setting_words : List (List ℕ × Setting)
@@ -61,7 +76,7 @@ setting_words =
     ∷ (codes "--fallback-debug-path", settings.Ignored) ∷ []
 
 unfoldable pub setting_of : List ℕ → Option Setting
-setting_of word = named setting_words word
+setting_of word = named setting_words None word
 
 -- what a text begins with by a table, or else another value
 abbrev pub begun : {X : Type 0} → List (List ℕ × X) → Option X → List ℕ → Option X

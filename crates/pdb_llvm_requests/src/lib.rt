@@ -20,4 +20,7 @@ pub use image_address::rva_of;
 pub use module_names::{split_identity, without_architecture};
 pub use number::parse_number;
 pub use option_words::{Flag, OptionWord, Setting, read_option};
-pub use request::{Command, LineForm, LineRequest, RequestFault, RequestedFile, read_request};
+pub use request::{
+    Command, LineForm, LineRequest, RequestFault, RequestedFile, before_nul, read_request,
+};
+pub use words::are_hexadecimal;

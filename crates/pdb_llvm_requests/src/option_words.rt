@@ -2,12 +2,13 @@
 
 ghost use Rattle.std.specs.Prelude.{◌≡◌, ◌≤◌, length};
 ghost use Rattle.pdb_llvm_requests.specs.OptionWords.{ending_setting_of, file_or_letters_of};
-ghost use Rattle.pdb_llvm_requests.specs.OptionWords.{flag_of as flag_named, joined_of as joined};
+ghost use Rattle.pdb_llvm_requests.specs.OptionWords.{flag_of as flag_named, frame_flag_of};
+ghost use Rattle.pdb_llvm_requests.specs.OptionWords.{joined_of as joined, program_flag_of};
 ghost use Rattle.pdb_llvm_requests.specs.OptionWords.{letter_of as lettered, letters_of, option_of};
 ghost use Rattle.pdb_llvm_requests.specs.OptionWords.{setting_of as setting_named};
 
 /// An option without a value.
-#[derive(Clone, Copy, Debug, PartialEq, Eq)]
+#[derive(Clone, Copy)]
 pub enum Flag {
     /// Each address before its answer.
     Addresses,
@@ -42,7 +43,7 @@ pub enum Flag {
 }
 
 /// An option with a value.
-#[derive(Clone, Copy, Debug, PartialEq, Eq)]
+#[derive(Clone, Copy)]
 pub enum Setting {
     /// The image or database of all addresses.
     Object,
@@ -69,7 +70,7 @@ pub enum Setting {
 }
 
 /// What a word of the arguments is.
-#[derive(Clone, Copy, Debug, PartialEq, Eq)]
+#[derive(Clone, Copy)]
 pub enum OptionWord {
     /// No option: an address, or a line of input.
     Input,
@@ -89,29 +90,49 @@ pub enum OptionWord {
     Unknown,
 }
 
-/// The flag that a word is.
-#[tactic(auto, unfolding(crate::specs::OptionWords::flag_of))]
-fn flag_of(word: &str) -> Option<Flag>
-    ensures { result ≡ flag_named word.now }
+/// The flag of the program that a word is, or one that changes nothing.
+#[tactic(auto, unfolding(crate::specs::OptionWords::program_flag_of))]
+fn program_flag(word: &str) -> Option<Flag>
+    ensures { result ≡ program_flag_of word.now }
 {
     match word {
-        "--addresses" | "--print-address" | "-a" => Some(Flag::Addresses),
-        "--basenames" | "-s" => Some(Flag::BaseNames),
-        "--relativenames" => Some(Flag::RelativeNames),
-        "--demangle" | "-C" | "-demangle=true" => Some(Flag::Demangle),
-        "--no-demangle" | "-demangle=false" => Some(Flag::NoDemangle),
-        "--inlines" | "--inlining" | "-i" | "--inlining=true" => Some(Flag::Inlines),
-        "--no-inlines" | "--inlining=false" => Some(Flag::NoInlines),
-        "--functions" | "-f" => Some(Flag::Functions),
-        "--pretty-print" | "-p" => Some(Flag::PrettyPrint),
-        "--relative-address" => Some(Flag::RelativeAddress),
-        "--verbose" => Some(Flag::Verbose),
         "--help" | "-h" => Some(Flag::Help),
         "--version" | "-v" => Some(Flag::Version),
         "--filter-markup" => Some(Flag::FilterMarkup),
         "--color" | "--debuginfod" | "--no-debuginfod" | "--dia" => Some(Flag::Ignored),
         "--skip-line-zero" | "--untag-addresses" | "--no-untag-addresses" => Some(Flag::Ignored),
         _ => None,
+    }
+}
+
+/// The flag of addresses and frames that a word is, or one that follows in the table.
+#[tactic(auto, unfolding(crate::specs::OptionWords::frame_flag_of))]
+fn frame_flag(word: &str) -> Option<Flag>
+    ensures { result ≡ frame_flag_of word.now }
+{
+    match word {
+        "--addresses" | "--print-address" | "-a" => Some(Flag::Addresses),
+        "--inlines" | "--inlining" | "-i" | "--inlining=true" => Some(Flag::Inlines),
+        "--no-inlines" | "--inlining=false" => Some(Flag::NoInlines),
+        "--pretty-print" | "-p" => Some(Flag::PrettyPrint),
+        "--relative-address" => Some(Flag::RelativeAddress),
+        "--verbose" => Some(Flag::Verbose),
+        _ => program_flag(word),
+    }
+}
+
+/// The flag that a word is.
+#[tactic(auto, unfolding(crate::specs::OptionWords::flag_of))]
+fn flag_of(word: &str) -> Option<Flag>
+    ensures { result ≡ flag_named word.now }
+{
+    match word {
+        "--basenames" | "-s" => Some(Flag::BaseNames),
+        "--relativenames" => Some(Flag::RelativeNames),
+        "--demangle" | "-C" | "-demangle=true" => Some(Flag::Demangle),
+        "--no-demangle" | "-demangle=false" => Some(Flag::NoDemangle),
+        "--functions" | "-f" => Some(Flag::Functions),
+        _ => frame_flag(word),
     }
 }
 

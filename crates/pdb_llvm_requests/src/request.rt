@@ -14,7 +14,7 @@ use crate::words::{are_hexadecimal, first_of, trim, trim_start, word_end};
 use thiserror::Error;
 
 /// What is asked about an address.
-#[derive(Clone, Copy, Debug, PartialEq, Eq)]
+#[derive(Clone, Copy, PartialEq, Eq)]
 pub enum Command {
     /// The functions, files and lines of code.
     Code,
@@ -25,7 +25,7 @@ pub enum Command {
 }
 
 /// The file of a request.
-#[derive(Clone, Copy, Debug)]
+#[derive(Clone, Copy)]
 pub enum RequestedFile<'l> {
     /// The one that the arguments name.
     Given,
@@ -36,7 +36,7 @@ pub enum RequestedFile<'l> {
 }
 
 /// The request of a line.
-#[derive(Clone, Copy, Debug, Drop)]
+#[derive(Clone, Copy, Drop)]
 pub struct LineRequest<'l> {
     /// What is asked.
     pub command: Command,
@@ -47,7 +47,7 @@ pub struct LineRequest<'l> {
 }
 
 /// How lines are read.
-#[derive(Clone, Copy, Debug, PartialEq, Eq)]
+#[derive(Clone, Copy)]
 pub struct LineForm {
     /// Whether the arguments name the file of all lines.
     pub file_given: bool,
@@ -295,7 +295,7 @@ fn is_empty(line: &[u8]) -> bool
 
 /// The bytes of a line before its first NUL.
 #[tactic(auto, unfolding(crate::specs::Request::until_nul))]
-fn before_nul(line: &[u8]) -> &[u8]
+pub fn before_nul(line: &[u8]) -> &[u8]
     ensures { result.now ≡ until_nul line.now }
 {
     match first_of(0, line) {

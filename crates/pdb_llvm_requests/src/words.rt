@@ -29,7 +29,7 @@ fn is_hexadecimal(byte: u8) -> bool
 }
 
 /// Whether bytes are hexadecimal digits.
-pub(crate) fn are_hexadecimal(text: &[u8]) -> bool
+pub fn are_hexadecimal(text: &[u8]) -> bool
     ensures { result ≡ are_hexadecimal_of text.now }
 {
     text.iter().all(|byte| is_hexadecimal(*byte))
