@@ -2,8 +2,5 @@
 
 mod files;
 mod finder;
-mod modules;
 mod names;
-mod pages;
 mod sources;
-mod vectors;

@@ -1,8 +1,8 @@
 //! The public calls that take memory, each once where there is enough.
 
 use pdb_container::{
-    BoundedBytes, Error, Msf, PageList, ParseBuffer, RawString, SharedBytes, Source, SourceSlice,
-    Stream, StringRef, StringTable, open_msf,
+    BoundedBytes, Error, Msf, PageList, RawString, SharedBytes, Source, SourceSlice, Stream,
+    StringRef, StringTable, open_msf,
 };
 use pdb_samples::{Container, PageOrder, SampleError};
 use std::alloc::Global;
@@ -138,12 +138,4 @@ fn first_calls_in_ample_memory(rt: HostRuntime) -> Result<(), Fail> {
     assert!(rt; is_joined);
     assert!(rt; is_cut);
     Ok(())
-}
-
-#[test]
-fn two_numbers(rt: HostRuntime) {
-    let mut buffer = ParseBuffer::from([1, 2, 3, 4, 5, 6, 7].as_slice());
-    assert_eq!(rt; buffer.parse_u32(), Ok(0x0403_0201));
-    assert_eq!(rt; buffer.pos(), 4);
-    assert_eq!(rt; buffer.parse_u32(), Err(Error::UnexpectedEof));
 }

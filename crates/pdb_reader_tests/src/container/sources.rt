@@ -5,7 +5,7 @@ use crate::container::damage::{
 };
 use crate::container::files::{container, counted, file, get};
 use crate::failing::{Failing, Refusal};
-use pdb_container::{BigMSF, Error, Msf, ReadView, SharedBytes, Source, SourceSlice, open_msf};
+use pdb_container::{BigMSF, Error, Msf, ReadView, Source, SourceSlice, open_msf};
 use pdb_samples::{PageOrder, SampleError};
 use std::alloc::Global;
 use std::cell::Cell;
@@ -276,57 +276,6 @@ fn a_stream_views_its_own_pages_once_and_alone(rt: HostRuntime) -> Result<(), Fa
     let reversed: &[(u64, usize)] = &[(0x400, 0x100), (0x300, 44)];
     let apart = by_own_pages(rt.alloc(), PageOrder::StreamsReversed, reversed)?;
     assert_eq!(rt; apart, (300, 4, other));
-    Ok(())
-}
-
-fn opened_shared(alloc: Global, bytes: &[u8]) -> Result<BigMSF<'static, SharedBytes>, Error> {
-    open_msf(alloc, SharedBytes::new(Vec::from_slice(alloc, bytes)?)?)
-}
-
-/// A container over shared bytes.
-fn shared(alloc: Global, bytes: &[u8]) -> Result<BigMSF<'static, SharedBytes>, Error> {
-    match opened_shared(alloc, bytes) {
-        Err(Error::OutOfMemory) => opened_shared(alloc, bytes),
-        answer => answer,
-    }
-}
-
-/// Whether stream 1 of a container over shared bytes has these bytes, or why it is refused.
-fn has_shared(
-    alloc: Global,
-    container: &mut BigMSF<'static, SharedBytes>,
-    usual: &[u8],
-) -> Result<bool, Error> {
-    let stream = get(container, alloc, 1, None)?;
-    Ok(stream.as_slice() == usual)
-}
-
-/// Whether stream 1, in pages 3 and 4, of a container over `len` shared bytes of a file is as
-/// usual, or why it is refused.
-fn of_shared_bytes(
-    alloc: Global,
-    order: PageOrder,
-    len: usize,
-) -> Result<Result<bool, Error>, Fail> {
-    let description = container(alloc, 0x1000, order, &[Some(0), Some(5000)])?;
-    let bytes = file(alloc, &description)?;
-    let usual = counted(alloc, 1, 5000)?;
-    let mut container = shared(alloc, &bytes[..len.min(bytes.len())])?;
-    Ok(has_shared(alloc, &mut container, &usual))
-}
-
-#[test]
-fn streams_of_shared_bytes(rt: HostRuntime) -> Result<(), Fail> {
-    let past_end = Error::IoError(ErrorKind::UnexpectedEof);
-    for (order, len, wanted) in [
-        (PageOrder::Natural, 0x5000, Ok(true)),
-        (PageOrder::StreamsReversed, 0x5000, Ok(true)),
-        (PageOrder::Natural, 0x4100, Err(past_end)),
-        (PageOrder::StreamsReversed, 0x4100, Err(past_end)),
-    ] {
-        let found = of_shared_bytes(rt.alloc(), order, len)?;
-        assert_eq!(rt; found, wanted);
-    }
     Ok(())
 }
 

@@ -183,36 +183,3 @@ fn item_finder(rt: HostRuntime) -> std::result::Result<(), Fail> {
     }
     Ok(())
 }
-
-/// Returns the kind of an iterator's next item, if there is one.
-fn next_kind(iterator: &mut TypeIter<'_>) -> Result<Option<u16>> {
-    match iterator.next()? {
-        None => Ok(None),
-        Some(item) => Ok(Some(item.raw_kind()?)),
-    }
-}
-
-/// Returns what two steps of a table's iterator say.
-fn two_steps(types: &TypeInformation<'_>) -> [Result<Option<u16>>; 2] {
-    let mut iterator = types.iter();
-    [next_kind(&mut iterator), next_kind(&mut iterator)]
-}
-
-/// Returns the greatest index of a table, and what two steps of its iterator say.
-fn last_and_steps(
-    alloc: Global,
-    types: &TypeInformation<'_>,
-) -> Result<(TypeIndex, [Result<Option<u16>>; 2])> {
-    Ok((types.finder(alloc)?.max_index(), two_steps(types)))
-}
-
-// The one item would have the greatest index, and isn't read.
-#[test]
-fn an_item_of_the_greatest_index(rt: HostRuntime) -> std::result::Result<(), Fail> {
-    let one = b"\x02\0\x00\0".as_slice();
-    let types = table(rt.alloc(), (u32::MAX, u32::MAX), one, b"")?;
-    let found = last_and_steps(rt.alloc(), &types)?;
-    let fault = Error::InvalidTypeInformationHeader("maximum");
-    assert_eq!(rt; found, (TypeIndex(u32::MAX), [Err(fault), Ok(None)]));
-    Ok(())
-}
