@@ -2,6 +2,7 @@ pub mod Arrays
 pub mod Env
 pub mod Level
 pub mod Printing
+pub mod Prints
 pub mod This
 pub mod Types
 pub use Rattle.pdb_module_items.specs.Reading

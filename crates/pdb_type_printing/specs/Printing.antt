@@ -1,10 +1,13 @@
 -- What prints types, as the definitions see it.
 use Rattle.std.specs.Prelude.{ℕ}
+use Rattle.pdb_records.specs.Shapes.{shape}
 use Rattle.pdb_resolving.specs.declared.table.Table.{Table}
 use Rattle.pdb_resolving.specs.Resolving.{Provided}
 use Rattle.pdb_module_items.specs.Reading.{Reading, parts_by, type_at, id_at}
 use Rattle.pdb_module_items.specs.Reading.{with_failed as reading_with_failed}
 use Rattle.pdb_module_items.specs.Sizes.{size_at}
+use Rattle.pdb_type_printing.specs.Arrays as arrays
+use Rattle.pdb_type_printing.specs.declared.elements.Elements.{Elements}
 use Rattle.pdb_type_printing.specs.Env.{Env}
 
 -- what types and ids are read from, and the flags
@@ -24,3 +27,11 @@ env_of provided f asking = record {
 -- what a formatter stores, with one more table of a module stored as failed
 abbrev pub with_failed : {P : Type 0} → Formatting P → Table → Formatting P
 with_failed f table = record f { reading = reading_with_failed f.reading table }
+
+-- arrays of arrays
+abbrev pub elements_seen : Elements → arrays.Elements
+elements_seen e = record {
+  dimensions = e.dimensions.items;
+  index = e.index.0;
+  form = shape e.found;
+}

@@ -14,7 +14,7 @@ use Rattle.pdb_type_pieces.specs.declared.pointers.PointerLevel.{PointerLevel}
 use Rattle.pdb_type_pieces.specs.Printed.{Text, Printed, Done, Stopped, ◌>>=◌, say, unread, caught}
 use Rattle.pdb_type_pieces.specs.Printed.{read_or}
 use Rattle.pdb_type_printing.specs.Env.{Env}
-use Rattle.pdb_type_pieces.specs.Paths.{Path, is_on, room}
+use Rattle.pdb_type_pieces.specs.Paths.{Path, is_on, may_enter, room}
 use Rattle.pdb_type_pieces.specs.Names.{primitive_text, class_word, named}
 use Rattle.pdb_type_pieces.specs.FormNames.{unhandled}
 use Rattle.pdb_type_pieces.specs.Pointers.{level_of, leading_to, pointers_text, ends_in_sigil}
@@ -37,6 +37,10 @@ pub data Task : Type 0 where
   -- the arguments of a method, in brackets: its class, its pointer to the object, and whether it is
   -- said that the object is constant
   MethodArguments : TypeIndex → Option TypeIndex → (says_constant : Bool) → Task
+
+-- the arguments of a method's type, whose argument list is printed for it
+abbrev pub arguments_of : MemberFunctionType → Bool → Task
+arguments_of t says_constant = MethodArguments t.class_type t.this_pointer_type says_constant
 
 -- how an index is printed for a task: the path so far, the index, the text so far
 abbrev pub Visit : Type 0
@@ -217,3 +221,10 @@ visiting env path = visit env (room path)
 abbrev pub inside_text : Env → Task → Path → ℕ → Text → Printed
 inside_text env task path i w = read_or (λ e. Stopped e w) (env.read i)
     (λ form. visited env (visiting env path) task path form w)
+
+-- the text of a type that was read, whose index goes on the path
+abbrev pub entered_text : Env → Path → ℕ → TypeForm → Text → Printed
+entered_text env path i form w =
+    if may_enter path i then caught (record_text env (visiting env (path ++ i ∷ []))
+    (path ++ i ∷ []) form w)
+    else Stopped (ByFault (CircularTypeDefinition i)) w

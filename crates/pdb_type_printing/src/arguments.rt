@@ -3,10 +3,9 @@
 
 ghost use Rattle.std.specs.Prelude.{◌≡◌, ◌≤◌, ◌∷◌, false, length, replicate, string_bytes};
 ghost use Rattle.pdb_type_pieces.specs.Pointers.{ends_in_sigil};
-ghost use Rattle.pdb_type_pieces.specs.Printed.{Prints};
 ghost use Rattle.pdb_type_printing.specs.Level.{KeepsLevel};
-ghost use Rattle.pdb_type_printing.specs.Types.{visiting, arguments, more_arguments, with_extra};
-ghost use Rattle.pdb_type_printing.specs.Printing.{env_of};
+ghost use Rattle.pdb_type_printing.specs.Prints.{PrintsType};
+ghost use Rattle.pdb_type_printing.specs.Types.{arguments, more_arguments, with_extra};
 
 use crate::asker::Asker;
 use crate::printer::TypePrinter;
@@ -30,10 +29,8 @@ impl<'a, 's, P: ModuleProvider> TypePrinter<'a, 's, P> {
         requires { length seen.old.path.now.items ≤ 1024 }
         ensures same { self.new ≡ self.old }
         ensures level { KeepsLevel seen.old seen.new }
-        ensures text { Prints result (string_bytes w.new)
-            (arguments (env_of P.provided self.old asker.module_index)
-            (visiting (env_of P.provided self.old asker.module_index) seen.old.path.now.items)
-            seen.old.path.now.items list.now (string_bytes w.old)) }
+        ensures text { PrintsType P.provided self.old asker seen.old
+            (λ env visit path. arguments env visit path list.now) w.old w.new result }
     {
         match first_and_more(list) {
             None => Ok(()),
@@ -54,10 +51,9 @@ impl<'a, 's, P: ModuleProvider> TypePrinter<'a, 's, P> {
         requires { length seen.old.path.now.items ≤ 1024 }
         ensures same { self.new ≡ self.old }
         ensures level { KeepsLevel seen.old seen.new }
-        ensures text { Prints result (string_bytes w.new)
-            (arguments (env_of P.provided self.old asker.module_index)
-            (visiting (env_of P.provided self.old asker.module_index) seen.old.path.now.items)
-            seen.old.path.now.items (with_extra extra list.now) (string_bytes w.old)) }
+        ensures text { PrintsType P.provided self.old asker seen.old
+            (λ env visit path. arguments env visit path (with_extra extra list.now))
+            w.old w.new result }
     {
         let Some(first) = extra else {
             return self.emit_arguments(asker, w, list, seen);
@@ -79,10 +75,8 @@ impl<'a, 's, P: ModuleProvider> TypePrinter<'a, 's, P> {
         requires { length seen.old.path.now.items ≤ 1024 }
         ensures same { self.new ≡ self.old }
         ensures level { KeepsLevel seen.old seen.new }
-        ensures text { Prints result (string_bytes w.new)
-            (arguments (env_of P.provided self.old asker.module_index)
-            (visiting (env_of P.provided self.old asker.module_index) seen.old.path.now.items)
-            seen.old.path.now.items (first ∷ more.now) (string_bytes w.old)) }
+        ensures text { PrintsType P.provided self.old asker seen.old
+            (λ env visit path. arguments env visit path (first ∷ more.now)) w.old w.new result }
     {
         if ends_in_sigil(w.as_bytes()) {
             self.emit_type_index(asker, w, first, seen)?;
@@ -105,10 +99,8 @@ impl<'a, 's, P: ModuleProvider> TypePrinter<'a, 's, P> {
         requires { length seen.old.path.now.items ≤ 1024 }
         ensures same { self.new ≡ self.old }
         ensures level { KeepsLevel seen.old seen.new }
-        ensures text { Prints result (string_bytes w.new)
-            (more_arguments (env_of P.provided self.old asker.module_index)
-            (visiting (env_of P.provided self.old asker.module_index) seen.old.path.now.items)
-            seen.old.path.now.items list.now (string_bytes w.old)) }
+        ensures text { PrintsType P.provided self.old asker seen.old
+            (λ env visit path. more_arguments env visit path list.now) w.old w.new result }
     {
         let mut rest = list;
         while let Some(run) = first_run(rest, seen.path.len()) {
@@ -137,10 +129,9 @@ impl<'a, 's, P: ModuleProvider> TypePrinter<'a, 's, P> {
         requires no_sign { ends_in_sigil (string_bytes w.old) ≡ false }
         ensures same { self.new ≡ self.old }
         ensures level { KeepsLevel seen.old seen.new }
-        ensures text { Prints result (string_bytes w.new)
-            (arguments (env_of P.provided self.old asker.module_index)
-            (visiting (env_of P.provided self.old asker.module_index) seen.old.path.now.items)
-            seen.old.path.now.items (index ∷ replicate repeats index) (string_bytes w.old)) }
+        ensures text { PrintsType P.provided self.old asker seen.old
+            (λ env visit path. arguments env visit path (index ∷ replicate repeats index))
+            w.old w.new result }
     {
         if repeats == 0 {
             return self.emit_type_index(asker, w, index, seen);
@@ -163,10 +154,9 @@ impl<'a, 's, P: ModuleProvider> TypePrinter<'a, 's, P> {
         requires no_sign { ends_in_sigil (string_bytes w.old) ≡ false }
         ensures same { self.new ≡ self.old }
         ensures level { KeepsLevel seen.old seen.new }
-        ensures text { Prints result (string_bytes w.new)
-            (arguments (env_of P.provided self.old asker.module_index)
-            (visiting (env_of P.provided self.old asker.module_index) seen.old.path.now.items)
-            seen.old.path.now.items (index ∷ replicate repeats index) (string_bytes w.old)) }
+        ensures text { PrintsType P.provided self.old asker seen.old
+            (λ env visit path. arguments env visit path (index ∷ replicate repeats index))
+            w.old w.new result }
     {
         let mut argument = String::new(asker.alloc);
         let printed = self.emit_type_index(asker, &mut argument, index, seen);

@@ -6,7 +6,7 @@ ghost use Rattle.pdb_records.specs.IdForms.{id_shape};
 ghost use Rattle.pdb_resolving.specs.Cause.{Finds};
 ghost use Rattle.pdb_resolving.specs.Fault.{Answers};
 ghost use Rattle.pdb_type_printing.specs.Arrays.{elements_of};
-ghost use Rattle.pdb_type_printing.specs.Printing.{env_of};
+ghost use Rattle.pdb_type_printing.specs.Printing.{elements_seen, env_of, with_failed};
 ghost use Rattle.pdb_type_printing.specs.This.{this_of, this_to};
 
 use crate::asker::Asker;
@@ -101,13 +101,7 @@ impl<'a, 's, P: ModuleProvider> TypePrinter<'a, 's, P> {
     #[inline(never)]
     pub(crate) fn elements_of(&mut self, asker: Asker, array: &ArrayType) -> Result<Elements<'a>>
         ensures same { self.new ≡ self.old }
-        ensures value { Finds
-            (λ e. record {
-              dimensions = e.dimensions.items;
-              index = e.index.0;
-              form = shape e.found;
-            })
-            result
+        ensures value { Finds elements_seen result
             (elements_of (env_of P.provided self.old asker.module_index) (array_form array.now)) }
     {
         let mut passed = IndexPath::new(asker.alloc);

@@ -1,23 +1,20 @@
 //! Types as text.
 
-ghost use Rattle.std.specs.Prelude.{◌≡◌, ◌≤◌, ◌==◌, ◌++◌, ◌∷◌, [], Some, length, string_bytes};
-ghost use Rattle.std.specs.Prelude.{if◌then◌else◌};
+ghost use Rattle.std.specs.Prelude.{◌≡◌, ◌≤◌, ◌==◌, [], Some, length};
 ghost use Rattle.pdb_records.specs.Forms as forms;
 ghost use Rattle.pdb_records.specs.Forms.{Plain};
 ghost use Rattle.pdb_records.specs.Shapes.{shape, array_form};
-ghost use Rattle.pdb_resolving.specs.Cause.{ByFault};
-ghost use Rattle.pdb_resolving.specs.Fault.{CircularTypeDefinition};
 ghost use Rattle.pdb_type_pieces.specs.Pointers.{level_of as level_of_pointer};
-ghost use Rattle.pdb_type_pieces.specs.Printed.{Prints, Stopped, caught, read_or};
-ghost use Rattle.pdb_type_pieces.specs.Paths.{may_enter};
+ghost use Rattle.pdb_type_pieces.specs.Printed.{caught, read_or};
 ghost use Rattle.pdb_type_printing.specs.Arrays.{elements_of};
 ghost use Rattle.pdb_type_printing.specs.Level.{KeepsLevel};
 ghost use Rattle.pdb_type_printing.specs.Types.{Whole, Modified, PointedTo, PointedModified};
-ghost use Rattle.pdb_type_printing.specs.Types.{MethodArguments, visiting, inside_text, shown_text};
+ghost use Rattle.pdb_type_printing.specs.Types.{arguments_of, inside_text, shown_text};
 ghost use Rattle.pdb_type_printing.specs.Types.{returned, returned_unless, in_brackets};
 ghost use Rattle.pdb_type_printing.specs.Types.{method_arguments, plain_text, array_text};
 ghost use Rattle.pdb_type_printing.specs.Types.{record_text, modified_text, pointed_text};
-ghost use Rattle.pdb_type_printing.specs.Printing.{env_of};
+ghost use Rattle.pdb_type_printing.specs.Types.{entered_text};
+ghost use Rattle.pdb_type_printing.specs.Prints.{PrintsType};
 
 use crate::asker::Asker;
 use crate::printer::TypePrinter;
@@ -51,9 +48,8 @@ impl<'a, 's, P: ModuleProvider> TypePrinter<'a, 's, P> {
         requires { length seen.old.path.now.items ≤ 1024 }
         ensures same { self.new ≡ self.old }
         ensures level { KeepsLevel seen.old seen.new }
-        ensures text { Prints result (string_bytes w.new)
-            ((visiting (env_of P.provided self.old asker.module_index) seen.old.path.now.items)
-            Whole seen.old.path.now.items index.0 (string_bytes w.old)) }
+        ensures text { PrintsType P.provided self.old asker seen.old
+            (λ env visit path. visit Whole path index.0) w.old w.new result }
     {
         match self.read(asker, index) {
             Ok(found) => self.emit_entered(asker, w, index, &found, seen),
@@ -74,14 +70,8 @@ impl<'a, 's, P: ModuleProvider> TypePrinter<'a, 's, P> {
         requires { length seen.old.path.now.items ≤ 1024 }
         ensures same { self.new ≡ self.old }
         ensures level { KeepsLevel seen.old seen.new }
-        ensures text { Prints result (string_bytes w.new)
-            (if may_enter seen.old.path.now.items index.0
-            then caught
-            (record_text (env_of P.provided self.old asker.module_index)
-            (visiting (env_of P.provided self.old asker.module_index)
-            (seen.old.path.now.items ++ index.0 ∷ [])) (seen.old.path.now.items ++ index.0 ∷ [])
-            (shape found.now) (string_bytes w.old))
-            else Stopped (ByFault (CircularTypeDefinition index.0)) (string_bytes w.old)) }
+        ensures text { PrintsType P.provided self.old asker seen.old
+            (λ env visit path. entered_text env path index.0 (shape found.now)) w.old w.new result }
     {
         let mut level = Seen::new(&mut *seen.path);
         level.insert(index.0)?;
@@ -101,11 +91,9 @@ impl<'a, 's, P: ModuleProvider> TypePrinter<'a, 's, P> {
         requires { length seen.old.path.now.items ≤ 1024 }
         ensures same { self.new ≡ self.old }
         ensures level { KeepsLevel seen.old seen.new }
-        ensures text { Prints result (string_bytes w.new)
-            (caught
-            (record_text (env_of P.provided self.old asker.module_index)
-            (visiting (env_of P.provided self.old asker.module_index) seen.old.path.now.items)
-            seen.old.path.now.items (shape found.now) (string_bytes w.old))) }
+        ensures text { PrintsType P.provided self.old asker seen.old
+            (λ env visit path w. caught (record_text env visit path (shape found.now) w))
+            w.old w.new result }
     {
         match self.emit_type_inner(asker, w, found, seen) {
             Err(Stop::ByError(Error::PdbError(pdb_container::Error::TypeNotFound(index)))) => {
@@ -127,10 +115,8 @@ impl<'a, 's, P: ModuleProvider> TypePrinter<'a, 's, P> {
         requires { length seen.old.path.now.items ≤ 1024 }
         ensures same { self.new ≡ self.old }
         ensures level { KeepsLevel seen.old seen.new }
-        ensures text { Prints result (string_bytes w.new)
-            (record_text (env_of P.provided self.old asker.module_index)
-            (visiting (env_of P.provided self.old asker.module_index) seen.old.path.now.items)
-            seen.old.path.now.items (shape found.now) (string_bytes w.old)) }
+        ensures text { PrintsType P.provided self.old asker seen.old
+            (λ env visit path. record_text env visit path (shape found.now)) w.old w.new result }
     {
         match found {
             TypeData::Array(t) => self.emit_array(asker, w, t, seen),
@@ -151,10 +137,9 @@ impl<'a, 's, P: ModuleProvider> TypePrinter<'a, 's, P> {
         requires { length seen.old.path.now.items ≤ 1024 }
         ensures same { self.new ≡ self.old }
         ensures level { KeepsLevel seen.old seen.new }
-        ensures text { Prints result (string_bytes w.new)
-            (record_text (env_of P.provided self.old asker.module_index)
-            (visiting (env_of P.provided self.old asker.module_index) seen.old.path.now.items)
-            seen.old.path.now.items (Plain (forms.Array (array_form t.now))) (string_bytes w.old)) }
+        ensures text { PrintsType P.provided self.old asker seen.old
+            (λ env visit path. record_text env visit path (Plain (forms.Array (array_form t.now))))
+            w.old w.new result }
     {
         let elements = self.elements_of(asker, t)?;
         self.emit_plain_caught(asker, w, &elements.found, seen)?;
@@ -175,11 +160,9 @@ impl<'a, 's, P: ModuleProvider> TypePrinter<'a, 's, P> {
         requires { length seen.old.path.now.items ≤ 1024 }
         ensures same { self.new ≡ self.old }
         ensures level { KeepsLevel seen.old seen.new }
-        ensures text { Prints result (string_bytes w.new)
-            (caught
-            (plain_text (env_of P.provided self.old asker.module_index)
-            (visiting (env_of P.provided self.old asker.module_index) seen.old.path.now.items)
-            seen.old.path.now.items (shape found.now) (string_bytes w.old))) }
+        ensures text { PrintsType P.provided self.old asker seen.old
+            (λ env visit path w. caught (plain_text env visit path (shape found.now) w))
+            w.old w.new result }
     {
         match self.emit_plain(asker, w, found, seen) {
             Err(Stop::ByError(Error::PdbError(pdb_container::Error::TypeNotFound(index)))) => {
@@ -201,10 +184,8 @@ impl<'a, 's, P: ModuleProvider> TypePrinter<'a, 's, P> {
         requires { length seen.old.path.now.items ≤ 1024 }
         ensures same { self.new ≡ self.old }
         ensures level { KeepsLevel seen.old seen.new }
-        ensures text { Prints result (string_bytes w.new)
-            (plain_text (env_of P.provided self.old asker.module_index)
-            (visiting (env_of P.provided self.old asker.module_index) seen.old.path.now.items)
-            seen.old.path.now.items (shape found.now) (string_bytes w.old)) }
+        ensures text { PrintsType P.provided self.old asker seen.old
+            (λ env visit path. plain_text env visit path (shape found.now)) w.old w.new result }
     {
         match found {
             TypeData::Primitive(t) => emit_primitive(w, self.flags, *t, false),
@@ -237,10 +218,10 @@ impl<'a, 's, P: ModuleProvider> TypePrinter<'a, 's, P> {
         requires { length seen.old.path.now.items ≤ 1024 }
         ensures same { self.new ≡ self.old }
         ensures level { KeepsLevel seen.old seen.new }
-        ensures text { Prints result (string_bytes w.new)
-            ((visiting (env_of P.provided self.old asker.module_index) seen.old.path.now.items)
-            (PointedTo [] (level_of_pointer is_constant t.now)) seen.old.path.now.items
-            (t.now.underlying_type).0 (string_bytes w.old)) }
+        ensures text { PrintsType P.provided self.old asker seen.old
+            (λ env visit path. visit (PointedTo [] (level_of_pointer is_constant t.now)) path
+            (t.now.underlying_type).0)
+            w.old w.new result }
     {
         let mut before = Vec::new(asker.alloc);
         self.emit_pointee(
@@ -265,10 +246,9 @@ impl<'a, 's, P: ModuleProvider> TypePrinter<'a, 's, P> {
         requires { length seen.old.path.now.items ≤ 1024 }
         ensures same { self.new ≡ self.old }
         ensures level { KeepsLevel seen.old seen.new }
-        ensures text { Prints result (string_bytes w.new)
-            (plain_text (env_of P.provided self.old asker.module_index)
-            (visiting (env_of P.provided self.old asker.module_index) seen.old.path.now.items)
-            seen.old.path.now.items (Plain (forms.MemberFunction t.now)) (string_bytes w.old)) }
+        ensures text { PrintsType P.provided self.old asker seen.old
+            (λ env visit path. plain_text env visit path (Plain (forms.MemberFunction t.now)))
+            w.old w.new result }
     {
         self.maybe_emit_return_type(asker, w, Some(t.return_type), t.attributes, seen)?;
         emit_bare_method(w)?;
@@ -287,10 +267,9 @@ impl<'a, 's, P: ModuleProvider> TypePrinter<'a, 's, P> {
         requires { length seen.old.path.now.items ≤ 1024 }
         ensures same { self.new ≡ self.old }
         ensures level { KeepsLevel seen.old seen.new }
-        ensures text { Prints result (string_bytes w.new)
-            (plain_text (env_of P.provided self.old asker.module_index)
-            (visiting (env_of P.provided self.old asker.module_index) seen.old.path.now.items)
-            seen.old.path.now.items (Plain (forms.Procedure t.now)) (string_bytes w.old)) }
+        ensures text { PrintsType P.provided self.old asker seen.old
+            (λ env visit path. plain_text env visit path (Plain (forms.Procedure t.now)))
+            w.old w.new result }
     {
         self.maybe_emit_return_type(asker, w, t.return_type, t.attributes, seen)?;
         emit_bare_function(w)?;
@@ -313,10 +292,8 @@ impl<'a, 's, P: ModuleProvider> TypePrinter<'a, 's, P> {
         requires { length seen.old.path.now.items ≤ 1024 }
         ensures same { self.new ≡ self.old }
         ensures level { KeepsLevel seen.old seen.new }
-        ensures text { Prints result (string_bytes w.new)
-            (returned_unless (env_of P.provided self.old asker.module_index)
-            (visiting (env_of P.provided self.old asker.module_index) seen.old.path.now.items)
-            seen.old.path.now.items index attributes (string_bytes w.old)) }
+        ensures text { PrintsType P.provided self.old asker seen.old
+            (λ env visit path. returned_unless env visit path index attributes) w.old w.new result }
     {
         let shown = shown_return(self.flags, index, attributes, false);
         self.emit_shown_return(asker, w, shown, seen)
@@ -336,10 +313,8 @@ impl<'a, 's, P: ModuleProvider> TypePrinter<'a, 's, P> {
         requires { length seen.old.path.now.items ≤ 1024 }
         ensures same { self.new ≡ self.old }
         ensures level { KeepsLevel seen.old seen.new }
-        ensures text { Prints result (string_bytes w.new)
-            (returned
-            (visiting (env_of P.provided self.old asker.module_index) seen.old.path.now.items)
-            seen.old.path.now.items index attributes (string_bytes w.old)) }
+        ensures text { PrintsType P.provided self.old asker seen.old
+            (λ env visit path. returned visit path index attributes) w.old w.new result }
     {
         let shown = shown_return(self.flags, index, attributes, true);
         self.emit_shown_return(asker, w, shown, seen)
@@ -357,9 +332,8 @@ impl<'a, 's, P: ModuleProvider> TypePrinter<'a, 's, P> {
         requires { length seen.old.path.now.items ≤ 1024 }
         ensures same { self.new ≡ self.old }
         ensures level { KeepsLevel seen.old seen.new }
-        ensures text { Prints result (string_bytes w.new)
-            (shown_text (visiting (env_of P.provided self.old asker.module_index)
-            seen.old.path.now.items) seen.old.path.now.items shown (string_bytes w.old)) }
+        ensures text { PrintsType P.provided self.old asker seen.old
+            (λ env visit path. shown_text visit path shown) w.old w.new result }
     {
         let Some(index) = shown else {
             return Ok(());
@@ -384,10 +358,9 @@ impl<'a, 's, P: ModuleProvider> TypePrinter<'a, 's, P> {
         requires { length seen.old.path.now.items ≤ 1024 }
         ensures same { self.new ≡ self.old }
         ensures level { KeepsLevel seen.old seen.new }
-        ensures text { Prints result (string_bytes w.new)
-            (method_arguments (env_of P.provided self.old asker.module_index)
-            (visiting (env_of P.provided self.old asker.module_index) seen.old.path.now.items)
-            seen.old.path.now.items t.now says_constant (string_bytes w.old)) }
+        ensures text { PrintsType P.provided self.old asker seen.old
+            (λ env visit path. method_arguments env visit path t.now says_constant)
+            w.old w.new result }
     {
         if leaves_out_arguments(self.flags) {
             return Ok(());
@@ -408,10 +381,9 @@ impl<'a, 's, P: ModuleProvider> TypePrinter<'a, 's, P> {
         requires { length seen.old.path.now.items ≤ 1024 }
         ensures same { self.new ≡ self.old }
         ensures level { KeepsLevel seen.old seen.new }
-        ensures text { Prints result (string_bytes w.new)
-            ((visiting (env_of P.provided self.old asker.module_index) seen.old.path.now.items)
-            (MethodArguments t.now.class_type t.now.this_pointer_type says_constant)
-            seen.old.path.now.items t.now.argument_list.0 (string_bytes w.old)) }
+        ensures text { PrintsType P.provided self.old asker seen.old
+            (λ env visit path. visit (arguments_of t.now says_constant) path
+            t.now.argument_list.0) w.old w.new result }
     {
         let mut level = Seen::new(&mut *seen.path);
         level.insert(t.argument_list.0)?;
@@ -432,10 +404,9 @@ impl<'a, 's, P: ModuleProvider> TypePrinter<'a, 's, P> {
         requires { length seen.old.path.now.items ≤ 1024 }
         ensures same { self.new ≡ self.old }
         ensures level { KeepsLevel seen.old seen.new }
-        ensures text { Prints result (string_bytes w.new)
-            (inside_text (env_of P.provided self.old asker.module_index)
-            (MethodArguments t.now.class_type t.now.this_pointer_type says_constant)
-            seen.old.path.now.items t.now.argument_list.0 (string_bytes w.old)) }
+        ensures text { PrintsType P.provided self.old asker seen.old
+            (λ env visit path. inside_text env (arguments_of t.now says_constant) path
+            t.now.argument_list.0) w.old w.new result }
     {
         let TypeData::ArgumentList(list) = self.read(asker, t.argument_list)? else {
             return Err(Stop::ByError(Error::ArgumentTypeNotArgumentList));
@@ -459,10 +430,9 @@ impl<'a, 's, P: ModuleProvider> TypePrinter<'a, 's, P> {
         requires { length seen.old.path.now.items ≤ 1024 }
         ensures same { self.new ≡ self.old }
         ensures level { KeepsLevel seen.old seen.new }
-        ensures text { Prints result (string_bytes w.new)
-            (in_brackets (env_of P.provided self.old asker.module_index)
-            (visiting (env_of P.provided self.old asker.module_index) seen.old.path.now.items)
-            seen.old.path.now.items says_constant list.now this (string_bytes w.old)) }
+        ensures text { PrintsType P.provided self.old asker seen.old
+            (λ env visit path. in_brackets env visit path says_constant list.now this)
+            w.old w.new result }
     {
         let (is_constant, extra) = this;
         emit(w, "(")?;
@@ -484,9 +454,8 @@ impl<'a, 's, P: ModuleProvider> TypePrinter<'a, 's, P> {
         requires { length seen.old.path.now.items ≤ 1024 }
         ensures same { self.new ≡ self.old }
         ensures level { KeepsLevel seen.old seen.new }
-        ensures text { Prints result (string_bytes w.new)
-            ((visiting (env_of P.provided self.old asker.module_index) seen.old.path.now.items)
-            (Modified is_constant) seen.old.path.now.items index.0 (string_bytes w.old)) }
+        ensures text { PrintsType P.provided self.old asker seen.old
+            (λ env visit path. visit (Modified is_constant) path index.0) w.old w.new result }
     {
         let mut level = Seen::new(&mut *seen.path);
         level.insert(index.0)?;
@@ -506,9 +475,9 @@ impl<'a, 's, P: ModuleProvider> TypePrinter<'a, 's, P> {
         requires { length seen.old.path.now.items ≤ 1024 }
         ensures same { self.new ≡ self.old }
         ensures level { KeepsLevel seen.old seen.new }
-        ensures text { Prints result (string_bytes w.new)
-            (inside_text (env_of P.provided self.old asker.module_index) (Modified is_constant)
-            seen.old.path.now.items index.0 (string_bytes w.old)) }
+        ensures text { PrintsType P.provided self.old asker seen.old
+            (λ env visit path. inside_text env (Modified is_constant) path index.0)
+            w.old w.new result }
     {
         match self.read(asker, index)? {
             TypeData::Pointer(t) => self.emit_pointer(asker, w, &t, is_constant, seen),
@@ -530,10 +499,9 @@ impl<'a, 's, P: ModuleProvider> TypePrinter<'a, 's, P> {
         requires { length seen.old.path.now.items ≤ 1024 }
         ensures same { self.new ≡ self.old }
         ensures level { KeepsLevel seen.old seen.new }
-        ensures text { Prints result (string_bytes w.new)
-            (modified_text (env_of P.provided self.old asker.module_index)
-            (visiting (env_of P.provided self.old asker.module_index) seen.old.path.now.items)
-            seen.old.path.now.items is_constant (shape found.now) (string_bytes w.old)) }
+        ensures text { PrintsType P.provided self.old asker seen.old
+            (λ env visit path. modified_text env visit path is_constant (shape found.now))
+            w.old w.new result }
     {
         emit_constant(w, is_constant)?;
         self.emit_type(asker, w, found, seen)
@@ -553,10 +521,9 @@ impl<'a, 's, P: ModuleProvider> TypePrinter<'a, 's, P> {
         requires { length seen.old.path.now.items ≤ 1024 }
         ensures same { self.new ≡ self.old }
         ensures level { KeepsLevel seen.old seen.new }
-        ensures text { Prints result (string_bytes w.new)
-            ((visiting (env_of P.provided self.old asker.module_index) seen.old.path.now.items)
-            (PointedTo before.old.items last) seen.old.path.now.items index.0
-            (string_bytes w.old)) }
+        ensures text { PrintsType P.provided self.old asker seen.old
+            (λ env visit path. visit (PointedTo before.old.items last) path index.0)
+            w.old w.new result }
     {
         let mut level = Seen::new(&mut *seen.path);
         level.insert(index.0)?;
@@ -577,10 +544,9 @@ impl<'a, 's, P: ModuleProvider> TypePrinter<'a, 's, P> {
         requires { length seen.old.path.now.items ≤ 1024 }
         ensures same { self.new ≡ self.old }
         ensures level { KeepsLevel seen.old seen.new }
-        ensures text { Prints result (string_bytes w.new)
-            (inside_text (env_of P.provided self.old asker.module_index)
-            (PointedTo before.old.items last) seen.old.path.now.items index.0
-            (string_bytes w.old)) }
+        ensures text { PrintsType P.provided self.old asker seen.old
+            (λ env visit path. inside_text env (PointedTo before.old.items last) path index.0)
+            w.old w.new result }
     {
         match self.read(asker, index)? {
             TypeData::Pointer(t) => {
@@ -624,10 +590,9 @@ impl<'a, 's, P: ModuleProvider> TypePrinter<'a, 's, P> {
         requires { length seen.old.path.now.items ≤ 1024 }
         ensures same { self.new ≡ self.old }
         ensures level { KeepsLevel seen.old seen.new }
-        ensures text { Prints result (string_bytes w.new)
-            ((visiting (env_of P.provided self.old asker.module_index) seen.old.path.now.items)
-            (PointedModified before.old.items last) seen.old.path.now.items index.0
-            (string_bytes w.old)) }
+        ensures text { PrintsType P.provided self.old asker seen.old
+            (λ env visit path. visit (PointedModified before.old.items last) path index.0)
+            w.old w.new result }
     {
         let mut level = Seen::new(&mut *seen.path);
         level.insert(index.0)?;
@@ -648,10 +613,9 @@ impl<'a, 's, P: ModuleProvider> TypePrinter<'a, 's, P> {
         requires { length seen.old.path.now.items ≤ 1024 }
         ensures same { self.new ≡ self.old }
         ensures level { KeepsLevel seen.old seen.new }
-        ensures text { Prints result (string_bytes w.new)
-            (inside_text (env_of P.provided self.old asker.module_index)
-            (PointedModified before.old.items last) seen.old.path.now.items index.0
-            (string_bytes w.old)) }
+        ensures text { PrintsType P.provided self.old asker seen.old
+            (λ env visit path. inside_text env (PointedModified before.old.items last) path index.0)
+            w.old w.new result }
     {
         let found = self.read(asker, index)?;
         before.push(last)?;
@@ -683,10 +647,9 @@ impl<'a, 's, P: ModuleProvider> TypePrinter<'a, 's, P> {
         requires { length seen.old.path.now.items ≤ 1024 }
         ensures same { self.new ≡ self.old }
         ensures level { KeepsLevel seen.old seen.new }
-        ensures text { Prints result (string_bytes w.new)
-            (pointed_text (env_of P.provided self.old asker.module_index)
-            (visiting (env_of P.provided self.old asker.module_index) seen.old.path.now.items)
-            seen.old.path.now.items pointers.now (shape found.now) (string_bytes w.old)) }
+        ensures text { PrintsType P.provided self.old asker seen.old
+            (λ env visit path. pointed_text env visit path pointers.now (shape found.now))
+            w.old w.new result }
     {
         match found {
             TypeData::MemberFunction(t) => self.emit_member_pointer(asker, w, pointers, t, seen),
@@ -713,11 +676,10 @@ impl<'a, 's, P: ModuleProvider> TypePrinter<'a, 's, P> {
         requires { length seen.old.path.now.items ≤ 1024 }
         ensures same { self.new ≡ self.old }
         ensures level { KeepsLevel seen.old seen.new }
-        ensures text { Prints result (string_bytes w.new)
-            (pointed_text (env_of P.provided self.old asker.module_index)
-            (visiting (env_of P.provided self.old asker.module_index) seen.old.path.now.items)
-            seen.old.path.now.items pointers.now (Plain (forms.MemberFunction t.now))
-            (string_bytes w.old)) }
+        ensures text { PrintsType P.provided self.old asker seen.old
+            (λ env visit path. pointed_text env visit path pointers.now (Plain (forms.MemberFunction
+            t.now)))
+            w.old w.new result }
     {
         self.emit_return_type(asker, w, Some(t.return_type), t.attributes, seen)?;
         emit(w, "(")?;
@@ -741,11 +703,10 @@ impl<'a, 's, P: ModuleProvider> TypePrinter<'a, 's, P> {
         requires { length seen.old.path.now.items ≤ 1024 }
         ensures same { self.new ≡ self.old }
         ensures level { KeepsLevel seen.old seen.new }
-        ensures text { Prints result (string_bytes w.new)
-            (pointed_text (env_of P.provided self.old asker.module_index)
-            (visiting (env_of P.provided self.old asker.module_index) seen.old.path.now.items)
-            seen.old.path.now.items pointers.now (Plain (forms.Procedure t.now))
-            (string_bytes w.old)) }
+        ensures text { PrintsType P.provided self.old asker seen.old
+            (λ env visit path. pointed_text env visit path pointers.now (Plain (forms.Procedure
+            t.now)))
+            w.old w.new result }
     {
         self.emit_return_type(asker, w, t.return_type, t.attributes, seen)?;
         emit(w, "(")?;
