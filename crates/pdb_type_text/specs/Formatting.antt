@@ -1,9 +1,34 @@
--- What a formatter's calls leave.
-use Rattle.std.specs.Prelude.{◌≡◌, Result, Ok, Err}
+-- What a formatter stores, and what its calls leave.
+use Rattle.std.specs.Prelude.{◌≡◌, ℕ, List, Option, Result, Ok, Err}
+use Rattle.pdb_items.specs.Items.{Table}
 use Rattle.pdb_resolving.specs.declared.error.Error.{Error}
 use Rattle.pdb_resolving.specs.declared.error.Error.TheVariants as errors
 use Rattle.pdb_resolving.specs.Cause.{Cause, ByFault, ByTable}
+use Rattle.pdb_resolving.specs.Resolving.{none_failed}
+use Rattle.pdb_symbols_modules.specs.Dbi.{Dbi}
+use Rattle.pdb_symbols_modules.specs.Machine.{machine_of}
+use Rattle.pdb_symbols_modules.specs.Modules.{Module}
 use Rattle.pdb_type_printing.specs.Printing.{Formatting, with_failed}
+use Rattle.pdb_type_printing.specs.Reading.{pointer_bytes}
+
+-- a formatter over what gives the modules, their entries, the table of names, the tables of types
+-- and of ids, the database's header and the flags; no table of a module stands as failed
+abbrev pub formatting_over : {P : Type 0} → P → List Module → Option (List ℕ) → Table → Table → Dbi
+    → ℕ → Formatting P
+formatting_over provider entries names types ids header flags = record {
+  reading = record {
+    modules = record {
+      provider = provider;
+      entries = entries;
+      names = names;
+      failed = none_failed;
+    };
+    types = types;
+    ids = ids;
+    pointer_size = pointer_bytes (machine_of header.machine);
+  };
+  flags = flags;
+}
 
 -- a formatter after a text was made or ended: the table that ended it stands as failed
 abbrev pub failed_after : {P A : Type 0} → Result A Cause → Formatting P → Formatting P

@@ -16,7 +16,7 @@ use Rattle.pdb_resolving.specs.Fault.{CircularTypeDefinition}
 use Rattle.pdb_type_pieces.specs.Printed.{Text, Printed, Done, Stopped, ◌>>=◌, say, answered}
 use Rattle.pdb_type_pieces.specs.Printed.{unread, read_or}
 use Rattle.pdb_type_printing.specs.Env.{Env}
-use Rattle.pdb_type_pieces.specs.Paths.{Path, is_on, room}
+use Rattle.pdb_type_pieces.specs.Paths.{Path, is_on, may_enter, room}
 use Rattle.pdb_type_pieces.specs.Names.{string_text}
 use Rattle.pdb_type_pieces.specs.FormNames.{unhandled_id}
 use Rattle.pdb_type_printing.specs.Types.{Whole, visiting, returned_unless}
@@ -102,6 +102,13 @@ visit_id env (suc left) ids i w = entering_id env (not (is_on ids i)) i w
 -- an id as its path leaves room, which ends at 1,024 ids
 abbrev pub visiting_id : Env → Path → VisitId
 visiting_id env ids = visit_id env (room ids)
+
+-- the text of an id that was read, and goes on the path of ids
+abbrev pub entered_id_text : Env → Path → ℕ → IdForm → Text → Printed
+entered_id_text env ids i form w =
+    if may_enter ids i then id_form_text env (visiting_id env (ids ++ i ∷ []))
+    (ids ++ i ∷ []) form w
+    else Stopped (ByFault (CircularTypeDefinition i)) w
 
 -- the text of an id, or what ends it
 abbrev pub id_made : Env → ℕ → Result Text Cause

@@ -1,16 +1,14 @@
 //! The calls of a formatter.
 
-ghost use Rattle.std.specs.Prelude.{◌≡◌, IfOk, IsOkUnless, List, option_map, Result, string_bytes};
-ghost use Rattle.std.specs.Prelude.{Ok, ℕ};
+ghost use Rattle.std.specs.Prelude.{◌≡◌, ℕ, IfOk, IsOkUnless, List, Ok, option_copied, Result};
+ghost use Rattle.std.specs.Prelude.{string_bytes};
 ghost use Rattle.pdb_container.specs.declared.error.Error.TheVariants as causes;
-ghost use Rattle.pdb_symbols_modules.specs.Machine.{machine_of};
 ghost use Rattle.pdb_resolving.specs.Cause.{Cause, Finds, of_any};
 ghost use Rattle.pdb_resolving.specs.Fault.{Answers};
-ghost use Rattle.pdb_resolving.specs.Resolving.{none_failed};
-ghost use Rattle.pdb_type_printing.specs.Reading.{parts_by, pointer_bytes};
+ghost use Rattle.pdb_type_printing.specs.Reading.{parts_by};
 ghost use Rattle.pdb_type_printing.specs.Sizes.{size_at};
 ghost use Rattle.pdb_type_printing.specs.Printing.{env_of};
-ghost use Rattle.pdb_type_text.specs.Formatting.{Leaves};
+ghost use Rattle.pdb_type_text.specs.Formatting.{Leaves, formatting_over};
 ghost use Rattle.pdb_type_text.specs.Functions.{function_made, function_text};
 ghost use Rattle.pdb_type_text.specs.Ids.{id_made, id_text};
 ghost use Rattle.pdb_type_text.specs.Written.{Emits};
@@ -45,21 +43,9 @@ impl<'a, 's, P: ModuleProvider> TypeFormatter<'a, 's, P> {
         string_table: Option<&'a StringTable<'s>>,
         flags: TypeFormatterFlags,
     ) -> pdb_container::Result<TypeFormatter<'a, 's, P>>
-        ensures parts { IfOk result (λ f. f ≡ record {
-          reading = record {
-            modules =
-                record {
-                  provider = provider.now;
-                  entries = modules.entry.items;
-                  names = option_map (λ t. t.now) string_table.entry;
-                  failed = none_failed;
-                };
-            types = type_information.now;
-            ids = id_information.now;
-            pointer_size = pointer_bytes (machine_of debug_information.now.machine);
-          };
-          flags = flags.bits;
-        }) }
+        ensures parts { IfOk result (λ f. f ≡ formatting_over provider.now modules.entry.items
+            (option_copied string_table.entry) type_information.now id_information.now
+            debug_information.now flags.bits) }
         ensures memory { IsOkUnless result causes.OutOfMemory }
     {
         let reader = ItemReader::new(

@@ -1,21 +1,18 @@
 //! Texts of ids.
 
-ghost use Rattle.std.specs.Prelude.{◌≡◌, ◌≤◌, ◌==◌, ◌++◌, ◌∷◌, [], length, string_bytes};
-ghost use Rattle.std.specs.Prelude.{if◌then◌else◌};
+ghost use Rattle.std.specs.Prelude.{◌≡◌, ◌≤◌, ◌==◌, ◌∷◌, [], length};
 ghost use Rattle.std.specs.Str.Lossy.{utf8_lossy};
 ghost use Rattle.pdb_records.specs.IdForms.{id_shape, function_form, member_function_form};
 ghost use Rattle.pdb_records.specs.IdForms.{Function, MemberFunction};
-ghost use Rattle.pdb_resolving.specs.Cause.{ByFault};
-ghost use Rattle.pdb_resolving.specs.Fault.{CircularTypeDefinition};
-ghost use Rattle.pdb_type_pieces.specs.Printed.{Prints, Stopped, say};
-ghost use Rattle.pdb_type_pieces.specs.Paths.{may_enter};
+ghost use Rattle.pdb_type_pieces.specs.Printed.{say};
 ghost use Rattle.pdb_type_printing.specs.Level.{KeepsLevel};
+ghost use Rattle.pdb_type_printing.specs.Prints.{PrintsText};
 ghost use Rattle.pdb_type_printing.specs.Types.{Whole, visiting, returned_unless};
 ghost use Rattle.pdb_type_text.specs.Functions.{name_and_arguments};
-ghost use Rattle.pdb_type_text.specs.Ids.{visiting_id, id_form_text, scoped_text, scope_text};
+ghost use Rattle.pdb_type_text.specs.Ids.{entered_id_text, id_form_text, scoped_text, scope_text};
 ghost use Rattle.pdb_type_text.specs.Ids.{method_id_printed, string_list_text, parts};
 ghost use Rattle.pdb_type_text.specs.Ids.{more_parts};
-ghost use Rattle.pdb_type_printing.specs.Printing.{env_of};
+ghost use Rattle.pdb_type_text.specs.PrintsIds.{PrintsId};
 
 use crate::printer::FunctionPrinter;
 use pdb_indices::{IdIndex, TypeIndex};
@@ -41,9 +38,8 @@ impl<'a, 's, P: ModuleProvider> FunctionPrinter<'a, 's, P> {
         requires { length ids.old.path.now.items ≤ 1024 }
         ensures same { self.new ≡ self.old }
         ensures level { KeepsLevel ids.old ids.new }
-        ensures text { Prints result (string_bytes w.new)
-            ((visiting_id (env_of P.provided self.old asker.module_index) ids.old.path.now.items)
-            ids.old.path.now.items index.0 (string_bytes w.old)) }
+        ensures text { PrintsId P.provided self.old asker ids.old
+            (λ env visit ids. visit ids index.0) w.old w.new result }
     {
         match self.printer.read_id(asker, index) {
             Ok(found) => self.emit_entered_id(asker, w, index, &found, ids),
@@ -64,13 +60,9 @@ impl<'a, 's, P: ModuleProvider> FunctionPrinter<'a, 's, P> {
         requires { length ids.old.path.now.items ≤ 1024 }
         ensures same { self.new ≡ self.old }
         ensures level { KeepsLevel ids.old ids.new }
-        ensures text { Prints result (string_bytes w.new)
-            (if may_enter ids.old.path.now.items index.0
-            then id_form_text (env_of P.provided self.old asker.module_index)
-            (visiting_id (env_of P.provided self.old asker.module_index)
-            (ids.old.path.now.items ++ index.0 ∷ [])) (ids.old.path.now.items ++ index.0 ∷ [])
-            (id_shape found.now) (string_bytes w.old)
-            else Stopped (ByFault (CircularTypeDefinition index.0)) (string_bytes w.old)) }
+        ensures text { PrintsId P.provided self.old asker ids.old
+            (λ env visit ids. entered_id_text env ids index.0 (id_shape found.now))
+            w.old w.new result }
     {
         let mut level = Seen::new(&mut *ids.path);
         level.insert(index.0)?;
@@ -89,10 +81,8 @@ impl<'a, 's, P: ModuleProvider> FunctionPrinter<'a, 's, P> {
         requires { length ids.old.path.now.items ≤ 1024 }
         ensures same { self.new ≡ self.old }
         ensures level { KeepsLevel ids.old ids.new }
-        ensures text { Prints result (string_bytes w.new)
-            (id_form_text (env_of P.provided self.old asker.module_index)
-            (visiting_id (env_of P.provided self.old asker.module_index) ids.old.path.now.items)
-            ids.old.path.now.items (id_shape found.now) (string_bytes w.old)) }
+        ensures text { PrintsId P.provided self.old asker ids.old
+            (λ env visit ids. id_form_text env visit ids (id_shape found.now)) w.old w.new result }
     {
         match found {
             IdData::MemberFunction(id) => self.emit_method_id(asker, w, id),
@@ -119,10 +109,9 @@ impl<'a, 's, P: ModuleProvider> FunctionPrinter<'a, 's, P> {
         requires { length ids.old.path.now.items ≤ 1024 }
         ensures same { self.new ≡ self.old }
         ensures level { KeepsLevel ids.old ids.new }
-        ensures text { Prints result (string_bytes w.new)
-            (id_form_text (env_of P.provided self.old asker.module_index)
-            (visiting_id (env_of P.provided self.old asker.module_index) ids.old.path.now.items)
-            ids.old.path.now.items (Function (function_form id.now)) (string_bytes w.old)) }
+        ensures text { PrintsId P.provided self.old asker ids.old
+            (λ env visit ids. id_form_text env visit ids (Function (function_form id.now)))
+            w.old w.new result }
     {
         let TypeData::Procedure(t) = self.printer.read(asker, id.function_type)? else {
             return Err(Stop::ByError(Error::FunctionIdIsNotProcedureType));
@@ -144,11 +133,9 @@ impl<'a, 's, P: ModuleProvider> FunctionPrinter<'a, 's, P> {
         requires { length ids.old.path.now.items ≤ 1024 }
         ensures same { self.new ≡ self.old }
         ensures level { KeepsLevel ids.old ids.new }
-        ensures text { Prints result (string_bytes w.new)
-            (scoped_text (env_of P.provided self.old asker.module_index)
-            (visiting_id (env_of P.provided self.old asker.module_index) ids.old.path.now.items)
-            ids.old.path.now.items (id.now.function_type.0 ∷ []) (function_form id.now) t.now
-            (string_bytes w.old)) }
+        ensures text { PrintsId P.provided self.old asker ids.old
+            (λ env visit ids. scoped_text env visit ids (id.now.function_type.0 ∷ [])
+            (function_form id.now) t.now) w.old w.new result }
     {
         self.emit_returned(asker, w, id.function_type, t)?;
         self.emit_scope(asker, w, id.scope, ids)?;
@@ -166,10 +153,9 @@ impl<'a, 's, P: ModuleProvider> FunctionPrinter<'a, 's, P> {
         t: &ProcedureType,
     ) -> Result<()>
         ensures same { self.new ≡ self.old }
-        ensures text { Prints result (string_bytes w.new)
-            (returned_unless (env_of P.provided self.old asker.module_index)
-            (visiting (env_of P.provided self.old asker.module_index) (index.0 ∷ []))
-            (index.0 ∷ []) t.now.return_type t.now.attributes (string_bytes w.old)) }
+        ensures text { PrintsText P.provided self.old asker
+            (λ env. returned_unless env (visiting env (index.0 ∷ [])) (index.0 ∷ [])
+            t.now.return_type t.now.attributes) w.old w.new result }
     {
         let mut path = IndexPath::new(asker.alloc);
         path.push(index.0)?;
@@ -188,10 +174,9 @@ impl<'a, 's, P: ModuleProvider> FunctionPrinter<'a, 's, P> {
         t: &ProcedureType,
     ) -> Result<()>
         ensures same { self.new ≡ self.old }
-        ensures text { Prints result (string_bytes w.new)
-            (name_and_arguments (env_of P.provided self.old asker.module_index)
-            (id.now.function_type.0 ∷ []) (utf8_lossy (function_form id.now).name) t.now
-            (string_bytes w.old)) }
+        ensures text { PrintsText P.provided self.old asker
+            (λ env. name_and_arguments env (id.now.function_type.0 ∷ [])
+            (utf8_lossy (function_form id.now).name) t.now) w.old w.new result }
     {
         let mut path = IndexPath::new(asker.alloc);
         path.push(id.function_type.0)?;
@@ -212,9 +197,8 @@ impl<'a, 's, P: ModuleProvider> FunctionPrinter<'a, 's, P> {
         requires { length ids.old.path.now.items ≤ 1024 }
         ensures same { self.new ≡ self.old }
         ensures level { KeepsLevel ids.old ids.new }
-        ensures text { Prints result (string_bytes w.new)
-            (scope_text (visiting_id (env_of P.provided self.old asker.module_index)
-            ids.old.path.now.items) ids.old.path.now.items scope (string_bytes w.old)) }
+        ensures text { PrintsId P.provided self.old asker ids.old
+            (λ env visit ids. scope_text visit ids scope) w.old w.new result }
     {
         let Some(scope) = scope else {
             return Ok(());
@@ -233,9 +217,8 @@ impl<'a, 's, P: ModuleProvider> FunctionPrinter<'a, 's, P> {
         id: &MemberFunctionId<'_>,
     ) -> Result<()>
         ensures same { self.new ≡ self.old }
-        ensures text { Prints result (string_bytes w.new)
-            (method_id_printed (env_of P.provided self.old asker.module_index)
-            (member_function_form id.now) (string_bytes w.old)) }
+        ensures text { PrintsText P.provided self.old asker
+            (λ env. method_id_printed env (member_function_form id.now)) w.old w.new result }
     {
         let TypeData::MemberFunction(t) = self.printer.read(asker, id.function_type)? else {
             return Err(Stop::ByError(Error::MemberFunctionIdIsNotMemberFunctionType));
@@ -251,9 +234,8 @@ impl<'a, 's, P: ModuleProvider> FunctionPrinter<'a, 's, P> {
     #[inline(never)]
     fn emit_string_list(&mut self, asker: Asker, w: &mut String, list: &[TypeIndex]) -> Result<()>
         ensures same { self.new ≡ self.old }
-        ensures text { Prints result (string_bytes w.new)
-            (string_list_text (env_of P.provided self.old asker.module_index) list.now
-            (string_bytes w.old)) }
+        ensures text { PrintsText P.provided self.old asker
+            (λ env. string_list_text env list.now) w.old w.new result }
     {
         emit(w, "\"")?;
         self.emit_parts(asker, w, list)?;
@@ -263,8 +245,8 @@ impl<'a, 's, P: ModuleProvider> FunctionPrinter<'a, 's, P> {
     /// Appends the strings of a list.
     fn emit_parts(&mut self, asker: Asker, w: &mut String, list: &[TypeIndex]) -> Result<()>
         ensures same { self.new ≡ self.old }
-        ensures text { Prints result (string_bytes w.new)
-            (parts (env_of P.provided self.old asker.module_index) list.now (string_bytes w.old)) }
+        ensures text { PrintsText P.provided self.old asker
+            (λ env. parts env list.now) w.old w.new result }
     {
         let [first, more @ ..] = list else {
             return Ok(());
@@ -276,9 +258,8 @@ impl<'a, 's, P: ModuleProvider> FunctionPrinter<'a, 's, P> {
     /// Appends strings with quotation marks before each.
     fn emit_more_parts(&mut self, asker: Asker, w: &mut String, list: &[TypeIndex]) -> Result<()>
         ensures same { self.new ≡ self.old }
-        ensures text { Prints result (string_bytes w.new)
-            (more_parts (env_of P.provided self.old asker.module_index) list.now
-            (string_bytes w.old)) }
+        ensures text { PrintsText P.provided self.old asker
+            (λ env. more_parts env list.now) w.old w.new result }
     {
         for index in list {
             emit_between_strings(w)?;
@@ -290,9 +271,8 @@ impl<'a, 's, P: ModuleProvider> FunctionPrinter<'a, 's, P> {
     /// Appends a type with nothing on the path.
     fn emit_alone(&mut self, asker: Asker, w: &mut String, index: TypeIndex) -> Result<()>
         ensures same { self.new ≡ self.old }
-        ensures text { Prints result (string_bytes w.new)
-            (visiting (env_of P.provided self.old asker.module_index) [] Whole [] index.0
-            (string_bytes w.old)) }
+        ensures text { PrintsText P.provided self.old asker
+            (λ env. visiting env [] Whole [] index.0) w.old w.new result }
     {
         let mut path = IndexPath::new(asker.alloc);
         let mut seen = Seen::new(&mut path);

@@ -1,15 +1,15 @@
 //! Signatures of functions.
 
-ghost use Rattle.std.specs.Prelude.{◌≡◌, ◌≤◌, ◌==◌, ◌++◌, ◌∷◌, [], None, length, string_bytes};
+ghost use Rattle.std.specs.Prelude.{◌≡◌, ◌≤◌, ◌==◌, ◌++◌, ◌∷◌, [], None, length};
 ghost use Rattle.std.specs.Prelude.{if◌then◌else◌};
 ghost use Rattle.pdb_records.specs.Shapes.{shape};
-ghost use Rattle.pdb_type_pieces.specs.Printed.{Prints, say};
+ghost use Rattle.pdb_type_pieces.specs.Printed.{say};
 ghost use Rattle.pdb_type_printing.specs.Level.{KeepsLevel};
+ghost use Rattle.pdb_type_printing.specs.Prints.{PrintsText, PrintsType};
 ghost use Rattle.pdb_type_printing.specs.Types.{Whole, visiting, returned_unless, method_arguments};
 ghost use Rattle.pdb_type_text.specs.Functions.{parent_text, method_text, arguments_unless};
 ghost use Rattle.pdb_type_text.specs.Functions.{name_and_arguments, signature};
 ghost use Rattle.pdb_type_text.specs.Functions.{function_printed};
-ghost use Rattle.pdb_type_printing.specs.Printing.{env_of};
 
 use crate::printer::FunctionPrinter;
 use pdb_indices::TypeIndex;
@@ -32,9 +32,8 @@ impl<'a, 's, P: ModuleProvider> FunctionPrinter<'a, 's, P> {
         index: TypeIndex,
     ) -> Result<()>
         ensures same { self.new ≡ self.old }
-        ensures text { Prints result (string_bytes w.new)
-            (function_printed (env_of P.provided self.old asker.module_index) name.now index.0
-            (string_bytes w.old)) }
+        ensures text { PrintsText P.provided self.old asker
+            (λ env. function_printed env name.now index.0) w.old w.new result }
     {
         if index.0 == 0 {
             return emit_name(w, name);
@@ -58,9 +57,8 @@ impl<'a, 's, P: ModuleProvider> FunctionPrinter<'a, 's, P> {
         requires { length seen.old.path.now.items ≤ 1024 }
         ensures same { self.new ≡ self.old }
         ensures level { KeepsLevel seen.old seen.new }
-        ensures text { Prints result (string_bytes w.new)
-            (signature (env_of P.provided self.old asker.module_index) seen.old.path.now.items
-            name.now (shape found.now) (string_bytes w.old)) }
+        ensures text { PrintsType P.provided self.old asker seen.old
+            (λ env visit path. signature env path name.now (shape found.now)) w.old w.new result }
     {
         match found {
             TypeData::MemberFunction(t) => self.emit_method(asker, w, None, name, t, seen),
@@ -86,9 +84,8 @@ impl<'a, 's, P: ModuleProvider> FunctionPrinter<'a, 's, P> {
         requires { length seen.old.path.now.items ≤ 1024 }
         ensures same { self.new ≡ self.old }
         ensures level { KeepsLevel seen.old seen.new }
-        ensures text { Prints result (string_bytes w.new)
-            (method_text (env_of P.provided self.old asker.module_index) seen.old.path.now.items
-            parent name.now t.now (string_bytes w.old)) }
+        ensures text { PrintsType P.provided self.old asker seen.old
+            (λ env visit path. method_text env path parent name.now t.now) w.old w.new result }
     {
         emit_static(w, self.printer.flags(), t.this_pointer_type)?;
         self.printer
@@ -109,9 +106,8 @@ impl<'a, 's, P: ModuleProvider> FunctionPrinter<'a, 's, P> {
         requires { length seen.old.path.now.items ≤ 1024 }
         ensures same { self.new ≡ self.old }
         ensures level { KeepsLevel seen.old seen.new }
-        ensures text { Prints result (string_bytes w.new)
-            (parent_text (env_of P.provided self.old asker.module_index) seen.old.path.now.items
-            parent (string_bytes w.old)) }
+        ensures text { PrintsType P.provided self.old asker seen.old
+            (λ env visit path. parent_text env path parent) w.old w.new result }
     {
         let Some(parent) = parent else {
             return Ok(());
@@ -132,9 +128,8 @@ impl<'a, 's, P: ModuleProvider> FunctionPrinter<'a, 's, P> {
         requires { length seen.old.path.now.items ≤ 1024 }
         ensures same { self.new ≡ self.old }
         ensures level { KeepsLevel seen.old seen.new }
-        ensures text { Prints result (string_bytes w.new)
-            (name_and_arguments (env_of P.provided self.old asker.module_index)
-            seen.old.path.now.items name.now t.now (string_bytes w.old)) }
+        ensures text { PrintsType P.provided self.old asker seen.old
+            (λ env visit path. name_and_arguments env path name.now t.now) w.old w.new result }
     {
         emit_name(w, name)?;
         self.maybe_emit_arguments(asker, w, t.argument_list, seen)
@@ -151,9 +146,8 @@ impl<'a, 's, P: ModuleProvider> FunctionPrinter<'a, 's, P> {
         requires { length seen.old.path.now.items ≤ 1024 }
         ensures same { self.new ≡ self.old }
         ensures level { KeepsLevel seen.old seen.new }
-        ensures text { Prints result (string_bytes w.new)
-            (arguments_unless (env_of P.provided self.old asker.module_index)
-            seen.old.path.now.items list (string_bytes w.old)) }
+        ensures text { PrintsType P.provided self.old asker seen.old
+            (λ env visit path. arguments_unless env path list) w.old w.new result }
     {
         if leaves_out_arguments(self.printer.flags()) {
             return Ok(());
