@@ -7,5 +7,5 @@ pub mod NeededStreams
 pub mod OtherFiles
 pub mod SizeSums
 pub mod PageLayout
-pub mod SizesSteps
+pub mod RangeSteps
 pub mod ToldSteps

@@ -1,4 +1,5 @@
 -- Reports by a file that is read on demand.
+pub use Rattle.pdb_databases.specs.declared.file_on_demand.FileOnDemand.{FileOnDemand}
 use Rattle.pdb_report_texts.specs.declared.fault.RunFault.{RunFault}
 use Rattle.pdb_report_texts.specs.declared.fault.RunFault.TheVariants.{Load, ReversedRange, Read}
 use Rattle.pdb_report_texts.specs.declared.fault.RunFault.TheVariants.{Write, InputTooLong}

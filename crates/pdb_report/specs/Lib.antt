@@ -2,7 +2,9 @@ pub mod AnyOrder
 pub mod FileReports
 pub mod FrameReports
 pub mod Isolation
+pub mod RangeReports
 pub mod SameReports
+pub mod SizeLaws
 pub mod SizesByFile
 pub mod SizesReport
 pub use Rattle.pdb_databases.specs.Answer

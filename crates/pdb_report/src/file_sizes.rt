@@ -1,20 +1,11 @@
 //! Reports on a range of addresses, by a file that is read on demand.
 
-ghost use Rattle.std.specs.Prelude.{◌≡◌, ◌<◌, ◌≤◌, ◌⊎◌, List, ℕ, true, None, string_bytes};
-ghost use Rattle.std.specs.Prelude.{IfErr, IfOk, OnErr, OnOk};
-ghost use Rattle.pdb_engine.specs.Watched.{CountsFailure, IsQuiet, Writes, WritesFront};
-ghost use Rattle.pdb_file_views.specs.Views.{agrees, Grows};
-ghost use Rattle.pdb_loading.specs.LoadFaults.{IsFileFault};
-ghost use Rattle.pdb_loading.specs.Loading.{load_fault_with};
-ghost use Rattle.pdb_databases.specs.FileAnswers.{IsKnown, IsUnasked};
-ghost use Rattle.pdb_report.specs.FileReports.{IfRefused};
-ghost use Rattle.pdb_report.specs.SizesByFile.{IsSizesByFileWith, IsWithinFilePiecesWith};
-ghost use Rattle.pdb_report.specs.SizesReport.{AreWithinPieces, IsReportOn};
-ghost use Rattle.pdb_report.specs.SizesReport.{IsSizesReportWith, IsWithinPiecesWith};
-ghost use Rattle.pdb_report_texts.specs.RunFaults.{IsOfFileSizes, OnCounted, OnLoad};
-ghost use Rattle.pdb_report_texts.specs.RunFaults.{OnMemoryOrFile, OnReversed, OnWrite};
-ghost use Rattle.pdb_report_texts.specs.RunFaults.{UnlessLoad};
-ghost use Rattle.pdb_symbols_modules.specs.Streams.{streams};
+ghost use Rattle.std.specs.Prelude.{◌≡◌, ◌≤◌, IfErr, IfOk};
+ghost use Rattle.pdb_databases.specs.FileAnswers.{IsKnown, IsUnasked, file_of};
+ghost use Rattle.pdb_file_views.specs.Views.{Grows};
+ghost use Rattle.pdb_report.specs.RangeReports.{CountsFileSizes, CountsIfKnown, IsCounted};
+ghost use Rattle.pdb_report.specs.RangeReports.{by_file_of, counted_loaded, counted_of, sizes_of};
+ghost use Rattle.pdb_report_texts.specs.RunFaults.{OnMemoryOrFile};
 
 use crate::counted::Counted;
 use crate::file_report::memory_fault;
@@ -48,18 +39,8 @@ fn count_held<A: Counted, F: Drop>(
     ensures flags { symbolizer.new.flags ≡ symbolizer.old.flags }
     ensures views { symbolizer.new.views ≡ symbolizer.old.views }
     ensures unasked { IsUnasked symbolizer.new }
-    ensures text { IsKnown symbolizer.new → IfOk result (λ counted. IsReportOn A.is_report
-        (A.places symbolizer.old.order (streams symbolizer.old.contents))
-        symbolizer.old.order (streams symbolizer.old.contents) start end
-        (string_bytes counted.0)) }
-    ensures lookups { IsKnown symbolizer.new → IfOk result (λ counted. AreWithinPieces
-        (A.places symbolizer.old.order (streams symbolizer.old.contents))
-        symbolizer.old.order (streams symbolizer.old.contents) start end
-        counted.1.lookups) }
-    ensures answered { IsKnown symbolizer.new → IfOk result (λ counted. AreWithinPieces
-        (A.places symbolizer.old.order (streams symbolizer.old.contents))
-        symbolizer.old.order (streams symbolizer.old.contents) start end
-        counted.1.answered) }
+    ensures counted { IsKnown symbolizer.new → IfOk result
+        (IsCounted (counted_loaded A.is_report A.places (file_of symbolizer.old)) start end) }
 {
     let Some(context) = symbolizer.take_context() else {
         return Err(AllocError);
@@ -86,18 +67,8 @@ fn count_file<A: Counted, F: FileExt + Drop>(
     ensures flags { symbolizer.new.flags ≡ symbolizer.old.flags }
     ensures grows { Grows symbolizer.old.views symbolizer.new.views }
     ensures kind { IfErr result OnMemoryOrFile }
-    ensures text { IsKnown symbolizer.new → IfOk result (λ counted. IsReportOn A.is_report
-        (A.places symbolizer.old.order (streams symbolizer.old.contents))
-        symbolizer.old.order (streams symbolizer.old.contents) start end
-        (string_bytes counted.0)) }
-    ensures lookups { IsKnown symbolizer.new → IfOk result (λ counted. AreWithinPieces
-        (A.places symbolizer.old.order (streams symbolizer.old.contents))
-        symbolizer.old.order (streams symbolizer.old.contents) start end
-        counted.1.lookups) }
-    ensures answered { IsKnown symbolizer.new → IfOk result (λ counted. AreWithinPieces
-        (A.places symbolizer.old.order (streams symbolizer.old.contents))
-        symbolizer.old.order (streams symbolizer.old.contents) start end
-        counted.1.answered) }
+    ensures counted { IsKnown symbolizer.new → IfOk result
+        (IsCounted (counted_loaded A.is_report A.places (file_of symbolizer.old)) start end) }
 {
     symbolizer.ask_between(alloc, start, end);
     match symbolizer.go_on(alloc) {
@@ -145,31 +116,9 @@ fn write_file_report<A: Counted, F: FileExt + Drop, W: Write>(
     ensures contents { symbolizer.new.contents ≡ symbolizer.old.contents }
     ensures same { symbolizer.new.order ≡ symbolizer.old.order }
     ensures grows { IsKnown symbolizer.new → IsKnown symbolizer.old }
-    ensures load { IfErr result (λ fault. OnLoad fault (λ _. ⊥)) }
-    ensures reversed { IfErr result (λ fault. OnReversed fault
-        ((end < start) × (writer.new ≡ writer.old))) }
-    ensures order { OnCounted result (start ≤ end) }
-    ensures kind { IfErr result IsOfFileSizes }
-    ensures ok { IsKnown symbolizer.new → OnOk result ((text : List ℕ)
-        × IsReportOn A.is_report (A.places symbolizer.old.order (streams symbolizer.old.contents))
-        symbolizer.old.order (streams symbolizer.old.contents) start end text
-        × Writes W.contents writer.old writer.new text) }
-    ensures lookups { IsKnown symbolizer.new → IfOk result (λ tally. AreWithinPieces
-        (A.places symbolizer.old.order (streams symbolizer.old.contents))
-        symbolizer.old.order (streams symbolizer.old.contents) start end
-        tally.lookups) }
-    ensures answered { IsKnown symbolizer.new → IfOk result (λ tally. AreWithinPieces
-        (A.places symbolizer.old.order (streams symbolizer.old.contents))
-        symbolizer.old.order (streams symbolizer.old.contents) start end
-        tally.answered) }
-    ensures quiet { OnOk result (IsQuiet writer.old writer.new) }
-    ensures write_fails { IfErr result (λ fault. OnWrite fault
-        (λ kind. CountsFailure writer.old writer.new kind)) }
-    ensures part { IsKnown symbolizer.new → OnErr result ((writer.new ≡ writer.old)
-        ⊎ ((text : List ℕ) × IsReportOn A.is_report
-        (A.places symbolizer.old.order (streams symbolizer.old.contents))
-        symbolizer.old.order (streams symbolizer.old.contents) start end text
-        × WritesFront W.contents writer.old writer.new text)) }
+    ensures run { CountsIfKnown (IsKnown symbolizer.new)
+        (counted_loaded A.is_report A.places (file_of symbolizer.old)) start end
+        W.contents writer.old writer.new result }
 {
     if end < start {
         return Err(RunFault::ReversedRange);
@@ -194,54 +143,8 @@ fn run_file_report<'a, A: Counted, F: FileExt + Drop, W: Write>(
     end: u32,
     writer: &mut Watched<W>,
 ) -> FileSizes<'a, F>
-    ensures contents { result.source.contents.numbers ≡ source.entry.contents.numbers }
-    // The loading fault is returned where the file has one, with nothing written.
-    ensures load { IfErr result.outcome (λ fault. OnLoad fault (λ cause.
-        (writer.new ≡ writer.old) × (agrees result.source.views source.entry.contents.numbers ≡ true
-        → IsFileFault cause
-        (load_fault_with source.entry.order (streams source.entry.contents.numbers))))) }
-    ensures loaded { agrees result.source.views source.entry.contents.numbers ≡ true
-        → UnlessLoad result.outcome
-        (load_fault_with source.entry.order (streams source.entry.contents.numbers) ≡ None) }
-    // A reversed range is refused exactly where it is one, with nothing written.
-    ensures reversed { IfErr result.outcome (λ fault. OnReversed fault
-        ((end < start) × (writer.new ≡ writer.old))) }
-    ensures order { OnCounted result.outcome (start ≤ end) }
-    ensures kind { IfErr result.outcome IsOfFileSizes }
-    // Out of memory, and a file that couldn't be read, are returned with nothing written, or where
-    // there is no loading fault.
-    ensures memory { agrees result.source.views source.entry.contents.numbers ≡ true
-        → IfErr result.outcome (λ fault. IfRefused fault
-        ((load_fault_with source.entry.order (streams source.entry.contents.numbers) ≡ None)
-        ⊎ (writer.new ≡ writer.old))) }
-    // Where the run ends well, the report is out, the writer didn't fail, and the last count took
-    // at most one lookup for each piece, and one more question for each key that lookups found.
-    ensures ok { agrees result.source.views source.entry.contents.numbers ≡ true
-        → OnOk result.outcome ((text : List ℕ) × IsReportOn A.is_report
-        (A.places source.entry.order (streams source.entry.contents.numbers))
-        source.entry.order (streams source.entry.contents.numbers) start end text
-        × Writes W.contents writer.old writer.new text) }
-    ensures lookups { agrees result.source.views source.entry.contents.numbers ≡ true
-        → IfOk result.outcome (λ tally. AreWithinPieces
-        (A.places source.entry.order (streams source.entry.contents.numbers))
-        source.entry.order (streams source.entry.contents.numbers) start end
-        tally.lookups) }
-    ensures answered { agrees result.source.views source.entry.contents.numbers ≡ true
-        → IfOk result.outcome (λ tally. AreWithinPieces
-        (A.places source.entry.order (streams source.entry.contents.numbers))
-        source.entry.order (streams source.entry.contents.numbers) start end
-        tally.answered) }
-    ensures quiet { OnOk result.outcome (IsQuiet writer.old writer.new) }
-    // A failed write is one of this call, with its kind.
-    ensures write_fails { IfErr result.outcome (λ fault. OnWrite fault
-        (λ kind. CountsFailure writer.old writer.new kind)) }
-    // At every fault nothing is out, or a prefix of the report.
-    ensures part { agrees result.source.views source.entry.contents.numbers ≡ true
-        → OnErr result.outcome ((writer.new ≡ writer.old) ⊎ ((text : List ℕ)
-        × IsReportOn A.is_report
-        (A.places source.entry.order (streams source.entry.contents.numbers))
-        source.entry.order (streams source.entry.contents.numbers) start end text
-        × WritesFront W.contents writer.old writer.new text)) }
+    ensures { CountsFileSizes (counted_of A.is_report A.places source.entry) start end
+        W.contents writer.old writer.new result }
 {
     match FileSymbolizer::open(alloc, source) {
         Ok(mut symbolizer) => {
@@ -271,51 +174,8 @@ pub fn run_file_sizes<'a, F: FileExt + Drop, W: Write>(
     end: u32,
     writer: &mut Watched<W>,
 ) -> FileSizes<'a, F>
-    ensures contents { result.source.contents.numbers ≡ source.entry.contents.numbers }
-    // The loading fault is returned where the file has one, with nothing written.
-    ensures load { IfErr result.outcome (λ fault. OnLoad fault (λ cause.
-        (writer.new ≡ writer.old) × (agrees result.source.views source.entry.contents.numbers ≡ true
-        → IsFileFault cause
-        (load_fault_with source.entry.order (streams source.entry.contents.numbers))))) }
-    ensures loaded { agrees result.source.views source.entry.contents.numbers ≡ true
-        → UnlessLoad result.outcome
-        (load_fault_with source.entry.order (streams source.entry.contents.numbers) ≡ None) }
-    // A reversed range is refused exactly where it is one, with nothing written.
-    ensures reversed { IfErr result.outcome (λ fault. OnReversed fault
-        ((end < start) × (writer.new ≡ writer.old))) }
-    ensures order { OnCounted result.outcome (start ≤ end) }
-    ensures kind { IfErr result.outcome IsOfFileSizes }
-    // Out of memory, and a file that couldn't be read, are returned with nothing written, or where
-    // there is no loading fault.
-    ensures memory { agrees result.source.views source.entry.contents.numbers ≡ true
-        → IfErr result.outcome (λ fault. IfRefused fault
-        ((load_fault_with source.entry.order (streams source.entry.contents.numbers) ≡ None)
-        ⊎ (writer.new ≡ writer.old))) }
-    // Where the run ends well, the report is out, the writer didn't fail, and the last count took
-    // at most one lookup for each piece, and one more question for each key that lookups found.
-    ensures ok { agrees result.source.views source.entry.contents.numbers ≡ true
-        → OnOk result.outcome ((text : List ℕ)
-        × IsSizesReportWith source.entry.order (streams source.entry.contents.numbers) start end
-        text
-        × Writes W.contents writer.old writer.new text) }
-    ensures lookups { agrees result.source.views source.entry.contents.numbers ≡ true
-        → IfOk result.outcome (λ tally.
-        IsWithinPiecesWith source.entry.order (streams source.entry.contents.numbers) start end
-        tally.lookups) }
-    ensures answered { agrees result.source.views source.entry.contents.numbers ≡ true
-        → IfOk result.outcome (λ tally.
-        IsWithinPiecesWith source.entry.order (streams source.entry.contents.numbers) start end
-        tally.answered) }
-    ensures quiet { OnOk result.outcome (IsQuiet writer.old writer.new) }
-    // A failed write is one of this call, with its kind.
-    ensures write_fails { IfErr result.outcome (λ fault. OnWrite fault
-        (λ kind. CountsFailure writer.old writer.new kind)) }
-    // At every fault nothing is out, or a prefix of the report.
-    ensures part { agrees result.source.views source.entry.contents.numbers ≡ true
-        → OnErr result.outcome ((writer.new ≡ writer.old) ⊎ ((text : List ℕ)
-        × IsSizesReportWith source.entry.order (streams source.entry.contents.numbers) start end
-        text
-        × WritesFront W.contents writer.old writer.new text)) }
+    ensures { CountsFileSizes (sizes_of source.entry) start end
+        W.contents writer.old writer.new result }
 {
     run_file_report::<Function, F, W>(alloc, source, start, end, writer)
 }
@@ -332,51 +192,8 @@ pub fn run_file_sizes_by_file<'a, F: FileExt + Drop, W: Write>(
     end: u32,
     writer: &mut Watched<W>,
 ) -> FileSizes<'a, F>
-    ensures contents { result.source.contents.numbers ≡ source.entry.contents.numbers }
-    // The loading fault is returned where the file has one, with nothing written.
-    ensures load { IfErr result.outcome (λ fault. OnLoad fault (λ cause.
-        (writer.new ≡ writer.old) × (agrees result.source.views source.entry.contents.numbers ≡ true
-        → IsFileFault cause
-        (load_fault_with source.entry.order (streams source.entry.contents.numbers))))) }
-    ensures loaded { agrees result.source.views source.entry.contents.numbers ≡ true
-        → UnlessLoad result.outcome
-        (load_fault_with source.entry.order (streams source.entry.contents.numbers) ≡ None) }
-    // A reversed range is refused exactly where it is one, with nothing written.
-    ensures reversed { IfErr result.outcome (λ fault. OnReversed fault
-        ((end < start) × (writer.new ≡ writer.old))) }
-    ensures order { OnCounted result.outcome (start ≤ end) }
-    ensures kind { IfErr result.outcome IsOfFileSizes }
-    // Out of memory, and a file that couldn't be read, are returned with nothing written, or where
-    // there is no loading fault.
-    ensures memory { agrees result.source.views source.entry.contents.numbers ≡ true
-        → IfErr result.outcome (λ fault. IfRefused fault
-        ((load_fault_with source.entry.order (streams source.entry.contents.numbers) ≡ None)
-        ⊎ (writer.new ≡ writer.old))) }
-    // Where the run ends well, the report is out, the writer didn't fail, and the last count took
-    // at most one lookup for each piece, and one more question for each key that lookups found.
-    ensures ok { agrees result.source.views source.entry.contents.numbers ≡ true
-        → OnOk result.outcome ((text : List ℕ)
-        × IsSizesByFileWith source.entry.order (streams source.entry.contents.numbers) start end
-        text
-        × Writes W.contents writer.old writer.new text) }
-    ensures lookups { agrees result.source.views source.entry.contents.numbers ≡ true
-        → IfOk result.outcome (λ tally.
-        IsWithinFilePiecesWith source.entry.order (streams source.entry.contents.numbers) start end
-        tally.lookups) }
-    ensures answered { agrees result.source.views source.entry.contents.numbers ≡ true
-        → IfOk result.outcome (λ tally.
-        IsWithinFilePiecesWith source.entry.order (streams source.entry.contents.numbers) start end
-        tally.answered) }
-    ensures quiet { OnOk result.outcome (IsQuiet writer.old writer.new) }
-    // A failed write is one of this call, with its kind.
-    ensures write_fails { IfErr result.outcome (λ fault. OnWrite fault
-        (λ kind. CountsFailure writer.old writer.new kind)) }
-    // At every fault nothing is out, or a prefix of the report.
-    ensures part { agrees result.source.views source.entry.contents.numbers ≡ true
-        → OnErr result.outcome ((writer.new ≡ writer.old) ⊎ ((text : List ℕ)
-        × IsSizesByFileWith source.entry.order (streams source.entry.contents.numbers) start end
-        text
-        × WritesFront W.contents writer.old writer.new text)) }
+    ensures { CountsFileSizes (by_file_of source.entry) start end
+        W.contents writer.old writer.new result }
 {
     run_file_report::<CountedFile, F, W>(alloc, source, start, end, writer)
 }

@@ -1,23 +1,18 @@
 //! Laws of the definitions: functions that do nothing, whose contracts are proved.
 
-ghost use Rattle.std.specs.Prelude.{◌≡◌, ◌+◌, ◌-◌, ◌<◌, ◌≤◌, ◌^◌, ℕ, List, None, Some, false};
+ghost use Rattle.std.specs.Prelude.{◌≡◌, ◌<◌, ◌^◌, ℕ, List, None, Some, false};
 ghost use Rattle.pdb_container.specs.Alike.{OpenAlike, ReadAlike};
-ghost use Rattle.pdb_loading.specs.FileRead.{IsRead};
-ghost use Rattle.pdb_owners.specs.FileAnswers.{FileAnswer as FileValue, file_cmp};
-ghost use Rattle.pdb_owners.specs.FunctionOrder.{Function as FunctionValue, function_cmp};
 ghost use Rattle.pdb_loading.specs.declared.order.ContributionOrder.{ContributionOrder as Order};
 ghost use Rattle.pdb_loading.specs.declared.order.ContributionOrder.TheVariants.{Any};
+ghost use Rattle.pdb_loading.specs.FileRead.{IsRead};
+ghost use Rattle.pdb_loading.specs.Loading.{LoadingFault, load_fault, load_fault_with, loaded};
+ghost use Rattle.pdb_loading.specs.Loading.{loaded_with};
 ghost use Rattle.pdb_report.specs.Answer.{address_map, answer, answer_with, database};
 ghost use Rattle.pdb_report.specs.Answer.{database_with, files, files_with, map_with};
 ghost use Rattle.pdb_report.specs.AnyOrder.{is_for_order};
-ghost use Rattle.pdb_report.specs.SizesByFile.{IsSizesByFileWith};
 ghost use Rattle.pdb_report.specs.Isolation.{AreAlikeFor, IsIsolated};
-ghost use Rattle.pdb_loading.specs.Loading.{LoadingFault, load_fault, load_fault_with, loaded};
-ghost use Rattle.pdb_loading.specs.Loading.{loaded_with};
 ghost use Rattle.pdb_report.specs.SameReports.{HaveSameReports};
-ghost use Rattle.pdb_report.specs.SizesReport.{IsSizesReportWith};
-ghost use Rattle.pdb_owners.specs.Counts.{count_of_none, count_without};
-ghost use Rattle.pdb_owners.specs.Table.{count_in, sum_of};
+ghost use Rattle.pdb_report.specs.SizeLaws.{SizesAddUp, SizesByFileAddUp};
 ghost use Rattle.pdb_symbols_modules.specs.Shared.{shared};
 ghost use Rattle.pdb_symbols_modules.specs.Streams.{Streams, streams};
 
@@ -38,21 +33,7 @@ pub fn files_that_were_read()
 /// range's addresses. What the reports on two ranges, one after the other, have for a function, and
 /// for nothing, adds up to what the report on both has.
 pub fn size_reports_add_up()
-    ensures sum { (order : Order) (s : Streams) (start end : ℕ) (text : List ℕ) → start ≤ end
-        → (r : IsSizesReportWith order s start end text)
-        → sum_of r.report.table + count_of_none r.map (database_with order s) start end
-        ≡ end - start }
-    ensures each { (order : Order) (s : Streams) (a b c : ℕ) (x y z : List ℕ) → a ≤ b → b ≤ c
-        → (p : IsSizesReportWith order s a b x) (q : IsSizesReportWith order s b c y)
-        (r : IsSizesReportWith order s a c z)
-        (f : FunctionValue) → count_in function_cmp p.report.table f
-        + count_in function_cmp q.report.table f ≡ count_in function_cmp r.report.table f }
-    ensures none { (order : Order) (s : Streams) (a b c : ℕ) (x y z : List ℕ) → a ≤ b → b ≤ c
-        → (p : IsSizesReportWith order s a b x) (q : IsSizesReportWith order s b c y)
-        (r : IsSizesReportWith order s a c z)
-        → count_of_none p.map (database_with order s) a b
-        + count_of_none q.map (database_with order s) b c
-        ≡ count_of_none r.map (database_with order s) a c }
+    ensures { SizesAddUp }
 {}
 
 /// The counts of a file's report by source file, and those on two ranges, add up as those of the
@@ -61,30 +42,7 @@ pub fn size_reports_add_up()
 /// that the report by function leaves out. These are the addresses that have no function and yet
 /// one of those three. The report by function counts that many more as having nothing.
 pub fn file_reports_add_up()
-    ensures sum { (order : Order) (s : Streams) (start end : ℕ) (text : List ℕ) → start ≤ end
-        → (r : IsSizesByFileWith order s start end text)
-        → sum_of r.report.table + count_of_none r.map (files_with order s) start end
-        ≡ end - start }
-    ensures each { (order : Order) (s : Streams) (a b c : ℕ) (x y z : List ℕ) → a ≤ b → b ≤ c
-        → (p : IsSizesByFileWith order s a b x) (q : IsSizesByFileWith order s b c y)
-        (r : IsSizesByFileWith order s a c z)
-        (f : FileValue) → count_in file_cmp p.report.table f
-        + count_in file_cmp q.report.table f ≡ count_in file_cmp r.report.table f }
-    ensures none { (order : Order) (s : Streams) (a b c : ℕ) (x y z : List ℕ) → a ≤ b → b ≤ c
-        → (p : IsSizesByFileWith order s a b x) (q : IsSizesByFileWith order s b c y)
-        (r : IsSizesByFileWith order s a c z)
-        → count_of_none p.map (files_with order s) a b
-        + count_of_none q.map (files_with order s) b c
-        ≡ count_of_none r.map (files_with order s) a c }
-    ensures functions { (order : Order) (s : Streams) (start end : ℕ) (x y : List ℕ) → start ≤ end
-        → (p : IsSizesReportWith order s start end x) (q : IsSizesByFileWith order s start end y)
-        → sum_of q.report.table ≡ sum_of p.report.table
-        + count_without p.map (database_with order s) (files_with order s) start end }
-    ensures left_out { (order : Order) (s : Streams) (start end : ℕ) (x y : List ℕ) → start ≤ end
-        → (p : IsSizesReportWith order s start end x) (q : IsSizesByFileWith order s start end y)
-        → count_of_none p.map (database_with order s) start end
-        ≡ count_of_none q.map (files_with order s) start end
-        + count_without p.map (database_with order s) (files_with order s) start end }
+    ensures { SizesByFileAddUp }
 {
     functions::file_reports_add_up();
 }

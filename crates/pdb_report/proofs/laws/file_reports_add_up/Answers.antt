@@ -9,35 +9,29 @@ use Rattle.pdb_report.specs.Answer.{database_with, files_with}
 use Rattle.pdb_report.proofs.SizeSums.{by_map, each_joined, have_files, none_joined, one_map}
 use Rattle.pdb_report.proofs.laws.file_reports_add_up.Goals as goal
 
-pub returns-clause-sum : goal.returns-clause-sum
-returns-clause-sum cc' = λ order s start end text ordered r.
-    table_fills file_cmp file_total file_exact (counted_at r.map (files_with order s)) start (end - start)
-    r.report.table r.report.in_order r.report.each
-
-pub returns-clause-each : goal.returns-clause-each
-returns-clause-each cc' = λ order s a b c x y z ab bc p q r f.
-    each_joined file_cmp order s (files_with order s) p.map q.map r.map p.map_is q.map_is r.map_is a b c ab bc
-    p.report.table q.report.table r.report.table f (p.report.each f) (q.report.each f)
-    (r.report.each f)
-
-pub returns-clause-none : goal.returns-clause-none
-returns-clause-none cc' = λ order s a b c x y z ab bc p q r.
-    none_joined file_cmp order s (files_with order s) p.map q.map r.map p.map_is q.map_is r.map_is a b c ab bc
-
-pub returns-clause-functions : goal.returns-clause-functions
-returns-clause-functions c = λ order s start end x y ordered p q.
-    c.file_reports_add_up.ensures.functions p.map (database_with order s) (files_with order s) start end x y ordered
-    (have_files order s) p.report
-    (by_map q.map p.map (files_with order s) start end y (one_map order s q.map p.map q.map_is p.map_is) q.report)
-
-pub returns-clause-left_out : goal.returns-clause-left_out
-returns-clause-left_out c = λ order s start end x y ordered p q.
-    let more = c.file_reports_add_up.ensures.functions p.map (database_with order s) (files_with order s) start end x y
-    ordered (have_files order s) p.report
-    (by_map q.map p.map (files_with order s) start end y (one_map order s q.map p.map q.map_is p.map_is) q.report) in
-    let functions = table_fills function_cmp function_total function_exact
-    (counted_at p.map (database_with order s)) start (end - start) p.report.table p.report.in_order
-    p.report.each in
-    let all = table_fills file_cmp file_total file_exact (counted_at q.map (files_with order s)) start
-    (end - start) q.report.table q.report.in_order q.report.each in
-    omega (arith, more, functions, all)
+pub returns : goal.returns
+returns c = record {
+  sum = λ order s start end text ordered r.
+      table_fills file_cmp file_total file_exact (counted_at r.map (files_with order s)) start (end - start)
+      r.report.table r.report.in_order r.report.each;
+  each = λ order s a b c x y z ab bc p q r f.
+      each_joined file_cmp order s (files_with order s) p.map q.map r.map p.map_is q.map_is r.map_is a b c ab bc
+      p.report.table q.report.table r.report.table f (p.report.each f) (q.report.each f)
+      (r.report.each f);
+  none = λ order s a b c x y z ab bc p q r.
+      none_joined file_cmp order s (files_with order s) p.map q.map r.map p.map_is q.map_is r.map_is a b c ab bc;
+  functions = λ order s start end x y ordered p q.
+      c.file_reports_add_up.ensures.functions p.map (database_with order s) (files_with order s) start end x y ordered
+      (have_files order s) p.report
+      (by_map q.map p.map (files_with order s) start end y (one_map order s q.map p.map q.map_is p.map_is) q.report);
+  left_out = λ order s start end x y ordered p q.
+      let more = c.file_reports_add_up.ensures.functions p.map (database_with order s) (files_with order s) start end x y
+      ordered (have_files order s) p.report
+      (by_map q.map p.map (files_with order s) start end y (one_map order s q.map p.map q.map_is p.map_is) q.report) in
+      let functions = table_fills function_cmp function_total function_exact
+      (counted_at p.map (database_with order s)) start (end - start) p.report.table p.report.in_order
+      p.report.each in
+      let all = table_fills file_cmp file_total file_exact (counted_at q.map (files_with order s)) start
+      (end - start) q.report.table q.report.in_order q.report.each in
+      omega (arith, more, functions, all);
+}

@@ -7,17 +7,15 @@ use Rattle.pdb_report.specs.Answer.{database_with}
 use Rattle.pdb_report.proofs.SizeSums.{each_joined, none_joined}
 use Rattle.pdb_report.proofs.laws.size_reports_add_up.Goals as goal
 
-pub returns-clause-sum : goal.returns-clause-sum
-returns-clause-sum cc' = λ order s start end text ordered r.
-    table_fills function_cmp function_total function_exact (counted_at r.map (database_with order s)) start
-    (end - start) r.report.table r.report.in_order r.report.each
-
-pub returns-clause-each : goal.returns-clause-each
-returns-clause-each cc' = λ order s a b c x y z ab bc p q r f.
-    each_joined function_cmp order s (database_with order s) p.map q.map r.map p.map_is q.map_is r.map_is a b c ab bc
-    p.report.table q.report.table r.report.table f (p.report.each f) (q.report.each f)
-    (r.report.each f)
-
-pub returns-clause-none : goal.returns-clause-none
-returns-clause-none cc' = λ order s a b c x y z ab bc p q r.
-    none_joined function_cmp order s (database_with order s) p.map q.map r.map p.map_is q.map_is r.map_is a b c ab bc
+pub returns : goal.returns
+returns c = record {
+  sum = λ order s start end text ordered r.
+      table_fills function_cmp function_total function_exact (counted_at r.map (database_with order s)) start
+      (end - start) r.report.table r.report.in_order r.report.each;
+  each = λ order s a b c x y z ab bc p q r f.
+      each_joined function_cmp order s (database_with order s) p.map q.map r.map p.map_is q.map_is r.map_is a b c ab bc
+      p.report.table q.report.table r.report.table f (p.report.each f) (q.report.each f)
+      (r.report.each f);
+  none = λ order s a b c x y z ab bc p q r.
+      none_joined function_cmp order s (database_with order s) p.map q.map r.map p.map_is q.map_is r.map_is a b c ab bc;
+}
