@@ -8,6 +8,9 @@ use Rattle.pdb_engine.specs.declared.fault.InputFault.TheVariants.{Read, Write, 
 use Rattle.pdb_engine.specs.InputFaults as inputs
 use Rattle.pdb_engine.specs.Watched.{inner_of, WritesFront}
 use Rattle.pdb_engine.specs.declared.watched.Watched.{Watched}
+use Rattle.pdb_report.specs.FileReports.{IfRefused}
+use Rattle.pdb_report_texts.specs.declared.fault.RunFault.{RunFault}
+use Rattle.pdb_report_texts.specs.declared.fault.RunFault.TheVariants as runs
 use Rattle.pdb_report_texts.specs.RunFaults.{IsOfFileFrames, run_fault_of_input}
 
 -- as answering the input does
@@ -16,6 +19,16 @@ of_file_frames (Read kind) h = h
 of_file_frames (Write kind) h = h
 of_file_frames InputTooLong h = tt
 of_file_frames OutOfMemory h = tt
+
+-- what holds in any case holds where memory ran out or the file couldn't be read
+pub if_refused : (fault : RunFault) (P : Type 0) → P → IfRefused fault P
+if_refused runs.OutOfMemory P h = h
+if_refused (runs.File kind) P h = h
+if_refused (runs.Load cause) P h = tt
+if_refused runs.ReversedRange P h = tt
+if_refused (runs.Read kind) P h = tt
+if_refused (runs.Write kind) P h = tt
+if_refused runs.InputTooLong P h = tt
 
 -- ---- nothing is out
 

@@ -1,5 +1,6 @@
 pub mod AnyOrder
 pub mod FileFaults
+pub mod FileFrameSteps
 pub mod FileLines
 pub mod FrameSteps
 pub mod IsolationLaw

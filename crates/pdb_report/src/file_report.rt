@@ -1,21 +1,14 @@
 //! The report on an input, by a file that is read on demand.
 
-ghost use Rattle.std.specs.Prelude.{◌≡◌, ◌^◌, ◌<◌, ◌≤◌, ◌⊎◌, List, ℕ, length, take, true, None};
-ghost use Rattle.std.specs.Prelude.{◌++◌, IfErr, IfSome, OnErr, OnOk, string_bytes};
-ghost use Rattle.pdb_engine.specs.InputLines.{report, report_of_ended};
-ghost use Rattle.pdb_engine.specs.Watched.{inner_of, CountsFailure, IsQuiet, Writes, WritesFront};
-ghost use Rattle.pdb_engine.specs.Watched.{Takes};
+ghost use Rattle.std.specs.Prelude.{◌≡◌, ◌++◌, ◌^◌, OnOk, length, string_bytes, true};
+ghost use Rattle.pdb_databases.specs.FileAnswers.{IsKnown, file_of};
 ghost use Rattle.pdb_file_views.specs.Views.{agrees, Grows};
-ghost use Rattle.pdb_loading.specs.LoadFaults.{IsFileFault};
-ghost use Rattle.pdb_loading.specs.Loading.{load_fault_with};
-ghost use Rattle.pdb_report.specs.Answer.{answer_with};
-ghost use Rattle.pdb_databases.specs.FileAnswers.{IsKnown};
-ghost use Rattle.pdb_report.specs.FileReports.{IfRefused};
+ghost use Rattle.pdb_report.specs.FrameReports.{ExchangesFrames, ReportsFileFrames};
+ghost use Rattle.pdb_report.specs.FrameReports.{ReportsIfKnown, answers_in, frames_loaded};
+ghost use Rattle.pdb_report.specs.FrameReports.{frames_of};
+ghost use Rattle.pdb_report.specs.Isolation.{IsIsolated};
 ghost use Rattle.pdb_report_texts.specs.AddressText.{line_text};
-ghost use Rattle.pdb_report.specs.Isolation.{AreAlikeFor, IsIsolated, exchanged_with};
-ghost use Rattle.pdb_report_texts.specs.RunFaults.{OnLoad, OnRead, OnWrite, OnTooLong};
-ghost use Rattle.pdb_report_texts.specs.RunFaults.{IsOfFileFrames, OnMemoryOrFile, UnlessLoad};
-ghost use Rattle.pdb_symbols_modules.specs.Streams.{streams};
+ghost use Rattle.pdb_report_texts.specs.RunFaults.{OnMemoryOrFile};
 
 use crate::lines::{append_found, append_no_address, append_text};
 use crate::report::{AtEnd, let_go};
@@ -72,8 +65,7 @@ fn append_held_line<F: Drop>(
     ensures views { symbolizer.new.views ≡ symbolizer.old.views }
     ensures text { IsKnown symbolizer.new → OnOk result (string_bytes room.new
         ≡ string_bytes room.old
-        ++ line_text (answer_with symbolizer.old.order
-        (streams symbolizer.old.contents)) line.now) }
+        ++ line_text (answers_in symbolizer.old) line.now) }
 {
     match parse_address(line) {
         None => append_no_address(room),
@@ -180,7 +172,7 @@ impl<'a, F: FileExt + Drop> Answers for FileLines<'a, F> {
 /// # Errors
 /// `Read` and `Write` where that end failed in this call; `File` where the file couldn't be read;
 /// `InputTooLong` past 2^30 bytes of input; `OutOfMemory`.
-#[tactic(auto, using(pdb_report_texts::proofs::ShortLines::line_short, pdb_report_texts::proofs::InputFaultSteps::on_read, pdb_report_texts::proofs::InputFaultSteps::on_write, pdb_report_texts::proofs::InputFaultSteps::on_too_long, crate::proofs::FileFaults::of_file_frames))]
+#[tactic(auto, using(pdb_report_texts::proofs::ShortLines::line_short))]
 fn answer_file_lines<F: FileExt + Drop, R: Read, W: Write>(
     alloc: Global,
     lines: &mut FileLines<'_, F>,
@@ -189,35 +181,8 @@ fn answer_file_lines<F: FileExt + Drop, R: Read, W: Write>(
 ) -> Result<(), RunFault>
     ensures contents { lines.new.contents ≡ lines.old.contents }
     ensures grows { IsKnown lines.new → IsKnown lines.old }
-    ensures load { IfErr result (λ fault. OnLoad fault (λ _. ⊥)) }
-    ensures kind { IfErr result IsOfFileFrames }
-    ensures ok { IsKnown lines.new → OnOk result
-        (IfSome (R.remaining (inner_of reader.old)) (λ input. (length input ≤ 2 ^ 30)
-        × Writes W.contents writer.old writer.new
-        (report (line_text (answer_with lines.old.order
-        (streams lines.old.contents))) input))) }
-    ensures quiet { OnOk result (IsQuiet reader.old reader.new × IsQuiet writer.old writer.new) }
-    ensures read_fails { IfErr result
-        (λ fault. OnRead fault (λ kind. CountsFailure reader.old reader.new kind)) }
-    ensures write_fails { IfErr result
-        (λ fault. OnWrite fault (λ kind. CountsFailure writer.old writer.new kind)) }
-    ensures read_out { IsKnown lines.new → IfErr result
-        (λ fault. OnRead fault
-        (λ _. (taken : List ℕ) × Takes R.remaining reader.old reader.new taken
-        × Writes W.contents writer.old writer.new (report_of_ended
-        (line_text (answer_with lines.old.order
-        (streams lines.old.contents))) taken))) }
-    ensures too_long { IsKnown lines.new → IfErr result
-        (λ fault. OnTooLong fault
-        (IfSome (R.remaining (inner_of reader.old)) (λ input. (2 ^ 30 < length input)
-        × Writes W.contents writer.old writer.new (report_of_ended
-        (line_text (answer_with lines.old.order
-        (streams lines.old.contents))) (take (2 ^ 30) input))))) }
-    ensures part { IsKnown lines.new → OnErr result
-        (IfSome (R.remaining (inner_of reader.old))
-        (λ input. WritesFront W.contents writer.old writer.new
-        (report (line_text (answer_with lines.old.order
-        (streams lines.old.contents))) input))) }
+    ensures run { ReportsIfKnown (IsKnown lines.new) (frames_loaded (file_of lines.old)) (2 ^ 30)
+        R.remaining W.contents reader.old reader.new writer.old writer.new result }
 {
     match run(alloc, lines, reader, writer, INPUT_LIMIT) {
         Ok(()) => Ok(()),
@@ -259,40 +224,10 @@ fn answer_file<'a, F: FileExt + Drop, R: Read, W: Write>(
     at_end: AtEnd,
 ) -> FileRun<'a, F>
     requires { symbolizer.flags ≡ 23 }
-    ensures contents { result.source.contents.numbers ≡ symbolizer.entry.contents }
     ensures grows { agrees result.source.views symbolizer.entry.contents ≡ true
         → IsKnown symbolizer.entry }
-    ensures load { IfErr result.outcome (λ fault. OnLoad fault (λ _. ⊥)) }
-    ensures kind { IfErr result.outcome IsOfFileFrames }
-    ensures ok { agrees result.source.views symbolizer.entry.contents ≡ true
-        → OnOk result.outcome
-        (IfSome (R.remaining (inner_of reader.old)) (λ input. (length input ≤ 2 ^ 30)
-        × Writes W.contents writer.old writer.new
-        (report (line_text (answer_with symbolizer.entry.order
-        (streams symbolizer.entry.contents))) input))) }
-    ensures quiet { OnOk result.outcome
-        (IsQuiet reader.old reader.new × IsQuiet writer.old writer.new) }
-    ensures read_fails { IfErr result.outcome
-        (λ fault. OnRead fault (λ kind. CountsFailure reader.old reader.new kind)) }
-    ensures write_fails { IfErr result.outcome
-        (λ fault. OnWrite fault (λ kind. CountsFailure writer.old writer.new kind)) }
-    ensures read_out { agrees result.source.views symbolizer.entry.contents ≡ true
-        → IfErr result.outcome (λ fault. OnRead fault
-        (λ _. (taken : List ℕ) × Takes R.remaining reader.old reader.new taken
-        × Writes W.contents writer.old writer.new (report_of_ended
-        (line_text (answer_with symbolizer.entry.order
-        (streams symbolizer.entry.contents))) taken))) }
-    ensures too_long { agrees result.source.views symbolizer.entry.contents ≡ true
-        → IfErr result.outcome (λ fault. OnTooLong fault
-        (IfSome (R.remaining (inner_of reader.old)) (λ input. (2 ^ 30 < length input)
-        × Writes W.contents writer.old writer.new (report_of_ended
-        (line_text (answer_with symbolizer.entry.order
-        (streams symbolizer.entry.contents))) (take (2 ^ 30) input))))) }
-    ensures part { agrees result.source.views symbolizer.entry.contents ≡ true
-        → OnErr result.outcome (IfSome (R.remaining (inner_of reader.old))
-        (λ input. WritesFront W.contents writer.old writer.new
-        (report (line_text (answer_with symbolizer.entry.order
-        (streams symbolizer.entry.contents))) input))) }
+    ensures report { ReportsFileFrames (frames_loaded (file_of symbolizer.entry)) R.remaining
+        W.contents reader.old reader.new writer.old writer.new result }
 {
     let mut lines = FileLines {
         symbolizer,
@@ -326,67 +261,14 @@ pub fn run_file_frames<'a, F: FileExt + Drop, R: Read, W: Write>(
     writer: &mut Watched<W>,
     at_end: AtEnd,
 ) -> FileRun<'a, F>
-    ensures contents { result.source.contents.numbers ≡ source.entry.contents.numbers }
-    // The loading fault is returned where the file has one, with both ends untouched; every other
-    // end but out of memory and a file that couldn't be read says that there is none.
-    ensures load { IfErr result.outcome (λ fault. OnLoad fault (λ cause.
-        ((reader.new ≡ reader.old) × (writer.new ≡ writer.old))
-        × (agrees result.source.views source.entry.contents.numbers ≡ true
-        → IsFileFault cause
-        (load_fault_with source.entry.order (streams source.entry.contents.numbers))))) }
-    ensures loaded { agrees result.source.views source.entry.contents.numbers ≡ true
-        → UnlessLoad result.outcome
-        (load_fault_with source.entry.order (streams source.entry.contents.numbers) ≡ None) }
-    ensures kind { IfErr result.outcome IsOfFileFrames }
-    // Out of memory, and a file that couldn't be read, are returned with both ends untouched, or
-    // where there is no loading fault.
-    ensures memory { agrees result.source.views source.entry.contents.numbers ≡ true
-        → IfErr result.outcome (λ fault. IfRefused fault
-        ((load_fault_with source.entry.order (streams source.entry.contents.numbers) ≡ None)
-        ⊎ ((reader.new ≡ reader.old) × (writer.new ≡ writer.old)))) }
-    // Where the run ends well, the report on the whole input is out, and neither end failed.
-    ensures ok { agrees result.source.views source.entry.contents.numbers ≡ true
-        → OnOk result.outcome
-        (IfSome (R.remaining (inner_of reader.old)) (λ input. (length input ≤ 2 ^ 30)
-        × Writes W.contents writer.old writer.new
-        (report (line_text (answer_with source.entry.order
-        (streams source.entry.contents.numbers))) input))) }
-    ensures quiet { OnOk result.outcome
-        (IsQuiet reader.old reader.new × IsQuiet writer.old writer.new) }
-    // A failed read or write is one of this call, with its kind.
-    ensures read_fails { IfErr result.outcome
-        (λ fault. OnRead fault (λ kind. CountsFailure reader.old reader.new kind)) }
-    ensures write_fails { IfErr result.outcome
-        (λ fault. OnWrite fault (λ kind. CountsFailure writer.old writer.new kind)) }
-    // The complete lines before a failed read, and those of a too long input, are answered.
-    ensures read_out { agrees result.source.views source.entry.contents.numbers ≡ true
-        → IfErr result.outcome (λ fault. OnRead fault
-        (λ _. (taken : List ℕ) × Takes R.remaining reader.old reader.new taken
-        × Writes W.contents writer.old writer.new (report_of_ended
-        (line_text (answer_with source.entry.order
-        (streams source.entry.contents.numbers))) taken))) }
-    ensures too_long { agrees result.source.views source.entry.contents.numbers ≡ true
-        → IfErr result.outcome (λ fault. OnTooLong fault
-        (IfSome (R.remaining (inner_of reader.old)) (λ input. (2 ^ 30 < length input)
-        × Writes W.contents writer.old writer.new (report_of_ended
-        (line_text (answer_with source.entry.order
-        (streams source.entry.contents.numbers))) (take (2 ^ 30) input))))) }
-    // At every fault what is out is a prefix of the report.
-    ensures part { agrees result.source.views source.entry.contents.numbers ≡ true
-        → OnErr result.outcome (IfSome (R.remaining (inner_of reader.old))
-        (λ input. WritesFront W.contents writer.old writer.new
-        (report (line_text (answer_with source.entry.order
-        (streams source.entry.contents.numbers))) input))) }
+    ensures report { ReportsFileFrames (frames_of source.entry) R.remaining W.contents
+        reader.old reader.new writer.old writer.new result }
     // The file's answers are those of every other file that is alike for the module that holds the
     // address. At `Ok` what is out is also the report in which the lines of one module's addresses
     // are such a file's.
     ensures isolated { IsIsolated source.entry.contents.numbers }
-    ensures exchanged { agrees result.source.views source.entry.contents.numbers ≡ true
-        → OnOk result.outcome (IfSome (R.remaining (inner_of reader.old)) (λ input.
-        (other : List ℕ) (m : ℕ) → AreAlikeFor m source.entry.contents.numbers other
-        → Writes W.contents writer.old writer.new (report (line_text
-        (exchanged_with source.entry.order m (streams source.entry.contents.numbers)
-        (streams other))) input))) }
+    ensures exchanged { ExchangesFrames (frames_of source.entry) R.remaining W.contents
+        reader.old writer.old writer.new result }
 {
     match FileSymbolizer::open(alloc, source) {
         Ok(symbolizer) => answer_file(alloc, symbolizer, reader, writer, at_end),
