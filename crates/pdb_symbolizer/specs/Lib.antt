@@ -1,3 +1,4 @@
+pub mod TaskReports
 pub mod Tasks
 pub mod UndecoratedLines
 pub mod UndecoratedText

@@ -6,15 +6,9 @@
 //! contracts of `pdb_report` say it.
 #![tactic(auto)]
 
-ghost use Rattle.std.specs.Prelude.{◌≡◌, ◌⊎◌, None, Ok, Err, IfErr, OnErr, OnOk};
-ghost use Rattle.pdb_engine.specs.Watched.{CountsFailure, IsQuiet, Writes, WritesFront, inner_of};
-ghost use Rattle.pdb_loading.specs.LoadFaults.{IsFileFault};
-ghost use Rattle.pdb_loading.specs.Loading.{load_fault_with};
-ghost use Rattle.pdb_report_texts.specs.RunFaults.{OnCounted, OnLoad, OnReversed};
-ghost use Rattle.pdb_report_texts.specs.RunFaults.{OnWrite, UnlessLoad};
-ghost use Rattle.pdb_symbolizer.specs.Tasks.{IsInOrder, IsReversed, OnReport};
+ghost use Rattle.std.specs.Prelude.{◌≡◌, Ok, Err, IfErr, OnOk};
+ghost use Rattle.pdb_symbolizer.specs.TaskReports.{DoesTask};
 ghost use Rattle.pdb_symbolizer.specs.Tasks.{order_of as order_for};
-ghost use Rattle.pdb_symbols_modules.specs.Streams.{streams};
 
 mod on_demand;
 mod undecorated;
@@ -184,23 +178,8 @@ fn run_task<R: Read, W: Write>(
     reader: &mut Watched<R>,
     writer: &mut Watched<W>,
 ) -> Result<(), RunFault>
-    // As those of `run_frames`, `run_sizes` and `run_sizes_by_file`, by the task's values.
-    ensures load { IfErr result (λ fault. OnLoad fault (λ cause.
-        IsFileFault cause (load_fault_with (order_for task.now) (streams bytes.items))
-        × (writer.new ≡ writer.old))) }
-    ensures loaded { UnlessLoad result
-        (load_fault_with (order_for task.now) (streams bytes.items) ≡ None) }
-    ensures reversed { IfErr result (λ fault. OnReversed fault
-        (IsReversed task.now × (writer.new ≡ writer.old))) }
-    ensures order { OnCounted result (IsInOrder task.now) }
-    ensures ok { OnOk result (OnReport task.now (streams bytes.items)
-        (R.remaining (inner_of reader.old)) (Writes W.contents writer.old writer.new)) }
-    ensures quiet { OnOk result (IsQuiet writer.old writer.new) }
-    ensures write_fails { IfErr result (λ fault. OnWrite fault
-        (λ kind. CountsFailure writer.old writer.new kind)) }
-    ensures part { OnErr result ((writer.new ≡ writer.old) ⊎ OnReport task.now
-        (streams bytes.items) (R.remaining (inner_of reader.old))
-        (WritesFront W.contents writer.old writer.new)) }
+    ensures { DoesTask task.now bytes.items R.remaining W.contents reader.old
+        writer.old writer.new result }
 {
     let order = order_of(task);
     match task {

@@ -1,15 +1,8 @@
 //! Reports by a file that is read on demand.
 
-ghost use Rattle.std.specs.Prelude.{◌≡◌, ◌<◌, ◌≤◌, ◌⊎◌, List, ℕ, true, None, IfErr, OnErr, OnOk};
-ghost use Rattle.pdb_engine.specs.Watched.{CountsFailure, IsQuiet, Writes, WritesFront, inner_of};
-ghost use Rattle.pdb_file_views.specs.Views.{agrees};
-ghost use Rattle.pdb_loading.specs.LoadFaults.{IsFileFault};
-ghost use Rattle.pdb_loading.specs.Loading.{load_fault_with};
-ghost use Rattle.pdb_report_texts.specs.RunFaults.{OnCounted, OnLoad, OnReversed, OnWrite};
-ghost use Rattle.pdb_report_texts.specs.RunFaults.{UnlessLoad};
-ghost use Rattle.pdb_symbolizer.specs.Tasks.{IsInOrder, IsReversed, OnRangeReport, OnReport};
+ghost use Rattle.std.specs.Prelude.{◌≡◌};
+ghost use Rattle.pdb_symbolizer.specs.TaskReports.{DoesFileTask, WritesRange};
 ghost use Rattle.pdb_symbolizer.specs.Tasks.{order_of};
-ghost use Rattle.pdb_symbols_modules.specs.Streams.{streams};
 
 use pdb_arguments::Task;
 use pdb_report::{
@@ -41,27 +34,8 @@ pub fn run_task_on_demand<'a, F: FileExt + Drop, R: Read, W: Write>(
     writer: &mut Watched<W>,
 ) -> FileRun<'a, F>
     requires { source.order ≡ order_of task.now }
-    ensures contents { result.source.contents.numbers ≡ source.entry.contents.numbers }
-    ensures load { IfErr result.outcome (λ fault. OnLoad fault (λ cause. (writer.new ≡ writer.old)
-        × (agrees result.source.views source.entry.contents.numbers ≡ true
-        → IsFileFault cause
-        (load_fault_with source.entry.order (streams source.entry.contents.numbers))))) }
-    ensures loaded { agrees result.source.views source.entry.contents.numbers ≡ true
-        → UnlessLoad result.outcome
-        (load_fault_with source.entry.order (streams source.entry.contents.numbers) ≡ None) }
-    ensures reversed { IfErr result.outcome (λ fault. OnReversed fault
-        (IsReversed task.now × (writer.new ≡ writer.old))) }
-    ensures order { OnCounted result.outcome (IsInOrder task.now) }
-    ensures ok { agrees result.source.views source.entry.contents.numbers ≡ true
-        → OnOk result.outcome (OnReport task.now (streams source.entry.contents.numbers)
-        (R.remaining (inner_of reader.old)) (Writes W.contents writer.old writer.new)) }
-    ensures quiet { OnOk result.outcome (IsQuiet writer.old writer.new) }
-    ensures write_fails { IfErr result.outcome (λ fault. OnWrite fault
-        (λ kind. CountsFailure writer.old writer.new kind)) }
-    ensures part { agrees result.source.views source.entry.contents.numbers ≡ true
-        → OnErr result.outcome ((writer.new ≡ writer.old) ⊎ OnReport task.now
-        (streams source.entry.contents.numbers) (R.remaining (inner_of reader.old))
-        (WritesFront W.contents writer.old writer.new)) }
+    ensures { DoesFileTask task.now source.entry R.remaining W.contents reader.old
+        writer.old writer.new result }
 {
     match task {
         Task::Frames { .. } => {
@@ -86,28 +60,7 @@ fn count_sizes_on_demand<'a, F: FileExt + Drop, W: Write>(
     by_file: bool,
     writer: &mut Watched<W>,
 ) -> FileRun<'a, F>
-    ensures contents { result.source.contents.numbers ≡ source.entry.contents.numbers }
-    ensures load { IfErr result.outcome (λ fault. OnLoad fault (λ cause. (writer.new ≡ writer.old)
-        × (agrees result.source.views source.entry.contents.numbers ≡ true
-        → IsFileFault cause
-        (load_fault_with source.entry.order (streams source.entry.contents.numbers))))) }
-    ensures loaded { agrees result.source.views source.entry.contents.numbers ≡ true
-        → UnlessLoad result.outcome
-        (load_fault_with source.entry.order (streams source.entry.contents.numbers) ≡ None) }
-    ensures reversed { IfErr result.outcome (λ fault. OnReversed fault
-        ((end < start) × (writer.new ≡ writer.old))) }
-    ensures order { OnCounted result.outcome (start ≤ end) }
-    ensures ok { agrees result.source.views source.entry.contents.numbers ≡ true
-        → OnOk result.outcome (OnRangeReport by_file source.entry.order
-        (streams source.entry.contents.numbers) start end
-        (Writes W.contents writer.old writer.new)) }
-    ensures quiet { OnOk result.outcome (IsQuiet writer.old writer.new) }
-    ensures write_fails { IfErr result.outcome (λ fault. OnWrite fault
-        (λ kind. CountsFailure writer.old writer.new kind)) }
-    ensures part { agrees result.source.views source.entry.contents.numbers ≡ true
-        → OnErr result.outcome ((writer.new ≡ writer.old) ⊎ OnRangeReport by_file
-        source.entry.order (streams source.entry.contents.numbers) start end
-        (WritesFront W.contents writer.old writer.new)) }
+    ensures { WritesRange by_file source.entry start end W.contents writer.old writer.new result }
 {
     if by_file {
         let FileSizes { outcome, source } = run_file_sizes_by_file(
