@@ -69,9 +69,13 @@ def owners_of(line):
 
 
 def records_in(path):
-    """The records of a file of definitions, with their fields."""
+    """The records of a file of definitions, with their fields. A field that is a record above it
+    stands for the fields of that."""
+    found = {}
     for name, body in re.findall(r"(?ms)^pub record (\w+)(.*?)(?=^\S|\Z)", read(path)):
-        yield name, set(re.findall(r"(?m)^ +pub (\w+) :", body.partition("where\n")[2]))
+        fields = re.findall(r"(?m)^ +pub (\w+) : (\w*)", body.partition("where\n")[2])
+        found[name] = set().union(*(found.get(kind) or {it} for it, kind in fields))
+    return found
 
 
 def functions_in(path, records):
