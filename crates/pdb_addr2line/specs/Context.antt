@@ -1,14 +1,19 @@
 -- A context as the definitions see it, and what it is made of.
-use Rattle.std.specs.Prelude.{ℕ, ◌+◌, ◌-◌, ◌^◌, Bool, min, Result, Ok, Err, if◌then◌else◌}
+use Rattle.std.specs.Prelude.{ℕ, ◌+◌, ◌-◌, ◌^◌, Bool, List, Option, min, Result, Ok, Err}
+use Rattle.std.specs.Prelude.{if◌then◌else◌}
 use Rattle.pdb_container.specs.Fault.{◌>>=◌}
+use Rattle.pdb_addresses.specs.Addresses.{Map}
+use Rattle.pdb_addresses.specs.declared.sections.ImageSectionHeader.{ImageSectionHeader}
 use Rattle.pdb_resolving.specs.declared.error.Error.{Error}
 use Rattle.pdb_resolving.specs.declared.error.Error.TheVariants as errors
-use Rattle.pdb_resolving.specs.Fault.{Fault}
+use Rattle.pdb_resolving.specs.Fault.{Answers, Fault}
 use Rattle.pdb_resolving.specs.Resolving.{Provided}
 use Rattle.pdb_answers.specs.Printing.{Formatting}
 use Rattle.pdb_answers.specs.Choice.{Parts}
+use Rattle.pdb_answers.specs.Parts.{parts_of}
 use Rattle.pdb_frames.specs.Scopes.{Scope, scope_of}
 use Rattle.pdb_answers.specs.FailingParts.{Failures, no_failures}
+use Rattle.pdb_symbols_modules.specs.Dbi.{Dbi}
 
 -- what gives modules, what every question goes over, what names are made of, how many places were
 -- looked up, and which parts of modules stand as failed
@@ -59,3 +64,15 @@ context_over provider formatting parts = parts >>= λ p. Ok record {
   lookups = 0;
   failed = no_failures;
 }
+
+-- a context over what a database's tables give
+abbrev pub context_from : {P : Type 0} → P → Formatting P → List ImageSectionHeader → Map → List ℕ
+    → Dbi → Option (List ℕ) → Result (Context P) Fault
+context_from provider formatting sections map symbol_records header names =
+    context_over provider formatting
+    (parts_of sections map symbol_records header.contributions names)
+
+-- A call made this context, or was refused for the fault of its parts, unless memory was short.
+abbrev pub MakesContext : {P : Type 0} → Result (Context P) Error → Result (Context P) Fault
+    → Type 0
+MakesContext result made = Answers (λ c. c) result made

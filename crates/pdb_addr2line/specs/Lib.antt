@@ -1,4 +1,5 @@
 pub mod Context
+pub mod ContextAnswers
 pub mod Formatters
 pub mod FunctionList
 pub mod ModulesAt

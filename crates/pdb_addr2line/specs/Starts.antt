@@ -1,5 +1,6 @@
 -- Where functions begin: the image addresses of public entries and of all modules' procedures.
 use Rattle.std.specs.Prelude.{◌≡◌, ℕ, ◌+◌, ◌==◌, Bool, List, [], ◌∷◌, ◌++◌, map, Option, None, Some}
+use Rattle.std.specs.Prelude.{Result, OnOk}
 use Rattle.std.specs.List.{flat_map, list_any}
 use Rattle.std.specs.List.Sorted.{IsStrictlySortedBy}
 use Rattle.std.specs.Ordering.{nat_cmp}
@@ -10,7 +11,9 @@ use Rattle.pdb_addresses.specs.Addresses.{Map, outer_of_place}
 use Rattle.pdb_symbols_modules.specs.Modules.{Module}
 use Rattle.pdb_answers.specs.KnownModules.{module_data, procedures_in}
 use Rattle.pdb_answers.specs.Choice.{Parts}
-use Rattle.pdb_frames.specs.Scopes.{Scope}
+use Rattle.pdb_answers.specs.Printing.{Formatting}
+use Rattle.pdb_frames.specs.Scopes.{Scope, entries_of, scope_of}
+use Rattle.pdb_resolving.specs.Resolving.{Provided}
 
 -- a value that may be there, as a list
 abbrev pub if_any : {A : Type 0} → Option A → List A
@@ -33,6 +36,21 @@ abbrev pub start_addresses : Parts → (ℕ → Scope) → List Module → List 
 start_addresses p scope entries =
     addresses_of p.map (map (λ f. f.start_offset) p.publics)
     ++ addresses_of p.map (procedure_starts_from scope 0 entries)
+
+-- where the procedures of a module begin
+abbrev pub procedure_starts : Scope → List PdbInternalSectionOffset
+procedure_starts scope = map (λ q. q.offset) (procedures_in (module_data scope.own))
+
+-- the same image addresses by what gives the modules and what names are made of
+abbrev pub starts_given : {P : Type 0} → (P → Provided) → P → Parts → Formatting P → List ℕ
+starts_given provided provider parts formatting =
+    start_addresses parts (scope_of provided provider formatting) (entries_of formatting)
+
+-- a call appends the image addresses of places
+abbrev pub AppendsAddresses : {A E : Type 0} → Result A E → Map → List ℕ → List ℕ
+    → List PdbInternalSectionOffset → Type 0
+AppendsAddresses result map before after places =
+    OnOk result (after ≡ before ++ addresses_of map places)
 
 -- a number is among others
 abbrev pub is_among : List ℕ → ℕ → Bool

@@ -1,21 +1,20 @@
 //! A context: answers about addresses of an image.
 
-ghost use Rattle.std.specs.Prelude.{◌≡◌, ◌≤◌, true, IfOk, Ok, Some, is_some, length};
-ghost use Rattle.std.specs.Prelude.{option_and_then, option_map, Option, Result as Answer};
+ghost use Rattle.std.specs.Prelude.{◌≡◌, ◌≤◌, true, Ok, length};
+ghost use Rattle.std.specs.Prelude.{option_and_then, option_copied, Option, Result as Answer};
 ghost use Rattle.pdb_addresses.specs.Addresses.{IsOrdered};
 ghost use Rattle.pdb_resolving.specs.Fault.{Answers, Fault};
-ghost use Rattle.pdb_answers.specs.Choice.{held_at, place_of};
-ghost use Rattle.pdb_answers.specs.Parts.{parts_of};
-ghost use Rattle.pdb_addr2line.specs.Context.{context_over, lasting, scope_in, uncounted};
-ghost use Rattle.pdb_addr2line.specs.Context.{lookups_after};
-ghost use Rattle.pdb_answers.specs.FailingParts.{Failures as FailedParts, failed_after, told};
-ghost use Rattle.pdb_frames.specs.Failing.{Part, failing, failing_if_held};
-ghost use Rattle.pdb_frames.specs.FramesAt.{frames, frames_if_held, function};
-ghost use Rattle.pdb_frames.specs.Keys.{function_by};
+ghost use Rattle.pdb_answers.specs.Choice.{place_of};
+ghost use Rattle.pdb_addr2line.specs.Context.{MakesContext, context_from, context_over, lasting};
+ghost use Rattle.pdb_addr2line.specs.Context.{lookups_after, uncounted};
+ghost use Rattle.pdb_addr2line.specs.ContextAnswers.{CountsLookup, IsRunOf, StoresFailed};
+ghost use Rattle.pdb_addr2line.specs.ContextAnswers.{database_in, failing_of, failing_on};
+ghost use Rattle.pdb_addr2line.specs.ContextAnswers.{function_of, function_of_key, function_on};
+ghost use Rattle.pdb_addr2line.specs.ContextAnswers.{told_of, told_on};
+ghost use Rattle.pdb_answers.specs.FailingParts.{Failures as FailedParts, failed_after};
+ghost use Rattle.pdb_frames.specs.Failing.{Part};
 ghost use Rattle.pdb_owners.specs.Frames.{FunctionFrames as FramesFound};
 ghost use Rattle.pdb_answers.specs.MaybeOwned.{value_of};
-ghost use Rattle.pdb_frames.specs.Runs.{database_of, function_here as function_at_place};
-ghost use Rattle.pdb_owners.specs.Databases.{IsOneRun, place_of as as_place};
 
 use pdb_addresses::{AddressMap, ImageSectionHeader, PdbInternalSectionOffset, Rva};
 use pdb_answers::maybe_owned::MaybeOwned;
@@ -120,10 +119,9 @@ impl<'a, 's, P: ModuleProvider> Context<'a, 's, P> {
         type_formatter: MaybeOwned<'a, TypeFormatter<'a, 's, P>>,
     ) -> Result<Context<'a, 's, P>>
         requires { IsOrdered address_map.now }
-        ensures { Answers (λ c. c) result
-            (context_over provider.now (value_of type_formatter.entry)
-            (parts_of sections.now address_map.now global_symbols.now debug_info.now.contributions
-            (option_map (λ t. t.now) string_table.entry))) }
+        ensures { MakesContext result (context_from provider.now (value_of type_formatter.entry)
+            sections.now address_map.now global_symbols.now debug_info.now
+            (option_copied string_table.entry)) }
     {
         let parts = ContextParts::new(
             alloc,
@@ -147,7 +145,7 @@ impl<'a, 's, P: ModuleProvider> Context<'a, 's, P> {
         parts: ContextParts<'a, 's>,
         type_formatter: MaybeOwned<'a, TypeFormatter<'a, 's, P>>,
     ) -> Result<Context<'a, 's, P>>
-        ensures { Answers (λ c. c) result
+        ensures { MakesContext result
             (context_over provider.now (value_of type_formatter.entry) (Ok parts.entry)) }
     {
         let namer = Namer::new(alloc, type_formatter);
@@ -219,16 +217,9 @@ impl<'a, 's, P: ModuleProvider> Context<'a, 's, P> {
     ) -> Result<Option<SharedFunctionFrames<'a>>>
         ensures same { lasting self.new ≡ lasting self.old }
         ensures lookups { self.new.lookups ≡ self.old.lookups }
-        ensures failed { self.new.failed
-            ≡ failed_after
-            (failing_if_held self.old.parts (scope_in P.provided self.old)
-            (held_at self.old.parts (Some place))) result self.old.failed }
-        ensures frames { Answers (λ f. f) result
-            (told self.old.failed
-            (failing_if_held self.old.parts (scope_in P.provided self.old)
-            (held_at self.old.parts (Some place)))
-            (frames_if_held self.old.parts (scope_in P.provided self.old)
-            (held_at self.old.parts (Some place)))) }
+        ensures failed { StoresFailed (failing_on P.provided self.old place) self.old result
+            self.new }
+        ensures frames { Answers (λ f. f) result (told_on P.provided self.old place) }
     {
         self.symbolizer.frames(alloc, place)
     }
@@ -246,14 +237,10 @@ impl<'a, 's, P: ModuleProvider> Context<'a, 's, P> {
     #[tactic(auto, unfolding(pdb_frames::specs::FramesAt::frames))]
     pub fn find_frames(&mut self, alloc: Global, probe: u32) -> Result<Option<FunctionFrames<'a>>>
         ensures same { lasting self.new ≡ lasting self.old }
-        ensures failed { self.new.failed
-            ≡ failed_after (failing self.old.parts (scope_in P.provided self.old) probe) result
-            self.old.failed }
-        ensures lookups { self.new.lookups
-            ≡ lookups_after (is_some (place_of self.old.parts probe)) result self.old.lookups }
-        ensures frames { Answers (λ f. f) result
-            (told self.old.failed (failing self.old.parts (scope_in P.provided self.old) probe)
-            (frames self.old.parts (scope_in P.provided self.old) probe)) }
+        ensures failed { StoresFailed (failing_of P.provided self.old probe) self.old result
+            self.new }
+        ensures lookups { CountsLookup (place_of self.old.parts probe) self.old result self.new }
+        ensures frames { Answers (λ f. f) result (told_of P.provided self.old probe) }
     {
         let Some(place) = place_at(self.symbolizer.parts(), probe) else {
             return Ok(None);
@@ -275,14 +262,10 @@ impl<'a, 's, P: ModuleProvider> Context<'a, 's, P> {
         probe: u32,
     ) -> Result<Option<SharedFunctionFrames<'a>>>
         ensures same { lasting self.new ≡ lasting self.old }
-        ensures failed { self.new.failed
-            ≡ failed_after (failing self.old.parts (scope_in P.provided self.old) probe) result
-            self.old.failed }
-        ensures lookups { self.new.lookups
-            ≡ lookups_after (is_some (place_of self.old.parts probe)) result self.old.lookups }
-        ensures frames { Answers (λ f. f) result
-            (told self.old.failed (failing self.old.parts (scope_in P.provided self.old) probe)
-            (frames self.old.parts (scope_in P.provided self.old) probe)) }
+        ensures failed { StoresFailed (failing_of P.provided self.old probe) self.old result
+            self.new }
+        ensures lookups { CountsLookup (place_of self.old.parts probe) self.old result self.new }
+        ensures frames { Answers (λ f. f) result (told_of P.provided self.old probe) }
     {
         let Some(place) = place_at(self.symbolizer.parts(), probe) else {
             return Ok(None);
@@ -298,10 +281,8 @@ impl<'a, 's, P: ModuleProvider> Context<'a, 's, P> {
     #[tactic(auto, unfolding(pdb_frames::specs::FramesAt::function))]
     pub fn find_function(&mut self, alloc: Global, probe: u32) -> Result<Option<Function>>
         ensures same { uncounted self.new ≡ uncounted self.old }
-        ensures lookups { self.new.lookups
-            ≡ lookups_after (is_some (place_of self.old.parts probe)) result self.old.lookups }
-        ensures function { Answers (λ f. f) result
-            (Ok (function self.old.parts (scope_in P.provided self.old) probe)) }
+        ensures lookups { CountsLookup (place_of self.old.parts probe) self.old result self.new }
+        ensures function { Answers (λ f. f) result (Ok (function_of P.provided self.old probe)) }
     {
         let Some(place) = place_at(self.symbolizer.parts(), probe) else {
             return Ok(None);
@@ -327,10 +308,8 @@ impl<'a, 's, P: ModuleProvider> Context<'a, 's, P> {
         ensures same { uncounted self.new ≡ uncounted self.old }
         ensures lookups { self.new.lookups ≡ lookups_after true result self.old.lookups }
         ensures function { Answers (λ run. run.0) result
-            (Ok (function_at_place self.old.parts (scope_in P.provided self.old) offset)) }
-        ensures count { IfOk result
-            (λ run. IsOneRun (database_of self.old.parts (scope_in P.provided self.old))
-            (as_place offset) limit run.1) }
+            (Ok (function_on P.provided self.old offset)) }
+        ensures count { IsRunOf (database_in P.provided self.old) offset limit result }
     {
         let run = self.symbolizer.run(alloc, offset, limit);
         self.counted(run)
@@ -350,11 +329,10 @@ impl<'a, 's, P: ModuleProvider> Context<'a, 's, P> {
         requires { 1 ≤ limit }
         ensures same { uncounted self.new ≡ uncounted self.old }
         ensures lookups { self.new.lookups ≡ lookups_after true result self.old.lookups }
-        ensures function { Answers (λ run. option_and_then (function_by self.old.parts
-            (scope_in P.provided self.old)) run.0) result
-            (Ok (function_at_place self.old.parts (scope_in P.provided self.old) offset)) }
-        ensures count { IfOk result (λ run. IsOneRun (database_of self.old.parts
-            (scope_in P.provided self.old)) (as_place offset) limit run.1) }
+        ensures function { Answers
+            (λ run. option_and_then (function_of_key P.provided self.old) run.0) result
+            (Ok (function_on P.provided self.old offset)) }
+        ensures count { IsRunOf (database_in P.provided self.old) offset limit result }
     {
         let run = self.symbolizer.key_run(alloc, offset, limit);
         self.counted(run)
@@ -366,8 +344,8 @@ impl<'a, 's, P: ModuleProvider> Context<'a, 's, P> {
     /// `OutOfMemory` alone.
     pub fn function_by_key(&mut self, alloc: Global, key: &FunctionKey) -> Result<Option<Function>>
         ensures same { self.new ≡ self.old }
-        ensures function { Answers (λ f. f) result (Ok (function_by self.old.parts
-            (scope_in P.provided self.old) key.now)) }
+        ensures function { Answers (λ f. f) result
+            (Ok (function_of_key P.provided self.old key.now)) }
     {
         self.symbolizer.function_by_key(alloc, key)
     }

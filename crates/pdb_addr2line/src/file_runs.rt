@@ -1,9 +1,9 @@
 //! The file of a place, and how far it goes on.
 
-ghost use Rattle.std.specs.Prelude.{◌≡◌, ◌≤◌, true, IfOk, Ok, option_and_then};
-ghost use Rattle.pdb_frames.specs.Files.{file_by, file_here, files_of, if_any};
-ghost use Rattle.pdb_addr2line.specs.Context.{lookups_after, scope_in, uncounted};
-ghost use Rattle.pdb_owners.specs.Databases.{IsOneRun, place_of as as_place};
+ghost use Rattle.std.specs.Prelude.{◌≡◌, ◌≤◌, true, Ok, option_and_then};
+ghost use Rattle.pdb_frames.specs.Files.{file_by, if_any};
+ghost use Rattle.pdb_addr2line.specs.Context.{lookups_after, uncounted};
+ghost use Rattle.pdb_addr2line.specs.ContextAnswers.{IsRunOf, file_on, files_in};
 ghost use Rattle.pdb_owners.specs.FileAnswers.{file_seen};
 ghost use Rattle.pdb_resolving.specs.Fault.{Answers};
 
@@ -32,10 +32,8 @@ impl<'a, 's, P: ModuleProvider> Context<'a, 's, P> {
         ensures same { uncounted self.new ≡ uncounted self.old }
         ensures lookups { self.new.lookups ≡ lookups_after true result self.old.lookups }
         ensures file { Answers (λ run. file_seen run.0) result
-            (Ok (file_here self.old.parts (scope_in P.provided self.old) offset)) }
-        ensures count { IfOk result (λ run. IsOneRun
-            (files_of self.old.parts (scope_in P.provided self.old)) (as_place offset) limit
-            run.1) }
+            (Ok (file_on P.provided self.old offset)) }
+        ensures count { IsRunOf (files_in P.provided self.old) offset limit result }
     {
         let run = self.symbolizer.file_run(alloc, offset, limit);
         self.counted(run)
@@ -56,10 +54,8 @@ impl<'a, 's, P: ModuleProvider> Context<'a, 's, P> {
         ensures same { uncounted self.new ≡ uncounted self.old }
         ensures lookups { self.new.lookups ≡ lookups_after true result self.old.lookups }
         ensures file { Answers (λ run. option_and_then (file_by self.old.parts) run.0) result
-            (Ok (if_any (file_here self.old.parts (scope_in P.provided self.old) offset))) }
-        ensures count { IfOk result (λ run. IsOneRun
-            (files_of self.old.parts (scope_in P.provided self.old)) (as_place offset) limit
-            run.1) }
+            (Ok (if_any (file_on P.provided self.old offset))) }
+        ensures count { IsRunOf (files_in P.provided self.old) offset limit result }
     {
         let run = self.symbolizer.file_key_run(alloc, offset, limit);
         self.counted(run)

@@ -1,9 +1,8 @@
 //! The frames at a place, and how far they go on.
 
 ghost use Rattle.std.specs.Prelude.{◌≡◌, ◌≤◌, true, IfOk, Ok, Option, Result as Answer};
-ghost use Rattle.pdb_addr2line.specs.Context.{lookups_after, scope_in, uncounted};
-ghost use Rattle.pdb_frames.specs.FrameRuns.{frames_here, frames_of_places, readable};
-ghost use Rattle.pdb_owners.specs.Databases.{IsOneRun, place_of as as_place};
+ghost use Rattle.pdb_addr2line.specs.Context.{lookups_after, uncounted};
+ghost use Rattle.pdb_addr2line.specs.ContextAnswers.{IsRunOf, frames_in, frames_on};
 ghost use Rattle.pdb_owners.specs.Frames.{FunctionFrames as FramesFound};
 ghost use Rattle.pdb_resolving.specs.Fault.{Answers, Fault};
 
@@ -52,11 +51,8 @@ impl<'a, 's, P: ModuleProvider> Context<'a, 's, P> {
         requires { 1 ≤ limit }
         ensures same { uncounted self.new ≡ uncounted self.old }
         ensures lookups { self.new.lookups ≡ lookups_after true result self.old.lookups }
-        ensures frames { Answers (λ run. run.0) result (Ok (readable
-            (frames_here self.old.parts (scope_in P.provided self.old) offset))) }
-        ensures count { IfOk result (λ run. IsOneRun
-            (frames_of_places self.old.parts (scope_in P.provided self.old)) (as_place offset)
-            limit run.1) }
+        ensures frames { Answers (λ run. run.0) result (Ok (frames_on P.provided self.old offset)) }
+        ensures count { IsRunOf (frames_in P.provided self.old) offset limit result }
     {
         let run = self.symbolizer.frames_run(alloc, offset, limit);
         let run = owned_run(alloc, run);
@@ -77,11 +73,8 @@ impl<'a, 's, P: ModuleProvider> Context<'a, 's, P> {
         requires { 1 ≤ limit }
         ensures same { uncounted self.new ≡ uncounted self.old }
         ensures lookups { self.new.lookups ≡ lookups_after true result self.old.lookups }
-        ensures frames { Answers (λ run. run.0) result (Ok (readable
-            (frames_here self.old.parts (scope_in P.provided self.old) offset))) }
-        ensures count { IfOk result (λ run. IsOneRun
-            (frames_of_places self.old.parts (scope_in P.provided self.old)) (as_place offset)
-            limit run.1) }
+        ensures frames { Answers (λ run. run.0) result (Ok (frames_on P.provided self.old offset)) }
+        ensures count { IsRunOf (frames_in P.provided self.old) offset limit result }
     {
         let run = self.symbolizer.frames_run(alloc, offset, limit);
         self.counted(run)

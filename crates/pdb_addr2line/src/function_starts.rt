@@ -3,10 +3,8 @@
 ghost use Rattle.std.specs.Prelude.{◌≡◌, ◌++◌, IfOk, OnOk, map, option_map};
 ghost use Rattle.pdb_addresses.specs.Addresses.{IsOrdered, outer_of_place};
 ghost use Rattle.pdb_frames.specs.Scopes.{scope_of, entries_of};
-ghost use Rattle.pdb_addr2line.specs.Starts.{if_any, addresses_of, procedure_starts_from};
-ghost use Rattle.pdb_addr2line.specs.Starts.{start_addresses, AreStarts, IsAscending};
-ghost use Rattle.pdb_answers.specs.KnownModules.{module_data};
-ghost use Rattle.pdb_answers.specs.KnownModules.{procedures_in as procedures_of_module};
+ghost use Rattle.pdb_addr2line.specs.Starts.{AppendsAddresses, AreStarts, IsAscending, if_any};
+ghost use Rattle.pdb_addr2line.specs.Starts.{procedure_starts, procedure_starts_from, starts_given};
 
 use pdb_addresses::{AddressMap, PdbInternalSectionOffset};
 use pdb_answers::{ContextParts, Namer, get_basic_module_info, procedures_in};
@@ -43,10 +41,8 @@ fn push_publics(
     publics: &[PublicFunction<'_>],
 ) -> Result<(), AllocError>
     requires { IsOrdered address_map.now }
-    ensures { OnOk result
-        (addresses.new.items
-        ≡ addresses.old.items
-        ++ addresses_of address_map.now (map (λ f. f.start_offset) publics.now)) }
+    ensures { AppendsAddresses result address_map.now addresses.old.items addresses.new.items
+        (map (λ f. f.start_offset) publics.now) }
 {
     for public in publics {
         push_address(addresses, address_map, public.start_offset)?;
@@ -62,10 +58,8 @@ fn push_procedures(
     procedures: &[Procedure<'_>],
 ) -> Result<(), AllocError>
     requires { IsOrdered address_map.now }
-    ensures { OnOk result
-        (addresses.new.items
-        ≡ addresses.old.items
-        ++ addresses_of address_map.now (map (λ q. q.offset) procedures.now)) }
+    ensures { AppendsAddresses result address_map.now addresses.old.items addresses.new.items
+        (map (λ q. q.offset) procedures.now) }
 {
     for procedure in procedures {
         push_address(addresses, address_map, procedure.offset)?;
@@ -83,13 +77,8 @@ fn push_module<P: ModuleProvider>(
     module_index: usize,
 ) -> Result<(), AllocError>
     requires { IsOrdered address_map.now }
-    ensures { OnOk result
-        (addresses.new.items
-        ≡ addresses.old.items
-        ++ addresses_of address_map.now
-        (map (λ q. q.offset)
-        (procedures_of_module
-        (module_data (scope_of P.provided provider.now namer.now module_index).own)))) }
+    ensures { AppendsAddresses result address_map.now addresses.old.items addresses.new.items
+        (procedure_starts (scope_of P.provided provider.now namer.now module_index)) }
 {
     let known = get_basic_module_info(alloc, provider, namer.modules(), module_index)?;
     push_procedures(addresses, address_map, procedures_in(&known))
@@ -105,12 +94,9 @@ fn push_modules<P: ModuleProvider>(
     namer: &Namer<'_, '_, P>,
 ) -> Result<(), AllocError>
     requires { IsOrdered address_map.now }
-    ensures { OnOk result
-        (addresses.new.items
-        ≡ addresses.old.items
-        ++ addresses_of address_map.now
+    ensures { AppendsAddresses result address_map.now addresses.old.items addresses.new.items
         (procedure_starts_from (scope_of P.provided provider.now namer.now) 0
-        (entries_of namer.now))) }
+        (entries_of namer.now)) }
 {
     for module_index in 0..namer.modules().len() {
         push_module(alloc, addresses, address_map, provider, namer, module_index)?;
@@ -134,9 +120,7 @@ fn function_starts<P: ModuleProvider>(
     namer: &Namer<'_, '_, P>,
 ) -> Result<Vec<u32>, AllocError>
     ensures { IfOk result
-        (λ v. IsAscending
-        (start_addresses parts.now (scope_of P.provided provider.now namer.now)
-        (entries_of namer.now)) v.items) }
+        (λ v. IsAscending (starts_given P.provided provider.now parts.now namer.now) v.items) }
 {
     let mut starts = Vec::new(alloc);
     push_publics(&mut starts, parts.address_map, parts.publics.as_slice())?;
@@ -163,16 +147,12 @@ pub fn kept_starts<P: ModuleProvider>(
     parts: &ContextParts<'_, '_>,
     namer: &Namer<'_, '_, P>,
 ) -> Result<Vec<u32>, AllocError>
-    requires { AreStarts
-        (start_addresses parts.now (scope_of P.provided provider.now namer.now)
-        (entries_of namer.now)) (option_map (λ v. v.items) kept.old) }
-    ensures kept { AreStarts
-        (start_addresses parts.now (scope_of P.provided provider.now namer.now)
-        (entries_of namer.now)) (option_map (λ v. v.items) kept.new) }
+    requires { AreStarts (starts_given P.provided provider.now parts.now namer.now)
+        (option_map (λ v. v.items) kept.old) }
+    ensures kept { AreStarts (starts_given P.provided provider.now parts.now namer.now)
+        (option_map (λ v. v.items) kept.new) }
     ensures starts { IfOk result
-        (λ v. IsAscending
-        (start_addresses parts.now (scope_of P.provided provider.now namer.now)
-        (entries_of namer.now)) v.items) }
+        (λ v. IsAscending (starts_given P.provided provider.now parts.now namer.now) v.items) }
 {
     if let Some(starts) = kept {
         return copied(alloc, starts);

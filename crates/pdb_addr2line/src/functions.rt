@@ -2,11 +2,10 @@
 
 ghost use Rattle.std.specs.Prelude.{◌≡◌, ◌-◌, ◌<◌, IfOk, IsOkUnless, OnSome, length, drop};
 ghost use Rattle.std.specs.Iterator.{at_most};
-ghost use Rattle.pdb_frames.specs.Scopes.{entries_of};
-ghost use Rattle.pdb_addr2line.specs.Context.{scope_in, uncounted};
-ghost use Rattle.pdb_addr2line.specs.FunctionList.{AreFunctions, GivesFunction, functions_left};
-ghost use Rattle.pdb_addr2line.specs.FunctionList.{RisesWithin, StepsOn};
-ghost use Rattle.pdb_addr2line.specs.Starts.{start_addresses, IsAscending};
+ghost use Rattle.pdb_addr2line.specs.Context.{uncounted};
+ghost use Rattle.pdb_addr2line.specs.ContextAnswers.{AreFunctionsOf, left_in, starts_in};
+ghost use Rattle.pdb_addr2line.specs.FunctionList.{GivesFunction, RisesWithin, StepsOn};
+ghost use Rattle.pdb_addr2line.specs.Starts.{IsAscending};
 ghost use Rattle.pdb_resolving.specs.declared.error.Error.TheVariants as errors;
 
 use crate::context::Context;
@@ -53,11 +52,8 @@ fn next_function<P: ModuleProvider>(
     ensures lookups { RisesWithin
         (length (drop next.old starts.now) - length (drop next.new starts.now))
         context.old.lookups context.new.lookups }
-    ensures gives { GivesFunction
-        (functions_left context.old.parts (scope_in P.provided context.old)
-        (drop next.old starts.now)) result
-        (functions_left context.old.parts (scope_in P.provided context.old)
-        (drop next.new starts.now)) }
+    ensures gives { GivesFunction (left_in P.provided context.old (drop next.old starts.now)) result
+        (left_in P.provided context.old (drop next.new starts.now)) }
     ensures nearer { OnSome result
         (length (drop next.new starts.now) < length (drop next.old starts.now)) }
 {
@@ -105,8 +101,7 @@ impl<'a, 's, P: ModuleProvider> Context<'a, 's, P> {
     /// `OutOfMemory` alone.
     fn copied_starts(&mut self, alloc: Global) -> Result<Vec<u32>>
         ensures same { self.new ≡ self.old }
-        ensures starts { IfOk result (λ v. IsAscending (start_addresses self.old.parts
-            (scope_in P.provided self.old) (entries_of self.old.formatting)) v.items) }
+        ensures starts { IfOk result (λ v. IsAscending (starts_in P.provided self.old) v.items) }
         ensures memory { IsOkUnless result errors.OutOfMemory }
     {
         let starts = kept_starts(
@@ -130,8 +125,8 @@ impl<'a, 's, P: ModuleProvider> Context<'a, 's, P> {
         ensures same_reference { IfOk result (λ it.
             it.context.ghost_name ≡ self.entry.ghost_name) }
         ensures same { IfOk result (λ it. it.context.now ≡ self.old) }
-        ensures functions { IfOk result (λ it. AreFunctions self.old.parts
-            (scope_in P.provided self.old) (entries_of self.old.formatting) it.left.functions) }
+        ensures functions { IfOk result
+            (λ it. AreFunctionsOf P.provided self.old it.left.functions) }
         ensures memory { IsOkUnless result errors.OutOfMemory }
     {
         let starts = self.copied_starts(alloc)?;
