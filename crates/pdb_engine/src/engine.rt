@@ -22,8 +22,8 @@ use std::io::{ErrorKind, Read, Write};
 /// The number of bytes that a read asks for, at most and at first: what a pipe of Linux holds, some
 /// 9,000 lines. The answers to the lines of one read are made before any of them is written, so this
 /// bounds the memory that they take; and data that were forgotten are read again for each read. With
-/// 32 KB 100,000 addresses at random took a fifth longer; 128 KB were no quicker than 64 KB in the
-/// memory that the caches left.
+/// 32 KB 100,000 addresses at random took a tenth longer; 128 KB were no quicker than 64 KB, once the
+/// caches had that much less.
 const READ_SIZE: usize = 65_536;
 
 /// The number of bytes that gathered answers reach before they are written: what a pipe of Linux
