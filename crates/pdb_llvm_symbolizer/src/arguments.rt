@@ -2,7 +2,7 @@
 
 use crate::choices::{Choices, FunctionName};
 use crate::given_words::is_addr2line;
-use pdb_llvm_requests::{LineForm, parse_number};
+use pdb_llvm_requests::{LineForm, are_hexadecimal, parse_number};
 use pdb_llvm_texts::{Asked, ReportOptions, Style, TextOptions};
 use std::alloc::{AllocError, Global};
 
@@ -75,11 +75,6 @@ fn adjust_in(alloc: Global, choices: &Choices) -> Result<Result<u64, String>, Al
     }
 }
 
-/// Whether a text is of hexadecimal digits.
-fn is_hash(text: &str) -> bool {
-    !text.is_empty() && text.bytes().all(|byte| byte.is_ascii_hexdigit())
-}
-
 /// Why choices that can be read aren't taken, if they aren't.
 fn refused(alloc: Global, choices: &Choices) -> Result<Option<String>, AllocError> {
     let error = match &choices.build_id {
@@ -87,7 +82,7 @@ fn refused(alloc: Global, choices: &Choices) -> Result<Option<String>, AllocErro
         Some(_) if choices.object.is_some() => {
             String::from_str(alloc, "error: cannot specify both --build-id and --obj")?
         }
-        Some(hash) if !is_hash(hash.as_str()) => {
+        Some(hash) if hash.is_empty() || !are_hexadecimal(hash.as_str().as_bytes()) => {
             format!(in alloc; "--build-id=: expected a build ID, but got '{hash}'")?
         }
         _ => return Ok(None),

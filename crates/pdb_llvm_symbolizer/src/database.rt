@@ -1,7 +1,7 @@
 //! Files that addresses are of: images with their databases, and databases alone.
 
 use crate::arguments::Arguments;
-use crate::folders::{find_in, unless_memory};
+use crate::folders::{find_in, joined, unless_memory};
 use crate::image_file::read_image;
 use crate::open_error::OpenError;
 use crate::regular_file::open_regular;
@@ -76,8 +76,7 @@ fn beside(rt: &(impl Files + AllocGlobal), file: &str, name: &str) -> Result<Str
     let folder = folder_of(file);
     match find_in(rt, folder, name)? {
         Some(path) => Ok(path),
-        None if folder.is_empty() => String::from_str(rt.alloc(), name),
-        None => format!(in rt.alloc(); "{folder}/{name}"),
+        None => joined(rt, folder, name),
     }
 }
 

@@ -5,7 +5,9 @@ use crate::loaded::{AskedAddress, FileAnswers, load};
 use crate::open_error::OpenError;
 use bumpalo::Bump;
 use pdb_databases::LoadFault;
-use pdb_llvm_requests::{Command, LineRequest, RequestFault, RequestedFile, read_request};
+use pdb_llvm_requests::{
+    Command, LineRequest, RequestFault, RequestedFile, before_nul, read_request,
+};
 use pdb_llvm_texts::{
     ReportedFrame, Style, append_error, append_frames, append_no_data, append_no_locals,
 };
@@ -43,8 +45,7 @@ fn tell(rt: &impl Eprint, arguments: &Arguments, subject: &str, reason: &str) {
 
 /// A line up to its first NUL, without a carriage return at its end.
 fn shown_part(line: &[u8]) -> &[u8] {
-    let end = line.iter().position(|byte| *byte == 0);
-    let shown = line.get(..end.unwrap_or(line.len())).unwrap_or(line);
+    let shown = before_nul(line);
     match shown.split_last() {
         Some((last, rest)) if *last == b'\r' => rest,
         Some(_) | None => shown,
@@ -140,25 +141,6 @@ fn answered_by<'n>(
 }
 
 impl<'a, F: FileExt + Drop> AskedFile<'a, F> {
-    /// Loads a file.
-    fn load(
-        rt: &(impl Files<File = F> + AllocGlobal),
-        arena: &'a Bump,
-        arguments: &Arguments,
-        name: &[u8],
-    ) -> Result<AskedFile<'a, F>, AllocError> {
-        let text = String::from_utf8_lossy(rt.alloc(), name)?;
-        let loaded = load_or_reason(rt, arena, arguments, text.as_str())?;
-        Ok(AskedFile { text, loaded })
-    }
-
-    /// Reports why it can't be loaded, if it can't.
-    fn tell(&self, rt: &impl Eprint, arguments: &Arguments) {
-        if let Err(reason) = &self.loaded {
-            tell(rt, arguments, self.text.as_str(), reason.as_str());
-        }
-    }
-
     /// Appends the answer to a request.
     fn append_named(
         &mut self,
@@ -207,9 +189,12 @@ impl<'a, F: FileExt + Drop> AskedFiles<'a, F> {
         }
         let number = self.files.len();
         let key = Vec::from_slice(rt.alloc(), name)?;
-        let file = AskedFile::load(rt, self.arena, self.arguments, name)?;
-        file.tell(rt, self.arguments);
-        self.files.push(file)?;
+        let text = String::from_utf8_lossy(rt.alloc(), name)?;
+        let loaded = load_or_reason(rt, self.arena, self.arguments, text.as_str())?;
+        if let Err(reason) = &loaded {
+            tell(rt, self.arguments, text.as_str(), reason.as_str());
+        }
+        self.files.push(AskedFile { text, loaded })?;
         self.numbers.insert(key, number)?;
         Ok(number)
     }

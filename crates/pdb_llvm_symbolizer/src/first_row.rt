@@ -23,8 +23,11 @@ fn has_begun(found: &Option<SharedFunctionFrames<'_>>, start: u32) -> bool {
     let Some(found) = found else {
         return false;
     };
-    match found.frames.last() {
-        Some(own) => own.row.is_some_and(|row| start <= row.start_rva),
+    let Some(own) = found.frames.last() else {
+        return false;
+    };
+    match own.row {
+        Some(row) => start <= row.start_rva,
         None => false,
     }
 }

@@ -6,11 +6,16 @@ use std::io::{self, ErrorKind};
 use std::rt::Files;
 
 /// The path of a name in a folder.
-fn joined(rt: &impl AllocGlobal, folder: &str, name: &str) -> Result<String, AllocError> {
-    if folder.is_empty() || folder.ends_with('/') {
-        return format!(in rt.alloc(); "{folder}{name}");
-    }
-    format!(in rt.alloc(); "{folder}/{name}")
+///
+/// # Errors
+/// Where memory ran out.
+pub fn joined(rt: &impl AllocGlobal, folder: &str, name: &str) -> Result<String, AllocError> {
+    let separator = if folder.is_empty() || folder.ends_with('/') {
+        ""
+    } else {
+        "/"
+    };
+    format!(in rt.alloc(); "{folder}{separator}{name}")
 }
 
 /// What the system gave; None where it failed for another cause than memory.

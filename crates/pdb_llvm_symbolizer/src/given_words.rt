@@ -61,18 +61,11 @@ fn response_words(rt: &(impl Files + AllocGlobal), path: &str) -> io::Result<Opt
     Ok(Some(split_words(rt.alloc(), &text)?))
 }
 
-/// Puts words after others, the last one first, so that the next one is at the end.
-fn push_reversed(waiting: &mut Vec<String>, words: Vec<String>) -> io::Result<()> {
-    for word in words.into_iter().rev() {
-        waiting.push(word)?;
-    }
-    Ok(())
-}
-
 /// The words with those of response files (`@FILE`) in the place of their names.
 fn expanded(rt: &(impl Files + AllocGlobal), words: Vec<String>) -> io::Result<Vec<String>> {
-    let mut waiting = Vec::new(rt.alloc());
-    push_reversed(&mut waiting, words)?;
+    // The next word is the last of those that wait.
+    let mut waiting = words;
+    waiting.reverse();
     let mut read = 0;
     let mut all = Vec::new(rt.alloc());
     for _ in 0..u64::MAX {
@@ -84,9 +77,10 @@ fn expanded(rt: &(impl Files + AllocGlobal), words: Vec<String>) -> io::Result<V
             None => None,
         };
         match found {
-            Some(words) if read < RESPONSE_FILES => {
+            Some(mut words) if read < RESPONSE_FILES => {
                 read += 1;
-                push_reversed(&mut waiting, words)?;
+                words.reverse();
+                waiting.append(&mut words)?;
             }
             Some(_) | None => all.push(word)?,
         }

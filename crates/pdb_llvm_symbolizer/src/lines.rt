@@ -5,7 +5,7 @@ ghost use Rattle.std.specs.Prelude.{[]};
 use crate::arguments::Arguments;
 use crate::files::AskedFiles;
 use pdb_engine::{Answers, InputFault, LongStart, Watched, write_all, write_fault};
-use pdb_llvm_texts::Style;
+use pdb_llvm_texts::{Style, TextOptions};
 use std::alloc::{AllocError, Global};
 use std::io::Write;
 use std::os::unix::fs::FileExt;
@@ -52,21 +52,22 @@ where
     }
 }
 
-/// Appends what stands before, between or after the elements of an array.
-fn append_mark(
-    arguments: &Arguments,
-    output: &mut Vec<u8>,
-    mark: &str,
-    indent: &str,
-) -> Result<(), AllocError> {
-    if arguments.texts.style != Style::Json {
-        return Ok(());
-    }
-    output.extend_from_slice(mark.as_bytes())?;
-    if arguments.texts.pretty {
-        output.extend_from_slice(indent.as_bytes())?;
-    }
-    Ok(())
+/// What stands before, between and after the answers to addresses among the arguments.
+#[derive(Clone, Copy)]
+struct Marks {
+    first: &'static str,
+    next: &'static str,
+    last: &'static str,
+}
+
+/// The marks of an array in JSON, and nothing in another style.
+fn marks_of(texts: TextOptions) -> Marks {
+    let (first, next, last) = match texts.style {
+        Style::Json if texts.pretty => ("[\n  ", ",\n  ", "\n]\n"),
+        Style::Json => ("[", ",", "]\n"),
+        Style::Llvm | Style::Gnu => ("", "", ""),
+    };
+    Marks { first, next, last }
 }
 
 impl<'a, S, F> RequestAnswers<'a, S, F>
@@ -74,24 +75,12 @@ where
     S: Files<File = F> + Eprint + AllocGlobal,
     F: FileExt + Drop,
 {
-    /// Makes the answer to an address among the arguments, with what stands before it in an array.
-    fn make_answer(
-        &mut self,
-        arguments: &Arguments,
-        mark: &str,
-        address: &str,
-    ) -> Result<(), AllocError> {
+    /// Makes the answer to an address among the arguments, with the mark before it.
+    fn make_answer(&mut self, mark: &str, address: &str) -> Result<(), AllocError> {
         self.room.clear();
-        append_mark(arguments, &mut self.room, mark, "\n  ")?;
+        self.room.extend_from_slice(mark.as_bytes())?;
         self.files
             .append_line(self.system, address.as_bytes(), &mut self.room)
-    }
-
-    /// Makes the end of an array.
-    fn make_end(&mut self, arguments: &Arguments) -> Result<(), AllocError> {
-        self.room.clear();
-        append_mark(arguments, &mut self.room, "", "\n")?;
-        append_mark(arguments, &mut self.room, "]\n", "")
     }
 }
 
@@ -120,12 +109,12 @@ pub fn write_answers<S: Files<File = F> + Eprint + AllocGlobal, F: FileExt + Dro
     arguments: &Arguments,
     writer: &mut Watched<W>,
 ) -> Result<(), InputFault> {
-    let mut mark = "[";
+    let marks = marks_of(arguments.texts);
+    let mut mark = marks.first;
     for address in &arguments.addresses {
-        let made = answers.make_answer(arguments, mark, address.as_str());
+        let made = answers.make_answer(mark, address.as_str());
         write_made(made, &answers.room, writer)?;
-        mark = ",";
+        mark = marks.next;
     }
-    let made = answers.make_end(arguments);
-    write_made(made, &answers.room, writer)
+    write_made(Ok(()), marks.last.as_bytes(), writer)
 }

@@ -85,21 +85,6 @@ impl<'a> KnownAddress<'a> {
     }
 }
 
-/// What answers the addresses of a database.
-fn over<'a, F: FileExt + Drop>(alloc: Global, database: Database<'a, F>) -> FileAnswers<'a, F> {
-    let Database { image_base, file } = database;
-    let held = file.held();
-    let map = OrderedMap::new(file.address_map());
-    FileAnswers {
-        image_base,
-        file,
-        texts: AddressTexts {
-            names: FunctionNames::new(held, map),
-            columns: Columns::new(alloc, held),
-        },
-    }
-}
-
 /// Loads a file into an arena, which holds its memory.
 ///
 /// # Errors
@@ -110,8 +95,17 @@ pub fn load<'a, F: FileExt + Drop>(
     arguments: &Arguments,
     file: &str,
 ) -> Result<FileAnswers<'a, F>, OpenError> {
-    let database = open(rt, arena, file, arguments)?;
-    Ok(over(rt.alloc(), database))
+    let Database { image_base, file } = open(rt, arena, file, arguments)?;
+    let held = file.held();
+    let map = OrderedMap::new(file.address_map());
+    Ok(FileAnswers {
+        image_base,
+        file,
+        texts: AddressTexts {
+            names: FunctionNames::new(held, map),
+            columns: Columns::new(rt.alloc(), held),
+        },
+    })
 }
 
 /// The frame of an address without a function.
@@ -206,21 +200,6 @@ impl<'a> AddressTexts<'a> {
 }
 
 impl<'a, F: FileExt + Drop> FileAnswers<'a, F> {
-    /// What is known of an address, by what was read.
-    fn known_at(
-        &mut self,
-        alloc: Global,
-        arguments: &Arguments,
-        rva: u32,
-    ) -> Result<KnownAddress<'a>, AllocError> {
-        let Some(mut context) = self.file.take_context() else {
-            return Err(AllocError);
-        };
-        let known = self.texts.known_at(alloc, &mut context, arguments, rva);
-        self.file.put_context(context);
-        known
-    }
-
     /// Appends the answer for an address that has an RVA, by what was read.
     fn append_at(
         &mut self,
@@ -230,8 +209,12 @@ impl<'a, F: FileExt + Drop> FileAnswers<'a, F> {
         rva: u32,
         output: &mut Vec<u8>,
     ) -> Result<(), AllocError> {
-        let known = self.known_at(alloc, arguments, rva)?;
-        known.append(alloc, arguments, (asked, rva), output)
+        let Some(mut context) = self.file.take_context() else {
+            return Err(AllocError);
+        };
+        let known = self.texts.known_at(alloc, &mut context, arguments, rva);
+        self.file.put_context(context);
+        known?.append(alloc, arguments, (asked, rva), output)
     }
 
     /// Appends the answer for an address that has an RVA. What it lacks is read first.

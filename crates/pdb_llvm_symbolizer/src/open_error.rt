@@ -35,8 +35,8 @@ impl From<ImageError> for OpenError {
     }
 }
 
-impl From<pdb_container::Error> for OpenError {
-    fn from(cause: pdb_container::Error) -> OpenError {
+impl From<pdb_addr2line::pdb::Error> for OpenError {
+    fn from(cause: pdb_addr2line::pdb::Error) -> OpenError {
         OpenError::Load(LoadFault::from(cause))
     }
 }

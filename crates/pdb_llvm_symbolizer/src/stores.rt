@@ -67,8 +67,9 @@ pub fn find_in_stores(
 /// Whether an element of a search path is a folder of this machine: it is no address of a server,
 /// and none of the words that say how folders are used.
 fn is_local(element: &str) -> bool {
-    let words = ["srv", "cache", "symsrv"];
-    let is_word = words.iter().any(|word| element.eq_ignore_ascii_case(word));
+    let is_word = element.eq_ignore_ascii_case("srv")
+        || element.eq_ignore_ascii_case("cache")
+        || element.eq_ignore_ascii_case("symsrv");
     let is_library = element.len() > 4 && element.ends_with(".dll");
     !element.is_empty() && !is_word && !is_library && !element.contains("://")
 }

@@ -1,5 +1,5 @@
 use Rattle.pdb_databases.proofs.FileSteps.{context_asked}
-use Rattle.pdb_llvm_symbolizer.proofs.loaded.FileAnswers.known_at.Goals as goal
+use Rattle.pdb_llvm_symbolizer.proofs.loaded.FileAnswers.append_at.Goals as goal
 
 -- the context that was asked is still one of the file
 pub put_context-requires : goal.put_context-requires
